@@ -1,0 +1,130 @@
+-- What is wrong with bytes that are no packet: the first rule that they break.
+use Rattle.std.specs.Prelude.{ℕ, ◌≡◌, ◌<◌, ◌≤◌, ◌+◌, ◌-◌, ◌*◌, ◌%◌, Bool, ◌&&◌, ◌||◌, List, [], ◌∷◌, length, nat_le, nat_lt, ◌==◌, if◌then◌else◌, Option, Some, None}
+use Rattle.std.specs.List.{list_all, list_any}
+use Rattle.tipc_header.specs.declared.fault.HeaderFault.{HeaderFault}
+use Rattle.tipc_header.specs.declared.fault.HeaderFault.TheVariants.{Short, Version, HeaderSize, Size, User, «Type», Reserved}
+use Rattle.tipc_header.specs.Reading.{word_at, field, user_at, size_in_words, type_at}
+
+abbrev pub is_one_of : List ℕ → ℕ → Bool
+is_one_of ns n = list_any (λ k. k == n) ns
+
+abbrev pub all_zero : List ℕ → Bool
+all_zero ns = list_all (λ n. n == 0) ns
+
+-- ---- the users, their types, and the header size of each type
+
+abbrev pub has_user : ℕ → Bool
+has_user u = nat_le u 3 || is_one_of (6 ∷ 7 ∷ 10 ∷ 11 ∷ 12 ∷ 13 ∷ []) u
+
+-- how many types a user has, numbered from 0
+abbrev pub types_of : ℕ → ℕ
+types_of u = if nat_le u 3 then 4 else (if u == 6 then 1 else (if u == 7 || u == 12 then 3 else 2))
+
+abbrev pub size_of_type : ℕ → ℕ → ℕ
+size_of_type u t = if nat_le u 3 then (if t == 0 then 6 else (if t == 1 then 11 else (if t == 2 then 10 else 8))) else 10
+
+-- The bytes have the fields of their user and type.
+pub record HasFields (b : List ℕ) : Type 0 where
+  pub short : 24 ≤ length b
+  pub payload : user_at b ≤ 3 → 4 * size_of_type 0 (type_at b) ≤ length b
+  pub long : 3 < user_at b → 40 ≤ length b
+  pub reset : user_at b ≡ 7 → 1 ≤ type_at b → 56 ≤ length b
+  pub changeover : user_at b ≡ 10 → 48 ≤ length b
+
+-- ---- what each user asks of the bits that no field has, of its counts and of the bytes that follow
+
+-- Word 0: bit 17 is zero, bit 20 is 1 exactly for users 7 and 13, and only payload is droppable.
+unfoldable pub word_0_is_clean : ℕ → List ℕ → Bool
+word_0_is_clean u b =
+    (field 0 17 17 b == 0)
+    && (field 0 20 20 b == (if u == 7 || u == 13 then 1 else 0))
+    && (nat_le u 3 || all_zero (field 0 19 19 b ∷ field 0 18 18 b ∷ []))
+
+unfoldable pub payload_is_clean : List ℕ → Bool
+payload_is_clean b = (field 1 18 16 b == 0) && nat_le (field 1 28 25 b) 5
+
+unfoldable pub bundle_is_clean : List ℕ → Bool
+bundle_is_clean b =
+    all_zero (field 1 28 16 b ∷ field 4 15 0 b ∷ word_at 5 b ∷ word_at 6 b ∷ word_at 7 b ∷ word_at 8 b ∷ word_at 9 b ∷ [])
+    && nat_le 2 (field 4 31 16 b)
+    && ((length b - 40) % 4 == 0)
+
+unfoldable pub state_is_clean : List ℕ → Bool
+state_is_clean b =
+    all_zero (field 2 15 0 b ∷ word_at 6 b ∷ field 8 31 7 b ∷ word_at 9 b ∷ [])
+    && (length b == 40)
+
+-- RESET and ACTIVATE
+unfoldable pub reset_is_clean : List ℕ → Bool
+reset_is_clean b =
+    all_zero (field 1 28 0 b ∷ word_at 2 b ∷ word_at 4 b ∷ word_at 5 b ∷ word_at 6 b ∷ field 8 31 7 b ∷ field 8 1 0 b ∷ word_at 9 b ∷ [])
+    && (length b == 56)
+
+unfoldable pub changeover_is_clean : List ℕ → Bool
+changeover_is_clean b =
+    all_zero (field 1 28 16 b ∷ field 5 31 1 b ∷ word_at 6 b ∷ word_at 7 b ∷ word_at 8 b ∷ word_at 9 b ∷ [])
+    && nat_le 48 (length b)
+    && (nat_lt 0 (field 4 31 16 b) || ((field 4 15 0 b == 0) && (length b == 48)))
+
+unfoldable pub distribution_is_clean : List ℕ → Bool
+distribution_is_clean b =
+    all_zero (field 1 28 16 b ∷ word_at 4 b ∷ word_at 5 b ∷ word_at 6 b ∷ word_at 7 b ∷ word_at 8 b ∷ word_at 9 b ∷ [])
+    && nat_le 20 (length b - 40)
+    && nat_le (length b - 40) 1400
+    && ((length b - 40) % 20 == 0)
+
+unfoldable pub fragment_is_clean : List ℕ → Bool
+fragment_is_clean b =
+    all_zero (field 1 28 16 b ∷ field 4 31 16 b ∷ word_at 5 b ∷ word_at 6 b ∷ word_at 7 b ∷ word_at 8 b ∷ word_at 9 b ∷ [])
+    && nat_le 1 (field 4 15 0 b)
+    && nat_le 1 (length b - 40)
+    && nat_le (length b - 40) 1412
+
+unfoldable pub discovery_is_clean : List ℕ → Bool
+discovery_is_clean b =
+    all_zero (field 1 28 0 b ∷ word_at 2 b ∷ word_at 5 b ∷ word_at 6 b ∷ word_at 7 b ∷ word_at 8 b ∷ word_at 9 b ∷ [])
+    && (length b == 40)
+
+unfoldable pub user_is_clean : ℕ → ℕ → List ℕ → Bool
+user_is_clean u t b =
+    if nat_le u 3 then payload_is_clean b
+    else (if u == 6 then bundle_is_clean b
+    else (if u == 7 then (if t == 0 then state_is_clean b else reset_is_clean b)
+    else (if u == 10 then changeover_is_clean b
+    else (if u == 11 then distribution_is_clean b
+    else (if u == 12 then fragment_is_clean b
+    else discovery_is_clean b)))))
+
+-- ---- the faults, in order
+
+abbrev pub has_version : List ℕ → Bool
+has_version b = field 0 31 29 b == 2
+
+abbrev pub has_header : List ℕ → Bool
+has_header b = is_one_of (6 ∷ 8 ∷ 10 ∷ 11 ∷ []) (size_in_words b) && nat_le (4 * size_in_words b) (length b)
+
+abbrev pub has_size : List ℕ → Bool
+has_size b = (field 0 16 0 b == length b) && (nat_lt 3 (user_at b) || nat_le (length b - 4 * size_in_words b) 66000)
+
+abbrev pub has_type : List ℕ → Bool
+has_type b = nat_lt (type_at b) (types_of (user_at b)) && (size_in_words b == size_of_type (user_at b) (type_at b))
+
+abbrev pub is_clean : List ℕ → Bool
+is_clean b = word_0_is_clean (user_at b) b && user_is_clean (user_at b) (type_at b) b
+
+-- The first rule that is broken; where none is, the bytes are a packet.
+unfoldable pub fault_of : List ℕ → Option HeaderFault
+fault_of b =
+    if nat_lt (length b) 24 then Some Short
+    else (if has_version b then
+    (if has_header b then
+    (if has_size b then
+    (if has_user (user_at b) then
+    (if has_type b then
+    (if is_clean b then None
+    else Some Reserved)
+    else Some «Type»)
+    else Some User)
+    else Some Size)
+    else Some HeaderSize)
+    else Some Version)
