@@ -128,14 +128,15 @@ header_at u t b =
     else (if u == 12 then fragment_at t b
     else discovery_at t b)))))
 
--- the packet that these bytes are, if they are one
+-- The packet that these bytes are, if they are one: the header is this one, and the rest is what follows.
+abbrev pub fields_with : Header → List ℕ → Fields
+fields_with h b = record {
+  acknowledgement = field 2 31 16 b;
+  sequence = field 2 15 0 b;
+  previous = word_at 3 b;
+  header = h;
+  rest = drop (4 * header_size h + numbers_size h) b;
+}
+
 unfoldable pub fields_at : List ℕ → Fields
-fields_at b =
-    let h = header_at (user_at b) (type_at b) b in
-    record {
-      acknowledgement = field 2 31 16 b;
-      sequence = field 2 15 0 b;
-      previous = word_at 3 b;
-      header = h;
-      rest = drop (4 * header_size h + numbers_size h) b;
-    }
+fields_at b = fields_with (header_at (user_at b) (type_at b) b) b

@@ -1,0 +1,5 @@
+pub mod Words
+pub mod Sound
+pub mod Places
+pub mod Cases
+pub mod Takes
