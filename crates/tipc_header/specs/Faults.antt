@@ -16,6 +16,10 @@ all_zero ns = list_all (λ n. n == 0) ns
 abbrev pub has_user : ℕ → Bool
 has_user u = nat_le u 3 || is_one_of (6 ∷ 7 ∷ 10 ∷ 11 ∷ 12 ∷ 13 ∷ []) u
 
+-- bit 20 of word 0
+abbrev pub non_sequenced : ℕ → ℕ
+non_sequenced u = if u == 7 || u == 13 then 1 else 0
+
 -- how many types a user has, numbered from 0
 abbrev pub types_of : ℕ → ℕ
 types_of u = if nat_le u 3 then 4 else (if u == 6 then 1 else (if u == 7 || u == 12 then 3 else 2))
@@ -37,7 +41,7 @@ pub record HasFields (b : List ℕ) : Type 0 where
 unfoldable pub word_0_is_clean : ℕ → List ℕ → Bool
 word_0_is_clean u b =
     (field 0 17 17 b == 0)
-    && (field 0 20 20 b == (if u == 7 || u == 13 then 1 else 0))
+    && (field 0 20 20 b == non_sequenced u)
     && (nat_le u 3 || all_zero (field 0 19 19 b ∷ field 0 18 18 b ∷ []))
 
 unfoldable pub payload_is_clean : List ℕ → Bool
