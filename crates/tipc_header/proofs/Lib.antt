@@ -3,3 +3,4 @@ pub mod Sound
 pub mod Places
 pub mod Cases
 pub mod Takes
+pub mod Again
