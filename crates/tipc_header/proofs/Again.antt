@@ -2,7 +2,7 @@
 use Rattle.std.proofs.Common.{◌≡◌, ℕ, zero, suc, ◌+◌, ◌-◌, ◌*◌, ◌/◌, ◌%◌, ◌^◌, ◌<◌, ◌≤◌, Bool, true, false, cond, List, [], ◌∷◌, ◌++◌, length, drop, get_or, Option, Some, None, refl, sym, ap, subst, ◌∙◌, arith, rules}
 use Rattle.std.specs.Prelude.{◌&&◌, ◌||◌, nat_le, nat_lt, ◌==◌, if◌then◌else◌}
 use Rattle.std.proofs.lemmas.List.{length-append, append-nil, drop_at}
-use Rattle.std.proofs.lemmas.Bool.{eq-eqb, le-leb, lt-ltb}
+use Rattle.std.proofs.lemmas.Bool.{eq-eqb, le-leb, lt-ltb, le-ltb}
 use Rattle.std.proofs.lemmas.Bool.Decides.{nat_tests}
 use Rattle.tipc_header.specs.declared.fault.HeaderFault.{HeaderFault}
 use Rattle.tipc_header.specs.declared.packet.Payload.{Payload}
@@ -452,6 +452,10 @@ pub length-spelling : (p : Fields) → length (spelling p) ≡ size_of p
 unfolding spelling
 length-spelling p = omega (arith, length-append (words (all_words p)) p.rest, length-words (all_words p), length-all_words p)
 
+drop-spelling : (p : Fields) → drop (4 * header_size p.header + numbers_size p.header) (spelling p) ≡ p.rest
+unfolding spelling
+drop-spelling p = drop_at (words (all_words p)) p.rest (4 * header_size p.header + numbers_size p.header) (length-words (all_words p) ∙ length-all_words p)
+
 word_0-of : (p : Fields) → Fits p → IsWord0 (word_0 p) (user_of p.header) (header_size p.header) (bit (is_non_sequenced p.header)) (bit (is_destination_droppable p.header)) (bit (is_source_droppable p.header)) (size_of p)
 unfolding word_0
 word_0-of p f =
@@ -485,3 +489,111 @@ is_spelled p f = record {
   later = λ i lt. word_at-spelling (4 + i) p f (omega (arith, lt)) ∙ get_or-fifth (word_0 p) (word_1 p.header) (word_2 p) p.previous (user_words p.header ++ number_words p.header) i;
   size = length-spelling p;
 }
+
+-- the fields of words 0 and 1 in the spelling
+record IsFront (b : List ℕ) (p : Fields) : Type 0 where
+  first : IsWord0 (word_at 0 b) (user_of p.header) (header_size p.header) (bit (is_non_sequenced p.header)) (bit (is_destination_droppable p.header)) (bit (is_source_droppable p.header)) (length b)
+  type : type_at b ≡ type_of p.header
+
+is_front : (p : Fields) → Fits p → IsFront (spelling p) p
+is_front p f =
+    let h = p.header in
+    let w0 : word_0 p ≡ word_at 0 (spelling p) = sym (word_at-spelling 0 p f (omega arith)) in
+    let w1 : word_at 1 (spelling p) ≡ word_1 h = word_at-spelling 1 p f (omega arith) in
+    let sized = subst (λ (k : ℕ). IsWord0 (word_0 p) (user_of h) (header_size h) (bit (is_non_sequenced h)) (bit (is_destination_droppable h)) (bit (is_source_droppable h)) k) (sym (length-spelling p)) (word_0-of p f) in
+    record {
+      first = subst (λ (w : ℕ). IsWord0 w (user_of h) (header_size h) (bit (is_non_sequenced h)) (bit (is_destination_droppable h)) (bit (is_source_droppable h)) (length (spelling p))) w0 sized;
+      type = ap (bits 31 29) w1 ∙ (word_1-below h f.header).1;
+    }
+
+-- a test that the bytes pass
+passes : (t : Bool) (e : HeaderFault) (next : Option HeaderFault) → t ≡ true → next ≡ None → cond t next (Some e) ≡ None
+passes t e next pass later = rw pass later
+
+payload_is_short : (h : Header) (n : ℕ) → HeaderFits h → RestFits h n → (nat_lt 3 (user_of h) || nat_le n 66000) ≡ true
+payload_is_short (header.Payload x) n f r = grind (arith, nat_tests)
+payload_is_short (header.Bundler x) n f r = refl
+payload_is_short (header.State x) n f r = refl
+payload_is_short (header.Reset x) n f r = refl
+payload_is_short (header.Activate x) n f r = refl
+payload_is_short (header.Changeover x) n f r = refl
+payload_is_short (header.NameDistributor x) n f r = refl
+payload_is_short (header.Fragmenter x) n f r = refl
+payload_is_short (header.Discovery x) n f r = refl
+
+payload_rest : (h : Header) (n : ℕ) → (nat_lt 3 (user_of h) || nat_le (numbers_size h + n) 66000) ≡ (nat_lt 3 (user_of h) || nat_le n 66000)
+payload_rest (header.Payload x) n = ap (λ (k : ℕ). nat_lt 3 x.importance || nat_le k 66000) (omega arith)
+payload_rest (header.Bundler x) n = refl
+payload_rest (header.State x) n = refl
+payload_rest (header.Reset x) n = refl
+payload_rest (header.Activate x) n = refl
+payload_rest (header.Changeover x) n = refl
+payload_rest (header.NameDistributor x) n = refl
+payload_rest (header.Fragmenter x) n = refl
+payload_rest (header.Discovery x) n = refl
+
+is_word_0_clean : (b : List ℕ) (p : Fields) → Fits p → IsFront b p → word_0_is_clean (user_of p.header) b ≡ true
+unfolding word_0_is_clean
+is_word_0_clean b p f front =
+    let w = front.first in
+    let row = is_row p.header f.header in
+    let droppable : (nat_le (user_of p.header) 3 || all_zero (field 0 19 19 b ∷ field 0 18 18 b ∷ [])) ≡ true =
+      ap (λ (d : ℕ). nat_le (user_of p.header) 3 || all_zero (d ∷ field 0 18 18 b ∷ [])) w.destination
+      ∙ ap (λ (s : ℕ). nat_le (user_of p.header) 3 || all_zero (bit (is_destination_droppable p.header) ∷ s ∷ [])) w.source
+      ∙ row.droppable in
+    both_true _ _ (both_true _ _ (eq-eqb (field 0 17 17 b) 0 w.zero) (eq-eqb (field 0 20 20 b) (non_sequenced (user_of p.header)) (w.non_sequenced ∙ row.sequenced))) droppable
+
+again-of : (p : Fields) → Fits p → IsAgain (spelling p) p.header
+again-of p f =
+    let w = (is_front p f).first in
+    header_again (spelling p) p.acknowledgement p.sequence (length p.rest) p.header f.acknowledgement f.header f.numbering f.rest w.destination w.source (is_spelled p f)
+
+pub no_fault : (p : Fields) → Fits p → fault_of (spelling p) ≡ None
+unfolding fault_of
+no_fault p f =
+    let b = spelling p in
+    let h = p.header in
+    let row = is_row h f.header in
+    let front = is_front p f in
+    let w = front.first in
+    let size = length-spelling p in
+    let whole = row.whole in
+    let short : nat_lt (length b) 24 ≡ false = le-ltb (length b) 24 (omega arith) in
+    let sizes : is_one_of (6 ∷ 8 ∷ 10 ∷ 11 ∷ []) (size_in_words b) ≡ true = ap (is_one_of (6 ∷ 8 ∷ 10 ∷ 11 ∷ [])) w.size_in_words ∙ row.sizes in
+    let header : has_header b ≡ true = both_true _ _ sizes (le-leb (4 * size_in_words b) (length b) (omega (arith, w.size_in_words))) in
+    let behind : length b - 4 * size_in_words b ≡ numbers_size h + length p.rest = omega (arith, w.size_in_words) in
+    let limit : (nat_lt 3 (user_at b) || nat_le (length b - 4 * size_in_words b) 66000) ≡ true =
+      ap (λ (u : ℕ). nat_lt 3 u || nat_le (length b - 4 * size_in_words b) 66000) w.user
+      ∙ ap (λ (k : ℕ). nat_lt 3 (user_of h) || nat_le k 66000) behind
+      ∙ payload_rest h (length p.rest)
+      ∙ payload_is_short h (length p.rest) f.header f.rest in
+    let sized : has_size b ≡ true = both_true _ _ (eq-eqb (field 0 16 0 b) (length b) w.size) limit in
+    let user : has_user (user_at b) ≡ true = ap has_user w.user ∙ row.has_user in
+    let below : nat_lt (type_at b) (types_of (user_at b)) ≡ true = ap (λ (t : ℕ). nat_lt t (types_of (user_at b))) front.type ∙ ap (λ (u : ℕ). nat_lt (type_of h) (types_of u)) w.user ∙ lt-ltb (type_of h) (types_of (user_of h)) row.type in
+    let of_type : size_in_words b ≡ size_of_type (user_at b) (type_at b) = w.size_in_words ∙ row.size_of_type ∙ ap (λ (u : ℕ). size_of_type u (type_of h)) (sym w.user) ∙ ap (size_of_type (user_at b)) (sym front.type) in
+    let type : has_type b ≡ true = both_true _ _ below (eq-eqb (size_in_words b) (size_of_type (user_at b) (type_at b)) of_type) in
+    let again = again-of p f in
+    let word_0 : word_0_is_clean (user_at b) b ≡ true = ap (λ (u : ℕ). word_0_is_clean u b) w.user ∙ is_word_0_clean b p f front in
+    let later : user_is_clean (user_at b) (type_at b) b ≡ true = ap (λ (u : ℕ). user_is_clean u (type_at b) b) w.user ∙ ap (λ (t : ℕ). user_is_clean (user_of h) t b) front.type ∙ again.clean in
+    rw short (passes (has_version b) _ _ (eq-eqb (field 0 31 29 b) 2 w.version)
+      (passes (has_header b) _ _ header
+      (passes (has_size b) _ _ sized
+      (passes (has_user (user_at b)) _ _ user
+      (passes (has_type b) _ _ type
+      (passes (is_clean b) _ _ (both_true _ _ word_0 later) refl))))))
+
+pub again : (p : Fields) → Fits p → fields_at (spelling p) ≡ p
+unfolding fields_at word_2
+again p f =
+    let b = spelling p in
+    let h = p.header in
+    let front = is_front p f in
+    let l = is_spelled p f in
+    let w2 = l.word_2 in
+    let header : header_at (user_at b) (type_at b) b ≡ h =
+      ap (λ (u : ℕ). header_at u (type_at b) b) front.first.user ∙ ap (λ (t : ℕ). header_at (user_of h) t b) front.type ∙ (again-of p f).header in
+    let acknowledgement : field 2 31 16 b ≡ p.acknowledgement = omega (arith, f.acknowledgement, f.sequence) in
+    let sequence : field 2 15 0 b ≡ p.sequence = omega (arith, f.acknowledgement, f.sequence) in
+    let previous : word_at 3 b ≡ p.previous = word_at-spelling 3 p f (omega arith) in
+    let rest : drop (4 * header_size h + numbers_size h) b ≡ p.rest = drop-spelling p in
+    ap (λ (x : Header). fields_with x b) header ∙ rw (acknowledgement, sequence, previous, rest) refl

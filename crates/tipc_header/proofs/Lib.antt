@@ -4,3 +4,4 @@ pub mod Places
 pub mod Cases
 pub mod Takes
 pub mod Again
+pub mod RoundTrip

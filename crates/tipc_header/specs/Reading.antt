@@ -128,14 +128,18 @@ header_at u t b =
     else (if u == 12 then fragment_at t b
     else discovery_at t b)))))
 
--- The packet that these bytes are, if they are one: the header is this one, and the rest is what follows.
+-- where the rest begins that a packet with this header has
+abbrev pub rest_start : Header → ℕ
+rest_start h = 4 * header_size h + numbers_size h
+
+-- The packet that these bytes are, if they are one and have this header.
 abbrev pub fields_with : Header → List ℕ → Fields
 fields_with h b = record {
   acknowledgement = field 2 31 16 b;
   sequence = field 2 15 0 b;
   previous = word_at 3 b;
   header = h;
-  rest = drop (4 * header_size h + numbers_size h) b;
+  rest = drop (rest_start h) b;
 }
 
 unfoldable pub fields_at : List ℕ → Fields

@@ -129,3 +129,7 @@ all_words p = word_0 p ∷ word_1 p.header ∷ word_2 p ∷ p.previous ∷ (user
 
 unfoldable pub spelling : Fields → List ℕ
 spelling p = words (all_words p) ++ p.rest
+
+-- the same packet under other numbers
+abbrev pub renumbered : Fields → ℕ → ℕ → Fields
+renumbered p acknowledgement sequence = record { acknowledgement = acknowledgement; sequence = sequence; previous = p.previous; header = p.header; rest = p.rest }

@@ -1,17 +1,15 @@
 //! Bytes to packets.
 
-ghost use Rattle.std.specs.Prelude.{◌≡◌, ◌≤◌, ◌<◌, ◌*◌, ◌+◌, List, length, Some, None};
-ghost use Rattle.tipc_header.specs.Spelling.{view, numbers_size};
-ghost use Rattle.tipc_header.specs.Users.{header_size};
-ghost use Rattle.tipc_header.specs.Reading.{user_at, size_in_words, addressing_at, payload_at, bundle_at, state_at, reset_at, changeover_at, distribution_at, fragment_at, discovery_at, header_at, fields_at};
-ghost use Rattle.tipc_header.specs.Faults.{has_user, types_of, size_of_type, has_header, has_size, has_type, is_clean, fault_of};
+ghost use Rattle.std.specs.Prelude.{◌≡◌, ◌≤◌, ◌<◌, ◌*◌, ◌+◌, length, Some, None, IfOk, IsOkAnd, MatchResult};
+ghost use Rattle.tipc_header.specs.Spelling.{Fields, view, spelling};
+ghost use Rattle.tipc_header.specs.Grammar.{Fits};
+ghost use Rattle.tipc_header.specs.Reading.{user_at, type_at, size_in_words, header_at, rest_start, fields_at};
+ghost use Rattle.tipc_header.specs.Faults.{HasFields, has_user, types_of, size_of_type, has_header, has_size, has_type, is_clean, fault_of};
 
-use crate::bits::{byte_field, field_of, is_set, long, short_field, word};
+use crate::bits::{field_of, short_field, word};
 use crate::fault::HeaderFault;
-use crate::packet::{
-    Addressing, Bundle, Changeover, ChangeoverType, Discovery, DiscoveryType, DistributionType,
-    Fragment, FragmentType, Header, NameDistribution, Packet, Payload, Reset, State,
-};
+use crate::packet::Packet;
+use crate::reading::header;
 use crate::reserved::{is_first_word_clean, is_user_clean};
 
 fn is_user(user: u32) -> bool
@@ -116,4 +114,43 @@ fn first_fault(bytes: &[u8]) -> Option<HeaderFault>
         return Some(HeaderFault::Reserved);
     }
     None
+}
+
+/// The packet that the bytes are, where they have every field of their user and type.
+#[tactic(auto, unfolding(crate::specs::Reading::fields_at))]
+fn packet(bytes: &[u8]) -> Packet<'_>
+    requires fields { HasFields bytes.now }
+    requires rest { rest_start (header_at (user_at bytes.now) (type_at bytes.now) bytes.now) ≤ length bytes.now }
+    ensures { view result ≡ fields_at bytes.now }
+{
+    let header = header(bytes);
+    let start = 4 * header.words() + header.numbers_size();
+    Packet {
+        acknowledgement: short_field(bytes, 2, 31, 16),
+        sequence: short_field(bytes, 2, 15, 0),
+        previous: word(bytes, 3),
+        header,
+        rest: &bytes[start..],
+    }
+}
+
+/// The packet that the bytes spell.
+///
+/// # Errors
+///
+/// The first rule that they break, in the order of [`HeaderFault`].
+pub fn decode(bytes: &[u8]) -> Result<Packet<'_>, HeaderFault>
+    // What is decoded is spelled so.
+    ensures spells { IfOk result (λ p. Fits (view p) × (bytes.now ≡ spelling (view p))) }
+    // What is spelled so is decoded.
+    ensures only { (p : Fields) → Fits p → bytes.now ≡ spelling p → IsOkAnd result (λ q. view q ≡ p) }
+    // It is what stands at the places of the fields.
+    ensures read { IfOk result (λ p. view p ≡ fields_at bytes.now) }
+    // Which fault it is.
+    ensures fault { MatchResult result (λ p. fault_of bytes.now ≡ None) (λ e. fault_of bytes.now ≡ Some e) }
+{
+    match first_fault(bytes) {
+        None => Ok(packet(bytes)),
+        Some(fault) => Err(fault),
+    }
 }
