@@ -29,10 +29,10 @@ use Rattle.tipc_header.specs.Users.{changeover_type, distribution_type, fragment
 use Rattle.tipc_header.specs.Spelling.{Fields, from_bit, bit, word, words, word_0, word_1, word_2, below_type, addressing_words, reset_words, two_words, user_words, number_words, all_words, numbers_size, size_of, spelling}
 use Rattle.tipc_header.specs.Grammar.{AddressingFits, PayloadFits, ResetFits, HeaderFits, NumberingFits, RestFits, Fits}
 use Rattle.tipc_header.specs.Reading.{word_at, field, flag, long_at, bits, user_at, size_in_words, type_at, addressing_at, payload_at, bundle_at, state_at, reset_at, changeover_at, distribution_at, fragment_at, discovery_at, header_at, fields_with, fields_at}
-use Rattle.tipc_header.specs.Faults.{is_one_of, all_zero, has_user, types_of, size_of_type, non_sequenced, word_0_is_clean, payload_is_clean, bundle_is_clean, state_is_clean, reset_is_clean, changeover_is_clean, distribution_is_clean, fragment_is_clean, discovery_is_clean, user_is_clean, has_version, has_header, has_size, has_type, is_clean, fault_of}
+use Rattle.tipc_header.specs.Faults.{is_one_of, all_zero, has_user, types_of, size_of_type, non_sequenced, word_0_is_clean, payload_is_clean, bundle_is_clean, state_is_clean, reset_is_clean, changeover_is_clean, distribution_is_clean, fragment_is_clean, discovery_is_clean, user_is_clean, has_start, has_version, has_header, has_size, has_type, is_clean, fault_of}
 use Rattle.tipc_header.proofs.Words.{AreWords, length-words, word_at-words}
 use Rattle.tipc_header.proofs.Places.{flag-bit}
-use Rattle.tipc_header.proofs.Cases.{AreZero, both_true, all_zero-from}
+use Rattle.tipc_header.proofs.Cases.{AreZero, both_true, all_zero-from, low_user, low_types, low_size, low_sequenced, low_clean, low_header}
 
 -- ---- the words of a packet are words
 
@@ -89,18 +89,6 @@ record IsRow (h : Header) : Type 0 where
   sequenced : bit (is_non_sequenced h) ≡ non_sequenced (user_of h)
   below : below_type h < 2 ^ 29
   droppable : (nat_le (user_of h) 3 || all_zero (bit (is_destination_droppable h) ∷ bit (is_source_droppable h) ∷ [])) ≡ true
-
-low_user : (u : ℕ) → u ≤ 3 → has_user u ≡ true
-low_user u low = grind (arith, nat_tests)
-
-low_types : (u : ℕ) → u ≤ 3 → types_of u ≡ 4
-low_types u low = grind (arith, nat_tests)
-
-low_size : (u t : ℕ) → u ≤ 3 → size_of_type u t ≡ size_of_type 0 t
-low_size u t low = grind (arith, nat_tests)
-
-low_sequenced : (u : ℕ) → u ≤ 3 → non_sequenced u ≡ 0
-low_sequenced u low = grind (arith, nat_tests)
 
 low_droppable : (u : ℕ) (t : Bool) → u ≤ 3 → (nat_le u 3 || t) ≡ true
 low_droppable u t low = grind (arith, nat_tests)
@@ -268,7 +256,7 @@ reset_again b t x f w1 w2 later size =
     let peer_contact : long_at 12 b ≡ x.peer_contact = omega arith in
     let unused : List ℕ = field 1 28 0 b ∷ word_at 2 b ∷ word_at 4 b ∷ word_at 5 b ∷ word_at 6 b ∷ field 8 31 7 b ∷ field 8 1 0 b ∷ word_at 9 b ∷ [] in
     let zero : AreZero unused =
-      (omega arith, (w2, (later 0 (omega arith), (later 1 (omega arith), (later 2 (omega arith), (omega (arith, f.priority), (omega (arith, f.priority), (later 5 (omega arith), tt)))))))) in
+    (omega arith, (w2, (later 0 (omega arith), (later 1 (omega arith), (later 2 (omega arith), (omega (arith, f.priority), (omega (arith, f.priority), (later 5 (omega arith), tt)))))))) in
     record {
       clean = both_true _ _ (all_zero-from unused zero) (eq-eqb (length b) 56 size);
       reset = rw (w7, priority, contact, peer_contact) refl;
@@ -290,9 +278,9 @@ changeover_again b a s n x f r l =
     let epoch : long_at 10 b ≡ x.old_epoch = omega arith in
     let unused : List ℕ = field 1 28 16 b ∷ field 5 31 1 b ∷ word_at 6 b ∷ word_at 7 b ∷ word_at 8 b ∷ word_at 9 b ∷ [] in
     let zero : AreZero unused =
-      (omega (arith, f.broadcast_acknowledgement), (omega (arith, f.old_bearer), (l.later 2 (omega arith), (l.later 3 (omega arith), (l.later 4 (omega arith), (l.later 5 (omega arith), tt)))))) in
+    (omega (arith, f.broadcast_acknowledgement), (omega (arith, f.old_bearer), (l.later 2 (omega arith), (l.later 3 (omega arith), (l.later 4 (omega arith), (l.later 5 (omega arith), tt)))))) in
     let run : (nat_lt 0 (field 4 31 16 b) || ((field 4 15 0 b == 0) && (length b == 48))) ≡ true =
-      is_run (field 4 31 16 b) (field 4 15 0 b) (length b) (λ none. let e = r (sym count ∙ none) in (inner ∙ e.0, omega (arith, size, e.1))) in
+    is_run (field 4 31 16 b) (field 4 15 0 b) (length b) (λ none. let e = r (sym count ∙ none) in (inner ∙ e.0, omega (arith, size, e.1))) in
     record {
       clean = both_true _ _ (both_true _ _ (all_zero-from unused zero) (le-leb 48 (length b) (omega arith))) run;
       header = rw (broadcast, count, inner, bearer, epoch, changeover_type-again x.changeover_type) refl;
@@ -306,7 +294,7 @@ distribution_again b a s n x f r l =
     let broadcast : field 1 15 0 b ≡ x.broadcast_acknowledgement = omega arith in
     let unused : List ℕ = field 1 28 16 b ∷ word_at 4 b ∷ word_at 5 b ∷ word_at 6 b ∷ word_at 7 b ∷ word_at 8 b ∷ word_at 9 b ∷ [] in
     let zero : AreZero unused =
-      (omega arith, (l.later 0 (omega arith), (l.later 1 (omega arith), (l.later 2 (omega arith), (l.later 3 (omega arith), (l.later 4 (omega arith), (l.later 5 (omega arith), tt))))))) in
+    (omega arith, (l.later 0 (omega arith), (l.later 1 (omega arith), (l.later 2 (omega arith), (l.later 3 (omega arith), (l.later 4 (omega arith), (l.later 5 (omega arith), tt))))))) in
     let behind : length b - 40 ≡ n = omega arith in
     record {
       clean = both_true _ _ (both_true _ _ (both_true _ _ (all_zero-from unused zero) (le-leb 20 (length b - 40) (omega (arith, behind, r.0)))) (le-leb (length b - 40) 1400 (omega (arith, behind, r.1)))) (eq-eqb ((length b - 40) % 20) 0 (ap (λ (k : ℕ). k % 20) behind ∙ r.2));
@@ -323,7 +311,7 @@ fragment_again b a s n x f r l =
     let number : field 4 15 0 b ≡ x.number = omega arith in
     let unused : List ℕ = field 1 28 16 b ∷ field 4 31 16 b ∷ word_at 5 b ∷ word_at 6 b ∷ word_at 7 b ∷ word_at 8 b ∷ word_at 9 b ∷ [] in
     let zero : AreZero unused =
-      (omega arith, (omega arith, (l.later 1 (omega arith), (l.later 2 (omega arith), (l.later 3 (omega arith), (l.later 4 (omega arith), (l.later 5 (omega arith), tt))))))) in
+    (omega arith, (omega arith, (l.later 1 (omega arith), (l.later 2 (omega arith), (l.later 3 (omega arith), (l.later 4 (omega arith), (l.later 5 (omega arith), tt))))))) in
     let behind : length b - 40 ≡ n = omega arith in
     record {
       clean = both_true _ _ (both_true _ _ (both_true _ _ (all_zero-from unused zero) (le-leb 1 (field 4 15 0 b) (omega (arith, number, f.1)))) (le-leb 1 (length b - 40) (omega (arith, behind, r.0)))) (le-leb (length b - 40) 1412 (omega (arith, behind, r.1)));
@@ -339,7 +327,7 @@ discovery_again b a s n x acknowledgement sequence none l =
     let size = l.size in
     let unused : List ℕ = field 1 28 0 b ∷ word_at 2 b ∷ word_at 5 b ∷ word_at 6 b ∷ word_at 7 b ∷ word_at 8 b ∷ word_at 9 b ∷ [] in
     let zero : AreZero unused =
-      (omega arith, (omega arith, (l.later 1 (omega arith), (l.later 2 (omega arith), (l.later 3 (omega arith), (l.later 4 (omega arith), (l.later 5 (omega arith), tt))))))) in
+    (omega arith, (omega arith, (l.later 1 (omega arith), (l.later 2 (omega arith), (l.later 3 (omega arith), (l.later 4 (omega arith), (l.later 5 (omega arith), tt))))))) in
     record {
       clean = both_true _ _ (all_zero-from unused zero) (eq-eqb (length b) 40 (omega arith));
       header = rw (w4, discovery_type-again x.discovery_type) refl;
@@ -366,14 +354,6 @@ addressing_again b (Direct o d) later =
     let e1 = later 1 (omega arith) in
     rw (e0, e1) refl
 
-low_clean : (u t : ℕ) (b : List ℕ) → u ≤ 3 → payload_is_clean b ≡ true → user_is_clean u t b ≡ true
-unfolding user_is_clean
-low_clean u t b low h = grind (arith, nat_tests)
-
-low_header : (u t : ℕ) (b : List ℕ) → u ≤ 3 → header_at u t b ≡ payload_at u t b
-unfolding header_at
-low_header u t b low = grind (arith, nat_tests)
-
 get_or-third : (x y : ℕ) (ns : List ℕ) (i : ℕ) → get_or (x ∷ y ∷ ns) (2 + i) 0 ≡ get_or ns i 0
 get_or-third x y ns i = let e : 2 + i ≡ suc (suc i) = omega arith in rw e refl
 
@@ -394,13 +374,13 @@ payload_again b a s n x f d19 d18 l =
     let source : flag 0 18 b ≡ x.source_droppable = ap (λ (k : ℕ). k == 1) d18 ∙ flag-bit x.source_droppable in
     let none : addressing_words x.addressing ++ [] ≡ addressing_words x.addressing = append-nil (addressing_words x.addressing) in
     let behind : (i : ℕ) → i < length (addressing_words x.addressing) → word_at (6 + i) b ≡ get_or (addressing_words x.addressing) i 0 = λ i lt.
-      ap (λ (k : ℕ). word_at k b) (omega arith)
-      ∙ l.later (2 + i) (omega (arith, lt, ap length none))
-      ∙ get_or-third x.origin_port x.destination_port (addressing_words x.addressing ++ []) i
-      ∙ ap (λ (ns : List ℕ). get_or ns i 0) none in
+    ap (λ (k : ℕ). word_at k b) (omega arith)
+    ∙ l.later (2 + i) (omega (arith, lt, ap length none))
+    ∙ get_or-third x.origin_port x.destination_port (addressing_words x.addressing ++ []) i
+    ∙ ap (λ (ns : List ℕ). get_or ns i 0) none in
     let addressing = addressing_again b x.addressing behind in
     record {
-      clean = low_clean x.importance _ b f.importance (both_true _ _ (eq-eqb (field 1 18 16 b) 0 zero) (le-leb (field 1 28 25 b) 5 (omega (arith, code, f.error_code))));
+      clean = low_clean x.importance _ b f.importance ∙ (both_true _ _ (eq-eqb (field 1 18 16 b) 0 zero) (le-leb (field 1 28 25 b) 5 (omega (arith, code, f.error_code))));
       header = low_header x.importance _ b f.importance ∙ rw (destination, source, code, reroute, scope, broadcast, w4, w5, addressing) refl;
     }
 
@@ -461,7 +441,7 @@ unfolding word_0
 word_0-of p f =
     let row = is_row p.header f.header in
     is_word_0 (user_of p.header) (header_size p.header) (bit (is_non_sequenced p.header)) (bit (is_destination_droppable p.header)) (bit (is_source_droppable p.header)) (size_of p)
-      row.user row.size (bit-below (is_non_sequenced p.header)) (bit-below (is_destination_droppable p.header)) (bit-below (is_source_droppable p.header)) f.size
+    row.user row.size (bit-below (is_non_sequenced p.header)) (bit-below (is_destination_droppable p.header)) (bit-below (is_source_droppable p.header)) f.size
 
 word_1-below : (h : Header) → HeaderFits h → (word_1 h < 2 ^ 32) × (bits 31 29 (word_1 h) ≡ type_of h)
 unfolding word_1
@@ -538,9 +518,9 @@ is_word_0_clean b p f front =
     let w = front.first in
     let row = is_row p.header f.header in
     let droppable : (nat_le (user_of p.header) 3 || all_zero (field 0 19 19 b ∷ field 0 18 18 b ∷ [])) ≡ true =
-      ap (λ (d : ℕ). nat_le (user_of p.header) 3 || all_zero (d ∷ field 0 18 18 b ∷ [])) w.destination
-      ∙ ap (λ (s : ℕ). nat_le (user_of p.header) 3 || all_zero (bit (is_destination_droppable p.header) ∷ s ∷ [])) w.source
-      ∙ row.droppable in
+    ap (λ (d : ℕ). nat_le (user_of p.header) 3 || all_zero (d ∷ field 0 18 18 b ∷ [])) w.destination
+    ∙ ap (λ (s : ℕ). nat_le (user_of p.header) 3 || all_zero (bit (is_destination_droppable p.header) ∷ s ∷ [])) w.source
+    ∙ row.droppable in
     both_true _ _ (both_true _ _ (eq-eqb (field 0 17 17 b) 0 w.zero) (eq-eqb (field 0 20 20 b) (non_sequenced (user_of p.header)) (w.non_sequenced ∙ row.sequenced))) droppable
 
 again-of : (p : Fields) → Fits p → IsAgain (spelling p) p.header
@@ -558,15 +538,15 @@ no_fault p f =
     let w = front.first in
     let size = length-spelling p in
     let whole = row.whole in
-    let short : nat_lt (length b) 24 ≡ false = le-ltb (length b) 24 (omega arith) in
+    let short : has_start b ≡ true = le-leb 24 (length b) (omega arith) in
     let sizes : is_one_of (6 ∷ 8 ∷ 10 ∷ 11 ∷ []) (size_in_words b) ≡ true = ap (is_one_of (6 ∷ 8 ∷ 10 ∷ 11 ∷ [])) w.size_in_words ∙ row.sizes in
     let header : has_header b ≡ true = both_true _ _ sizes (le-leb (4 * size_in_words b) (length b) (omega (arith, w.size_in_words))) in
     let behind : length b - 4 * size_in_words b ≡ numbers_size h + length p.rest = omega (arith, w.size_in_words) in
     let limit : (nat_lt 3 (user_at b) || nat_le (length b - 4 * size_in_words b) 66000) ≡ true =
-      ap (λ (u : ℕ). nat_lt 3 u || nat_le (length b - 4 * size_in_words b) 66000) w.user
-      ∙ ap (λ (k : ℕ). nat_lt 3 (user_of h) || nat_le k 66000) behind
-      ∙ payload_rest h (length p.rest)
-      ∙ payload_is_short h (length p.rest) f.header f.rest in
+    ap (λ (u : ℕ). nat_lt 3 u || nat_le (length b - 4 * size_in_words b) 66000) w.user
+    ∙ ap (λ (k : ℕ). nat_lt 3 (user_of h) || nat_le k 66000) behind
+    ∙ payload_rest h (length p.rest)
+    ∙ payload_is_short h (length p.rest) f.header f.rest in
     let sized : has_size b ≡ true = both_true _ _ (eq-eqb (field 0 16 0 b) (length b) w.size) limit in
     let user : has_user (user_at b) ≡ true = ap has_user w.user ∙ row.has_user in
     let below : nat_lt (type_at b) (types_of (user_at b)) ≡ true = ap (λ (t : ℕ). nat_lt t (types_of (user_at b))) front.type ∙ ap (λ (u : ℕ). nat_lt (type_of h) (types_of u)) w.user ∙ lt-ltb (type_of h) (types_of (user_of h)) row.type in
@@ -575,12 +555,13 @@ no_fault p f =
     let again = again-of p f in
     let word_0 : word_0_is_clean (user_at b) b ≡ true = ap (λ (u : ℕ). word_0_is_clean u b) w.user ∙ is_word_0_clean b p f front in
     let later : user_is_clean (user_at b) (type_at b) b ≡ true = ap (λ (u : ℕ). user_is_clean u (type_at b) b) w.user ∙ ap (λ (t : ℕ). user_is_clean (user_of h) t b) front.type ∙ again.clean in
-    rw short (passes (has_version b) _ _ (eq-eqb (field 0 31 29 b) 2 w.version)
-      (passes (has_header b) _ _ header
-      (passes (has_size b) _ _ sized
-      (passes (has_user (user_at b)) _ _ user
-      (passes (has_type b) _ _ type
-      (passes (is_clean b) _ _ (both_true _ _ word_0 later) refl))))))
+    passes (has_start b) _ _ short
+    (passes (has_version b) _ _ (eq-eqb (field 0 31 29 b) 2 w.version)
+    (passes (has_header b) _ _ header
+    (passes (has_size b) _ _ sized
+    (passes (has_user (user_at b)) _ _ user
+    (passes (has_type b) _ _ type
+    (passes (is_clean b) _ _ (both_true _ _ word_0 later) refl))))))
 
 pub again : (p : Fields) → Fits p → fields_at (spelling p) ≡ p
 unfolding fields_at word_2
@@ -591,7 +572,7 @@ again p f =
     let l = is_spelled p f in
     let w2 = l.word_2 in
     let header : header_at (user_at b) (type_at b) b ≡ h =
-      ap (λ (u : ℕ). header_at u (type_at b) b) front.first.user ∙ ap (λ (t : ℕ). header_at (user_of h) t b) front.type ∙ (again-of p f).header in
+    ap (λ (u : ℕ). header_at u (type_at b) b) front.first.user ∙ ap (λ (t : ℕ). header_at (user_of h) t b) front.type ∙ (again-of p f).header in
     let acknowledgement : field 2 31 16 b ≡ p.acknowledgement = omega (arith, f.acknowledgement, f.sequence) in
     let sequence : field 2 15 0 b ≡ p.sequence = omega (arith, f.acknowledgement, f.sequence) in
     let previous : word_at 3 b ≡ p.previous = word_at-spelling 3 p f (omega arith) in

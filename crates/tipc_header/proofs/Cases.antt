@@ -2,7 +2,9 @@
 use Rattle.std.proofs.Common.{◌≡◌, ℕ, zero, suc, ◌+◌, ◌<◌, ◌≤◌, Bool, true, false, eqb, List, [], ◌∷◌, refl, sym, subst, inl, inr, ◌⊎◌, arith}
 use Rattle.std.specs.Prelude.{◌&&◌, ◌||◌, nat_le, ◌==◌}
 use Rattle.std.proofs.lemmas.Bool.{eqb-true, leb-true}
-use Rattle.tipc_header.specs.Faults.{is_one_of, all_zero, has_user}
+use Rattle.std.proofs.lemmas.Bool.Decides.{nat_tests}
+use Rattle.tipc_header.specs.Reading.{payload_at, header_at}
+use Rattle.tipc_header.specs.Faults.{is_one_of, all_zero, has_user, types_of, size_of_type, non_sequenced, payload_is_clean, reset_is_clean, user_is_clean}
 use Rattle.tipc_header.proofs.Sound.{both}
 
 either : (x y : Bool) → (x || y) ≡ true → (x ≡ true) ⊎ (y ≡ true)
@@ -67,3 +69,32 @@ both_true x y e f = rw (e, f) refl
 
 pub cons_same : {m n : ℕ} {ms ns : List ℕ} → m ≡ n → ms ≡ ns → (m ∷ ms) ≡ (n ∷ ns)
 cons_same e f = cc
+
+-- ---- what the tables say of payload, of the other users, and of RESET and ACTIVATE
+
+pub low_user : (u : ℕ) → u ≤ 3 → has_user u ≡ true
+low_user u low = grind (arith, nat_tests)
+
+pub low_types : (u : ℕ) → u ≤ 3 → types_of u ≡ 4
+low_types u low = grind (arith, nat_tests)
+
+pub low_size : (u t : ℕ) → u ≤ 3 → size_of_type u t ≡ size_of_type 0 t
+low_size u t low = grind (arith, nat_tests)
+
+pub low_sequenced : (u : ℕ) → u ≤ 3 → non_sequenced u ≡ 0
+low_sequenced u low = grind (arith, nat_tests)
+
+pub low_clean : (u t : ℕ) (b : List ℕ) → u ≤ 3 → user_is_clean u t b ≡ payload_is_clean b
+unfolding user_is_clean
+low_clean u t b low = grind (arith, nat_tests)
+
+pub low_header : (u t : ℕ) (b : List ℕ) → u ≤ 3 → header_at u t b ≡ payload_at u t b
+unfolding header_at
+low_header u t b low = grind (arith, nat_tests)
+
+pub high_size : (u t : ℕ) → 3 < u → size_of_type u t ≡ 10
+high_size u t high = grind (arith, nat_tests)
+
+pub reset_clean : (b : List ℕ) (t : ℕ) → 1 ≤ t → user_is_clean 7 t b ≡ reset_is_clean b
+unfolding user_is_clean
+reset_clean b t some = grind (arith, nat_tests)

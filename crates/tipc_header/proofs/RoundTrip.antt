@@ -17,18 +17,9 @@ use Rattle.tipc_header.specs.Reading.{word_at, field, user_at, size_in_words, ty
 use Rattle.tipc_header.specs.Faults.{all_zero, HasFields, size_of_type, user_is_clean, reset_is_clean, changeover_is_clean, fault_of}
 use Rattle.tipc_header.proofs.Words.{IsBytes, length-word}
 use Rattle.tipc_header.proofs.Sound.{both, IsSound, is_sound}
-use Rattle.tipc_header.proofs.Takes.{takes, is_long}
+use Rattle.tipc_header.proofs.Cases.{low_size, high_size, reset_clean}
+use Rattle.tipc_header.proofs.Takes.{takes}
 use Rattle.tipc_header.proofs.Again.{again, no_fault, length-spelling}
-
-low_size : (u t : ℕ) → u ≤ 3 → size_of_type u t ≡ size_of_type 0 t
-low_size u t low = grind (arith, nat_tests)
-
-high_size : (u t : ℕ) → 3 < u → size_of_type u t ≡ 10
-high_size u t high = grind (arith, nat_tests)
-
-reset_clean : (b : List ℕ) (t : ℕ) → 1 ≤ t → user_is_clean 7 t b ≡ reset_is_clean b
-unfolding user_is_clean
-reset_clean b t some = grind (arith, nat_tests)
 
 reset_size : (b : List ℕ) → reset_is_clean b ≡ true → length b ≡ 56
 unfolding reset_is_clean

@@ -6,16 +6,12 @@ use Rattle.std.proofs.lemmas.Bool.Decides.{nat_tests}
 use Rattle.tipc_header.specs.declared.fault.HeaderFault.{HeaderFault}
 use Rattle.tipc_header.specs.declared.fault.HeaderFault.TheVariants.{Short, Version, HeaderSize, Size, User, «Type», Reserved}
 use Rattle.tipc_header.specs.Reading.{word_at, field, user_at, size_in_words, type_at}
-use Rattle.tipc_header.specs.Faults.{is_one_of, all_zero, has_user, types_of, size_of_type, HasFields, word_0_is_clean, payload_is_clean, bundle_is_clean, state_is_clean, reset_is_clean, changeover_is_clean, distribution_is_clean, fragment_is_clean, discovery_is_clean, user_is_clean, has_version, has_header, has_size, has_type, is_clean, fault_of}
+use Rattle.tipc_header.specs.Faults.{is_one_of, all_zero, has_user, types_of, size_of_type, HasFields, has_start, word_0_is_clean, payload_is_clean, bundle_is_clean, state_is_clean, reset_is_clean, changeover_is_clean, distribution_is_clean, fragment_is_clean, discovery_is_clean, user_is_clean, has_version, has_header, has_size, has_type, is_clean, fault_of}
 
 -- a test that let the bytes pass
 passes : (t : Bool) (e : HeaderFault) (next : Option HeaderFault) → cond t next (Some e) ≡ None → (t ≡ true) × (next ≡ None)
 passes true e next h = (refl, h)
 passes false e next h = absurd cc
-
-passes_not : (t : Bool) (e : HeaderFault) (next : Option HeaderFault) → cond t (Some e) next ≡ None → (t ≡ false) × (next ≡ None)
-passes_not true e next h = absurd cc
-passes_not false e next h = (refl, h)
 
 pub both : (x y : Bool) → (x && y) ≡ true → (x ≡ true) × (y ≡ true)
 both true y h = (refl, h)
@@ -39,7 +35,7 @@ pub record IsSound (b : List ℕ) : Type 0 where
 pub is_sound : (b : List ℕ) → fault_of b ≡ None → IsSound b
 unfolding fault_of
 is_sound b h =
-    let a = passes_not (nat_lt (length b) 24) Short _ h in
+    let a = passes (has_start b) Short _ h in
     let c = passes (has_version b) Version _ a.1 in
     let d = passes (has_header b) HeaderSize _ c.1 in
     let e = passes (has_size b) Size _ d.1 in
@@ -51,7 +47,7 @@ is_sound b h =
     let type = both _ _ g.0 in
     let clean = both _ _ k.0 in
     record {
-      short = ltb-false _ _ a.0;
+      short = leb-true _ _ a.0;
       version = eqb-true _ _ c.0;
       header = leb-true _ _ header.1;
       size = eqb-true _ _ size.0;

@@ -18,7 +18,7 @@ use Rattle.tipc_header.specs.Faults.{all_zero, non_sequenced, types_of, size_of_
 use Rattle.tipc_header.proofs.Words.{IsBytes, word_at-below, words_from, words_of_all}
 use Rattle.tipc_header.proofs.Sound.{both, IsSound, is_sound}
 use Rattle.tipc_header.proofs.Places.{word_0-joined, payload-joined, bit-flag, type-joined, short-joined, gap-joined, halves-joined, high-joined, low-joined, bit-joined, priority-joined, about-joined, long-high, long-low}
-use Rattle.tipc_header.proofs.Cases.{AreZero, are_zero, cons_same, each_type_2, each_type_3, each_type_4, each_user}
+use Rattle.tipc_header.proofs.Cases.{AreZero, are_zero, cons_same, each_type_2, each_type_3, each_type_4, each_user, low_types, low_size, low_sequenced, low_clean, low_header, high_size}
 
 pub record Takes (b : List ℕ) (p : Fields) : Type 0 where
   pub fits : Fits p
@@ -44,9 +44,6 @@ pub record IsLong (b : List ℕ) (u n : ℕ) : Type 0 where
 not_low : (u : ℕ) (t : Bool) → 3 < u → (nat_le u 3 || t) ≡ true → t ≡ true
 not_low u t high h = grind (arith, nat_tests)
 
-long_size : (u t : ℕ) → 3 < u → size_of_type u t ≡ 10
-long_size u t high = grind (arith, nat_tests)
-
 pub is_long : (b : List ℕ) (u : ℕ) → IsBytes b → IsSound b → user_at b ≡ u → 3 < u → IsLong b u (non_sequenced u)
 unfolding word_0_is_clean
 is_long b u h s e high =
@@ -55,7 +52,7 @@ is_long b u h s e high =
     let outer = both ((field 0 17 17 b == 0) && (field 0 20 20 b == non_sequenced u)) (nat_le u 3 || all_zero (field 0 19 19 b ∷ field 0 18 18 b ∷ [])) clean in
     let inner = both (field 0 17 17 b == 0) (field 0 20 20 b == non_sequenced u) outer.0 in
     let droppable = are_zero (field 0 19 19 b ∷ field 0 18 18 b ∷ []) (not_low u _ high outer.1) in
-    let ten : size_in_words b ≡ 10 = s.size_of_type ∙ ap (λ (v : ℕ). size_of_type v (type_at b)) e ∙ long_size u (type_at b) high in
+    let ten : size_in_words b ≡ 10 = s.size_of_type ∙ ap (λ (v : ℕ). size_of_type v (type_at b)) e ∙ high_size u (type_at b) high in
     let header = s.header in
     let size = s.size in
     record {
@@ -93,18 +90,18 @@ bundle_takes b h l =
         size = omega (arith, l.size);
       };
       spelled = spelled_from 10 b (fields_with (bundle_at b) b) h long
-        (cons_same (word_0-with b 6 0 0 l long)
-        (cons_same (short-joined (word_at 1 b) 0 (word_at-below 1 b h) type zero.0)
-        (cons_same (halves-joined (word_at 2 b) (word_at-below 2 b h))
-        (cons_same refl
-        (cons_same (high-joined (word_at 4 b) (word_at-below 4 b h) zero.1.0)
-        (cons_same (sym zero.1.1.0)
-        (cons_same (sym zero.1.1.1.0)
-        (cons_same (sym zero.1.1.1.1.0)
-        (cons_same (sym zero.1.1.1.1.1.0)
-        (cons_same (sym zero.1.1.1.1.1.1.0)
-        refl))))))))))
-        refl;
+          (cons_same (word_0-with b 6 0 0 l long)
+          (cons_same (short-joined (word_at 1 b) 0 (word_at-below 1 b h) type zero.0)
+          (cons_same (halves-joined (word_at 2 b) (word_at-below 2 b h))
+          (cons_same refl
+          (cons_same (high-joined (word_at 4 b) (word_at-below 4 b h) zero.1.0)
+          (cons_same (sym zero.1.1.0)
+          (cons_same (sym zero.1.1.1.0)
+          (cons_same (sym zero.1.1.1.1.0)
+          (cons_same (sym zero.1.1.1.1.1.0)
+          (cons_same (sym zero.1.1.1.1.1.1.0)
+          refl))))))))))
+          refl;
     }
 
 state_takes : (b : List ℕ) → IsBytes b → IsLong b 7 1 → type_at b ≡ 0 → Takes b (fields_with (state_at b) b)
@@ -136,18 +133,18 @@ state_takes b h l type =
         size = omega arith;
       };
       spelled = spelled_from 10 b (fields_with (state_at b) b) h long
-        (cons_same (word_0-with b 7 1 0 l long)
-        (cons_same (gap-joined (word_at 1 b) 0 (word_at-below 1 b h) type)
-        (cons_same (halves-joined (word_at 2 b) (word_at-below 2 b h))
-        (cons_same refl
-        (cons_same (halves-joined (word_at 4 b) (word_at-below 4 b h))
-        (cons_same (halves-joined (word_at 5 b) (word_at-below 5 b h))
-        (cons_same (sym zero.1.0)
-        (cons_same refl
-        (cons_same (about-joined (word_at 8 b) (word_at-below 8 b h) zero.1.1.0)
-        (cons_same (sym zero.1.1.1.0)
-        refl))))))))))
-        refl;
+          (cons_same (word_0-with b 7 1 0 l long)
+          (cons_same (gap-joined (word_at 1 b) 0 (word_at-below 1 b h) type)
+          (cons_same (halves-joined (word_at 2 b) (word_at-below 2 b h))
+          (cons_same refl
+          (cons_same (halves-joined (word_at 4 b) (word_at-below 4 b h))
+          (cons_same (halves-joined (word_at 5 b) (word_at-below 5 b h))
+          (cons_same (sym zero.1.0)
+          (cons_same refl
+          (cons_same (about-joined (word_at 8 b) (word_at-below 8 b h) zero.1.1.0)
+          (cons_same (sym zero.1.1.1.0)
+          refl))))))))))
+          refl;
     }
 
 -- RESET and ACTIVATE
@@ -170,17 +167,17 @@ is_reset b h clean =
       zero_2 = zero.1.0;
       all = eqb-true _ _ outer.1;
       words =
-        cons_same (sym zero.1.1.0)
-        (cons_same (sym zero.1.1.1.0)
-        (cons_same (sym zero.1.1.1.1.0)
-        (cons_same refl
-        (cons_same (priority-joined (word_at 8 b) (below 8) zero.1.1.1.1.1.0 zero.1.1.1.1.1.1.0)
-        (cons_same (sym zero.1.1.1.1.1.1.1.0)
-        (cons_same (long-high (word_at 10 b) (word_at 11 b) (below 11))
-        (cons_same (long-low (word_at 10 b) (word_at 11 b) (below 11))
-        (cons_same (long-high (word_at 12 b) (word_at 13 b) (below 13))
-        (cons_same (long-low (word_at 12 b) (word_at 13 b) (below 13))
-        refl)))))))));
+          cons_same (sym zero.1.1.0)
+          (cons_same (sym zero.1.1.1.0)
+          (cons_same (sym zero.1.1.1.1.0)
+          (cons_same refl
+          (cons_same (priority-joined (word_at 8 b) (below 8) zero.1.1.1.1.1.0 zero.1.1.1.1.1.1.0)
+          (cons_same (sym zero.1.1.1.1.1.1.1.0)
+          (cons_same (long-high (word_at 10 b) (word_at 11 b) (below 11))
+          (cons_same (long-low (word_at 10 b) (word_at 11 b) (below 11))
+          (cons_same (long-high (word_at 12 b) (word_at 13 b) (below 13))
+          (cons_same (long-low (word_at 12 b) (word_at 13 b) (below 13))
+          refl)))))))));
       fits = record {
         destination_node = below 7;
         priority = omega arith;
@@ -207,12 +204,12 @@ reset_takes b h l type =
         size = omega arith;
       };
       spelled = spelled_from 14 b (fields_with (header.Reset (reset_at b)) b) h (omega arith)
-        (cons_same (word_0-with b 7 1 16 l (omega arith))
-        (cons_same (type-joined (word_at 1 b) 1 (word_at-below 1 b h) type r.zero_1)
-        (cons_same (halves-joined (word_at 2 b) (word_at-below 2 b h))
-        (cons_same refl
-        r.words))))
-        refl;
+          (cons_same (word_0-with b 7 1 16 l (omega arith))
+          (cons_same (type-joined (word_at 1 b) 1 (word_at-below 1 b h) type r.zero_1)
+          (cons_same (halves-joined (word_at 2 b) (word_at-below 2 b h))
+          (cons_same refl
+          r.words))))
+          refl;
     }
 
 activate_takes : (b : List ℕ) → IsBytes b → IsLong b 7 1 → type_at b ≡ 2 → Takes b (fields_with (header.Activate (reset_at b)) b)
@@ -233,12 +230,12 @@ activate_takes b h l type =
         size = omega arith;
       };
       spelled = spelled_from 14 b (fields_with (header.Activate (reset_at b)) b) h (omega arith)
-        (cons_same (word_0-with b 7 1 16 l (omega arith))
-        (cons_same (type-joined (word_at 1 b) 2 (word_at-below 1 b h) type r.zero_1)
-        (cons_same (halves-joined (word_at 2 b) (word_at-below 2 b h))
-        (cons_same refl
-        r.words))))
-        refl;
+          (cons_same (word_0-with b 7 1 16 l (omega arith))
+          (cons_same (type-joined (word_at 1 b) 2 (word_at-below 1 b h) type r.zero_1)
+          (cons_same (halves-joined (word_at 2 b) (word_at-below 2 b h))
+          (cons_same refl
+          r.words))))
+          refl;
     }
 
 changeover_type-is : (t : ℕ) → t < 2 → t ≡ changeover_type (if t == 0 then Duplicate else Original)
@@ -289,20 +286,20 @@ changeover_takes b h l =
         size = omega (arith, l.size);
       };
       spelled = spelled_from 12 b (fields_with (changeover_at (type_at b) b) b) h long
-        (cons_same (word_0-with b 10 0 8 l long)
-        (cons_same (short-joined (word_at 1 b) _ (below 1) type zero.0)
-        (cons_same (halves-joined (word_at 2 b) (below 2))
-        (cons_same refl
-        (cons_same (halves-joined (word_at 4 b) (below 4))
-        (cons_same (bit-joined (word_at 5 b) (below 5) zero.1.0)
-        (cons_same (sym zero.1.1.0)
-        (cons_same (sym zero.1.1.1.0)
-        (cons_same (sym zero.1.1.1.1.0)
-        (cons_same (sym zero.1.1.1.1.1.0)
-        (cons_same (long-high (word_at 10 b) (word_at 11 b) (below 11))
-        (cons_same (long-low (word_at 10 b) (word_at 11 b) (below 11))
-        refl))))))))))))
-        refl;
+          (cons_same (word_0-with b 10 0 8 l long)
+          (cons_same (short-joined (word_at 1 b) _ (below 1) type zero.0)
+          (cons_same (halves-joined (word_at 2 b) (below 2))
+          (cons_same refl
+          (cons_same (halves-joined (word_at 4 b) (below 4))
+          (cons_same (bit-joined (word_at 5 b) (below 5) zero.1.0)
+          (cons_same (sym zero.1.1.0)
+          (cons_same (sym zero.1.1.1.0)
+          (cons_same (sym zero.1.1.1.1.0)
+          (cons_same (sym zero.1.1.1.1.1.0)
+          (cons_same (long-high (word_at 10 b) (word_at 11 b) (below 11))
+          (cons_same (long-low (word_at 10 b) (word_at 11 b) (below 11))
+          refl))))))))))))
+          refl;
     }
 
 distribution_takes : (b : List ℕ) → IsBytes b → IsLong b 11 0 → Takes b (fields_with (distribution_at (type_at b) b) b)
@@ -327,18 +324,18 @@ distribution_takes b h l =
         size = omega (arith, l.size);
       };
       spelled = spelled_from 10 b (fields_with (distribution_at (type_at b) b) b) h long
-        (cons_same (word_0-with b 11 0 0 l long)
-        (cons_same (short-joined (word_at 1 b) _ (word_at-below 1 b h) type zero.0)
-        (cons_same (halves-joined (word_at 2 b) (word_at-below 2 b h))
-        (cons_same refl
-        (cons_same (sym zero.1.0)
-        (cons_same (sym zero.1.1.0)
-        (cons_same (sym zero.1.1.1.0)
-        (cons_same (sym zero.1.1.1.1.0)
-        (cons_same (sym zero.1.1.1.1.1.0)
-        (cons_same (sym zero.1.1.1.1.1.1.0)
-        refl))))))))))
-        refl;
+          (cons_same (word_0-with b 11 0 0 l long)
+          (cons_same (short-joined (word_at 1 b) _ (word_at-below 1 b h) type zero.0)
+          (cons_same (halves-joined (word_at 2 b) (word_at-below 2 b h))
+          (cons_same refl
+          (cons_same (sym zero.1.0)
+          (cons_same (sym zero.1.1.0)
+          (cons_same (sym zero.1.1.1.0)
+          (cons_same (sym zero.1.1.1.1.0)
+          (cons_same (sym zero.1.1.1.1.1.0)
+          (cons_same (sym zero.1.1.1.1.1.1.0)
+          refl))))))))))
+          refl;
     }
 
 fragment_takes : (b : List ℕ) → IsBytes b → IsLong b 12 0 → Takes b (fields_with (fragment_at (type_at b) b) b)
@@ -363,18 +360,18 @@ fragment_takes b h l =
         size = omega (arith, l.size);
       };
       spelled = spelled_from 10 b (fields_with (fragment_at (type_at b) b) b) h long
-        (cons_same (word_0-with b 12 0 0 l long)
-        (cons_same (short-joined (word_at 1 b) _ (word_at-below 1 b h) type zero.0)
-        (cons_same (halves-joined (word_at 2 b) (word_at-below 2 b h))
-        (cons_same refl
-        (cons_same (low-joined (word_at 4 b) (word_at-below 4 b h) zero.1.0)
-        (cons_same (sym zero.1.1.0)
-        (cons_same (sym zero.1.1.1.0)
-        (cons_same (sym zero.1.1.1.1.0)
-        (cons_same (sym zero.1.1.1.1.1.0)
-        (cons_same (sym zero.1.1.1.1.1.1.0)
-        refl))))))))))
-        refl;
+          (cons_same (word_0-with b 12 0 0 l long)
+          (cons_same (short-joined (word_at 1 b) _ (word_at-below 1 b h) type zero.0)
+          (cons_same (halves-joined (word_at 2 b) (word_at-below 2 b h))
+          (cons_same refl
+          (cons_same (low-joined (word_at 4 b) (word_at-below 4 b h) zero.1.0)
+          (cons_same (sym zero.1.1.0)
+          (cons_same (sym zero.1.1.1.0)
+          (cons_same (sym zero.1.1.1.1.0)
+          (cons_same (sym zero.1.1.1.1.1.0)
+          (cons_same (sym zero.1.1.1.1.1.1.0)
+          refl))))))))))
+          refl;
     }
 
 discovery_takes : (b : List ℕ) → IsBytes b → IsLong b 13 1 → Takes b (fields_with (discovery_at (type_at b) b) b)
@@ -399,18 +396,18 @@ discovery_takes b h l =
         size = omega arith;
       };
       spelled = spelled_from 10 b (fields_with (discovery_at (type_at b) b) b) h long
-        (cons_same (word_0-with b 13 1 0 l long)
-        (cons_same (type-joined (word_at 1 b) _ (word_at-below 1 b h) type zero.0)
-        (cons_same (halves-joined (word_at 2 b) (word_at-below 2 b h))
-        (cons_same refl
-        (cons_same refl
-        (cons_same (sym zero.1.1.0)
-        (cons_same (sym zero.1.1.1.0)
-        (cons_same (sym zero.1.1.1.1.0)
-        (cons_same (sym zero.1.1.1.1.1.0)
-        (cons_same (sym zero.1.1.1.1.1.1.0)
-        refl))))))))))
-        refl;
+          (cons_same (word_0-with b 13 1 0 l long)
+          (cons_same (type-joined (word_at 1 b) _ (word_at-below 1 b h) type zero.0)
+          (cons_same (halves-joined (word_at 2 b) (word_at-below 2 b h))
+          (cons_same refl
+          (cons_same refl
+          (cons_same (sym zero.1.1.0)
+          (cons_same (sym zero.1.1.1.0)
+          (cons_same (sym zero.1.1.1.1.0)
+          (cons_same (sym zero.1.1.1.1.1.0)
+          (cons_same (sym zero.1.1.1.1.1.1.0)
+          refl))))))))))
+          refl;
     }
 
 -- ---- payload
@@ -426,16 +423,6 @@ record IsPayload (b : List ℕ) (t : ℕ) : Type 0 where
   code : field 1 28 25 b ≤ 5
   word_0 : from_bit 29 2 + from_bit 25 (user_at b) + from_bit 21 (size_of_type 0 t) + from_bit 20 0 + from_bit 19 (bit (flag 0 19 b)) + from_bit 18 (bit (flag 0 18 b)) + length b ≡ word_at 0 b
 
-low_size : (u t : ℕ) → u ≤ 3 → size_of_type u t ≡ size_of_type 0 t
-low_size u t low = grind (arith, nat_tests)
-
-low_clean : (u t : ℕ) (b : List ℕ) → u ≤ 3 → user_is_clean u t b ≡ true → payload_is_clean b ≡ true
-unfolding user_is_clean
-low_clean u t b low h = grind (arith, nat_tests)
-
-low_sequenced : (u : ℕ) → u ≤ 3 → non_sequenced u ≡ 0
-low_sequenced u low = grind (arith, nat_tests)
-
 is_payload : (b : List ℕ) (t : ℕ) → IsBytes b → IsSound b → user_at b ≤ 3 → type_at b ≡ t → IsPayload b t
 unfolding word_0_is_clean payload_is_clean
 is_payload b t h s low type =
@@ -443,7 +430,7 @@ is_payload b t h s low type =
     let sequenced : Bool = field 0 20 20 b == non_sequenced u in
     let outer = both ((field 0 17 17 b == 0) && sequenced) (nat_le u 3 || all_zero (field 0 19 19 b ∷ field 0 18 18 b ∷ [])) s.word_0 in
     let inner = both (field 0 17 17 b == 0) sequenced outer.0 in
-    let clean = both (field 1 18 16 b == 0) (nat_le (field 1 28 25 b) 5) (low_clean u (type_at b) b low s.clean) in
+    let clean = both (field 1 18 16 b == 0) (nat_le (field 1 28 25 b) 5) (sym (low_clean u (type_at b) b low) ∙ s.clean) in
     let words : size_in_words b ≡ size_of_type 0 t = s.size_of_type ∙ low_size u (type_at b) low ∙ ap (size_of_type 0) type in
     let size = s.size in
     record {
@@ -491,11 +478,11 @@ connected_takes b h p =
         size = omega (arith, p.size, p.long);
       };
       spelled = spelled_from 6 b (fields_with (payload_at (user_at b) 0 b) b) h p.long
-        (cons_same (payload_word_0 b 0 24 p refl)
-        (cons_same (payload-joined (word_at 1 b) 0 (word_at-below 1 b h) p.type p.zero)
-        (cons_same (halves-joined (word_at 2 b) (word_at-below 2 b h))
-        refl)))
-        refl;
+          (cons_same (payload_word_0 b 0 24 p refl)
+          (cons_same (payload-joined (word_at 1 b) 0 (word_at-below 1 b h) p.type p.zero)
+          (cons_same (halves-joined (word_at 2 b) (word_at-below 2 b h))
+          refl)))
+          refl;
     }
 
 multicast_takes : (b : List ℕ) → IsBytes b → IsPayload b 1 → Takes b (fields_with (payload_at (user_at b) 1 b) b)
@@ -514,11 +501,11 @@ multicast_takes b h p =
         size = omega (arith, p.size, p.long);
       };
       spelled = spelled_from 11 b (fields_with (payload_at (user_at b) 1 b) b) h p.long
-        (cons_same (payload_word_0 b 1 44 p refl)
-        (cons_same (payload-joined (word_at 1 b) 1 (below 1) p.type p.zero)
-        (cons_same (halves-joined (word_at 2 b) (below 2))
-        refl)))
-        refl;
+          (cons_same (payload_word_0 b 1 44 p refl)
+          (cons_same (payload-joined (word_at 1 b) 1 (below 1) p.type p.zero)
+          (cons_same (halves-joined (word_at 2 b) (below 2))
+          refl)))
+          refl;
     }
 
 named_takes : (b : List ℕ) → IsBytes b → IsPayload b 2 → Takes b (fields_with (payload_at (user_at b) 2 b) b)
@@ -537,11 +524,11 @@ named_takes b h p =
         size = omega (arith, p.size, p.long);
       };
       spelled = spelled_from 10 b (fields_with (payload_at (user_at b) 2 b) b) h p.long
-        (cons_same (payload_word_0 b 2 40 p refl)
-        (cons_same (payload-joined (word_at 1 b) 2 (below 1) p.type p.zero)
-        (cons_same (halves-joined (word_at 2 b) (below 2))
-        refl)))
-        refl;
+          (cons_same (payload_word_0 b 2 40 p refl)
+          (cons_same (payload-joined (word_at 1 b) 2 (below 1) p.type p.zero)
+          (cons_same (halves-joined (word_at 2 b) (below 2))
+          refl)))
+          refl;
     }
 
 direct_takes : (b : List ℕ) → IsBytes b → IsPayload b 3 → Takes b (fields_with (payload_at (user_at b) 3 b) b)
@@ -560,49 +547,55 @@ direct_takes b h p =
         size = omega (arith, p.size, p.long);
       };
       spelled = spelled_from 8 b (fields_with (payload_at (user_at b) 3 b) b) h p.long
-        (cons_same (payload_word_0 b 3 32 p refl)
-        (cons_same (payload-joined (word_at 1 b) 3 (below 1) p.type p.zero)
-        (cons_same (halves-joined (word_at 2 b) (below 2))
-        refl)))
-        refl;
+          (cons_same (payload_word_0 b 3 32 p refl)
+          (cons_same (payload-joined (word_at 1 b) 3 (below 1) p.type p.zero)
+          (cons_same (halves-joined (word_at 2 b) (below 2))
+          refl)))
+          refl;
     }
 
 payload_takes : (b : List ℕ) → IsBytes b → IsSound b → user_at b ≤ 3 → Takes b (fields_with (payload_at (user_at b) (type_at b) b) b)
 payload_takes b h s low =
-    let four : types_of (user_at b) ≡ 4 = grind (arith, nat_tests) in
-    each_type_4 (λ (t : ℕ). type_at b ≡ t → Takes b (fields_with (payload_at (user_at b) t b) b)) (type_at b) (subst (λ (n : ℕ). type_at b < n) four s.type)
-      (λ e. connected_takes b h (is_payload b 0 h s low e))
-      (λ e. multicast_takes b h (is_payload b 1 h s low e))
-      (λ e. named_takes b h (is_payload b 2 h s low e))
-      (λ e. direct_takes b h (is_payload b 3 h s low e))
-      refl
+    each_type_4 (λ (t : ℕ). type_at b ≡ t → Takes b (fields_with (payload_at (user_at b) t b) b)) (type_at b) (subst (λ (n : ℕ). type_at b < n) (low_types (user_at b) low) s.type)
+    (λ e. connected_takes b h (is_payload b 0 h s low e))
+    (λ e. multicast_takes b h (is_payload b 1 h s low e))
+    (λ e. named_takes b h (is_payload b 2 h s low e))
+    (λ e. direct_takes b h (is_payload b 3 h s low e))
+    refl
 
 -- ---- every user
-
-low_header : (u t : ℕ) (b : List ℕ) → u ≤ 3 → header_at u t b ≡ payload_at u t b
-unfolding header_at
-low_header u t b low = grind (arith, nat_tests)
 
 link_protocol_takes : (b : List ℕ) → IsBytes b → IsLong b 7 1 → Takes b (fields_with (header_at 7 (type_at b) b) b)
 unfolding header_at
 link_protocol_takes b h l =
     each_type_3 (λ (t : ℕ). type_at b ≡ t → Takes b (fields_with (header_at 7 t b) b)) (type_at b) l.type
-      (state_takes b h l)
-      (reset_takes b h l)
-      (activate_takes b h l)
-      refl
+    (state_takes b h l)
+    (reset_takes b h l)
+    (activate_takes b h l)
+    refl
 
 pub takes : (b : List ℕ) → IsBytes b → fault_of b ≡ None → Takes b (fields_at b)
 unfolding fields_at header_at
 takes b h none =
     let s = is_sound b none in
     each_user (λ (u : ℕ). user_at b ≡ u → Takes b (fields_with (header_at u (type_at b) b) b)) (user_at b) s.user
-      (λ low e. subst (λ (x : Header). Takes b (fields_with x b)) (sym (low_header (user_at b) (type_at b) b low)) (payload_takes b h s low))
-      ((λ e. bundle_takes b h (is_long b 6 h s e (omega arith))),
-      ((λ e. link_protocol_takes b h (is_long b 7 h s e (omega arith))),
-      ((λ e. changeover_takes b h (is_long b 10 h s e (omega arith))),
-      ((λ e. distribution_takes b h (is_long b 11 h s e (omega arith))),
-      ((λ e. fragment_takes b h (is_long b 12 h s e (omega arith))),
-      ((λ e. discovery_takes b h (is_long b 13 h s e (omega arith))),
-      tt))))))
-      refl
+    (λ low e. subst (λ (x : Header). Takes b (fields_with x b)) (sym (low_header (user_at b) (type_at b) b low)) (payload_takes b h s low)) (
+      (λ e. bundle_takes b h (is_long b 6 h s e (omega arith))),
+      (
+        (λ e. link_protocol_takes b h (is_long b 7 h s e (omega arith))),
+        (
+          (λ e. changeover_takes b h (is_long b 10 h s e (omega arith))),
+          (
+            (λ e. distribution_takes b h (is_long b 11 h s e (omega arith))),
+            (
+              (λ e. fragment_takes b h (is_long b 12 h s e (omega arith))),
+              (
+                (λ e. discovery_takes b h (is_long b 13 h s e (omega arith))),
+                tt,
+              ),
+            ),
+          ),
+        ),
+      ),
+    )
+    refl

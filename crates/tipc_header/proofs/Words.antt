@@ -81,9 +81,9 @@ word_at-later : (i n : ℕ) (b : List ℕ) → word_at (suc i) (word n ++ b) ≡
 unfolding word word_at
 word_at-later i n b =
     let past : drop (4 * suc i) (to_be_bytes w32 n ++ b) ≡ drop (4 * i) b =
-      ap (λ (k : ℕ). drop k (to_be_bytes w32 n ++ b)) (omega arith)
-      ∙ sym (drop-drop (4 * i) 4 (to_be_bytes w32 n ++ b))
-      ∙ ap (drop (4 * i)) (drop_at (to_be_bytes w32 n) b 4 refl) in
+    ap (λ (k : ℕ). drop k (to_be_bytes w32 n ++ b)) (omega arith)
+    ∙ sym (drop-drop (4 * i) 4 (to_be_bytes w32 n ++ b))
+    ∙ ap (drop (4 * i)) (drop_at (to_be_bytes w32 n) b 4 refl) in
     ap (λ (x : List ℕ). from_be_bytes w32 (take 4 x)) past
 
 pub word_at-words : (i : ℕ) (ns b : List ℕ) → AreWords ns → i < length ns → word_at i (words ns ++ b) ≡ get_or ns i 0

@@ -101,6 +101,9 @@ user_is_clean u t b =
 
 -- ---- the faults, in order
 
+abbrev pub has_start : List ℕ → Bool
+has_start b = nat_le 24 (length b)
+
 abbrev pub has_version : List ℕ → Bool
 has_version b = field 0 31 29 b == 2
 
@@ -116,19 +119,28 @@ has_type b = nat_lt (type_at b) (types_of (user_at b)) && (size_in_words b == si
 abbrev pub is_clean : List ℕ → Bool
 is_clean b = word_0_is_clean (user_at b) b && user_is_clean (user_at b) (type_at b) b
 
--- The first rule that is broken; where none is, the bytes are a packet.
+-- the fault of the first rule that isn't kept
+abbrev pub first_broken : List (Bool × HeaderFault) → Option HeaderFault
+first_broken [] = None
+first_broken (rule ∷ rules) = if rule.0 then first_broken rules else Some rule.1
+
+-- Bytes that keep every rule are a packet.
 unfoldable pub fault_of : List ℕ → Option HeaderFault
-fault_of b =
-    if nat_lt (length b) 24 then Some Short
-    else (if has_version b then
-    (if has_header b then
-    (if has_size b then
-    (if has_user (user_at b) then
-    (if has_type b then
-    (if is_clean b then None
-    else Some Reserved)
-    else Some «Type»)
-    else Some User)
-    else Some Size)
-    else Some HeaderSize)
-    else Some Version)
+fault_of b = first_broken
+    ((has_start b, Short)
+    ∷ (has_version b, Version)
+    ∷ (has_header b, HeaderSize)
+    ∷ (has_size b, Size)
+    ∷ (has_user (user_at b), User)
+    ∷ (has_type b, «Type»)
+    ∷ (is_clean b, Reserved)
+    ∷ [])
+
+abbrev pub number_of : HeaderFault → ℕ
+number_of Short = 1
+number_of Version = 2
+number_of HeaderSize = 3
+number_of Size = 4
+number_of User = 5
+number_of «Type» = 6
+number_of Reserved = 7

@@ -138,13 +138,30 @@ fn put_addressing(into: &mut Vec<u8>, addressing: &Addressing)
 {
     match *addressing {
         Addressing::Connected => {}
-        Addressing::Multicast { origin_node, destination_node, name_type, lower, upper } => {
-            put_words(into, &[origin_node, destination_node, name_type, lower, upper]);
+        Addressing::Multicast {
+            origin_node,
+            destination_node,
+            name_type,
+            lower,
+            upper,
+        } => {
+            put_words(
+                into,
+                &[origin_node, destination_node, name_type, lower, upper],
+            );
         }
-        Addressing::Named { origin_node, destination_node, name_type, instance } => {
+        Addressing::Named {
+            origin_node,
+            destination_node,
+            name_type,
+            instance,
+        } => {
             put_words(into, &[origin_node, destination_node, name_type, instance]);
         }
-        Addressing::Direct { origin_node, destination_node } => {
+        Addressing::Direct {
+            origin_node,
+            destination_node,
+        } => {
             put_words(into, &[origin_node, destination_node]);
         }
     }
@@ -159,8 +176,13 @@ fn put_state(into: &mut Vec<u8>, state: &State)
 {
     let numbers = (u32::from(state.next) << 16) + u32::from(state.broadcast_next);
     let broadcast = (u32::from(state.broadcast_start) << 16) + u32::from(state.broadcast_gap);
-    let about = (u32::from(state.priority) << 2) + (bit_of(state.in_step) << 1) + bit_of(state.probe);
-    put_words(into, &[numbers, broadcast, 0, state.destination_node, about, 0]);
+    let about = (u32::from(state.priority) << 2)
+        + (bit_of(state.in_step) << 1)
+        + bit_of(state.probe);
+    put_words(
+        into,
+        &[numbers, broadcast, 0, state.destination_node, about, 0],
+    );
 }
 
 fn put_reset(into: &mut Vec<u8>, reset: &Reset)
@@ -170,7 +192,17 @@ fn put_reset(into: &mut Vec<u8>, reset: &Reset)
     ensures len { vec_len into.new ≡ vec_len into.old + 40 }
     ensures room { vec_capacity into.old ≤ vec_capacity into.new }
 {
-    put_words(into, &[0, 0, 0, reset.destination_node, u32::from(reset.priority) << 2, 0]);
+    put_words(
+        into,
+        &[
+            0,
+            0,
+            0,
+            reset.destination_node,
+            u32::from(reset.priority) << 2,
+            0,
+        ],
+    );
     put_long(into, reset.contact);
     put_long(into, reset.peer_contact);
 }
@@ -183,7 +215,10 @@ fn put_changeover(into: &mut Vec<u8>, changeover: &Changeover)
     ensures room { vec_capacity into.old ≤ vec_capacity into.new }
 {
     let numbers = (u32::from(changeover.count) << 16) + u32::from(changeover.inner_number);
-    put_words(into, &[numbers, u32::from(changeover.old_bearer), 0, 0, 0, 0]);
+    put_words(
+        into,
+        &[numbers, u32::from(changeover.old_bearer), 0, 0, 0, 0],
+    );
     put_long(into, changeover.old_epoch);
 }
 
@@ -206,7 +241,10 @@ fn put_header(into: &mut Vec<u8>, header: &Header)
         Header::Activate(activate) => put_reset(into, activate),
         Header::Changeover(changeover) => put_changeover(into, changeover),
         Header::NameDistributor(_) => put_words(into, &[0, 0, 0, 0, 0, 0]),
-        Header::Fragmenter(fragment) => put_words(into, &[u32::from(fragment.number), 0, 0, 0, 0, 0]),
+        Header::Fragmenter(fragment) => put_words(
+            into,
+            &[u32::from(fragment.number), 0, 0, 0, 0, 0],
+        ),
         Header::Discovery(discovery) => put_words(into, &[discovery.network, 0, 0, 0, 0, 0]),
     }
 }
@@ -223,7 +261,12 @@ pub fn encode(packet: &Packet<'_>, into: &mut Vec<u8>) -> Result<(), AllocError>
     ensures err { OnErr result (into.new.items ≡ into.old.items) }
 {
     into.reserve(packet.size())?;
-    let front = [first_word(packet), second_word(&packet.header), third_word(packet), packet.previous];
+    let front = [
+        first_word(packet),
+        second_word(&packet.header),
+        third_word(packet),
+        packet.previous,
+    ];
     put_words(into, &front);
     put_header(into, &packet.header);
     put_bytes(into, packet.rest);

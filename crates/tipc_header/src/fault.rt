@@ -1,3 +1,5 @@
+ghost use Rattle.std.specs.Prelude.{◌≡◌};
+
 /// Why bytes are no packet: the first of these rules that they break. The order and the numbers are
 /// this project's profile.
 #[derive(Clone, Copy, Debug, PartialEq, Eq)]
@@ -20,8 +22,12 @@ pub enum HeaderFault {
 }
 
 impl HeaderFault {
+    ghost use Rattle.tipc_header.specs.Faults.{number_of};
+
     /// The number of the fault, from 1, in the order in which they are looked for.
-    pub fn number(self) -> u8 {
+    pub fn number(self) -> u8
+        ensures { result ≡ number_of self }
+    {
         self as u8
     }
 }

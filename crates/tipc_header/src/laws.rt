@@ -11,14 +11,12 @@ ghost use Rattle.tipc_header.specs.Faults.{fault_of};
 pub fn spellings_are_read_again()
     ensures no_fault { (p : Fields) → Fits p → fault_of (spelling p) ≡ None }
     ensures again { (p : Fields) → Fits p → fields_at (spelling p) ≡ p }
-{
-}
+{}
 
 /// Two packets that are spelled alike are the same packet.
 pub fn one_packet_a_spelling()
     ensures { (p : Fields) → (q : Fields) → Fits p → Fits q → spelling p ≡ spelling q → p ≡ q }
-{
-}
+{}
 
 /// A spelling has the bytes of its header words, of the numbers behind them and of the rest, which
 /// are at least 24 and fit the size field.
@@ -26,11 +24,9 @@ pub fn length_of_spelling()
     ensures exact { (p : Fields) → length (spelling p) ≡ 4 * header_size p.header + numbers_size p.header + length p.rest }
     ensures least { (p : Fields) → 24 ≤ length (spelling p) }
     ensures most { (p : Fields) → Fits p → length (spelling p) < 2 ^ 17 }
-{
-}
+{}
 
 /// A packet under other numbers differs in word 2 alone, the bytes from 8 to 12.
 pub fn word_2_stands_alone()
     ensures { (p : Fields) → (acknowledgement : ℕ) → (sequence : ℕ) → spelling (renumbered p acknowledgement sequence) ≡ take 8 (spelling p) ++ word (from_bit 16 acknowledgement + sequence) ++ drop 12 (spelling p) }
-{
-}
+{}

@@ -13,8 +13,13 @@ mod reserved;
 pub use decoding::decode;
 pub use encoding::encode;
 pub use fault::HeaderFault;
-pub use laws::{length_of_spelling, one_packet_a_spelling, spellings_are_read_again, word_2_stands_alone};
+pub use laws::{
+    length_of_spelling, one_packet_a_spelling, spellings_are_read_again, word_2_stands_alone,
+};
 pub use packet::{
     Addressing, Bundle, Changeover, ChangeoverType, Discovery, DiscoveryType, DistributionType,
     Fragment, FragmentType, Header, NameDistribution, Packet, Payload, Reset, State,
 };
+
+#[cfg(test)]
+mod tests;

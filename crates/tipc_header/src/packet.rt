@@ -274,7 +274,8 @@ impl Header {
         ensures { result ≡ is_non_sequenced self.now }
     {
         match self {
-            Header::State(_) | Header::Reset(_) | Header::Activate(_) | Header::Discovery(_) => true,
+            Header::State(_) | Header::Reset(_) | Header::Activate(_) | Header::Discovery(_) =>
+                true,
             _ => false,
         }
     }

@@ -105,7 +105,11 @@ fn changeover(message_type: u32, bytes: &[u8]) -> Header
     ensures { result ≡ changeover_at message_type bytes.now }
 {
     Header::Changeover(Changeover {
-        changeover_type: if message_type == 0 { ChangeoverType::Duplicate } else { ChangeoverType::Original },
+        changeover_type: if message_type == 0 {
+            ChangeoverType::Duplicate
+        } else {
+            ChangeoverType::Original
+        },
         broadcast_acknowledgement: short_field(bytes, 1, 15, 0),
         count: short_field(bytes, 4, 31, 16),
         inner_number: short_field(bytes, 4, 15, 0),
@@ -120,7 +124,11 @@ fn distribution(message_type: u32, bytes: &[u8]) -> Header
     ensures { result ≡ distribution_at message_type bytes.now }
 {
     Header::NameDistributor(NameDistribution {
-        distribution_type: if message_type == 0 { DistributionType::Publication } else { DistributionType::Withdrawal },
+        distribution_type: if message_type == 0 {
+            DistributionType::Publication
+        } else {
+            DistributionType::Withdrawal
+        },
         broadcast_acknowledgement: short_field(bytes, 1, 15, 0),
     })
 }
@@ -147,7 +155,11 @@ fn discovery(message_type: u32, bytes: &[u8]) -> Header
     ensures { result ≡ discovery_at message_type bytes.now }
 {
     Header::Discovery(Discovery {
-        discovery_type: if message_type == 0 { DiscoveryType::Request } else { DiscoveryType::Response },
+        discovery_type: if message_type == 0 {
+            DiscoveryType::Request
+        } else {
+            DiscoveryType::Response
+        },
         network: word(bytes, 4),
     })
 }
