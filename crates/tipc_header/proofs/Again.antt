@@ -1,8 +1,8 @@
 -- The spelling of a packet that fits breaks no rule, and that packet is read from it again.
-use Rattle.std.proofs.Common.{◌≡◌, ℕ, zero, suc, ◌+◌, ◌-◌, ◌*◌, ◌/◌, ◌%◌, ◌^◌, ◌<◌, ◌≤◌, Bool, true, false, cond, List, [], ◌∷◌, ◌++◌, length, drop, get_or, Option, Some, None, refl, sym, ap, subst, ◌∙◌, arith, rules}
+use Rattle.std.proofs.Common.{◌≡◌, ℕ, zero, suc, ◌+◌, ◌-◌, ◌*◌, ◌%◌, ◌^◌, ◌<◌, ◌≤◌, Bool, true, false, cond, List, [], ◌∷◌, ◌++◌, length, drop, get_or, Option, Some, None, refl, sym, ap, subst, ◌∙◌, arith, rules}
 use Rattle.std.specs.Prelude.{◌&&◌, ◌||◌, nat_le, nat_lt, ◌==◌, if◌then◌else◌}
 use Rattle.std.proofs.lemmas.List.{length-append, append-nil, drop_at}
-use Rattle.std.proofs.lemmas.Bool.{eq-eqb, le-leb, lt-ltb, le-ltb}
+use Rattle.std.proofs.lemmas.Bool.{eq-eqb, le-leb, lt-ltb}
 use Rattle.std.proofs.lemmas.Bool.Decides.{nat_tests}
 use Rattle.tipc_header.specs.declared.fault.HeaderFault.{HeaderFault}
 use Rattle.tipc_header.specs.declared.packet.Payload.{Payload}
@@ -26,7 +26,7 @@ use Rattle.tipc_header.specs.declared.packet.FragmentType.TheVariants.{First, Mi
 use Rattle.tipc_header.specs.declared.packet.DiscoveryType.{DiscoveryType}
 use Rattle.tipc_header.specs.declared.packet.DiscoveryType.TheVariants.{Request, Response}
 use Rattle.tipc_header.specs.Users.{changeover_type, distribution_type, fragment_type, discovery_type, user_of, type_of, header_size, addressing_type, addressing_size, is_non_sequenced, is_destination_droppable, is_source_droppable}
-use Rattle.tipc_header.specs.Spelling.{Fields, from_bit, bit, word, words, word_0, word_1, word_2, below_type, addressing_words, reset_words, two_words, user_words, number_words, all_words, numbers_size, size_of, spelling}
+use Rattle.tipc_header.specs.Spelling.{Fields, from_bit, bit, words, word_0, word_1, word_2, below_type, addressing_words, reset_words, two_words, user_words, number_words, all_words, numbers_size, size_of, spelling}
 use Rattle.tipc_header.specs.Grammar.{AddressingFits, PayloadFits, ResetFits, HeaderFits, NumberingFits, RestFits, Fits}
 use Rattle.tipc_header.specs.Reading.{word_at, field, flag, long_at, bits, user_at, size_in_words, type_at, addressing_at, payload_at, bundle_at, state_at, reset_at, changeover_at, distribution_at, fragment_at, discovery_at, header_at, fields_with, fields_at}
 use Rattle.tipc_header.specs.Faults.{is_one_of, all_zero, has_user, types_of, size_of_type, non_sequenced, word_0_is_clean, payload_is_clean, bundle_is_clean, state_is_clean, reset_is_clean, changeover_is_clean, distribution_is_clean, fragment_is_clean, discovery_is_clean, user_is_clean, has_start, has_version, has_header, has_size, has_type, is_clean, fault_of}

@@ -1,8 +1,7 @@
 -- What callers rest on: decoding and spelling undo each other.
-use Rattle.std.proofs.Common.{◌≡◌, ℕ, zero, suc, ◌+◌, ◌*◌, ◌<◌, ◌≤◌, ◌^◌, Bool, true, List, [], ◌∷◌, ◌++◌, length, take, drop, Option, Some, None, Result, Ok, Err, refl, sym, ap, subst, ◌∙◌, append_assoc, arith}
+use Rattle.std.proofs.Common.{◌≡◌, ℕ, ◌+◌, ◌<◌, ◌≤◌, ◌^◌, true, List, [], ◌∷◌, ◌++◌, length, take, drop, Some, None, refl, sym, ap, subst, ◌∙◌, append_assoc, arith}
 use Rattle.std.specs.Prelude.{◌&&◌, ◌||◌, nat_le, nat_lt, ◌==◌}
 use Rattle.std.proofs.lemmas.Bool.{leb-true, eqb-true}
-use Rattle.std.proofs.lemmas.Bool.Decides.{nat_tests}
 use Rattle.std.proofs.lemmas.List.{take_at, drop_at, length-append}
 use Rattle.std.proofs.lemmas.List.Concat.{flat_map-cons}
 use Rattle.tipc_header.specs.declared.fault.HeaderFault.{HeaderFault}
@@ -11,12 +10,12 @@ use Rattle.tipc_header.specs.declared.packet.Header.TheVariants as header
 use Rattle.tipc_header.specs.declared.packet.Addressing.{Addressing}
 use Rattle.tipc_header.specs.declared.packet.Addressing.TheVariants.{Connected, Multicast, Named, Direct}
 use Rattle.tipc_header.specs.Users.{addressing_size, header_size}
-use Rattle.tipc_header.specs.Spelling.{Fields, word, words, word_0, word_1, word_2, user_words, number_words, all_words, numbers_size, size_of, spelling, from_bit, renumbered}
+use Rattle.tipc_header.specs.Spelling.{Fields, word, words, word_0, word_1, word_2, user_words, number_words, size_of, spelling, from_bit, renumbered}
 use Rattle.tipc_header.specs.Grammar.{Fits}
-use Rattle.tipc_header.specs.Reading.{word_at, field, user_at, size_in_words, type_at, header_at, rest_start, fields_at}
-use Rattle.tipc_header.specs.Faults.{all_zero, HasFields, size_of_type, user_is_clean, reset_is_clean, changeover_is_clean, fault_of}
+use Rattle.tipc_header.specs.Reading.{word_at, field, user_at, type_at, header_at, rest_start, fields_at}
+use Rattle.tipc_header.specs.Faults.{all_zero, HasFields, user_is_clean, reset_is_clean, changeover_is_clean, fault_of}
 use Rattle.tipc_header.proofs.Words.{IsBytes, length-word}
-use Rattle.tipc_header.proofs.Sound.{both, IsSound, is_sound}
+use Rattle.tipc_header.proofs.Sound.{both, is_sound}
 use Rattle.tipc_header.proofs.Cases.{low_size, high_size, reset_clean}
 use Rattle.tipc_header.proofs.Takes.{takes}
 use Rattle.tipc_header.proofs.Again.{again, no_fault, length-spelling}

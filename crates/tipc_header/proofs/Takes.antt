@@ -1,11 +1,11 @@
 -- Bytes that break no rule are the spelling of the packet that is read from them, and it fits.
-use Rattle.std.proofs.Common.{◌≡◌, ℕ, ◌+◌, ◌-◌, ◌*◌, ◌/◌, ◌%◌, ◌^◌, ◌<◌, ◌≤◌, Bool, true, false, cond, List, [], ◌∷◌, ◌++◌, length, drop, Option, None, refl, sym, ap, subst, ◌∙◌, arith}
+use Rattle.std.proofs.Common.{◌≡◌, ℕ, ◌+◌, ◌-◌, ◌*◌, ◌/◌, ◌%◌, ◌^◌, ◌<◌, ◌≤◌, Bool, true, List, [], ◌∷◌, ◌++◌, length, drop, None, refl, sym, ap, subst, ◌∙◌, arith}
 use Rattle.std.specs.Prelude.{◌&&◌, ◌||◌, nat_le, nat_lt, ◌==◌, if◌then◌else◌}
 use Rattle.std.proofs.lemmas.List.{length-drop}
-use Rattle.std.proofs.lemmas.Bool.{eqb-true, ltb-true, leb-true}
+use Rattle.std.proofs.lemmas.Bool.{eqb-true, leb-true}
 use Rattle.std.proofs.lemmas.Bool.Decides.{nat_tests}
 use Rattle.tipc_header.specs.declared.packet.Header.{Header}
-use Rattle.tipc_header.specs.Spelling.{Fields, from_bit, bit, word, words, word_0, word_1, word_2, all_words, spelling}
+use Rattle.tipc_header.specs.Spelling.{Fields, from_bit, bit, words, word_0, word_1, word_2, all_words, spelling}
 use Rattle.tipc_header.specs.Grammar.{AddressingFits, ResetFits, HeaderFits, Fits}
 use Rattle.tipc_header.specs.declared.packet.Header.TheVariants as header
 use Rattle.tipc_header.specs.declared.packet.ChangeoverType.TheVariants.{Duplicate, Original}
@@ -13,12 +13,12 @@ use Rattle.tipc_header.specs.declared.packet.DistributionType.TheVariants.{Publi
 use Rattle.tipc_header.specs.declared.packet.FragmentType.TheVariants.{First, Middle, Last}
 use Rattle.tipc_header.specs.declared.packet.DiscoveryType.TheVariants.{Request, Response}
 use Rattle.tipc_header.specs.Users.{changeover_type, distribution_type, fragment_type, discovery_type}
-use Rattle.tipc_header.specs.Reading.{word_at, field, bits, long_at, flag, user_at, size_in_words, type_at, addressing_at, payload_at, bundle_at, state_at, reset_at, changeover_at, distribution_at, fragment_at, discovery_at, header_at, fields_with, fields_at}
+use Rattle.tipc_header.specs.Reading.{word_at, field, long_at, flag, user_at, size_in_words, type_at, addressing_at, payload_at, bundle_at, state_at, reset_at, changeover_at, distribution_at, fragment_at, discovery_at, header_at, fields_with, fields_at}
 use Rattle.tipc_header.specs.Faults.{all_zero, non_sequenced, types_of, size_of_type, word_0_is_clean, user_is_clean, payload_is_clean, bundle_is_clean, state_is_clean, reset_is_clean, changeover_is_clean, distribution_is_clean, fragment_is_clean, discovery_is_clean, fault_of}
 use Rattle.tipc_header.proofs.Words.{IsBytes, word_at-below, words_from, words_of_all}
 use Rattle.tipc_header.proofs.Sound.{both, IsSound, is_sound}
 use Rattle.tipc_header.proofs.Places.{word_0-joined, payload-joined, bit-flag, type-joined, short-joined, gap-joined, halves-joined, high-joined, low-joined, bit-joined, priority-joined, about-joined, long-high, long-low}
-use Rattle.tipc_header.proofs.Cases.{AreZero, are_zero, cons_same, each_type_2, each_type_3, each_type_4, each_user, low_types, low_size, low_sequenced, low_clean, low_header, high_size}
+use Rattle.tipc_header.proofs.Cases.{are_zero, cons_same, each_type_2, each_type_3, each_type_4, each_user, low_types, low_size, low_sequenced, low_clean, low_header, high_size}
 
 pub record Takes (b : List ℕ) (p : Fields) : Type 0 where
   pub fits : Fits p

@@ -1,5 +1,5 @@
 -- Which packets there are: the range of each field, and what may follow each header.
-use Rattle.std.specs.Prelude.{ℕ, ◌≡◌, ◌<◌, ◌≤◌, ◌^◌, ◌*◌, ◌%◌, length}
+use Rattle.std.specs.Prelude.{ℕ, ◌≡◌, ◌<◌, ◌≤◌, ◌^◌, ◌%◌, length}
 use Rattle.tipc_header.specs.declared.packet.Payload.{Payload}
 use Rattle.tipc_header.specs.declared.packet.State.{State}
 use Rattle.tipc_header.specs.declared.packet.Reset.{Reset}

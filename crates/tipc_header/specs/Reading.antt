@@ -6,13 +6,9 @@ use Rattle.tipc_header.specs.declared.packet.Header.{Header}
 use Rattle.tipc_header.specs.declared.packet.Header.TheVariants as header
 use Rattle.tipc_header.specs.declared.packet.Addressing.{Addressing}
 use Rattle.tipc_header.specs.declared.packet.Addressing.TheVariants.{Connected, Multicast, Named, Direct}
-use Rattle.tipc_header.specs.declared.packet.ChangeoverType.{ChangeoverType}
 use Rattle.tipc_header.specs.declared.packet.ChangeoverType.TheVariants.{Duplicate, Original}
-use Rattle.tipc_header.specs.declared.packet.DistributionType.{DistributionType}
 use Rattle.tipc_header.specs.declared.packet.DistributionType.TheVariants.{Publication, Withdrawal}
-use Rattle.tipc_header.specs.declared.packet.FragmentType.{FragmentType}
 use Rattle.tipc_header.specs.declared.packet.FragmentType.TheVariants.{First, Middle, Last}
-use Rattle.tipc_header.specs.declared.packet.DiscoveryType.{DiscoveryType}
 use Rattle.tipc_header.specs.declared.packet.DiscoveryType.TheVariants.{Request, Response}
 use Rattle.tipc_header.specs.Users.{header_size}
 use Rattle.tipc_header.specs.Spelling.{Fields, numbers_size}

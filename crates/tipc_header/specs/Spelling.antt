@@ -4,7 +4,6 @@ use Rattle.std.specs.Prelude.{ℕ, ◌+◌, ◌*◌, ◌/◌, ◌%◌, ◌^◌, 
 use Rattle.std.specs.List.{flat_map}
 use Rattle.std.specs.Int.{w32, to_be_bytes}
 use Rattle.tipc_header.specs.declared.packet.Packet.{Packet}
-use Rattle.tipc_header.specs.declared.packet.Payload.{Payload}
 use Rattle.tipc_header.specs.declared.packet.State.{State}
 use Rattle.tipc_header.specs.declared.packet.Reset.{Reset}
 use Rattle.tipc_header.specs.declared.packet.Changeover.{Changeover}

@@ -1,6 +1,5 @@
 -- The table of users and types: what stands in words 0 and 1 of each packet.
 use Rattle.std.specs.Prelude.{ℕ, Bool, true, false}
-use Rattle.tipc_header.specs.declared.packet.Payload.{Payload}
 use Rattle.tipc_header.specs.declared.packet.Header.{Header}
 use Rattle.tipc_header.specs.declared.packet.Header.TheVariants as header
 use Rattle.tipc_header.specs.declared.packet.Addressing.{Addressing}

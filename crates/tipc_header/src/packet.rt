@@ -273,11 +273,10 @@ impl Header {
     pub fn is_non_sequenced(&self) -> bool
         ensures { result ≡ is_non_sequenced self.now }
     {
-        match self {
-            Header::State(_) | Header::Reset(_) | Header::Activate(_) | Header::Discovery(_) =>
-                true,
-            _ => false,
-        }
+        matches!(
+            self,
+            Header::State(_) | Header::Reset(_) | Header::Activate(_) | Header::Discovery(_)
+        )
     }
 
     /// How many bytes the numbers behind the header take.
