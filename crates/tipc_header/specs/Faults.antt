@@ -20,10 +20,11 @@ has_user u = nat_le u 3 || is_one_of (6 ∷ 7 ∷ 10 ∷ 11 ∷ 12 ∷ 13 ∷ []
 abbrev pub non_sequenced : ℕ → ℕ
 non_sequenced u = if u == 7 || u == 13 then 1 else 0
 
--- how many types a user has, numbered from 0
+-- How many types a user has, numbered from 0: payload 4, bundler 1, link protocol and fragmenter 3, the others 2.
 abbrev pub types_of : ℕ → ℕ
 types_of u = if nat_le u 3 then 4 else (if u == 6 then 1 else (if u == 7 || u == 12 then 3 else 2))
 
+-- the header size of a type in words: of payload connected 6, multicast 11, named 10 and direct 8, of every other user 10
 abbrev pub size_of_type : ℕ → ℕ → ℕ
 size_of_type u t = if nat_le u 3 then (if t == 0 then 6 else (if t == 1 then 11 else (if t == 2 then 10 else 8))) else 10
 
@@ -35,7 +36,8 @@ pub record HasFields (b : List ℕ) : Type 0 where
   pub reset : user_at b ≡ 7 → 1 ≤ type_at b → 56 ≤ length b
   pub changeover : user_at b ≡ 10 → 48 ≤ length b
 
--- ---- what each user asks of the bits that no field has, of its counts and of the bytes that follow
+-- ---- What each user asks: the bits and words that no field has are zero, and its counts and the number
+-- of bytes that follow are allowed. A header of 10 words ends at byte 40.
 
 -- Word 0: bit 17 is zero, bit 20 is 1 exactly for users 7 and 13, and only payload is droppable.
 unfoldable pub word_0_is_clean : ℕ → List ℕ → Bool
@@ -44,32 +46,37 @@ word_0_is_clean u b =
     && (field 0 20 20 b == non_sequenced u)
     && (nat_le u 3 || all_zero (field 0 19 19 b ∷ field 0 18 18 b ∷ []))
 
+-- bits 18 to 16 of word 1; the error code
 unfoldable pub payload_is_clean : List ℕ → Bool
 payload_is_clean b = (field 1 18 16 b == 0) && nat_le (field 1 28 25 b) 5
 
+-- at least 2 inner packets, which take a multiple of 4 bytes
 unfoldable pub bundle_is_clean : List ℕ → Bool
 bundle_is_clean b =
     all_zero (field 1 28 16 b ∷ field 4 15 0 b ∷ word_at 5 b ∷ word_at 6 b ∷ word_at 7 b ∷ word_at 8 b ∷ word_at 9 b ∷ [])
     && nat_le 2 (field 4 31 16 b)
     && ((length b - 40) % 4 == 0)
 
+-- no sequence number, and nothing follows
 unfoldable pub state_is_clean : List ℕ → Bool
 state_is_clean b =
     all_zero (field 2 15 0 b ∷ word_at 6 b ∷ field 8 31 7 b ∷ word_at 9 b ∷ [])
     && (length b == 40)
 
--- RESET and ACTIVATE
+-- RESET and ACTIVATE: two contact numbers follow
 unfoldable pub reset_is_clean : List ℕ → Bool
 reset_is_clean b =
     all_zero (field 1 28 0 b ∷ word_at 2 b ∷ word_at 4 b ∷ word_at 5 b ∷ word_at 6 b ∷ field 8 31 7 b ∷ field 8 1 0 b ∷ word_at 9 b ∷ [])
     && (length b == 56)
 
+-- The old epoch follows; behind it a run of no packets has no inner number and no inner packet.
 unfoldable pub changeover_is_clean : List ℕ → Bool
 changeover_is_clean b =
     all_zero (field 1 28 16 b ∷ field 5 31 1 b ∷ word_at 6 b ∷ word_at 7 b ∷ word_at 8 b ∷ word_at 9 b ∷ [])
     && nat_le 48 (length b)
     && (nat_lt 0 (field 4 31 16 b) || ((field 4 15 0 b == 0) && (length b == 48)))
 
+-- 1 to 70 items of 20 bytes follow
 unfoldable pub distribution_is_clean : List ℕ → Bool
 distribution_is_clean b =
     all_zero (field 1 28 16 b ∷ word_at 4 b ∷ word_at 5 b ∷ word_at 6 b ∷ word_at 7 b ∷ word_at 8 b ∷ word_at 9 b ∷ [])
@@ -77,6 +84,7 @@ distribution_is_clean b =
     && nat_le (length b - 40) 1400
     && ((length b - 40) % 20 == 0)
 
+-- numbered from 1; 1 to 1,412 bytes follow
 unfoldable pub fragment_is_clean : List ℕ → Bool
 fragment_is_clean b =
     all_zero (field 1 28 16 b ∷ field 4 31 16 b ∷ word_at 5 b ∷ word_at 6 b ∷ word_at 7 b ∷ word_at 8 b ∷ word_at 9 b ∷ [])
@@ -84,6 +92,7 @@ fragment_is_clean b =
     && nat_le 1 (length b - 40)
     && nat_le (length b - 40) 1412
 
+-- nothing follows
 unfoldable pub discovery_is_clean : List ℕ → Bool
 discovery_is_clean b =
     all_zero (field 1 28 0 b ∷ word_at 2 b ∷ word_at 5 b ∷ word_at 6 b ∷ word_at 7 b ∷ word_at 8 b ∷ word_at 9 b ∷ [])
@@ -99,7 +108,7 @@ user_is_clean u t b =
     else (if u == 12 then fragment_is_clean b
     else discovery_is_clean b)))))
 
--- ---- the faults, in order
+-- ---- the rules in their order, each with the fault of bytes that break it
 
 abbrev pub has_start : List ℕ → Bool
 has_start b = nat_le 24 (length b)
@@ -107,12 +116,15 @@ has_start b = nat_le 24 (length b)
 abbrev pub has_version : List ℕ → Bool
 has_version b = field 0 31 29 b == 2
 
+-- a header size that there is, and that many bytes
 abbrev pub has_header : List ℕ → Bool
 has_header b = is_one_of (6 ∷ 8 ∷ 10 ∷ 11 ∷ []) (size_in_words b) && nat_le (4 * size_in_words b) (length b)
 
+-- The size field is the number of bytes, and at most 66,000 follow a payload header.
 abbrev pub has_size : List ℕ → Bool
 has_size b = (field 0 16 0 b == length b) && (nat_lt 3 (user_at b) || nat_le (length b - 4 * size_in_words b) 66000)
 
+-- a type of the user, and the header size of the type
 abbrev pub has_type : List ℕ → Bool
 has_type b = nat_lt (type_at b) (types_of (user_at b)) && (size_in_words b == size_of_type (user_at b) (type_at b))
 
@@ -124,7 +136,7 @@ abbrev pub first_broken : List (Bool × HeaderFault) → Option HeaderFault
 first_broken [] = None
 first_broken (rule ∷ rules) = if rule.0 then first_broken rules else Some rule.1
 
--- Bytes that keep every rule are a packet.
+-- The fault of bytes that are no packet; bytes that keep every rule have none, and are one.
 unfoldable pub fault_of : List ℕ → Option HeaderFault
 fault_of b = first_broken
     ((has_start b, Short)

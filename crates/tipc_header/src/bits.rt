@@ -1,7 +1,6 @@
 //! Words and fields in bytes.
 
 ghost use Rattle.std.specs.Prelude.{◌≡◌, ◌+◌, ◌*◌, ◌<◌, ◌≤◌, length};
-ghost use Rattle.std.specs.List.{list_all};
 ghost use Rattle.tipc_header.specs.Reading.{word_at, bits, field, flag, long_at};
 ghost use Rattle.tipc_header.specs.Faults.{all_zero};
 

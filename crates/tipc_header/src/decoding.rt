@@ -1,6 +1,6 @@
 //! Bytes to packets.
 
-ghost use Rattle.std.specs.Prelude.{◌≡◌, ◌≤◌, ◌<◌, ◌*◌, ◌+◌, length, Some, None, IfOk, IsOkAnd, MatchResult};
+ghost use Rattle.std.specs.Prelude.{◌≡◌, ◌≤◌, ◌*◌, length, Some, None, IfOk, IsOkAnd, MatchResult};
 ghost use Rattle.tipc_header.specs.Spelling.{Fields, view, spelling};
 ghost use Rattle.tipc_header.specs.Grammar.{Fits};
 ghost use Rattle.tipc_header.specs.Reading.{user_at, type_at, size_in_words, header_at, rest_start, fields_at};
@@ -12,6 +12,7 @@ use crate::packet::Packet;
 use crate::reading::header;
 use crate::reserved::{is_first_word_clean, is_user_clean};
 
+/// Whether a user has this number.
 fn is_user(user: u32) -> bool
     ensures { result ≡ has_user user }
 {

@@ -1,8 +1,8 @@
 //! Packets to bytes.
 
-ghost use Rattle.std.specs.Prelude.{◌≡◌, ◌+◌, ◌*◌, ◌≤◌, ◌<◌, ◌++◌, [], ◌∷◌, length, OnOk, OnErr, vec_len, vec_capacity};
+ghost use Rattle.std.specs.Prelude.{◌≡◌, ◌+◌, ◌*◌, ◌≤◌, ◌++◌, length, OnOk, OnErr, vec_len, vec_capacity};
 ghost use Rattle.tipc_header.specs.Users.{is_destination_droppable, is_source_droppable};
-ghost use Rattle.tipc_header.specs.Spelling.{view, bit, below_type, word, words, word_0, word_1, word_2, two_words, addressing_words, state_words, reset_words, changeover_words, user_words, number_words, size_of, spelling};
+ghost use Rattle.tipc_header.specs.Spelling.{view, bit, below_type, word, words, word_0, word_1, word_2, two_words, addressing_words, state_words, reset_words, changeover_words, user_words, number_words, spelling};
 ghost use Rattle.tipc_header.specs.Grammar.{StateFits, ResetFits, ChangeoverFits, HeaderFits, Fits};
 
 use crate::packet::{Addressing, Changeover, Header, Packet, Reset, State};
@@ -15,6 +15,7 @@ fn bit_of(flag: bool) -> u32
     if flag { 1 } else { 0 }
 }
 
+/// The destination-droppable bit of word 0.
 fn destination_droppable(header: &Header) -> u32
     ensures { result ≡ bit (is_destination_droppable header.now) }
 {
@@ -24,6 +25,7 @@ fn destination_droppable(header: &Header) -> u32
     }
 }
 
+/// The source-droppable bit of word 0.
 fn source_droppable(header: &Header) -> u32
     ensures { result ≡ bit (is_source_droppable header.now) }
 {
@@ -56,6 +58,7 @@ fn second_word(header: &Header) -> u32
     (u32::from(header.message_type()) << 29) + below_type(header)
 }
 
+/// Word 1 without the type.
 fn below_type(header: &Header) -> u32
     requires { HeaderFits header.now }
     ensures { result ≡ below_type header.now }
@@ -98,6 +101,7 @@ fn put_bytes(into: &mut Vec<u8>, bytes: &[u8])
     }
 }
 
+/// Appends a word.
 #[tactic(auto, unfolding(crate::specs::Spelling::word))]
 fn put_word(into: &mut Vec<u8>, number: u32)
     requires { vec_len into.old + 4 ≤ vec_capacity into.old }
@@ -130,6 +134,7 @@ fn put_long(into: &mut Vec<u8>, number: u64)
     put_words(into, &[(number >> 32) as u32, (number % (1 << 32)) as u32]);
 }
 
+/// Appends the words of payload from word 6 on.
 fn put_addressing(into: &mut Vec<u8>, addressing: &Addressing)
     requires { vec_len into.old + 4 * length (addressing_words addressing.now) ≤ vec_capacity into.old }
     ensures items { into.new.items ≡ into.old.items ++ words (addressing_words addressing.now) }

@@ -26,7 +26,7 @@ pub fn length_of_spelling()
     ensures most { (p : Fields) → Fits p → length (spelling p) < 2 ^ 17 }
 {}
 
-/// A packet under other numbers differs in word 2 alone, the bytes from 8 to 12.
+/// A packet under other numbers differs in word 2 alone, its bytes 8 to 11.
 pub fn word_2_stands_alone()
     ensures { (p : Fields) → (acknowledgement : ℕ) → (sequence : ℕ) → spelling (renumbered p acknowledgement sequence) ≡ take 8 (spelling p) ++ word (from_bit 16 acknowledgement + sequence) ++ drop 12 (spelling p) }
 {}

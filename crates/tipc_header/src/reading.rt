@@ -1,7 +1,7 @@
 //! The header of each user, read from bytes that have one.
 
-ghost use Rattle.std.specs.Prelude.{◌≡◌, ◌*◌, ◌≤◌, ◌<◌, length};
-ghost use Rattle.tipc_header.specs.Reading.{user_at, type_at, size_in_words, addressing_at, payload_at, bundle_at, state_at, reset_at, changeover_at, distribution_at, fragment_at, discovery_at, header_at};
+ghost use Rattle.std.specs.Prelude.{◌≡◌, ◌*◌, ◌≤◌, length};
+ghost use Rattle.tipc_header.specs.Reading.{user_at, type_at, addressing_at, payload_at, bundle_at, state_at, reset_at, changeover_at, distribution_at, fragment_at, discovery_at, header_at};
 ghost use Rattle.tipc_header.specs.Faults.{size_of_type, HasFields};
 
 use crate::bits::{byte_field, field_of, is_set, long, short_field, word};
