@@ -1,5 +1,5 @@
 -- The spelling of a packet that fits breaks no rule, and that packet is read from it again.
-use Rattle.std.proofs.Common.{◌≡◌, ℕ, zero, suc, ◌+◌, ◌-◌, ◌*◌, ◌%◌, ◌^◌, ◌<◌, ◌≤◌, Bool, true, false, cond, List, [], ◌∷◌, ◌++◌, length, drop, get_or, Option, Some, None, refl, sym, ap, subst, ◌∙◌, arith, rules}
+use Rattle.std.proofs.Common.{◌≡◌, ℕ, zero, suc, ◌+◌, ◌-◌, ◌*◌, ◌%◌, ◌^◌, ◌<◌, ◌≤◌, Bool, true, false, cond, List, [], ◌∷◌, ◌++◌, length, drop, get_or, Option, Some, None, refl, sym, ap, subst, ◌∙◌, arith, rules, append_assoc}
 use Rattle.std.specs.Prelude.{◌&&◌, ◌||◌, nat_le, nat_lt, ◌==◌, if◌then◌else◌}
 use Rattle.std.proofs.lemmas.List.{length-append, append-nil, drop_at}
 use Rattle.std.proofs.lemmas.Bool.{eq-eqb, le-leb, lt-ltb}
@@ -26,7 +26,7 @@ use Rattle.tipc_header.specs.declared.packet.FragmentType.TheVariants.{First, Mi
 use Rattle.tipc_header.specs.declared.packet.DiscoveryType.{DiscoveryType}
 use Rattle.tipc_header.specs.declared.packet.DiscoveryType.TheVariants.{Request, Response}
 use Rattle.tipc_header.specs.Users.{changeover_type, distribution_type, fragment_type, discovery_type, user_of, type_of, header_size, addressing_type, addressing_size, is_non_sequenced, is_destination_droppable, is_source_droppable}
-use Rattle.tipc_header.specs.Spelling.{Fields, from_bit, bit, words, word_0, word_1, word_2, below_type, addressing_words, reset_words, two_words, user_words, number_words, all_words, numbers_size, size_of, spelling}
+use Rattle.tipc_header.specs.Spelling.{Fields, from_bit, bit, words, word_0, word_1, word_2, below_type, addressing_words, reset_words, two_words, user_words, number_words, all_words, numbers_size, size_of, spelling, renumbered}
 use Rattle.tipc_header.specs.Grammar.{AddressingFits, PayloadFits, ResetFits, HeaderFits, NumberingFits, RestFits, Fits}
 use Rattle.tipc_header.specs.Reading.{word_at, field, flag, long_at, bits, user_at, size_in_words, type_at, addressing_at, payload_at, bundle_at, state_at, reset_at, changeover_at, distribution_at, fragment_at, discovery_at, header_at, fields_with, fields_at}
 use Rattle.tipc_header.specs.Faults.{is_one_of, all_zero, has_user, types_of, size_of_type, non_sequenced, word_0_is_clean, payload_is_clean, bundle_is_clean, state_is_clean, reset_is_clean, changeover_is_clean, distribution_is_clean, fragment_is_clean, discovery_is_clean, user_is_clean, has_start, has_version, has_header, has_size, has_type, is_clean, fault_of}
@@ -578,3 +578,34 @@ again p f =
     let previous : word_at 3 b ≡ p.previous = word_at-spelling 3 p f (omega arith) in
     let rest : drop (4 * header_size h + numbers_size h) b ≡ p.rest = drop-spelling p in
     ap (λ (x : Header). fields_with x b) header ∙ rw (acknowledgement, sequence, previous, rest) refl
+
+-- the size field tells where a packet ends, whatever follows
+pub size_field : (p : Fields) (more : List ℕ) → Fits p → field 0 16 0 (spelling p ++ more) ≡ length (spelling p)
+unfolding spelling
+size_field p more f =
+    let first : word_at 0 (spelling p ++ more) ≡ word_0 p =
+    ap (word_at 0) (append_assoc (words (all_words p)) p.rest more) ∙ word_at-words 0 (all_words p) (p.rest ++ more) (all_are_words p f) (omega arith) in
+    ap (bits 16 0) first ∙ (word_0-of p f).size ∙ sym (length-spelling p)
+
+numbering : (h : Header) (acknowledgement sequence : ℕ) → is_non_sequenced h ≡ false → NumberingFits h acknowledgement sequence
+numbering (header.Payload x) acknowledgement sequence e = tt
+numbering (header.Bundler x) acknowledgement sequence e = tt
+numbering (header.State x) acknowledgement sequence e = absurd cc
+numbering (header.Reset x) acknowledgement sequence e = absurd cc
+numbering (header.Activate x) acknowledgement sequence e = absurd cc
+numbering (header.Changeover x) acknowledgement sequence e = tt
+numbering (header.NameDistributor x) acknowledgement sequence e = tt
+numbering (header.Fragmenter x) acknowledgement sequence e = tt
+numbering (header.Discovery x) acknowledgement sequence e = absurd cc
+
+-- a packet of a user that is sequenced may have any numbers
+pub renumbered-fits : (p : Fields) (acknowledgement sequence : ℕ) → Fits p → is_non_sequenced p.header ≡ false → acknowledgement < 2 ^ 16 → sequence < 2 ^ 16 → Fits (renumbered p acknowledgement sequence)
+renumbered-fits p acknowledgement sequence f sequenced low high = record {
+  acknowledgement = low;
+  sequence = high;
+  previous = f.previous;
+  header = f.header;
+  numbering = numbering p.header acknowledgement sequence sequenced;
+  rest = f.rest;
+  size = f.size;
+}

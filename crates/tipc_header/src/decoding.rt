@@ -3,7 +3,7 @@
 ghost use Rattle.std.specs.Prelude.{◌≡◌, ◌≤◌, ◌*◌, length, Some, None, IfOk, IsOkAnd, MatchResult};
 ghost use Rattle.tipc_header.specs.Spelling.{Fields, view, spelling};
 ghost use Rattle.tipc_header.specs.Grammar.{Fits};
-ghost use Rattle.tipc_header.specs.Reading.{user_at, type_at, size_in_words, header_at, rest_start, fields_at};
+ghost use Rattle.tipc_header.specs.Reading.{field, user_at, type_at, size_in_words, header_at, rest_start, fields_at};
 ghost use Rattle.tipc_header.specs.Faults.{HasFields, has_user, types_of, size_of_type, has_header, has_size, has_type, is_clean, fault_of};
 
 use crate::bits::{field_of, short_field, word};
@@ -55,6 +55,14 @@ fn has_whole_header(bytes: &[u8]) -> bool
     (size == 6 || size == 8 || size == 10 || size == 11) && 4 * size <= bytes.len()
 }
 
+/// The message size in bytes that the first word tells, whatever follows the packet.
+pub fn message_size(bytes: &[u8]) -> usize
+    requires { 4 ≤ length bytes.now }
+    ensures { result ≡ field 0 16 0 bytes.now }
+{
+    field_of(bytes, 0, 16, 0) as usize
+}
+
 /// Whether the size field is the number of bytes, which payload may not have without end.
 fn has_right_size(bytes: &[u8]) -> bool
     requires short { 24 ≤ length bytes.now }
@@ -62,7 +70,7 @@ fn has_right_size(bytes: &[u8]) -> bool
     ensures { result ≡ has_size bytes.now }
 {
     let header = 4 * field_of(bytes, 0, 24, 21) as usize;
-    field_of(bytes, 0, 16, 0) as usize == bytes.len()
+    message_size(bytes) == bytes.len()
         && (field_of(bytes, 0, 28, 25) > 3 || bytes.len() - header <= 66_000)
 }
 
