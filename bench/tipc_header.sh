@@ -1,7 +1,6 @@
 #!/usr/bin/env bash
-# How long `decode` and `encode` take: milliseconds for 10 million packets of 37 and of
-# 1,452 bytes. It builds a program in a
-# temporary folder, and is no part of the gate.
+# How long `decode` and `encode` take: milliseconds for 10 million packets of 37 and of 1,452 bytes.
+# It proves and builds a program in a temporary folder, and is no part of the gate.
 set -euo pipefail
 root=$(cd "$(dirname "$0")/.." && pwd)
 work=$(mktemp -d)
