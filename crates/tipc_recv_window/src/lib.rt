@@ -1,13 +1,13 @@
-// A library with one function.
+//! The receiving side of one direction of a link: the packet that is wanted, those behind it that came early, and
+//! what becomes of an arrival.
 #![tactic(auto)]
 
-ghost use Rattle.std.specs.Prelude.{◌≡◌};
-ghost use Rattle.tipc_recv_window.specs.Echo.{echo_of};
+pub mod laws;
+mod outcomes;
+mod window;
 
-// The `ensures` clause is the contract: what `echo` returns is `echo_of` of its argument, a definition
-// in `specs/Echo.antt`, which a caller's clause can cite too.
-pub fn echo(x: usize) -> usize
-    ensures { result ≡ echo_of x }
-{
-    x
-}
+pub use outcomes::{LinkOutcome, Place};
+pub use window::{RecvWindow, WINDOW};
+
+#[cfg(test)]
+mod tests;

@@ -9,18 +9,18 @@ kept_at position packet = record { number = number_of position; packet = packet 
 
 -- a packet behind others has the number behind theirs
 pub kept_after-push : (before : ℕ) (packets : List (List ℕ)) (packet : List ℕ)
-  → kept_after before (packets ++ packet ∷ []) ≡ kept_after before packets ++ kept_at (before + length packets + 1) packet ∷ []
+    → kept_after before (packets ++ packet ∷ []) ≡ kept_after before packets ++ kept_at (before + length packets + 1) packet ∷ []
 kept_after-push before [] packet = rw add-zero refl
 kept_after-push before (first ∷ packets) packet =
     let place : before + 1 + length packets ≡ before + suc (length packets) = omega arith in
     ap (λ (ks : List Kept). kept_at (before + 1) first ∷ ks) (
-      kept_after-push (before + 1) packets packet
-      ∙ ap (λ (n : ℕ). kept_after (before + 1) packets ++ kept_at (n + 1) packet ∷ []) place
+    kept_after-push (before + 1) packets packet
+    ∙ ap (λ (n : ℕ). kept_after (before + 1) packets ++ kept_at (n + 1) packet ∷ []) place
     )
 
 -- without the first n packets, the others keep their numbers
 pub drop-kept_after : (n before : ℕ) (packets : List (List ℕ))
-  → drop n (kept_after before packets) ≡ kept_after (before + n) (drop n packets)
+    → drop n (kept_after before packets) ≡ kept_after (before + n) (drop n packets)
 drop-kept_after zero before packets = rw add-zero refl
 drop-kept_after (suc n) before [] = refl
 drop-kept_after (suc n) before (first ∷ packets) =
@@ -29,8 +29,8 @@ drop-kept_after (suc n) before (first ∷ packets) =
 
 -- a packet with the next number behind numbered packets
 pub numbers-push : (before position : ℕ) (live : List Kept) (packet : List ℕ)
-  → before + length live + 1 ≡ position → live ≡ kept_after before (packets_of live)
-  → live ++ kept_at position packet ∷ [] ≡ kept_after before (packets_of (live ++ kept_at position packet ∷ []))
+    → before + length live + 1 ≡ position → live ≡ kept_after before (packets_of live)
+    → live ++ kept_at position packet ∷ [] ≡ kept_after before (packets_of (live ++ kept_at position packet ∷ []))
 numbers-push before position live packet place h =
     let packets = packets_of live in
     let place' : position ≡ before + length packets + 1 = rw length-map (sym place) in
@@ -41,7 +41,7 @@ numbers-push before position live packet place h =
 
 -- numbered packets without the first n of them
 pub numbers-drop : (n before : ℕ) (live : List Kept) → live ≡ kept_after before (packets_of live)
-  → drop n live ≡ kept_after (before + n) (packets_of (drop n live))
+    → drop n live ≡ kept_after (before + n) (packets_of (drop n live))
 numbers-drop n before live h =
     ap (λ (ks : List Kept). drop n ks) h
     ∙ drop-kept_after n before (packets_of live)
@@ -49,9 +49,9 @@ numbers-drop n before live h =
 
 -- the first that waits is numbered and stored
 pub IsStored-push : (numbered released count capacity waiting less : ℕ) (stored : List Kept) (packet : List ℕ)
-  → length stored ≡ count → waiting ≡ less + 1 → count < released + 50
-  → IsStored numbered released count capacity waiting stored
-  → IsStored (numbered + 1) released (count + 1) capacity less (stored ++ kept_at (numbered + 1) packet ∷ [])
+    → length stored ≡ count → waiting ≡ less + 1 → count < released + 50
+    → IsStored numbered released count capacity waiting stored
+    → IsStored (numbered + 1) released (count + 1) capacity less (stored ++ kept_at (numbered + 1) packet ∷ [])
 IsStored-push numbered released count capacity waiting less stored packet long one narrow h =
     let half = h.half in
     let begun = h.begun in
@@ -72,8 +72,8 @@ IsStored-push numbered released count capacity waiting less stored packet long o
 
 -- the packets without the first n unacknowledged ones, beside their numbers
 pub numbers-release : (before released n : ℕ) (stored : List Kept)
-  → drop released stored ≡ kept_after before (packets_of (drop released stored))
-  → drop (released + n) stored ≡ kept_after (before + n) (packets_of (drop (released + n) stored))
+    → drop released stored ≡ kept_after before (packets_of (drop released stored))
+    → drop (released + n) stored ≡ kept_after (before + n) (packets_of (drop (released + n) stored))
 numbers-release before released n stored h =
     let at : drop n (drop released stored) ≡ drop (released + n) stored = drop-drop n released stored in
     let P : List Kept → Type 0 = λ ks. ks ≡ kept_after (before + n) (packets_of ks) in
@@ -81,16 +81,16 @@ numbers-release before released n stored h =
 
 -- the packets without their numbers, likewise
 pub packets_of-release : (released n : ℕ) (stored : List Kept)
-  → packets_of (drop (released + n) stored) ≡ drop n (packets_of (drop released stored))
+    → packets_of (drop (released + n) stored) ≡ drop n (packets_of (drop released stored))
 packets_of-release released n stored =
     ap packets_of (sym (drop-drop n released stored))
     ∙ sym (drop-map (λ (k : Kept). k.packet) n (drop released stored))
 
 -- the first n unacknowledged packets are released, and stay stored for now
 pub IsStored-skip : (numbered released count capacity waiting n : ℕ) (stored : List Kept)
-  → released + n < count - (released + n)
-  → IsStored numbered released count capacity waiting stored
-  → IsStored numbered (released + n) count capacity waiting stored
+    → released + n < count - (released + n)
+    → IsStored numbered released count capacity waiting stored
+    → IsStored numbered (released + n) count capacity waiting stored
 IsStored-skip numbered released count capacity waiting n stored few h =
     let begun = h.begun in
     let window = h.window in
@@ -107,9 +107,9 @@ IsStored-skip numbered released count capacity waiting n stored few h =
 
 -- the first n unacknowledged packets are released, and all that are acknowledged are cleared
 pub IsStored-clear : (numbered released count capacity waiting n left : ℕ) (stored rest : List Kept)
-  → released + n ≤ count → left ≡ count - (released + n) → rest ≡ drop (released + n) stored
-  → IsStored numbered released count capacity waiting stored
-  → IsStored numbered 0 left capacity waiting rest
+    → released + n ≤ count → left ≡ count - (released + n) → rest ≡ drop (released + n) stored
+    → IsStored numbered released count capacity waiting stored
+    → IsStored numbered 0 left capacity waiting rest
 IsStored-clear numbered released count capacity waiting n left stored rest within short same h =
     let begun = h.begun in
     let window = h.window in
@@ -127,5 +127,5 @@ IsStored-clear numbered released count capacity waiting n left stored rest withi
 
 -- how many packets are unacknowledged
 pub length-live : (released count : ℕ) (stored : List Kept) → length stored ≡ count
-  → length (packets_of (drop released stored)) ≡ count - released
+    → length (packets_of (drop released stored)) ≡ count - released
 length-live released count stored long = rw (length-map, length-drop, long) refl

@@ -4,14 +4,14 @@ use Rattle.tipc_send_window.specs.Sending.{acked_of, acknowledged, IsSending, ke
 
 abbrev pub AcknowledgesByPosition : Type 0
 AcknowledgesByPosition = (s : Sending) (position : ℕ)
-  → IsSending s → position ≤ s.numbered → s.numbered ≤ position + 32000
-  → acknowledged s (number_of position) ≡ released s (position - acked_of s)
+    → IsSending s → position ≤ s.numbered → s.numbered ≤ position + 32000
+    → acknowledged s (number_of position) ≡ released s (position - acked_of s)
 
 abbrev pub OthersReleaseNothing : Type 0
 OthersReleaseNothing = (s : Sending) (number : ℕ)
-  → IsSending s → number < 2 ^ 16
-  → ((position : ℕ) → acked_of s < position → position ≤ s.numbered → number_of position ≡ number → ⊥)
-  → acknowledged s number ≡ s
+    → IsSending s → number < 2 ^ 16
+    → ((position : ℕ) → acked_of s < position → position ≤ s.numbered → number_of position ≡ number → ⊥)
+    → acknowledged s number ≡ s
 
 -- the packets that are neither acknowledged nor taken back, in order
 abbrev pub queue_of : Sending → List (List ℕ)
@@ -24,5 +24,5 @@ pub record KeepsOrder : Type 0 where
 
 abbrev pub ShowsNumbers : Type 0
 ShowsNumbers = (s : Sending) (i : ℕ) (packet : List ℕ)
-  → slice_get s.unacked i ≡ Some packet
-  → slice_get (kept_of s) i ≡ Some (record { number = number_of (acked_of s + i + 1); packet = packet })
+    → slice_get s.unacked i ≡ Some packet
+    → slice_get (kept_of s) i ≡ Some (record { number = number_of (acked_of s + i + 1); packet = packet })

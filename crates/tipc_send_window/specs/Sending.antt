@@ -41,7 +41,7 @@ unfoldable pub release_count : Sending → ℕ → ℕ
 release_count s number = (
     let past = distance_of (number_of (acked_of s)) number in
     if nat_le past (length s.unacked) then past else 0
-  )
+    )
 
 -- after an acknowledgement of this number
 abbrev pub acknowledged : Sending → ℕ → Sending

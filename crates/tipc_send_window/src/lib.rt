@@ -6,3 +6,6 @@ pub mod laws;
 mod window;
 
 pub use window::{OfferFault, SendWindow, WINDOW};
+
+#[cfg(test)]
+mod tests;

@@ -63,14 +63,13 @@ impl Model for SendWindow {
     ghost Value = { Sending };
 
     ghost view = { λ w. record {
-        numbered = w.numbered;
-        unacked = packets_of (drop w.released w.stored.items);
-        waiting = w.waiting.items
+      numbered = w.numbered;
+      unacked = packets_of (drop w.released w.stored.items);
+      waiting = w.waiting.items;
     } };
 
     ghost invariant = { λ w.
-        IsStored w.numbered w.released (vec_len w.stored) (vec_capacity w.stored) (deque_len w.waiting) w.stored.items
-    };
+        IsStored w.numbered w.released (vec_len w.stored) (vec_capacity w.stored) (deque_len w.waiting) w.stored.items };
 }
 
 impl SendWindow {
@@ -164,11 +163,14 @@ impl SendWindow {
             });
         }
         let more = pieces.len();
-        if more as u64 > LAST_POSITION - self.numbered - waiting as u64 || more > (u32::MAX - waiting) as usize {
+        if more as u64 > LAST_POSITION - self.numbered - waiting as u64
+            || more > (u32::MAX - waiting) as usize
+        {
             return Err(OfferFault::NoMemory);
         }
         self.stored.reserve(ROOM - self.stored.len())?;
-        self.waiting.append(&mut VecDeque::from_vec(pieces.into_vec()))?;
+        self.waiting
+            .append(&mut VecDeque::from_vec(pieces.into_vec()))?;
         Ok(())
     }
 

@@ -20,7 +20,7 @@ invariant_of-self-else-released-len c =
     let few : c.args.count ≤ vec_len w.stored - w.released = rw live at some in
     let same = cleared.items ∙ c.drain.ensures.kept in
     let left : vec_len rest ≡ vec_len w.stored - (w.released + c.args.count) =
-      rest.ok.0 ∙ ap (λ (ks : List Kept). length ks) same ∙ length-drop _ w.stored.items ∙ ap (λ (n : ℕ). n - (w.released + c.args.count)) long in
+    rest.ok.0 ∙ ap (λ (ks : List Kept). length ks) same ∙ length-drop _ w.stored.items ∙ ap (λ (n : ℕ). n - (w.released + c.args.count)) long in
     let room : vec_capacity rest ≡ vec_capacity w.stored = cleared.capacity ∙ c.drain.ensures.capacity in
     rw room (IsStored-clear _ _ _ _ _ c.args.count _ w.stored.items rest.items (omega arith) left same c.self.invariant)
 
