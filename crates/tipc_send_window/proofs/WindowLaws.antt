@@ -1,9 +1,9 @@
-use Rattle.std.proofs.Common.{◌≡◌, ℕ, ◌+◌, ◌-◌, ◌<◌, ◌≤◌, ◌^◌, List, [], ◌∷◌, length, drop, zero, suc, refl, sym, ◌∙◌, ap, inl, inr, arith, slice_get, Some, add-zero}
+use Rattle.std.proofs.Common.{◌≡◌, ℕ, ◌+◌, ◌-◌, ◌<◌, ◌≤◌, ◌^◌, List, [], ◌∷◌, length, zero, suc, refl, ◌∙◌, ap, inl, inr, arith, slice_get, Some, add-zero}
 use Rattle.std.proofs.lemmas.Bool.{cases_lt}
 use Rattle.std.proofs.lemmas.Bool.Decides.{nat_tests}
 use Rattle.tipc_types.specs.Position.{distance_of, number_of}
 use Rattle.tipc_types.proofs.PositionLaws.{distance_of-ahead, distance_of-behind, distance_of-reaches}
-use Rattle.tipc_send_window.specs.Sending.{acked_of, acknowledged, IsSending, kept_after, kept_of, release_count, released, Sending}
+use Rattle.tipc_send_window.specs.Sending.{acked_of, acknowledged, IsSending, kept_after, release_count, released, Sending}
 use Rattle.tipc_send_window.proofs.Keeping.{kept_at}
 
 -- the number of a position releases the packets up to that position

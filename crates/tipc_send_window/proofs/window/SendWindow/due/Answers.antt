@@ -1,4 +1,4 @@
-use Rattle.std.proofs.Common.{◌≡◌, ◌+◌, ◌-◌, ◌<◌, ℕ, length, vec_len, deque_len, sym, ◌∙◌, ap, arith}
+use Rattle.std.proofs.Common.{◌≡◌, ◌+◌, ◌-◌, ◌<◌, length, vec_len, deque_len, sym, ◌∙◌, ap, arith}
 use Rattle.tipc_send_window.specs.Sending.{Sending}
 use Rattle.tipc_send_window.proofs.Keeping.{IsStored-push, length-live}
 use Rattle.tipc_send_window.proofs.window.SendWindow.due.Goals as goal
