@@ -1,4 +1,4 @@
-ghost use Rattle.std.specs.Prelude.{◌≡◌, ℕ, ◌+◌, ◌-◌, ◌<◌, ◌≤◌, ◌⊎◌, [], length, slice_get, IfErr, IfNone, IfOk, IfSome, OnErr, OnOk};
+ghost use Rattle.std.specs.Prelude.{◌≡◌, ℕ, ◌+◌, ◌-◌, ◌<◌, ◌≤◌, ◌⊎◌, [], length, slice_get, IfNone, IfOk, IfSome, OnErr, OnOk};
 ghost use Rattle.tipc_types.specs.Position.{number_of};
 
 use std::alloc::{AllocError, Global};
@@ -73,7 +73,7 @@ impl Model for SendWindow {
 }
 
 impl SendWindow {
-    ghost use Rattle.tipc_send_window.specs.Sending.{acked_of, acknowledged, fresh, IsSending, kept_of, moved, offered, passed_over, released, swapped, without_waiting};
+    ghost use Rattle.tipc_send_window.specs.Sending.{acknowledged, fresh, IsSending, kept_of, moved, offered, passed_over, released, swapped, without_waiting};
 
     /// A window in which nothing was numbered, so that the first packet will have number 1.
     pub fn new(alloc: Global) -> SendWindow
