@@ -4,6 +4,7 @@ use Rattle.tipc_types.specs.Position.{number_of}
 use Rattle.tipc_types.specs.declared.packet_lists.Kept.{Kept}
 use Rattle.tipc_send_window.specs.Sending.{IsStored, kept_after, packets_of}
 
+-- a packet beside the number of its position
 abbrev pub kept_at : ℕ → List ℕ → Kept
 kept_at position packet = record { number = number_of position; packet = packet }
 

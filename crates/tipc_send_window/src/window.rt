@@ -40,6 +40,16 @@ impl From<AllocError> for OfferFault {
     }
 }
 
+impl From<NoMemory> for OfferFault {
+    ghost use Rattle.tipc_send_window.specs.declared.window.OfferFault.TheVariants as fault;
+
+    ghost from_gives = { λ _ e. e ≡ fault.NoMemory };
+
+    fn from(_error: NoMemory) -> OfferFault {
+        OfferFault::NoMemory
+    }
+}
+
 /// The packets of one direction of a link, from their offer to their acknowledgement.
 ///
 /// Packets are taken in the order in which they were offered. One is numbered when it enters the window; those
