@@ -1,0 +1,5 @@
+pub mod FirstWords
+pub mod Faults
+pub mod Grammar
+pub mod Kinds
+pub mod Splitting
