@@ -5,6 +5,8 @@ use Rattle.tipc_script.specs.declared.faults.LineWhy.{LineWhy}
 use Rattle.tipc_script.specs.declared.faults.LineWhy.TheVariants as why
 use Rattle.tipc_script.specs.declared.faults.LineFault.{LineFault}
 use Rattle.tipc_script.specs.declared.faults.LineFault.TheVariants as faults
+use Rattle.tipc_script.specs.declared.lines.Line.{Line}
+use Rattle.tipc_script.specs.declared.lines.Command.{Command}
 use Rattle.tipc_script.specs.Splitting.{Left, whole, first_token, behind}
 use Rattle.tipc_script.specs.Kinds.{Kind, NewNode, OldNode, OtherNode, BearerNumber, PortNumber, FrameNumber, FormWord, ImportanceWord, BodyText, takes, is_remark}
 use Rattle.tipc_script.specs.Grammar.{Row, row_of, first_number}
@@ -66,3 +68,9 @@ abbrev pub Tells : {A : Type 0} → Result A LineFault → Option Fault → Type
 Tells (Ok x) fault = fault ≡ None
 Tells (Err (faults.BadLine place reason)) fault = fault ≡ Some (place, reason)
 Tells (Err faults.NoMemory) fault = Unit {0}
+
+-- the answer is the command of this line, unless memory ran out
+abbrev pub Reads : Result Command LineFault → Line → Type 0
+Reads (Ok command) wanted = command.line ≡ wanted
+Reads (Err (faults.BadLine place reason)) wanted = ⊥
+Reads (Err faults.NoMemory) wanted = Unit {0}

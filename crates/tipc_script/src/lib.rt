@@ -10,4 +10,4 @@ mod tokens;
 
 pub use faults::{LineFault, LineWhy};
 pub use lines::{Command, Line, NodeToken};
-pub use parsing::parse_line;
+pub use parsing::{grammar, parse_line};

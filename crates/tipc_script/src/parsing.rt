@@ -1,8 +1,10 @@
-ghost use Rattle.std.specs.Prelude.{◌≡◌, ◌+◌, ◌<◌, ◌^◌, IfOk, length, MatchOption, Some, None};
+ghost use Rattle.std.specs.Prelude.{◌≡◌, ◌+◌, ◌<◌, ◌^◌, IfOk, length, MatchOption, Some, None, List, ℕ};
 ghost use Rattle.std.specs.Str.{bytes_eq};
 ghost use Rattle.tipc_script.specs.Kinds.{is_remark};
 ghost use Rattle.tipc_script.specs.Grammar.{row_of, asked_by, nodes_by, asked, nodes_of};
-ghost use Rattle.tipc_script.specs.Faults.{Tells, fault_by, fault_of};
+ghost use Rattle.tipc_script.specs.Faults.{Tells, Reads, fault_by, fault_of};
+ghost use Rattle.tipc_script.specs.declared.lines.Line.{Line};
+ghost use Rattle.tipc_script.specs.Spelling.{Asks};
 ghost use Rattle.tipc_script.specs.FirstWords.{row_for};
 ghost use Rattle.tipc_script.specs.Splitting.{whole, first_token, behind};
 
@@ -117,12 +119,12 @@ fn line_of_words(alloc: Global, line: &[u8]) -> Result<Command, LineFault>
     line_behind(alloc, word, &mut tokens)
 }
 
-/// What a line of a script asks for, without its newline. (This project's profile.)
+/// The command of a line, or its first fault.
 #[tactic(auto, unfolding(crate::specs::Grammar::asked, crate::specs::Grammar::nodes_of, crate::specs::Faults::fault_of))]
-pub fn parse_line(alloc: Global, line: &[u8]) -> Result<Command, LineFault>
+fn command_of(alloc: Global, line: &[u8]) -> Result<Command, LineFault>
     requires { length line.now < 2 ^ 31 }
     ensures fault { Tells result (fault_of line.now) }
-    ensures line { IfOk result (λ c. c.line ≡ asked line.now) }
+    ensures exact { IfOk result (λ c. c.line ≡ asked line.now) }
     ensures nodes { IfOk result (λ c. c.nodes ≡ nodes_of line.now) }
 {
     if is_remark(line) {
@@ -132,4 +134,32 @@ pub fn parse_line(alloc: Global, line: &[u8]) -> Result<Command, LineFault>
         });
     }
     line_of_words(alloc, line)
+}
+
+/// Reads a line of a script, given without its newline. (This project's profile.)
+///
+/// A line has at most 2,147,483,647 bytes. Bytes that are no text are bytes that no token takes. Whether
+/// the nodes of the line are there isn't looked at: `nodes` of the command says what is to be asked of
+/// them, and `LineWhy::Node` is never answered here.
+pub fn parse_line(alloc: Global, line: &[u8]) -> Result<Command, LineFault>
+    requires { length line.now < 2 ^ 31 }
+    // What is read is a line of the grammar, with its values.
+    ensures found { IfOk result (λ c. Asks line.now c.line) }
+    // A line of the grammar is read with its values, unless memory runs out.
+    ensures only { (wanted : Line) → Asks line.now wanted → Reads result wanted }
+    // Which fault it is, and where: none exactly where the line is read.
+    ensures fault { Tells result (fault_of line.now) }
+
+    ensures exact { IfOk result (λ c. c.line ≡ asked line.now) }
+    ensures nodes { IfOk result (λ c. c.nodes ≡ nodes_of line.now) }
+{
+    command_of(alloc, line)
+}
+
+/// The grammar and the faults agree: a text asks for a line exactly where it has no fault, and then for
+/// that line alone.
+pub fn grammar()
+    ensures found { (text : List ℕ) → fault_of text ≡ None → Asks text (asked text) }
+    ensures only { (text : List ℕ) (wanted : Line) → Asks text wanted → (fault_of text ≡ None) × (asked text ≡ wanted) }
+{
 }
