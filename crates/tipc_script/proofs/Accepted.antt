@@ -45,7 +45,7 @@ node_accepted : (text : List ℕ) (n : ℕ) → Asks text (Node n) → IsAccepte
 unfolding row_of row_fault first_fault end_fault
 node_accepted text n h =
     spelled text node_row (decimal n ∷ []) (Node n) h.1 refl (rw (no_space-decimal n (omega arith)) refl) refl
-      (rw (is_number-decimal 1 32 n h.0.0 h.0.1 (omega arith)) refl) (rw (number_of-decimal n (omega arith)) refl)
+    (rw (is_number-decimal 1 32 n h.0.0 h.0.1 (omega arith)) refl) (rw (number_of-decimal n (omega arith)) refl)
 
 link_accepted : (text : List ℕ) (a b x : ℕ) → Asks text (Link a b x) → IsAccepted text (Link a b x)
 unfolding row_of row_fault first_fault end_fault
@@ -54,9 +54,9 @@ link_accepted text a b x h =
     let second = h.0.1 in
     let bearer = h.0.2 in
     spelled text link_row (decimal a ∷ decimal b ∷ decimal x ∷ []) (Link a b x) h.1 refl
-      (rw (no_space-decimal a (omega arith), no_space-decimal b (omega arith), no_space-decimal x (omega arith)) refl) refl
-      (rw (is_number-decimal 1 32 a first.0 first.1 (omega arith), is_number-decimal 1 32 b second.0 second.1 (omega arith), is_number-decimal 0 0 x (omega arith) (omega arith) (omega arith)) refl)
-      (rw (number_of-decimal a (omega arith), number_of-decimal b (omega arith), number_of-decimal x (omega arith)) refl)
+    (rw (no_space-decimal a (omega arith), no_space-decimal b (omega arith), no_space-decimal x (omega arith)) refl) refl
+    (rw (is_number-decimal 1 32 a first.0 first.1 (omega arith), is_number-decimal 1 32 b second.0 second.1 (omega arith), is_number-decimal 0 0 x (omega arith) (omega arith) (omega arith)) refl)
+    (rw (number_of-decimal a (omega arith), number_of-decimal b (omega arith), number_of-decimal x (omega arith)) refl)
 
 mark_accepted : (text : List ℕ) → Asks text Mark → IsAccepted text Mark
 unfolding row_of row_fault first_fault end_fault
@@ -66,7 +66,7 @@ socket_accepted : (text : List ℕ) (n : ℕ) → Asks text (Socket n) → IsAcc
 unfolding row_of row_fault first_fault end_fault
 socket_accepted text n h =
     spelled text socket_row (decimal n ∷ []) (Socket n) h.1 refl (rw (no_space-decimal n (omega arith)) refl) refl
-      (rw (is_number-decimal 1 32 n h.0.0 h.0.1 (omega arith)) refl) (rw (number_of-decimal n (omega arith)) refl)
+    (rw (is_number-decimal 1 32 n h.0.0 h.0.1 (omega arith)) refl) (rw (number_of-decimal n (omega arith)) refl)
 
 -- a port is that of its node's number
 port_is : (to : PortId) (word : ℕ) → word ≡ to.node.word → (let same : PortId = record { node = record { word = word }; port = to.port } in same ≡ to)
@@ -82,18 +82,18 @@ send_low text n p to body h e =
     let m-of = number_of-decimal m (omega arith) in
     let n-of = number_of-decimal n (omega arith) in
     let other : (is_number 1 32 (decimal m) && not (eqb (number_of (decimal m)) (number_of (decimal n)))) ≡ true =
-        and_from _ _ (is_number-decimal 1 32 m (omega arith) (omega arith) (omega arith)) (not_from_false _ (ne_eqb _ _ (λ same. ne (sym m-of ∙ same ∙ n-of)))) in
+    and_from _ _ (is_number-decimal 1 32 m (omega arith) (omega arith) (omega arith)) (not_from_false _ (ne_eqb _ _ (λ same. ne (sym m-of ∙ same ∙ n-of)))) in
     let text-is = is_body-text body h.some h.short h.visible in
     spelled text send_row (decimal n ∷ decimal p ∷ codes "port" ∷ decimal m ∷ decimal to.port ∷ codes "low" ∷ (61 ∷ body) ∷ []) (Send n p to Low body) e refl
-      (rw (no_space-decimal n (omega arith), no_space-decimal p (omega (arith, h.from_port)), no_space-decimal m (omega arith), no_space-decimal to.port (omega (arith, h.to_port)), no_space_visible body ((all_visible body).1 h.visible)) refl) refl
-      (rw (is_number-decimal 1 32 n from.0 from.1 (omega arith), is_number-decimal 0 4294967295 p (omega arith) (omega arith) (omega arith), other, is_number-decimal 0 4294967295 to.port (omega arith) (omega arith) (omega arith), text-is) refl)
-      (rw (n-of, m-of, number_of-decimal p (omega arith), number_of-decimal to.port (omega arith)) (ap (λ t. Send n p t Low body) (port_is to (node_word m) (omega arith))))
+    (rw (no_space-decimal n (omega arith), no_space-decimal p (omega (arith, h.from_port)), no_space-decimal m (omega arith), no_space-decimal to.port (omega (arith, h.to_port)), no_space_visible body ((all_visible body).1 h.visible)) refl) refl
+    (rw (is_number-decimal 1 32 n from.0 from.1 (omega arith), is_number-decimal 0 4294967295 p (omega arith) (omega arith) (omega arith), other, is_number-decimal 0 4294967295 to.port (omega arith) (omega arith) (omega arith), text-is) refl)
+    (rw (n-of, m-of, number_of-decimal p (omega arith), number_of-decimal to.port (omega arith)) (ap (λ t. Send n p t Low body) (port_is to (node_word m) (omega arith))))
 
 send_accepted : (text : List ℕ) (n p : ℕ) (to : PortId) (importance : Importance) (body : List ℕ) → Asks text (Send n p to importance body) → IsAccepted text (Send n p to importance body)
 send_accepted text n p to importance body h =
     let low = h.0.low in
     subst (λ i. IsAccepted text (Send n p to i body)) (sym low)
-      (send_low text n p to body (subst (λ i. IsMessage n p to i body) low h.0) (h.1 ∙ ap (λ i. spelling_of (Send n p to i body)) low))
+    (send_low text n p to body (subst (λ i. IsMessage n p to i body) low h.0) (h.1 ∙ ap (λ i. spelling_of (Send n p to i body)) low))
 
 arrive_accepted : (text : List ℕ) (n x k : ℕ) → Asks text (Arrive n x k) → IsAccepted text (Arrive n x k)
 unfolding row_of row_fault first_fault end_fault
@@ -102,9 +102,9 @@ arrive_accepted text n x k h =
     let bearer = h.0.1 in
     let frame = h.0.2 in
     spelled text arrive_row (decimal n ∷ decimal x ∷ decimal k ∷ []) (Arrive n x k) h.1 refl
-      (rw (no_space-decimal n (omega arith), no_space-decimal x (omega arith), no_space-decimal k (omega arith)) refl) refl
-      (rw (is_number-decimal 1 32 n node.0 node.1 (omega arith), is_number-decimal 0 0 x (omega arith) (omega arith) (omega arith), is_number-decimal 0 1000000 k (omega arith) frame (omega arith)) refl)
-      (rw (number_of-decimal n (omega arith), number_of-decimal x (omega arith), number_of-decimal k (omega arith)) refl)
+    (rw (no_space-decimal n (omega arith), no_space-decimal x (omega arith), no_space-decimal k (omega arith)) refl) refl
+    (rw (is_number-decimal 1 32 n node.0 node.1 (omega arith), is_number-decimal 0 0 x (omega arith) (omega arith) (omega arith), is_number-decimal 0 1000000 k (omega arith) frame (omega arith)) refl)
+    (rw (number_of-decimal n (omega arith), number_of-decimal x (omega arith), number_of-decimal k (omega arith)) refl)
 
 receive_accepted : (text : List ℕ) (n p : ℕ) → Asks text (Receive n p) → IsAccepted text (Receive n p)
 unfolding row_of row_fault first_fault end_fault
@@ -112,9 +112,9 @@ receive_accepted text n p h =
     let node = h.0.0 in
     let port = h.0.1 in
     spelled text receive_row (decimal n ∷ decimal p ∷ []) (Receive n p) h.1 refl
-      (rw (no_space-decimal n (omega arith), no_space-decimal p (omega arith)) refl) refl
-      (rw (is_number-decimal 1 32 n node.0 node.1 (omega arith), is_number-decimal 0 4294967295 p (omega arith) (omega arith) (omega arith)) refl)
-      (rw (number_of-decimal n (omega arith), number_of-decimal p (omega arith)) refl)
+    (rw (no_space-decimal n (omega arith), no_space-decimal p (omega arith)) refl) refl
+    (rw (is_number-decimal 1 32 n node.0 node.1 (omega arith), is_number-decimal 0 4294967295 p (omega arith) (omega arith) (omega arith)) refl)
+    (rw (number_of-decimal n (omega arith), number_of-decimal p (omega arith)) refl)
 
 flow_accepted : (text : List ℕ) (a b : ℕ) → Asks text (Flow a b) → IsAccepted text (Flow a b)
 unfolding row_of row_fault first_fault end_fault
@@ -122,9 +122,9 @@ flow_accepted text a b h =
     let from = h.0.0 in
     let to = h.0.1 in
     spelled text flow_row (decimal a ∷ decimal b ∷ []) (Flow a b) h.1 refl
-      (rw (no_space-decimal a (omega arith), no_space-decimal b (omega arith)) refl) refl
-      (rw (is_number-decimal 1 32 a from.0 from.1 (omega arith), is_number-decimal 1 32 b to.0 to.1 (omega arith)) refl)
-      (rw (number_of-decimal a (omega arith), number_of-decimal b (omega arith)) refl)
+    (rw (no_space-decimal a (omega arith), no_space-decimal b (omega arith)) refl) refl
+    (rw (is_number-decimal 1 32 a from.0 from.1 (omega arith), is_number-decimal 1 32 b to.0 to.1 (omega arith)) refl)
+    (rw (number_of-decimal a (omega arith), number_of-decimal b (omega arith)) refl)
 
 nothing_accepted : (text : List ℕ) → is_remark text ≡ true → IsAccepted text Nothing
 unfolding fault_of asked

@@ -46,8 +46,7 @@ link_found text left e h =
     let first = number_taken 1 32 left h.0 in
     let second = number_taken 1 32 b h.1.0 in
     let bearer = number_taken 0 0 x h.1.1.0 in
-    let last = h.1.1.1 in
-    (
+    let last = h.1.1.1 in (
       ((first.1, first.2), (second.1, second.2), omega (arith, bearer.2)),
       respelled text link_row.word left.tokens (decimal (first_number left) ∷ decimal (first_number b) ∷ decimal (first_number x) ∷ []) e cc,
     )
@@ -99,8 +98,7 @@ send_found text left e h =
     let importance = word_taken (codes "low") i h.1.1.1.1.1.0 in
     let body = body_taken b h.1.1.1.1.1.1.0 in
     let last = h.1.1.1.1.1.1.1 in
-    let back = node_number_at (first_number m) (first_number q) in
-    (
+    let back = node_number_at (first_number m) (first_number q) in (
       record {
         from_node = (node.1, node.2);
         from_port = omega (arith, port.2);
@@ -113,8 +111,8 @@ send_found text left e h =
         visible = body.1.visible;
       },
       respelled text send_row.word left.tokens
-        (decimal (first_number left) ∷ decimal (first_number p) ∷ codes "port" ∷ decimal (node_number (port_at (first_number m) (first_number q))) ∷ decimal (first_number q) ∷ codes "low" ∷ (61 ∷ drop 1 (first_token b)) ∷ [])
-        e (rw back cc),
+          (decimal (first_number left) ∷ decimal (first_number p) ∷ codes "port" ∷ decimal (node_number (port_at (first_number m) (first_number q))) ∷ decimal (first_number q) ∷ codes "low" ∷ (61 ∷ drop 1 (first_token b)) ∷ [])
+          e (rw back cc),
     )
 
 arrive_found : IsFound arrive_row
@@ -124,8 +122,7 @@ arrive_found text left e h =
     let node = number_taken 1 32 left h.0 in
     let bearer = number_taken 0 0 x h.1.0 in
     let frame = number_taken 0 1000000 k h.1.1.0 in
-    let last = h.1.1.1 in
-    (
+    let last = h.1.1.1 in (
       ((node.1, node.2), omega (arith, bearer.2), frame.2),
       respelled text arrive_row.word left.tokens (decimal (first_number left) ∷ decimal (first_number x) ∷ decimal (first_number k) ∷ []) e cc,
     )

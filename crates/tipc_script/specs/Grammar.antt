@@ -47,8 +47,8 @@ send_row = record {
   word = codes "send";
   kinds = OldNode ∷ PortNumber ∷ FormWord ∷ OtherNode ∷ PortNumber ∷ ImportanceWord ∷ BodyText ∷ [];
   asks = λ node.
-    let port = behind node in let form = behind port in let to = behind form in let at = behind to in let importance = behind at in let body = behind importance in
-    line.Send (first_number node) (first_number port) (port_at (first_number to) (first_number at)) Low (drop 1 (first_token body));
+      let port = behind node in let form = behind port in let to = behind form in let at = behind to in let importance = behind at in let body = behind importance in
+      line.Send (first_number node) (first_number port) (port_at (first_number to) (first_number at)) Low (drop 1 (first_token body));
 }
 
 abbrev pub arrive_row : Row

@@ -7,9 +7,9 @@ use Rattle.std.specs.Fmt.{decimal}
 
 -- what a token may have to be
 pub data Kind : Type 0 where
-  NewNode : Kind      -- the number of a node that isn't there yet
-  OldNode : Kind      -- the number of a node that is there
-  OtherNode : Kind    -- the number of another node than the first one of the line
+  NewNode : Kind  -- the number of a node that isn't there yet
+  OldNode : Kind  -- the number of a node that is there
+  OtherNode : Kind  -- the number of another node than the first one of the line
   BearerNumber : Kind
   PortNumber : Kind
   FrameNumber : Kind

@@ -32,7 +32,7 @@ words_of (Link first second bearer) = codes "link" ∷ decimal first ∷ decimal
 words_of Mark = codes "mark" ∷ []
 words_of (Socket node) = codes "socket" ∷ decimal node ∷ []
 words_of (Send node port to importance body) =
-  codes "send" ∷ decimal node ∷ decimal port ∷ codes "port" ∷ decimal (node_number to) ∷ decimal to.port ∷ importance_word importance ∷ (61 ∷ body) ∷ []
+    codes "send" ∷ decimal node ∷ decimal port ∷ codes "port" ∷ decimal (node_number to) ∷ decimal to.port ∷ importance_word importance ∷ (61 ∷ body) ∷ []
 words_of (Arrive node bearer frame) = codes "arrive" ∷ decimal node ∷ decimal bearer ∷ decimal frame ∷ []
 words_of (Receive node port) = codes "receive" ∷ decimal node ∷ decimal port ∷ []
 words_of (Flow from to) = codes "flow" ∷ decimal from ∷ decimal to ∷ []

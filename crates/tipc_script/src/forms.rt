@@ -2,8 +2,8 @@ ghost use Rattle.std.specs.Prelude.{◌≡◌, ◌+◌, ◌<◌, ◌^◌, IfOk, 
 ghost use Rattle.tipc_script.specs.Grammar.{node_row, link_row, mark_row, socket_row, send_row, arrive_row, receive_row, flow_row, row_of, nodes_in, asked, nodes_of};
 ghost use Rattle.tipc_script.specs.Faults.{Tells, row_fault, fault_of};
 
-use crate::faults::{LineFault, LineWhy};
-use crate::lines::{Command, Line, NodeToken};
+use crate::faults::LineFault;
+use crate::lines::{Command, Line};
 use crate::tokens::Tokens;
 use std::alloc::Global;
 use tipc_types::{Addr, Bytes, Importance, PortId, Sequence};

@@ -11,3 +11,6 @@ mod tokens;
 pub use faults::{LineFault, LineWhy};
 pub use lines::{Command, Line, NodeToken};
 pub use parsing::{grammar, parse_line};
+
+#[cfg(test)]
+mod tests;

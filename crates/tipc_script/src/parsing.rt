@@ -74,7 +74,11 @@ fn first_word(token: &[u8]) -> Option<FirstWord>
 }
 
 /// What follows a first word.
-fn line_behind(alloc: Global, word: FirstWord, tokens: &mut Tokens<'_>) -> Result<Command, LineFault>
+fn line_behind(
+    alloc: Global,
+    word: FirstWord,
+    tokens: &mut Tokens<'_>,
+) -> Result<Command, LineFault>
     ensures fault { Tells result (fault_by (Some (row_for word)) tokens.old) }
     ensures line { IfOk result (λ c. c.line ≡ asked_by (Some (row_for word)) tokens.old) }
     ensures nodes { IfOk result (λ c. c.nodes ≡ nodes_by (Some (row_for word)) tokens.old) }
@@ -161,5 +165,4 @@ pub fn parse_line(alloc: Global, line: &[u8]) -> Result<Command, LineFault>
 pub fn grammar()
     ensures found { (text : List ℕ) → fault_of text ≡ None → Asks text (asked text) }
     ensures only { (text : List ℕ) (wanted : Line) → Asks text wanted → (fault_of text ≡ None) × (asked text ≡ wanted) }
-{
-}
+{}

@@ -15,10 +15,10 @@ returns-then-number-from-clause-value c =
     let is : c.in_ok-number.number ≡ number_of c.args.token.now = c.in_ok-number.ensures.0 in
     let one = λ (n : ℕ) (below : n ≤ c.args.high) (e : c.args.token.now ≡ decimal n). ap number_of e ∙ number_of-decimal n (omega (arith, c.ranges.high.fits)) in
     sym (cond-false _ _ _ (is_number_none c.args.low c.args.high c.args.token.now (λ n above below e.
-        elim c.then-number-from.branch [
-          | then-number-from-via-then-number-from w ↦ omega (arith, w.if-number-from.true, c.from.ensures, one n below e, is)
-          | then-number-from-via-else-number-from+then-number-from-2 w ↦ omega (arith, w.if-number-from-2.true, w.from-else-number-from.ensures, one n below e, is)
-        ])))
+    elim c.then-number-from.branch [
+      | then-number-from-via-then-number-from w ↦ omega (arith, w.if-number-from.true, c.from.ensures, one n below e, is)
+      | then-number-from-via-else-number-from+then-number-from-2 w ↦ omega (arith, w.if-number-from-2.true, w.from-else-number-from.ensures, one n below e, is)
+    ])))
 
 pub returns-clause-value : goal.returns-clause-value
 returns-clause-value c =
