@@ -1,0 +1,5 @@
+pub mod Contacts
+pub mod Prefixes
+pub mod Room
+pub mod Steps
+pub mod Streams

@@ -1,0 +1,10 @@
+use Rattle.std.specs.Prelude.{◌≡◌, List, [], ◌∷◌, ◌++◌, Option, Some, None}
+
+-- xs is a prefix of ys: ys is xs and then some rest
+abbrev pub IsPrefixOf : {A : Type 0} → List A → List A → Type 0
+IsPrefixOf {A} xs ys = (rest : List A) × (ys ≡ xs ++ rest)
+
+-- the list, and behind it the item where there is one
+abbrev pub list_with : {A : Type 0} → List A → Option A → List A
+list_with xs None = xs
+list_with xs (Some x) = xs ++ x ∷ []
