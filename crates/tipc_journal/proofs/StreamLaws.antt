@@ -36,8 +36,8 @@ pub stream_eq_refl : (s : Stream) → stream_eq s s ≡ true
 unfolding stream_eq
 stream_eq_refl s =
     and_from _ _ (eq-eqb s.peer.word s.peer.word refl)
-      (and_from _ _ (eq-eqb s.contact.0 s.contact.0 refl)
-        (and_from _ _ (eq-eqb s.contact.1 s.contact.1 refl) (flow_eq_refl s.flow)))
+    (and_from _ _ (eq-eqb s.contact.0 s.contact.0 refl)
+    (and_from _ _ (eq-eqb s.contact.1 s.contact.1 refl) (flow_eq_refl s.flow)))
 
 -- streams that test as the same are the same
 pub stream_eq_true : (s t : Stream) → stream_eq s t ≡ true → s ≡ t
@@ -48,9 +48,9 @@ stream_eq_true s t same =
     let owns = and_parts (s.contact.0 == t.contact.0) _ peers.1 in
     let theirs = and_parts (s.contact.1 == t.contact.1) _ owns.1 in
     ap (λ w. made w s.contact.0 s.contact.1 s.flow) (eqb-true s.peer.word t.peer.word peers.0)
-      ∙ ap (λ a. made t.peer.word a s.contact.1 s.flow) (eqb-true s.contact.0 t.contact.0 owns.0)
-      ∙ ap (λ b. made t.peer.word t.contact.0 b s.flow) (eqb-true s.contact.1 t.contact.1 theirs.0)
-      ∙ ap (λ f. made t.peer.word t.contact.0 t.contact.1 f) (flow_eq_true s.flow t.flow theirs.1)
+    ∙ ap (λ a. made t.peer.word a s.contact.1 s.flow) (eqb-true s.contact.0 t.contact.0 owns.0)
+    ∙ ap (λ b. made t.peer.word t.contact.0 b s.flow) (eqb-true s.contact.1 t.contact.1 theirs.0)
+    ∙ ap (λ f. made t.peer.word t.contact.0 t.contact.1 f) (flow_eq_true s.flow t.flow theirs.1)
 
 -- two streams are the same or not
 pub stream_cases : (s t : Stream) → (s ≡ t) ⊎ (stream_eq s t ≡ false)
@@ -90,14 +90,14 @@ pub accepted_same : (xs : List Entry) (s : Stream) (m : Message)
     → accepted (xs ++ Accepted s.peer s.contact s.flow m ∷ []) s ≡ accepted xs s ++ m ∷ []
 accepted_same xs s m =
     accepted_more xs (Accepted s.peer s.contact s.flow m) s
-      ∙ ap (λ b. list_with (accepted xs s) (cond b (Some m) None)) (stream_eq_refl s)
+    ∙ ap (λ b. list_with (accepted xs s) (cond b (Some m) None)) (stream_eq_refl s)
 
 -- a message that is accepted in another stream changes nothing
 pub accepted_other : (xs : List Entry) (s t : Stream) (m : Message)
     → stream_eq t s ≡ false → accepted (xs ++ Accepted t.peer t.contact t.flow m ∷ []) s ≡ accepted xs s
 accepted_other xs s t m other =
     accepted_more xs (Accepted t.peer t.contact t.flow m) s
-      ∙ ap (λ b. list_with (accepted xs s) (cond b (Some m) None)) other
+    ∙ ap (λ b. list_with (accepted xs s) (cond b (Some m) None)) other
 
 -- an empty journal delivered nothing
 pub delivered_nil : (s : Stream) → delivered [] s ≡ []
@@ -119,11 +119,11 @@ pub delivered_same : (xs : List Entry) (s : Stream) (m : Message) (by : List ℕ
     → delivered (xs ++ Delivered s.peer s.contact s.flow m by ∷ []) s ≡ delivered xs s ++ m ∷ []
 delivered_same xs s m by =
     delivered_more xs (Delivered s.peer s.contact s.flow m by) s
-      ∙ ap (λ b. list_with (delivered xs s) (cond b (Some m) None)) (stream_eq_refl s)
+    ∙ ap (λ b. list_with (delivered xs s) (cond b (Some m) None)) (stream_eq_refl s)
 
 -- a message that is delivered in another stream changes nothing
 pub delivered_other : (xs : List Entry) (s t : Stream) (m : Message) (by : List ℕ)
     → stream_eq t s ≡ false → delivered (xs ++ Delivered t.peer t.contact t.flow m by ∷ []) s ≡ delivered xs s
 delivered_other xs s t m by other =
     delivered_more xs (Delivered t.peer t.contact t.flow m by) s
-      ∙ ap (λ b. list_with (delivered xs s) (cond b (Some m) None)) other
+    ∙ ap (λ b. list_with (delivered xs s) (cond b (Some m) None)) other

@@ -39,7 +39,7 @@ abbrev pub ended : List Entry → By → EventNote → List Entry → List Entry
 ended before by event inside (Answered caller call answer ∷ rest) =
     record {
       before = before;
-      step = record { by = by; event = event; inside = inside; caller = caller; call = call; answer = answer }
+      step = record { by = by; event = event; inside = inside; caller = caller; call = call; answer = answer };
     } ∷ []
 ended before by event inside _ = []
 
@@ -48,7 +48,7 @@ abbrev pub steps_behind : List Entry → List Entry → List PlacedStep
 steps_behind before [] = []
 steps_behind before (Step by event ∷ rest) =
     ended before by event (take_while is_inner rest) (drop (prefix_len is_inner rest) rest)
-      ++ steps_behind (before ++ Step by event ∷ []) rest
+    ++ steps_behind (before ++ Step by event ∷ []) rest
 steps_behind before (entry ∷ rest) = steps_behind (before ++ entry ∷ []) rest
 
 -- the steps of a journal, in order, each beside the journal before it

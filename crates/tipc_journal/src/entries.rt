@@ -1,4 +1,7 @@
-use tipc_types::{Addr, Answer, By, Cause, EventNote, Flow, LinkState, Message, Publication, Sequence, Subscription};
+use tipc_types::{
+    Addr, Answer, By, Cause, EventNote, Flow, LinkState, Message, Publication, Sequence,
+    Subscription,
+};
 
 /// Arrival numbers in order.
 pub type Arrivals = Sequence<u64>;
