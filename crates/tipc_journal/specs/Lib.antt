@@ -1,4 +1,5 @@
 pub mod Contacts
+pub mod Names
 pub mod Prefixes
 pub mod Room
 pub mod Steps

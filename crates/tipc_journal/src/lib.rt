@@ -3,6 +3,7 @@
 #![tactic(auto)]
 
 mod entries;
+mod folds;
 mod keeping;
 
 pub use entries::{Arrivals, Entry, PortList};
