@@ -1,4 +1,4 @@
-use Rattle.std.proofs.Common.{◌≡◌, ℕ, List, [], ◌∷◌, ◌++◌, Option, None, refl}
+use Rattle.std.proofs.Common.{◌≡◌, ℕ, List, [], ◌∷◌, ◌++◌, Option, None, fold, refl}
 use Rattle.std.proofs.lemmas.List.Sums.{fold-append}
 use Rattle.tipc_types.specs.declared.identity.Addr.{Addr}
 use Rattle.tipc_journal.specs.declared.entries.Entry.{Entry}
@@ -23,3 +23,13 @@ up_epochs_nil p x = refl
 pub up_epochs_more : (xs : List Entry) (e : Entry) (p : Addr) (x : ℕ) → up_epochs (xs ++ e ∷ []) p x ≡ epochs_after p x (up_epochs xs p x) e
 unfolding up_epochs
 up_epochs_more xs e p x = fold-append (epochs_after p x) None xs (e ∷ [])
+
+-- the contact after later entries
+pub contact_append : (xs ys : List Entry) (p : Addr) → contact (xs ++ ys) p ≡ fold (contact_after p) (contact xs p) ys
+unfolding contact
+contact_append xs ys p = fold-append (contact_after p) None xs ys
+
+-- the link after later entries
+pub up_epochs_append : (xs ys : List Entry) (p : Addr) (x : ℕ) → up_epochs (xs ++ ys) p x ≡ fold (epochs_after p x) (up_epochs xs p x) ys
+unfolding up_epochs
+up_epochs_append xs ys p x = fold-append (epochs_after p x) None xs ys

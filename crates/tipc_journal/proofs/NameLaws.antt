@@ -1,10 +1,11 @@
 use Rattle.std.specs.List.{cons_option, list_any}
-use Rattle.std.proofs.Common.{◌≡◌, ℕ, Bool, true, false, ◌||◌, not, cond, List, [], ◌∷◌, ◌++◌, Option, Some, None, filter, refl, sym, ◌∙◌, ap}
+use Rattle.std.proofs.Common.{◌≡◌, ℕ, Bool, true, false, ◌||◌, not, cond, List, [], ◌∷◌, ◌++◌, Option, Some, None, filter, fold, refl, sym, ◌∙◌, ap}
 use Rattle.std.proofs.lemmas.List.Folds.{list_any-append}
 use Rattle.tipc_types.specs.declared.services.Publication.{Publication}
 use Rattle.tipc_journal.specs.declared.entries.Entry.{Entry}
 use Rattle.tipc_journal.specs.declared.entries.Entry.TheVariants.{Published, Withdrawn, Learned, Forgot, ContactDown}
 use Rattle.tipc_journal.specs.Prefixes.{list_with}
+use Rattle.tipc_journal.proofs.Following.{followed_all}
 use Rattle.tipc_journal.specs.Names.{unless_removed, standing, published, withdraws, live, learned_in, forgets, learned, live_after, learned_after}
 
 -- an item in front stays in front
@@ -75,3 +76,11 @@ learned_more xs (Learned p) = standing_more learned_in forgets xs (Learned p) �
 learned_more xs (Forgot q) = standing_more learned_in forgets xs (Forgot q)
 learned_more xs (ContactDown peer numbers states shown) = standing_more learned_in forgets xs (ContactDown peer numbers states shown)
 learned_more xs e = standing_more learned_in forgets xs e ∙ filter_all (learned xs)
+
+-- the node's live publications after later entries
+pub live_append : (xs ys : List Entry) → live (xs ++ ys) ≡ fold live_after (live xs) ys
+live_append xs ys = followed_all live live_after live_more xs ys
+
+-- the peers' publications after later entries
+pub learned_append : (xs ys : List Entry) → learned (xs ++ ys) ≡ fold learned_after (learned xs) ys
+learned_append xs ys = followed_all learned learned_after learned_more xs ys

@@ -127,3 +127,13 @@ pub delivered_other : (xs : List Entry) (s t : Stream) (m : Message) (by : List 
 delivered_other xs s t m by other =
     delivered_more xs (Delivered t.peer t.contact t.flow m by) s
     ∙ ap (λ b. list_with (delivered xs s) (cond b (Some m) None)) other
+
+-- the messages accepted in later entries stand behind the earlier ones
+pub accepted_adds : (xs ys : List Entry) (s : Stream) → accepted (xs ++ ys) s ≡ accepted xs s ++ filter_map (accepted_message s) ys
+unfolding accepted
+accepted_adds xs ys s = filter_map-append (accepted_message s) xs ys
+
+-- the messages delivered in later entries stand behind the earlier ones
+pub delivered_adds : (xs ys : List Entry) (s : Stream) → delivered (xs ++ ys) s ≡ delivered xs s ++ filter_map (delivered_message s) ys
+unfolding delivered
+delivered_adds xs ys s = filter_map-append (delivered_message s) xs ys

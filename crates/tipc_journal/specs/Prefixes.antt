@@ -8,3 +8,8 @@ IsPrefixOf {A} xs ys = (rest : List A) × (ys ≡ xs ++ rest)
 abbrev pub list_with : {A : Type 0} → List A → Option A → List A
 list_with xs None = xs
 list_with xs (Some x) = xs ++ x ∷ []
+
+-- what each entry of the later part of a list gives, told what stands before it
+abbrev pub each_behind : {A B : Type 0} → (List A → A → List B) → List A → List A → List B
+each_behind f before [] = []
+each_behind f before (x ∷ xs) = f before x ++ each_behind f (before ++ x ∷ []) xs

@@ -5,6 +5,11 @@
 mod entries;
 mod folds;
 mod keeping;
+mod laws;
 
 pub use entries::{Arrivals, Entry, PortList};
-pub use keeping::{Journal, JournalFault};
+pub use keeping::{Journal, JournalFault, MOST_ENTRIES, MOST_MESSAGE_BYTES};
+pub use laws::{
+    accepted_follows, bytes_add_up, contact_follows, delivered_follows, learned_follows, links_follow, live_follows,
+    queues_follow, steps_follow, subscriptions_follow, transitions_follow,
+};
