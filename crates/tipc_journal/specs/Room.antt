@@ -35,3 +35,7 @@ message_bytes entries = sum_by entry_bytes entries
 -- the journal is at its limit of entries, or the entry would take it past its limit of message bytes
 abbrev pub HasNoRoom : List Entry → Entry → Type 0
 HasNoRoom entries entry = (1048576 ≤ length entries) ⊎ (67108864 < message_bytes entries + entry_bytes entry)
+
+-- the journal is below its limit of entries, and the entry takes it to no more than its limit of message bytes
+abbrev pub HasRoom : List Entry → Entry → Type 0
+HasRoom entries entry = (length entries < 1048576) × (message_bytes entries + entry_bytes entry ≤ 67108864)

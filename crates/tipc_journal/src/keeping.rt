@@ -1,5 +1,5 @@
-ghost use Rattle.std.specs.Prelude.{◌≡◌, ◌==◌, ◌+◌, ◌-◌, ◌^◌, ◌<◌, ◌≤◌, ◌↔◌, [], length, min, OnErr, OnOk};
-ghost use Rattle.tipc_journal.specs.Room.{JournalState, appended, reserved, counted_bytes, entry_bytes, message_bytes, HasNoRoom};
+ghost use Rattle.std.specs.Prelude.{◌≡◌, ◌==◌, ◌+◌, ◌-◌, ◌^◌, ◌<◌, ◌≤◌, ◌↔◌, [], length, min, IsOk, OnErr, OnOk};
+ghost use Rattle.tipc_journal.specs.Room.{JournalState, appended, reserved, counted_bytes, entry_bytes, message_bytes, HasRoom, HasNoRoom};
 
 use crate::entries::Entry;
 use std::alloc::{AllocFailed, Global};
@@ -78,6 +78,8 @@ impl Journal {
         ensures ok { OnOk result (self.new ≡ appended self.old entry) }
         ensures full { (result ≡ Err JournalFault.Full) ↔ HasNoRoom self.old.entries entry }
         ensures no_memory { result ≡ Err JournalFault.NoMemory → self.old.spare ≡ 0 }
+        ensures succeeds { 0 < self.old.spare → HasRoom self.old.entries entry → IsOk result }
+        ensures bytes { OnOk result (message_bytes self.new.entries ≡ message_bytes self.old.entries + entry_bytes entry) }
         ensures err { OnErr result (self.new ≡ self.old) }
     {
         let size = entry_bytes(&entry);
@@ -88,6 +90,20 @@ impl Journal {
         self.promised = self.promised.saturating_sub(1);
         self.bytes += size;
         Ok(())
+    }
+
+    /// Adds an entry at the end, where there is room for it and one of the places that were reserved:
+    /// the step of a call that can't fail any more.
+    pub fn commit(&mut self, entry: Entry)
+        requires room { HasRoom self.old.entries entry }
+        requires spare { 0 < self.old.spare }
+        ensures value { self.new ≡ appended self.old entry }
+        ensures bytes { message_bytes self.new.entries ≡ message_bytes self.old.entries + entry_bytes entry }
+    {
+        match self.append(entry) {
+            Ok(()) => {}
+            Err(_) => unreachable!(),
+        }
     }
 
     /// Makes `spare` at least that many.
