@@ -9,10 +9,10 @@ pub followed : {R : Type 0} (F : List Entry → R) (after : R → Entry → R)
     → i < length es → e ≡ get_or es i e → found ≡ F (take i es) → next ≡ after found e → next ≡ F (take (i + 1) es)
 followed F after more es i e found next inside is so_far step =
     step
-      ∙ ap (λ w. after w e) so_far
-      ∙ sym (more (take i es) e)
-      ∙ ap (λ w. F (take i es ++ w ∷ [])) is
-      ∙ ap F (sym (take_more es i e inside))
+    ∙ ap (λ w. after w e) so_far
+    ∙ sym (more (take i es) e)
+    ∙ ap (λ w. F (take i es ++ w ∷ [])) is
+    ∙ ap F (sym (take_more es i e inside))
 
 -- what is read entry by entry, read on over later entries
 pub followed_all : {R : Type 0} (F : List Entry → R) (after : R → Entry → R)
@@ -21,5 +21,5 @@ pub followed_all : {R : Type 0} (F : List Entry → R) (after : R → Entry → 
 followed_all F after more xs [] = ap F (append-nil xs)
 followed_all F after more xs (e ∷ es) =
     ap F (sym (append_assoc xs (e ∷ []) es))
-      ∙ followed_all F after more (xs ++ e ∷ []) es
-      ∙ ap (λ w. fold after w es) (more xs e)
+    ∙ followed_all F after more (xs ++ e ∷ []) es
+    ∙ ap (λ w. fold after w es) (more xs e)

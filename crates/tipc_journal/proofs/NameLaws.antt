@@ -27,7 +27,7 @@ standing_front : (removes : Publication → Entry → Bool) (e : Entry) (p : Pub
     (ps qs : List Publication) (o : Option Publication)
     → qs ≡ standing_after removes e ps o → removes p e ≡ now
     → cons_option (cond (gone || (now || false)) None (Some p)) qs
-      ≡ standing_after removes e (cons_option (cond gone None (Some p)) ps) o
+    ≡ standing_after removes e (cons_option (cond gone None (Some p)) ps) o
 unfolding standing_after
 standing_front removes e p true now ps qs o later is = later
 standing_front removes e p false true ps qs o later is = rw is later
@@ -43,12 +43,12 @@ standing_more adds removes [] e =
 standing_more adds removes (x ∷ xs) e =
     let later = standing_more adds removes xs e in
     let P : Option Publication → Type 0 = λ o.
-      cons_option (unless_removed removes o (xs ++ e ∷ [])) (standing adds removes (xs ++ e ∷ []))
-        ≡ standing_after removes e (cons_option (unless_removed removes o xs) (standing adds removes xs)) (adds e) in
+    cons_option (unless_removed removes o (xs ++ e ∷ [])) (standing adds removes (xs ++ e ∷ []))
+    ≡ standing_after removes e (cons_option (unless_removed removes o xs) (standing adds removes xs)) (adds e) in
     elim (adds x) as P [
-      None ↦ later
-    | Some p ↦
-        ap (λ b. cons_option (cond b None (Some p)) (standing adds removes (xs ++ e ∷ []))) (list_any-append (removes p) xs (e ∷ []))
+      | None ↦ later
+      | Some p ↦
+          ap (λ b. cons_option (cond b None (Some p)) (standing adds removes (xs ++ e ∷ []))) (list_any-append (removes p) xs (e ∷ []))
           ∙ standing_front removes e p (list_any (removes p) xs) (removes p e) (standing adds removes xs) _ (adds e) later refl
     ]
 

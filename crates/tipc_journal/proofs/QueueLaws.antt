@@ -17,8 +17,8 @@ unfolding ever_queued
 ever_queued_step own J s port whole clean =
     let f : PlacedStep → List Message = λ p. step_queued own port p.step in
     ap (flat_map f) (steps_more J s whole clean)
-      ∙ flat_map-append f (steps J) (record { before = J; step = s } ∷ [])
-      ∙ ap (λ w. flat_map f (steps J) ++ w) (append-nil (step_queued own port s))
+    ∙ flat_map-append f (steps J) (record { before = J; step = s } ∷ [])
+    ∙ ap (λ w. flat_map f (steps J) ++ w) (append-nil (step_queued own port s))
 
 -- one more whole step counts where it is a receive from the port that was answered with a message
 pub taken_count_step : (J : List Entry) (s : NodeStep) (port : ℕ) → IsWhole J → IsInside s.inside
@@ -27,8 +27,8 @@ unfolding taken_count
 taken_count_step J s port whole clean =
     let n : PlacedStep → ℕ = λ p. cond (is_taking port p.step.event p.step.answer) 1 0 in
     ap (sum_by n) (steps_more J s whole clean)
-      ∙ sum_by-append n (steps J) (record { before = J; step = s } ∷ [])
-      ∙ ap (λ w. sum_by n (steps J) + w) (zero-add (cond (is_taking port s.event s.answer) 1 0))
+    ∙ sum_by-append n (steps J) (record { before = J; step = s } ∷ [])
+    ∙ ap (λ w. sum_by n (steps J) + w) (zero-add (cond (is_taking port s.event s.answer) 1 0))
 
 -- one more whole step makes a socket, closes one or changes nothing
 pub sockets_step : (J : List Entry) (s : NodeStep) → IsWhole J → IsInside s.inside

@@ -26,8 +26,8 @@ pub each_behind_more : {A B : Type 0} (f : List A → A → List B) (before xs :
 each_behind_more f before [] x = append-nil (f before x) ∙ ap (λ w. f w x) (sym (append-nil before))
 each_behind_more f before (y ∷ ys) x =
     ap (λ w. f before y ++ w) (each_behind_more f (before ++ y ∷ []) ys x)
-      ∙ sym (append_assoc (f before y) (each_behind f (before ++ y ∷ []) ys) (f (before ++ y ∷ [] ++ ys) x))
-      ∙ ap (λ w. (f before y ++ each_behind f (before ++ y ∷ []) ys) ++ f w x) (append_assoc before (y ∷ []) ys)
+    ∙ sym (append_assoc (f before y) (each_behind f (before ++ y ∷ []) ys) (f (before ++ y ∷ [] ++ ys) x))
+    ∙ ap (λ w. (f before y ++ each_behind f (before ++ y ∷ []) ys) ++ f w x) (append_assoc before (y ∷ []) ys)
 
 -- an empty journal has no transitions
 pub transitions_nil : (n : ℕ) → transitions [] n ≡ []

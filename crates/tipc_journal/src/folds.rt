@@ -176,7 +176,8 @@ fn follow_peers(found: &mut Vec<Publication>, entry: &Entry) -> Result<(), NoMem
     match entry {
         Entry::Learned { publication } => found.push(*publication)?,
         Entry::Forgot { publication } => {
-            found.retain(|p| !(publication.at.node.word == p.at.node.word && publication.key == p.key))
+            found.retain(|p| !(publication.at.node.word == p.at.node.word
+                && publication.key == p.key))
         }
         Entry::ContactDown { peer, .. } => found.retain(|p| peer.word != p.at.node.word),
         _ => {}

@@ -10,6 +10,10 @@ mod laws;
 pub use entries::{Arrivals, Entry, PortList};
 pub use keeping::{Journal, JournalFault, MOST_ENTRIES, MOST_MESSAGE_BYTES};
 pub use laws::{
-    accepted_follows, bytes_add_up, contact_follows, delivered_follows, learned_follows, links_follow, live_follows,
-    queues_follow, steps_follow, subscriptions_follow, transitions_follow,
+    accepted_follows, bytes_add_up, contact_follows, delivered_follows, learned_follows,
+    links_follow, live_follows, queues_follow, steps_follow, subscriptions_follow,
+    transitions_follow,
 };
+
+#[cfg(test)]
+mod tests;

@@ -9,5 +9,5 @@ pub loop-entry-preserved : goal.loop-entry-preserved
 loop-entry-preserved c =
     let s : Stream = record { peer = c.args.peer; contact = c.args.contact; flow = c.args.flow } in
     followed (λ es. delivered es s) (λ found e. list_with found (delivered_message s e)) (λ xs e. delivered_more xs e s) _ _ _ _ _
-      c.loop-entry-test.true c.entry-item.is c.loop-entry.invariant
-      (c.in_ok-add_copy.ensures ∙ ap (list_with c.loop-entry.found.items) c.delivered_message.ensures)
+    c.loop-entry-test.true c.entry-item.is c.loop-entry.invariant
+    (c.in_ok-add_copy.ensures ∙ ap (list_with c.loop-entry.found.items) c.delivered_message.ensures)
