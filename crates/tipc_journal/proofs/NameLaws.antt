@@ -1,5 +1,5 @@
 use Rattle.std.specs.List.{cons_option, list_any}
-use Rattle.std.proofs.Common.{◌≡◌, ℕ, Bool, true, false, ◌||◌, not, cond, List, [], ◌∷◌, ◌++◌, Option, Some, None, filter, fold, refl, sym, ◌∙◌, ap}
+use Rattle.std.proofs.Common.{◌≡◌, Bool, true, false, ◌||◌, not, cond, List, [], ◌∷◌, ◌++◌, Option, Some, None, filter, fold, refl, sym, ◌∙◌, ap}
 use Rattle.std.proofs.lemmas.List.Folds.{list_any-append}
 use Rattle.tipc_types.specs.declared.services.Publication.{Publication}
 use Rattle.tipc_journal.specs.declared.entries.Entry.{Entry}

@@ -1,6 +1,5 @@
-use Rattle.std.specs.Prelude.{◌==◌, ◌&&◌, if◌then◌else◌, not, ℕ, Bool, false, List, [], ◌∷◌, ◌++◌, Option, Some, None, filter}
+use Rattle.std.specs.Prelude.{◌==◌, ◌&&◌, if◌then◌else◌, not, Bool, false, List, [], ◌∷◌, ◌++◌, Option, Some, None, filter}
 use Rattle.std.specs.List.{cons_option, list_any}
-use Rattle.tipc_types.specs.declared.identity.Addr.{Addr}
 use Rattle.tipc_types.specs.declared.services.Publication.{Publication}
 use Rattle.tipc_journal.specs.declared.entries.Entry.{Entry}
 use Rattle.tipc_journal.specs.declared.entries.Entry.TheVariants.{Published, Withdrawn, Learned, Forgot, ContactDown}

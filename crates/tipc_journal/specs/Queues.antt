@@ -1,4 +1,4 @@
-use Rattle.std.specs.Prelude.{◌==◌, ◌&&◌, if◌then◌else◌, not, ℕ, Bool, true, false, List, [], ◌∷◌, ◌++◌, Option, Some, None, fold, filter, drop, take, map, option_map, option_to_list, count_by}
+use Rattle.std.specs.Prelude.{◌==◌, if◌then◌else◌, not, ℕ, Bool, true, false, List, [], ◌∷◌, ◌++◌, Option, Some, None, fold, filter, drop, take, option_map, option_to_list, count_by}
 use Rattle.std.specs.List.{flat_map, list_any}
 use Rattle.tipc_types.specs.declared.identity.Addr.{Addr}
 use Rattle.tipc_types.specs.declared.message_forms.Form.TheVariants.{Multicast as Many, Named, Direct}
@@ -10,7 +10,7 @@ use Rattle.tipc_types.specs.declared.node_calls.EventNote.{EventNote}
 use Rattle.tipc_types.specs.declared.node_calls.EventNote.TheVariants.{Socket, Close, SendName, SendPort, Multicast, Receive}
 use Rattle.tipc_journal.specs.declared.entries.Entry.{Entry}
 use Rattle.tipc_journal.specs.declared.entries.Entry.TheVariants.{Delivered, Queued, Returned}
-use Rattle.tipc_journal.specs.Steps.{NodeStep, PlacedStep, steps}
+use Rattle.tipc_journal.specs.Steps.{NodeStep, steps}
 
 -- the message that a call of a node makes of its arguments and its answer, where it sends one
 abbrev pub sent_message : Addr → EventNote → Answer → Option Message

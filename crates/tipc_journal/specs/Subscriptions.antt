@@ -1,6 +1,5 @@
 use Rattle.std.specs.Prelude.{◌==◌, ◌&&◌, ◌+◌, if◌then◌else◌, not, max, ℕ, Bool, false, List, [], ◌∷◌, ◌++◌, Option, Some, None, fold, filter}
 use Rattle.tipc_types.specs.declared.node_calls.Event.{Event}
-use Rattle.tipc_types.specs.declared.node_calls.EventNote.{EventNote}
 use Rattle.tipc_types.specs.declared.node_calls.EventNote.TheVariants.{Tick}
 use Rattle.tipc_types.specs.declared.node_calls.Subscription.{Subscription}
 use Rattle.tipc_types.specs.declared.services.Publication.{Publication}
