@@ -1,13 +1,9 @@
-// A library with one function.
+//! The states of a link end: how epochs, RESET, ACTIVATE, traffic, ticks and cuts take a link up and down.
+//! Nothing here takes memory.
 #![tactic(auto)]
 
-ghost use Rattle.std.specs.Prelude.{◌≡◌};
-ghost use Rattle.tipc_link_fsm.specs.Echo.{echo_of};
+mod changes;
+mod ends;
 
-// The `ensures` clause is the contract: what `echo` returns is `echo_of` of its argument, a definition
-// in `specs/Echo.antt`, which a caller's clause can cite too.
-pub fn echo(x: usize) -> usize
-    ensures { result ≡ echo_of x }
-{
-    x
-}
+pub use changes::Change;
+pub use ends::LinkFsm;
