@@ -76,7 +76,7 @@ lowered s held =
       peer = s.peer;
       highest = s.highest;
       state = if held then Held else ResetUnknown;
-      silent = 0
+      silent = 0;
     }
 
 -- an up end that heard its peer
@@ -130,7 +130,7 @@ unheard s =
       peer = s.peer;
       highest = s.highest;
       state = if nat_le 1 s.silent then WorkingUnknown else WorkingWorking;
-      silent = s.silent + 1
+      silent = s.silent + 1;
     }
 
 -- a tick at an up end: at a silent count of 4 it goes down; else the count rises and it sends STATE,
@@ -164,12 +164,16 @@ on_peer_tunnel s epoch =
 unfoldable pub release : Fsm → Outcome
 release s =
     if is_held s.state
-      then gives (record { own = s.own; peer = s.peer; highest = s.highest; state = ResetUnknown; silent = s.silent }) (Answer reply.Reset)
-      else gives s Stay
+    then gives (record { own = s.own; peer = s.peer; highest = s.highest; state = ResetUnknown; silent = s.silent }) (Answer reply.Reset)
+    else gives s Stay
 
 -- an end whose contact ended: it takes a new epoch and forgets the peer's
 abbrev pub apart : Fsm → Fsm
 apart s = record { own = next_epoch s.own; peer = None; highest = s.highest; state = ResetUnknown; silent = 0 }
+
+-- an end that forgets the peer's epoch
+abbrev pub forgotten : Fsm → Fsm
+forgotten s = record { own = s.own; peer = None; highest = s.highest; state = ResetUnknown; silent = s.silent }
 
 -- the contact ended: the end goes down or stays down, and a RESET is to be sent in either case
 unfoldable pub contact_ended : Fsm → Outcome
@@ -179,5 +183,4 @@ contact_ended s = if is_up s.state then gives (apart s) (Down cause.ContactEnded
 -- RESET_UNKNOWN. An end that is up has a contact, so this ends it
 unfoldable pub forget_peer : Fsm → Outcome
 forget_peer s =
-    if is_up s.state then gives (apart s) (Down cause.ContactEnded)
-    else gives (record { own = s.own; peer = None; highest = s.highest; state = ResetUnknown; silent = s.silent }) Stay
+    if is_up s.state then gives (apart s) (Down cause.ContactEnded) else gives (forgotten s) Stay

@@ -1,5 +1,5 @@
-ghost use Rattle.std.specs.Prelude.{◌≡◌, ◌&&◌, ◌≤◌, ◌↔◌, true, not};
-ghost use Rattle.tipc_link_fsm.specs.Table.{fresh, is_up, is_in_reset, is_held, is_last, is_peer, is_session, next_epoch, lowered, apart, heard, up_tick, on_reset, on_activate, on_traffic, on_tick, on_cut, on_peer_tunnel, release, forget_peer, contact_ended};
+ghost use Rattle.std.specs.Prelude.{◌≡◌, ◌&&◌, ◌≤◌, ◌↔◌, true, false, not};
+ghost use Rattle.tipc_link_fsm.specs.Table.{fresh, is_up, is_in_reset, is_held, is_last, is_peer, is_session, next_epoch, lowered, apart, forgotten, heard, up_tick, on_reset, on_activate, on_traffic, on_tick, on_cut, on_peer_tunnel, release, forget_peer, contact_ended};
 ghost use Rattle.tipc_link_fsm.specs.Ends.{IsSound};
 
 use crate::changes::Change;
@@ -183,17 +183,15 @@ impl LinkFsm {
 
     /// The peer showed a higher contact number while there was no contact. An end that is up, which
     /// has a contact, goes down as by `contact_ended`.
-    #[tactic(auto, unfolding(crate::specs::Table::forget_peer))]
+    #[tactic(auto, unfolding(crate::specs::Table::forget_peer, crate::specs::Table::contact_ended))]
     pub fn forget_peer(&mut self) -> Change
         ensures after { self.new ≡ (forget_peer self.old).after }
         ensures change { result ≡ (forget_peer self.old).change }
     {
         if self.is_up() {
-            self.part();
-            return Change::Down(Cause::ContactEnded);
+            return self.contact_ended();
         }
-        self.peer = None;
-        self.state = LinkState::ResetUnknown;
+        self.forget();
         Change::Stay
     }
 
@@ -247,7 +245,10 @@ impl LinkFsm {
     fn is_up(&self) -> bool
         ensures { result ≡ is_up self.now.state }
     {
-        matches!(self.state, LinkState::WorkingWorking | LinkState::WorkingUnknown)
+        matches!(
+            self.state,
+            LinkState::WorkingWorking | LinkState::WorkingUnknown
+        )
     }
 
     /// Whether the peer's epoch is known and is this one.
@@ -279,7 +280,11 @@ impl LinkFsm {
         ensures { self.new ≡ lowered self.old held }
     {
         self.own = next_epoch(self.own);
-        self.state = if held { LinkState::Held } else { LinkState::ResetUnknown };
+        self.state = if held {
+            LinkState::Held
+        } else {
+            LinkState::ResetUnknown
+        };
         self.silent = 0;
     }
 
@@ -287,10 +292,17 @@ impl LinkFsm {
     fn part(&mut self)
         ensures { self.new ≡ apart self.old }
     {
-        self.own = next_epoch(self.own);
+        self.lower(false);
+        self.forget();
+    }
+
+    /// Forgets the peer's epoch.
+    fn forget(&mut self)
+        requires { is_up self.old.state ≡ false }
+        ensures { self.new ≡ forgotten self.old }
+    {
         self.peer = None;
         self.state = LinkState::ResetUnknown;
-        self.silent = 0;
     }
 
     /// Notes that the peer of an up end was heard.
@@ -313,7 +325,11 @@ impl LinkFsm {
             return Change::Down(Cause::Silent);
         }
         let probe = self.silent >= 1;
-        self.state = if probe { LinkState::WorkingUnknown } else { LinkState::WorkingWorking };
+        self.state = if probe {
+            LinkState::WorkingUnknown
+        } else {
+            LinkState::WorkingWorking
+        };
         self.silent += 1;
         Change::Answer(Reply::State { probe })
     }
