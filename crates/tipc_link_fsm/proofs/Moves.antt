@@ -4,8 +4,8 @@ use Rattle.tipc_types.specs.declared.link_words.LinkState.{LinkState}
 use Rattle.tipc_types.specs.declared.link_words.LinkState.TheVariants.{ResetUnknown, ResetReset, WorkingWorking, WorkingUnknown, Held}
 use Rattle.tipc_link_fsm.specs.declared.changes.Change.{Change}
 use Rattle.tipc_link_fsm.specs.declared.changes.Change.TheVariants.{Up}
-use Rattle.tipc_link_fsm.specs.Table.{Fsm, Outcome, is_up, is_in_reset, is_reset_reset, is_held, is_peer, is_session, is_last, next_epoch, lowered, heard, told, apart, unheard, up_tick, tick_in, on_reset, on_activate, on_traffic, on_tick, on_cut, on_peer_tunnel, release, forget_peer, contact_ended}
-use Rattle.tipc_link_fsm.specs.Runs.{Call, ResetArrives, ActivateArrives, TrafficArrives, TickPasses, BearerIsCut, TunnelNames, Releases, ForgetsPeer, ContactEnds, outcome, shown_epochs, epoch_up}
+use Rattle.tipc_link_fsm.specs.Table.{Fsm, Outcome, is_up, is_in_reset, is_reset_reset, is_held, is_peer, is_session, is_last, next_epoch, lowered, unheard, tick_in, on_reset, on_activate, on_traffic, on_tick, on_cut, on_peer_tunnel, release, forget_peer, contact_ended}
+use Rattle.tipc_link_fsm.specs.Runs.{Call, ResetArrives, ActivateArrives, TrafficArrives, TickPasses, BearerIsCut, TunnelNames, Releases, ForgetsPeer, ContactEnds, outcome, shown_epochs}
 
 -- whether a change says that the link went up
 abbrev pub is_going_up : Change → Bool

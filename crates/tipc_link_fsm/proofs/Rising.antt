@@ -1,4 +1,4 @@
-use Rattle.std.proofs.Common.{◌≡◌, ℕ, zero, suc, ◌+◌, ◌<◌, ◌≤◌, arith, Bool, true, false, List, [], ◌∷◌, ◌++◌, length, cond, slice_index, Some, ◌⊎◌, inl, inr, refl, sym, ◌∙◌, ap, subst, add-one}
+use Rattle.std.proofs.Common.{◌≡◌, ℕ, zero, suc, ◌+◌, ◌<◌, ◌≤◌, arith, true, false, List, [], ◌∷◌, ◌++◌, length, cond, slice_index, ◌⊎◌, inl, inr, refl, sym, ◌∙◌, ap, subst, add-one}
 use Rattle.std.proofs.lemmas.Bool.{true≢false}
 use Rattle.std.specs.List.Sorted.{IsStrictlyIncreasing}
 use Rattle.tipc_link_fsm.specs.declared.changes.Change.{Change}
@@ -6,7 +6,7 @@ use Rattle.tipc_link_fsm.specs.declared.changes.Change.TheVariants.{Up}
 use Rattle.tipc_link_fsm.specs.Ends.{IsSound}
 use Rattle.tipc_link_fsm.specs.Table.{Fsm, is_up, is_last, next_epoch}
 use Rattle.tipc_link_fsm.specs.Runs.{Call, outcome, GoesUp, epoch_up, epochs_up}
-use Rattle.tipc_link_fsm.proofs.Moves.{Moves, stays, rises, falls, moves, is_going_up}
+use Rattle.tipc_link_fsm.proofs.Moves.{stays, rises, falls, moves, is_going_up}
 
 -- the next epoch is no lower
 next_epoch_le : (own : ℕ) → own ≤ next_epoch own

@@ -1,6 +1,5 @@
-use Rattle.std.specs.Prelude.{◌≡◌, ◌≤◌, ◌↔◌, ℕ, true, false, Option, None, IsSome}
-use Rattle.tipc_types.specs.declared.link_words.LinkState.{LinkState}
-use Rattle.tipc_types.specs.declared.link_words.LinkState.TheVariants.{ResetReset, WorkingUnknown}
+use Rattle.std.specs.Prelude.{◌≡◌, ◌≤◌, ◌↔◌, true, false}
+use Rattle.tipc_types.specs.declared.link_words.LinkState.TheVariants.{WorkingUnknown}
 use Rattle.tipc_link_fsm.specs.Table.{Fsm, is_up, is_last}
 
 -- what each link end keeps
