@@ -1,0 +1,9 @@
+pub mod ContactLaws
+pub mod Following
+pub mod NameLaws
+pub mod PrefixLaws
+pub mod QueueLaws
+pub mod RoomLaws
+pub mod StepLaws
+pub mod StreamLaws
+pub mod SubscriptionLaws

@@ -1,0 +1,138 @@
+use Rattle.std.specs.Prelude.{◌==◌}
+use Rattle.std.specs.List.{cons_option, filter_map}
+use Rattle.std.proofs.Common.{◌≡◌, ◌⊎◌, inl, inr, ℕ, Bool, true, false, List, [], ◌∷◌, ◌++◌, Option, Some, None, cond, refl, ◌∙◌, ap, eq-eqb, eqb-true}
+use Rattle.std.proofs.lemmas.Bool.{and_from, and_parts}
+use Rattle.std.proofs.lemmas.List.{append-nil}
+use Rattle.std.proofs.lemmas.List.Elements.{filter_map-append}
+use Rattle.tipc_types.specs.declared.message_forms.Flow.{Flow}
+use Rattle.tipc_types.specs.declared.message_forms.Flow.TheVariants.{Zero, One, Broadcast}
+use Rattle.tipc_types.specs.declared.message_forms.Message.{Message}
+use Rattle.tipc_journal.specs.declared.entries.Entry.{Entry}
+use Rattle.tipc_journal.specs.declared.entries.Entry.TheVariants.{Accepted, Delivered}
+use Rattle.tipc_journal.specs.Prefixes.{list_with}
+use Rattle.tipc_journal.specs.Streams.{Stream, flow_eq, stream_eq, accepted_message, accepted, delivered_message, delivered}
+
+-- a flow is the same as itself
+pub flow_eq_refl : (f : Flow) → flow_eq f f ≡ true
+flow_eq_refl Zero = refl
+flow_eq_refl One = refl
+flow_eq_refl Broadcast = refl
+
+-- flows that test as the same are the same
+pub flow_eq_true : (f g : Flow) → flow_eq f g ≡ true → f ≡ g
+flow_eq_true Zero Zero same = refl
+flow_eq_true One One same = refl
+flow_eq_true Broadcast Broadcast same = refl
+flow_eq_true Zero One same = cc
+flow_eq_true Zero Broadcast same = cc
+flow_eq_true One Zero same = cc
+flow_eq_true One Broadcast same = cc
+flow_eq_true Broadcast Zero same = cc
+flow_eq_true Broadcast One same = cc
+
+-- a stream is the same as itself
+pub stream_eq_refl : (s : Stream) → stream_eq s s ≡ true
+unfolding stream_eq
+stream_eq_refl s =
+    and_from _ _ (eq-eqb s.peer.word s.peer.word refl)
+    (and_from _ _ (eq-eqb s.contact.0 s.contact.0 refl)
+    (and_from _ _ (eq-eqb s.contact.1 s.contact.1 refl) (flow_eq_refl s.flow)))
+
+-- streams that test as the same are the same
+pub stream_eq_true : (s t : Stream) → stream_eq s t ≡ true → s ≡ t
+unfolding stream_eq
+stream_eq_true s t same =
+    let made : ℕ → ℕ → ℕ → Flow → Stream = λ w a b f. record { peer = record { word = w }; contact = (a, b); flow = f } in
+    let peers = and_parts (s.peer.word == t.peer.word) _ same in
+    let owns = and_parts (s.contact.0 == t.contact.0) _ peers.1 in
+    let theirs = and_parts (s.contact.1 == t.contact.1) _ owns.1 in
+    ap (λ w. made w s.contact.0 s.contact.1 s.flow) (eqb-true s.peer.word t.peer.word peers.0)
+    ∙ ap (λ a. made t.peer.word a s.contact.1 s.flow) (eqb-true s.contact.0 t.contact.0 owns.0)
+    ∙ ap (λ b. made t.peer.word t.contact.0 b s.flow) (eqb-true s.contact.1 t.contact.1 theirs.0)
+    ∙ ap (λ f. made t.peer.word t.contact.0 t.contact.1 f) (flow_eq_true s.flow t.flow theirs.1)
+
+-- two streams are the same or not
+pub stream_cases : (s t : Stream) → (s ≡ t) ⊎ (stream_eq s t ≡ false)
+stream_cases s t =
+    let P : Bool → Type 0 = λ b. (stream_eq s t ≡ b) → (s ≡ t) ⊎ (stream_eq s t ≡ false) in
+    (elim (stream_eq s t) as P [ true ↦ λ e. inl (stream_eq_true s t e) | false ↦ λ e. inr e ]) refl
+
+-- streams that aren't the same test so
+pub stream_eq_false : (s t : Stream) → (s ≡ t → ⊥) → stream_eq s t ≡ false
+stream_eq_false s t other =
+    elim (stream_cases s t) as (λ _. stream_eq s t ≡ false) [ inl e ↦ absurd (other e) | inr e ↦ e ]
+
+-- one more item of a list that is read for some of its entries
+filter_map_more : {X Y : Type 0} (h : X → Option Y) (xs : List X) (x : X)
+    → filter_map h (xs ++ x ∷ []) ≡ list_with (filter_map h xs) (h x)
+filter_map_more {X} {Y} h xs x =
+    let P : Option Y → Type 0 = λ o. filter_map h xs ++ cons_option o [] ≡ list_with (filter_map h xs) o in
+    filter_map-append h xs (x ∷ []) ∙ (elim (h x) as P [ None ↦ append-nil (filter_map h xs) | Some y ↦ refl ])
+
+-- an empty journal accepted nothing
+pub accepted_nil : (s : Stream) → accepted [] s ≡ []
+unfolding accepted
+accepted_nil s = refl
+
+-- what was accepted in two parts of a journal, one behind the other
+pub accepted_append : (xs ys : List Entry) (s : Stream) → accepted (xs ++ ys) s ≡ accepted xs s ++ accepted ys s
+unfolding accepted
+accepted_append xs ys s = filter_map-append (accepted_message s) xs ys
+
+-- one more entry adds its message where it is an Accepted of the stream; each other kind of entry adds nothing
+pub accepted_more : (xs : List Entry) (e : Entry) (s : Stream) → accepted (xs ++ e ∷ []) s ≡ list_with (accepted xs s) (accepted_message s e)
+unfolding accepted
+accepted_more xs e s = filter_map_more (accepted_message s) xs e
+
+-- a message that is accepted in the stream stands last
+pub accepted_same : (xs : List Entry) (s : Stream) (m : Message)
+    → accepted (xs ++ Accepted s.peer s.contact s.flow m ∷ []) s ≡ accepted xs s ++ m ∷ []
+accepted_same xs s m =
+    accepted_more xs (Accepted s.peer s.contact s.flow m) s
+    ∙ ap (λ b. list_with (accepted xs s) (cond b (Some m) None)) (stream_eq_refl s)
+
+-- a message that is accepted in another stream changes nothing
+pub accepted_other : (xs : List Entry) (s t : Stream) (m : Message)
+    → stream_eq t s ≡ false → accepted (xs ++ Accepted t.peer t.contact t.flow m ∷ []) s ≡ accepted xs s
+accepted_other xs s t m other =
+    accepted_more xs (Accepted t.peer t.contact t.flow m) s
+    ∙ ap (λ b. list_with (accepted xs s) (cond b (Some m) None)) other
+
+-- an empty journal delivered nothing
+pub delivered_nil : (s : Stream) → delivered [] s ≡ []
+unfolding delivered
+delivered_nil s = refl
+
+-- what was delivered in two parts of a journal, one behind the other
+pub delivered_append : (xs ys : List Entry) (s : Stream) → delivered (xs ++ ys) s ≡ delivered xs s ++ delivered ys s
+unfolding delivered
+delivered_append xs ys s = filter_map-append (delivered_message s) xs ys
+
+-- one more entry adds its message where it is an Delivered of the stream; each other kind of entry adds nothing
+pub delivered_more : (xs : List Entry) (e : Entry) (s : Stream) → delivered (xs ++ e ∷ []) s ≡ list_with (delivered xs s) (delivered_message s e)
+unfolding delivered
+delivered_more xs e s = filter_map_more (delivered_message s) xs e
+
+-- a message that is delivered in the stream stands last
+pub delivered_same : (xs : List Entry) (s : Stream) (m : Message) (by : List ℕ)
+    → delivered (xs ++ Delivered s.peer s.contact s.flow m by ∷ []) s ≡ delivered xs s ++ m ∷ []
+delivered_same xs s m by =
+    delivered_more xs (Delivered s.peer s.contact s.flow m by) s
+    ∙ ap (λ b. list_with (delivered xs s) (cond b (Some m) None)) (stream_eq_refl s)
+
+-- a message that is delivered in another stream changes nothing
+pub delivered_other : (xs : List Entry) (s t : Stream) (m : Message) (by : List ℕ)
+    → stream_eq t s ≡ false → delivered (xs ++ Delivered t.peer t.contact t.flow m by ∷ []) s ≡ delivered xs s
+delivered_other xs s t m by other =
+    delivered_more xs (Delivered t.peer t.contact t.flow m by) s
+    ∙ ap (λ b. list_with (delivered xs s) (cond b (Some m) None)) other
+
+-- the messages accepted in later entries stand behind the earlier ones
+pub accepted_adds : (xs ys : List Entry) (s : Stream) → accepted (xs ++ ys) s ≡ accepted xs s ++ filter_map (accepted_message s) ys
+unfolding accepted
+accepted_adds xs ys s = filter_map-append (accepted_message s) xs ys
+
+-- the messages delivered in later entries stand behind the earlier ones
+pub delivered_adds : (xs ys : List Entry) (s : Stream) → delivered (xs ++ ys) s ≡ delivered xs s ++ filter_map (delivered_message s) ys
+unfolding delivered
+delivered_adds xs ys s = filter_map-append (delivered_message s) xs ys

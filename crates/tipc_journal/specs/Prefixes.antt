@@ -1,0 +1,15 @@
+use Rattle.std.specs.Prelude.{◌≡◌, List, [], ◌∷◌, ◌++◌, Option, Some, None}
+
+-- xs is a prefix of ys: ys is xs and then some rest
+abbrev pub IsPrefixOf : {A : Type 0} → List A → List A → Type 0
+IsPrefixOf {A} xs ys = (rest : List A) × (ys ≡ xs ++ rest)
+
+-- the list, and behind it the item where there is one
+abbrev pub list_with : {A : Type 0} → List A → Option A → List A
+list_with xs None = xs
+list_with xs (Some x) = xs ++ x ∷ []
+
+-- what each entry of the later part of a list gives, told what stands before it
+abbrev pub each_behind : {A B : Type 0} → (List A → A → List B) → List A → List A → List B
+each_behind f before [] = []
+each_behind f before (x ∷ xs) = f before x ++ each_behind f (before ++ x ∷ []) xs

@@ -1,0 +1,41 @@
+use Rattle.std.specs.Prelude.{◌+◌, ◌-◌, ◌*◌, ◌<◌, ◌≤◌, ◌⊎◌, ℕ, List, [], ◌∷◌, ◌++◌, length, max, sum_by}
+use Rattle.tipc_types.specs.declared.message_forms.Message.{Message}
+use Rattle.tipc_types.specs.declared.message_forms.Message.TheVariants.{Payload, Items}
+use Rattle.tipc_journal.specs.declared.entries.Entry.{Entry}
+use Rattle.tipc_journal.specs.declared.entries.Entry.TheVariants.{Accepted, Delivered}
+
+-- a journal: its entries in order, and how many appends will find their memory
+pub record JournalState : Type 0 where
+  pub entries : List Entry
+  pub spare : ℕ
+
+-- the journal with one more entry at the end, which took one of the places kept for it
+abbrev pub appended : JournalState → Entry → JournalState
+appended j entry = record { entries = j.entries ++ entry ∷ []; spare = j.spare - 1 }
+
+-- the journal with at least so many places kept
+abbrev pub reserved : JournalState → ℕ → JournalState
+reserved j places = record { entries = j.entries; spare = max j.spare places }
+
+-- the bytes that a message counts for: those of its body, and 20 for each item
+abbrev pub counted_bytes : Message → ℕ
+counted_bytes (Payload importance form from to kind lower upper code droppable body) = length body
+counted_bytes (Items withdrawal items) = 20 * length items
+
+-- the message bytes of an entry
+abbrev pub entry_bytes : Entry → ℕ
+entry_bytes (Accepted peer contact flow message) = counted_bytes message
+entry_bytes (Delivered peer contact flow message by) = counted_bytes message
+entry_bytes _ = 0
+
+-- the message bytes of a journal
+unfoldable pub message_bytes : List Entry → ℕ
+message_bytes entries = sum_by entry_bytes entries
+
+-- the journal is at its limit of entries, or the entry would take it past its limit of message bytes
+abbrev pub HasNoRoom : List Entry → Entry → Type 0
+HasNoRoom entries entry = (1048576 ≤ length entries) ⊎ (67108864 < message_bytes entries + entry_bytes entry)
+
+-- the journal is below its limit of entries, and the entry takes it to no more than its limit of message bytes
+abbrev pub HasRoom : List Entry → Entry → Type 0
+HasRoom entries entry = (length entries < 1048576) × (message_bytes entries + entry_bytes entry ≤ 67108864)

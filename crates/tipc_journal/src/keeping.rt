@@ -1,0 +1,175 @@
+ghost use Rattle.std.specs.Prelude.{◌≡◌, ◌==◌, ◌+◌, ◌-◌, ◌^◌, ◌<◌, ◌≤◌, ◌↔◌, [], length, min, IsOk, OnErr, OnOk};
+ghost use Rattle.tipc_journal.specs.Room.{JournalState, appended, reserved, counted_bytes, entry_bytes, message_bytes, HasRoom, HasNoRoom};
+
+use crate::entries::Entry;
+use std::alloc::{AllocFailed, Global};
+use std::marker::Model;
+use tipc_types::{Message, NoMemory};
+
+/// The most entries of a journal.
+pub const MOST_ENTRIES: u64 = 1_048_576;
+
+/// The most message bytes of a journal.
+pub const MOST_MESSAGE_BYTES: u64 = 67_108_864;
+
+/// What a node did in one boot: entries in order, which are never changed or removed.
+/// (This project's profile.)
+///
+/// Contracts see the entries, and `spare`: how many appends will find their memory.
+#[derive(Drop)]
+pub struct Journal {
+    stored: Vec<Entry>,
+    promised: u64,
+    bytes: u64,
+}
+
+impl Model for Journal {
+    ghost use Rattle.std.specs.Prelude.{◌≡◌, ◌+◌, ◌≤◌, vec_len, vec_capacity};
+    ghost use Rattle.tipc_journal.specs.Room.{JournalState, message_bytes};
+
+    ghost Value = { JournalState };
+
+    ghost view = { λ j. record { entries = j.stored.items; spare = j.promised } };
+
+    ghost invariant = { λ j. (vec_len j.stored + j.promised ≤ vec_capacity j.stored)
+        × (j.bytes ≡ message_bytes j.stored.items)
+        × (j.bytes ≤ 67108864) };
+}
+
+/// Why an entry wasn't appended.
+#[derive(Clone, Copy, Debug, PartialEq, Eq)]
+pub enum JournalFault {
+    /// The journal has no room for it.
+    Full,
+    /// Memory ran out.
+    NoMemory,
+}
+
+impl<T: Drop> From<AllocFailed<T>> for JournalFault {
+    ghost use Rattle.tipc_journal.specs.declared.keeping.JournalFault.{JournalFault};
+
+    ghost from_gives = { λ _ e. e ≡ JournalFault.NoMemory };
+
+    fn from(_error: AllocFailed<T>) -> JournalFault {
+        JournalFault::NoMemory
+    }
+}
+
+impl Journal {
+    /// A journal without entries.
+    #[tactic(auto, using(crate::proofs::RoomLaws::message_bytes_nil))]
+    pub fn new(alloc: Global) -> Journal
+        ensures { result ≡ record { entries = []; spare = 0 } }
+    {
+        Journal {
+            stored: Vec::new(alloc),
+            promised: 0,
+            bytes: 0,
+        }
+    }
+
+    /// Adds an entry at the end. It answers Full exactly where the journal has 1,048,576 entries, or
+    /// where its message bytes would pass 67,108,864; else NoMemory, but not while `spare` is positive.
+    ///
+    /// The message bytes are the lengths of the bodies of the messages in Accepted and Delivered
+    /// entries, and 20 for each item of an item message there.
+    #[tactic(auto, using(crate::proofs::RoomLaws::message_bytes_more))]
+    pub fn append(&mut self, entry: Entry) -> Result<(), JournalFault>
+        ensures ok { OnOk result (self.new ≡ appended self.old entry) }
+        ensures full { (result ≡ Err JournalFault.Full) ↔ HasNoRoom self.old.entries entry }
+        ensures no_memory { result ≡ Err JournalFault.NoMemory → self.old.spare ≡ 0 }
+        ensures succeeds { 0 < self.old.spare → HasRoom self.old.entries entry → IsOk result }
+        ensures bytes { OnOk result (message_bytes self.new.entries ≡ message_bytes self.old.entries + entry_bytes entry) }
+        ensures err { OnErr result (self.new ≡ self.old) }
+    {
+        let size = entry_bytes(&entry);
+        if self.stored.len() as u64 >= MOST_ENTRIES || size > MOST_MESSAGE_BYTES - self.bytes {
+            return Err(JournalFault::Full);
+        }
+        self.stored.push(entry)?;
+        self.promised = self.promised.saturating_sub(1);
+        self.bytes += size;
+        Ok(())
+    }
+
+    /// Adds an entry at the end, where there is room for it and one of the places that were reserved:
+    /// the step of a call that can't fail any more.
+    pub fn commit(&mut self, entry: Entry)
+        requires room { HasRoom self.old.entries entry }
+        requires spare { 0 < self.old.spare }
+        ensures value { self.new ≡ appended self.old entry }
+        ensures bytes { message_bytes self.new.entries ≡ message_bytes self.old.entries + entry_bytes entry }
+    {
+        match self.append(entry) {
+            Ok(()) => {}
+            Err(_) => unreachable!(),
+        }
+    }
+
+    /// Makes `spare` at least that many.
+    pub fn reserve(&mut self, entries: u64) -> Result<(), NoMemory>
+        ensures ok { OnOk result (self.new ≡ reserved self.old entries) }
+        ensures err { OnErr result (self.new ≡ self.old) }
+    {
+        self.stored.reserve(entries as usize)?;
+        self.promised = self.promised.max(entries);
+        Ok(())
+    }
+
+    /// How many appends will find their memory.
+    pub fn spare(&self) -> u64
+        ensures { result ≡ self.now.spare }
+    {
+        self.promised
+    }
+
+    /// The entries, the first one first.
+    pub fn entries(&self) -> &[Entry]
+        ensures { result.now ≡ self.now.entries }
+    {
+        self.stored.as_slice()
+    }
+
+    /// How many entries it has.
+    pub fn len(&self) -> u64
+        ensures { result ≡ length self.now.entries }
+    {
+        self.stored.len() as u64
+    }
+
+    /// Whether it has no entry.
+    pub fn is_empty(&self) -> bool
+        ensures { result ≡ (length self.now.entries == 0) }
+    {
+        self.stored.is_empty()
+    }
+
+    /// How many message bytes it has, at most 67,108,864.
+    pub fn message_bytes(&self) -> u64
+        ensures value { result ≡ message_bytes self.now.entries }
+        ensures bound { result ≤ 67108864 }
+    {
+        self.bytes
+    }
+}
+
+/// The message bytes of a message; where there are more than a u64 holds, its last value.
+fn counted_bytes(message: &Message) -> u64
+    ensures { result ≡ min (counted_bytes message.now) (2 ^ 64 - 1) }
+{
+    match message {
+        Message::Payload { body, .. } => body.len() as u64,
+        Message::Items { items, .. } => (items.len() as u64).saturating_mul(20),
+    }
+}
+
+/// The message bytes of an entry; where there are more than a u64 holds, its last value.
+fn entry_bytes(entry: &Entry) -> u64
+    ensures { result ≡ min (entry_bytes entry.now) (2 ^ 64 - 1) }
+{
+    match entry {
+        Entry::Accepted { message, .. } => counted_bytes(message),
+        Entry::Delivered { message, .. } => counted_bytes(message),
+        _ => 0,
+    }
+}

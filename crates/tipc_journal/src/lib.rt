@@ -1,0 +1,19 @@
+//! The journal of a node: what happened to it in one boot, in order, and the lists that a journal
+//! is read for: messages accepted for a peer and delivered from it, and the publications that are there.
+#![tactic(auto)]
+
+mod entries;
+mod folds;
+mod keeping;
+mod laws;
+
+pub use entries::{Arrivals, Entry, PortList};
+pub use keeping::{Journal, JournalFault, MOST_ENTRIES, MOST_MESSAGE_BYTES};
+pub use laws::{
+    accepted_follows, bytes_add_up, contact_follows, delivered_follows, learned_follows,
+    links_follow, live_follows, queues_follow, steps_follow, subscriptions_follow,
+    transitions_follow,
+};
+
+#[cfg(test)]
+mod tests;
