@@ -5,3 +5,4 @@ pub mod Cases
 pub mod Takes
 pub mod Again
 pub mod RoundTrip
+pub mod FrameWords

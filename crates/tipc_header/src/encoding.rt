@@ -89,7 +89,7 @@ fn third_word(packet: &Packet<'_>) -> u32
 }
 
 /// Appends these bytes, for which there is room.
-fn put_bytes(into: &mut Vec<u8>, bytes: &[u8])
+pub(crate) fn put_bytes(into: &mut Vec<u8>, bytes: &[u8])
     requires { vec_len into.old + length bytes.now ≤ vec_capacity into.old }
     ensures items { into.new.items ≡ into.old.items ++ bytes.now }
     ensures len { vec_len into.new ≡ vec_len into.old + length bytes.now }
@@ -113,7 +113,7 @@ fn put_word(into: &mut Vec<u8>, number: u32)
 }
 
 /// Appends these words, for which there is room.
-fn put_words(into: &mut Vec<u8>, numbers: &[u32])
+pub(crate) fn put_words(into: &mut Vec<u8>, numbers: &[u32])
     requires { vec_len into.old + 4 * length numbers.now ≤ vec_capacity into.old }
     ensures items { into.new.items ≡ into.old.items ++ words numbers.now }
     ensures len { vec_len into.new ≡ vec_len into.old + 4 * length numbers.now }
@@ -125,7 +125,7 @@ fn put_words(into: &mut Vec<u8>, numbers: &[u32])
 }
 
 /// Appends a number of 64 bits.
-fn put_long(into: &mut Vec<u8>, number: u64)
+pub(crate) fn put_long(into: &mut Vec<u8>, number: u64)
     requires { vec_len into.old + 8 ≤ vec_capacity into.old }
     ensures items { into.new.items ≡ into.old.items ++ words (two_words number) }
     ensures len { vec_len into.new ≡ vec_len into.old + 8 }

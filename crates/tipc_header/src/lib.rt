@@ -5,6 +5,7 @@ mod bits;
 mod decoding;
 mod encoding;
 mod fault;
+mod frames;
 mod laws;
 mod packet;
 mod reading;
@@ -13,6 +14,7 @@ mod reserved;
 pub use decoding::{decode, message_size};
 pub use encoding::encode;
 pub use fault::HeaderFault;
+pub use frames::{Frame, MOST_FRAME_BYTES, encode_frame, open_frame, stamp_frame};
 pub use laws::{
     length_of_spelling, one_packet_a_spelling, size_field_of_spelling, spellings_are_read_again,
     word_2_stands_alone,

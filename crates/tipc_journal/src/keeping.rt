@@ -1,4 +1,4 @@
-ghost use Rattle.std.specs.Prelude.{◌≡◌, ◌==◌, ◌+◌, ◌-◌, ◌^◌, ◌<◌, ◌≤◌, ◌↔◌, [], length, min, IsOk, OnErr, OnOk};
+ghost use Rattle.std.specs.Prelude.{◌≡◌, ◌==◌, ◌+◌, ◌-◌, ◌^◌, ◌<◌, ◌≤◌, ◌↔◌, [], length, min, IsOk, OnErr, OnOk, IsTrue};
 ghost use Rattle.tipc_journal.specs.Room.{JournalState, appended, reserved, counted_bytes, entry_bytes, message_bytes, HasRoom, HasNoRoom};
 
 use crate::entries::Entry;
@@ -90,6 +90,14 @@ impl Journal {
         self.promised = self.promised.saturating_sub(1);
         self.bytes += size;
         Ok(())
+    }
+
+    /// Whether an append of this entry would not answer Full.
+    pub fn has_room(&self, entry: &Entry) -> bool
+        ensures { IsTrue result ↔ HasRoom self.now.entries entry.now }
+    {
+        (self.stored.len() as u64) < MOST_ENTRIES
+            && entry_bytes(entry) <= MOST_MESSAGE_BYTES - self.bytes
     }
 
     /// Adds an entry at the end, where there is room for it and one of the places that were reserved:

@@ -71,6 +71,13 @@ impl Outbox {
         self.lost
     }
 
+    /// Gives the frames away, in order.
+    pub fn into_frames(self) -> Vec<Outgoing>
+        ensures { result.items ≡ self.frames }
+    {
+        self.frames
+    }
+
     /// The frames, in order.
     pub fn frames(&self) -> &[Outgoing]
         ensures { result.now ≡ self.now.frames }

@@ -123,6 +123,7 @@ impl SendWindow {
     pub fn unacked(&self) -> &[Kept]
         ensures kept { result.now ≡ kept_of self.now }
         ensures within { length result.now ≤ 50 }
+        ensures count { length result.now ≡ length self.now.unacked }
     {
         &self.stored[self.released..]
     }
@@ -132,6 +133,17 @@ impl SendWindow {
         ensures { result ≡ length self.now.waiting }
     {
         self.waiting.len() as u32
+    }
+
+    /// The first packet that waits: None exactly where none does.
+    pub fn first(&self) -> Option<&[u8]>
+        ensures some { IfSome result (λ packet. slice_get self.now.waiting 0 ≡ Some packet.now) }
+        ensures none { IfNone result (self.now.waiting ≡ []) }
+    {
+        match self.waiting.front() {
+            Some(first) => Some(first.as_slice()),
+            None => None,
+        }
     }
 
     /// The last packet that waits: None exactly where none does.
@@ -146,7 +158,7 @@ impl SendWindow {
     }
 
     /// How many packets are unacknowledged.
-    fn in_flight(&self) -> usize
+    pub fn in_flight(&self) -> usize
         ensures { result ≡ length self.now.unacked }
     {
         self.stored.len() - self.released

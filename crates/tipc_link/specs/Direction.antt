@@ -1,0 +1,65 @@
+-- One direction of a link in one session: its sending end, its receiving end, everything that was put into it and
+-- everything that was taken from it; and a frame of that direction, at any time after it was sent.
+use Rattle.std.specs.Prelude.{◌≡◌, ℕ, ◌+◌, ◌-◌, ◌<◌, ◌≤◌, List, ◌++◌, Some, length, take, drop, slice_get}
+use Rattle.tipc_types.specs.Position.{number_of}
+use Rattle.tipc_send_window.specs.Sending.{Sending, acked_of}
+use Rattle.tipc_link.specs.End.{LinkEnd, Content, Carries, Shows}
+
+-- what the sender s has, how many packets the receiver took, the packets that were put and those that were taken
+pub record IsDirection (s : Sending) (taken : ℕ) (put took : List (List ℕ)) : Type 0 where
+  pub window : length s.unacked ≤ 50
+  pub below : length s.unacked ≤ s.numbered
+  pub count : length put ≡ s.numbered + length s.waiting
+  pub kept : drop (acked_of s) put ≡ s.unacked ++ s.waiting
+  pub got : took ≡ take taken put
+  pub acked_taken : acked_of s ≤ taken
+  pub taken_numbered : taken ≤ s.numbered
+
+-- what a frame brings, and how many packets each end had numbered when it was sent
+pub record Flight : Type 0 where
+  pub acknowledgement : ℕ
+  pub content : Content
+  pub numbered : ℕ
+  pub peer_numbered : ℕ
+
+-- the frame of the packet at a position, and of a STATE, by an end that has taken and numbered so many packets
+abbrev pub packet_flight : ℕ → ℕ → ℕ → ℕ → List ℕ → Flight
+packet_flight taken numbered peer_numbered position packet =
+    record { acknowledgement = number_of taken; content = Carries (number_of position) packet; numbered = numbered; peer_numbered = peer_numbered }
+
+abbrev pub state_flight : ℕ → ℕ → ℕ → Flight
+state_flight taken numbered peer_numbered =
+    record { acknowledgement = number_of taken; content = Shows (number_of (numbered + 1)); numbered = numbered; peer_numbered = peer_numbered }
+
+-- neither end has numbered more than 30,000 packets since the frame was sent
+pub record IsFresh (numbered peer_numbered : ℕ) (f : Flight) : Type 0 where
+  pub own : numbered ≤ f.numbered + 30000
+  pub peer : peer_numbered ≤ f.peer_numbered + 30000
+
+-- the packet under this number was put, and it was among the last 50 that were numbered when the frame was sent
+pub record IsCarried (put : List (List ℕ)) (numbered number : ℕ) (packet : List ℕ) : Type 0 where
+  pub position : ℕ
+  pub positive : 1 ≤ position
+  pub number_is : number ≡ number_of position
+  pub recent : numbered < position + 50
+  pub sent : position ≤ numbered
+  pub packet_is : slice_get put (position - 1) ≡ Some packet
+
+-- a frame whose sender has numbered and taken so many packets, and whose receiver has numbered so many: what it
+-- acknowledges was taken by its sender, and what it carries was put
+pub record IsFlight (numbered taken peer_numbered : ℕ) (put : List (List ℕ)) (f : Flight) : Type 0 where
+  pub told : ℕ
+  pub told_is : f.acknowledgement ≡ number_of told
+  pub told_taken : told ≤ taken
+  pub told_recent : f.peer_numbered ≤ told + 50
+  pub so_far : f.numbered ≤ numbered
+  pub peer_so_far : f.peer_numbered ≤ peer_numbered
+  pub carried : (number : ℕ) (packet : List ℕ) → f.content ≡ Carries number packet → IsCarried put f.numbered number packet
+
+-- the direction from one end to the other
+abbrev pub Joins : LinkEnd → LinkEnd → List (List ℕ) → List (List ℕ) → Type 0
+Joins sender receiver put took = IsDirection sender.sending receiver.taken put took
+
+-- a frame that the first end sent to the second
+abbrev pub Flies : LinkEnd → LinkEnd → List (List ℕ) → Flight → Type 0
+Flies sender receiver put f = IsFlight sender.sending.numbered sender.taken receiver.sending.numbered put f

@@ -1,0 +1,94 @@
+-- The packet that carries a message, and the message that a packet carries.
+use Rattle.std.specs.Prelude.{◌≡◌, ◌≤◌, ◌==◌, ℕ, Bool, true, false, List, [], ◌∷◌, ◌++◌, Option, Some, None, length, if◌then◌else◌}
+use Rattle.std.specs.List.{flat_map}
+use Rattle.tipc_types.specs.declared.identity.PortId.{PortId}
+use Rattle.tipc_types.specs.declared.message_forms.Form.{Form}
+use Rattle.tipc_types.specs.declared.message_forms.Form.TheVariants as form
+use Rattle.tipc_types.specs.declared.message_forms.Importance.{Importance}
+use Rattle.tipc_types.specs.declared.message_forms.Importance.TheVariants.{Low, Medium, High, Critical}
+use Rattle.tipc_types.specs.declared.message_forms.Message.{Message}
+use Rattle.tipc_types.specs.declared.message_forms.Message.TheVariants as message
+use Rattle.tipc_header.specs.declared.packet.Addressing.{Addressing}
+use Rattle.tipc_header.specs.declared.packet.Addressing.TheVariants.{Connected, Multicast, Named, Direct}
+use Rattle.tipc_header.specs.declared.packet.Payload.{Payload}
+use Rattle.tipc_header.specs.declared.packet.Header.{Header}
+use Rattle.tipc_header.specs.declared.packet.Header.TheVariants as header
+use Rattle.tipc_header.specs.Spelling.{Fields, spelling}
+
+-- the number of an importance, which is also the user
+abbrev pub importance_number : Importance → ℕ
+importance_number Low = 0
+importance_number Medium = 1
+importance_number High = 2
+importance_number Critical = 3
+
+abbrev pub importance_of : ℕ → Importance
+importance_of n = if n == 0 then Low else (if n == 1 then Medium else (if n == 2 then High else Critical))
+
+-- a named and a multicast message is looked up in the cluster
+abbrev pub lookup_scope_of : Form → ℕ
+lookup_scope_of form.Named = 2
+lookup_scope_of form.Multicast = 2
+lookup_scope_of form.Connected = 0
+lookup_scope_of form.Direct = 0
+
+abbrev pub addressing_of : Form → ℕ → ℕ → ℕ → ℕ → ℕ → Addressing
+addressing_of form.Connected origin destination kind lower upper = Connected
+addressing_of form.Multicast origin destination kind lower upper = Multicast origin destination kind lower upper
+addressing_of form.Named origin destination kind lower upper = Named origin destination kind lower
+addressing_of form.Direct origin destination kind lower upper = Direct origin destination
+
+-- the header of a user's message
+abbrev pub payload_of : Importance → Form → PortId → PortId → ℕ → ℕ → ℕ → ℕ → Bool → Payload
+payload_of importance form from to kind lower upper code droppable = record {
+  importance = importance_number importance;
+  destination_droppable = droppable;
+  source_droppable = false;
+  error_code = code;
+  reroute_count = 0;
+  lookup_scope = lookup_scope_of form;
+  broadcast_acknowledgement = 0;
+  origin_port = from.port;
+  destination_port = to.port;
+  addressing = addressing_of form from.node.word to.node.word kind lower upper;
+}
+
+-- the packet of a user's message, as it waits to be sent
+abbrev pub payload_packet : Payload → List ℕ → Fields
+payload_packet p body = record { acknowledgement = 0; sequence = 0; previous = 0; header = header.Payload p; rest = body }
+
+-- the packet of a message as it waits to be sent, where the message is a user's
+unfoldable pub packet_of : Message → Option Fields
+packet_of (message.Payload importance form from to kind lower upper code droppable body) =
+    Some (payload_packet (payload_of importance form from to kind lower upper code droppable) body)
+packet_of (message.Items withdrawal items) = None
+
+abbrev pub port_at : ℕ → ℕ → PortId
+port_at node port = record { node = record { word = node }; port = port }
+
+abbrev pub message_by : Payload → Addressing → List ℕ → Message
+message_by p Connected body = message.Payload (importance_of p.importance) form.Connected (port_at 0 p.origin_port) (port_at 0 p.destination_port) 0 0 0 p.error_code p.destination_droppable body
+message_by p (Multicast origin destination kind lower upper) body = message.Payload (importance_of p.importance) form.Multicast (port_at origin p.origin_port) (port_at destination p.destination_port) kind lower upper p.error_code p.destination_droppable body
+message_by p (Named origin destination kind instance) body = message.Payload (importance_of p.importance) form.Named (port_at origin p.origin_port) (port_at destination p.destination_port) kind instance instance p.error_code p.destination_droppable body
+message_by p (Direct origin destination) body = message.Payload (importance_of p.importance) form.Direct (port_at origin p.origin_port) (port_at destination p.destination_port) 0 0 0 p.error_code p.destination_droppable body
+
+abbrev pub message_with : Header → List ℕ → Option Message
+message_with (header.Payload p) rest = Some (message_by p p.addressing rest)
+message_with _ rest = None
+
+-- the message of a packet, where it carries a user's message
+unfoldable pub message_of : Fields → Option Message
+message_of p = message_with p.header p.rest
+
+-- the fields that a form lacks are 0, and a named message has the bounds of one instance
+abbrev pub HasFormFields : Form → PortId → PortId → ℕ → ℕ → ℕ → Type 0
+HasFormFields form.Connected from to kind lower upper = (from.node.word ≡ 0) × (to.node.word ≡ 0) × (kind ≡ 0) × (lower ≡ 0) × (upper ≡ 0)
+HasFormFields form.Multicast from to kind lower upper = Unit {0}
+HasFormFields form.Named from to kind lower upper = upper ≡ lower
+HasFormFields form.Direct from to kind lower upper = (kind ≡ 0) × (lower ≡ 0) × (upper ≡ 0)
+
+-- a user's message that a packet can carry
+abbrev pub IsPayload : Message → Type 0
+IsPayload (message.Payload importance form from to kind lower upper code droppable body) =
+    HasFormFields form from to kind lower upper × (code ≤ 5) × (length body ≤ 66000)
+IsPayload (message.Items withdrawal items) = ⊥

@@ -1,0 +1,217 @@
+ghost use Rattle.std.specs.Prelude.{◌≡◌, ◌≤◌, ◌<◌, ◌^◌, ℕ, Some, length, IfOk, option_map};
+ghost use Rattle.tipc_header.specs.Grammar.{Fits, AddressingFits, PayloadFits};
+ghost use Rattle.tipc_header.specs.Spelling.{Fields, spelling, view};
+ghost use Rattle.tipc_message.specs.Wire.{addressing_of, importance_number, importance_of, lookup_scope_of, message_by, message_of, packet_of, payload_of, payload_packet, port_at, IsPayload};
+
+use std::alloc::Global;
+use tipc_header::{Addressing, Header, Packet, Payload, encode};
+use tipc_types::{Addr, Bytes, Form, Importance, Message, NoMemory, PortId};
+
+/// The number of an importance, which is also the user of its packets.
+fn importance_number(importance: Importance) -> u8
+    ensures value { result ≡ importance_number importance }
+    ensures within { result ≤ 3 }
+{
+    match importance {
+        Importance::Low => 0,
+        Importance::Medium => 1,
+        Importance::High => 2,
+        Importance::Critical => 3,
+    }
+}
+
+fn importance_of(number: u8) -> Importance
+    ensures { result ≡ importance_of number }
+{
+    match number {
+        0 => Importance::Low,
+        1 => Importance::Medium,
+        2 => Importance::High,
+        _ => Importance::Critical,
+    }
+}
+
+/// How far the name of a message is looked up: in the cluster.
+fn lookup_scope(form: Form) -> u8
+    ensures value { result ≡ lookup_scope_of form }
+    ensures within { result < 4 }
+{
+    match form {
+        Form::Named | Form::Multicast => 2,
+        Form::Connected | Form::Direct => 0,
+    }
+}
+
+fn addressing(
+    form: Form,
+    origin: u32,
+    destination: u32,
+    kind: u32,
+    lower: u32,
+    upper: u32,
+) -> Addressing
+    ensures value { result ≡ addressing_of form origin destination kind lower upper }
+    ensures fits { AddressingFits result }
+{
+    match form {
+        Form::Connected => Addressing::Connected,
+        Form::Multicast => Addressing::Multicast {
+            origin_node: origin,
+            destination_node: destination,
+            name_type: kind,
+            lower,
+            upper,
+        },
+        Form::Named => Addressing::Named {
+            origin_node: origin,
+            destination_node: destination,
+            name_type: kind,
+            instance: lower,
+        },
+        Form::Direct => Addressing::Direct {
+            origin_node: origin,
+            destination_node: destination,
+        },
+    }
+}
+
+/// A port's number at its node.
+fn port_number(at: &PortId) -> u32
+    ensures value { result ≡ at.now.port }
+    ensures within { result < 2 ^ 32 }
+{
+    at.port
+}
+
+/// The bytes of a user's message as they wait to be sent, words 2 and 3 zero.
+#[tactic(auto, unfolding(crate::specs::Wire::packet_of))]
+pub fn packet_bytes(alloc: Global, message: &Message) -> Result<Bytes, NoMemory>
+    requires { IsPayload message.now }
+    ensures spelled { IfOk result (λ bytes. (p : Fields) × (packet_of message.now ≡ Some p) × Fits p × (bytes ≡ spelling p)) }
+    ensures long { IfOk result (λ bytes. 24 ≤ length bytes) }
+{
+    let Message::Payload {
+        importance,
+        form,
+        from,
+        to,
+        name_kind,
+        lower,
+        upper,
+        code,
+        droppable,
+        body,
+    } = message
+    else {
+        unreachable!()
+    };
+    let header = Payload {
+        importance: importance_number(*importance),
+        destination_droppable: *droppable,
+        source_droppable: false,
+        error_code: *code,
+        reroute_count: 0,
+        lookup_scope: lookup_scope(*form),
+        broadcast_acknowledgement: 0,
+        origin_port: port_number(from),
+        destination_port: port_number(to),
+        addressing: addressing(
+            *form,
+            from.node.word,
+            to.node.word,
+            *name_kind,
+            *lower,
+            *upper,
+        ),
+    };
+    spelled(alloc, header, body.as_slice())
+}
+
+/// The bytes of the packet with this header and body.
+fn spelled(alloc: Global, header: Payload, body: &[u8]) -> Result<Bytes, NoMemory>
+    requires header { PayloadFits header }
+    requires body { length body.now ≤ 66000 }
+    ensures spelled { IfOk result (λ bytes. Fits (payload_packet header body.now) × (bytes ≡ spelling (payload_packet header body.now))) }
+    ensures long { IfOk result (λ bytes. 24 ≤ length bytes) }
+{
+    let packet = Packet {
+        acknowledgement: 0,
+        sequence: 0,
+        previous: 0,
+        header: Header::Payload(header),
+        rest: body,
+    };
+    let mut bytes = Vec::new(alloc);
+    encode(&packet, &mut bytes)?;
+    Ok(Bytes::from_vec(bytes))
+}
+
+fn port_at(node: u32, port: u32) -> PortId
+    ensures { result ≡ port_at node port }
+{
+    PortId {
+        node: Addr { word: node },
+        port,
+    }
+}
+
+/// The message that a packet carries: None exactly where it is no user's message.
+#[tactic(auto, unfolding(crate::specs::Wire::message_of))]
+pub fn message_from(alloc: Global, packet: &Packet<'_>) -> Result<Option<Message>, NoMemory>
+    ensures { IfOk result (λ m. m ≡ message_of (view packet.now)) }
+{
+    let Header::Payload(payload) = packet.header else {
+        return Ok(None);
+    };
+    let body = Bytes::from_slice(alloc, packet.rest)?;
+    let (form, origin, destination, name_kind, lower, upper) = match payload.addressing {
+        Addressing::Connected => (Form::Connected, 0, 0, 0, 0, 0),
+        Addressing::Multicast {
+            origin_node,
+            destination_node,
+            name_type,
+            lower,
+            upper,
+        } => {
+            (
+                Form::Multicast,
+                origin_node,
+                destination_node,
+                name_type,
+                lower,
+                upper,
+            )
+        }
+        Addressing::Named {
+            origin_node,
+            destination_node,
+            name_type,
+            instance,
+        } => {
+            (
+                Form::Named,
+                origin_node,
+                destination_node,
+                name_type,
+                instance,
+                instance,
+            )
+        }
+        Addressing::Direct {
+            origin_node,
+            destination_node,
+        } => { (Form::Direct, origin_node, destination_node, 0, 0, 0) }
+    };
+    Ok(Some(Message::Payload {
+        importance: importance_of(payload.importance),
+        form,
+        from: port_at(origin, payload.origin_port),
+        to: port_at(destination, payload.destination_port),
+        name_kind,
+        lower,
+        upper,
+        code: payload.error_code,
+        droppable: payload.destination_droppable,
+        body,
+    }))
+}
