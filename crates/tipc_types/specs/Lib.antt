@@ -1,3 +1,4 @@
 pub mod Address
+pub mod Position
 pub mod Span
 pub mod Watching

@@ -8,6 +8,7 @@ mod memory;
 mod message_forms;
 mod node_calls;
 mod packet_lists;
+mod positions;
 mod sequences;
 mod services;
 
@@ -17,5 +18,6 @@ pub use memory::NoMemory;
 pub use message_forms::{Flow, Form, Importance, Item, ItemList, Message, MessageList};
 pub use node_calls::{Answer, Arrival, By, Event, EventNote, Subscription};
 pub use packet_lists::{Kept, KeptList, Taken, TakenList};
+pub use positions::{number_distance, sequence_number};
 pub use sequences::{Bytes, Inner, Pieces, Sequence};
 pub use services::{BadRange, List, Publication, Scope, ServiceRange};

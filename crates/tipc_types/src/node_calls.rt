@@ -1,6 +1,6 @@
 use crate::identity::PortId;
 use crate::link_words::Why;
-use crate::message_forms::Importance;
+use crate::message_forms::{Importance, Message};
 use crate::sequences::Bytes;
 use crate::services::{Scope, ServiceRange};
 
@@ -179,7 +179,9 @@ pub enum Answer {
     SentTo(PortId),
     /// A message was sent.
     Sent,
-    /// A message was taken from the inbox.
+    /// A message was taken from the inbox: this one.
+    Received(Message),
+    /// A message was taken from the inbox; a journal keeps no more of it.
     Got,
     /// The inbox is empty.
     Empty,
@@ -195,6 +197,19 @@ pub enum Answer {
     TooOld(u64),
     /// There is no such frame for that node.
     NoFrame,
+    /// Both link ends are up.
+    Up,
+    /// A link end is down or isn't there.
+    Down,
+    /// How many messages of one contact were accepted at one node and delivered at the other.
+    Flow {
+        /// The messages that were accepted.
+        accepted: u64,
+        /// The messages that were delivered.
+        delivered: u64,
+    },
+    /// The two nodes aren't in contact.
+    NoContact,
     /// There is no such socket.
     NoSocket,
     /// The body has this length, which is over 66,000.

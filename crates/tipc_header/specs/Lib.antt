@@ -1,0 +1,5 @@
+pub mod Users
+pub mod Spelling
+pub mod Grammar
+pub mod Reading
+pub mod Faults

@@ -1,0 +1,26 @@
+//! The packets of a TIPC bearer as bytes.
+#![tactic(auto)]
+
+mod bits;
+mod decoding;
+mod encoding;
+mod fault;
+mod laws;
+mod packet;
+mod reading;
+mod reserved;
+
+pub use decoding::{decode, message_size};
+pub use encoding::encode;
+pub use fault::HeaderFault;
+pub use laws::{
+    length_of_spelling, one_packet_a_spelling, size_field_of_spelling, spellings_are_read_again,
+    word_2_stands_alone,
+};
+pub use packet::{
+    Addressing, Bundle, Changeover, ChangeoverType, Discovery, DiscoveryType, DistributionType,
+    Fragment, FragmentType, Header, NameDistribution, Packet, Payload, Reset, State,
+};
+
+#[cfg(test)]
+mod tests;

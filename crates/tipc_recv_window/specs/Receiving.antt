@@ -1,0 +1,65 @@
+use Rattle.std.specs.Prelude.{◌≡◌, ℕ, ◌+◌, ◌-◌, ◌≤◌, ◌^◌, ◌&&◌, ◌==◌, Bool, not, List, [], ◌++◌, length, drop, replicate, slice_index_or, slice_set, Option, Some, None, is_some, count_by, position, unwrap_or, nat_lt, if◌then◌else◌}
+use Rattle.tipc_types.specs.Position.{distance_of, number_of}
+use Rattle.tipc_types.specs.declared.packet_lists.Taken.{Taken}
+use Rattle.tipc_recv_window.specs.declared.outcomes.Place.{Place}
+use Rattle.tipc_recv_window.specs.declared.outcomes.Place.TheVariants.{InOrder, Deferred, Old}
+
+-- The receiving side of one direction of a link: the position of the packet that is wanted, and what is held of it
+-- and of the packets behind it. What stands at place d is the packet d behind the wanted one.
+pub record Receiving : Type 0 where
+  pub wanted : ℕ
+  pub held : List (Option Taken)
+
+-- nothing is held yet
+abbrev pub fresh : ℕ → Receiving
+fresh wanted = record { wanted = wanted; held = [] }
+
+-- the packet held at a distance from the wanted one
+abbrev pub held_at : Receiving → ℕ → Option Taken
+held_at r d = slice_index_or r.held d None
+
+-- what is true of every receive window: a packet is held at the distance that its number tells
+pub record IsReceiving (r : Receiving) : Type 0 where
+  pub window : length r.held ≤ 50
+  pub counted : r.wanted + length r.held ≤ 2 ^ 62
+  pub numbers : (d : ℕ) (packet : Taken) → held_at r d ≡ Some packet → packet.number ≡ number_of (r.wanted + d)
+
+-- whether a packet at a distance is to be held: the wanted one and the next 49 are, unless they are held already
+abbrev pub is_new : Receiving → ℕ → Bool
+is_new r d = nat_lt d 50 && not (is_some (held_at r d))
+
+-- the receiving rule
+abbrev pub place_at : Receiving → ℕ → Place
+place_at r d = if is_new r d then (if d == 0 then InOrder else Deferred) else Old
+
+-- the list with a place filled; places that it didn't have are made empty
+abbrev pub filled : List (Option Taken) → ℕ → Taken → List (Option Taken)
+filled held d packet = slice_set (held ++ replicate (d + 1 - length held) None) d (Some packet)
+
+-- after a packet at a distance: it is held, unless it is old
+abbrev pub arrived_at : Receiving → ℕ → Taken → Receiving
+arrived_at r d packet = if is_new r d then record { wanted = r.wanted; held = filled r.held d packet } else r
+
+-- how far a number lies past the wanted one
+abbrev pub past_wanted : Receiving → ℕ → ℕ
+past_wanted r number = distance_of (number_of r.wanted) number
+
+-- the wanted packet, if it is held
+abbrev pub next_of : Receiving → Option Taken
+next_of r = held_at r 0
+
+-- after the wanted packet was taken: the next one is wanted
+abbrev pub advanced : Receiving → Receiving
+advanced r = record { wanted = r.wanted + 1; held = drop 1 r.held }
+
+-- the wanted packet is taken, if it is held
+abbrev pub after_take : Receiving → Receiving
+after_take r = if is_some (next_of r) then advanced r else r
+
+-- how many packets are held behind the wanted one
+abbrev pub deferred_count : Receiving → ℕ
+deferred_count r = count_by (λ packet. is_some packet) (drop 1 r.held)
+
+-- the distance from the wanted packet to the first that is held, and 0 where none is
+abbrev pub gap_of : Receiving → ℕ
+gap_of r = unwrap_or (position (λ packet. is_some packet) r.held) 0

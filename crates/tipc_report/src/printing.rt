@@ -1,0 +1,103 @@
+ghost use Rattle.std.specs.Prelude.{◌≡◌, ◌++◌, OnOk, OnErr, IfOk};
+ghost use Rattle.tipc_report.specs.Closing.{bad_text, limit_text, why_word};
+ghost use Rattle.tipc_report.specs.Text.{line_of, answer_line, nothing_line, bad_line, limit_line};
+
+use crate::answers::answer_text;
+use crate::limits::Which;
+use std::alloc::Global;
+use tipc_script::LineWhy;
+use tipc_types::{Answer, NoMemory};
+
+/// Appends a line with this text, or nothing.
+fn print_text(line: u32, text: &[u8], into: &mut Vec<u8>) -> Result<(), NoMemory>
+    ensures ok { OnOk result (into.new.items ≡ into.old.items ++ line_of line text.now) }
+    ensures err { OnErr result (into.new.items ≡ into.old.items) }
+{
+    let alloc = *into.allocator();
+    let mut whole = format!(in alloc; "{line} ")?.into_bytes();
+    whole.extend_from_slice(text)?;
+    whole.push(b'\n')?;
+    into.extend_from_slice(whole.as_slice())?;
+    Ok(())
+}
+
+/// How the reason of a refused line is written.
+fn why_word(why: LineWhy) -> &'static str
+    ensures { result.now ≡ why_word why }
+{
+    match why {
+        LineWhy::Command => "command",
+        LineWhy::Number => "number",
+        LineWhy::Word => "word",
+        LineWhy::Body => "body",
+        LineWhy::End => "end",
+        LineWhy::Node => "node",
+    }
+}
+
+/// What is written of a line that is refused.
+fn bad_text(alloc: Global, place: u32, why: LineWhy) -> Result<Vec<u8>, NoMemory>
+    ensures { IfOk result (λ text. text.items ≡ bad_text place why) }
+{
+    let word = why_word(why);
+    Ok(format!(in alloc; "bad {place} {word}")?.into_bytes())
+}
+
+/// What is written where a limit is reached.
+fn limit_text(alloc: Global, which: Which) -> Result<Vec<u8>, NoMemory>
+    ensures { IfOk result (λ text. text.items ≡ limit_text which) }
+{
+    let word = which.word();
+    let number = which.number();
+    Ok(format!(in alloc; "limit {word} {number}")?.into_bytes())
+}
+
+/// Appends the line of an answer: the number of the script's line, a space, the answer's text and a
+/// newline. (This project's profile.) Where memory runs out, nothing is appended.
+///
+/// No line of a script is answered `Got`, `BadFilter` or with received items; they have texts so that
+/// nothing is asked of the caller.
+#[tactic(auto, unfolding(crate::specs::Text::answer_line))]
+pub fn print(line: u32, answer: &Answer, into: &mut Vec<u8>) -> Result<(), NoMemory>
+    ensures ok { OnOk result (into.new.items ≡ into.old.items ++ answer_line line answer.now) }
+    ensures err { OnErr result (into.new.items ≡ into.old.items) }
+{
+    let alloc = *into.allocator();
+    let text = answer_text(alloc, answer)?;
+    print_text(line, text.as_slice(), into)
+}
+
+/// Appends the line of a script's line that asks for nothing: its number, a space, `-` and a newline.
+/// Where memory runs out, nothing is appended.
+#[tactic(auto, unfolding(crate::specs::Text::nothing_line))]
+pub fn print_nothing(line: u32, into: &mut Vec<u8>) -> Result<(), NoMemory>
+    ensures ok { OnOk result (into.new.items ≡ into.old.items ++ nothing_line line) }
+    ensures err { OnErr result (into.new.items ≡ into.old.items) }
+{
+    print_text(line, b"-", into)
+}
+
+/// Appends the line that ends a report where the script's line is refused: its number, ` bad `, the byte
+/// place from 1, a space, the reason and a newline. Where memory runs out, nothing is appended.
+#[tactic(auto, unfolding(crate::specs::Text::bad_line))]
+pub fn print_bad(line: u32, place: u32, why: LineWhy, into: &mut Vec<u8>) -> Result<(), NoMemory>
+    ensures ok { OnOk result (into.new.items ≡ into.old.items ++ bad_line line place why) }
+    ensures err { OnErr result (into.new.items ≡ into.old.items) }
+{
+    let alloc = *into.allocator();
+    let text = bad_text(alloc, place, why)?;
+    print_text(line, text.as_slice(), into)
+}
+
+/// Appends the line that ends a report where a limit is reached: the number of the script's line (0 for
+/// the script as a whole), ` limit `, the limit, a space, how many there may be and a newline. Where
+/// memory runs out, nothing is appended.
+#[tactic(auto, unfolding(crate::specs::Text::limit_line))]
+pub fn print_limit(line: u32, which: Which, into: &mut Vec<u8>) -> Result<(), NoMemory>
+    ensures ok { OnOk result (into.new.items ≡ into.old.items ++ limit_line line which) }
+    ensures err { OnErr result (into.new.items ≡ into.old.items) }
+{
+    let alloc = *into.allocator();
+    let text = limit_text(alloc, which)?;
+    print_text(line, text.as_slice(), into)
+}

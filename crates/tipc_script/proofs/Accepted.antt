@@ -1,0 +1,142 @@
+-- A line of the grammar has no fault, and asks for what it is spelled from.
+use Rattle.std.proofs.Common.{◌≡◌, ℕ, ◌+◌, ◌-◌, ◌<◌, ◌≤◌, ◌^◌, Bool, true, false, not, ◌&&◌, cond, Option, Some, None, List, [], ◌∷◌, length, drop, refl, sym, ap, subst, ◌∙◌, arith, inl, inr, eqb}
+use Rattle.std.specs.Prelude.{codes}
+use Rattle.std.specs.List.{join_with_byte, list_all, All}
+use Rattle.std.specs.Str.{bytes_eq}
+use Rattle.std.specs.Fmt.{decimal}
+use Rattle.std.proofs.lemmas.Bool.{and_from, not_from_false, ne_eqb}
+use Rattle.tipc_types.specs.declared.identity.PortId.{PortId}
+use Rattle.tipc_types.specs.declared.message_forms.Importance.{Importance}
+use Rattle.tipc_types.specs.declared.message_forms.Importance.TheVariants.{Low}
+use Rattle.tipc_types.specs.Address.{node_word}
+use Rattle.tipc_script.specs.declared.lines.Line.{Line}
+use Rattle.tipc_script.specs.declared.lines.Line.TheVariants.{Nothing, Node, Link, Mark, Socket, Send, Arrive, Receive, Flow}
+use Rattle.tipc_script.specs.Splitting.{Left, whole, first_token, behind, tokens_of}
+use Rattle.tipc_script.specs.Kinds.{is_number, number_of, is_body, is_remark, is_visible}
+use Rattle.tipc_script.specs.Grammar.{Row, row_of, asked, node_row, link_row, mark_row, socket_row, send_row, arrive_row, receive_row, flow_row}
+use Rattle.tipc_script.specs.Spelling.{Asks, IsMessage, spaced, node_number, spelling_of}
+use Rattle.tipc_script.specs.Faults.{row_fault, fault_of, first_fault, end_fault}
+use Rattle.tipc_script.proofs.Numerals.{is_number-decimal, number_of-decimal}
+use Rattle.tipc_script.proofs.Bodies.{is_body-text, all_visible}
+use Rattle.tipc_script.proofs.Spaces.{has_no_space, tokens_of-spaced, no_space-decimal, no_space_visible}
+
+-- a text has no fault and asks for this
+pub record IsAccepted (text : List ℕ) (line : Line) : Type 0 where
+  pub fault : fault_of text ≡ None
+  pub asked : asked text ≡ line
+
+-- what is left behind a first word, where these tokens follow it
+abbrev left_behind : List ℕ → List ℕ → List (List ℕ) → Left
+left_behind text word tokens = record { tokens = tokens; place = 1 + length word + 1; end = length text + 1 }
+
+accepted : (text : List ℕ) (row : Row) (tokens : List (List ℕ)) → is_remark text ≡ false → tokens_of text ≡ row.word ∷ tokens → row_of row.word ≡ Some row
+    → row_fault row (left_behind text row.word tokens) ≡ None → IsAccepted text (row.asks (left_behind text row.word tokens))
+unfolding fault_of asked
+accepted text row tokens words cut found none =
+    record { fault = rw (words, cut, found) none; asked = rw (words, cut, found) refl }
+
+-- the same for a text that is these words
+spelled : (text : List ℕ) (row : Row) (tokens : List (List ℕ)) (line : Line) → text ≡ spaced (row.word ∷ tokens) → is_remark (spaced (row.word ∷ tokens)) ≡ false → list_all has_no_space (row.word ∷ tokens) ≡ true
+    → row_of row.word ≡ Some row → row_fault row (left_behind text row.word tokens) ≡ None → row.asks (left_behind text row.word tokens) ≡ line → IsAccepted text line
+spelled text row tokens line e words apart found none same =
+    subst (λ l. IsAccepted text l) same (accepted text row tokens (ap is_remark e ∙ words) (ap tokens_of e ∙ tokens_of-spaced row.word tokens apart) found none)
+
+node_accepted : (text : List ℕ) (n : ℕ) → Asks text (Node n) → IsAccepted text (Node n)
+unfolding row_of row_fault first_fault end_fault
+node_accepted text n h =
+    spelled text node_row (decimal n ∷ []) (Node n) h.1 refl (rw (no_space-decimal n (omega arith)) refl) refl
+    (rw (is_number-decimal 1 32 n h.0.0 h.0.1 (omega arith)) refl) (rw (number_of-decimal n (omega arith)) refl)
+
+link_accepted : (text : List ℕ) (a b x : ℕ) → Asks text (Link a b x) → IsAccepted text (Link a b x)
+unfolding row_of row_fault first_fault end_fault
+link_accepted text a b x h =
+    let first = h.0.0 in
+    let second = h.0.1 in
+    let bearer = h.0.2 in
+    spelled text link_row (decimal a ∷ decimal b ∷ decimal x ∷ []) (Link a b x) h.1 refl
+    (rw (no_space-decimal a (omega arith), no_space-decimal b (omega arith), no_space-decimal x (omega arith)) refl) refl
+    (rw (is_number-decimal 1 32 a first.0 first.1 (omega arith), is_number-decimal 1 32 b second.0 second.1 (omega arith), is_number-decimal 0 0 x (omega arith) (omega arith) (omega arith)) refl)
+    (rw (number_of-decimal a (omega arith), number_of-decimal b (omega arith), number_of-decimal x (omega arith)) refl)
+
+mark_accepted : (text : List ℕ) → Asks text Mark → IsAccepted text Mark
+unfolding row_of row_fault first_fault end_fault
+mark_accepted text h = spelled text mark_row [] Mark h refl refl refl refl refl
+
+socket_accepted : (text : List ℕ) (n : ℕ) → Asks text (Socket n) → IsAccepted text (Socket n)
+unfolding row_of row_fault first_fault end_fault
+socket_accepted text n h =
+    spelled text socket_row (decimal n ∷ []) (Socket n) h.1 refl (rw (no_space-decimal n (omega arith)) refl) refl
+    (rw (is_number-decimal 1 32 n h.0.0 h.0.1 (omega arith)) refl) (rw (number_of-decimal n (omega arith)) refl)
+
+-- a port is that of its node's number
+port_is : (to : PortId) (word : ℕ) → word ≡ to.node.word → (let same : PortId = record { node = record { word = word }; port = to.port } in same ≡ to)
+port_is to word e = ap (λ (w : ℕ). let same : PortId = record { node = record { word = w }; port = to.port } in same) e
+
+send_low : (text : List ℕ) (n p : ℕ) (to : PortId) (body : List ℕ) → IsMessage n p to Low body → text ≡ spelling_of (Send n p to Low body) → IsAccepted text (Send n p to Low body)
+unfolding row_of row_fault first_fault end_fault
+send_low text n p to body h e =
+    let m = node_number to in
+    let from = h.from_node in
+    let word = h.to_node in
+    let ne : m ≡ n → ⊥ = λ same. h.other (omega arith) in
+    let m-of = number_of-decimal m (omega arith) in
+    let n-of = number_of-decimal n (omega arith) in
+    let other : (is_number 1 32 (decimal m) && not (eqb (number_of (decimal m)) (number_of (decimal n)))) ≡ true =
+    and_from _ _ (is_number-decimal 1 32 m (omega arith) (omega arith) (omega arith)) (not_from_false _ (ne_eqb _ _ (λ same. ne (sym m-of ∙ same ∙ n-of)))) in
+    let text-is = is_body-text body h.some h.short h.visible in
+    spelled text send_row (decimal n ∷ decimal p ∷ codes "port" ∷ decimal m ∷ decimal to.port ∷ codes "low" ∷ (61 ∷ body) ∷ []) (Send n p to Low body) e refl
+    (rw (no_space-decimal n (omega arith), no_space-decimal p (omega (arith, h.from_port)), no_space-decimal m (omega arith), no_space-decimal to.port (omega (arith, h.to_port)), no_space_visible body ((all_visible body).1 h.visible)) refl) refl
+    (rw (is_number-decimal 1 32 n from.0 from.1 (omega arith), is_number-decimal 0 4294967295 p (omega arith) (omega arith) (omega arith), other, is_number-decimal 0 4294967295 to.port (omega arith) (omega arith) (omega arith), text-is) refl)
+    (rw (n-of, m-of, number_of-decimal p (omega arith), number_of-decimal to.port (omega arith)) (ap (λ t. Send n p t Low body) (port_is to (node_word m) (omega arith))))
+
+send_accepted : (text : List ℕ) (n p : ℕ) (to : PortId) (importance : Importance) (body : List ℕ) → Asks text (Send n p to importance body) → IsAccepted text (Send n p to importance body)
+send_accepted text n p to importance body h =
+    let low = h.0.low in
+    subst (λ i. IsAccepted text (Send n p to i body)) (sym low)
+    (send_low text n p to body (subst (λ i. IsMessage n p to i body) low h.0) (h.1 ∙ ap (λ i. spelling_of (Send n p to i body)) low))
+
+arrive_accepted : (text : List ℕ) (n x k : ℕ) → Asks text (Arrive n x k) → IsAccepted text (Arrive n x k)
+unfolding row_of row_fault first_fault end_fault
+arrive_accepted text n x k h =
+    let node = h.0.0 in
+    let bearer = h.0.1 in
+    let frame = h.0.2 in
+    spelled text arrive_row (decimal n ∷ decimal x ∷ decimal k ∷ []) (Arrive n x k) h.1 refl
+    (rw (no_space-decimal n (omega arith), no_space-decimal x (omega arith), no_space-decimal k (omega arith)) refl) refl
+    (rw (is_number-decimal 1 32 n node.0 node.1 (omega arith), is_number-decimal 0 0 x (omega arith) (omega arith) (omega arith), is_number-decimal 0 1000000 k (omega arith) frame (omega arith)) refl)
+    (rw (number_of-decimal n (omega arith), number_of-decimal x (omega arith), number_of-decimal k (omega arith)) refl)
+
+receive_accepted : (text : List ℕ) (n p : ℕ) → Asks text (Receive n p) → IsAccepted text (Receive n p)
+unfolding row_of row_fault first_fault end_fault
+receive_accepted text n p h =
+    let node = h.0.0 in
+    let port = h.0.1 in
+    spelled text receive_row (decimal n ∷ decimal p ∷ []) (Receive n p) h.1 refl
+    (rw (no_space-decimal n (omega arith), no_space-decimal p (omega arith)) refl) refl
+    (rw (is_number-decimal 1 32 n node.0 node.1 (omega arith), is_number-decimal 0 4294967295 p (omega arith) (omega arith) (omega arith)) refl)
+    (rw (number_of-decimal n (omega arith), number_of-decimal p (omega arith)) refl)
+
+flow_accepted : (text : List ℕ) (a b : ℕ) → Asks text (Flow a b) → IsAccepted text (Flow a b)
+unfolding row_of row_fault first_fault end_fault
+flow_accepted text a b h =
+    let from = h.0.0 in
+    let to = h.0.1 in
+    spelled text flow_row (decimal a ∷ decimal b ∷ []) (Flow a b) h.1 refl
+    (rw (no_space-decimal a (omega arith), no_space-decimal b (omega arith)) refl) refl
+    (rw (is_number-decimal 1 32 a from.0 from.1 (omega arith), is_number-decimal 1 32 b to.0 to.1 (omega arith)) refl)
+    (rw (number_of-decimal a (omega arith), number_of-decimal b (omega arith)) refl)
+
+nothing_accepted : (text : List ℕ) → is_remark text ≡ true → IsAccepted text Nothing
+unfolding fault_of asked
+nothing_accepted text remark = record { fault = rw remark refl; asked = rw remark refl }
+
+pub asks_accepted : (text : List ℕ) (line : Line) → Asks text line → IsAccepted text line
+asks_accepted text Nothing h = nothing_accepted text h
+asks_accepted text (Node n) h = node_accepted text n h
+asks_accepted text (Link a b x) h = link_accepted text a b x h
+asks_accepted text Mark h = mark_accepted text h
+asks_accepted text (Socket n) h = socket_accepted text n h
+asks_accepted text (Send n p to importance body) h = send_accepted text n p to importance body h
+asks_accepted text (Arrive n x k) h = arrive_accepted text n x k h
+asks_accepted text (Receive n p) h = receive_accepted text n p h
+asks_accepted text (Flow a b) h = flow_accepted text a b h

@@ -1,0 +1,108 @@
+-- The grammar of a line: a row for each form, with its first word, what the tokens behind that word have
+-- to be, and what the line asks for.
+use Rattle.std.specs.Prelude.{ℕ, ◌+◌, List, [], ◌∷◌, ◌++◌, Option, Some, None, codes, drop, true, false, if◌then◌else◌}
+use Rattle.std.specs.Str.{bytes_eq}
+use Rattle.tipc_types.specs.declared.identity.Addr.{Addr}
+use Rattle.tipc_types.specs.declared.identity.PortId.{PortId}
+use Rattle.tipc_types.specs.declared.message_forms.Importance.{Importance}
+use Rattle.tipc_types.specs.declared.message_forms.Importance.TheVariants.{Low}
+use Rattle.tipc_types.specs.Address.{node_word}
+use Rattle.tipc_script.specs.declared.lines.Line.{Line}
+use Rattle.tipc_script.specs.declared.lines.Line.TheVariants as line
+use Rattle.tipc_script.specs.declared.lines.NodeToken.{NodeToken}
+use Rattle.tipc_script.specs.Splitting.{Left, whole, first_token, behind}
+use Rattle.tipc_script.specs.Kinds.{Kind, NewNode, OldNode, OtherNode, BearerNumber, PortNumber, FrameNumber, FormWord, ImportanceWord, BodyText, number_of, is_remark}
+
+pub record Row : Type 0 where
+  pub word : List ℕ
+  pub kinds : List Kind
+  pub asks : Left → Line
+
+-- the number that the first token stands for
+abbrev pub first_number : Left → ℕ
+first_number left = number_of (first_token left)
+
+abbrev pub node_row : Row
+node_row = record { word = codes "node"; kinds = NewNode ∷ []; asks = λ node. line.Node (first_number node) }
+
+abbrev pub link_row : Row
+link_row = record {
+  word = codes "link";
+  kinds = OldNode ∷ OldNode ∷ BearerNumber ∷ [];
+  asks = λ first. let second = behind first in let bearer = behind second in line.Link (first_number first) (first_number second) (first_number bearer);
+}
+
+abbrev pub mark_row : Row
+mark_row = record { word = codes "mark"; kinds = []; asks = λ left. line.Mark }
+
+abbrev pub socket_row : Row
+socket_row = record { word = codes "socket"; kinds = OldNode ∷ []; asks = λ node. line.Socket (first_number node) }
+
+-- a port of a node
+abbrev pub port_at : ℕ → ℕ → PortId
+port_at node port = record { node = record { word = node_word node }; port = port }
+
+abbrev pub send_row : Row
+send_row = record {
+  word = codes "send";
+  kinds = OldNode ∷ PortNumber ∷ FormWord ∷ OtherNode ∷ PortNumber ∷ ImportanceWord ∷ BodyText ∷ [];
+  asks = λ node.
+      let port = behind node in let form = behind port in let to = behind form in let at = behind to in let importance = behind at in let body = behind importance in
+      line.Send (first_number node) (first_number port) (port_at (first_number to) (first_number at)) Low (drop 1 (first_token body));
+}
+
+abbrev pub arrive_row : Row
+arrive_row = record {
+  word = codes "arrive";
+  kinds = OldNode ∷ BearerNumber ∷ FrameNumber ∷ [];
+  asks = λ node. let bearer = behind node in let frame = behind bearer in line.Arrive (first_number node) (first_number bearer) (first_number frame);
+}
+
+abbrev pub receive_row : Row
+receive_row = record { word = codes "receive"; kinds = OldNode ∷ PortNumber ∷ []; asks = λ node. line.Receive (first_number node) (first_number (behind node)) }
+
+abbrev pub flow_row : Row
+flow_row = record { word = codes "flow"; kinds = OldNode ∷ OldNode ∷ []; asks = λ from. line.Flow (first_number from) (first_number (behind from)) }
+
+abbrev pub rows : List Row
+rows = node_row ∷ link_row ∷ mark_row ∷ socket_row ∷ send_row ∷ arrive_row ∷ receive_row ∷ flow_row ∷ []
+
+abbrev pub row_among : List Row → List ℕ → Option Row
+row_among [] word = None
+row_among (row ∷ rows) word = if bytes_eq word row.word then Some row else row_among rows word
+
+-- the row of a first word
+unfoldable pub row_of : List ℕ → Option Row
+row_of word = row_among rows word
+
+abbrev pub asked_by : Option Row → Left → Line
+asked_by None left = line.Nothing
+asked_by (Some row) left = row.asks left
+
+-- what a line asks for
+unfoldable pub asked : List ℕ → Line
+asked text = if is_remark text then line.Nothing else asked_by (row_of (first_token (whole text))) (behind (whole text))
+
+-- the node that a token names, where something is asked of it
+abbrev pub node_in : Kind → Left → List NodeToken
+node_in NewNode left = record { place = left.place; node = first_number left; there = false } ∷ []
+node_in OldNode left = record { place = left.place; node = first_number left; there = true } ∷ []
+node_in OtherNode left = []
+node_in BearerNumber left = []
+node_in PortNumber left = []
+node_in FrameNumber left = []
+node_in FormWord left = []
+node_in ImportanceWord left = []
+node_in BodyText left = []
+
+abbrev pub nodes_in : List Kind → Left → List NodeToken
+nodes_in [] left = []
+nodes_in (kind ∷ kinds) left = node_in kind left ++ nodes_in kinds (behind left)
+
+abbrev pub nodes_by : Option Row → Left → List NodeToken
+nodes_by None left = []
+nodes_by (Some row) left = nodes_in row.kinds left
+
+-- the nodes that a line asks something of, from the left
+unfoldable pub nodes_of : List ℕ → List NodeToken
+nodes_of text = if is_remark text then [] else nodes_by (row_of (first_token (whole text))) (behind (whole text))

@@ -1,0 +1,80 @@
+-- How a line is spelled: each line that asks for something has one spelling.
+use Rattle.std.specs.Prelude.{◌≡◌, ◌≢◌, ℕ, ◌+◌, ◌-◌, ◌<◌, ◌≤◌, ◌^◌, true, List, [], ◌∷◌, length, codes}
+use Rattle.std.specs.List.{join_with_byte, All}
+use Rattle.std.specs.Fmt.{decimal}
+use Rattle.tipc_types.specs.declared.identity.PortId.{PortId}
+use Rattle.tipc_types.specs.declared.message_forms.Importance.{Importance}
+use Rattle.tipc_types.specs.declared.message_forms.Importance.TheVariants.{Low, Medium, High, Critical}
+use Rattle.tipc_types.specs.Address.{node_word, IsNodeWord}
+use Rattle.tipc_script.specs.declared.lines.Line.{Line}
+use Rattle.tipc_script.specs.declared.lines.Line.TheVariants.{Nothing, Node, Link, Mark, Socket, Send, Arrive, Receive, Flow}
+use Rattle.tipc_script.specs.Kinds.{is_remark}
+
+-- words with single spaces between them
+abbrev pub spaced : List (List ℕ) → List ℕ
+spaced words = join_with_byte 32 words
+
+abbrev pub importance_word : Importance → List ℕ
+importance_word Low = codes "low"
+importance_word Medium = codes "medium"
+importance_word High = codes "high"
+importance_word Critical = codes "critical"
+
+-- the number of the node of a port
+abbrev pub node_number : PortId → ℕ
+node_number port = port.node.word - node_word 0
+
+-- the words of a line
+abbrev pub words_of : Line → List (List ℕ)
+words_of Nothing = []
+words_of (Node node) = codes "node" ∷ decimal node ∷ []
+words_of (Link first second bearer) = codes "link" ∷ decimal first ∷ decimal second ∷ decimal bearer ∷ []
+words_of Mark = codes "mark" ∷ []
+words_of (Socket node) = codes "socket" ∷ decimal node ∷ []
+words_of (Send node port to importance body) =
+    codes "send" ∷ decimal node ∷ decimal port ∷ codes "port" ∷ decimal (node_number to) ∷ decimal to.port ∷ importance_word importance ∷ (61 ∷ body) ∷ []
+words_of (Arrive node bearer frame) = codes "arrive" ∷ decimal node ∷ decimal bearer ∷ decimal frame ∷ []
+words_of (Receive node port) = codes "receive" ∷ decimal node ∷ decimal port ∷ []
+words_of (Flow from to) = codes "flow" ∷ decimal from ∷ decimal to ∷ []
+
+abbrev pub spelling_of : Line → List ℕ
+spelling_of line = spaced (words_of line)
+
+abbrev pub IsNode : ℕ → Type 0
+IsNode n = (1 ≤ n) × (n ≤ 32)
+
+-- a message as a line may ask for it
+pub record IsMessage (node port : ℕ) (to : PortId) (importance : Importance) (body : List ℕ) : Type 0 where
+  pub from_node : IsNode node
+  pub from_port : port < 2 ^ 32
+  pub to_node : IsNodeWord to.node.word
+  pub other : to.node.word ≢ node_word node
+  pub to_port : to.port < 2 ^ 32
+  pub low : importance ≡ Low
+  pub some : 1 ≤ length body
+  pub short : length body ≤ 64
+  pub visible : All (λ byte. (33 ≤ byte) × (byte ≤ 126)) body
+
+-- the values of a line are in their ranges
+abbrev pub Fits : Line → Type 0
+Fits Nothing = Unit {0}
+Fits (Node node) = IsNode node
+Fits (Link first second bearer) = IsNode first × IsNode second × (bearer ≡ 0)
+Fits Mark = Unit {0}
+Fits (Socket node) = IsNode node
+Fits (Send node port to importance body) = IsMessage node port to importance body
+Fits (Arrive node bearer frame) = IsNode node × (bearer ≡ 0) × (frame ≤ 1000000)
+Fits (Receive node port) = IsNode node × (port < 2 ^ 32)
+Fits (Flow from to) = IsNode from × IsNode to
+
+-- a text asks for a line: it is a remark, which asks for nothing, or the spelling of the line
+abbrev pub Asks : List ℕ → Line → Type 0
+Asks text Nothing = is_remark text ≡ true
+Asks text (Node node) = Fits (Node node) × (text ≡ spelling_of (Node node))
+Asks text (Link first second bearer) = Fits (Link first second bearer) × (text ≡ spelling_of (Link first second bearer))
+Asks text Mark = text ≡ spelling_of Mark
+Asks text (Socket node) = Fits (Socket node) × (text ≡ spelling_of (Socket node))
+Asks text (Send node port to importance body) = Fits (Send node port to importance body) × (text ≡ spelling_of (Send node port to importance body))
+Asks text (Arrive node bearer frame) = Fits (Arrive node bearer frame) × (text ≡ spelling_of (Arrive node bearer frame))
+Asks text (Receive node port) = Fits (Receive node port) × (text ≡ spelling_of (Receive node port))
+Asks text (Flow from to) = Fits (Flow from to) × (text ≡ spelling_of (Flow from to))

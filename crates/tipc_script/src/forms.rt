@@ -1,0 +1,173 @@
+ghost use Rattle.std.specs.Prelude.{◌≡◌, ◌+◌, ◌<◌, ◌^◌, IfOk, length, ℕ, MatchOption, Some, None};
+ghost use Rattle.tipc_script.specs.Grammar.{node_row, link_row, mark_row, socket_row, send_row, arrive_row, receive_row, flow_row, row_of, nodes_in, asked, nodes_of};
+ghost use Rattle.tipc_script.specs.Faults.{Tells, row_fault, fault_of};
+
+use crate::faults::LineFault;
+use crate::lines::{Command, Line};
+use crate::tokens::Tokens;
+use std::alloc::Global;
+use tipc_types::{Addr, Bytes, Importance, PortId, Sequence};
+
+/// The highest number of a port.
+const HIGHEST_PORT: u32 = u32::MAX;
+
+/// The highest number of a frame.
+const HIGHEST_FRAME: u32 = 1_000_000;
+
+/// The highest number of a bearer.
+const HIGHEST_BEARER: u32 = 0;
+
+/// What follows `node`.
+#[tactic(auto, unfolding(crate::specs::Faults::row_fault))]
+pub fn node_line(alloc: Global, tokens: &mut Tokens<'_>) -> Result<Command, LineFault>
+    ensures fault { Tells result (row_fault node_row tokens.old) }
+    ensures line { IfOk result (λ c. c.line ≡ node_row.asks tokens.old) }
+    ensures nodes { IfOk result (λ c. c.nodes ≡ nodes_in node_row.kinds tokens.old) }
+{
+    let node = tokens.node(false)?;
+    tokens.finish()?;
+    Ok(Command {
+        line: Line::Node { node: node.node },
+        nodes: Sequence::from_slice(alloc, [node].as_slice())?,
+    })
+}
+
+/// What follows `link`.
+#[tactic(auto, unfolding(crate::specs::Faults::row_fault))]
+pub fn link_line(alloc: Global, tokens: &mut Tokens<'_>) -> Result<Command, LineFault>
+    ensures fault { Tells result (row_fault link_row tokens.old) }
+    ensures line { IfOk result (λ c. c.line ≡ link_row.asks tokens.old) }
+    ensures nodes { IfOk result (λ c. c.nodes ≡ nodes_in link_row.kinds tokens.old) }
+{
+    let first = tokens.node(true)?;
+    let second = tokens.node(true)?;
+    let bearer = tokens.number(0, HIGHEST_BEARER)?;
+    tokens.finish()?;
+    Ok(Command {
+        line: Line::Link {
+            first: first.node,
+            second: second.node,
+            bearer: bearer as u8,
+        },
+        nodes: Sequence::from_slice(alloc, [first, second].as_slice())?,
+    })
+}
+
+/// What follows `mark`.
+#[tactic(auto, unfolding(crate::specs::Faults::row_fault))]
+pub fn mark_line(alloc: Global, tokens: &mut Tokens<'_>) -> Result<Command, LineFault>
+    ensures fault { Tells result (row_fault mark_row tokens.old) }
+    ensures line { IfOk result (λ c. c.line ≡ mark_row.asks tokens.old) }
+    ensures nodes { IfOk result (λ c. c.nodes ≡ nodes_in mark_row.kinds tokens.old) }
+{
+    tokens.finish()?;
+    Ok(Command {
+        line: Line::Mark,
+        nodes: Sequence::new(alloc),
+    })
+}
+
+/// What follows `socket`.
+#[tactic(auto, unfolding(crate::specs::Faults::row_fault))]
+pub fn socket_line(alloc: Global, tokens: &mut Tokens<'_>) -> Result<Command, LineFault>
+    ensures fault { Tells result (row_fault socket_row tokens.old) }
+    ensures line { IfOk result (λ c. c.line ≡ socket_row.asks tokens.old) }
+    ensures nodes { IfOk result (λ c. c.nodes ≡ nodes_in socket_row.kinds tokens.old) }
+{
+    let node = tokens.node(true)?;
+    tokens.finish()?;
+    Ok(Command {
+        line: Line::Socket { node: node.node },
+        nodes: Sequence::from_slice(alloc, [node].as_slice())?,
+    })
+}
+
+/// What follows `send`.
+#[tactic(auto, unfolding(crate::specs::Faults::row_fault))]
+pub fn send_line(alloc: Global, tokens: &mut Tokens<'_>) -> Result<Command, LineFault>
+    ensures fault { Tells result (row_fault send_row tokens.old) }
+    ensures line { IfOk result (λ c. c.line ≡ send_row.asks tokens.old) }
+    ensures nodes { IfOk result (λ c. c.nodes ≡ nodes_in send_row.kinds tokens.old) }
+{
+    let node = tokens.node(true)?;
+    let port = tokens.number(0, HIGHEST_PORT)?;
+    tokens.word(b"port")?;
+    let to_node = tokens.other_node(node.node)?;
+    let to_port = tokens.number(0, HIGHEST_PORT)?;
+    tokens.word(b"low")?;
+    let body = tokens.body()?;
+    tokens.finish()?;
+    let to = PortId {
+        node: Addr::node(to_node),
+        port: to_port,
+    };
+    Ok(Command {
+        line: Line::Send {
+            node: node.node,
+            port,
+            to,
+            importance: Importance::Low,
+            body: Bytes::from_slice(alloc, body)?,
+        },
+        nodes: Sequence::from_slice(alloc, [node].as_slice())?,
+    })
+}
+
+/// What follows `arrive`.
+#[tactic(auto, unfolding(crate::specs::Faults::row_fault))]
+pub fn arrive_line(alloc: Global, tokens: &mut Tokens<'_>) -> Result<Command, LineFault>
+    ensures fault { Tells result (row_fault arrive_row tokens.old) }
+    ensures line { IfOk result (λ c. c.line ≡ arrive_row.asks tokens.old) }
+    ensures nodes { IfOk result (λ c. c.nodes ≡ nodes_in arrive_row.kinds tokens.old) }
+{
+    let node = tokens.node(true)?;
+    let bearer = tokens.number(0, HIGHEST_BEARER)?;
+    let frame = tokens.number(0, HIGHEST_FRAME)?;
+    tokens.finish()?;
+    Ok(Command {
+        line: Line::Arrive {
+            node: node.node,
+            bearer: bearer as u8,
+            frame: u64::from(frame),
+        },
+        nodes: Sequence::from_slice(alloc, [node].as_slice())?,
+    })
+}
+
+/// What follows `receive`.
+#[tactic(auto, unfolding(crate::specs::Faults::row_fault))]
+pub fn receive_line(alloc: Global, tokens: &mut Tokens<'_>) -> Result<Command, LineFault>
+    ensures fault { Tells result (row_fault receive_row tokens.old) }
+    ensures line { IfOk result (λ c. c.line ≡ receive_row.asks tokens.old) }
+    ensures nodes { IfOk result (λ c. c.nodes ≡ nodes_in receive_row.kinds tokens.old) }
+{
+    let node = tokens.node(true)?;
+    let port = tokens.number(0, HIGHEST_PORT)?;
+    tokens.finish()?;
+    Ok(Command {
+        line: Line::Receive {
+            node: node.node,
+            port,
+        },
+        nodes: Sequence::from_slice(alloc, [node].as_slice())?,
+    })
+}
+
+/// What follows `flow`.
+#[tactic(auto, unfolding(crate::specs::Faults::row_fault))]
+pub fn flow_line(alloc: Global, tokens: &mut Tokens<'_>) -> Result<Command, LineFault>
+    ensures fault { Tells result (row_fault flow_row tokens.old) }
+    ensures line { IfOk result (λ c. c.line ≡ flow_row.asks tokens.old) }
+    ensures nodes { IfOk result (λ c. c.nodes ≡ nodes_in flow_row.kinds tokens.old) }
+{
+    let from = tokens.node(true)?;
+    let to = tokens.node(true)?;
+    tokens.finish()?;
+    Ok(Command {
+        line: Line::Flow {
+            from: from.node,
+            to: to.node,
+        },
+        nodes: Sequence::from_slice(alloc, [from, to].as_slice())?,
+    })
+}

@@ -1,0 +1,16 @@
+//! The lines of a script: their grammar, and the place and reason of a line that is not in it.
+#![tactic(auto)]
+
+mod faults;
+mod forms;
+mod lines;
+mod numbers;
+mod parsing;
+mod tokens;
+
+pub use faults::{LineFault, LineWhy};
+pub use lines::{Command, Line, NodeToken};
+pub use parsing::{grammar, parse_line};
+
+#[cfg(test)]
+mod tests;

@@ -1,0 +1,86 @@
+use tipc_types::{Bytes, Importance, PortId, Sequence};
+
+/// What a line of a script asks for. Nodes have numbers from 1 to 32, and the bearer is 0. (This
+/// project's profile.)
+#[derive(Clone, Debug, Drop, PartialEq)]
+pub enum Line {
+    /// Nothing: the line is empty or begins with `#`.
+    Nothing,
+    /// A node is to be there.
+    Node {
+        /// The node.
+        node: u8,
+    },
+    /// A link between two nodes.
+    Link {
+        /// The one node.
+        first: u8,
+        /// The other node, which may be the same.
+        second: u8,
+        /// The bearer.
+        bearer: u8,
+    },
+    /// Frames are counted from here on.
+    Mark,
+    /// A socket.
+    Socket {
+        /// The node that makes it.
+        node: u8,
+    },
+    /// A message to a port.
+    Send {
+        /// The sending node.
+        node: u8,
+        /// The sending port.
+        port: u32,
+        /// The port that it is for, at another node.
+        to: PortId,
+        /// How important it is.
+        importance: Importance,
+        /// The user's bytes.
+        body: Bytes,
+    },
+    /// A frame arrives.
+    Arrive {
+        /// The node that it arrives at.
+        node: u8,
+        /// The bearer.
+        bearer: u8,
+        /// The frame's number since the last mark, from 0 to 1,000,000.
+        frame: u64,
+    },
+    /// A message is taken from a socket.
+    Receive {
+        /// The node.
+        node: u8,
+        /// The socket's port.
+        port: u32,
+    },
+    /// The messages from one node to another are counted.
+    Flow {
+        /// The node that accepted them.
+        from: u8,
+        /// The node that they were delivered at.
+        to: u8,
+    },
+}
+
+/// A token that names a node of which something is asked.
+#[derive(Clone, Copy, Debug, PartialEq, Eq)]
+pub struct NodeToken {
+    /// The token's byte place in the line, from 1.
+    pub place: u32,
+    /// The node's number.
+    pub node: u8,
+    /// Whether the node has to be there; else it mustn't be.
+    pub there: bool,
+}
+
+/// A line that is in the grammar.
+#[derive(Debug, Drop)]
+pub struct Command {
+    /// What it asks for.
+    pub line: Line,
+    /// The nodes that it asks something of, from the left.
+    pub nodes: Sequence<NodeToken>,
+}

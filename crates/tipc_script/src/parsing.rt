@@ -1,0 +1,168 @@
+ghost use Rattle.std.specs.Prelude.{◌≡◌, ◌+◌, ◌<◌, ◌^◌, IfOk, length, MatchOption, Some, None, List, ℕ};
+ghost use Rattle.std.specs.Str.{bytes_eq};
+ghost use Rattle.tipc_script.specs.Kinds.{is_remark};
+ghost use Rattle.tipc_script.specs.Grammar.{row_of, asked_by, nodes_by, asked, nodes_of};
+ghost use Rattle.tipc_script.specs.Faults.{Tells, Reads, fault_by, fault_of};
+ghost use Rattle.tipc_script.specs.declared.lines.Line.{Line};
+ghost use Rattle.tipc_script.specs.Spelling.{Asks};
+ghost use Rattle.tipc_script.specs.FirstWords.{row_for};
+ghost use Rattle.tipc_script.specs.Splitting.{whole, first_token, behind};
+
+use crate::faults::{LineFault, LineWhy};
+use crate::forms;
+use crate::lines::{Command, Line};
+use crate::tokens::Tokens;
+use std::alloc::Global;
+use tipc_types::Sequence;
+
+/// The fault of a line that begins with none of these words.
+const NO_SUCH_WORD: LineFault = LineFault::BadLine {
+    place: 1,
+    why: LineWhy::Command,
+};
+
+/// The first words of lines.
+#[derive(Clone, Copy)]
+enum FirstWord {
+    Node,
+    Link,
+    Mark,
+    Socket,
+    Send,
+    Arrive,
+    Receive,
+    Flow,
+}
+
+/// Whether a token is a word.
+fn is_word(token: &[u8], word: &[u8]) -> bool
+    ensures { result ≡ bytes_eq token.now word.now }
+{
+    token == word
+}
+
+/// The first word that a token is, if any.
+#[tactic(auto, unfolding(crate::specs::Grammar::row_of))]
+fn first_word(token: &[u8]) -> Option<FirstWord>
+    ensures { MatchOption result (row_of token.now ≡ None) (λ word. row_of token.now ≡ Some (row_for word)) }
+{
+    if is_word(token, b"node") {
+        return Some(FirstWord::Node);
+    }
+    if is_word(token, b"link") {
+        return Some(FirstWord::Link);
+    }
+    if is_word(token, b"mark") {
+        return Some(FirstWord::Mark);
+    }
+    if is_word(token, b"socket") {
+        return Some(FirstWord::Socket);
+    }
+    if is_word(token, b"send") {
+        return Some(FirstWord::Send);
+    }
+    if is_word(token, b"arrive") {
+        return Some(FirstWord::Arrive);
+    }
+    if is_word(token, b"receive") {
+        return Some(FirstWord::Receive);
+    }
+    if is_word(token, b"flow") {
+        return Some(FirstWord::Flow);
+    }
+    None
+}
+
+/// What follows a first word.
+fn line_behind(
+    alloc: Global,
+    word: FirstWord,
+    tokens: &mut Tokens<'_>,
+) -> Result<Command, LineFault>
+    ensures fault { Tells result (fault_by (Some (row_for word)) tokens.old) }
+    ensures line { IfOk result (λ c. c.line ≡ asked_by (Some (row_for word)) tokens.old) }
+    ensures nodes { IfOk result (λ c. c.nodes ≡ nodes_by (Some (row_for word)) tokens.old) }
+{
+    match word {
+        FirstWord::Node => forms::node_line(alloc, tokens),
+        FirstWord::Link => forms::link_line(alloc, tokens),
+        FirstWord::Mark => forms::mark_line(alloc, tokens),
+        FirstWord::Socket => forms::socket_line(alloc, tokens),
+        FirstWord::Send => forms::send_line(alloc, tokens),
+        FirstWord::Arrive => forms::arrive_line(alloc, tokens),
+        FirstWord::Receive => forms::receive_line(alloc, tokens),
+        FirstWord::Flow => forms::flow_line(alloc, tokens),
+    }
+}
+
+/// Whether a line is done as nothing: it is empty, or begins with `#`.
+fn is_remark(line: &[u8]) -> bool
+    ensures { result ≡ is_remark line.now }
+{
+    match line {
+        [] => true,
+        [first, ..] => *first == b'#',
+    }
+}
+
+/// A line that is no remark.
+#[tactic(auto, unfolding(crate::specs::Grammar::row_of))]
+fn line_of_words(alloc: Global, line: &[u8]) -> Result<Command, LineFault>
+    requires { length line.now < 2 ^ 31 }
+    ensures fault { Tells result (fault_by (row_of (first_token (whole line.now))) (behind (whole line.now))) }
+    ensures line { IfOk result (λ c. c.line ≡ asked_by (row_of (first_token (whole line.now))) (behind (whole line.now))) }
+    ensures nodes { IfOk result (λ c. c.nodes ≡ nodes_by (row_of (first_token (whole line.now))) (behind (whole line.now))) }
+{
+    let mut tokens = Tokens::new(line);
+    let Some(token) = tokens.next() else {
+        return Err(NO_SUCH_WORD);
+    };
+    let Some(word) = first_word(token) else {
+        return Err(NO_SUCH_WORD);
+    };
+    line_behind(alloc, word, &mut tokens)
+}
+
+/// The command of a line, or its first fault.
+#[tactic(auto, unfolding(crate::specs::Grammar::asked, crate::specs::Grammar::nodes_of, crate::specs::Faults::fault_of))]
+fn command_of(alloc: Global, line: &[u8]) -> Result<Command, LineFault>
+    requires { length line.now < 2 ^ 31 }
+    ensures fault { Tells result (fault_of line.now) }
+    ensures exact { IfOk result (λ c. c.line ≡ asked line.now) }
+    ensures nodes { IfOk result (λ c. c.nodes ≡ nodes_of line.now) }
+{
+    if is_remark(line) {
+        return Ok(Command {
+            line: Line::Nothing,
+            nodes: Sequence::new(alloc),
+        });
+    }
+    line_of_words(alloc, line)
+}
+
+/// Reads a line of a script, given without its newline. (This project's profile.)
+///
+/// A line has at most 2,147,483,647 bytes. Bytes that are no text are bytes that no token takes. Whether
+/// the nodes of the line are there isn't looked at: `nodes` of the command says what is to be asked of
+/// them, and `LineWhy::Node` is never answered here.
+pub fn parse_line(alloc: Global, line: &[u8]) -> Result<Command, LineFault>
+    requires { length line.now < 2 ^ 31 }
+    // What is read is a line of the grammar, with its values.
+    ensures found { IfOk result (λ c. Asks line.now c.line) }
+    // A line of the grammar is read with its values, unless memory runs out.
+    ensures only { (wanted : Line) → Asks line.now wanted → Reads result wanted }
+    // Which fault it is, and where: none exactly where the line is read.
+    ensures fault { Tells result (fault_of line.now) }
+
+    ensures exact { IfOk result (λ c. c.line ≡ asked line.now) }
+    ensures nodes { IfOk result (λ c. c.nodes ≡ nodes_of line.now) }
+{
+    command_of(alloc, line)
+}
+
+/// The grammar and the faults agree: a text asks for a line exactly where it has no fault, and then for
+/// that line alone.
+pub fn grammar()
+    ensures found { (text : List ℕ) → fault_of text ≡ None → Asks text (asked text) }
+    ensures only { (text : List ℕ) (wanted : Line) → Asks text wanted → (fault_of text ≡ None) × (asked text ≡ wanted) }
+{}

@@ -1,0 +1,178 @@
+use crate::{Command, Line, LineFault, LineWhy, NodeToken, parse_line};
+use std::alloc::Global;
+use std::process::Abort;
+use std::test::Fail;
+use tipc_types::{Addr, Importance, PortId};
+
+/// The lines that are refused, each with the place and the reason that the rules give.
+const BAD_LINES: [(&[u8], u32, LineWhy); 62] = [
+    (b" ", 1, LineWhy::Command),
+    (b"nod 1", 1, LineWhy::Command),
+    (b" node 1", 1, LineWhy::Command),
+    (b"Node 1", 1, LineWhy::Command),
+    (b"node\t1", 1, LineWhy::Command),
+    (b"tick 1", 1, LineWhy::Command),
+    (b"publish 1 1 100 0 9 zone 1", 1, LineWhy::Command),
+    (b"\xffode 1", 1, LineWhy::Command),
+    (b"node", 5, LineWhy::End),
+    (b"node ", 6, LineWhy::Number),
+    (b"node  1", 6, LineWhy::Number),
+    (b"node 0", 6, LineWhy::Number),
+    (b"node 33", 6, LineWhy::Number),
+    (b"node 01", 6, LineWhy::Number),
+    (b"node +1", 6, LineWhy::Number),
+    (b"node -1", 6, LineWhy::Number),
+    (b"node 1x", 6, LineWhy::Number),
+    (b"node \xff", 6, LineWhy::Number),
+    (b"node 1\r", 6, LineWhy::Number),
+    (b"node 1 ", 8, LineWhy::End),
+    (b"node 1 2", 8, LineWhy::End),
+    (b"link 0 2 0", 6, LineWhy::Number),
+    (b"link 1 33 0", 8, LineWhy::Number),
+    (b"link 1 2", 9, LineWhy::End),
+    (b"link 1 2 1", 10, LineWhy::Number),
+    (b"link 1 2 00", 10, LineWhy::Number),
+    (b"link 1 2 0 0", 12, LineWhy::End),
+    (b"mark ", 6, LineWhy::End),
+    (b"mark 1", 6, LineWhy::End),
+    (b"socket", 7, LineWhy::End),
+    (b"socket x", 8, LineWhy::Number),
+    (b"socket 1 1", 10, LineWhy::End),
+    (b"send  1 1 port 2 1 low =a", 6, LineWhy::Number),
+    (b"send 1 4294967296 port 2 1 low =a", 8, LineWhy::Number),
+    (b"send 1 1", 9, LineWhy::End),
+    (b"send 1 1 name 100 5 low =a", 10, LineWhy::Word),
+    (b"send 1 1 cast 100 0 5 low =a", 10, LineWhy::Word),
+    (b"send 1 1 PORT 2 1 low =a", 10, LineWhy::Word),
+    (b"send 1 1 port 1 1 low =a", 15, LineWhy::Number),
+    (b"send 1 1 port 33 1 low =a", 15, LineWhy::Number),
+    (b"send 1 1 port 2 4294967296 low =a", 17, LineWhy::Number),
+    (b"send 1 1 port 2 1 medium =a", 19, LineWhy::Word),
+    (b"send 1 1 port 2 1 low", 22, LineWhy::End),
+    (b"send 1 1 port 2 1 low a", 23, LineWhy::Body),
+    (b"send 1 1 port 2 1 low =", 23, LineWhy::Body),
+    (b"send 1 1 port 2 1 low *5", 23, LineWhy::Body),
+    (b"send 1 1 port 2 1 low =\x7f", 23, LineWhy::Body),
+    (b"send 1 1 port 2 1 low =\x80", 23, LineWhy::Body),
+    (
+        b"send 1 1 port 2 1 low =0123456789012345678901234567890123456789012345678901234567890123x",
+        23,
+        LineWhy::Body,
+    ),
+    (b"send 1 1 port 2 1 low =a b", 26, LineWhy::End),
+    (b"send 1 1 port 2 1 low =a ", 26, LineWhy::End),
+    (b"arrive 1 1 0", 10, LineWhy::Number),
+    (b"arrive 1 0", 11, LineWhy::End),
+    (b"arrive 1 0 1000001", 12, LineWhy::Number),
+    (b"arrive 1 0 0 0", 14, LineWhy::End),
+    (b"receive 1", 10, LineWhy::End),
+    (b"receive 1 99999999999", 11, LineWhy::Number),
+    (b"receive 1 1 x", 13, LineWhy::End),
+    (b"flow 1", 7, LineWhy::End),
+    (b"flow 1 a", 8, LineWhy::Number),
+    (b"flow 1 1 1", 10, LineWhy::End),
+    (b"flow 1 1\n", 8, LineWhy::Number),
+];
+
+/// What is read of a short line.
+fn read(rt: &impl Abort, alloc: Global, line: &[u8]) -> Result<Command, LineFault> {
+    assert!(rt; line.len() < 200);
+    parse_line(alloc, line)
+}
+
+#[test]
+fn bad_lines_are_refused_at_their_place(rt: HostRuntime) -> Result<(), Fail> {
+    for (line, place, why) in BAD_LINES {
+        let fault = read(&rt, rt.alloc(), line).err();
+        assert_eq!(rt;
+            fault,
+            Some(LineFault::BadLine { place, why }),
+            "in {line:?}"
+        );
+    }
+    Ok(())
+}
+
+#[test]
+fn remarks_ask_for_nothing(rt: HostRuntime) -> Result<(), Fail> {
+    for line in [b"".as_slice(), b"#", b"# node 1"] {
+        let command = read(&rt, rt.alloc(), line).ok().ok_or("refused")?;
+        assert_eq!(rt; command.line, Line::Nothing);
+        assert!(rt; command.nodes.is_empty());
+    }
+    Ok(())
+}
+
+#[test]
+fn lines_are_read_with_their_values(rt: HostRuntime) -> Result<(), Fail> {
+    let node = read(&rt, rt.alloc(), b"node 32").ok().ok_or("node")?;
+    assert_eq!(rt; node.line, Line::Node { node: 32 });
+    let first = NodeToken {
+        place: 6,
+        node: 32,
+        there: false,
+    };
+    assert_eq!(rt; node.nodes.as_slice(), [first].as_slice());
+    let link = read(&rt, rt.alloc(), b"link 10 2 0").ok().ok_or("link")?;
+    assert_eq!(rt;
+        link.line,
+        Line::Link {
+            first: 10,
+            second: 2,
+            bearer: 0
+        }
+    );
+    let first = NodeToken {
+        place: 6,
+        node: 10,
+        there: true,
+    };
+    let second = NodeToken {
+        place: 9,
+        node: 2,
+        there: true,
+    };
+    assert_eq!(rt; link.nodes.as_slice(), [first, second].as_slice());
+    let arrive = read(&rt, rt.alloc(), b"arrive 2 0 1000000")
+        .ok()
+        .ok_or("arrive")?;
+    assert_eq!(rt;
+        arrive.line,
+        Line::Arrive {
+            node: 2,
+            bearer: 0,
+            frame: 1_000_000
+        }
+    );
+    Ok(())
+}
+
+#[test]
+fn a_send_is_read_with_its_body(rt: HostRuntime) -> Result<(), Fail> {
+    let Command { line, nodes } = read(&rt, rt.alloc(), b"send 1 4294967295 port 2 0 low =hello")
+        .ok()
+        .ok_or("send")?;
+    let Line::Send {
+        node,
+        port,
+        to,
+        importance,
+        body,
+    } = line
+    else {
+        return Err(Fail::from("another line"));
+    };
+    assert_eq!(rt; nodes.len(), 1);
+    assert_eq!(rt; node, 1);
+    assert_eq!(rt; port, u32::MAX);
+    assert_eq!(rt; importance, Importance::Low);
+    assert_eq!(rt;
+        to,
+        PortId {
+            node: Addr::node(2),
+            port: 0
+        }
+    );
+    assert_eq!(rt; body.as_slice(), b"hello".as_slice());
+    Ok(())
+}

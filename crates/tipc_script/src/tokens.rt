@@ -1,0 +1,234 @@
+ghost use Rattle.std.specs.Prelude.{◌≡◌, ◌≢◌, ◌+◌, ◌-◌, ◌*◌, ◌<◌, ◌≤◌, ◌^◌, ◌&&◌, ◌==◌, ◌↔◌, not, true, length, IfSome, IfNone, IfOk, MatchOption, IsTrue, position, OnOk, Some, None, if◌then◌else◌, drop, [], ◌∷◌, codes, ℕ};
+ghost use Rattle.std.specs.Option.{option_copied};
+ghost use Rattle.std.specs.Str.{bytes_eq};
+ghost use Rattle.std.specs.List.{list_all};
+ghost use Rattle.tipc_script.specs.Splitting.{whole, first_token, behind, tokens_of, pieces, is_space};
+ghost use Rattle.tipc_script.specs.Kinds.{is_number, is_body, is_visible, number_of};
+ghost use Rattle.tipc_script.specs.Faults.{Tells, first_fault, missing_fault, end_fault};
+
+use crate::faults::{LineFault, LineWhy};
+use crate::lines::NodeToken;
+use crate::numbers::number_in;
+use std::marker::Model;
+
+/// The most characters of a body.
+const LONGEST_BODY: usize = 64;
+
+/// The tokens that are left of a line, from the left.
+#[derive(Drop)]
+pub struct Tokens<'a> {
+    /// The bytes that are left, unless the last token was taken.
+    rest: Option<&'a [u8]>,
+    /// The line's length plus 1.
+    end: u32,
+}
+
+impl<'a> Model for Tokens<'a> {
+    ghost use Rattle.std.specs.Prelude.{◌<◌, ◌+◌, ◌^◌, length, IfSome};
+    ghost use Rattle.std.specs.Option.{option_copied};
+    ghost use Rattle.tipc_script.specs.Splitting.{Left, left_in};
+
+    ghost Value = { Left };
+
+    ghost view = { λ t. left_in (option_copied t.rest) t.end };
+
+    ghost invariant = { λ t. IfSome t.rest (λ bytes. length bytes.now < t.end) × (t.end < 2 ^ 31 + 1) };
+}
+
+impl<'a> Tokens<'a> {
+    /// The tokens of a line.
+    pub fn new(line: &'a [u8]) -> Tokens<'a>
+        requires { length line.now < 2 ^ 31 }
+        ensures { result ≡ whole line.now }
+    {
+        Tokens {
+            rest: Some(line),
+            end: line.len() as u32 + 1,
+        }
+    }
+
+    /// Where the next token begins, from 1.
+    pub fn place(&self) -> u32
+        ensures { result ≡ self.now.place }
+    {
+        match self.rest {
+            None => self.end + 1,
+            Some(bytes) => self.end - bytes.len() as u32,
+        }
+    }
+
+    /// Where a missing token would be: the line's length plus 1.
+    pub fn end(&self) -> u32
+        ensures { result ≡ self.now.end }
+    {
+        self.end
+    }
+
+    /// The next token, which is taken; None where none is left.
+    pub fn next(&mut self) -> Option<&'a [u8]>
+        ensures none { IfNone result ((self.old.tokens ≡ []) × (self.new ≡ self.old)) }
+        ensures some { IfSome result (λ token. (self.old.tokens ≡ token.now ∷ drop 1 self.old.tokens) × (self.new ≡ behind self.old)) }
+    {
+        let bytes = self.rest?;
+        let (token, rest) = token_at_front(bytes);
+        self.rest = rest;
+        Some(token)
+    }
+
+    /// The next token, which passes a test or not: a fault exactly where none is left.
+    #[tactic(auto, unfolding(crate::specs::Faults::missing_fault))]
+    fn token(&mut self) -> Result<&'a [u8], LineFault>
+        ensures ok { IfOk result (λ token. (self.old.tokens ≡ token.now ∷ drop 1 self.old.tokens) × (self.new ≡ behind self.old)) }
+        ensures fault { Tells result (missing_fault self.old) }
+    {
+        let Some(token) = self.next() else {
+            return Err(LineFault::BadLine {
+                place: self.end,
+                why: LineWhy::End,
+            });
+        };
+        Ok(token)
+    }
+
+    /// The next token as a number from `low` to `high`.
+    #[tactic(auto, unfolding(crate::specs::Faults::first_fault, crate::specs::Faults::missing_fault))]
+    pub fn number(&mut self, low: u32, high: u32) -> Result<u32, LineFault>
+        ensures ok { IfOk result (λ number. (self.new ≡ behind self.old) × (number ≡ number_of (first_token self.old)) × (low ≤ number) × (number ≤ high)) }
+        ensures fault { Tells result (first_fault (is_number low high) LineWhy.Number self.old) }
+    {
+        let place = self.place();
+        let token = self.token()?;
+        let Some(number) = number_in(token, low, high) else {
+            return Err(LineFault::BadLine {
+                place,
+                why: LineWhy::Number,
+            });
+        };
+        Ok(number)
+    }
+
+    /// The next token as the number of a node of which it is asked whether it is there.
+    pub fn node(&mut self, there: bool) -> Result<NodeToken, LineFault>
+        ensures ok { IfOk result (λ token. (self.new ≡ behind self.old) × (token ≡ record { place = self.old.place; node = number_of (first_token self.old); there = there }) × (1 ≤ token.node) × (token.node ≤ 32)) }
+        ensures fault { Tells result (first_fault (is_number 1 32) LineWhy.Number self.old) }
+    {
+        let place = self.place();
+        let node = self.number(1, 32)?;
+        Ok(NodeToken {
+            place,
+            node: node as u8,
+            there,
+        })
+    }
+
+    /// The next token as the number of another node than `own`.
+    #[tactic(auto, unfolding(crate::specs::Faults::first_fault, crate::specs::Faults::missing_fault))]
+    pub fn other_node(&mut self, own: u8) -> Result<u8, LineFault>
+        ensures ok { IfOk result (λ node. (self.new ≡ behind self.old) × (node ≡ number_of (first_token self.old)) × (1 ≤ node) × (node ≤ 32)) }
+        ensures fault { Tells result (first_fault (λ token. is_number 1 32 token && not (number_of token == own)) LineWhy.Number self.old) }
+    {
+        let place = self.place();
+        let token = self.token()?;
+        let Some(node) = number_in(token, 1, 32) else {
+            return Err(LineFault::BadLine {
+                place,
+                why: LineWhy::Number,
+            });
+        };
+        if node == u32::from(own) {
+            return Err(LineFault::BadLine {
+                place,
+                why: LineWhy::Number,
+            });
+        }
+        Ok(node as u8)
+    }
+
+    /// The next token, which is to be this word.
+    #[tactic(auto, unfolding(crate::specs::Faults::first_fault, crate::specs::Faults::missing_fault))]
+    pub fn word(&mut self, word: &[u8]) -> Result<(), LineFault>
+        ensures ok { OnOk result (self.new ≡ behind self.old) }
+        ensures fault { Tells result (first_fault (λ token. bytes_eq token word.now) LineWhy.Word self.old) }
+    {
+        let place = self.place();
+        let token = self.token()?;
+        if token != word {
+            return Err(LineFault::BadLine {
+                place,
+                why: LineWhy::Word,
+            });
+        }
+        Ok(())
+    }
+
+    /// The bytes that the next token stands for as a body.
+    #[tactic(auto, unfolding(crate::specs::Faults::first_fault, crate::specs::Faults::missing_fault))]
+    pub fn body(&mut self) -> Result<&'a [u8], LineFault>
+        ensures ok { IfOk result (λ text. (self.new ≡ behind self.old) × (text.now ≡ drop 1 (first_token self.old))) }
+        ensures fault { Tells result (first_fault is_body LineWhy.Body self.old) }
+    {
+        let place = self.place();
+        let token = self.token()?;
+        let Some(text) = body_in(token) else {
+            return Err(LineFault::BadLine {
+                place,
+                why: LineWhy::Body,
+            });
+        };
+        Ok(text)
+    }
+
+    /// That no token is left.
+    #[tactic(auto, unfolding(crate::specs::Faults::end_fault))]
+    pub fn finish(&mut self) -> Result<(), LineFault>
+        ensures { Tells result (end_fault self.old) }
+    {
+        let place = self.place();
+        let Some(_more) = self.next() else {
+            return Ok(());
+        };
+        Err(LineFault::BadLine {
+            place,
+            why: LineWhy::End,
+        })
+    }
+}
+
+/// The text of a body: what stands behind `=`, where it is 1 to 64 characters from 33 to 126.
+#[tactic(auto, unfolding(crate::specs::Kinds::is_body))]
+fn body_in(token: &[u8]) -> Option<&[u8]>
+    ensures { option_copied result ≡ (if is_body token.now then Some (drop 1 token.now) else None) }
+{
+    let [b'=', text @ ..] = token else {
+        return None;
+    };
+    if text.is_empty() || text.len() > LONGEST_BODY || !is_visible(text) {
+        return None;
+    }
+    Some(text)
+}
+
+/// Whether each byte is a character from 33 to 126.
+fn is_visible(text: &[u8]) -> bool
+    ensures { result ≡ list_all is_visible text.now }
+{
+    text.iter().all(|byte| 33 <= *byte && *byte <= 126)
+}
+
+/// Where the first space stands, if there is one.
+fn space_in(bytes: &[u8]) -> Option<usize>
+    ensures { result ≡ position is_space bytes.now }
+{
+    bytes.iter().position(|byte| *byte == b' ')
+}
+
+/// The token at the front of some bytes, and what stands behind the space after it, if there is one.
+fn token_at_front(bytes: &[u8]) -> (&[u8], Option<&[u8]>)
+    ensures tokens { tokens_of bytes.now ≡ result.0.now ∷ pieces (option_copied result.1) }
+    ensures lengths { MatchOption result.1 (length bytes.now ≡ length result.0.now) (λ rest. length bytes.now ≡ length result.0.now + length rest.now + 1) }
+{
+    let Some(len) = space_in(bytes) else {
+        return (bytes, None);
+    };
+    (&bytes[..len], Some(&bytes[len + 1..]))
+}
