@@ -8,8 +8,9 @@ use Rattle.tipc_types.specs.declared.message_forms.Flow.{Flow}
 use Rattle.tipc_types.specs.declared.message_forms.Flow.TheVariants.{Zero, One, Broadcast}
 use Rattle.tipc_types.specs.declared.message_forms.Message.{Message}
 use Rattle.tipc_journal.specs.declared.entries.Entry.{Entry}
-use Rattle.tipc_journal.specs.declared.entries.Entry.TheVariants.{Accepted, Delivered}
+use Rattle.tipc_journal.specs.declared.entries.Entry.TheVariants.{Accepted, Answered, Delivered}
 use Rattle.tipc_journal.specs.Prefixes.{list_with}
+use Rattle.tipc_journal.specs.Steps.{NodeStep, step_entries}
 use Rattle.tipc_journal.specs.Streams.{Stream, flow_eq, stream_eq, accepted_message, accepted, delivered_message, delivered}
 
 -- a flow is the same as itself
@@ -136,3 +137,19 @@ accepted_adds xs ys s = filter_map-append (accepted_message s) xs ys
 pub delivered_adds : (xs ys : List Entry) (s : Stream) → delivered (xs ++ ys) s ≡ delivered xs s ++ filter_map (delivered_message s) ys
 unfolding delivered
 delivered_adds xs ys s = filter_map-append (delivered_message s) xs ys
+
+-- a step adds the messages accepted in the entries that it made
+pub accepted_step : (J : List Entry) (n : NodeStep) (s : Stream) → accepted (J ++ step_entries n) s ≡ accepted J s ++ accepted n.inside s
+unfolding accepted
+accepted_step J n s =
+    filter_map-append (accepted_message s) J (step_entries n)
+    ∙ ap (λ w. accepted J s ++ w)
+    (filter_map-append (accepted_message s) n.inside (Answered n.caller n.call n.answer ∷ []) ∙ append-nil (accepted n.inside s))
+
+-- a step adds the messages delivered in the entries that it made
+pub delivered_step : (J : List Entry) (n : NodeStep) (s : Stream) → delivered (J ++ step_entries n) s ≡ delivered J s ++ delivered n.inside s
+unfolding delivered
+delivered_step J n s =
+    filter_map-append (delivered_message s) J (step_entries n)
+    ∙ ap (λ w. delivered J s ++ w)
+    (filter_map-append (delivered_message s) n.inside (Answered n.caller n.call n.answer ∷ []) ∙ append-nil (delivered n.inside s))

@@ -1,6 +1,8 @@
-use Rattle.std.specs.Prelude.{◌==◌, ◌&&◌, if◌then◌else◌, not, Bool, false, List, [], ◌∷◌, ◌++◌, Option, Some, None, filter}
+use Rattle.std.specs.Prelude.{◌==◌, ◌&&◌, if◌then◌else◌, not, Bool, true, false, List, [], ◌∷◌, ◌++◌, Option, Some, None, filter}
 use Rattle.std.specs.List.{cons_option, list_any}
 use Rattle.tipc_types.specs.declared.services.Publication.{Publication}
+use Rattle.tipc_types.specs.declared.services.Scope.{Scope}
+use Rattle.tipc_types.specs.declared.services.Scope.TheVariants.{Node}
 use Rattle.tipc_journal.specs.declared.entries.Entry.{Entry}
 use Rattle.tipc_journal.specs.declared.entries.Entry.TheVariants.{Published, Withdrawn, Learned, Forgot, ContactDown}
 
@@ -47,6 +49,15 @@ learned entries = standing learned_in forgets entries
 -- the table: the node's live publications, then the peers'
 abbrev pub table : List Entry → List Publication
 table entries = live entries ++ learned entries
+
+-- whether a publication of this scope is seen in the whole cluster
+abbrev pub is_clusterwide : Scope → Bool
+is_clusterwide Node = false
+is_clusterwide _ = true
+
+-- the cluster part of publications: all but those of node scope
+abbrev pub cluster_part : List Publication → List Publication
+cluster_part ps = filter (λ p. is_clusterwide p.scope) ps
 
 -- the live publications after an entry
 abbrev pub live_after : List Publication → Entry → List Publication

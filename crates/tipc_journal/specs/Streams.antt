@@ -3,6 +3,7 @@ use Rattle.tipc_types.specs.declared.identity.Addr.{Addr}
 use Rattle.tipc_types.specs.declared.message_forms.Flow.{Flow}
 use Rattle.tipc_types.specs.declared.message_forms.Flow.TheVariants.{Zero, One, Broadcast}
 use Rattle.tipc_types.specs.declared.message_forms.Message.{Message}
+use Rattle.tipc_types.specs.declared.message_forms.Message.TheVariants.{Items}
 use Rattle.tipc_journal.specs.declared.entries.Entry.{Entry}
 use Rattle.tipc_journal.specs.declared.entries.Entry.TheVariants.{Accepted, Delivered}
 
@@ -43,3 +44,8 @@ delivered_message s _ = None
 -- the messages that were delivered from a peer in a contact and a flow, in order
 unfoldable pub delivered : List Entry → Stream → List Message
 delivered entries s = filter_map (delivered_message s) entries
+
+-- whether a message is one of name items
+abbrev pub is_items : Message → Bool
+is_items (Items withdrawal items) = true
+is_items _ = false

@@ -16,7 +16,7 @@ is_going_up _ = false
 -- epoch of the peer that its frame shows; or leave it down under the next epoch
 pub data Moves (s : Fsm) (shown : Option (ℕ × ℕ)) (o : Outcome) : Type 0 where
   stays : o.after.own ≡ s.own → is_up o.after.state ≡ is_up s.state → is_going_up o.change ≡ false → Moves s shown o
-  rises : (es : ℕ) → o.after.own ≡ s.own → is_up s.state ≡ false → is_up o.after.state ≡ true → is_last s.own ≡ false
+  rises : (es : ℕ) → o.after.own ≡ s.own → is_in_reset s.state ≡ true → is_up o.after.state ≡ true → is_last s.own ≡ false
       → shown ≡ Some (es, s.own) → o.after.peer ≡ Some es → is_going_up o.change ≡ true → Moves s shown o
   falls : o.after.own ≡ next_epoch s.own → is_up o.after.state ≡ false → is_going_up o.change ≡ false → Moves s shown o
 
@@ -31,7 +31,7 @@ is_up_lowered s true = refl
 is_up_lowered s false = refl
 
 -- an end in reset isn't up
-is_up_in_reset : (st : LinkState) → is_in_reset st ≡ true → is_up st ≡ false
+pub is_up_in_reset : (st : LinkState) → is_in_reset st ≡ true → is_up st ≡ false
 is_up_in_reset ResetUnknown here = refl
 is_up_in_reset ResetReset here = refl
 is_up_in_reset WorkingWorking here = cc
@@ -39,12 +39,12 @@ is_up_in_reset WorkingUnknown here = cc
 is_up_in_reset Held here = cc
 
 -- an end in RESET_RESET is in reset
-is_up_reset_reset : (st : LinkState) → is_reset_reset st ≡ true → is_up st ≡ false
-is_up_reset_reset ResetReset here = refl
-is_up_reset_reset ResetUnknown here = cc
-is_up_reset_reset WorkingWorking here = cc
-is_up_reset_reset WorkingUnknown here = cc
-is_up_reset_reset Held here = cc
+is_in_reset_reset_reset : (st : LinkState) → is_reset_reset st ≡ true → is_in_reset st ≡ true
+is_in_reset_reset_reset ResetReset here = refl
+is_in_reset_reset_reset ResetUnknown here = refl
+is_in_reset_reset_reset WorkingWorking here = cc
+is_in_reset_reset_reset WorkingUnknown here = cc
+is_in_reset_reset_reset Held here = cc
 
 -- an end that is held isn't up
 pub is_up_held : (st : LinkState) → is_held st ≡ true → is_up st ≡ false
@@ -81,7 +81,7 @@ on_activate_moves s es er =
     let all = and_parts (is_in_reset s.state && not (is_last s.own)) _ fits in
     let may = and_parts (is_in_reset s.state) _ all.0 in
     let ours = and_parts (er == s.own) _ all.1 in
-    rises es refl (is_up_in_reset s.state may.0) refl (not_true (is_last s.own) may.1)
+    rises es refl may.0 refl (not_true (is_last s.own) may.1)
     (ap (λ e. Some (es, e)) (eqb-true er s.own ours.0)) refl refl)
     (λ h. cases_on M (is_up s.state && is_session s es er) _ _
     (λ fits. stays refl (sym ((and_parts (is_up s.state) _ fits).0)) refl) (λ h. stays refl refl refl)))
@@ -95,7 +95,7 @@ on_traffic_moves s es er =
     let all = and_parts (is_session s es er) _ fits in
     let session = and_parts (is_peer s.peer es) _ all.0 in
     let may = and_parts (is_reset_reset s.state) _ all.1 in
-    rises es refl (is_up_reset_reset s.state may.0) refl (not_true (is_last s.own) may.1)
+    rises es refl (is_in_reset_reset_reset s.state may.0) refl (not_true (is_last s.own) may.1)
     (ap (λ e. Some (es, e)) (eqb-true er s.own session.1)) (is_peer_true s.peer es session.0) refl)
     (λ h. cases_on M (is_session s es er && is_up s.state) _ _
     (λ fits. stays refl (sym ((and_parts (is_session s es er) _ fits).1)) refl) (λ h. stays refl refl refl))

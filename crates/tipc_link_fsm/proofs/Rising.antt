@@ -6,7 +6,7 @@ use Rattle.tipc_link_fsm.specs.declared.changes.Change.TheVariants.{Up}
 use Rattle.tipc_link_fsm.specs.Ends.{IsSound}
 use Rattle.tipc_link_fsm.specs.Table.{Fsm, is_up, is_last, next_epoch}
 use Rattle.tipc_link_fsm.specs.Runs.{Call, outcome, GoesUp, epoch_up, epochs_up}
-use Rattle.tipc_link_fsm.proofs.Moves.{stays, rises, falls, moves, is_going_up}
+use Rattle.tipc_link_fsm.proofs.Moves.{stays, rises, falls, moves, is_going_up, is_up_in_reset}
 
 -- the next epoch is no lower
 next_epoch_le : (own : ℕ) → own ≤ next_epoch own
@@ -17,7 +17,7 @@ pub own_rises : (s : Fsm) (c : Call) → s.own ≤ (outcome s c).after.own
 own_rises s c =
     elim (moves s c) as (λ _. s.own ≤ (outcome s c).after.own) [
       | stays own up change ↦ omega (arith, own)
-      | rises es own down up last shown peer going ↦ omega (arith, own)
+      | rises es own rest up last shown peer going ↦ omega (arith, own)
       | falls own up change ↦ omega (arith, own, next_epoch_le s.own)
     ]
 
@@ -27,8 +27,8 @@ goes_up s c is =
     let going : is_going_up (outcome s c).change ≡ true = ap is_going_up is in
     elim (moves s c) as (λ _. (es : ℕ) × GoesUp s c es) [
       | stays own up change ↦ absurd (true≢false (sym going ∙ change))
-      | rises es own down up last shown peer change ↦
-          (es, record { was_down = down; own_stays = own; goes_on = last; told = shown; taken = peer })
+      | rises es own rest up last shown peer change ↦
+          (es, record { was_in_reset = rest; own_stays = own; goes_on = last; told = shown; taken = peer })
       | falls own up change ↦ absurd (true≢false (sym going ∙ change))
     ]
 
@@ -84,9 +84,9 @@ epochs_up_rise (c ∷ cs) s low going_on passed =
           (epochs_up_rise cs next low
           (λ is. ap is_last own ∙ going_on (sym up ∙ is))
           (elim passed as (λ _. IsPassed next low) [ inl below ↦ inl (omega (arith, own, below)) | inr at ↦ inr (up ∙ at.0, omega (arith, own, at.1)) ]))
-      | rises es own down up last shown peer going ↦
+      | rises es own rest up last shown peer going ↦
           subst G (sym (epoch_up_up change next.own going)) (
-            elim passed as (λ _. low ≤ next.own) [ inl below ↦ omega (arith, own, below) | inr at ↦ absurd (true≢false (sym at.0 ∙ down)) ],
+            elim passed as (λ _. low ≤ next.own) [ inl below ↦ omega (arith, own, below) | inr at ↦ absurd (true≢false (sym at.0 ∙ is_up_in_reset s.state rest)) ],
             epochs_up_rise cs next (next.own + 1) (λ is. ap is_last own ∙ last) (inr (up, omega arith)),
           )
       | falls own down other ↦

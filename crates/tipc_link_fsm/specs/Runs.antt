@@ -1,7 +1,7 @@
-use Rattle.std.specs.Prelude.{◌≡◌, ℕ, Bool, false, List, [], ◌∷◌, ◌++◌, Option, Some, None}
+use Rattle.std.specs.Prelude.{◌≡◌, ℕ, Bool, true, false, List, [], ◌∷◌, ◌++◌, Option, Some, None}
 use Rattle.tipc_link_fsm.specs.declared.changes.Change.{Change}
 use Rattle.tipc_link_fsm.specs.declared.changes.Change.TheVariants.{Up}
-use Rattle.tipc_link_fsm.specs.Table.{Fsm, Outcome, is_up, is_last, on_reset, on_activate, on_traffic, on_tick, on_cut, on_peer_tunnel, release, forget_peer, contact_ended}
+use Rattle.tipc_link_fsm.specs.Table.{Fsm, Outcome, is_in_reset, is_last, on_reset, on_activate, on_traffic, on_tick, on_cut, on_peer_tunnel, release, forget_peer, contact_ended}
 
 -- a call of a link end with its arguments; `held` says that the pair's other link is up
 pub data Call : Type 0 where
@@ -33,10 +33,10 @@ shown_epochs (ActivateArrives es er) = Some (es, er)
 shown_epochs (TrafficArrives es er) = Some (es, er)
 shown_epochs _ = None
 
--- a call takes a link up under an epoch of the peer: the end wasn't up, its own epoch stays and isn't the last of its
+-- a call takes a link up under an epoch of the peer: the end was in reset, its own epoch stays and isn't the last of its
 -- boot, and the call's frame shows that epoch of the peer together with the end's own one
 pub record GoesUp (s : Fsm) (c : Call) (es : ℕ) : Type 0 where
-  pub was_down : is_up s.state ≡ false
+  pub was_in_reset : is_in_reset s.state ≡ true
   pub own_stays : (outcome s c).after.own ≡ s.own
   pub goes_on : is_last s.own ≡ false
   pub told : shown_epochs c ≡ Some (es, s.own)
