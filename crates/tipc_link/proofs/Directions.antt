@@ -68,12 +68,12 @@ release_of : (s : Sending) (position : ℕ) → length s.unacked ≤ 50 → leng
 unfolding release_count
 release_of s position window below high low =
     elim (cases_lt position (acked_of s)) [
-      inl before ↦
-        let far = distance_of-behind (acked_of s) position before (omega arith) in
-        grind (arith, nat_tests)
-    | inr from ↦
-        let near = distance_of-ahead (acked_of s) position from (omega arith) in
-        rw near (grind (arith, nat_tests))
+      | inl before ↦
+          let far = distance_of-behind (acked_of s) position before (omega arith) in
+          grind (arith, nat_tests)
+      | inr from ↦
+          let near = distance_of-ahead (acked_of s) position from (omega arith) in
+          rw near (grind (arith, nat_tests))
     ]
 
 -- so many unacknowledged packets are released, all of which were taken
@@ -175,11 +175,11 @@ IsCarried-sent s taken n k put took packet h few before there =
     let place : acked_of s + (length s.unacked + k) ≡ s.numbered + k = omega arith in
     let within : s.numbered + k < length put = omega arith in
     let found : get_or put (s.numbered + k) packet ≡ packet =
-        ap (λ i. get_or put i packet) (sym place)
-        ∙ sym (get_or-drop (acked_of s) put (length s.unacked + k) packet)
-        ∙ ap (λ xs. get_or xs (length s.unacked + k) packet) h.kept
-        ∙ get_or-append-add s.unacked s.waiting k packet
-        ∙ get_or_from_slice_get s.waiting k packet packet there in
+    ap (λ i. get_or put i packet) (sym place)
+    ∙ sym (get_or-drop (acked_of s) put (length s.unacked + k) packet)
+    ∙ ap (λ xs. get_or xs (length s.unacked + k) packet) h.kept
+    ∙ get_or-append-add s.unacked s.waiting k packet
+    ∙ get_or_from_slice_get s.waiting k packet packet there in
     let last : s.numbered + k + 1 - 1 ≡ s.numbered + k = omega arith in
     record {
       position = s.numbered + k + 1;

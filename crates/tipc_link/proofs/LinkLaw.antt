@@ -21,11 +21,11 @@ Each-append P xs ys hx hy k x e =
     let within : k < length (xs ++ ys) = slice_get_within (xs ++ ys) k x e in
     let value : get_or (xs ++ ys) k x ≡ x = get_or_from_slice_get (xs ++ ys) k x x e in
     elim (cases_lt k (length xs)) [
-      inl lt ↦ hx k x (slice_get-get_or xs k x lt ∙ ap Some (sym (get_or-append xs ys x k lt) ∙ value))
-    | inr le ↦
-        let place : length xs + (k - length xs) ≡ k = omega arith in
-        let there : k - length xs < length ys = omega (arith, length-append xs ys) in
-        hy (k - length xs) x (slice_get-get_or ys (k - length xs) x there ∙ ap Some (sym (get_or-append-add xs ys (k - length xs) x) ∙ ap (λ i. get_or (xs ++ ys) i x) place ∙ value))
+      | inl lt ↦ hx k x (slice_get-get_or xs k x lt ∙ ap Some (sym (get_or-append xs ys x k lt) ∙ value))
+      | inr le ↦
+          let place : length xs + (k - length xs) ≡ k = omega arith in
+          let there : k - length xs < length ys = omega (arith, length-append xs ys) in
+          hy (k - length xs) x (slice_get-get_or ys (k - length xs) x there ∙ ap Some (sym (get_or-append-add xs ys (k - length xs) x) ∙ ap (λ i. get_or (xs ++ ys) i x) place ∙ value))
     ]
 
 -- what the k-th of these frames brings
@@ -68,15 +68,15 @@ flush_keeps e b put took sent d back old theirs =
     let few : n ≤ 50 = omega arith in
     let more : s.numbered ≤ s.numbered + n = omega arith in
     let new : Each (λ f. IsFlight (s.numbered + n) e.taken b.end.sending.numbered put f) (flush_flights e b.end.sending.numbered) =
-        λ k f is.
-            let h = packet_flights-at e.taken (s.numbered + n) b.end.sending.numbered s.numbered (take n s.waiting) k f is in
-            let taken_len : length (take n s.waiting) ≡ n = length-take-le n s.waiting (omega arith) in
-            let within : k < length (take n s.waiting) = slice_get_within (take n s.waiting) k h.0 h.1 in
-            let before : k < n = omega arith in
-            let waits : k < length s.waiting = omega arith in
-            let value : get_or s.waiting k h.0 ≡ h.0 = sym (get_or-take n s.waiting k h.0 before) ∙ get_or_from_slice_get (take n s.waiting) k h.0 h.0 h.1 in
-            let there : slice_get s.waiting k ≡ Some h.0 = slice_get-get_or s.waiting k h.0 waits ∙ ap Some value in
-            subst (λ g. IsFlight (s.numbered + n) e.taken b.end.sending.numbered put g) (sym h.2) (IsFlight-packet s b.end.sending e.taken b.end.taken n k put b.took b.put took h.0 d back few before there) in
+    λ k f is.
+    let h = packet_flights-at e.taken (s.numbered + n) b.end.sending.numbered s.numbered (take n s.waiting) k f is in
+    let taken_len : length (take n s.waiting) ≡ n = length-take-le n s.waiting (omega arith) in
+    let within : k < length (take n s.waiting) = slice_get_within (take n s.waiting) k h.0 h.1 in
+    let before : k < n = omega arith in
+    let waits : k < length s.waiting = omega arith in
+    let value : get_or s.waiting k h.0 ≡ h.0 = sym (get_or-take n s.waiting k h.0 before) ∙ get_or_from_slice_get (take n s.waiting) k h.0 h.0 h.1 in
+    let there : slice_get s.waiting k ≡ Some h.0 = slice_get-get_or s.waiting k h.0 waits ∙ ap Some value in
+    subst (λ g. IsFlight (s.numbered + n) e.taken b.end.sending.numbered put g) (sym h.2) (IsFlight-packet s b.end.sending e.taken b.end.taken n k put b.took b.put took h.0 d back few before there) in
     record {
       here = record {
         direction = moves_up s b.end.taken put b.took d;
@@ -91,10 +91,10 @@ flush_keeps e b put took sent d back old theirs =
 puts_keeps : (a b : Side) (pieces : List (List ℕ)) → IsLink a b → IsLink (puts a b.end.sending.numbered pieces) b
 puts_keeps a b pieces h =
     flush_keeps (put a.end pieces) b (a.put ++ pieces) a.took a.sent
-      (offers a.end.sending b.end.taken a.put b.took pieces h.here.direction)
-      h.there.direction
-      (λ k f is. IsFlight-stays _ _ _ _ _ _ a.put (a.put ++ pieces) f (omega arith) (omega arith) (omega arith) (Extends-append a.put pieces) (h.here.flights k f is))
-      h.there.flights
+    (offers a.end.sending b.end.taken a.put b.took pieces h.here.direction)
+    h.there.direction
+    (λ k f is. IsFlight-stays _ _ _ _ _ _ a.put (a.put ++ pieces) f (omega arith) (omega arith) (omega arith) (Extends-append a.put pieces) (h.here.flights k f is))
+    h.there.flights
 
 pub Each-one : {A : Type 0} (P : A → Type 0) (x : A) → P x → Each P (x ∷ [])
 Each-one P x h zero y e = let same : x ≡ y = cc in subst P same h
@@ -141,15 +141,15 @@ content_keeps a b f (Carries number packet) is flies new h =
       took = a.took ++ (if t then packet ∷ [] else []);
       sent = a.sent ++ flush_flights (if t then record (released a.end f.acknowledgement) { taken = a.end.taken + 1; unanswered = a.end.unanswered + 1 } else released a.end f.acknowledgement) b.end.sending.numbered;
     }) b) [
-      true ↦ λ wanted_is.
-        let e = record (released a.end f.acknowledgement) { taken = a.end.taken + 1; unanswered = a.end.unanswered + 1 } in
-        let same : number ≡ wanted a.end = eqb-true _ _ wanted_is in
-        flush_keeps e b a.put (a.took ++ packet ∷ []) a.sent acked
+      | true ↦ λ wanted_is.
+          let e = record (released a.end f.acknowledgement) { taken = a.end.taken + 1; unanswered = a.end.unanswered + 1 } in
+          let same : number ≡ wanted a.end = eqb-true _ _ wanted_is in
+          flush_keeps e b a.put (a.took ++ packet ∷ []) a.sent acked
           (takes b.end.sending a.end.sending.numbered a.end.taken b.put a.took f number packet h.there.direction new flies.so_far (flies.carried number packet is) same)
           (λ k g is_g. IsFlight-stays _ _ _ _ _ _ a.put a.put g (omega arith) (omega arith) (omega arith) (Extends-same a.put) (h.here.flights k g is_g))
           h.there.flights
-    | false ↦ λ other.
-        flush_keeps (released a.end f.acknowledgement) b a.put (a.took ++ []) a.sent acked (subst (λ xs. IsDirection b.end.sending a.end.taken b.put xs) (sym (append-nil a.took)) h.there.direction) h.here.flights h.there.flights
+      | false ↦ λ other.
+          flush_keeps (released a.end f.acknowledgement) b a.put (a.took ++ []) a.sent acked (subst (λ xs. IsDirection b.end.sending a.end.taken b.put xs) (sym (append-nil a.took)) h.there.direction) h.here.flights h.there.flights
     ] refl
 
 hears_keeps : (a b : Side) (f : Flight) (k : ℕ) → slice_get b.sent k ≡ Some f → is_fresh a b f ≡ true → IsLink a b → IsLink (hears a b.end.sending.numbered f) b
@@ -162,8 +162,8 @@ comes_keeps : (a b : Side) (k : ℕ) (o : Option Flight) → slice_get b.sent k 
 comes_keeps a b k None is h = h
 comes_keeps a b k (Some f) is h =
     elim (is_fresh a b f) as (λ t. is_fresh a b f ≡ t → IsLink (if t then hears a b.end.sending.numbered f else a) b) [
-      true ↦ λ new. hears_keeps a b f k is new h
-    | false ↦ λ old. h
+      | true ↦ λ new. hears_keeps a b f k is new h
+      | false ↦ λ old. h
     ] refl
 
 after_keeps : (a b : Side) (w : Happening) → IsLink a b → IsLink (after a b w) b

@@ -5,5 +5,4 @@ ghost use Rattle.tipc_link.specs.Laws.{KeepsPrefix};
 /// either end is a prefix of what was put at the other.
 pub fn session_gives_prefix()
     ensures { KeepsPrefix }
-{
-}
+{}

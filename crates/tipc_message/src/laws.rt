@@ -6,5 +6,4 @@ ghost use Rattle.tipc_message.specs.Wire.{message_of, packet_of, IsPayload};
 /// The packet of a user's message carries that message.
 pub fn messages_are_read_again()
     ensures { (m : Message) (p : Fields) → IsPayload m → packet_of m ≡ Some p → message_of p ≡ Some m }
-{
-}
+{}

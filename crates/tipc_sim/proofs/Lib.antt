@@ -1,0 +1,6 @@
+pub mod LineLaws
+pub mod ListLaws
+pub mod NodeLaws
+pub mod OutputLaws
+pub mod ReportLaws
+pub mod RunLaws

@@ -1,0 +1,105 @@
+-- A line without fault can be done.
+use Rattle.std.proofs.Common.{◌≡◌, ◌≢◌, arith, ℕ, ◌≤◌, Bool, true, false, not, Option, Some, None, List, [], ◌∷◌, drop, refl, sym, ◌∙◌, inl, inr}
+use Rattle.std.specs.Option.{option_or}
+use Rattle.std.proofs.lemmas.Bool.{cases_Bool}
+use Rattle.tipc_script.specs.declared.lines.NodeToken.{NodeToken}
+use Rattle.tipc_script.specs.declared.faults.LineWhy.TheVariants as why
+use Rattle.tipc_script.specs.Splitting.{Left, whole, first_token, behind}
+use Rattle.tipc_script.specs.Kinds.{Kind, OldNode, BearerNumber, is_remark}
+use Rattle.tipc_script.specs.Grammar.{Row, rows, row_of, asked, asked_by, nodes_of, nodes_by, nodes_in, first_number, node_row, link_row, mark_row, socket_row, send_row, arrive_row, receive_row, flow_row}
+use Rattle.tipc_script.specs.Spelling.{Asks, IsMessage, node_number}
+use Rattle.tipc_types.specs.declared.identity.PortId.{PortId}
+use Rattle.tipc_types.specs.declared.message_forms.Importance.{Importance}
+use Rattle.tipc_types.specs.Address.{node_word}
+use Rattle.tipc_script.proofs.Reading.{OfRows, row_found}
+use Rattle.tipc_script.proofs.Found.{asks_found}
+use Rattle.tipc_sim.specs.Nodes.{is_misplaced, node_fault, fault_where, CanBeDone}
+
+-- without a fault, the first node is as it has to be, and so are the others
+first_in_place : (there : ℕ → Bool) (token : NodeToken) (tokens : List NodeToken) → node_fault there (token ∷ tokens) ≡ None → (is_misplaced there token ≡ false) × (node_fault there tokens ≡ None)
+first_in_place there token tokens e =
+    elim (cases_Bool (is_misplaced there token)) [
+      | inl wrong ↦ absurd (let f : node_fault there (token ∷ tokens) ≡ Some (token.place, why.Node) = rw wrong refl in cc)
+      | inr right ↦ (right, (let f : node_fault there (token ∷ tokens) ≡ node_fault there tokens = rw right refl in sym f ∙ e))
+    ]
+
+not_absent : (b : Bool) → not b ≡ false → b ≡ true
+not_absent true e = refl
+not_absent false e = absurd cc
+
+-- a node that has to be there is there, without a fault
+old_in_place : (there : ℕ → Bool) (kinds : List Kind) (left : Left) → node_fault there (nodes_in (OldNode ∷ kinds) left) ≡ None → (there (first_number left) ≡ true) × (node_fault there (nodes_in kinds (behind left)) ≡ None)
+old_in_place there kinds left e =
+    let first = first_in_place there (record { place = left.place; node = first_number left; there = true }) (nodes_in kinds (behind left)) e in
+    (not_absent _ first.0, first.1)
+
+-- where the nodes of a row's tokens are in place, what it asks for can be done
+abbrev CanDo : Row → Type 0
+CanDo row = (there : ℕ → Bool) (text : List ℕ) (left : Left) → Asks text (row.asks left) → node_fault there (nodes_in row.kinds left) ≡ None → CanBeDone there (row.asks left)
+
+node_can : CanDo node_row
+node_can there text left asks e = (asks.0, (first_in_place there (record { place = left.place; node = first_number left; there = false }) [] e).0)
+
+link_can : CanDo link_row
+link_can there text left asks e =
+    let first = old_in_place there (OldNode ∷ BearerNumber ∷ []) left e in
+    let second = old_in_place there (BearerNumber ∷ []) (behind left) first.1 in
+    (first.0, second.0)
+
+mark_can : CanDo mark_row
+mark_can there text left asks e = tt
+
+socket_can : CanDo socket_row
+socket_can there text left asks e = (old_in_place there [] left e).0
+
+send_can : CanDo send_row
+send_can there text left asks e = ((old_in_place there (drop 1 send_row.kinds) left e).0, asks.0)
+
+arrive_can : CanDo arrive_row
+arrive_can there text left asks e = ((old_in_place there (drop 1 arrive_row.kinds) left e).0, asks.0.1)
+
+receive_can : CanDo receive_row
+receive_can there text left asks e = (old_in_place there (drop 1 receive_row.kinds) left e).0
+
+flow_can : CanDo flow_row
+flow_can there text left asks e =
+    let from = old_in_place there (OldNode ∷ []) left e in
+    let to = old_in_place there [] (behind left) from.1 in
+    (from.0, to.0)
+
+all_can : OfRows CanDo rows
+all_can = (node_can, (link_can, (mark_can, (socket_can, (send_can, (arrive_can, (receive_can, (flow_can, tt))))))))
+
+row_can : (there : ℕ → Bool) (text : List ℕ) (row : Option Row) → row_of (first_token (whole text)) ≡ row → Asks text (asked_by row (behind (whole text)))
+    → node_fault there (nodes_by row (behind (whole text))) ≡ None → CanBeDone there (asked_by row (behind (whole text)))
+unfolding row_of
+row_can there text None found asks e = tt
+row_can there text (Some row) found asks e =
+    (row_found CanDo rows (first_token (whole text)) row all_can found).0 there text (behind (whole text)) asks e
+
+can_be_done : (there : ℕ → Bool) (text : List ℕ) → Asks text (asked text) → node_fault there (nodes_of text) ≡ None → CanBeDone there (asked text)
+unfolding asked nodes_of
+can_be_done there text asks e =
+    elim (cases_Bool (is_remark text)) [
+      | inl remark ↦ rw remark tt
+      | inr words ↦ rw words (row_can there text (row_of (first_token (whole text))) refl (rw words at asks) (rw words at e))
+    ]
+
+none_in : {A : Type 0} (o p : Option A) → option_or o p ≡ None → (o ≡ None) × (p ≡ None)
+none_in None p e = (refl, e)
+none_in (Some x) p e = absurd cc
+
+-- a line without fault can be done
+pub sound_can_be_done : (there : ℕ → Bool) (text : List ℕ) → fault_where there text ≡ None → CanBeDone there (asked text)
+unfolding fault_where
+sound_can_be_done there text e =
+    let none = none_in _ _ e in
+    can_be_done there text (asks_found text none.0) none.1
+
+-- a message of a line goes to another of the 32 nodes
+pub reaches : {node port : ℕ} {to : PortId} {importance : Importance} {body : List ℕ} → IsMessage node port to importance body
+    → (m : ℕ) × (1 ≤ m) × (m ≤ 32) × (m ≢ node) × (to.node.word ≡ node_word m)
+reaches {node} {port} {to} message =
+    let place = message.to_node in
+    let other = message.other in
+    (node_number to, omega arith, omega arith, λ same. other (omega arith), omega arith)

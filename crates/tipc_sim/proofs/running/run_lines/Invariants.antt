@@ -1,0 +1,17 @@
+use Rattle.std.proofs.Common.{◌≡◌, ◌≤◌, length, false}
+use Rattle.tipc_world.specs.Good.{IsGood}
+use Rattle.tipc_sim.specs.Steps.{IsUnderWay}
+use Rattle.tipc_sim.proofs.running.run_lines.Given as goal
+
+abbrev pub decreases-loop-rest : goal.decreases-loop-rest
+decreases-loop-rest g l = length l.rest
+
+abbrev pub invariant-loop-rest : goal.invariant-loop-rest
+invariant-loop-rest g l = record {
+  under_way : IsUnderWay l.script l.rest l.done l.fn.world l.world (g.K.Sink.contents l.fn.sink) (g.K.Sink.contents l.sink);
+  shorter : length l.rest ≤ length l.script;
+  good : IsGood l.world;
+  kept : l.world.lost ≡ false;
+  later : g.K.Sink.faults l.fn.sink ≤ g.K.Sink.faults l.sink;
+  no_fewer : g.K.Sink.stalls l.fn.sink ≤ g.K.Sink.stalls l.sink;
+}

@@ -1,0 +1,231 @@
+ghost use Rattle.std.specs.Prelude.{ℕ, ◌≡◌, ◌⊎◌, ◌<◌, ◌≤◌, ◌^◌, ◌↔◌, OnOk, OnErr, IfErr, IfOk, IfSome, IsErrOf, Err, Some, None, [], length, map, true, false};
+ghost use Rattle.std.specs.String.{string_bytes};
+ghost use Rattle.std.specs.Io.KnownBytes.{Appends};
+ghost use Rattle.tipc_outside.specs.Causes.{Rose};
+ghost use Rattle.tipc_report.specs.Text.{bad_line, limit_line};
+ghost use Rattle.tipc_world.specs.States.{is_there, no_nodes};
+ghost use Rattle.tipc_world.specs.Good.{IsGood};
+ghost use Rattle.tipc_sim.specs.Lines.{lines_of, IsWithin};
+ghost use Rattle.tipc_sim.specs.Nodes.{AreSound, IsFirstBad};
+ghost use Rattle.tipc_sim.specs.Words.{is_run};
+ghost use Rattle.tipc_script.specs.Faults.{Fault};
+ghost use Rattle.tipc_sim.specs.Reports.{Reports};
+ghost use Rattle.tipc_sim.specs.Output.{AppendsFront};
+ghost use Rattle.tipc_sim.specs.Steps.{LineRuns, IsWriteStatus, IsLineStatus, IsLinesStatus, IsLimitStatus};
+
+use crate::lines::{do_line, line_in};
+use crate::reading::{ReadStop, read_script};
+use crate::scripts::first_line;
+use crate::status::Status;
+use crate::writing::write_all;
+use std::alloc::Global;
+use tipc_outside::{Sink, SinkFault, Source};
+use tipc_report::{Which, print_bad, print_limit};
+use tipc_script::{LineFault, LineWhy};
+use tipc_types::NoMemory;
+use tipc_world::World;
+
+/// The most lines of a script. (This project's profile.)
+const MOST_LINES: usize = 65_536;
+
+/// Writes a text, or answers the status of what stopped it.
+fn write_text<K: Sink>(sink: &mut K, text: &[u8]) -> Result<(), Status>
+    ensures ok { OnOk result (Appends (K.contents sink.old) (K.contents sink.new) text.now) }
+    ensures front { AppendsFront (K.contents sink.old) (K.contents sink.new) text.now }
+    ensures status { IfErr result IsWriteStatus }
+    ensures failed { IsErrOf result Status.WriteFault → Rose (K.faults sink.old) (K.faults sink.new) ⊎ Rose (K.stalls sink.old) (K.stalls sink.new) }
+    ensures later { K.faults sink.old ≤ K.faults sink.new }
+    ensures no_fewer { K.stalls sink.old ≤ K.stalls sink.new }
+{
+    match write_all(sink, text) {
+        Ok(()) => Ok(()),
+        Err(SinkFault::Failed) => Err(Status::WriteFault),
+        Err(SinkFault::NoMemory) => Err(Status::NoMemory),
+    }
+}
+
+/// The closing line of a bad line.
+fn bad_text(alloc: Global, number: u32, place: u32, why: LineWhy) -> Result<Vec<u8>, NoMemory>
+    ensures { IfOk result (λ text. text.items ≡ bad_line number place why) }
+{
+    let mut text = Vec::new(alloc);
+    print_bad(number, place, why, &mut text)?;
+    Ok(text)
+}
+
+/// Tells a bad line, and answers the status of that.
+fn refuse<K: Sink>(alloc: Global, number: u32, place: u32, why: LineWhy, sink: &mut K) -> Status
+    ensures bad { result ≡ Status.BadLine → Appends (K.contents sink.old) (K.contents sink.new) (bad_line number place why) }
+    ensures front { AppendsFront (K.contents sink.old) (K.contents sink.new) (bad_line number place why) }
+    ensures status { IsLineStatus result }
+    ensures failed { result ≡ Status.WriteFault → Rose (K.faults sink.old) (K.faults sink.new) ⊎ Rose (K.stalls sink.old) (K.stalls sink.new) }
+    ensures later { K.faults sink.old ≤ K.faults sink.new }
+    ensures no_fewer { K.stalls sink.old ≤ K.stalls sink.new }
+{
+    let Ok(text) = bad_text(alloc, number, place, why) else {
+        return Status::NoMemory;
+    };
+    match write_text(sink, text.as_slice()) {
+        Ok(()) => Status::BadLine,
+        Err(status) => status,
+    }
+}
+
+/// Runs one line: does what it asks for and prints its answer, or tells that it is bad.
+fn run_line<K: Sink>(
+    alloc: Global,
+    number: u32,
+    text: &[u8],
+    sink: &mut K,
+    world: &mut World,
+) -> Result<(), Status>
+    requires short { length text.now < 2 ^ 31 }
+    requires kept { world.old.lost ≡ false }
+    requires good { IsGood world.old }
+    ensures good { IsGood world.new }
+    ensures kept { (result ≡ Err Status.NoMemory → ⊥) → world.new.lost ≡ false }
+    ensures run { LineRuns result number text.now world.old world.new (K.contents sink.old) (K.contents sink.new) }
+    ensures failed { IsErrOf result Status.WriteFault → Rose (K.faults sink.old) (K.faults sink.new) ⊎ Rose (K.stalls sink.old) (K.stalls sink.new) }
+    ensures later { K.faults sink.old ≤ K.faults sink.new }
+    ensures no_fewer { K.stalls sink.old ≤ K.stalls sink.new }
+{
+    let line = match line_in(alloc, text, world) {
+        Ok(line) => line,
+        Err(LineFault::BadLine { place, why }) => {
+            return Err(refuse(alloc, number, place, why, sink));
+        }
+        Err(LineFault::NoMemory) => return Err(Status::NoMemory),
+    };
+    let Ok(printed) = do_line(alloc, number, line, world) else {
+        return Err(Status::NoMemory);
+    };
+    write_text(sink, printed.as_slice())
+}
+
+/// Runs the lines of a script, one after the other.
+fn run_lines<K: Sink>(alloc: Global, script: &[u8], sink: &mut K, world: &mut World) -> Status
+    requires within { IsWithin script.now }
+    requires empty { (n : ℕ) → is_there world.old n ≡ false }
+    requires kept { world.old.lost ≡ false }
+    requires good { IsGood world.old }
+    ensures good { IsGood world.new }
+    ensures kept { (result ≡ Status.NoMemory → ⊥) → world.new.lost ≡ false }
+    ensures report { Reports script.now result world.old world.new (K.contents sink.old) (K.contents sink.new) }
+    ensures sound { result ≡ Status.Ok → AreSound (lines_of script.now) }
+    ensures status { IsLinesStatus result }
+    ensures failed { result ≡ Status.WriteFault → Rose (K.faults sink.old) (K.faults sink.new) ⊎ Rose (K.stalls sink.old) (K.stalls sink.new) }
+{
+    let mut rest = script;
+    let mut done = 0;
+    while !rest.is_empty() {
+        let (line, behind) = first_line(rest);
+        if let Err(status) = run_line(alloc, done + 1, line, sink, world) {
+            return status;
+        }
+        done += 1;
+        rest = behind;
+    }
+    Status::Ok
+}
+
+/// How many lines some bytes have.
+fn line_count(script: &[u8]) -> usize
+    ensures { result ≡ length (lines_of script.now) }
+{
+    let mut rest = script;
+    let mut count = 0;
+    while !rest.is_empty() {
+        let (_line, behind) = first_line(rest);
+        count += 1;
+        rest = behind;
+    }
+    count
+}
+
+/// The closing line of a script that reaches a limit as a whole.
+fn limit_text(alloc: Global, which: Which) -> Result<Vec<u8>, NoMemory>
+    ensures { IfOk result (λ text. text.items ≡ limit_line 0 which) }
+{
+    let mut text = Vec::new(alloc);
+    print_limit(0, which, &mut text)?;
+    Ok(text)
+}
+
+/// Tells that a script is too long, and answers the status of that.
+fn refuse_script<K: Sink>(alloc: Global, which: Which, sink: &mut K) -> Status
+    ensures limit { result ≡ Status.Limit → Appends (K.contents sink.old) (K.contents sink.new) (limit_line 0 which) }
+    ensures front { AppendsFront (K.contents sink.old) (K.contents sink.new) (limit_line 0 which) }
+    ensures status { IsLimitStatus result }
+    ensures failed { result ≡ Status.WriteFault → Rose (K.faults sink.old) (K.faults sink.new) ⊎ Rose (K.stalls sink.old) (K.stalls sink.new) }
+{
+    let Ok(text) = limit_text(alloc, which) else {
+        return Status::NoMemory;
+    };
+    match write_text(sink, text.as_slice()) {
+        Ok(()) => Status::Limit,
+        Err(status) => status,
+    }
+}
+
+/// Whether the words after the program's name are a form.
+fn is_form(words: &[String]) -> bool
+    ensures { result ≡ is_run (map string_bytes words.now) }
+{
+    match words {
+        [word] => word.as_str() == "run",
+        _ => false,
+    }
+}
+
+/// Runs the script that a source holds, and writes its report to a sink.
+///
+/// The form is the word `run` alone. The source is read to its end first. Then each line is read, done and
+/// answered by a printed line before the next one. (This project's profile.)
+pub fn run<S: Source, K: Sink>(
+    alloc: Global,
+    words: &[String],
+    source: &mut S,
+    sink: &mut K,
+    world: &mut World,
+) -> Status
+    requires { world.old ≡ no_nodes }
+
+    // Whatever the status, the messages delivered are a front of those accepted.
+    ensures good { IsGood world.new }
+
+    // What is written: a front of the script's report, and the whole of it at Ok, BadLine and Limit.
+    ensures report { IfSome (S.left source.old) (λ script. Reports script result world.old world.new (K.contents sink.old) (K.contents sink.new)) }
+
+    // Where each status comes.
+    ensures usage { (result ≡ Status.Usage) ↔ (is_run (map string_bytes words.now) ≡ false) }
+    ensures untouched { result ≡ Status.Usage → (source.new ≡ source.old) × (sink.new ≡ sink.old) × (world.new ≡ world.old) }
+    ensures read { result ≡ Status.ReadFault → Rose (S.faults source.old) (S.faults source.new) × (sink.new ≡ sink.old) × (world.new ≡ world.old) }
+    ensures write { result ≡ Status.WriteFault → Rose (K.faults sink.old) (K.faults sink.new) ⊎ Rose (K.stalls sink.old) (K.stalls sink.new) }
+    ensures limit { result ≡ Status.Limit → IfSome (S.left source.old) (λ script. IsWithin script → ⊥) }
+    ensures within { (result ≡ Status.Ok) ⊎ (result ≡ Status.BadLine) → IfSome (S.left source.old) IsWithin }
+    ensures bad { result ≡ Status.BadLine → IfSome (S.left source.old) (λ script. (i : ℕ) × (fault : Fault) × IsFirstBad (lines_of script) i fault) }
+    ensures sound { result ≡ Status.Ok → IfSome (S.left source.old) (λ script. AreSound (lines_of script)) }
+    ensures end { result ≡ Status.Ok → IfSome (S.left source.old) (λ script. S.left source.new ≡ Some []) }
+
+    // A frame that was lost for want of memory ends the run so.
+    ensures lost { world.new.lost ≡ true → result ≡ Status.NoMemory }
+
+    // A script without fault, within the limits and with no failure outside, is run to its end, unless memory runs out.
+    ensures complete { IfSome (S.left source.old) (λ script. is_run (map string_bytes words.now) ≡ true → IsWithin script → AreSound (lines_of script)
+        → (Rose (S.faults source.old) (S.faults source.new) → ⊥) → (Rose (K.faults sink.old) (K.faults sink.new) → ⊥) → (Rose (K.stalls sink.old) (K.stalls sink.new) → ⊥)
+        → (result ≡ Status.Ok) ⊎ (result ≡ Status.NoMemory)) }
+{
+    if !is_form(words) {
+        return Status::Usage;
+    }
+    let script = match read_script(alloc, source) {
+        Ok(script) => script,
+        Err(ReadStop::Failed) => return Status::ReadFault,
+        Err(ReadStop::TooLong) => return refuse_script(alloc, Which::Bytes, sink),
+        Err(ReadStop::NoMemory) => return Status::NoMemory,
+    };
+    if line_count(script.as_slice()) > MOST_LINES {
+        return refuse_script(alloc, Which::Lines, sink);
+    }
+    run_lines(alloc, script.as_slice(), sink, world)
+}

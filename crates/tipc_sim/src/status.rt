@@ -1,0 +1,38 @@
+ghost use Rattle.std.specs.Prelude.{◌≡◌};
+ghost use Rattle.tipc_sim.specs.Statuses.{code_of};
+
+/// How a run ends. (This project's profile.)
+#[derive(Clone, Copy, Debug, PartialEq, Eq)]
+pub enum Status {
+    /// All input was read to its end and every line done.
+    Ok,
+    /// The words after the program's name aren't a form: nothing is read or written.
+    Usage,
+    /// A line isn't in the grammar, names a node that isn't there, or makes one that is.
+    BadLine,
+    /// The source failed in this call: nothing is written.
+    ReadFault,
+    /// The sink failed in this call, or took nothing of a piece that isn't empty.
+    WriteFault,
+    /// Memory ran out.
+    NoMemory,
+    /// The script is too long.
+    Limit,
+}
+
+impl Status {
+    /// The exit status of the program, from 0 to 6.
+    pub fn code(self) -> u8
+        ensures { result ≡ code_of self }
+    {
+        match self {
+            Status::Ok => 0,
+            Status::Usage => 1,
+            Status::BadLine => 2,
+            Status::ReadFault => 3,
+            Status::WriteFault => 4,
+            Status::NoMemory => 5,
+            Status::Limit => 6,
+        }
+    }
+}

@@ -1,0 +1,124 @@
+use super::*;
+use std::test::Fail;
+use tipc_outside::{MemorySink, MemorySource};
+
+/// Two nodes with a link and a socket each; a message that is sent, arrives twice and is received once.
+const FIRST_MESSAGE: &[u8] =
+    b"node 1\nnode 2\nlink 1 2 0\nmark\nsocket 1\nsocket 2\nsend 1 1 port 2 1 low =hello\narrive 2 0 0\narrive 2 0 0\nreceive 2 1\nreceive 2 1\nflow 1 2\n";
+
+/// The status of a run over memory, and what it wrote. Reads and writes of these numbers fail.
+fn run_over(
+    rt: &HostRuntime,
+    words: &[&str],
+    script: &[u8],
+    reads: &[u64],
+    writes: &[u64],
+) -> Result<(Status, Vec<u8>), Fail> {
+    let mut texts = Vec::new(rt.alloc());
+    for word in words {
+        texts.push(String::from_str(rt.alloc(), word)?)?;
+    }
+    let mut source = MemorySource::new(script.to_vec(rt.alloc())?, reads.to_vec(rt.alloc())?);
+    let mut sink = MemorySink::new(rt.alloc(), writes.to_vec(rt.alloc())?);
+    let mut world = World::new(rt.alloc());
+    let status = run(
+        rt.alloc(),
+        texts.as_slice(),
+        &mut source,
+        &mut sink,
+        &mut world,
+    );
+    Ok((status, sink.written().to_vec(rt.alloc())?))
+}
+
+#[test]
+fn words_and_faults_of_the_outside(rt: HostRuntime) -> Result<(), Fail> {
+    let rows: [(&[&str], &[u8], &[u64], &[u64], Status, &[u8]); 8] = [
+        (&["run"], b"", &[], &[], Status::Ok, b""),
+        (&[], b"node 1\n", &[], &[], Status::Usage, b""),
+        (&["run", "now"], b"node 1\n", &[], &[], Status::Usage, b""),
+        (&["Run"], b"node 1\n", &[], &[], Status::Usage, b""),
+        (&["run"], b"node 1\n", &[1], &[], Status::ReadFault, b""),
+        (&["run"], b"node 1\n", &[2], &[], Status::ReadFault, b""),
+        (
+            &["run"],
+            FIRST_MESSAGE,
+            &[],
+            &[2],
+            Status::WriteFault,
+            b"1 ok\n",
+        ),
+        (&["run"], b"node x\n", &[], &[1], Status::WriteFault, b""),
+    ];
+    for (words, script, reads, writes, status, written) in rows {
+        let (ended, wrote) = run_over(&rt, words, script, reads, writes)?;
+        assert_eq!(rt; ended, status);
+        assert_eq!(rt; wrote.as_slice(), written);
+    }
+    Ok(())
+}
+
+#[test]
+fn reports(rt: HostRuntime) -> Result<(), Fail> {
+    let rows: [(&[u8], Status, &[u8]); 9] = [
+        (
+            FIRST_MESSAGE,
+            Status::Ok,
+            b"1 ok\n2 ok\n3 up\n4 ok\n5 socket 1\n6 socket 1\n7 sent\n8 took 1\n9 ignored old\n10 got 1:1 0 5 hello\n11 empty\n12 accepted 1 delivered 1\n",
+        ),
+        (b"\n# nothing\nnode 32", Status::Ok, b"1 -\n2 -\n3 ok\n"),
+        (
+            b"node 1\nnode x\nnode 2\n",
+            Status::BadLine,
+            b"1 ok\n2 bad 6 number\n",
+        ),
+        (
+            b"node 1\nnode 1\n",
+            Status::BadLine,
+            b"1 ok\n2 bad 6 node\n",
+        ),
+        (
+            b"node 1\nlink 1 2 0\n",
+            Status::BadLine,
+            b"1 ok\n2 bad 8 node\n",
+        ),
+        (
+            b"node 1\nflow 2 3\n",
+            Status::BadLine,
+            b"1 ok\n2 bad 6 node\n",
+        ),
+        (b"socket 33\n", Status::BadLine, b"1 bad 8 number\n"),
+        (
+            b"node 1\nsend 1 1 port 2 1 low =a b\n",
+            Status::BadLine,
+            b"1 ok\n2 bad 26 end\n",
+        ),
+        (
+            b"node 1\n\xff\n",
+            Status::BadLine,
+            b"1 ok\n2 bad 1 command\n",
+        ),
+    ];
+    for (script, status, written) in rows {
+        let (ended, wrote) = run_over(&rt, &["run"], script, &[], &[])?;
+        assert_eq!(rt; ended, status);
+        assert_eq!(rt; wrote.as_slice(), written);
+    }
+    Ok(())
+}
+
+#[test]
+fn limits_of_a_script(rt: HostRuntime) -> Result<(), Fail> {
+    let rows: [(usize, u8, Status, &[u8]); 3] = [
+        (16_777_217, b'#', Status::Limit, b"0 limit bytes 16777216\n"),
+        (65_537, b'\n', Status::Limit, b"0 limit lines 65536\n"),
+        (16_777_216, b'#', Status::Ok, b"1 -\n"),
+    ];
+    for (length, byte, status, written) in rows {
+        let script = vec![in rt.alloc(); byte; length]?;
+        let (ended, wrote) = run_over(&rt, &["run"], script.as_slice(), &[], &[])?;
+        assert_eq!(rt; ended, status);
+        assert_eq!(rt; wrote.as_slice(), written);
+    }
+    Ok(())
+}

@@ -1,0 +1,14 @@
+pub mod LookUps
+pub mod Entries
+pub mod Packets
+pub mod Updates
+pub mod LinkEvents
+pub mod PairEvents
+pub mod WorldEvents
+pub mod Promise
+pub mod Start
+pub mod Released
+pub mod Unchanged
+pub mod At
+pub mod Steps
+pub mod Joins

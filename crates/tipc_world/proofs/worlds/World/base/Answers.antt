@@ -1,0 +1,15 @@
+use Rattle.std.proofs.Common.{subst}
+use Rattle.tipc_world.specs.Good.{IsGood}
+use Rattle.tipc_world.specs.States.{WorldState}
+use Rattle.tipc_world.proofs.Promise.{is_good}
+use Rattle.tipc_world.proofs.worlds.World.base.Goals as goal
+
+pub returns-then-bearer-eq0-clause-good : goal.returns-then-bearer-eq0-clause-good
+returns-then-bearer-eq0-clause-good c =
+    let w : WorldState = record { nodes = c.self.inside.nodes.items; air = c.self.inside.air.items; base = c.self.inside.base; lost = c.self.inside.lost } in
+    subst IsGood c.self.view_is (is_good w c.self.invariant.0)
+
+pub returns-else-bearer-eq0-clause-good : goal.returns-else-bearer-eq0-clause-good
+returns-else-bearer-eq0-clause-good c =
+    let w : WorldState = record { nodes = c.self.inside.nodes.items; air = c.self.inside.air.items; base = c.self.inside.base; lost = c.self.inside.lost } in
+    subst IsGood c.self.view_is (is_good w c.self.invariant.0)

@@ -1,0 +1,9 @@
+pub mod Sound
+pub mod States
+pub mod Good
+pub mod Hearing
+pub mod Inboxes
+pub mod Nodes
+pub mod Air
+pub mod Calls
+pub mod Due
