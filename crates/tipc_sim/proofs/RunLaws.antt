@@ -7,6 +7,7 @@ use Rattle.std.proofs.lemmas.List.{length-drop, length-take, take_all}
 use Rattle.std.proofs.Math.Seq.{take-append-add}
 use Rattle.tipc_script.specs.Grammar.{asked}
 use Rattle.tipc_world.specs.States.{WorldState, is_there}
+use Rattle.tipc_world.proofs.Growing.{same_grows}
 use Rattle.tipc_sim.specs.declared.status.Status.{Status}
 use Rattle.tipc_sim.specs.declared.status.Status.TheVariants as status
 use Rattle.tipc_sim.specs.Happenings.{Runs, begin, go_on, answer_text}
@@ -98,6 +99,7 @@ ends_whole script rest number start now before after u none =
       report = u.report;
       runs = u.runs;
       reached = λ other. refl;
+      grown = same_grows now now refl;
       closing = [];
       ends = (omega (arith, all, u.few), refl);
       written = subst (Appends before after) (sym (append-nil u.report)) u.written;
@@ -127,6 +129,7 @@ refused script rest line behind number start old new before between after u next
   report = u.report;
   runs = u.runs;
   reached = λ other. bad.told.3;
+  grown = same_grows old new bad.told.3;
   closing = bad.text;
   ends = ends_badly script rest line behind bad.text number start old new before between u next bad.told;
   written = Appends-trans before between after u.report bad.text u.written bad.written;
@@ -148,6 +151,7 @@ cut_short script rest line behind number start old new before between after u ne
             report = u.report ++ cut.text;
             runs = m.runs;
             reached = λ other. refl;
+            grown = same_grows new new refl;
             closing = [];
             ends = inl refl;
             written = subst (AppendsFront before after) (sym (append-nil (u.report ++ cut.text))) written;
@@ -160,6 +164,7 @@ cut_short script rest line behind number start old new before between after u ne
         report = u.report;
         runs = u.runs;
         reached = λ other. told.3;
+        grown = same_grows old new told.3;
         closing = cut.text;
         ends = inr (inl (ends_badly script rest line behind cut.text number start old new before between u next told));
         written = written;
@@ -167,7 +172,7 @@ cut_short script rest line behind number start old new before between after u ne
     ]
 
 -- memory ran out before anything was written of a line
-untold : (script rest : List ℕ) (number : ℕ) (start old new : WorldState) (before between after : Option (List ℕ)) → IsUnderWay script rest number start old before between → IsUntold between after
+untold : (script rest : List ℕ) (number : ℕ) (start old new : WorldState) (before between after : Option (List ℕ)) → IsUnderWay script rest number start old before between → IsUntold old new between after
     → Reports script status.NoMemory start new before after
 untold script rest number start old new before between after u none = record {
   done = number;
@@ -177,6 +182,7 @@ untold script rest number start old new before between after u none = record {
   report = u.report;
   runs = u.runs;
   reached = λ other. absurd (other refl);
+  grown = none.grown;
   closing = [];
   ends = inl refl;
   written = front_more before between after u.report [] u.written none.written;
@@ -192,7 +198,7 @@ stops script rest line behind number start old new before between after status.N
       | inl none ↦ untold script rest number start old new before between after u none
       | inr cut ↦
           let r = cut_short script rest line behind number start old new before between after u next cut in
-          record { done = r.done; few = r.few; sound = r.sound; left = r.left; report = r.report; runs = r.runs; reached = λ other. absurd (other refl); closing = r.closing; ends = r.ends; written = r.written }
+          record { done = r.done; few = r.few; sound = r.sound; left = r.left; report = r.report; runs = r.runs; reached = λ other. absurd (other refl); grown = r.grown; closing = r.closing; ends = r.ends; written = r.written }
     ]
 stops script rest line behind number start old new before between after status.Ok u next run = absurd run
 stops script rest line behind number start old new before between after status.Usage u next run = absurd run
@@ -216,6 +222,7 @@ unread script start before = record {
   report = [];
   runs = begin;
   reached = λ other. refl;
+  grown = same_grows start start refl;
   closing = [];
   ends = inl refl;
   written = (0, Appends-nil before);
@@ -224,22 +231,22 @@ unread script start before = record {
 pub unused : (script : List ℕ) (start : WorldState) (before : Option (List ℕ)) → Reports script status.Usage start start before before
 unfolding unread
 unused script start before = let r = unread script start before in
-    record { done = r.done; few = r.few; sound = r.sound; left = r.left; report = r.report; runs = r.runs; reached = λ other. refl; closing = r.closing; ends = r.ends; written = r.written }
+    record { done = r.done; few = r.few; sound = r.sound; left = r.left; report = r.report; runs = r.runs; reached = λ other. refl; grown = r.grown; closing = r.closing; ends = r.ends; written = r.written }
 
 pub unwritten : (script : List ℕ) (start : WorldState) (before : Option (List ℕ)) → Reports script status.NoMemory start start before before
 unfolding unread
 unwritten script start before = let r = unread script start before in
-    record { done = r.done; few = r.few; sound = r.sound; left = r.left; report = r.report; runs = r.runs; reached = λ other. refl; closing = r.closing; ends = r.ends; written = r.written }
+    record { done = r.done; few = r.few; sound = r.sound; left = r.left; report = r.report; runs = r.runs; reached = λ other. refl; grown = r.grown; closing = r.closing; ends = r.ends; written = r.written }
 
 -- a script that is too long
 pub too_long : (script closing : List ℕ) (start : WorldState) (before after : Option (List ℕ)) (s : Status) → EndsOver script 0 closing → IsLimitStatus s → (s ≡ status.Limit → Appends before after closing) → AppendsFront before after closing
     → Reports script s start start before after
 too_long script closing start before after status.Limit over is whole front =
-    record { done = 0; few = omega arith; sound = sound_none; left = start; report = []; runs = begin; reached = λ other. refl; closing = closing; ends = over; written = whole refl }
+    record { done = 0; few = omega arith; sound = sound_none; left = start; report = []; runs = begin; reached = λ other. refl; grown = same_grows start start refl; closing = closing; ends = over; written = whole refl }
 too_long script closing start before after status.WriteFault over is whole front =
-    record { done = 0; few = omega arith; sound = sound_none; left = start; report = []; runs = begin; reached = λ other. refl; closing = closing; ends = inr (inr over); written = front }
+    record { done = 0; few = omega arith; sound = sound_none; left = start; report = []; runs = begin; reached = λ other. refl; grown = same_grows start start refl; closing = closing; ends = inr (inr over); written = front }
 too_long script closing start before after status.NoMemory over is whole front =
-    record { done = 0; few = omega arith; sound = sound_none; left = start; report = []; runs = begin; reached = λ other. refl; closing = closing; ends = inr (inr over); written = front }
+    record { done = 0; few = omega arith; sound = sound_none; left = start; report = []; runs = begin; reached = λ other. refl; grown = same_grows start start refl; closing = closing; ends = inr (inr over); written = front }
 too_long script closing start before after status.Ok over is whole front = absurd is
 too_long script closing start before after status.Usage over is whole front = absurd is
 too_long script closing start before after status.BadLine over is whole front = absurd is

@@ -4,6 +4,7 @@ use Rattle.std.specs.Io.KnownBytes.{Appends}
 use Rattle.tipc_script.specs.Faults.{Fault}
 use Rattle.tipc_report.specs.Text.{bad_line, limit_line}
 use Rattle.tipc_report.specs.declared.limits.Which.TheVariants as which
+use Rattle.tipc_world.specs.Growth.{Grows}
 use Rattle.tipc_world.specs.States.{WorldState}
 use Rattle.tipc_sim.specs.declared.status.Status.{Status}
 use Rattle.tipc_sim.specs.declared.status.Status.TheVariants as status
@@ -38,7 +39,7 @@ WritesReport status.Limit before after text = Appends before after text
 WritesReport other before after text = AppendsFront before after text
 
 -- What a run of a script came to: its first lines were done, they are without fault, and what was written is their report
--- and a closing line. The world is the one that they left, unless memory ran out.
+-- and a closing line. The world is the one that they left, unless memory ran out, and it only grew.
 pub record Reports (script : List ℕ) (s : Status) (start now : WorldState) (before after : Option (List ℕ)) : Type 0 where
   pub done : ℕ
   pub few : done ≤ length (lines_of script)
@@ -47,6 +48,7 @@ pub record Reports (script : List ℕ) (s : Status) (start now : WorldState) (be
   pub report : List ℕ
   pub runs : Runs start (take done (lines_of script)) left report
   pub reached : (s ≡ status.NoMemory → ⊥) → now ≡ left
+  pub grown : Grows left now
   pub closing : List ℕ
   pub ends : Ends s script done closing
   pub written : WritesReport s before after (report ++ closing)

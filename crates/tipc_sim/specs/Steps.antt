@@ -6,6 +6,7 @@ use Rattle.tipc_script.specs.declared.lines.Line.{Line}
 use Rattle.tipc_script.specs.Grammar.{asked}
 use Rattle.tipc_script.specs.Faults.{Fault}
 use Rattle.tipc_report.specs.Text.{bad_line}
+use Rattle.tipc_world.specs.Growth.{Grows}
 use Rattle.tipc_world.specs.States.{WorldState, is_there}
 use Rattle.tipc_sim.specs.declared.status.Status.{Status}
 use Rattle.tipc_sim.specs.declared.status.Status.TheVariants as status
@@ -44,8 +45,9 @@ pub record IsCut (number : ℕ) (line : List ℕ) (old new : WorldState) (before
   pub told : TellsAnswer number line old new text ⊎ TellsFault number line old new text
   pub written : AppendsFront before after text
 
--- nothing was written of it
-pub record IsUntold (before after : Option (List ℕ)) : Type 0 where
+-- nothing was written of it, whether it was done or not
+pub record IsUntold (old new : WorldState) (before after : Option (List ℕ)) : Type 0 where
+  pub grown : Grows old new
   pub written : AppendsFront before after []
 
 -- what a line comes to, by what its run answers
@@ -53,7 +55,7 @@ abbrev pub LineRuns : Result (Unit {0}) Status → ℕ → List ℕ → WorldSta
 LineRuns (Ok done) number line old new before after = IsDone number line old new before after
 LineRuns (Err status.BadLine) number line old new before after = IsRefused number line old new before after
 LineRuns (Err status.WriteFault) number line old new before after = IsCut number line old new before after
-LineRuns (Err status.NoMemory) number line old new before after = IsUntold before after ⊎ IsCut number line old new before after
+LineRuns (Err status.NoMemory) number line old new before after = IsUntold old new before after ⊎ IsCut number line old new before after
 LineRuns (Err other) number line old new before after = ⊥
 
 -- so many lines of a script were done, and these bytes are left of it

@@ -1,11 +1,12 @@
-ghost use Rattle.std.specs.Prelude.{◌≡◌, ◌<◌, ◌^◌, ◌==◌, ◌||◌, ℕ, false, length, IfOk, OnOk, IsSome, find};
+ghost use Rattle.std.specs.Prelude.{◌≡◌, ◌<◌, ◌^◌, ◌==◌, ◌||◌, ℕ, false, length, IfOk, OnOk, find};
 ghost use Rattle.tipc_world.specs.States.{is_there};
 ghost use Rattle.tipc_world.specs.Good.{IsGood};
+ghost use Rattle.tipc_world.specs.Growth.{Grows};
 ghost use Rattle.tipc_world.specs.Calls.{CanHappen};
 ghost use Rattle.tipc_script.specs.Grammar.{asked};
 ghost use Rattle.tipc_script.specs.Faults.{Tells};
 ghost use Rattle.tipc_sim.specs.Nodes.{is_misplaced, fault_where, makes, CanBeDone};
-ghost use Rattle.tipc_sim.specs.Happenings.{Answers, answer_text};
+ghost use Rattle.tipc_sim.specs.Happenings.{Answers, Steps, answer_text};
 ghost use Rattle.tipc_sim.specs.Steps.{IsAnswered};
 
 use std::alloc::Global;
@@ -61,7 +62,8 @@ fn answer_of_event(
     requires { CanHappen world.old event }
     ensures good { IsGood world.new }
     ensures nodes { (n : ℕ) → is_there world.new n ≡ is_there world.old n }
-    ensures some { IfOk result IsSome }
+    ensures grows { Grows world.old world.new }
+    ensures step { IfOk result (Steps world.old event world.new) }
 {
     match world.step(alloc, event) {
         Ok(answer) => Ok(Some(answer)),
@@ -75,6 +77,7 @@ pub fn answer_of(alloc: Global, line: Line, world: &mut World) -> Result<Option<
     requires good { IsGood world.old }
     ensures good { IsGood world.new }
     ensures nodes { OnOk result ((n : ℕ) → is_there world.new n ≡ (makes line n || is_there world.old n)) }
+    ensures grows { Grows world.old world.new }
     ensures answer { IfOk result (Answers line world.old world.new) }
 {
     match line {
@@ -156,6 +159,7 @@ pub fn do_line(
     requires can { CanBeDone (is_there world.old) line }
     requires good { IsGood world.old }
     ensures good { IsGood world.new }
+    ensures grows { Grows world.old world.new }
     ensures answered { IfOk result (λ text. IsAnswered number line world.old world.new text.items) }
 {
     let answer = answer_of(alloc, line, world)?;

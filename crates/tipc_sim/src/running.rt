@@ -5,6 +5,7 @@ ghost use Rattle.tipc_outside.specs.Causes.{Rose};
 ghost use Rattle.tipc_report.specs.Text.{bad_line, limit_line};
 ghost use Rattle.tipc_world.specs.States.{is_there, no_nodes};
 ghost use Rattle.tipc_world.specs.Good.{IsGood};
+ghost use Rattle.tipc_world.specs.Growth.{Grows};
 ghost use Rattle.tipc_sim.specs.Lines.{lines_of, IsWithin};
 ghost use Rattle.tipc_sim.specs.Nodes.{AreSound, IsFirstBad};
 ghost use Rattle.tipc_sim.specs.Words.{is_run};
@@ -83,6 +84,7 @@ fn run_line<K: Sink>(
     requires kept { world.old.lost ≡ false }
     requires good { IsGood world.old }
     ensures good { IsGood world.new }
+    ensures grows { Grows world.old world.new }
     ensures kept { (result ≡ Err Status.NoMemory → ⊥) → world.new.lost ≡ false }
     ensures run { LineRuns result number text.now world.old world.new (K.contents sink.old) (K.contents sink.new) }
     ensures failed { IsErrOf result Status.WriteFault → Rose (K.faults sink.old) (K.faults sink.new) ⊎ Rose (K.stalls sink.old) (K.stalls sink.new) }

@@ -46,10 +46,11 @@ some_is (Some n) there = (n, refl)
 pub node_there : (nodes : List (Option NodeState)) (a : ℕ) → is_some (slice_index_or nodes a None) ≡ true → (n : NodeState) × (slice_index_or nodes a None ≡ Some n)
 node_there nodes a there = some_is (slice_index_or nodes a None) there
 
+-- nothing is there
+pub none_is : {A : Type 0} (o : Option A) → is_some o ≡ false → o ≡ None
+none_is None absent = refl
+none_is (Some x) absent = absurd (let no : ⊥ = cc in no)
+
 -- the node that isn't there
 pub none_there_is : (nodes : List (Option NodeState)) (a : ℕ) → is_some (slice_index_or nodes a None) ≡ false → slice_index_or nodes a None ≡ None
-none_there_is nodes a absent =
-    elim (slice_index_or nodes a None) as (λ o. is_some o ≡ false → o ≡ None) [
-      | None ↦ λ _. refl
-      | Some n ↦ λ wrong. absurd (let no : ⊥ = cc in no)
-    ] absent
+none_there_is nodes a absent = none_is (slice_index_or nodes a None) absent

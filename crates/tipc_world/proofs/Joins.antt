@@ -6,7 +6,12 @@ use Rattle.tipc_types.specs.Address.{node_word}
 use Rattle.tipc_link.specs.End.{LinkEnd}
 use Rattle.tipc_world.specs.declared.air.Sent.{Sent}
 use Rattle.tipc_world.specs.declared.neighbours.Neighbour.{Neighbour}
-use Rattle.tipc_world.specs.States.{NodeState, node_at, end_at, journal_at, neighbour_of}
+use Rattle.tipc_types.specs.declared.node_calls.Answer.{Answer}
+use Rattle.tipc_types.specs.declared.node_calls.Answer.TheVariants as answer
+use Rattle.tipc_world.specs.States.{NodeState, WorldState, counted, flow_in, flow_of, node_at, end_at, journal_at, neighbour_of}
+use Rattle.tipc_world.specs.Growth.{Grows}
+use Rattle.tipc_world.specs.Steps.{IsJoined, IsLinked}
+use Rattle.tipc_world.proofs.Growing.{journals_same, journals_trans, prefix_same, put_grows, put_grows_by, JournalsGrow}
 use Rattle.tipc_world.specs.Nodes.{IsNumbered, JoinsAt, LinksAt, SameNodes, connected}
 use Rattle.tipc_world.specs.Sound.{IsSound, accepted_now, bytes_of, delivered_now}
 use Rattle.tipc_world.proofs.LookUps.{node_at-put_other, end_at-there, end_at-same_node, journal_at-there, journal_at-same_node}
@@ -46,7 +51,7 @@ join_same nodes nodes' air n h absent j =
       ];
       journals = λ m. elim (cases_eq m n) [
         | inl at ↦
-            let same : journal_at nodes' n ≡ journal_at nodes n = journal_at-there nodes' n j.node here ∙ j.empty ∙ sym (journal_at-none nodes n absent) in
+            let same : journal_at nodes' n ≡ journal_at nodes n = journal_at-there nodes' n j.node here ∙ j.empty.1 ∙ sym (journal_at-none nodes n absent) in
             subst (λ k. journal_at nodes' k ≡ journal_at nodes k) (sym at) same
         | inr other ↦ journal_at-same_node nodes nodes' m (others m other)
       ];
@@ -79,13 +84,12 @@ other_none nodes air a b h none =
 
 -- a link was made where none was
 pub link_sound : (nodes nodes' : List (Option NodeState)) (air : List Sent) (a b : ℕ) → IsSound nodes air → a ≢ b → a ≤ 32 → b ≤ 32 → (l : LinksAt nodes nodes' a b)
-    → neighbour_of l.first b ≡ None → IsSound nodes' air
+    → end_at nodes a b ≡ None → IsSound nodes' air
 link_sound nodes nodes' air a b h differ a_fits b_fits l none =
     let at_a = at_is nodes a l.first l.first_was in
     let at_b = at_is nodes b l.second l.second_was in
-    let first_none : end_at nodes a b ≡ None = end_at-there nodes a b l.first at_a ∙ ap (option_map (λ (z : Neighbour). z.link)) none in
     subst (λ ns. IsSound ns air) (sym l.new_is)
-    (connect_sound nodes (slice_set (slice_set nodes a (Some (connected l.first b))) b (Some (connected l.second a))) air a b h a_fits b_fits differ first_none (other_none nodes air a b h first_none)
+    (connect_sound nodes (slice_set (slice_set nodes a (Some (connected l.first b))) b (Some (connected l.second a))) air a b h a_fits b_fits differ none (other_none nodes air a b h none)
     (put_connects nodes air a b l.first l.second h differ (within_where_some nodes a l.first l.first_was) (within_where_some nodes b l.second l.second_was) l.in_first l.in_second at_a at_b))
 
 pub link_there : (nodes nodes' : List (Option NodeState)) (a b : ℕ) → a ≢ b → LinksAt nodes nodes' a b → SameNodes nodes nodes'
@@ -113,3 +117,46 @@ counts_are nodes air a b e h is =
 pub written_apart : (nodes : List (Option NodeState)) (a b : ℕ) (n : NodeState) → a ≢ b → slice_index_or (slice_set nodes a (Some n)) b None ≡ slice_index_or nodes b None
 unfolding node_at
 written_apart nodes a b n differ = node_at-put_other nodes a b n (λ e. differ (sym e))
+
+-- ---- nodes and links that come in only add
+
+pub join_grows : (old new : WorldState) (n : ℕ) → IsSound old.nodes old.air → slice_index_or old.nodes n None ≡ None → IsJoined old new n → Grows old new
+join_grows old new n h absent j =
+    let same = join_same old.nodes new.nodes old.air n h (none_at old.nodes n absent) j.nodes in
+    record {
+      air = prefix_same old.air new.air j.air;
+      journals = λ m. prefix_same (journal_at old.nodes m) (journal_at new.nodes m) (same.journals m);
+    }
+
+links_grow : (nodes nodes' : List (Option NodeState)) (a b : ℕ) → a ≢ b → LinksAt nodes nodes' a b → JournalsGrow nodes nodes'
+links_grow nodes nodes' a b differ l =
+    let nodes1 = slice_set nodes a (Some (connected l.first b)) in
+    journals_trans nodes nodes1 nodes'
+    (put_grows nodes a l.first (connected l.first b) l.first_was (prefix_same l.first.journal l.first.journal refl))
+    (put_grows_by nodes1 nodes' b l.second (connected l.second a) (written_apart nodes a b (connected l.first b) differ ∙ l.second_was) l.new_is (prefix_same l.second.journal l.second.journal refl))
+
+pub link_grows : (old new : WorldState) (a b : ℕ) → IsLinked old new a b → Grows old new
+link_grows old new a b l = record {
+  air = prefix_same old.air new.air l.air;
+  journals = elim l.nodes [
+    | inl made ↦ links_grow old.nodes new.nodes a b made.0 made.2
+    | inr same ↦ journals_same old.nodes new.nodes same.1
+  ];
+}
+
+-- ---- the counts of a contact
+
+pub flow_is : (nodes : List (Option NodeState)) (air : List Sent) (a b : ℕ) (result : Answer) → IsSound nodes air
+    → (end_at nodes a b ≡ None → result ≡ answer.NoContact)
+    → ((s r : LinkEnd) → end_at nodes a b ≡ Some s → end_at nodes b a ≡ Some r → result ≡ answer.Flow (counted (s.sending.numbered + length s.sending.waiting)) r.taken)
+    → result ≡ flow_of nodes a b
+unfolding flow_of
+flow_is nodes air a b result h none some =
+    elim (end_at nodes a b) as (λ o. end_at nodes a b ≡ o → result ≡ flow_in o (length (accepted_now nodes a b)) (length (delivered_now nodes b a))) [
+      | None ↦ λ is. none is
+      | Some e ↦ λ is.
+          let counts = counts_are nodes air a b e h is in
+          some e counts.0 is counts.1
+          ∙ ap (λ k. answer.Flow (counted k) counts.0.taken) (sym counts.2)
+          ∙ ap (answer.Flow (counted (length (accepted_now nodes a b)))) (sym counts.3)
+    ] refl

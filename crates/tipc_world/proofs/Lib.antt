@@ -12,3 +12,6 @@ pub mod Unchanged
 pub mod At
 pub mod Steps
 pub mod Joins
+pub mod Stops
+pub mod Growing
+pub mod Becoming

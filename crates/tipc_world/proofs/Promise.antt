@@ -6,8 +6,10 @@ use Rattle.tipc_types.specs.declared.message_forms.Flow.TheVariants.{Zero, One, 
 use Rattle.tipc_journal.specs.Prefixes.{IsPrefixOf}
 use Rattle.tipc_world.specs.declared.air.Sent.{Sent}
 use Rattle.tipc_world.specs.States.{NodeState, WorldState, end_at, accepted_at, delivered_at, static_number}
-use Rattle.tipc_world.specs.Sound.{IsSound, IsOtherStream, accepted_now, delivered_now}
-use Rattle.tipc_world.specs.Good.{IsGood}
+use Rattle.tipc_world.specs.Sound.{IsFrame, IsSound, IsOtherStream, accepted_now, delivered_now}
+use Rattle.tipc_header.specs.Frames.{frame_of}
+use Rattle.tipc_header.specs.Spelling.{spelling}
+use Rattle.tipc_world.specs.Good.{IsGood, IsTrue}
 
 -- a contact and a flow are those that there are, or others
 stream_choice : (c d : ℕ) (f : Flow) → ((c ≡ static_number) × (d ≡ static_number) × (f ≡ Zero)) ⊎ IsOtherStream c d f
@@ -33,6 +35,29 @@ static_prefix nodes air a b h =
           (drop n (accepted_now nodes a b), sym (take-append-drop n (accepted_now nodes a b)) ∙ ap (λ ms. ms ++ drop n (accepted_now nodes a b)) (sym pair.got))
     ] refl
 
+-- a frame in the air of a sound world is true
+frame_true : (nodes : List (Option NodeState)) (air : List Sent) (f : Sent) → IsSound nodes air → IsFrame nodes f → IsTrue nodes f
+frame_true nodes air f h x =
+    let e = (h.pairs x.a x.b x.sender x.receiver x.sender_is x.receiver_is).end in
+    let between = x.between in
+    record {
+      a = x.a;
+      b = x.b;
+      sender = x.sender;
+      sender_is = x.sender_is;
+      from_is = between.from_is;
+      to_is = between.to_is;
+      packet = between.packet;
+      fits = between.fits;
+      frame_is = between.frame_is
+          ∙ ap (λ k. frame_of k static_number (spelling between.packet)) (sym e.epoch)
+          ∙ ap (λ k. frame_of x.sender.epoch k (spelling between.packet)) (sym e.peer_epoch);
+      previous = between.previous;
+      told = between.flies.told;
+      told_is = between.flies.told_is;
+      told_taken = between.flies.told_taken;
+    }
+
 pub is_good : (w : WorldState) → IsSound w.nodes w.air → IsGood w
 is_good w h = record {
   prefix = λ a b c d f. elim (stream_choice c d f) [
@@ -45,4 +70,5 @@ is_good w h = record {
         let none = h.others b a d c f (λ d_is c_is f_is. other c_is d_is f_is) in
         (accepted_at w.nodes a b c d f, ap (λ ms. ms ++ accepted_at w.nodes a b c d f) (sym none))
   ];
+  truth = λ k f at. frame_true w.nodes w.air f h (h.frames k f at);
 }

@@ -7,3 +7,5 @@ pub mod Nodes
 pub mod Air
 pub mod Calls
 pub mod Due
+pub mod Steps
+pub mod Growth

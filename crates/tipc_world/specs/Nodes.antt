@@ -1,5 +1,5 @@
 -- What each call makes of a node.
-use Rattle.std.specs.Prelude.{◌≡◌, ◌<◌, ◌≢◌, ℕ, ◌+◌, ◌≤◌, Bool, true, false, List, [], ◌∷◌, ◌++◌, Option, Some, None, length, nat_le, is_some, unwrap_or, slice_index_or, slice_set, ◌&&◌, if◌then◌else◌}
+use Rattle.std.specs.Prelude.{◌≡◌, ◌<◌, ◌≢◌, ◌⊎◌, ℕ, ◌+◌, ◌-◌, ◌≤◌, Bool, true, false, List, [], ◌∷◌, ◌++◌, Option, Some, None, length, nat_le, nat_lt, is_some, unwrap_or, slice_index_or, slice_set, ◌&&◌, if◌then◌else◌}
 use Rattle.tipc_types.specs.Address.{node_word}
 use Rattle.tipc_types.specs.declared.identity.PortId.{PortId}
 use Rattle.tipc_types.specs.declared.link_words.Why.TheVariants as why
@@ -25,7 +25,7 @@ use Rattle.tipc_world.specs.declared.neighbours.Heard.{Heard}
 use Rattle.tipc_world.specs.declared.neighbours.Heard.TheVariants as heard
 use Rattle.tipc_world.specs.Inboxes.{inboxes_with}
 use Rattle.tipc_world.specs.declared.neighbours.Neighbour.{Neighbour}
-use Rattle.tipc_world.specs.States.{NodeState, neighbour_of, static_number}
+use Rattle.tipc_world.specs.States.{NodeState, end_at, neighbour_of, static_number}
 
 -- ---- sending
 
@@ -177,7 +177,7 @@ pub record JoinsAt (old new : List (Option NodeState)) (n : ℕ) : Type 0 where
   pub node : NodeState
   pub own : node.own ≡ node_word n
   pub alone : (peer : ℕ) → neighbour_of node peer ≡ None
-  pub empty : node.journal ≡ []
+  pub empty : (node.inboxes ≡ []) × (node.journal ≡ []) × (node.arrivals ≡ 0)
   pub here : slice_index_or new n None ≡ Some node
   pub others : (m : ℕ) → m ≢ n → slice_index_or new m None ≡ slice_index_or old m None
 
@@ -189,6 +189,53 @@ IsNumbered nodes = (n : ℕ) → is_some (slice_index_or nodes n None) ≡ true 
 abbrev pub SameNodes : List (Option NodeState) → List (Option NodeState) → Type 0
 SameNodes old new = (n : ℕ) → is_some (slice_index_or new n None) ≡ is_some (slice_index_or old n None)
 
+-- ---- sockets
+
+-- a node with these inboxes
+abbrev pub with_inboxes : NodeState → List (List Message) → NodeState
+with_inboxes n inboxes = record { own = n.own; ends = n.ends; inboxes = inboxes; journal = n.journal; arrivals = n.arrivals }
+
+-- a node is asked for a socket: one more, with an empty inbox, where fewer than 256 are there
+unfoldable pub socket_node : NodeState → NodeState
+socket_node n = if nat_lt (length n.inboxes) 256 then with_inboxes n (n.inboxes ++ [] ∷ []) else n
+
+unfoldable pub socket_answer : NodeState → Answer
+socket_answer n = if nat_lt (length n.inboxes) 256 then answer.Socket (length n.inboxes + 1) else answer.Full 256
+
+abbrev pub inbox_of : NodeState → ℕ → List Message
+inbox_of n port = slice_index_or n.inboxes (port - 1) []
+
+abbrev pub without_first : NodeState → ℕ → List Message → NodeState
+without_first n port [] = n
+without_first n port (first ∷ rest) = with_inboxes n (slice_set n.inboxes (port - 1) rest)
+
+abbrev pub first_answer : List Message → Answer
+first_answer [] = answer.Empty
+first_answer (first ∷ rest) = answer.Received first
+
+-- a node is asked for the first message of a port's inbox
+unfoldable pub receive_node : NodeState → ℕ → NodeState
+receive_node n port = if has_port n port then without_first n port (inbox_of n port) else n
+
+unfoldable pub receive_answer : NodeState → ℕ → Answer
+receive_answer n port = if has_port n port then first_answer (inbox_of n port) else answer.NoSocket
+
+-- node a was asked for a socket
+pub record MakesSocketAt (old new : List (Option NodeState)) (a : ℕ) (answered : Answer) : Type 0 where
+  pub node : NodeState
+  pub was : slice_index_or old a None ≡ Some node
+  pub new_is : new ≡ slice_set old a (Some (socket_node node))
+  pub answer_is : answered ≡ socket_answer node
+
+-- node a was asked for the first message of a port's inbox
+pub record ReceivesAt (old new : List (Option NodeState)) (a port : ℕ) (answered : Answer) : Type 0 where
+  pub node : NodeState
+  pub was : slice_index_or old a None ≡ Some node
+  pub new_is : new ≡ slice_set old a (Some (receive_node node port))
+  pub answer_is : answered ≡ receive_answer node port
+
+-- ---- nodes and links come in
+
 -- both ends of the static link between nodes a and b were made
 pub record LinksAt (old new : List (Option NodeState)) (a b : ℕ) : Type 0 where
   pub first : NodeState
@@ -198,3 +245,8 @@ pub record LinksAt (old new : List (Option NodeState)) (a b : ℕ) : Type 0 wher
   pub in_first : b < length first.ends
   pub in_second : a < length second.ends
   pub new_is : new ≡ slice_set (slice_set old a (Some (connected first b))) b (Some (connected second a))
+
+-- the link between nodes a and b was asked for: both ends were made where there was none, and no node has one to itself
+abbrev pub IsLinking : List (Option NodeState) → List (Option NodeState) → ℕ → ℕ → Type 0
+IsLinking old new a b =
+    ((a ≢ b) × (end_at old a b ≡ None) × LinksAt old new a b) ⊎ (((a ≡ b) ⊎ (is_some (end_at old a b) ≡ true)) × (new ≡ old))

@@ -1,8 +1,11 @@
 -- What a world is, as its contracts see it.
-use Rattle.std.specs.Prelude.{ℕ, Bool, false, List, [], Option, None, option_map, option_and_then, slice_index_or, is_some, unwrap_or}
+use Rattle.std.specs.Prelude.{ℕ, Bool, false, List, [], Option, None, option_map, option_and_then, slice_index_or, is_some, length, min, unwrap_or, Some}
 use Rattle.tipc_types.specs.Address.{node_word}
 use Rattle.tipc_types.specs.declared.message_forms.Flow.{Flow}
+use Rattle.tipc_types.specs.declared.message_forms.Flow.TheVariants.{Zero}
 use Rattle.tipc_types.specs.declared.message_forms.Message.{Message}
+use Rattle.tipc_types.specs.declared.node_calls.Answer.{Answer}
+use Rattle.tipc_types.specs.declared.node_calls.Answer.TheVariants as answer
 use Rattle.tipc_journal.specs.declared.entries.Entry.{Entry}
 use Rattle.tipc_journal.specs.Streams.{Stream, accepted, delivered}
 use Rattle.tipc_link.specs.End.{LinkEnd}
@@ -61,3 +64,16 @@ accepted_at nodes a b own theirs flow = accepted (journal_at nodes a) (stream_of
 -- what was delivered at node b from node a in a contact, its own number first, and a flow
 unfoldable pub delivered_at : List (Option NodeState) → ℕ → ℕ → ℕ → ℕ → Flow → List Message
 delivered_at nodes b a own theirs flow = delivered (journal_at nodes b) (stream_of a own theirs flow)
+
+-- a count as it is told: it stops at the last number of 64 bits
+abbrev pub counted : ℕ → ℕ
+counted count = min count 18446744073709551615
+
+abbrev pub flow_in : Option LinkEnd → ℕ → ℕ → Answer
+flow_in None accepted delivered = answer.NoContact
+flow_in (Some end) accepted delivered = answer.Flow (counted accepted) delivered
+
+-- how many messages node a accepted for node b in their contact, and how many of them were delivered
+unfoldable pub flow_of : List (Option NodeState) → ℕ → ℕ → Answer
+flow_of nodes a b =
+    flow_in (end_at nodes a b) (length (accepted_at nodes a b static_number static_number Zero)) (length (delivered_at nodes b a static_number static_number Zero))

@@ -6,6 +6,8 @@ mod events;
 mod inboxes;
 mod neighbours;
 mod nodes;
+#[cfg(test)]
+mod tests;
 mod worlds;
 
 pub use air::Sent;

@@ -8,7 +8,7 @@ ghost use Rattle.tipc_message.specs.Wire.{message_of, packet_of, IsPayload};
 ghost use Rattle.tipc_link.specs.End.{begun, content_in, flush_frames, flushed, put};
 ghost use Rattle.tipc_world.specs.States.{NodeState, neighbour_of, static_number};
 ghost use Rattle.tipc_world.specs.Hearing.{heard_frames, heard_in, heard_neighbour};
-ghost use Rattle.tipc_world.specs.Nodes.{connected, direct, has_port, heard_answer, heard_entries, heard_inboxes, limit_of, port_of, refusal, sent_node, taken_count, taken_entry, taken_inboxes, accepted_entry, IsHeard, IsSent};
+ghost use Rattle.tipc_world.specs.Nodes.{connected, direct, has_port, heard_answer, heard_entries, heard_inboxes, limit_of, port_of, refusal, sent_node, taken_count, taken_entry, taken_inboxes, accepted_entry, socket_node, socket_answer, receive_node, receive_answer, IsHeard, IsSent};
 
 use crate::inboxes::Inbox;
 use crate::neighbours::{Heard, Neighbour};
@@ -136,11 +136,9 @@ impl Node {
     }
 
     /// Makes a socket: its port, or Full where 256 are there.
+    #[tactic(auto, unfolding(crate::specs::Nodes::socket_node, crate::specs::Nodes::socket_answer))]
     pub fn make_socket(&mut self, alloc: Global) -> Result<Answer, NoMemory>
-        ensures made { length self.old.inboxes < 256 → OnOk result (self.new ≡ record { own = self.old.own; ends = self.old.ends; inboxes = self.old.inboxes ++ [] ∷ []; journal = self.old.journal; arrivals = self.old.arrivals }) }
-        ensures port { length self.old.inboxes < 256 → IfOk result (λ a. a ≡ Answer.Socket (length self.old.inboxes + 1)) }
-        ensures full { 256 ≤ length self.old.inboxes → (result ≡ Ok (Answer.Full 256)) × (self.new ≡ self.old) }
-        ensures same { (self.new.ends ≡ self.old.ends) × (self.new.journal ≡ self.old.journal) × (self.new.own ≡ self.old.own) }
+        ensures ok { IfOk result (λ a. (self.new ≡ socket_node self.old) × (a ≡ socket_answer self.old)) }
         ensures err { OnErr result (self.new ≡ self.old) }
     {
         let made = self.inboxes.len();
@@ -160,12 +158,10 @@ impl Node {
 
     /// Takes the first message of a port's inbox: NoSocket exactly where the port isn't there, Empty exactly where its
     /// inbox is empty.
+    #[tactic(auto, unfolding(crate::specs::Nodes::receive_node, crate::specs::Nodes::receive_answer))]
     pub fn receive(&mut self, port: u32) -> Answer
-        ensures no_socket { has_port self.old port ≡ false → (result ≡ Answer.NoSocket) × (self.new ≡ self.old) }
-        ensures empty { has_port self.old port ≡ true → slice_index_or self.old.inboxes (port - 1) [] ≡ [] → (result ≡ Answer.Empty) × (self.new ≡ self.old) }
-        ensures first { (m : Message) (rest : List Message) → has_port self.old port ≡ true → slice_index_or self.old.inboxes (port - 1) [] ≡ m ∷ rest →
-            (result ≡ Answer.Received m) × (self.new ≡ record { own = self.old.own; ends = self.old.ends; inboxes = slice_set self.old.inboxes (port - 1) rest; journal = self.old.journal; arrivals = self.old.arrivals }) }
-        ensures same { (self.new.ends ≡ self.old.ends) × (self.new.journal ≡ self.old.journal) × (self.new.own ≡ self.old.own) }
+        ensures after { self.new ≡ receive_node self.old port }
+        ensures answer { result ≡ receive_answer self.old port }
     {
         if !self.has_port(port) {
             return Answer::NoSocket;

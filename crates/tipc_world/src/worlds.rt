@@ -1,15 +1,17 @@
-ghost use Rattle.std.specs.Prelude.{◌≡◌, min, ◌+◌, ◌-◌, ◌<◌, ◌≤◌, ◌≢◌, ◌^◌, ◌==◌, ◌||◌, ◌++◌, ◌∷◌, [], List, ℕ, Bool, true, false, Option, Some, None, Ok, Err, length, max, slice_index_or, slice_set, is_some, if◌then◌else◌, IfOk, IfErr, IfSome, IfNone, IsTrue, OnErr, OnOk};
+ghost use Rattle.std.specs.Prelude.{◌≡◌, min, ◌+◌, ◌-◌, ◌<◌, ◌≤◌, ◌≢◌, ◌^◌, ◌==◌, ◌||◌, ◌++◌, [], List, ℕ, true, false, Some, None, length, map, slice_index_or, slice_set, is_some, if◌then◌else◌, IfOk, IfErr, IfSome, IfNone, IsTrue, OnErr, OnOk};
 ghost use Rattle.tipc_types.specs.Address.{node_word};
-ghost use Rattle.tipc_world.specs.Air.{IsReleased};
+ghost use Rattle.tipc_world.specs.Air.{airborne, IsReleased};
+ghost use Rattle.tipc_world.specs.Growth.{Grows};
+ghost use Rattle.tipc_world.specs.Steps.{stage, Becomes, IsArrival, IsJoined, IsLinked, IsMarked, IsSend, IsStep};
 ghost use Rattle.tipc_world.specs.Calls.{CanHappen, CanHappenAt};
-ghost use Rattle.tipc_world.specs.Due.{age_of, count_at, frame_for, is_for, IsDue};
+ghost use Rattle.tipc_world.specs.Due.{age_of, count_at, frame_for, is_for, IsDue, IsStopped};
 ghost use Rattle.tipc_world.specs.Good.{IsGood};
-ghost use Rattle.tipc_world.specs.States.{accepted_at, delivered_at, end_at, is_there, neighbour_of, no_nodes, node_at, static_number, NodeState};
+ghost use Rattle.tipc_world.specs.States.{end_at, flow_of, is_there, no_nodes, NodeState};
 ghost use Rattle.tipc_link.specs.End.{LinkEnd};
 ghost use Rattle.tipc_world.specs.Sound.{IsSound};
 ghost use Rattle.tipc_header.specs.Grammar.{Fits};
 ghost use Rattle.tipc_header.specs.Spelling.{view};
-ghost use Rattle.tipc_world.specs.Nodes.{connected, HearsAt, IsNumbered, JoinsAt, KeepsAt, LinksAt, SameNodes, SendsAt};
+ghost use Rattle.tipc_world.specs.Nodes.{connected, HearsAt, IsLinking, IsNumbered, JoinsAt, LinksAt, MakesSocketAt, ReceivesAt, SameNodes, SendsAt};
 
 use crate::air::Sent;
 use crate::events::{WorldEvent, WorldFault};
@@ -123,7 +125,9 @@ fn release(
     peer_numbered: u64,
 ) -> bool
     requires { (1 ≤ a) × (a ≤ 32) }
-    ensures { IsReleased air.old.items air.new.items a numbered peer_numbered frames.items }
+    ensures front { IsReleased air.old.items air.new.items a numbered peer_numbered frames.items }
+    ensures all { result ≡ true → air.new.items ≡ air.old.items ++ map (airborne a numbered peer_numbered) frames.items }
+    ensures none { frames.items ≡ [] → result ≡ true }
 {
     let mut waiting = VecDeque::from_vec(frames);
     while let Some(outgoing) = waiting.pop_front() {
@@ -151,8 +155,9 @@ struct Due<'a> {
     packet: Packet<'a>,
 }
 
-/// The frame of that place in a bearer's air as node `n` sees it, or the answer of an arrival that reaches no link:
-/// NoFrame exactly where there is no such frame for that node, else TooOld exactly where it is too old.
+/// The frame of that place in a bearer's air, due at a node, or the answer of an arrival that reaches no link: NoFrame
+/// exactly where there is no such frame for that node; TooOld exactly where it is a frame of another node with a packet,
+/// and one of the two directions numbered more than 30,000 packets since it was sent.
 fn look<'a>(
     nodes: &[Option<Node>],
     air: &'a [Sent],
@@ -162,7 +167,7 @@ fn look<'a>(
 ) -> Result<Due<'a>, Answer>
     requires { (1 ≤ node) × (node ≤ 32) }
     ensures due { IfOk result (λ d. (1 ≤ d.peer) × (d.peer ≤ 32) × (d.peer ≢ node) × IsDue nodes.now air.now node bearer place d.peer d.first d.second (view d.packet)) }
-    ensures no_frame { frame_for air.now node bearer place ≡ None → result ≡ Err Answer.NoFrame }
+    ensures stopped { IfErr result (IsStopped nodes.now air.now node bearer place) }
 {
     let Some(sent) = frame_for(air, node, bearer, place) else {
         return Err(Answer::NoFrame);
@@ -255,7 +260,7 @@ fn arrive_at(
 /// Makes a socket at node `a`.
 fn socket_at(nodes: &mut Vec<Option<Node>>, alloc: Global, a: u8) -> Result<Answer, NoMemory>
     requires there { is_some (slice_index_or nodes.old.items a None) ≡ true }
-    ensures ok { OnOk result (KeepsAt nodes.old.items nodes.new.items a) }
+    ensures ok { IfOk result (MakesSocketAt nodes.old.items nodes.new.items a) }
     ensures err { OnErr result (nodes.new.items ≡ nodes.old.items) }
 {
     match &mut nodes[a as usize] {
@@ -267,7 +272,7 @@ fn socket_at(nodes: &mut Vec<Option<Node>>, alloc: Global, a: u8) -> Result<Answ
 /// Takes a message from a port's inbox at node `a`.
 fn receive_at(nodes: &mut Vec<Option<Node>>, a: u8, port: u32) -> Answer
     requires there { is_some (slice_index_or nodes.old.items a None) ≡ true }
-    ensures { KeepsAt nodes.old.items nodes.new.items a }
+    ensures { ReceivesAt nodes.old.items nodes.new.items a port result }
 {
     match &mut nodes[a as usize] {
         Some(node) => node.receive(port),
@@ -285,7 +290,9 @@ struct Happened {
 /// Brings what node `a` sent to node `b` into the air. It answers whether a frame was lost for want of memory.
 fn emit(nodes: &[Option<Node>], air: &mut Vec<Sent>, a: u8, b: u8, out: Outbox) -> bool
     requires { (1 ≤ a) × (a ≤ 32) }
-    ensures { IsReleased air.old.items air.new.items a (count_at nodes.now a b) (count_at nodes.now b a) out.frames }
+    ensures front { IsReleased air.old.items air.new.items a (count_at nodes.now a b) (count_at nodes.now b a) out.frames }
+    ensures all { result ≡ false → (out.lost ≡ false) × (air.new.items ≡ air.old.items ++ map (airborne a (count_at nodes.now a b) (count_at nodes.now b a)) out.frames) }
+    ensures none { out.frames ≡ [] → result ≡ out.lost }
 {
     let numbered = count_at(nodes, a, b);
     let peer_numbered = count_at(nodes, b, a);
@@ -310,9 +317,11 @@ fn send(
     requires here { (1 ≤ a) × (a ≤ 32) }
     requires peer { (1 ≤ b) × (b ≤ 32) }
     requires apart { a ≢ b }
+    requires named { to.node.word ≡ node_word b }
     requires body { length body ≤ 1420 }
     requires sound { IsSound nodes.old.items air.old.items }
     ensures sound { OnOk result (IsSound nodes.new.items air.new.items) }
+    ensures step { IfOk result (λ h. IsSend (stage nodes.old.items air.old.items) (stage nodes.new.items air.new.items) a port b to importance body h.answer h.lost) }
     ensures nodes { OnOk result (SameNodes nodes.old.items nodes.new.items) }
     ensures err { OnErr result ((nodes.new.items ≡ nodes.old.items) × (air.new.items ≡ air.old.items)) }
 {
@@ -336,7 +345,7 @@ fn arrive(
     requires sound { IsSound nodes.old.items air.old.items }
     ensures sound { OnOk result (IsSound nodes.new.items air.new.items) }
     ensures nodes { OnOk result (SameNodes nodes.old.items nodes.new.items) }
-    ensures no_frame { frame_for air.old.items a bearer place ≡ None → IfOk result (λ h. h.answer ≡ Answer.NoFrame) }
+    ensures step { IfOk result (λ h. IsArrival (stage nodes.old.items air.old.items) (stage nodes.new.items air.new.items) a bearer place h.answer h.lost) }
     ensures err { OnErr result ((nodes.new.items ≡ nodes.old.items) × (air.new.items ≡ air.old.items)) }
 {
     let mut out = Outbox::new(alloc);
@@ -369,8 +378,9 @@ fn add_at(nodes: &mut Vec<Option<Node>>, alloc: Global, n: u8) -> Result<(), NoM
 }
 
 /// Whether node `a` has a link to node `b`.
+#[tactic(auto, unfolding(crate::specs::States::end_at, crate::specs::States::node_at))]
 fn has_link(nodes: &[Option<Node>], a: u8, b: u8) -> bool
-    ensures { result ≡ false → (n : NodeState) → slice_index_or nodes.now a None ≡ Some n → neighbour_of n b ≡ None }
+    ensures { result ≡ is_some (end_at nodes.now a b) }
 {
     match nodes.get(a as usize) {
         Some(Some(node)) => node.has_link(b),
@@ -397,6 +407,7 @@ fn link_nodes(nodes: &mut Vec<Option<Node>>, alloc: Global, a: u8, b: u8) -> Ans
     requires second { is_some (slice_index_or nodes.old.items b None) ≡ true }
     requires numbered { IsNumbered nodes.old.items }
     ensures answer { result ≡ (if a == b then Answer.Down else Answer.Up) }
+    ensures links { IsLinking nodes.old.items nodes.new.items a b }
     ensures sound { (air : List Sent) → IsSound nodes.old.items air → IsSound nodes.new.items air }
     ensures nodes { SameNodes nodes.old.items nodes.new.items }
 {
@@ -422,6 +433,7 @@ fn happen(
     requires sound { IsSound nodes.old.items air.old.items }
     ensures sound { OnOk result (IsSound nodes.new.items air.new.items) }
     ensures nodes { OnOk result (SameNodes nodes.old.items nodes.new.items) }
+    ensures step { IfOk result (λ h. Becomes (stage nodes.old.items air.old.items) event (stage nodes.new.items air.new.items) h.answer h.lost) }
     ensures err { OnErr result ((nodes.new.items ≡ nodes.old.items) × (air.new.items ≡ air.old.items)) }
 {
     match event {
@@ -508,6 +520,8 @@ impl World {
         requires range { (1 ≤ n) × (n ≤ 32) }
         requires absent { is_there self.old n ≡ false }
         ensures there { OnOk result ((m : ℕ) → is_there self.new m ≡ (m == n || is_there self.old m)) }
+        ensures joins { OnOk result (IsJoined self.old self.new n) }
+        ensures grows { Grows self.old self.new }
         ensures good { IsGood self.new }
         ensures err { OnErr result (self.new ≡ self.old) }
     {
@@ -520,16 +534,24 @@ impl World {
         requires first { is_there self.old a ≡ true }
         requires second { is_there self.old b ≡ true }
         ensures answer { IfOk result (λ answer. answer ≡ (if a == b then Answer.Down else Answer.Up)) }
+        ensures links { OnOk result (IsLinked self.old self.new a b) }
         ensures nodes { (m : ℕ) → is_there self.new m ≡ is_there self.old m }
+        ensures grows { Grows self.old self.new }
         ensures good { IsGood self.new }
         ensures err { OnErr result (self.new ≡ self.old) }
     {
         Ok(link_nodes(&mut self.nodes, alloc, a, b))
     }
 
-    /// Lets an event happen.
+    /// Lets an event happen. The clause `step` says exactly what becomes of the world, and what the answer is.
+    ///
+    /// # Errors
+    ///
+    /// NoMemory, and then nothing is changed.
     pub fn step(&mut self, alloc: Global, event: WorldEvent) -> Result<Answer, WorldFault>
         requires { CanHappen self.old event }
+        ensures step { IfOk result (IsStep self.old event self.new) }
+        ensures grows { Grows self.old self.new }
         ensures nodes { (m : ℕ) → is_there self.new m ≡ is_there self.old m }
         ensures good { IsGood self.new }
         ensures err { OnErr result (self.new ≡ self.old) }
@@ -542,8 +564,7 @@ impl World {
     /// How many messages node `a` accepted for node `b` in their contact, and how many of them were delivered:
     /// NoContact exactly where there is no link between them.
     pub fn flow(&self, a: u8, b: u8) -> Answer
-        ensures none { end_at self.now.nodes a b ≡ None → result ≡ Answer.NoContact }
-        ensures some { (e : LinkEnd) → end_at self.now.nodes a b ≡ Some e → result ≡ Answer.Flow (min (length (accepted_at self.now.nodes a b static_number static_number Flow.Zero)) 18446744073709551615) (length (delivered_at self.now.nodes b a static_number static_number Flow.Zero)) }
+        ensures flow { result ≡ flow_of self.now.nodes a b }
         ensures good { IsGood self.now }
     {
         flow_at(&self.nodes, a, b)
@@ -567,8 +588,9 @@ impl World {
 
     /// Lets a script count frames from here on.
     pub fn mark(&mut self)
-        ensures after { self.new ≡ record { nodes = self.old.nodes; air = self.old.air; base = length self.old.air; lost = self.old.lost } }
+        ensures marks { IsMarked self.old self.new }
         ensures nodes { (m : ℕ) → is_there self.new m ≡ is_there self.old m }
+        ensures grows { Grows self.old self.new }
         ensures good { IsGood self.new }
     {
         self.base = self.air.len() as u64;
