@@ -8,3 +8,6 @@ mod sending_end;
 pub use laws::session_gives_prefix;
 pub use outcomes::LinkOutcome;
 pub use sending_end::Link;
+
+#[cfg(test)]
+mod tests;

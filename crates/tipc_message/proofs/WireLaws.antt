@@ -1,5 +1,5 @@
 -- A message that is sent is the message that is read.
-use Rattle.std.proofs.Common.{◌≡◌, ℕ, ◌≤◌, Option, Some, None, List, length, refl, sym, ap, ◌∙◌, subst, arith, Bool}
+use Rattle.std.proofs.Common.{◌≡◌, ℕ, Some, List, refl, sym, ap, ◌∙◌, Bool}
 use Rattle.tipc_types.specs.declared.identity.PortId.{PortId}
 use Rattle.tipc_types.specs.declared.message_forms.Form.{Form}
 use Rattle.tipc_types.specs.declared.message_forms.Form.TheVariants as form
@@ -7,7 +7,7 @@ use Rattle.tipc_types.specs.declared.message_forms.Importance.{Importance}
 use Rattle.tipc_types.specs.declared.message_forms.Importance.TheVariants.{Low, Medium, High, Critical}
 use Rattle.tipc_types.specs.declared.message_forms.Message.{Message}
 use Rattle.tipc_types.specs.declared.message_forms.Message.TheVariants.{Payload, Items}
-use Rattle.tipc_header.specs.Spelling.{Fields, spelling}
+use Rattle.tipc_header.specs.Spelling.{Fields}
 use Rattle.tipc_message.specs.Wire.{importance_number, importance_of, message_of, packet_of, payload_of, payload_packet, port_at, IsPayload}
 
 importance-again : (i : Importance) → importance_of (importance_number i) ≡ i

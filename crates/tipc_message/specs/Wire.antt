@@ -1,6 +1,5 @@
 -- The packet that carries a message, and the message that a packet carries.
-use Rattle.std.specs.Prelude.{◌≡◌, ◌≤◌, ◌==◌, ℕ, Bool, true, false, List, [], ◌∷◌, ◌++◌, Option, Some, None, length, if◌then◌else◌}
-use Rattle.std.specs.List.{flat_map}
+use Rattle.std.specs.Prelude.{◌≡◌, ◌≤◌, ◌==◌, ℕ, Bool, false, List, Option, Some, None, length, if◌then◌else◌}
 use Rattle.tipc_types.specs.declared.identity.PortId.{PortId}
 use Rattle.tipc_types.specs.declared.message_forms.Form.{Form}
 use Rattle.tipc_types.specs.declared.message_forms.Form.TheVariants as form
@@ -13,7 +12,7 @@ use Rattle.tipc_header.specs.declared.packet.Addressing.TheVariants.{Connected, 
 use Rattle.tipc_header.specs.declared.packet.Payload.{Payload}
 use Rattle.tipc_header.specs.declared.packet.Header.{Header}
 use Rattle.tipc_header.specs.declared.packet.Header.TheVariants as header
-use Rattle.tipc_header.specs.Spelling.{Fields, spelling}
+use Rattle.tipc_header.specs.Spelling.{Fields}
 
 -- the number of an importance, which is also the user
 abbrev pub importance_number : Importance → ℕ

@@ -1,7 +1,7 @@
 -- Frames that are added to a box one after another.
-use Rattle.std.proofs.Common.{◌≡◌, ◌≢◌, ℕ, ◌+◌, ◌≤◌, Bool, true, false, List, [], ◌++◌, length, take, refl, sym, ap, ◌∙◌, append_assoc, append-nil, length-append, arith}
+use Rattle.std.proofs.Common.{◌≡◌, ◌+◌, true, false, List, [], ◌++◌, length, take, refl, sym, ap, ◌∙◌, append_assoc, append-nil, length-append, arith}
 use Rattle.std.proofs.lemmas.List.{take-append-le, take_all}
-use Rattle.std.proofs.Math.Seq.{take-append-add, take-length}
+use Rattle.std.proofs.Math.Seq.{take-append-add}
 use Rattle.tipc_outside.specs.Frames.{Adds, Out}
 use Rattle.tipc_outside.specs.declared.outgoing.Outgoing.{Outgoing}
 

@@ -1,4 +1,4 @@
-use Rattle.std.specs.Prelude.{◌≡◌, ◌+◌, ◌-◌, ◌^◌, ◌<◌, ◌≤◌, ℕ, min, Result, IsErr, IfOk}
+use Rattle.std.specs.Prelude.{◌+◌, ◌-◌, ◌^◌, ◌≤◌, ℕ, min, Result, IsErr}
 
 -- a count rose: it is greater than it was, or stands at the last value of its type
 abbrev pub Rose : ℕ → ℕ → Type 0

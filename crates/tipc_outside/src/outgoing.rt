@@ -45,7 +45,8 @@ impl Outbox {
 
     /// Puts a frame last. Where that finds no memory, or a frame was lost before, it is lost.
     pub fn push(&mut self, bearer: u8, to: To, frame: Bytes)
-        ensures { Adds self.old self.new (record { bearer = bearer; to = to; frame = frame } ∷ []) }
+        ensures adds { Adds self.old self.new (record { bearer = bearer; to = to; frame = frame } ∷ []) }
+        ensures lost { self.new.lost ≡ true → self.new.frames ≡ self.old.frames }
     {
         if self.lost {
             return;

@@ -1,7 +1,8 @@
-ghost use Rattle.std.specs.Prelude.{◌≡◌, ◌+◌, ◌-◌, ◌^◌, ◌<◌, ◌≤◌, List, Option, ℕ, Some, [], length, min, take, IfOk, IsErrOf};
+ghost use Rattle.std.specs.Prelude.{◌≡◌, ◌+◌, ◌-◌, ◌^◌, ◌<◌, ◌≤◌, List, Option, ℕ, Some, [], true, false, length, min, take, IfOk, IsErrOf, OnErr, OnOk};
 ghost use Rattle.std.specs.Io.{ReadsAtMost};
 ghost use Rattle.std.specs.Io.KnownBytes.{ReadConsumes, WriteAppends};
-ghost use Rattle.tipc_outside.specs.Causes.{HasCause, Rose};
+ghost use Rattle.tipc_outside.specs.Causes.{HasCause, Rose, counted};
+ghost use Rattle.tipc_outside.specs.Memory.{is_failing};
 
 use std::alloc::Global;
 use std::marker::Model;
@@ -73,7 +74,7 @@ impl Model for MemorySource {
 
     ghost Value = { Reading };
 
-    ghost view = { λ s. record { left = drop s.place s.bytes.items; faults = s.faults } };
+    ghost view = { λ s. record { left = drop s.place s.bytes.items; calls = s.calls; failing = s.failing.items; faults = s.faults } };
 
     ghost invariant = { λ s. s.place ≤ vec_len s.bytes };
 }
@@ -82,6 +83,7 @@ impl MemorySource {
     /// A source of these bytes, whose calls of these numbers fail.
     pub fn new(bytes: Vec<u8>, failing: Vec<u64>) -> MemorySource
         ensures left { result.left ≡ bytes.items }
+        ensures failing { (result.failing ≡ failing.items) × (result.calls ≡ 0) }
         ensures faults { result.faults ≡ 0 }
     {
         MemorySource {
@@ -99,7 +101,15 @@ impl Source for MemorySource {
 
     ghost faults = { λ s. s.faults };
 
-    fn read(&mut self, into: &mut [u8]) -> Result<usize, Failed> {
+    /// It fails exactly at the calls of its list, and else gives as many bytes as there are and `into` has room for.
+    fn read(&mut self, into: &mut [u8]) -> Result<usize, Failed>
+        ensures bytes { ReadConsumes (Some self.old.left) (Some self.new.left) result into.new }
+        ensures cause { HasCause self.old.faults self.new.faults result }
+        ensures count { IfOk result (λ n. n ≡ min (length into.new) (length self.old.left)) }
+        ensures failing { OnErr result ((is_failing self.old.failing self.old.calls ≡ true) × (self.new.faults ≡ counted self.old.faults)) }
+        ensures passing { OnOk result ((is_failing self.old.failing self.old.calls ≡ false) × (self.new.faults ≡ self.old.faults)) }
+        ensures call { (self.new.calls ≡ counted self.old.calls) × (self.new.failing ≡ self.old.failing) }
+    {
         self.calls = self.calls.saturating_add(1);
         if self.failing.contains(&self.calls) {
             self.faults = self.faults.saturating_add(1);
@@ -136,13 +146,14 @@ impl Model for MemorySink {
 
     ghost Value = { Writing };
 
-    ghost view = { λ s. record { contents = s.bytes.items; faults = s.faults } };
+    ghost view = { λ s. record { contents = s.bytes.items; calls = s.calls; failing = s.failing.items; faults = s.faults } };
 }
 
 impl MemorySink {
     /// A sink that holds nothing, whose calls of these numbers fail.
     pub fn new(alloc: Global, failing: Vec<u64>) -> MemorySink
         ensures contents { result.contents ≡ [] }
+        ensures failing { (result.failing ≡ failing.items) × (result.calls ≡ 0) }
         ensures faults { result.faults ≡ 0 }
     {
         MemorySink {
@@ -168,15 +179,24 @@ impl Sink for MemorySink {
 
     ghost stalls = { λ _. 0 };
 
-    fn write(&mut self, piece: &[u8]) -> Result<usize, SinkFault> {
+    /// It fails exactly at the calls of its list, and else takes the whole piece, unless memory runs out.
+    fn write(&mut self, piece: &[u8]) -> Result<usize, SinkFault>
+        ensures bytes { WriteAppends (Some self.old.contents) (Some self.new.contents) result piece.now }
+        ensures later { self.old.faults ≤ self.new.faults }
+        ensures cause { IsErrOf result SinkFault.Failed → Rose self.old.faults self.new.faults }
+        ensures count { IfOk result (λ n. n ≡ length piece.now) }
+        ensures failing { IsErrOf result SinkFault.Failed → (is_failing self.old.failing self.old.calls ≡ true) × (self.new.faults ≡ counted self.old.faults) }
+        ensures passing { (IsErrOf result SinkFault.Failed → ⊥) → (is_failing self.old.failing self.old.calls ≡ false) × (self.new.faults ≡ self.old.faults) }
+        ensures call { (self.new.calls ≡ counted self.old.calls) × (self.new.failing ≡ self.old.failing) }
+    {
         self.calls = self.calls.saturating_add(1);
         if self.failing.contains(&self.calls) {
             self.faults = self.faults.saturating_add(1);
             return Err(SinkFault::Failed);
         }
-        match self.bytes.extend_from_slice(piece) {
-            Ok(()) => Ok(piece.len()),
-            Err(_) => Err(SinkFault::NoMemory),
-        }
+        let Ok(()) = self.bytes.extend_from_slice(piece) else {
+            return Err(SinkFault::NoMemory);
+        };
+        Ok(piece.len())
     }
 }

@@ -1,0 +1,208 @@
+ghost use Rattle.std.specs.Prelude.{◌≤◌, length, IfOk};
+
+use super::{Link, LinkOutcome};
+use std::alloc::Global;
+use std::process::Abort;
+use std::test::Fail;
+use tipc_header::{decode, open_frame};
+use tipc_outside::Outbox;
+use tipc_send_window::OfferFault;
+use tipc_types::{Addr, BroadcastState, Bytes, Pieces, Why};
+
+/// The epochs of the two ends.
+const LEFT: u64 = 0x1_0000_0001;
+
+const RIGHT: u64 = 0x1_0000_0002;
+
+/// A link over bearer 0 from node 1 to node 2: its ends, and the frames that each has sent.
+#[derive(Drop)]
+struct Ends {
+    left: Link,
+    right: Link,
+    sent: Outbox,
+    answers: Outbox,
+}
+
+impl Ends {
+    fn new(alloc: Global) -> Ends {
+        let (left, right) = (Addr::node(1), Addr::node(2));
+        Ends {
+            left: Link::established(alloc, left, right, 0, LEFT, RIGHT),
+            right: Link::established(alloc, right, left, 0, RIGHT, LEFT),
+            sent: Outbox::new(alloc),
+            answers: Outbox::new(alloc),
+        }
+    }
+
+    /// Puts a packet of 24 bytes on the left end, where fewer than 50 wait.
+    fn send(&mut self, alloc: Global) -> Result<Result<(), OfferFault>, Fail> {
+        let mut pieces = Pieces::new(alloc);
+        pieces.push(connected(alloc)?)?;
+        Ok(self.left.send(alloc, pieces, 50, &mut self.sent))
+    }
+
+    /// Puts so many packets on the left end.
+    fn send_all(&mut self, alloc: Global, count: u8) -> Result<(), Fail> {
+        for _ in 0..count {
+            self.send(alloc)?.ok().ok_or("refused")?;
+        }
+        Ok(())
+    }
+
+    /// The frame of the left end at this place arrives at the right end.
+    fn to_right(&mut self, alloc: Global, place: usize) -> Result<Result<u16, Why>, Fail> {
+        let frame = self.sent.frames().get(place).ok_or("no frame")?;
+        arrive(
+            alloc,
+            &mut self.right,
+            frame.frame.as_slice(),
+            &mut self.answers,
+        )
+    }
+
+    /// The first frames of the left end arrive at the right end in order, and are taken under their numbers.
+    fn all_to_right(&mut self, rt: &impl Abort, alloc: Global, count: u16) -> Result<(), Fail> {
+        for (place, number) in (0..50_usize).zip(1..=count) {
+            assert_eq!(rt; self.to_right(alloc, place)?, Ok(number));
+        }
+        Ok(())
+    }
+
+    /// The frame of the right end at this place arrives at the left end.
+    fn to_left(&mut self, alloc: Global, place: usize) -> Result<Result<u16, Why>, Fail> {
+        let frame = self.answers.frames().get(place).ok_or("no frame")?;
+        arrive(
+            alloc,
+            &mut self.left,
+            frame.frame.as_slice(),
+            &mut self.sent,
+        )
+    }
+}
+
+/// A packet without a body between two connected ports, port 7 and port 8, as it waits to be sent.
+fn connected(alloc: Global) -> Result<Bytes, Fail>
+    ensures { IfOk result (λ bytes. 16 ≤ length bytes) }
+{
+    Ok(Bytes::from_slice(
+        alloc,
+        &[
+            0x40, 0xc0, 0, 24, 0, 0, 0, 0, 0, 0, 0, 0, 0, 0, 0, 0, 0, 0, 0, 7, 0, 0, 0, 8,
+        ],
+    )?)
+}
+
+/// A frame arrives, and the STATE that is due then is sent. It gives the number of the packet that is taken, or 0
+/// where none is.
+fn arrive(
+    alloc: Global,
+    link: &mut Link,
+    frame: &[u8],
+    out: &mut Outbox,
+) -> Result<Result<u16, Why>, Fail> {
+    let frame = open_frame(frame).ok_or("no frame")?;
+    let packet = decode(frame.packet).ok().ok_or("no packet")?;
+    let outcome = link.arrive(alloc, frame.first, frame.second, &packet, 40, out)?;
+    let no_broadcast = BroadcastState {
+        acknowledged: 0,
+        next: 1,
+        start: 1,
+        gap: 0,
+        in_step: false,
+    };
+    link.answer(alloc, no_broadcast, out);
+    Ok(number_of(&outcome))
+}
+
+/// The number of the packet that was taken, or 0 where none was.
+fn number_of(outcome: &LinkOutcome) -> Result<u16, Why> {
+    match outcome {
+        LinkOutcome::Took(taken) => Ok(taken.as_slice().first().map_or(0, |one| one.number)),
+        LinkOutcome::Ignored(why) => Err(*why),
+    }
+}
+
+/// The bytes of these words.
+fn bytes_of(alloc: Global, words: &[u32]) -> Result<Vec<u8>, Fail> {
+    let mut bytes = Vec::new(alloc);
+    for word in words {
+        bytes.extend_from_slice(&word.to_be_bytes())?;
+    }
+    Ok(bytes)
+}
+
+#[test]
+fn the_101st_packet_is_congested(rt: HostRuntime) -> Result<(), Fail> {
+    let alloc = rt.alloc();
+    let mut ends = Ends::new(alloc);
+    ends.send_all(alloc, 100)?;
+    let congested = OfferFault::Congested {
+        in_flight: 50,
+        waiting: 50,
+    };
+    assert_eq!(rt; ends.send(alloc)?, Err(congested));
+    assert_eq!(rt; ends.sent.frames().len(), 50);
+    Ok(())
+}
+
+#[test]
+fn acknowledgements_move_waiting_packets_up(rt: HostRuntime) -> Result<(), Fail> {
+    let alloc = rt.alloc();
+    let mut ends = Ends::new(alloc);
+    ends.send_all(alloc, 100)?;
+    ends.all_to_right(&rt, alloc, 48)?;
+    // a STATE after each 16th packet; the last acknowledges 48, and the one before it nothing more
+    assert_eq!(rt; ends.answers.frames().len(), 3);
+    for (place, waiting) in [(0, 34), (2, 2), (1, 2)] {
+        assert_eq!(rt; ends.to_left(alloc, place)?, Ok(0));
+        assert_eq!(rt; ends.left.load(), (50, waiting), "after {place}");
+    }
+    assert_eq!(rt; ends.left.numbered(), (98, 0));
+    assert_eq!(rt; ends.right.numbered(), (0, 48));
+    Ok(())
+}
+
+#[test]
+fn only_the_wanted_packet_of_the_session_is_taken(rt: HostRuntime) -> Result<(), Fail> {
+    let alloc = rt.alloc();
+    let mut ends = Ends::new(alloc);
+    ends.send_all(alloc, 3)?;
+    let old = Err(Why::Old);
+    for (place, outcome) in [(1, old), (0, Ok(1)), (2, old), (0, old), (1, Ok(2))] {
+        assert_eq!(rt; ends.to_right(alloc, place)?, outcome, "at {place}");
+    }
+    ends.right = Link::established(alloc, Addr::node(2), Addr::node(1), 0, LEFT, LEFT);
+    assert_eq!(rt; ends.to_right(alloc, 0)?, Err(Why::Epoch));
+    Ok(())
+}
+
+#[test]
+fn frames_are_spelled(rt: HostRuntime) -> Result<(), Fail> {
+    let alloc = rt.alloc();
+    let mut ends = Ends::new(alloc);
+    ends.send_all(alloc, 16)?;
+    ends.all_to_right(&rt, alloc, 16)?;
+    let words = [1, 1, 1, 2, 0x40c0_0018, 0, 1, 0x0100_1001, 7, 8];
+    let first = ends.sent.frames().first().ok_or("no frame")?;
+    assert_eq!(rt; first.frame.as_slice(), bytes_of(alloc, &words)?.as_slice());
+    // 16 packets were taken and none was sent: the next numbers are 1
+    let words = [
+        1,
+        2,
+        1,
+        1,
+        0x4f50_0028,
+        0,
+        0x0010_0000,
+        0x0100_1002,
+        0x0001_0001,
+        0x0001_0000,
+        0,
+        0x0100_1001,
+        0x2c,
+        0,
+    ];
+    let state = ends.answers.frames().first().ok_or("no STATE")?;
+    assert_eq!(rt; state.frame.as_slice(), bytes_of(alloc, &words)?.as_slice());
+    Ok(())
+}
