@@ -1,5 +1,5 @@
 -- What an event at one end does to the two directions of a link, and to the frames that are under way.
-use Rattle.std.proofs.Common.{◌≡◌, ◌≢◌, ℕ, ◌+◌, ◌-◌, ◌<◌, ◌≤◌, Bool, true, false, List, [], ◌∷◌, ◌++◌, Option, Some, None, length, take, drop, slice_get, min, inl, inr, refl, sym, ap, ◌∙◌, subst, eqb-true, append_assoc, length-append, length-drop, length-take, take-append-drop, get_or, arith}
+use Rattle.std.proofs.Common.{◌≡◌, ℕ, ◌+◌, ◌-◌, ◌<◌, ◌≤◌, List, [], ◌∷◌, ◌++◌, Some, length, take, drop, slice_get, inl, inr, refl, sym, ap, ◌∙◌, subst, append_assoc, length-append, length-drop, take-append-drop, get_or, arith}
 use Rattle.std.proofs.lemmas.Bool.{cases_lt}
 use Rattle.std.proofs.lemmas.Bool.Decides.{nat_tests}
 use Rattle.std.proofs.lemmas.List.{drop-append-le, take-append-le, drop-drop, take_more, length-take-le, get_or-drop, get_or-append-add}
@@ -9,7 +9,7 @@ use Rattle.tipc_types.specs.Position.{number_of}
 use Rattle.tipc_types.proofs.PositionLaws.{distance_of-ahead, distance_of-behind, same_position}
 use Rattle.tipc_send_window.specs.Sending.{Sending, acked_of, acknowledged, offered, release_count}
 use Rattle.tipc_send_window.specs.Sending as window
-use Rattle.tipc_link.specs.End.{LinkEnd, Carries, advanced, room, wanted}
+use Rattle.tipc_link.specs.End.{advanced, room}
 use Rattle.tipc_link.specs.Direction.{IsDirection, Flight, IsFresh, IsCarried, IsFlight, packet_flight, state_flight}
 
 slice_get-append : {A : Type 0} (xs ys : List A) (i : ℕ) (x : A) → slice_get xs i ≡ Some x → slice_get (xs ++ ys) i ≡ Some x

@@ -1,16 +1,15 @@
 -- Whatever happens to a link, what was taken at either side is a prefix of what was put at the other.
-use Rattle.std.proofs.Common.{◌≡◌, ◌≢◌, ℕ, zero, suc, ◌+◌, ◌-◌, ◌<◌, ◌≤◌, ◌==◌, ◌&&◌, Bool, true, false, if◌then◌else◌, List, [], ◌∷◌, ◌++◌, Option, Some, None, length, take, drop, slice_get, nat_le, min, inl, inr, refl, sym, ap, ◌∙◌, subst, eqb-true, append_assoc, append-nil, length-append, length-take, take-append-drop, get_or, add-zero, arith}
+use Rattle.std.proofs.Common.{◌≡◌, ℕ, zero, suc, ◌+◌, ◌-◌, ◌<◌, ◌≤◌, ◌==◌, ◌&&◌, Bool, true, false, if◌then◌else◌, List, [], ◌∷◌, ◌++◌, Option, Some, None, length, take, drop, slice_get, nat_le, inl, inr, refl, sym, ap, ◌∙◌, subst, eqb-true, append-nil, length-append, take-append-drop, get_or, arith}
 use Rattle.std.proofs.lemmas.Bool.{cases_lt}
 use Rattle.std.proofs.lemmas.Bool.Decides.{nat_tests}
 use Rattle.std.proofs.lemmas.List.{get_or-append-add, length-take-le, get_or-take}
 use Rattle.std.proofs.lemmas.Option.{get_or_from_slice_get, slice_get-get_or, slice_get_within}
 use Rattle.std.proofs.Math.ListN.{get_or-append}
-use Rattle.tipc_types.specs.Position.{number_of}
-use Rattle.tipc_send_window.specs.Sending.{Sending, acknowledged, offered}
+use Rattle.tipc_send_window.specs.Sending.{Sending, acknowledged}
 use Rattle.tipc_link.specs.End.{LinkEnd, Content, Shows, Carries, Nothing, advanced, flushed, heard, put, released, room, wanted}
 use Rattle.tipc_link.specs.Direction.{IsDirection, Flight, IsFresh, IsFlight, packet_flight, state_flight}
 use Rattle.tipc_link.specs.Laws.{Side, new_side, packet_flights, flush_flights, puts, states, hears, taken_from, is_fresh, comes, Happening, Put, State, Comes, after, Link, Event, happens, happens_at, run, IsPrefixOf, KeepsPrefix}
-use Rattle.tipc_link.proofs.Directions.{offers, moves_up, releases, takes, Extends, Extends-same, Extends-append, IsFlight-stays, IsFlight-packet, IsFlight-state, taken_recently}
+use Rattle.tipc_link.proofs.Directions.{offers, moves_up, releases, takes, Extends-same, Extends-append, IsFlight-stays, IsFlight-packet, IsFlight-state}
 
 -- each element has P
 abbrev pub Each : {A : Type 0} → (A → Type 0) → List A → Type 0

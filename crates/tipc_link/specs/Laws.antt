@@ -1,7 +1,7 @@
 -- A link as a machine of two ends: packets are put at either end, STATEs are sent at any time, and of all frames that
 -- were ever sent any may arrive, again and in any order, as long as it isn't too old.
-use Rattle.std.specs.Prelude.{◌≡◌, ℕ, ◌+◌, ◌≤◌, Bool, true, false, List, [], ◌∷◌, ◌++◌, Option, Some, None, length, take, slice_get, nat_le, ◌==◌, ◌&&◌, if◌then◌else◌}
-use Rattle.tipc_link.specs.End.{LinkEnd, Content, Shows, Carries, Nothing, arrived, begun, flushed, heard, put, room, wanted}
+use Rattle.std.specs.Prelude.{◌≡◌, ℕ, ◌+◌, Bool, true, false, List, [], ◌∷◌, ◌++◌, Option, Some, None, take, slice_get, nat_le, ◌==◌, ◌&&◌, if◌then◌else◌}
+use Rattle.tipc_link.specs.End.{LinkEnd, Content, Carries, begun, flushed, heard, put, room, wanted}
 use Rattle.tipc_link.specs.Direction.{Flight, packet_flight, state_flight}
 
 -- one side: its end, what was put there, what was taken there, and every frame that it sent
