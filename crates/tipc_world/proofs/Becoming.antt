@@ -1,32 +1,27 @@
 -- What each event makes of the nodes and the air.
-use Rattle.std.proofs.Common.{◌≡◌, ◌≢◌, ℕ, zero, suc, ◌<◌, Bool, true, false, is_some, List, [], ◌∷◌, ◌++◌, Option, Some, None, length, map, take, slice_index_or, slice_set, refl, sym, ap, ◌∙◌, subst, inl, inr, append-nil, arith}
+use Rattle.std.proofs.Common.{◌≡◌, ℕ, zero, suc, Bool, true, false, is_some, List, [], ◌∷◌, ◌++◌, Option, Some, None, length, map, take, slice_index_or, slice_set, refl, sym, ap, ◌∙◌, subst, inl, inr, append-nil, arith}
 use Rattle.std.specs.Prelude.{if◌then◌else◌, nat_lt}
 use Rattle.std.proofs.lemmas.List.{take_all}
 use Rattle.tipc_types.specs.Address.{node_word}
 use Rattle.tipc_types.specs.declared.identity.PortId.{PortId}
-use Rattle.tipc_types.specs.declared.link_words.Why.TheVariants as why
 use Rattle.tipc_types.specs.declared.message_forms.Importance.{Importance}
 use Rattle.tipc_types.specs.declared.message_forms.Message.{Message}
 use Rattle.tipc_types.specs.declared.node_calls.Answer.{Answer}
 use Rattle.tipc_types.specs.declared.node_calls.Answer.TheVariants as answer
 use Rattle.tipc_types.specs.declared.node_calls.Arrival.{Arrival}
-use Rattle.tipc_types.specs.declared.node_calls.Arrival.TheVariants as arrival
 use Rattle.tipc_outside.specs.Frames.{Adds, Out}
 use Rattle.tipc_outside.specs.declared.outgoing.Outgoing.{Outgoing}
-use Rattle.tipc_header.specs.Frames.{frame_of}
 use Rattle.tipc_header.specs.Spelling.{Fields, spelling}
 use Rattle.tipc_journal.specs.Prefixes.{IsPrefixOf}
-use Rattle.tipc_journal.specs.declared.entries.Entry.{Entry}
 use Rattle.tipc_link.specs.End.{content_in, flush_frames, put}
 use Rattle.tipc_message.specs.Wire.{message_of}
 use Rattle.tipc_world.specs.declared.air.Sent.{Sent}
 use Rattle.tipc_world.specs.declared.events.WorldEvent.{WorldEvent}
 use Rattle.tipc_world.specs.declared.events.WorldEvent.TheVariants.{Socket, SendPort, Receive, Arrive}
-use Rattle.tipc_world.specs.declared.neighbours.Neighbour.{Neighbour}
 use Rattle.tipc_world.specs.Air.{airborne, IsReleased}
 use Rattle.tipc_world.specs.Due.{count_at, frame_for, stop_of, IsDue, IsStopped}
 use Rattle.tipc_world.specs.Hearing.{heard_frames, heard_in}
-use Rattle.tipc_world.specs.Nodes.{accepted_entry, direct, has_port, heard_entries, heard_node, inbox_of, limit_of, receive_node, refusal, sent_node, socket_node, with_inboxes, without_first, HearsAt, IsHeard, IsSent, KeepsAt, MakesSocketAt, ReceivesAt, SendsAt}
+use Rattle.tipc_world.specs.Nodes.{accepted_entry, direct, has_port, heard_entries, heard_node, inbox_of, limit_of, receive_node, refusal, sent_node, socket_node, with_inboxes, without_first, HearsAt, KeepsAt, MakesSocketAt, ReceivesAt, SendsAt}
 use Rattle.tipc_world.specs.Sound.{bytes_of}
 use Rattle.tipc_world.specs.States.{NodeState, neighbour_of}
 use Rattle.tipc_world.specs.Steps.{stage, Becomes, Emits, IsArrival, IsIdle, IsSend, Reaches, Stage}

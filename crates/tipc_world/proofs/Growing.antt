@@ -1,10 +1,8 @@
 -- A world only grows.
-use Rattle.std.proofs.Common.{◌≡◌, ◌≢◌, ℕ, true, false, is_some, List, [], ◌∷◌, ◌++◌, Option, Some, None, map, take, slice_index_or, slice_set, refl, sym, ap, ◌∙◌, subst, inl, inr, append-nil, append_assoc}
+use Rattle.std.proofs.Common.{◌≡◌, ℕ, List, [], ◌++◌, Option, Some, None, slice_index_or, slice_set, sym, ap, ◌∙◌, subst, inl, inr, append-nil, append_assoc}
 use Rattle.std.proofs.lemmas.Bool.{cases_eq}
-use Rattle.tipc_types.specs.declared.node_calls.Answer.{Answer}
 use Rattle.tipc_journal.specs.Prefixes.{IsPrefixOf}
-use Rattle.tipc_world.specs.declared.air.Sent.{Sent}
-use Rattle.tipc_world.specs.States.{NodeState, WorldState, journal_at, node_at}
+use Rattle.tipc_world.specs.States.{NodeState, WorldState, journal_at}
 use Rattle.tipc_world.specs.Growth.{Grows}
 use Rattle.tipc_world.proofs.LookUps.{node_at-put_same, node_at-put_other, journal_at-there, journal_at-same_node}
 use Rattle.tipc_world.proofs.Steps.{at_is, within_where_some}

@@ -8,7 +8,7 @@ use Rattle.tipc_world.specs.declared.air.Sent.{Sent}
 use Rattle.tipc_world.specs.declared.neighbours.Neighbour.{Neighbour}
 use Rattle.tipc_types.specs.declared.node_calls.Answer.{Answer}
 use Rattle.tipc_types.specs.declared.node_calls.Answer.TheVariants as answer
-use Rattle.tipc_world.specs.States.{NodeState, WorldState, counted, flow_in, flow_of, node_at, end_at, journal_at, neighbour_of}
+use Rattle.tipc_world.specs.States.{NodeState, WorldState, counted, flow_in, flow_of, node_at, end_at, journal_at}
 use Rattle.tipc_world.specs.Growth.{Grows}
 use Rattle.tipc_world.specs.Steps.{IsJoined, IsLinked}
 use Rattle.tipc_world.proofs.Growing.{journals_same, journals_trans, prefix_same, put_grows, put_grows_by, JournalsGrow}

@@ -1,4 +1,4 @@
-use Rattle.std.proofs.Common.{◌≡◌, true, None, is_some, inl, inr, refl, subst, sym, ap, ◌∙◌}
+use Rattle.std.proofs.Common.{◌≡◌, true, None, is_some, inl, inr, refl, subst, sym, ◌∙◌}
 use Rattle.tipc_world.specs.States.{end_at}
 use Rattle.tipc_world.proofs.At.{none_is}
 use Rattle.tipc_world.proofs.Joins.{link_sound}

@@ -1,11 +1,11 @@
-use Rattle.std.proofs.Common.{◌≡◌, ◌≤◌, ◌<◌, refl, ap, sym, subst, ◌∙◌, inr, length, Some, arith}
+use Rattle.std.proofs.Common.{◌≤◌, ◌<◌, refl, ap, sym, subst, ◌∙◌, inr, length, Some, arith}
 use Rattle.tipc_types.specs.Address.{node_word}
 use Rattle.tipc_types.specs.declared.link_words.Why.TheVariants as why
 use Rattle.tipc_types.specs.declared.node_calls.Arrival.TheVariants as arrival
 use Rattle.tipc_header.specs.Frames.{frame_of}
 use Rattle.tipc_types.specs.declared.node_calls.Answer.TheVariants as answer
 use Rattle.tipc_header.specs.Spelling.{view}
-use Rattle.tipc_world.specs.Due.{age_of, stop_of}
+use Rattle.tipc_world.specs.Due.{age_of}
 use Rattle.tipc_world.proofs.Stops.{open_at, stop_envelope, stop_header, stop_none, stop_old, stop_self, stop_stranger, IsBadSize}
 use Rattle.tipc_world.proofs.worlds.look.Goals as goal
 

@@ -1,5 +1,5 @@
-use Rattle.std.proofs.Common.{subst, true, false, ◌≡◌, ◌++◌, map, [], List}
-use Rattle.tipc_world.specs.Air.{airborne, IsReleased}
+use Rattle.std.proofs.Common.{subst}
+use Rattle.tipc_world.specs.Air.{IsReleased}
 use Rattle.tipc_world.specs.Due.{count_at}
 use Rattle.tipc_world.proofs.Becoming.{send_is, Left}
 use Rattle.tipc_world.proofs.Steps.{send_sound}

@@ -1,4 +1,4 @@
-use Rattle.std.proofs.Common.{◌≡◌, Some, None, length, subst, sym, ◌+◌}
+use Rattle.std.proofs.Common.{◌≡◌, Some, None, length, subst, ◌+◌}
 use Rattle.tipc_types.specs.declared.node_calls.Answer.TheVariants as answer
 use Rattle.tipc_link.specs.End.{LinkEnd}
 use Rattle.tipc_world.specs.Good.{IsGood}
