@@ -1,0 +1,4 @@
+pub mod Calls
+pub mod Speaking
+pub mod Knowing
+pub mod Sessions
