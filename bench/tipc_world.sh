@@ -21,13 +21,13 @@ mkdir "$bench/specs"
 cat >"$bench/src/main.rt" <<'RT'
 #![tactic(auto)]
 
-ghost use Rattle.std.specs.Prelude.{◌≡◌, ℕ, true, length, IfOk};
+ghost use Rattle.std.specs.Prelude.{◌≡◌, ℕ, true, IfOk};
 ghost use Rattle.tipc_world.specs.States.{is_there};
 
 use std::alloc::Global;
 use std::io;
 use std::time::Instant;
-use tipc_types::{Addr, Bytes, Importance, NoMemory, PortId};
+use tipc_types::{Addr, Bytes, Importance, PortId};
 use tipc_world::{World, WorldEvent, WorldFault};
 
 fn two_nodes(alloc: Global) -> Result<World, WorldFault>
@@ -50,19 +50,21 @@ fn arrive(alloc: Global, world: &mut World, node: u8, frame: u64) -> Result<(), 
     Ok(())
 }
 
-fn body(alloc: Global) -> Result<Bytes, NoMemory>
-    ensures { IfOk result (λ b. length b ≡ 1) }
+fn send(alloc: Global, world: &mut World) -> Result<(), WorldFault>
+    requires { is_there world.old 1 ≡ true }
+    ensures { (n : ℕ) → is_there world.new n ≡ is_there world.old n }
 {
-    Ok(Bytes::from_slice(alloc, b"x")?)
+    let to = PortId { node: Addr::node(2), port: 1 };
+    let event = WorldEvent::SendPort { node: 1, port: 1, to, importance: Importance::Low, body: Bytes::from_slice(alloc, b"x")? };
+    world.step(alloc, event)?;
+    Ok(())
 }
 
 fn exchange(alloc: Global, world: &mut World, number: u64, frame: u64) -> Result<u64, WorldFault>
     requires { (is_there world.old 1 ≡ true) × (is_there world.old 2 ≡ true) }
     ensures { (n : ℕ) → is_there world.new n ≡ is_there world.old n }
 {
-    let to = PortId { node: Addr::node(2), port: 1 };
-    let event = WorldEvent::SendPort { node: 1, port: 1, to, importance: Importance::Low, body: body(alloc)? };
-    world.step(alloc, event)?;
+    send(alloc, world)?;
     arrive(alloc, world, 2, frame)?;
     world.step(alloc, WorldEvent::Receive { node: 2, port: 1 })?;
     if number % 16 != 15 {
@@ -84,9 +86,10 @@ fn exchange_all(alloc: Global, messages: u64) -> Result<World, WorldFault> {
 fn measure(rt: &HostRuntime, messages: u64) -> io::Result<()> {
     let start = Instant::now(rt)?;
     let ended = exchange_all(rt.alloc(), messages).is_ok();
-    let time = start.elapsed(rt)?.as_micros() as u64;
-    let each = time * 1_000 / messages;
-    println!(rt; "{messages} messages (to the end: {ended}): {time} us, {each} ns a message")
+    let time = start.elapsed(rt)?;
+    let total = time.as_millis();
+    let each = time.as_nanos().checked_div(u128::from(messages)).unwrap_or(0);
+    println!(rt; "{messages} messages (to the end: {ended}): {total} ms, {each} ns a message")
 }
 
 fn main(rt: HostRuntime) -> io::Result<()> {
@@ -96,5 +99,26 @@ fn main(rt: HostRuntime) -> io::Result<()> {
     measure(&rt, 60_000)
 }
 RT
+mkdir -p "$bench/proofs/send" "$bench/proofs/exchange_all"
+cat >"$bench/proofs/send/Answers.antt" <<'ANTT'
+use Rattle.std.proofs.Common.{length, ap, arith}
+use Rattle.world_bench.proofs.send.Goals as goal
+
+pub step-requires : goal.step-requires
+step-requires c =
+    let one = ap length c.in_ok-from_slice.ensures in
+    (c.requires, (2, omega arith, omega arith, (λ same. omega (arith, same)), c.node.ensures), omega (arith, one))
+ANTT
+cat >"$bench/proofs/exchange_all/Invariants.antt" <<'ANTT'
+use Rattle.std.proofs.Common.{◌≡◌, true}
+use Rattle.tipc_world.specs.States.{is_there}
+use Rattle.world_bench.proofs.exchange_all.Given as goal
+
+abbrev pub invariant-loop-number : goal.invariant-loop-number
+invariant-loop-number l = record {
+  first : is_there l.world 1 ≡ true;
+  second : is_there l.world 2 ≡ true;
+}
+ANTT
 cd "$bench"
 rt run
