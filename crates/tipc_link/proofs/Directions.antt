@@ -9,7 +9,7 @@ use Rattle.tipc_types.specs.Position.{number_of}
 use Rattle.tipc_types.proofs.PositionLaws.{distance_of-ahead, distance_of-behind, same_position}
 use Rattle.tipc_send_window.specs.Sending.{Sending, acked_of, acknowledged, offered, release_count}
 use Rattle.tipc_send_window.specs.Sending as window
-use Rattle.tipc_link.specs.End.{advanced, room}
+use Rattle.tipc_link.specs.Sessions.{advanced, room}
 use Rattle.tipc_link.specs.Direction.{IsDirection, Flight, IsFresh, IsCarried, IsFlight, packet_flight, state_flight}
 
 slice_get-append : {A : Type 0} (xs ys : List A) (i : ℕ) (x : A) → slice_get xs i ≡ Some x → slice_get (xs ++ ys) i ≡ Some x

@@ -7,7 +7,7 @@ use Rattle.std.proofs.lemmas.Option.{slice_get-get_or}
 use Rattle.std.proofs.Math.Seq.{take-add}
 use Rattle.tipc_outside.specs.Frames.{Adds, Out}
 use Rattle.tipc_send_window.specs.Sending.{Sending}
-use Rattle.tipc_link.specs.End.{LinkEnd, advanced, sent, room, packet_frame, packet_frames, flush_frames, flushed}
+use Rattle.tipc_link.specs.Sessions.{SessionEnd, advanced, sent, room, packet_frame, packet_frames, flush_frames, flushed}
 
 advanced-none : (s : Sending) → advanced 0 s ≡ s
 advanced-none s = let u : s.unacked ++ [] ≡ s.unacked = append-nil s.unacked in let n : s.numbered + 0 ≡ s.numbered = omega arith in rw (u, n) refl
@@ -19,45 +19,45 @@ advanced-more s i =
     let w : drop 1 (drop i s.waiting) ≡ drop (i + 1) s.waiting = drop-drop 1 i s.waiting in
     rw (n, u, w) refl
 
-pub sent-none : (e : LinkEnd) → sent 0 e ≡ e
+pub sent-none : (e : SessionEnd) → sent 0 e ≡ e
 sent-none e = rw (advanced-none e.sending) refl
 
-pub sent-more : (e : LinkEnd) (i : ℕ) → sent 1 (sent i e) ≡ sent (i + 1) e
+pub sent-more : (e : SessionEnd) (i : ℕ) → sent 1 (sent i e) ≡ sent (i + 1) e
 sent-more e i =
     let tested : (i + 1 == 0) ≡ false = grind (arith, nat_tests) in
     rw (advanced-more e.sending i, tested) refl
 
 -- the frame behind others
-pub packet_frames-more : (e : LinkEnd) (before : ℕ) (qs : List (List ℕ)) (q : List ℕ) → packet_frames e before (qs ++ q ∷ []) ≡ packet_frames e before qs ++ packet_frame e (before + length qs + 1) q ∷ []
+pub packet_frames-more : (e : SessionEnd) (before : ℕ) (qs : List (List ℕ)) (q : List ℕ) → packet_frames e before (qs ++ q ∷ []) ≡ packet_frames e before qs ++ packet_frame e (before + length qs + 1) q ∷ []
 packet_frames-more e before [] q = ap (λ n. packet_frame e n q ∷ []) (omega arith)
 packet_frames-more e before (x ∷ qs) q =
     let place : before + 1 + length qs + 1 ≡ before + length (x ∷ qs) + 1 = omega arith in
     ap (λ fs. packet_frame e (before + 1) x ∷ fs) (packet_frames-more e (before + 1) qs q ∙ ap (λ n. packet_frames e (before + 1) qs ++ packet_frame e n q ∷ []) place)
 
 -- the packet that is the first to wait when i packets were sent
-pub first_of_sent : (e : LinkEnd) (i : ℕ) → i < length e.sending.waiting → slice_get (sent i e).sending.waiting 0 ≡ slice_get e.sending.waiting i
+pub first_of_sent : (e : SessionEnd) (i : ℕ) → i < length e.sending.waiting → slice_get (sent i e).sending.waiting 0 ≡ slice_get e.sending.waiting i
 first_of_sent e i within =
     let w = e.sending.waiting in
     let there : 0 < length (drop i w) = omega (arith, length-drop i w) in
     slice_get-get_or (drop i w) 0 [] there ∙ ap Some (get_or-drop i w 0 [] ∙ ap (λ k. get_or w k []) (add-zero i)) ∙ sym (slice_get-get_or w i [] within)
 
 -- i of n waiting packets were sent
-pub record IsFlushing (before : LinkEnd) (box_before : Out) (now : LinkEnd) (box : Out) (i n : ℕ) : Type 0 where
+pub record IsFlushing (before : SessionEnd) (box_before : Out) (now : SessionEnd) (box : Out) (i n : ℕ) : Type 0 where
   pub state : now ≡ sent i before
   pub frames : Adds box_before box (packet_frames before before.sending.numbered (take i before.sending.waiting))
   pub count : n ≡ room before.sending
   pub within : i ≤ n
 
 -- one more was sent
-pub flushing-step : (before now now' : LinkEnd) (box_before box box' : Out) (i n : ℕ) → IsFlushing before box_before now box i n → i < n → now' ≡ sent 1 now → ((q : List ℕ) → slice_get now.sending.waiting 0 ≡ Some q → Adds box box' (packet_frame now (now.sending.numbered + 1) q ∷ [])) → IsFlushing before box_before now' box' (i + 1) n
+pub flushing-step : (before now now' : SessionEnd) (box_before box box' : Out) (i n : ℕ) → IsFlushing before box_before now box i n → i < n → now' ≡ sent 1 now → ((q : List ℕ) → slice_get now.sending.waiting 0 ≡ Some q → Adds box box' (packet_frame now (now.sending.numbered + 1) q ∷ [])) → IsFlushing before box_before now' box' (i + 1) n
 flushing-step before now now' box_before box box' i n h more after frame =
     let w = before.sending.waiting in
     let count = h.count in
     let within : i < length w = omega arith in
     let q = get_or w i [] in
     let there : slice_get w i ≡ Some q = slice_get-get_or w i [] within in
-    let first : slice_get now.sending.waiting 0 ≡ Some q = subst (λ (e : LinkEnd). slice_get e.sending.waiting 0 ≡ Some q) (sym h.state) (first_of_sent before i within ∙ there) in
-    let sent_frame = subst (λ (e : LinkEnd). Adds box box' (packet_frame e (e.sending.numbered + 1) q ∷ [])) h.state (frame q first) in
+    let first : slice_get now.sending.waiting 0 ≡ Some q = subst (λ (e : SessionEnd). slice_get e.sending.waiting 0 ≡ Some q) (sym h.state) (first_of_sent before i within ∙ there) in
+    let sent_frame = subst (λ (e : SessionEnd). Adds box box' (packet_frame e (e.sending.numbered + 1) q ∷ [])) h.state (frame q first) in
     let long : length (take i w) ≡ i = length-take-le i w (omega arith) in
     let all : packet_frames before before.sending.numbered (take (i + 1) w) ≡ packet_frames before before.sending.numbered (take i w) ++ packet_frame before (before.sending.numbered + i + 1) q ∷ [] =
     ap (λ qs. packet_frames before before.sending.numbered qs) (take_more w i [] within)
@@ -70,7 +70,7 @@ flushing-step before now now' box_before box box' i n h more after frame =
       within = omega arith;
     }
 
-pub flushing-done : (before now : LinkEnd) (box_before box : Out) (i n : ℕ) → IsFlushing before box_before now box i n → n ≤ i → (now ≡ flushed before) × Adds box_before box (flush_frames before)
+pub flushing-done : (before now : SessionEnd) (box_before box : Out) (i n : ℕ) → IsFlushing before box_before now box i n → n ≤ i → (now ≡ flushed before) × Adds box_before box (flush_frames before)
 unfolding flushed flush_frames
 flushing-done before now box_before box i n h end =
     let within = h.within in

@@ -1,3 +1,4 @@
 pub mod Flushing
 pub mod Directions
 pub mod LinkLaw
+pub mod Arrivals

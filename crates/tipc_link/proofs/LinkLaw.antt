@@ -6,7 +6,7 @@ use Rattle.std.proofs.lemmas.List.{get_or-append-add, length-take-le, get_or-tak
 use Rattle.std.proofs.lemmas.Option.{get_or_from_slice_get, slice_get-get_or, slice_get_within}
 use Rattle.std.proofs.Math.ListN.{get_or-append}
 use Rattle.tipc_send_window.specs.Sending.{Sending, acknowledged}
-use Rattle.tipc_link.specs.End.{LinkEnd, Content, Shows, Carries, Nothing, advanced, flushed, heard, put, released, room, wanted}
+use Rattle.tipc_link.specs.Sessions.{SessionEnd, Content, Shows, Carries, Nothing, advanced, flushed, heard, put, released, room, wanted}
 use Rattle.tipc_link.specs.Direction.{IsDirection, Flight, IsFresh, IsFlight, packet_flight, state_flight}
 use Rattle.tipc_link.specs.Laws.{Side, new_side, packet_flights, flush_flights, puts, states, hears, taken_from, is_fresh, comes, Happening, Put, State, Comes, after, Link, Event, happens, happens_at, run, IsPrefixOf, KeepsPrefix}
 use Rattle.tipc_link.proofs.Directions.{offers, moves_up, releases, takes, Extends-same, Extends-append, IsFlight-stays, IsFlight-packet, IsFlight-state}
@@ -46,16 +46,16 @@ pub record IsLink (a b : Side) : Type 0 where
   pub here : IsSide a b
   pub there : IsSide b a
 
-flushed-sending : (e : LinkEnd) → (flushed e).sending ≡ advanced (room e.sending) e.sending
+flushed-sending : (e : SessionEnd) → (flushed e).sending ≡ advanced (room e.sending) e.sending
 unfolding flushed
 flushed-sending e = refl
 
-flushed-taken : (e : LinkEnd) → (flushed e).taken ≡ e.taken
+flushed-taken : (e : SessionEnd) → (flushed e).taken ≡ e.taken
 unfolding flushed
 flushed-taken e = refl
 
 -- waiting packets move up at a side
-flush_keeps : (e : LinkEnd) (b : Side) (put took : List (List ℕ)) (sent : List Flight)
+flush_keeps : (e : SessionEnd) (b : Side) (put took : List (List ℕ)) (sent : List Flight)
     → IsDirection e.sending b.end.taken put b.took → IsDirection b.end.sending e.taken b.put took
     → Each (λ f. IsFlight e.sending.numbered e.taken b.end.sending.numbered put f) sent
     → Each (λ f. IsFlight b.end.sending.numbered b.end.taken e.sending.numbered b.put f) b.sent

@@ -3,7 +3,7 @@
 use Rattle.std.specs.Prelude.{◌≡◌, ℕ, ◌+◌, ◌-◌, ◌<◌, ◌≤◌, List, ◌++◌, Some, length, take, drop, slice_get}
 use Rattle.tipc_types.specs.Position.{number_of}
 use Rattle.tipc_send_window.specs.Sending.{Sending, acked_of}
-use Rattle.tipc_link.specs.End.{LinkEnd, Content, Carries, Shows}
+use Rattle.tipc_link.specs.Sessions.{SessionEnd, Content, Carries, Shows}
 
 -- what the sender s has, how many packets the receiver took, the packets that were put and those that were taken
 pub record IsDirection (s : Sending) (taken : ℕ) (put took : List (List ℕ)) : Type 0 where
@@ -57,9 +57,5 @@ pub record IsFlight (numbered taken peer_numbered : ℕ) (put : List (List ℕ))
   pub carried : (number : ℕ) (packet : List ℕ) → f.content ≡ Carries number packet → IsCarried put f.numbered number packet
 
 -- the direction from one end to the other
-abbrev pub Joins : LinkEnd → LinkEnd → List (List ℕ) → List (List ℕ) → Type 0
+abbrev pub Joins : SessionEnd → SessionEnd → List (List ℕ) → List (List ℕ) → Type 0
 Joins sender receiver put took = IsDirection sender.sending receiver.taken put took
-
--- a frame that the first end sent to the second
-abbrev pub Flies : LinkEnd → LinkEnd → List (List ℕ) → Flight → Type 0
-Flies sender receiver put f = IsFlight sender.sending.numbered sender.taken receiver.sending.numbered put f

@@ -1,12 +1,12 @@
 -- A link as a machine of two ends: packets are put at either end, STATEs are sent at any time, and of all frames that
 -- were ever sent any may arrive, again and in any order, as long as it isn't too old.
 use Rattle.std.specs.Prelude.{◌≡◌, ℕ, ◌+◌, Bool, true, false, List, [], ◌∷◌, ◌++◌, Option, Some, None, take, slice_get, nat_le, ◌==◌, ◌&&◌, if◌then◌else◌}
-use Rattle.tipc_link.specs.End.{LinkEnd, Content, Carries, begun, flushed, heard, put, room, wanted}
+use Rattle.tipc_link.specs.Sessions.{SessionEnd, Content, Carries, begun, flushed, heard, put, room, wanted}
 use Rattle.tipc_link.specs.Direction.{Flight, packet_flight, state_flight}
 
 -- one side: its end, what was put there, what was taken there, and every frame that it sent
 pub record Side : Type 0 where
-  pub end : LinkEnd
+  pub end : SessionEnd
   pub put : List (List ℕ)
   pub took : List (List ℕ)
   pub sent : List Flight
@@ -21,7 +21,7 @@ packet_flights taken numbered peer_numbered before (packet ∷ packets) =
     packet_flight taken numbered peer_numbered (before + 1) packet ∷ packet_flights taken numbered peer_numbered (before + 1) packets
 
 -- the frames that leave an end when waiting packets move up, where the peer has numbered so many packets
-abbrev pub flush_flights : LinkEnd → ℕ → List Flight
+abbrev pub flush_flights : SessionEnd → ℕ → List Flight
 flush_flights e peer_numbered =
     packet_flights e.taken (e.sending.numbered + room e.sending) peer_numbered e.sending.numbered (take (room e.sending) e.sending.waiting)
 
@@ -44,7 +44,7 @@ states a peer_numbered = record {
 }
 
 -- what is taken from a frame
-abbrev pub taken_from : LinkEnd → Content → List (List ℕ)
+abbrev pub taken_from : SessionEnd → Content → List (List ℕ)
 taken_from e (Carries number packet) = if number == wanted e then packet ∷ [] else []
 taken_from e _ = []
 

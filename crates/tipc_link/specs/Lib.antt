@@ -1,3 +1,4 @@
-pub mod End
+pub mod Sessions
+pub mod Links
 pub mod Direction
 pub mod Laws

@@ -2,12 +2,14 @@
 #![tactic(auto)]
 
 mod laws;
+mod link;
 mod outcomes;
-mod sending_end;
+mod session;
 
 pub use laws::session_gives_prefix;
+pub use link::{Link, LinkArrival, is_down};
 pub use outcomes::LinkOutcome;
-pub use sending_end::Link;
+pub use session::Session;
 
 #[cfg(test)]
 mod tests;

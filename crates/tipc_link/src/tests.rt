@@ -1,13 +1,14 @@
 ghost use Rattle.std.specs.Prelude.{◌≤◌, length, IfOk};
 
-use super::{Link, LinkOutcome};
+use super::{Link, LinkArrival, LinkOutcome, Session};
 use std::alloc::Global;
 use std::process::Abort;
 use std::test::Fail;
 use tipc_header::{decode, open_frame};
+use tipc_link_fsm::Change;
 use tipc_outside::Outbox;
 use tipc_send_window::OfferFault;
-use tipc_types::{Addr, BroadcastState, Bytes, Pieces, Why};
+use tipc_types::{Addr, BroadcastState, Bytes, Cause, Pieces, Reply, Why};
 
 /// The epochs of the two ends.
 const LEFT: u64 = 0x1_0000_0001;
@@ -17,8 +18,8 @@ const RIGHT: u64 = 0x1_0000_0002;
 /// A link over bearer 0 from node 1 to node 2: its ends, and the frames that each has sent.
 #[derive(Drop)]
 struct Ends {
-    left: Link,
-    right: Link,
+    left: Session,
+    right: Session,
     sent: Outbox,
     answers: Outbox,
 }
@@ -27,8 +28,8 @@ impl Ends {
     fn new(alloc: Global) -> Ends {
         let (left, right) = (Addr::node(1), Addr::node(2));
         Ends {
-            left: Link::established(alloc, left, right, 0, LEFT, RIGHT),
-            right: Link::established(alloc, right, left, 0, RIGHT, LEFT),
+            left: Session::established(alloc, left, right, 0, LEFT, RIGHT),
+            right: Session::established(alloc, right, left, 0, RIGHT, LEFT),
             sent: Outbox::new(alloc),
             answers: Outbox::new(alloc),
         }
@@ -96,7 +97,7 @@ fn connected(alloc: Global) -> Result<Bytes, Fail>
 /// where none is.
 fn arrive(
     alloc: Global,
-    link: &mut Link,
+    link: &mut Session,
     frame: &[u8],
     out: &mut Outbox,
 ) -> Result<Result<u16, Why>, Fail> {
@@ -171,7 +172,7 @@ fn only_the_wanted_packet_of_the_session_is_taken(rt: HostRuntime) -> Result<(),
     for (place, outcome) in [(1, old), (0, Ok(1)), (2, old), (0, old), (1, Ok(2))] {
         assert_eq!(rt; ends.to_right(alloc, place)?, outcome, "at {place}");
     }
-    ends.right = Link::established(alloc, Addr::node(2), Addr::node(1), 0, LEFT, LEFT);
+    ends.right = Session::established(alloc, Addr::node(2), Addr::node(1), 0, LEFT, LEFT);
     assert_eq!(rt; ends.to_right(alloc, 0)?, Err(Why::Epoch));
     Ok(())
 }
@@ -204,5 +205,99 @@ fn frames_are_spelled(rt: HostRuntime) -> Result<(), Fail> {
     ];
     let state = ends.answers.frames().first().ok_or("no STATE")?;
     assert_eq!(rt; state.frame.as_slice(), bytes_of(alloc, &words)?.as_slice());
+    Ok(())
+}
+
+/// A frame arrives at a link end.
+fn reaches(
+    alloc: Global,
+    link: &mut Link,
+    frame: &[u8],
+    out: &mut Outbox,
+) -> Result<LinkArrival, Fail> {
+    let frame = open_frame(frame).ok_or("no frame")?;
+    let packet = decode(frame.packet).ok().ok_or("no packet")?;
+    let shown = BroadcastState {
+        acknowledged: 0,
+        next: 1,
+        start: 1,
+        gap: 0,
+        in_step: false,
+    };
+    Ok(link.arrive(
+        alloc,
+        frame.first,
+        frame.second,
+        &packet,
+        false,
+        40,
+        shown,
+        out,
+    )?)
+}
+
+/// The bytes of the frame at a place in a box.
+fn frame_at(alloc: Global, out: &Outbox, place: usize) -> Result<Vec<u8>, Fail> {
+    let frame = out.frames().get(place).ok_or("no frame")?;
+    Ok(frame.frame.as_slice().to_vec(alloc)?)
+}
+
+/// RESET, ACTIVATE and STATE take both ends of a link up; a cut takes one down.
+#[test]
+fn two_ends_go_up(rt: HostRuntime) -> Result<(), Fail> {
+    let alloc = rt.alloc();
+    let (one, two) = (Addr::node(1), Addr::node(2));
+    let (mut left, mut right) = (Link::new(one, two, 0, LEFT), Link::new(two, one, 0, RIGHT));
+    let (mut sent, mut answers) = (Outbox::new(alloc), Outbox::new(alloc));
+    left.mend(alloc, &mut sent);
+    right.mend(alloc, &mut answers);
+    let reset = [
+        1,
+        1,
+        0,
+        0,
+        0x4f50_0038,
+        0x2000_0000,
+        0,
+        0x0100_1001,
+        0,
+        0,
+        0,
+        0x0100_1002,
+        0x2c,
+        0,
+        1,
+        1,
+        0,
+        0,
+    ];
+    assert_eq!(rt;
+        frame_at(alloc, &sent, 0)?.as_slice(),
+        bytes_of(alloc, &reset)?.as_slice()
+    );
+    let first = reaches(
+        alloc,
+        &mut right,
+        frame_at(alloc, &sent, 0)?.as_slice(),
+        &mut answers,
+    )?;
+    assert_eq!(rt; first.change, Change::Answer(Reply::Activate));
+    let second = reaches(
+        alloc,
+        &mut left,
+        frame_at(alloc, &answers, 1)?.as_slice(),
+        &mut sent,
+    )?;
+    assert_eq!(rt; second.change, Change::Up);
+    let third = reaches(
+        alloc,
+        &mut right,
+        frame_at(alloc, &sent, 1)?.as_slice(),
+        &mut answers,
+    )?;
+    assert_eq!(rt; third.change, Change::Up);
+    assert_eq!(rt; (sent.frames().len(), answers.frames().len()), (2, 3));
+    assert!(rt; left.is_up() && right.is_up());
+    assert_eq!(rt; left.cut(false), Change::Down(Cause::Cut));
     Ok(())
 }

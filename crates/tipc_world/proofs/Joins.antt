@@ -3,7 +3,7 @@ use Rattle.std.proofs.Common.{◌≡◌, ◌≢◌, ℕ, ◌≤◌, is_some, Lis
 use Rattle.std.proofs.lemmas.Bool.{cases_eq}
 use Rattle.std.proofs.lemmas.List.{length-map, length-take-le}
 use Rattle.tipc_types.specs.Address.{node_word}
-use Rattle.tipc_link.specs.End.{LinkEnd}
+use Rattle.tipc_link.specs.Sessions.{SessionEnd}
 use Rattle.tipc_world.specs.declared.air.Sent.{Sent}
 use Rattle.tipc_world.specs.declared.neighbours.Neighbour.{Neighbour}
 use Rattle.tipc_types.specs.declared.node_calls.Answer.{Answer}
@@ -102,8 +102,8 @@ link_there nodes nodes' a b differ l m =
     ∙ put_there nodes a l.first (connected l.first b) l.first_was m
 
 -- the counts of a link's two ends are those of the lists in the journals
-pub counts_are : (nodes : List (Option NodeState)) (air : List Sent) (a b : ℕ) (e : LinkEnd) → IsSound nodes air → end_at nodes a b ≡ Some e
-    → (r : LinkEnd) × (end_at nodes b a ≡ Some r) × (length (accepted_now nodes a b) ≡ e.sending.numbered + length e.sending.waiting) × (length (delivered_now nodes b a) ≡ r.taken)
+pub counts_are : (nodes : List (Option NodeState)) (air : List Sent) (a b : ℕ) (e : SessionEnd) → IsSound nodes air → end_at nodes a b ≡ Some e
+    → (r : SessionEnd) × (end_at nodes b a ≡ Some r) × (length (accepted_now nodes a b) ≡ e.sending.numbered + length e.sending.waiting) × (length (delivered_now nodes b a) ≡ r.taken)
 counts_are nodes air a b e h is =
     let other = h.both a b e is in
     let r = other.0 in
@@ -148,7 +148,7 @@ link_grows old new a b l = record {
 
 pub flow_is : (nodes : List (Option NodeState)) (air : List Sent) (a b : ℕ) (result : Answer) → IsSound nodes air
     → (end_at nodes a b ≡ None → result ≡ answer.NoContact)
-    → ((s r : LinkEnd) → end_at nodes a b ≡ Some s → end_at nodes b a ≡ Some r → result ≡ answer.Flow (counted (s.sending.numbered + length s.sending.waiting)) r.taken)
+    → ((s r : SessionEnd) → end_at nodes a b ≡ Some s → end_at nodes b a ≡ Some r → result ≡ answer.Flow (counted (s.sending.numbered + length s.sending.waiting)) r.taken)
     → result ≡ flow_of nodes a b
 unfolding flow_of
 flow_is nodes air a b result h none some =

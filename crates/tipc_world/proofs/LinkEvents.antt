@@ -18,7 +18,7 @@ use Rattle.tipc_header.proofs.FrameWords.{stamped-spelling}
 use Rattle.tipc_header.proofs.RoundTrip.{one_packet}
 use Rattle.tipc_message.specs.Wire.{message_of, packet_of, payload_of, payload_packet, IsPayload}
 use Rattle.tipc_message.proofs.WireLaws.{message_of-packet_of}
-use Rattle.tipc_link.specs.End.{LinkEnd, Shows, Carries, content_of, flush_frames, gap, packet_frame, packet_frames, put, room, state_fields, state_frame}
+use Rattle.tipc_link.specs.Sessions.{SessionEnd, Shows, Carries, content_of, flush_frames, gap, packet_frame, packet_frames, put, room, state_fields, state_frame}
 use Rattle.tipc_link.specs.Direction.{IsFlight, packet_flight}
 use Rattle.tipc_link.proofs.Directions.{IsFlight-packet, IsFlight-state, IsCarried-sent}
 use Rattle.tipc_link.proofs.LinkLaw.{Each}
@@ -73,7 +73,7 @@ map_at f [] k y e = absurd (let none : ⊥ = cc in none)
 map_at f (x ∷ xs) zero y e = (x, refl, (let same : f x ≡ y = cc in same))
 map_at f (x ∷ xs) (suc k) y e = map_at f xs k y e
 
-packet_frames-at : (e : LinkEnd) (before : ℕ) (qs : List (List ℕ)) (k : ℕ) (o : Outgoing) → slice_get (packet_frames e before qs) k ≡ Some o → (q : List ℕ) × (slice_get qs k ≡ Some q) × (o ≡ packet_frame e (before + k + 1) q)
+packet_frames-at : (e : SessionEnd) (before : ℕ) (qs : List (List ℕ)) (k : ℕ) (o : Outgoing) → slice_get (packet_frames e before qs) k ≡ Some o → (q : List ℕ) × (slice_get qs k ≡ Some q) × (o ≡ packet_frame e (before + k + 1) q)
 packet_frames-at e before [] k o is = absurd (let none : ⊥ = cc in none)
 packet_frames-at e before (x ∷ qs) zero o is =
     let same : packet_frame e (before + 1) x ≡ o = cc in
@@ -83,11 +83,11 @@ packet_frames-at e before (x ∷ qs) (suc k) o is =
     (h.0, h.1, h.2 ∙ ap (λ i. packet_frame e i h.0) (omega arith))
 
 -- a packet that is in the window of a direction is the packet of an accepted message
-put_message : (a b : ℕ) (e r : LinkEnd) (acc del : List Message) → IsPair a b e r acc del → (j : ℕ) (q : List ℕ) → slice_get (map bytes_of acc) j ≡ Some q → (m : Message) × (slice_get acc j ≡ Some m) × IsSendable m × (bytes_of m ≡ q)
+put_message : (a b : ℕ) (e r : SessionEnd) (acc del : List Message) → IsPair a b e r acc del → (j : ℕ) (q : List ℕ) → slice_get (map bytes_of acc) j ≡ Some q → (m : Message) × (slice_get acc j ≡ Some m) × IsSendable m × (bytes_of m ≡ q)
 put_message a b e r acc del h j q is = let m = map_at bytes_of acc j q is in (m.0, m.1, h.sendable j m.0 m.1, m.2)
 
 -- the frame of a packet of a message
-packet_frame_between : (a b : ℕ) (e : LinkEnd) (n peer_numbered position : ℕ) (put : List (List ℕ)) (m : Message) (q : List ℕ) → IsStaticEnd e a b → IsSendable m → bytes_of m ≡ q
+packet_frame_between : (a b : ℕ) (e : SessionEnd) (n peer_numbered position : ℕ) (put : List (List ℕ)) (m : Message) (q : List ℕ) → IsStaticEnd e a b → IsSendable m → bytes_of m ≡ q
     → IsFlight n e.taken peer_numbered put (packet_flight e.taken n peer_numbered position q)
     → IsFrameBetween a b n e.taken peer_numbered put (airborne a n peer_numbered (packet_frame e position q))
 packet_frame_between a b e n peer_numbered position put m q end h q_is flies =
@@ -119,7 +119,7 @@ packet_frame_between a b e n peer_numbered position put m q end h q_is flies =
     }
 
 -- the frames that leave when waiting packets move up
-pub flush_frames_between : (a b : ℕ) (e r : LinkEnd) (acc del acc_back del_back : List Message) → IsPair a b e r acc del → IsPair b a r e acc_back del_back
+pub flush_frames_between : (a b : ℕ) (e r : SessionEnd) (acc del acc_back del_back : List Message) → IsPair a b e r acc del → IsPair b a r e acc_back del_back
     → Each (λ o. IsFrameBetween a b (e.sending.numbered + room e.sending) e.taken r.sending.numbered (map bytes_of acc) (airborne a (e.sending.numbered + room e.sending) r.sending.numbered o)) (flush_frames e)
 unfolding flush_frames
 flush_frames_between a b e r acc del acc_back del_back h back k o is =
@@ -142,11 +142,11 @@ flush_frames_between a b e r acc del acc_back del_back h back k o is =
 
 -- ---- frames of STATEs
 
-gap_small : (e : LinkEnd) → gap e ≤ 50
+gap_small : (e : SessionEnd) → gap e ≤ 50
 unfolding gap
 gap_small e = grind (arith, nat_tests)
 
-state_fits : (a b : ℕ) (e : LinkEnd) (t : Bool) → IsStaticEnd e a b → Fits (state_fields e (no_broadcast t) false)
+state_fits : (a b : ℕ) (e : SessionEnd) (t : Bool) → IsStaticEnd e a b → Fits (state_fields e (no_broadcast t) false)
 unfolding state_fields
 state_fits a b e t end =
     let here = end.here in
@@ -172,16 +172,16 @@ state_fits a b e t end =
       size = omega arith;
     }
 
-state_content : (e : LinkEnd) (t : Bool) → content_of (state_fields e (no_broadcast t) false) ≡ Shows (number_of (e.sending.numbered + 1))
+state_content : (e : SessionEnd) (t : Bool) → content_of (state_fields e (no_broadcast t) false) ≡ Shows (number_of (e.sending.numbered + 1))
 unfolding state_fields content_of
 state_content e t = refl
 
-state_words : (e : LinkEnd) (t : Bool) → ((state_fields e (no_broadcast t) false).acknowledgement ≡ number_of e.taken) × ((state_fields e (no_broadcast t) false).previous ≡ e.own)
+state_words : (e : SessionEnd) (t : Bool) → ((state_fields e (no_broadcast t) false).acknowledgement ≡ number_of e.taken) × ((state_fields e (no_broadcast t) false).previous ≡ e.own)
 unfolding state_fields
 state_words e t = (refl, refl)
 
-pub state_frame_between : (a b : ℕ) (e r : LinkEnd) (put : List (List ℕ)) (acc_back del_back : List Message) (t : Bool) → IsStaticEnd e a b → IsPair b a r e acc_back del_back
-    → IsFrameBetween a b e.sending.numbered e.taken r.sending.numbered put (airborne a e.sending.numbered r.sending.numbered (state_frame e (no_broadcast t)))
+pub state_frame_between : (a b : ℕ) (e r : SessionEnd) (put : List (List ℕ)) (acc_back del_back : List Message) (t : Bool) → IsStaticEnd e a b → IsPair b a r e acc_back del_back
+    → IsFrameBetween a b e.sending.numbered e.taken r.sending.numbered put (airborne a e.sending.numbered r.sending.numbered (state_frame e (no_broadcast t) false))
 state_frame_between a b e r put acc_back del_back t end back =
     let p = state_fields e (no_broadcast t) false in
     let words = state_words e t in

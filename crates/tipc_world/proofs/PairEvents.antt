@@ -10,7 +10,7 @@ use Rattle.tipc_message.specs.Wire.{message_of}
 use Rattle.tipc_journal.specs.declared.entries.Entry.{Entry}
 use Rattle.tipc_send_window.specs.Sending.{Sending, acknowledged, offered}
 use Rattle.tipc_link.specs.declared.outcomes.LinkOutcome.TheVariants.{Took, Ignored}
-use Rattle.tipc_link.specs.End.{LinkEnd, Content, Shows, Carries, Nothing, answer_frames, answered, content_of, flush_frames, flushed, is_due, noted, put, released, state_frame, took, wanted}
+use Rattle.tipc_link.specs.Sessions.{SessionEnd, Content, Shows, Carries, Nothing, answer_frames, answered, content_of, flush_frames, flushed, is_due, noted, put, released, state_frame, took, wanted}
 use Rattle.tipc_link.specs.Direction.{IsDirection, IsFresh, IsFlight}
 use Rattle.tipc_link.proofs.Directions.{offers, moves_up, releases, takes}
 use Rattle.tipc_link.proofs.LinkLaw.{Each, Each-append, Each-one, Each-none}
@@ -33,14 +33,14 @@ retaken : (s : Sending) (taken : ℕ) (put got : List (List ℕ)) → IsDirectio
 retaken s taken put got h = subst (λ xs. IsDirection s taken put xs) h.got h
 
 -- what a pair of ends and its frames are when the end at node a went from s to e, and messages ys were delivered there
-pub record Follows (a b : ℕ) (s e r : LinkEnd) (acc del acc_back del_back : List Message) (frames : List Outgoing) : Type 0 where
+pub record Follows (a b : ℕ) (s e r : SessionEnd) (acc del acc_back del_back : List Message) (frames : List Outgoing) : Type 0 where
   pub there : IsPair a b e r acc del
   pub back : IsPair b a r e acc_back del_back
   pub on : HasGoneOn s e
   pub sent : Each (λ o. IsFrameBetween a b e.sending.numbered e.taken r.sending.numbered (map bytes_of acc) (airborne a e.sending.numbered r.sending.numbered o)) frames
 
 -- waiting packets move up
-flush_follows : (a b : ℕ) (s e r : LinkEnd) (acc del acc_back del_back : List Message) → HasGoneOn s e → IsPair a b e r acc del → IsPair b a r e acc_back del_back → Follows a b s (flushed e) r acc del acc_back del_back (flush_frames e)
+flush_follows : (a b : ℕ) (s e r : SessionEnd) (acc del acc_back del_back : List Message) → HasGoneOn s e → IsPair a b e r acc del → IsPair b a r e acc_back del_back → Follows a b s (flushed e) r acc del acc_back del_back (flush_frames e)
 unfolding flushed
 flush_follows a b s e r acc del acc_back del_back on h back =
     let n = on.numbered in
@@ -59,7 +59,7 @@ flush_follows a b s e r acc del acc_back del_back on h back =
 
 -- ---- a message is accepted
 
-pub accept_follows : (a b : ℕ) (s r : LinkEnd) (acc del acc_back del_back : List Message) (m : Message) → IsPair a b s r acc del → IsPair b a r s acc_back del_back → IsSendable m
+pub accept_follows : (a b : ℕ) (s r : SessionEnd) (acc del acc_back del_back : List Message) (m : Message) → IsPair a b s r acc del → IsPair b a r s acc_back del_back → IsSendable m
     → Follows a b s (flushed (put s (bytes_of m ∷ []))) r (acc ++ m ∷ []) del acc_back del_back (flush_frames (put s (bytes_of m ∷ [])))
 accept_follows a b s r acc del acc_back del_back m h back sendable =
     let packets = map bytes_of acc in
@@ -79,7 +79,7 @@ accept_follows a b s r acc del acc_back del_back m h back sendable =
 -- ---- a frame arrives
 
 -- the end that an arrival leaves, before the STATE that is due
-answer_follows : (a b : ℕ) (s e r : LinkEnd) (acc del acc_back del_back : List Message) (frames : List Outgoing) (t : Bool) → Follows a b s e r acc del acc_back del_back frames
+answer_follows : (a b : ℕ) (s e r : SessionEnd) (acc del acc_back del_back : List Message) (frames : List Outgoing) (t : Bool) → Follows a b s e r acc del acc_back del_back frames
     → Follows a b s (answered e) r acc del acc_back del_back (frames ++ answer_frames e (no_broadcast t))
 answer_follows a b s e r acc del acc_back del_back frames t h = record {
   there = record {
@@ -91,14 +91,14 @@ answer_follows a b s e r acc del acc_back del_back frames t h = record {
   back = record { end = h.back.end; direction = h.back.direction; got = h.back.got; sendable = h.back.sendable };
   on = record { numbered = h.on.numbered; taken = h.on.taken };
   sent = Each-append _ frames (answer_frames e (no_broadcast t)) h.sent
-      (elim (is_due e) as (λ due. Each (λ o. IsFrameBetween a b e.sending.numbered e.taken r.sending.numbered (map bytes_of acc) (airborne a e.sending.numbered r.sending.numbered o)) (if due then state_frame e (no_broadcast t) ∷ [] else [])) [
+      (elim (is_due e) as (λ due. Each (λ o. IsFrameBetween a b e.sending.numbered e.taken r.sending.numbered (map bytes_of acc) (airborne a e.sending.numbered r.sending.numbered o)) (if due then state_frame e (no_broadcast t) false ∷ [] else [])) [
         | true ↦ Each-one _ _ (state_frame_between a b e r (map bytes_of acc) acc_back del_back t h.there.end h.back)
         | false ↦ Each-none _
       ]);
 }
 
 -- an acknowledgement is read
-release_there : (a b : ℕ) (s r : LinkEnd) (acc del : List Message) (p : Fields) (f : Sent) (put_back : List (List ℕ)) → IsPair a b s r acc del
+release_there : (a b : ℕ) (s r : SessionEnd) (acc del : List Message) (p : Fields) (f : Sent) (put_back : List (List ℕ)) → IsPair a b s r acc del
     → IsFlight r.sending.numbered r.taken s.sending.numbered put_back (flight_of p f) → IsFresh r.sending.numbered s.sending.numbered (flight_of p f)
     → IsPair a b (released s p.acknowledgement) r acc del
 release_there a b s r acc del p f put_back h flies new =
@@ -114,7 +114,7 @@ release_there a b s r acc del p f put_back h flies new =
     }
 
 -- the wanted packet is taken: its message is the next one that was accepted
-take_back : (a b : ℕ) (s r : LinkEnd) (acc_back del_back : List Message) (p : Fields) (f : Sent) (number : ℕ) (bytes : List ℕ) → IsPair b a r s acc_back del_back
+take_back : (a b : ℕ) (s r : SessionEnd) (acc_back del_back : List Message) (p : Fields) (f : Sent) (number : ℕ) (bytes : List ℕ) → IsPair b a r s acc_back del_back
     → IsFlight r.sending.numbered r.taken s.sending.numbered (map bytes_of acc_back) (flight_of p f) → IsFresh r.sending.numbered s.sending.numbered (flight_of p f)
     → content_of p ≡ Carries number bytes → number ≡ wanted s → (o : IsOrigin p bytes)
     → IsPair b a r (took (released s p.acknowledgement)) acc_back (del_back ++ o.message ∷ [])
@@ -141,21 +141,21 @@ take_back a b s r acc_back del_back p f number bytes h flies new is wanted_is o 
     }
 
 -- what an arrival leaves: the messages that it delivered, and the rest as after any call
-pub record Heard_follows (a b : ℕ) (s e r : LinkEnd) (acc del acc_back del_back : List Message) (es : List Entry) (frames : List Outgoing) : Type 0 where
+pub record Heard_follows (a b : ℕ) (s e r : SessionEnd) (acc del acc_back del_back : List Message) (es : List Entry) (frames : List Outgoing) : Type 0 where
   pub delivered : List Message
   pub effect : Effect es b [] delivered
   pub follows : Follows a b s e r acc del acc_back (del_back ++ delivered) frames
 
-nothing_more : (a b : ℕ) (r s : LinkEnd) (acc del : List Message) → IsPair b a r s acc del → IsPair b a r s acc (del ++ [])
+nothing_more : (a b : ℕ) (r s : SessionEnd) (acc del : List Message) → IsPair b a r s acc del → IsPair b a r s acc (del ++ [])
 nothing_more a b r s acc del h = subst (λ ms. IsPair b a r s acc ms) (sym (append-nil del)) h
 
-still : (a b : ℕ) (s r : LinkEnd) (acc del acc_back del_back : List Message) → IsPair a b s r acc del → IsPair b a r s acc_back del_back → Follows a b s s r acc del acc_back del_back []
+still : (a b : ℕ) (s r : SessionEnd) (acc del acc_back del_back : List Message) → IsPair a b s r acc del → IsPair b a r s acc_back del_back → Follows a b s s r acc del acc_back del_back []
 still a b s r acc del acc_back del_back h back = record { there = h; back = back; on = record { numbered = omega arith; taken = omega arith }; sent = Each-none _ }
 
-released_back : (a b : ℕ) (s r : LinkEnd) (k : ℕ) (acc_back del_back : List Message) → IsPair b a r s acc_back del_back → IsPair b a r (released s k) acc_back (del_back ++ [])
+released_back : (a b : ℕ) (s r : SessionEnd) (k : ℕ) (acc_back del_back : List Message) → IsPair b a r s acc_back del_back → IsPair b a r (released s k) acc_back (del_back ++ [])
 released_back a b s r k acc_back del_back h = nothing_more a b r (released s k) acc_back del_back (record { end = h.end; direction = h.direction; got = h.got; sendable = h.sendable })
 
-pub hear_follows : (a b : ℕ) (x : Neighbour) (r : LinkEnd) (acc del acc_back del_back : List Message) (p : Fields) (f : Sent) (c : Content) (by : ℕ)
+pub hear_follows : (a b : ℕ) (x : Neighbour) (r : SessionEnd) (acc del acc_back del_back : List Message) (p : Fields) (f : Sent) (c : Content) (by : ℕ)
     → IsPair a b x.link r acc del → IsPair b a r x.link acc_back del_back
     → IsFlight r.sending.numbered r.taken x.link.sending.numbered (map bytes_of acc_back) (flight_of p f) → IsFresh r.sending.numbered x.link.sending.numbered (flight_of p f)
     → ((number : ℕ) (bytes : List ℕ) → content_of p ≡ Carries number bytes → IsOrigin p bytes)

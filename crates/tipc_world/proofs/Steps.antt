@@ -16,7 +16,7 @@ use Rattle.tipc_header.specs.Spelling.{Fields, spelling}
 use Rattle.tipc_header.specs.Frames.{envelope, frame_of}
 use Rattle.tipc_header.proofs.FrameWords.{length-envelope}
 use Rattle.tipc_header.proofs.RoundTrip.{one_packet}
-use Rattle.tipc_link.specs.End.{LinkEnd, flushed, put, content_in}
+use Rattle.tipc_link.specs.Sessions.{SessionEnd, flushed, put, content_in}
 use Rattle.tipc_link.specs.Direction.{IsFresh}
 use Rattle.tipc_message.specs.Wire.{IsPayload}
 use Rattle.tipc_world.specs.declared.air.Sent.{Sent}
@@ -89,12 +89,12 @@ idle_sound nodes air air' a n n' box box' numbered peer_numbered h was same empt
 
 -- ---- the counts after a node was written
 
-count_at-end : (nodes : List (Option NodeState)) (a b : ℕ) (e : LinkEnd) → end_at nodes a b ≡ Some e → count_at nodes a b ≡ e.sending.numbered
+count_at-end : (nodes : List (Option NodeState)) (a b : ℕ) (e : SessionEnd) → end_at nodes a b ≡ Some e → count_at nodes a b ≡ e.sending.numbered
 unfolding count_at
-count_at-end nodes a b e is = ap (λ o. unwrap_or (option_map (λ (x : LinkEnd). x.sending.numbered) o) 0) is
+count_at-end nodes a b e is = ap (λ o. unwrap_or (option_map (λ (x : SessionEnd). x.sending.numbered) o) 0) is
 
 -- the peer's end is another node's
-peer_same : (nodes : List (Option NodeState)) (a b : ℕ) (n' : NodeState) (r : LinkEnd) → a ≢ b → end_at nodes b a ≡ Some r → end_at (slice_set nodes a (Some n')) b a ≡ Some r
+peer_same : (nodes : List (Option NodeState)) (a b : ℕ) (n' : NodeState) (r : SessionEnd) → a ≢ b → end_at nodes b a ≡ Some r → end_at (slice_set nodes a (Some n')) b a ≡ Some r
 peer_same nodes a b n' r differ is = end_at-same_node nodes (slice_set nodes a (Some n')) b a (node_at-put_other nodes a b n' (λ e. differ (sym e))) ∙ is
 
 -- the end of a node that was written
@@ -188,7 +188,7 @@ young_bounds nodes f a b young =
     (omega arith, omega arith)
 
 -- the same frame, under other names of its nodes and ends
-between_moved : (a a' b b' : ℕ) (s s' r r' : LinkEnd) (nodes : List (Option NodeState)) (f : Sent) (p : Fields)
+between_moved : (a a' b b' : ℕ) (s s' r r' : SessionEnd) (nodes : List (Option NodeState)) (f : Sent) (p : Fields)
     → (between : IsFrameBetween a b s.sending.numbered s.taken r.sending.numbered (map bytes_of (accepted_now nodes a b)) f)
     → a ≡ a' → b ≡ b' → s ≡ s' → r ≡ r' → between.packet ≡ p
     → (moved : IsFrameBetween a' b' s'.sending.numbered s'.taken r'.sending.numbered (map bytes_of (accepted_now nodes a' b')) f) × (p ≡ moved.packet)
@@ -199,7 +199,7 @@ between_moved a a' b b' s s' r r' nodes f p between a_is b_is s_is r_is same =
     (subst (λ z. (moved : IsFrameBetween a b s.sending.numbered s.taken z.sending.numbered (map bytes_of (accepted_now nodes a b)) f) × (p ≡ moved.packet)) r_is
     (between, sym same))))
 
-between_at : (nodes : List (Option NodeState)) (air : List Sent) (a b : ℕ) (s r : LinkEnd) (f : Sent) (p : Fields) (sent : IsFrame nodes f)
+between_at : (nodes : List (Option NodeState)) (air : List Sent) (a b : ℕ) (s r : SessionEnd) (f : Sent) (p : Fields) (sent : IsFrame nodes f)
     → sent.a ≡ b → sent.b ≡ a → end_at nodes a b ≡ Some s → end_at nodes b a ≡ Some r → sent.between.packet ≡ p
     → (between : IsFrameBetween b a r.sending.numbered r.taken s.sending.numbered (map bytes_of (accepted_now nodes b a)) f) × (p ≡ between.packet)
 between_at nodes air a b s r f p sent from_is to_is here there same =
@@ -210,7 +210,7 @@ between_at nodes air a b s r f p sent from_is to_is here there same =
     between_moved sent.a b sent.b a sent.sender r sent.receiver s nodes f p sent.between from_is to_is sender_is receiver_is same
 
 -- the frame that is due was sent by node b to node a
-due_frame : (nodes : List (Option NodeState)) (air : List Sent) (a b bearer k es er : ℕ) (p : Fields) (s r : LinkEnd)
+due_frame : (nodes : List (Option NodeState)) (air : List Sent) (a b bearer k es er : ℕ) (p : Fields) (s r : SessionEnd)
     → IsSound nodes air → a ≤ 32 → b ≤ 32 → (due : IsDue nodes air a bearer k b es er p) → end_at nodes a b ≡ Some s → end_at nodes b a ≡ Some r
     → (between : IsFrameBetween b a r.sending.numbered r.taken s.sending.numbered (map bytes_of (accepted_now nodes b a)) due.frame) × (p ≡ between.packet)
 due_frame nodes air a b bearer k es er p s r h a_fits b_fits due here there =

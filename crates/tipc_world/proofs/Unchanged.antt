@@ -4,7 +4,7 @@ use Rattle.std.proofs.lemmas.Bool.{cases_eq}
 use Rattle.tipc_types.specs.Address.{node_word}
 use Rattle.tipc_types.specs.declared.message_forms.Flow.TheVariants.{Zero}
 use Rattle.tipc_types.specs.declared.message_forms.Message.{Message}
-use Rattle.tipc_link.specs.End.{LinkEnd, begun}
+use Rattle.tipc_link.specs.Sessions.{SessionEnd, begun}
 use Rattle.tipc_world.specs.declared.air.Sent.{Sent}
 use Rattle.tipc_world.specs.declared.neighbours.Neighbour.{Neighbour}
 use Rattle.tipc_world.specs.States.{NodeState, node_at, end_at, journal_at, static_number}
@@ -76,7 +76,7 @@ put_same nodes air a n n' h within was own ends journal =
 -- ---- a link that is made
 
 -- the ends at (a, b) and (b, a) were made, and all else is the same
-pub record Connects (nodes nodes' : List (Option NodeState)) (a b : ℕ) (s r : LinkEnd) : Type 0 where
+pub record Connects (nodes nodes' : List (Option NodeState)) (a b : ℕ) (s r : SessionEnd) : Type 0 where
   pub owns : (x : ℕ) (n : NodeState) → node_at nodes' x ≡ Some n → n.own ≡ node_word x
   pub here : end_at nodes' a b ≡ Some s
   pub there : end_at nodes' b a ≡ Some r
@@ -105,7 +105,7 @@ connect_sound nodes nodes' air a b h a_fits b_fits differ none back u =
     let silent_here = h.silent a b none in
     let silent_there = h.silent b a back in
     -- an end that there was is neither of the two
-    let was_else : (x y : ℕ) (e : LinkEnd) → end_at nodes x y ≡ Some e → IsElse x y a b × IsElse x y b a = λ x y e is. (
+    let was_else : (x y : ℕ) (e : SessionEnd) → end_at nodes x y ≡ Some e → IsElse x y a b × IsElse x y b a = λ x y e is. (
       (λ same too. let at : end_at nodes a b ≡ Some e = subst (λ k. end_at nodes k b ≡ Some e) same (subst (λ k. end_at nodes x k ≡ Some e) too is) in let wrong : ⊥ = cc in wrong),
       (λ same too. let at : end_at nodes b a ≡ Some e = subst (λ k. end_at nodes k a ≡ Some e) same (subst (λ k. end_at nodes x k ≡ Some e) too is) in let wrong : ⊥ = cc in wrong),
     ) in

@@ -6,7 +6,7 @@ use Rattle.tipc_types.specs.declared.message_forms.Flow.TheVariants.{Zero}
 use Rattle.tipc_types.specs.declared.message_forms.Message.{Message}
 use Rattle.tipc_journal.specs.declared.entries.Entry.{Entry}
 use Rattle.tipc_journal.specs.Streams.{accepted, delivered}
-use Rattle.tipc_link.specs.End.{LinkEnd}
+use Rattle.tipc_link.specs.Sessions.{SessionEnd}
 use Rattle.tipc_link.proofs.Directions.{Extends, Extends-same, Extends-append, IsFlight-stays}
 use Rattle.tipc_link.proofs.LinkLaw.{Each, Each-append}
 use Rattle.tipc_world.specs.declared.air.Sent.{Sent}
@@ -22,7 +22,7 @@ IsElse x y a b = x ≡ a → y ≡ b → ⊥
 
 -- The end at node a to node b went from s to s', messages xs were accepted for b and ys delivered from it there, and
 -- every other look-up is the same.
-pub record Update (nodes nodes' : List (Option NodeState)) (a b : ℕ) (s s' : LinkEnd) (xs ys : List Message) : Type 0 where
+pub record Update (nodes nodes' : List (Option NodeState)) (a b : ℕ) (s s' : SessionEnd) (xs ys : List Message) : Type 0 where
   pub owns : (n : ℕ) (x : NodeState) → node_at nodes' n ≡ Some x → (y : NodeState) × (node_at nodes n ≡ Some y) × (x.own ≡ y.own)
   pub here : end_at nodes a b ≡ Some s
   pub changed : end_at nodes' a b ≡ Some s'
@@ -100,25 +100,25 @@ map-append f [] ys = refl
 map-append f (x ∷ xs) ys = ap (λ zs. f x ∷ zs) (map-append f xs ys)
 
 -- the packets that were put stay where they are
-put_extends : (nodes nodes' : List (Option NodeState)) (a b : ℕ) (s s' : LinkEnd) (xs ys : List Message) → Update nodes nodes' a b s s' xs ys → (x y : ℕ) → Extends (map bytes_of (accepted_now nodes x y)) (map bytes_of (accepted_now nodes' x y))
+put_extends : (nodes nodes' : List (Option NodeState)) (a b : ℕ) (s s' : SessionEnd) (xs ys : List Message) → Update nodes nodes' a b s s' xs ys → (x y : ℕ) → Extends (map bytes_of (accepted_now nodes x y)) (map bytes_of (accepted_now nodes' x y))
 put_extends nodes nodes' a b s s' xs ys u =
     at_or_else a b (λ x y. Extends (map bytes_of (accepted_now nodes x y)) (map bytes_of (accepted_now nodes' x y)))
     (subst (λ ms. Extends (map bytes_of (accepted_now nodes a b)) ms) (sym (ap (map bytes_of) u.accepted_here ∙ map-append bytes_of (accepted_now nodes a b) xs)) (Extends-append (map bytes_of (accepted_now nodes a b)) (map bytes_of xs)))
     (λ x y other. subst (λ ms. Extends (map bytes_of (accepted_now nodes x y)) ms) (ap (map bytes_of) (sym (u.accepted_else x y other))) (Extends-same _))
 
 -- an end after an update: it has gone on
-pub record HasGoneOn (e e' : LinkEnd) : Type 0 where
+pub record HasGoneOn (e e' : SessionEnd) : Type 0 where
   pub numbered : e.sending.numbered ≤ e'.sending.numbered
   pub taken : e.taken ≤ e'.taken
 
 -- each end that there was is there, and has gone on
-goes_on : (nodes nodes' : List (Option NodeState)) (a b : ℕ) (s s' : LinkEnd) (xs ys : List Message) → Update nodes nodes' a b s s' xs ys → HasGoneOn s s' → (x y : ℕ) (e : LinkEnd) → end_at nodes x y ≡ Some e → (e' : LinkEnd) × (end_at nodes' x y ≡ Some e') × HasGoneOn e e'
+goes_on : (nodes nodes' : List (Option NodeState)) (a b : ℕ) (s s' : SessionEnd) (xs ys : List Message) → Update nodes nodes' a b s s' xs ys → HasGoneOn s s' → (x y : ℕ) (e : SessionEnd) → end_at nodes x y ≡ Some e → (e' : SessionEnd) × (end_at nodes' x y ≡ Some e') × HasGoneOn e e'
 goes_on nodes nodes' a b s s' xs ys u on =
-    at_or_else a b (λ x y. (e : LinkEnd) → end_at nodes x y ≡ Some e → (e' : LinkEnd) × (end_at nodes' x y ≡ Some e') × HasGoneOn e e')
+    at_or_else a b (λ x y. (e : SessionEnd) → end_at nodes x y ≡ Some e → (e' : SessionEnd) × (end_at nodes' x y ≡ Some e') × HasGoneOn e e')
     (λ e is. let here = u.here in let same : s ≡ e = cc in (s', u.changed, subst (λ k. HasGoneOn k s') same on))
     (λ x y other e is. (e, u.ends x y other ∙ is, record { numbered = omega arith; taken = omega arith }))
 
-frame_stays : (nodes nodes' : List (Option NodeState)) (a b : ℕ) (s s' : LinkEnd) (xs ys : List Message) (f : Sent) → Update nodes nodes' a b s s' xs ys → HasGoneOn s s' → IsFrame nodes f → IsFrame nodes' f
+frame_stays : (nodes nodes' : List (Option NodeState)) (a b : ℕ) (s s' : SessionEnd) (xs ys : List Message) (f : Sent) → Update nodes nodes' a b s s' xs ys → HasGoneOn s s' → IsFrame nodes f → IsFrame nodes' f
 frame_stays nodes nodes' a b s s' xs ys f u on h =
     let sender = goes_on nodes nodes' a b s s' xs ys u on h.a h.b h.sender h.sender_is in
     let receiver = goes_on nodes nodes' a b s s' xs ys u on h.b h.a h.receiver h.receiver_is in
@@ -143,7 +143,7 @@ frame_stays nodes nodes' a b s s' xs ys f u on h =
     }
 
 -- a sound world stays sound where the two directions of the link are as they must be
-pub update_sound : (nodes nodes' : List (Option NodeState)) (air : List Sent) (a b : ℕ) (s s' r : LinkEnd) (xs ys : List Message)
+pub update_sound : (nodes nodes' : List (Option NodeState)) (air : List Sent) (a b : ℕ) (s s' r : SessionEnd) (xs ys : List Message)
     → IsSound nodes air → Update nodes nodes' a b s s' xs ys → end_at nodes b a ≡ Some r → HasGoneOn s s'
     → IsPair a b s' r (accepted_now nodes a b ++ xs) (delivered_now nodes b a)
     → IsPair b a r s' (accepted_now nodes b a) (delivered_now nodes a b ++ ys)
@@ -158,13 +158,13 @@ update_sound nodes nodes' air a b s s' r xs ys h u receiver on there back =
     record {
       owns = λ n x is. let was = u.owns n x is in was.2 ∙ h.owns n was.0 was.1;
       apart = λ x. u.ends x x (apart x) ∙ h.apart x;
-      both = at_or_else a b (λ x y. (e : LinkEnd) → end_at nodes' x y ≡ Some e → (o : LinkEnd) × (end_at nodes' y x ≡ Some o))
+      both = at_or_else a b (λ x y. (e : SessionEnd) → end_at nodes' x y ≡ Some e → (o : SessionEnd) × (end_at nodes' y x ≡ Some o))
           (λ e _. (r, receiver'))
           (λ x y other e is.
           let was = h.both x y e (sym (u.ends x y other) ∙ is) in
           let on = goes_on nodes nodes' a b s s' xs ys u on y x was.0 was.1 in
           (on.0, on.1));
-      pairs = λ x y. at_or_else a b (λ k l. (e o : LinkEnd) → end_at nodes' k l ≡ Some e → end_at nodes' l k ≡ Some o → IsPair k l e o (accepted_now nodes' k l) (delivered_now nodes' l k))
+      pairs = λ x y. at_or_else a b (λ k l. (e o : SessionEnd) → end_at nodes' k l ≡ Some e → end_at nodes' l k ≡ Some o → IsPair k l e o (accepted_now nodes' k l) (delivered_now nodes' l k))
           (λ e o is_e is_o.
           let changed = u.changed in
           let e_is : s' ≡ e = cc in
@@ -173,7 +173,7 @@ update_sound nodes nodes' air a b s s' r xs ys h u receiver on there back =
           (subst (λ k. IsPair a b s' k (accepted_now nodes' a b) (delivered_now nodes' b a)) o_is
           (subst (λ ms. IsPair a b s' r ms (delivered_now nodes' b a)) (sym u.accepted_here)
           (subst (λ ms. IsPair a b s' r (accepted_now nodes a b ++ xs) ms) (sym delivered_back) there))))
-          (λ k l other. at_or_else b a (λ m n. IsElse m n a b → (e o : LinkEnd) → end_at nodes' m n ≡ Some e → end_at nodes' n m ≡ Some o → IsPair m n e o (accepted_now nodes' m n) (delivered_now nodes' n m))
+          (λ k l other. at_or_else b a (λ m n. IsElse m n a b → (e o : SessionEnd) → end_at nodes' m n ≡ Some e → end_at nodes' n m ≡ Some o → IsPair m n e o (accepted_now nodes' m n) (delivered_now nodes' n m))
           (λ _ e o is_e is_o.
           let changed = u.changed in
           let e_is : r ≡ e = cc in

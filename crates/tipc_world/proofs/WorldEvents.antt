@@ -8,7 +8,7 @@ use Rattle.tipc_outside.specs.Frames.{Adds, Out}
 use Rattle.tipc_outside.specs.declared.outgoing.Outgoing.{Outgoing}
 use Rattle.tipc_header.specs.Spelling.{Fields, spelling}
 use Rattle.tipc_message.specs.Wire.{message_of, IsPayload}
-use Rattle.tipc_link.specs.End.{LinkEnd, Carries, Nothing, content_in, content_of, flush_frames, flushed, is_of_session, put}
+use Rattle.tipc_link.specs.Sessions.{SessionEnd, Carries, Nothing, content_in, content_of, flush_frames, flushed, is_of_session, put}
 use Rattle.tipc_link.specs.Direction.{IsFresh, IsFlight}
 use Rattle.tipc_link.proofs.LinkLaw.{Each}
 use Rattle.tipc_world.specs.declared.air.Sent.{Sent}
@@ -25,7 +25,7 @@ use Rattle.tipc_world.proofs.LinkEvents.{bytes_of-packet}
 use Rattle.tipc_world.proofs.PairEvents.{Follows, accept_follows, hear_follows}
 
 -- the content of a packet that arrives is what it brings, or nothing
-content_choice : (e : LinkEnd) (es er : ℕ) (p : Fields) → (content_in e es er p ≡ Nothing) ⊎ (content_in e es er p ≡ content_of p)
+content_choice : (e : SessionEnd) (es er : ℕ) (p : Fields) → (content_in e es er p ≡ Nothing) ⊎ (content_in e es er p ≡ content_of p)
 content_choice e es er p = elim (is_of_session e es er) as (λ t. ((if t then content_of p else Nothing) ≡ Nothing) ⊎ ((if t then content_of p else Nothing) ≡ content_of p)) [ true ↦ inr refl | false ↦ inl refl ]
 
 -- ---- frames that were released
@@ -53,7 +53,7 @@ take-take (suc i) zero (x ∷ xs) = let none : min (suc i) 0 ≡ 0 = omega arith
 take-take (suc i) (suc j) (x ∷ xs) = let more : suc (min i j) ≡ min (suc i) (suc j) = omega arith in ap (λ ys. x ∷ ys) (take-take i j xs) ∙ ap (λ k. take k (x ∷ xs)) more
 
 -- what an update of one end and its frames make of a sound world
-pub follows_sound : (nodes nodes' : List (Option NodeState)) (air : List Sent) (a b : ℕ) (s e r : LinkEnd) (xs ys : List Message) (frames : List Outgoing) (n : ℕ)
+pub follows_sound : (nodes nodes' : List (Option NodeState)) (air : List Sent) (a b : ℕ) (s e r : SessionEnd) (xs ys : List Message) (frames : List Outgoing) (n : ℕ)
     → IsSound nodes air → Update nodes nodes' a b s e xs ys → end_at nodes b a ≡ Some r
     → Follows a b s e r (accepted_now nodes a b ++ xs) (delivered_now nodes b a) (accepted_now nodes b a) (delivered_now nodes a b ++ ys) frames
     → IsSound nodes' (air ++ map (airborne a e.sending.numbered r.sending.numbered) (take n frames))
@@ -85,7 +85,7 @@ released_are old new a numbered peer_numbered box box' frames empty adds h =
 
 -- ---- a message is sent
 
-pub accept_sound : (nodes : List (Option NodeState)) (air air' : List Sent) (a b : ℕ) (n n' : NodeState) (box box' : Out) (m : Message) (r : LinkEnd) (numbered : ℕ)
+pub accept_sound : (nodes : List (Option NodeState)) (air air' : List Sent) (a b : ℕ) (n n' : NodeState) (box box' : Out) (m : Message) (r : SessionEnd) (numbered : ℕ)
     → IsSound nodes air → a < length nodes → b < length n.ends → node_at nodes a ≡ Some n → end_at nodes b a ≡ Some r
     → (sent : IsSent n n' box box' b m) → IsPayload m → box.frames ≡ []
     → numbered ≡ (flushed (put sent.neighbour.link (spelling sent.packet ∷ []))).sending.numbered
@@ -112,7 +112,7 @@ accept_sound nodes air air' a b n n' box box' m r numbered h in_nodes in_ends wa
 
 -- ---- a frame arrives
 
-pub hear_sound : (nodes : List (Option NodeState)) (air air' : List Sent) (a b : ℕ) (n n' : NodeState) (box box' : Out) (x : Neighbour) (r : LinkEnd) (p : Fields) (f : Sent) (es er : ℕ) (answer : Arrival) (numbered : ℕ)
+pub hear_sound : (nodes : List (Option NodeState)) (air air' : List Sent) (a b : ℕ) (n n' : NodeState) (box box' : Out) (x : Neighbour) (r : SessionEnd) (p : Fields) (f : Sent) (es er : ℕ) (answer : Arrival) (numbered : ℕ)
     → IsSound nodes air → a < length nodes → b < length n.ends → node_at nodes a ≡ Some n → neighbour_of n b ≡ Some x → end_at nodes b a ≡ Some r
     → IsHeard n n' box box' b x es er p answer → box.frames ≡ []
     → (between : IsFrameBetween b a r.sending.numbered r.taken x.link.sending.numbered (map bytes_of (accepted_now nodes b a)) f) → p ≡ between.packet

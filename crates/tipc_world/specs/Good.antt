@@ -8,7 +8,7 @@ use Rattle.tipc_header.specs.Frames.{frame_of}
 use Rattle.tipc_header.specs.Grammar.{Fits}
 use Rattle.tipc_header.specs.Spelling.{Fields, spelling}
 use Rattle.tipc_journal.specs.Prefixes.{IsPrefixOf}
-use Rattle.tipc_link.specs.End.{LinkEnd}
+use Rattle.tipc_link.specs.Sessions.{SessionEnd}
 use Rattle.tipc_world.specs.declared.air.Sent.{Sent}
 use Rattle.tipc_world.specs.States.{NodeState, WorldState, accepted_at, delivered_at, end_at}
 
@@ -17,7 +17,7 @@ use Rattle.tipc_world.specs.States.{NodeState, WorldState, accepted_at, delivere
 pub record IsTrue (nodes : List (Option NodeState)) (f : Sent) : Type 0 where
   pub a : ℕ
   pub b : ℕ
-  pub sender : LinkEnd
+  pub sender : SessionEnd
   pub sender_is : end_at nodes a b ≡ Some sender
   pub from_is : f.from.word ≡ node_word a
   pub to_is : f.to ≡ to.Node (record { word = node_word b })

@@ -4,7 +4,7 @@ use Rattle.tipc_types.specs.declared.link_words.BroadcastState.{BroadcastState}
 use Rattle.tipc_outside.specs.declared.outgoing.Outgoing.{Outgoing}
 use Rattle.tipc_link.specs.declared.outcomes.LinkOutcome.{LinkOutcome}
 use Rattle.tipc_link.specs.declared.outcomes.LinkOutcome.TheVariants.{Took, Ignored}
-use Rattle.tipc_link.specs.End.{LinkEnd, Content, answer_frames, answered, arrival_frames, arrived, outcome}
+use Rattle.tipc_link.specs.Sessions.{SessionEnd, Content, answer_frames, answered, arrival_frames, arrived, outcome}
 use Rattle.tipc_world.specs.declared.neighbours.Neighbour.{Neighbour}
 use Rattle.tipc_world.specs.declared.neighbours.Heard.{Heard}
 use Rattle.tipc_world.specs.declared.neighbours.Heard.TheVariants as heard
@@ -25,7 +25,7 @@ is_state heard.Packet = false
 is_state (heard.Ignored why) = false
 
 -- what an arrival brings, which is the arrival of that number
-abbrev pub heard_in : LinkEnd → ℕ → Content → Heard
+abbrev pub heard_in : SessionEnd → ℕ → Content → Heard
 heard_in e by c = heard_of (outcome e by c)
 
 abbrev pub heard_neighbour : Neighbour → ℕ → ℕ → Content → Neighbour

@@ -19,7 +19,7 @@ use Rattle.tipc_journal.specs.declared.entries.Entry.TheVariants.{Accepted, Deli
 use Rattle.tipc_header.specs.Grammar.{Fits}
 use Rattle.tipc_outside.specs.Frames.{Adds, Out}
 use Rattle.tipc_message.specs.Wire.{message_of, packet_of}
-use Rattle.tipc_link.specs.End.{Content, begun, content_in, flush_frames, flushed, put}
+use Rattle.tipc_link.specs.Sessions.{Content, begun, content_in, flush_frames, flushed, put}
 use Rattle.tipc_world.specs.Hearing.{heard_frames, heard_in, heard_neighbour}
 use Rattle.tipc_world.specs.declared.neighbours.Heard.{Heard}
 use Rattle.tipc_world.specs.declared.neighbours.Heard.TheVariants as heard

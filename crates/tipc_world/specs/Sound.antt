@@ -9,7 +9,7 @@ use Rattle.tipc_header.specs.Grammar.{Fits}
 use Rattle.tipc_header.specs.Spelling.{Fields, spelling}
 use Rattle.tipc_header.specs.Frames.{frame_of}
 use Rattle.tipc_message.specs.Wire.{message_of, packet_of, IsPayload}
-use Rattle.tipc_link.specs.End.{LinkEnd, Carries, content_of}
+use Rattle.tipc_link.specs.Sessions.{SessionEnd, Carries, content_of}
 use Rattle.tipc_link.specs.Direction.{IsDirection, IsFlight, Flight}
 use Rattle.tipc_world.specs.declared.air.Sent.{Sent}
 use Rattle.tipc_world.specs.States.{NodeState, node_at, end_at, accepted_at, delivered_at, static_number}
@@ -41,7 +41,7 @@ abbrev pub IsOtherStream : ℕ → ℕ → Flow → Type 0
 IsOtherStream own theirs flow = own ≡ static_number → theirs ≡ static_number → flow ≡ Zero → ⊥
 
 -- the end at node a of the static link to node b
-pub record IsStaticEnd (e : LinkEnd) (a b : ℕ) : Type 0 where
+pub record IsStaticEnd (e : SessionEnd) (a b : ℕ) : Type 0 where
   pub here : a ≤ 32
   pub there : b ≤ 32
   pub own : e.own ≡ node_word a
@@ -51,7 +51,7 @@ pub record IsStaticEnd (e : LinkEnd) (a b : ℕ) : Type 0 where
   pub peer_epoch : e.peer_epoch ≡ static_number
 
 -- one direction of a link, from the end s at node a to the end r at node b, what a accepted for b and what was delivered
-pub record IsPair (a b : ℕ) (s r : LinkEnd) (accepted delivered : List Message) : Type 0 where
+pub record IsPair (a b : ℕ) (s r : SessionEnd) (accepted delivered : List Message) : Type 0 where
   pub end : IsStaticEnd s a b
   pub direction : IsDirection s.sending r.taken (map bytes_of accepted) (take r.taken (map bytes_of accepted))
   pub got : delivered ≡ take r.taken accepted
@@ -84,8 +84,8 @@ pub record IsFrameBetween (a b numbered taken peer_numbered : ℕ) (put : List (
 pub record IsFrame (nodes : List (Option NodeState)) (f : Sent) : Type 0 where
   pub a : ℕ
   pub b : ℕ
-  pub sender : LinkEnd
-  pub receiver : LinkEnd
+  pub sender : SessionEnd
+  pub receiver : SessionEnd
   pub sender_is : end_at nodes a b ≡ Some sender
   pub receiver_is : end_at nodes b a ≡ Some receiver
   pub between : IsFrameBetween a b sender.sending.numbered sender.taken receiver.sending.numbered (map bytes_of (accepted_now nodes a b)) f
@@ -93,8 +93,8 @@ pub record IsFrame (nodes : List (Option NodeState)) (f : Sent) : Type 0 where
 pub record IsSound (nodes : List (Option NodeState)) (air : List Sent) : Type 0 where
   pub owns : (a : ℕ) (n : NodeState) → node_at nodes a ≡ Some n → n.own ≡ node_word a
   pub apart : (a : ℕ) → end_at nodes a a ≡ None
-  pub both : (a b : ℕ) (s : LinkEnd) → end_at nodes a b ≡ Some s → (r : LinkEnd) × (end_at nodes b a ≡ Some r)
-  pub pairs : (a b : ℕ) (s r : LinkEnd) → end_at nodes a b ≡ Some s → end_at nodes b a ≡ Some r → IsPair a b s r (accepted_now nodes a b) (delivered_now nodes b a)
+  pub both : (a b : ℕ) (s : SessionEnd) → end_at nodes a b ≡ Some s → (r : SessionEnd) × (end_at nodes b a ≡ Some r)
+  pub pairs : (a b : ℕ) (s r : SessionEnd) → end_at nodes a b ≡ Some s → end_at nodes b a ≡ Some r → IsPair a b s r (accepted_now nodes a b) (delivered_now nodes b a)
   pub silent : (a b : ℕ) → end_at nodes a b ≡ None → (accepted_now nodes a b ≡ []) × (delivered_now nodes a b ≡ [])
   pub others : (a b own theirs : ℕ) (flow : Flow) → IsOtherStream own theirs flow → delivered_at nodes a b own theirs flow ≡ []
   pub frames : (k : ℕ) (f : Sent) → slice_get air k ≡ Some f → IsFrame nodes f

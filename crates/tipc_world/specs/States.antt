@@ -8,7 +8,7 @@ use Rattle.tipc_types.specs.declared.node_calls.Answer.{Answer}
 use Rattle.tipc_types.specs.declared.node_calls.Answer.TheVariants as answer
 use Rattle.tipc_journal.specs.declared.entries.Entry.{Entry}
 use Rattle.tipc_journal.specs.Streams.{Stream, accepted, delivered}
-use Rattle.tipc_link.specs.End.{LinkEnd}
+use Rattle.tipc_link.specs.Sessions.{SessionEnd}
 use Rattle.tipc_world.specs.declared.neighbours.Neighbour.{Neighbour}
 use Rattle.tipc_world.specs.declared.air.Sent.{Sent}
 
@@ -47,7 +47,7 @@ abbrev pub is_there : WorldState → ℕ → Bool
 is_there w n = is_some (slice_index_or w.nodes n None)
 
 -- the link end at node a to node b
-unfoldable pub end_at : List (Option NodeState) → ℕ → ℕ → Option LinkEnd
+unfoldable pub end_at : List (Option NodeState) → ℕ → ℕ → Option SessionEnd
 end_at nodes a b = option_and_then (λ n. option_map (λ x. x.link) (slice_index_or n.ends b None)) (node_at nodes a)
 
 unfoldable pub journal_at : List (Option NodeState) → ℕ → List Entry
@@ -69,7 +69,7 @@ delivered_at nodes b a own theirs flow = delivered (journal_at nodes b) (stream_
 abbrev pub counted : ℕ → ℕ
 counted count = min count 18446744073709551615
 
-abbrev pub flow_in : Option LinkEnd → ℕ → ℕ → Answer
+abbrev pub flow_in : Option SessionEnd → ℕ → ℕ → Answer
 flow_in None accepted delivered = answer.NoContact
 flow_in (Some end) accepted delivered = answer.Flow (counted accepted) delivered
 

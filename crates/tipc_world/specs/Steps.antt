@@ -13,7 +13,7 @@ use Rattle.tipc_header.specs.Frames.{frame_of}
 use Rattle.tipc_header.specs.Grammar.{Fits}
 use Rattle.tipc_header.specs.Spelling.{Fields, spelling}
 use Rattle.tipc_message.specs.Wire.{message_of}
-use Rattle.tipc_link.specs.End.{Content, content_in, flush_frames, put}
+use Rattle.tipc_link.specs.Sessions.{Content, content_in, flush_frames, put}
 use Rattle.tipc_world.specs.Air.{airborne}
 use Rattle.tipc_world.specs.declared.air.Sent.{Sent}
 use Rattle.tipc_world.specs.declared.events.WorldEvent.{WorldEvent}

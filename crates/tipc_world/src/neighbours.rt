@@ -2,12 +2,12 @@ ghost use Rattle.std.specs.Prelude.{◌≡◌, ◌||◌, ℕ, Ok, IfOk, OnErr, O
 ghost use Rattle.tipc_outside.specs.Frames.{Adds};
 ghost use Rattle.tipc_header.specs.Spelling.{view};
 ghost use Rattle.tipc_header.specs.Grammar.{Fits};
-ghost use Rattle.tipc_link.specs.End.{arrival_frames, arrived, content_in};
+ghost use Rattle.tipc_link.specs.Sessions.{arrival_frames, arrived, content_in};
 ghost use Rattle.tipc_world.specs.Hearing.{heard_frames, heard_in, heard_neighbour, heard_of, is_state, no_broadcast};
 
 use std::alloc::Global;
 use tipc_header::Packet;
-use tipc_link::{Link, LinkOutcome};
+use tipc_link::{LinkOutcome, Session};
 use tipc_outside::Outbox;
 use tipc_types::{BroadcastState, NoMemory, Why};
 
@@ -15,7 +15,7 @@ use tipc_types::{BroadcastState, NoMemory, Why};
 #[derive(Drop)]
 pub struct Neighbour {
     /// The link end to it.
-    pub link: Link,
+    pub link: Session,
     /// Whether this node took a STATE of it in this contact, and so is in step with its broadcast.
     pub in_step: bool,
 }

@@ -5,7 +5,7 @@ ghost use Rattle.tipc_header.specs.Spelling.{Fields, spelling, view};
 ghost use Rattle.tipc_header.specs.Grammar.{Fits};
 ghost use Rattle.tipc_journal.specs.Room.{HasRoom, counted_bytes, message_bytes};
 ghost use Rattle.tipc_message.specs.Wire.{message_of, packet_of, IsPayload};
-ghost use Rattle.tipc_link.specs.End.{begun, content_in, flush_frames, flushed, put};
+ghost use Rattle.tipc_link.specs.Sessions.{begun, content_in, flush_frames, flushed, put};
 ghost use Rattle.tipc_world.specs.States.{NodeState, neighbour_of, static_number};
 ghost use Rattle.tipc_world.specs.Hearing.{heard_frames, heard_in, heard_neighbour};
 ghost use Rattle.tipc_world.specs.Nodes.{connected, direct, has_port, heard_answer, heard_entries, heard_inboxes, limit_of, port_of, refusal, sent_node, taken_count, taken_entry, taken_inboxes, accepted_entry, socket_node, socket_answer, receive_node, receive_answer, IsHeard, IsSent};
@@ -16,7 +16,7 @@ use std::alloc::Global;
 use std::marker::Model;
 use tipc_header::Packet;
 use tipc_journal::{Arrivals, Entry, Journal, MOST_ENTRIES, MOST_MESSAGE_BYTES};
-use tipc_link::Link;
+use tipc_link::Session;
 use tipc_message::{message_from, packet_bytes};
 use tipc_outside::Outbox;
 use tipc_types::{
@@ -121,7 +121,7 @@ impl Node {
         ensures after { self.new ≡ connected self.old peer }
         ensures within { peer < length self.old.ends }
     {
-        let link = Link::established(
+        let link = Session::established(
             alloc,
             self.own,
             Addr::node(peer),

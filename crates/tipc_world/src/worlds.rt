@@ -7,7 +7,7 @@ ghost use Rattle.tipc_world.specs.Calls.{CanHappen, CanHappenAt};
 ghost use Rattle.tipc_world.specs.Due.{age_of, count_at, frame_for, is_for, IsDue, IsStopped};
 ghost use Rattle.tipc_world.specs.Good.{IsGood};
 ghost use Rattle.tipc_world.specs.States.{end_at, flow_of, is_there, no_nodes, NodeState};
-ghost use Rattle.tipc_link.specs.End.{LinkEnd};
+ghost use Rattle.tipc_link.specs.Sessions.{SessionEnd};
 ghost use Rattle.tipc_world.specs.Sound.{IsSound};
 ghost use Rattle.tipc_header.specs.Grammar.{Fits};
 ghost use Rattle.tipc_header.specs.Spelling.{view};
@@ -466,7 +466,7 @@ fn happen(
 /// How many packets the end at node `a` to node `b` was given and how many it took: None exactly where there is no link.
 #[tactic(auto, unfolding(crate::specs::States::end_at, crate::specs::States::node_at))]
 fn exchanged(nodes: &[Option<Node>], a: u8, b: u8) -> Option<(u64, u64)>
-    ensures some { IfSome result (λ counts. (e : LinkEnd) × (end_at nodes.now a b ≡ Some e) × (counts.0 ≡ min (e.sending.numbered + length e.sending.waiting) 18446744073709551615) × (counts.1 ≡ e.taken)) }
+    ensures some { IfSome result (λ counts. (e : SessionEnd) × (end_at nodes.now a b ≡ Some e) × (counts.0 ≡ min (e.sending.numbered + length e.sending.waiting) 18446744073709551615) × (counts.1 ≡ e.taken)) }
     ensures none { IfNone result (end_at nodes.now a b ≡ None) }
 {
     match nodes.get(a as usize) {
@@ -478,7 +478,7 @@ fn exchanged(nodes: &[Option<Node>], a: u8, b: u8) -> Option<(u64, u64)>
 /// The counts of the contact between nodes `a` and `b`.
 fn flow_at(nodes: &[Option<Node>], a: u8, b: u8) -> Answer
     ensures none { end_at nodes.now a b ≡ None → result ≡ Answer.NoContact }
-    ensures some { (s r : LinkEnd) → end_at nodes.now a b ≡ Some s → end_at nodes.now b a ≡ Some r → result ≡ Answer.Flow (min (s.sending.numbered + length s.sending.waiting) 18446744073709551615) r.taken }
+    ensures some { (s r : SessionEnd) → end_at nodes.now a b ≡ Some s → end_at nodes.now b a ≡ Some r → result ≡ Answer.Flow (min (s.sending.numbered + length s.sending.waiting) 18446744073709551615) r.taken }
 {
     match (exchanged(nodes, a, b), exchanged(nodes, b, a)) {
         (Some((accepted, _)), Some((_, delivered))) => Answer::Flow {

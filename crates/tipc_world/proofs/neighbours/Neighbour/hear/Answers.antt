@@ -2,7 +2,7 @@ use Rattle.std.proofs.Common.{◌≡◌, ◌||◌, ap, ◌∙◌, subst}
 use Rattle.tipc_outside.proofs.Adding.{adds_more}
 use Rattle.tipc_outside.specs.Frames.{Adds}
 use Rattle.tipc_header.specs.Spelling.{view}
-use Rattle.tipc_link.specs.End.{answer_frames, arrived, content_in}
+use Rattle.tipc_link.specs.Sessions.{answer_frames, arrived, content_in}
 use Rattle.tipc_world.specs.Hearing.{heard_frames, heard_in, heard_of, is_state, no_broadcast}
 use Rattle.tipc_world.proofs.neighbours.Neighbour.hear.Goals as goal
 

@@ -1,5 +1,5 @@
 use Rattle.std.proofs.Common.{refl, arith}
-use Rattle.tipc_link.proofs.sending_end.Link.state_frame.Goals as goal
+use Rattle.tipc_link.proofs.session.Session.state_frame.Goals as goal
 
 pub encode_frame-requires : goal.encode_frame-requires
 encode_frame-requires c = record {

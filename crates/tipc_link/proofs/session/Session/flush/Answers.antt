@@ -1,5 +1,5 @@
 use Rattle.tipc_link.proofs.Flushing.{flushing-done, flushing-step}
-use Rattle.tipc_link.proofs.sending_end.Link.flush.Goals as goal
+use Rattle.tipc_link.proofs.session.Session.flush.Goals as goal
 
 pub loop-preserved : goal.loop-preserved
 loop-preserved c = flushing-step _ _ _ _ _ _ _ _ c.loop.invariant c.loop-test.true c.send_next.ensures.after c.send_next.ensures.frame

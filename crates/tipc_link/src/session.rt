@@ -1,4 +1,4 @@
-ghost use Rattle.std.specs.Prelude.{◌≡◌, ◌+◌, ◌-◌, ◌^◌, ◌*◌, ◌<◌, ◌≤◌, [], ◌∷◌, ◌++◌, List, ℕ, Err, length, take, slice_get, All, IfOk, OnErr, OnOk, Some};
+ghost use Rattle.std.specs.Prelude.{◌≡◌, ◌+◌, ◌-◌, ◌^◌, ◌*◌, ◌<◌, ◌≤◌, [], ◌∷◌, ◌++◌, ◌==◌, if◌then◌else◌, List, ℕ, None, Err, length, take, slice_get, All, IfOk, OnErr, OnOk, Some};
 ghost use Rattle.tipc_types.specs.Position.{number_of};
 ghost use Rattle.tipc_header.specs.Spelling.{spelling, view};
 ghost use Rattle.tipc_header.specs.Frames.{unsent};
@@ -25,9 +25,9 @@ const FURTHEST_AHEAD: u16 = 32_767;
 /// No link takes more packets: memory ends long before.
 const LAST_POSITION: u64 = 1 << 62;
 
-/// One end of a link to a peer on one bearer, in one session.
+/// What one end of a link to a peer on one bearer keeps in one session.
 #[derive(Drop)]
-pub struct Link {
+pub struct Session {
     own: Addr,
     peer: Addr,
     bearer: u8,
@@ -39,11 +39,11 @@ pub struct Link {
     unanswered: u64,
 }
 
-impl Model for Link {
+impl Model for Session {
     ghost use Rattle.std.specs.Prelude.{◌≤◌, ◌^◌, length, All};
-    ghost use Rattle.tipc_link.specs.End.{LinkEnd};
+    ghost use Rattle.tipc_link.specs.Sessions.{SessionEnd};
 
-    ghost Value = { LinkEnd };
+    ghost Value = { SessionEnd };
 
     ghost view = { λ l. record {
       own = l.own.word;
@@ -60,8 +60,8 @@ impl Model for Link {
     ghost invariant = { λ l. (l.taken ≤ 2 ^ 62) × (l.unanswered ≤ l.taken) × (l.bearer ≤ 1) × All (λ q. 16 ≤ length q) l.window.waiting };
 }
 
-impl Link {
-    ghost use Rattle.tipc_link.specs.End.{ahead, answer_frames, answered, arrival_frames, arrived, begun, content_in, flush_frames, flushed, gap, heard, highest, noted, outcome, packet_frame, priority_of, put, released, room, sent, state_fields, state_frame, took, Content};
+impl Session {
+    ghost use Rattle.tipc_link.specs.Sessions.{ahead, answer_frames, answered, arrival_frames, arrived, begun, content_in, content_of, flush_frames, flushed, gap, heard, highest, noted, outcome, packet_frame, priority_of, put, released, room, sent, state_fields, state_frame, told, took, Content};
 
     /// An end that is up, in the session of these two epochs, over a bearer 0 or 1.
     pub fn established(
@@ -71,11 +71,11 @@ impl Link {
         bearer: u8,
         epoch: u64,
         peer_epoch: u64,
-    ) -> Link
+    ) -> Session
         requires { bearer ≤ 1 }
         ensures { result ≡ begun own.word peer.word bearer epoch peer_epoch }
     {
-        Link {
+        Session {
             own,
             peer,
             bearer,
@@ -94,6 +94,24 @@ impl Link {
         ensures peer { result.1 ≡ self.now.taken }
     {
         (self.window.numbered(), self.taken)
+    }
+
+    /// The end's own epoch.
+    pub fn epoch(&self) -> u64
+        ensures { result ≡ self.now.epoch }
+    {
+        self.epoch
+    }
+
+    /// How many packets were numbered, where this is the end's own epoch. None exactly where it isn't.
+    pub fn numbered_in(&self, epoch: u64) -> Option<u64>
+        ensures { result ≡ (if self.now.epoch == epoch then Some self.now.sending.numbered else None) }
+    {
+        if self.epoch == epoch {
+            Some(self.window.numbered())
+        } else {
+            None
+        }
     }
 
     /// The numbers of unacknowledged and of waiting packets.
@@ -189,7 +207,7 @@ impl Link {
     }
 
     /// How far a number is ahead of the wanted one: 0 where it lies behind.
-    #[tactic(auto, unfolding(crate::specs::End::ahead))]
+    #[tactic(auto, unfolding(crate::specs::Sessions::ahead))]
     fn ahead(&self, number: u16) -> u16
         ensures { result ≡ ahead self.now number }
     {
@@ -202,7 +220,7 @@ impl Link {
     }
 
     /// Keeps the highest next number that the peer has shown.
-    #[tactic(auto, unfolding(crate::specs::End::highest))]
+    #[tactic(auto, unfolding(crate::specs::Sessions::highest))]
     fn note(&mut self, next: u16)
         ensures { self.new ≡ noted self.old next }
     {
@@ -217,7 +235,6 @@ impl Link {
     ///
     /// The acknowledgement of a packet of the session is read first, and what then moves up is sent. A packet that is
     /// taken is given as it waited to be sent. At NoMemory nothing is changed. (TIPC 2.0 draft; this project's profile.)
-    #[tactic(auto, unfolding(crate::specs::End::content_of))]
     pub fn arrive(
         &mut self,
         alloc: Global,
@@ -236,6 +253,24 @@ impl Link {
         if es != self.peer_epoch || er != self.epoch {
             return Ok(LinkOutcome::Ignored(Why::Epoch));
         }
+        self.hear(alloc, packet, by, out)
+    }
+
+    /// Takes a packet that arrived in this session.
+    #[tactic(auto, unfolding(crate::specs::Sessions::content_of))]
+    pub(crate) fn hear(
+        &mut self,
+        alloc: Global,
+        packet: &Packet<'_>,
+        by: u64,
+        out: &mut Outbox,
+    ) -> Result<LinkOutcome, NoMemory>
+        requires { Fits (view packet.now) }
+        ensures answer { IfOk result (λ o. o ≡ outcome self.old by (content_of (view packet.now))) }
+        ensures after { OnOk result (self.new ≡ arrived self.old packet.now.acknowledgement (content_of (view packet.now))) }
+        ensures frames { OnOk result (Adds out.old out.new (arrival_frames self.old packet.now.acknowledgement (content_of (view packet.now)))) }
+        ensures err { OnErr result ((self.new ≡ self.old) × (out.new ≡ out.old)) }
+    {
         match packet.header {
             Header::Reset(_) | Header::Activate(_) | Header::Discovery(_) => {
                 Ok(LinkOutcome::Ignored(Why::Epoch))
@@ -290,10 +325,23 @@ impl Link {
         ensures after { self.new ≡ answered self.old }
         ensures frames { Adds out.old out.new (answer_frames self.old broadcast) }
     {
-        if self.unanswered < UNANSWERED {
-            return;
+        if self.unanswered >= UNANSWERED {
+            self.tell(alloc, broadcast, false, out);
         }
-        let frame = self.state_frame(alloc, broadcast);
+    }
+
+    /// Sends a STATE.
+    pub(crate) fn tell(
+        &mut self,
+        alloc: Global,
+        broadcast: BroadcastState,
+        probe: bool,
+        out: &mut Outbox,
+    )
+        ensures after { self.new ≡ told self.old }
+        ensures frames { Adds out.old out.new (state_frame self.old broadcast probe ∷ []) }
+    {
+        let frame = self.state_frame(alloc, broadcast, probe);
         self.unanswered = 0;
         match frame {
             Ok(frame) => out.push(self.bearer, To::Node(self.peer), frame),
@@ -302,7 +350,7 @@ impl Link {
     }
 
     /// How many packets are missing, as far as a window reaches.
-    #[tactic(auto, unfolding(crate::specs::End::gap))]
+    #[tactic(auto, unfolding(crate::specs::Sessions::gap))]
     fn gap(&self) -> u16
         ensures value { result ≡ gap self.now }
         ensures within { result ≤ 50 }
@@ -320,9 +368,14 @@ impl Link {
     }
 
     /// The frame of a STATE.
-    #[tactic(auto, unfolding(crate::specs::End::state_fields))]
-    fn state_frame(&self, alloc: Global, broadcast: BroadcastState) -> Result<Bytes, AllocError>
-        ensures { IfOk result (λ f. f ≡ (state_frame self.now broadcast).frame) }
+    #[tactic(auto, unfolding(crate::specs::Sessions::state_fields))]
+    pub(crate) fn state_frame(
+        &self,
+        alloc: Global,
+        broadcast: BroadcastState,
+        probe: bool,
+    ) -> Result<Bytes, AllocError>
+        ensures { IfOk result (λ f. f ≡ (state_frame self.now broadcast probe).frame) }
     {
         let own = self.own.word;
         let peer = self.peer.word;
@@ -338,7 +391,7 @@ impl Link {
                 broadcast_start: broadcast.start,
                 broadcast_gap: broadcast.gap,
                 destination_node: peer,
-                probe: false,
+                probe,
                 in_step: broadcast.in_step,
                 priority: self.priority(),
             }),

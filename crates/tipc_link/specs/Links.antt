@@ -1,0 +1,203 @@
+-- A link end through its states, and what each call makes of it.
+use Rattle.std.specs.Prelude.{ℕ, Bool, true, false, List, [], ◌∷◌, ◌++◌, Option, Some, None, option_map, ◌==◌, ◌&&◌, if◌then◌else◌}
+use Rattle.tipc_types.specs.declared.identity.To.TheVariants as to
+use Rattle.tipc_types.specs.declared.link_words.BroadcastState.{BroadcastState}
+use Rattle.tipc_types.specs.declared.link_words.LinkState.{LinkState}
+use Rattle.tipc_types.specs.declared.link_words.LinkState.TheVariants.{ResetUnknown}
+use Rattle.tipc_types.specs.declared.link_words.Reply.TheVariants as reply
+use Rattle.tipc_types.specs.declared.link_words.Why.TheVariants as why
+use Rattle.tipc_outside.specs.declared.outgoing.Outgoing.{Outgoing}
+use Rattle.tipc_header.specs.declared.packet.Header.{Header}
+use Rattle.tipc_header.specs.declared.packet.Header.TheVariants as header
+use Rattle.tipc_header.specs.declared.packet.Reset.{Reset}
+use Rattle.tipc_header.specs.Spelling.{Fields, spelling}
+use Rattle.tipc_header.specs.Frames.{frame_of}
+use Rattle.tipc_link_fsm.specs.declared.changes.Change.{Change}
+use Rattle.tipc_link_fsm.specs.declared.changes.Change.TheVariants.{Stay, Up, Down, Answer, Ignore}
+use Rattle.tipc_link_fsm.specs.Table.{Fsm, Outcome, fresh, gives, is_up, on_activate, on_cut, on_reset, on_traffic, contact_ended, forget_peer}
+use Rattle.tipc_link.specs.declared.outcomes.LinkOutcome.{LinkOutcome}
+use Rattle.tipc_link.specs.Sessions.{SessionEnd, Content, answer_frames, answered, arrival_frames, arrived, begun, content_of, outcome, priority_of, state_frame, told}
+
+pub record LinkEnd : Type 0 where
+  -- address words
+  pub own : ℕ
+  pub peer : ℕ
+  pub bearer : ℕ
+  pub mended : Bool
+  pub fsm : Fsm
+  -- the contact numbers that it shows: the node's own, and the highest that the peer has shown
+  pub contact : ℕ
+  pub peer_contact : ℕ
+  -- the present session, or the last one where the link is down; none where there was none
+  pub session : Option SessionEnd
+
+-- a new end, on a cut bearer
+abbrev pub made : ℕ → ℕ → ℕ → ℕ → LinkEnd
+made own peer bearer epoch =
+    record { own = own; peer = peer; bearer = bearer; mended = false; fsm = fresh epoch; contact = epoch; peer_contact = 0; session = None }
+
+-- ---- frames
+
+-- the peer's epoch in an envelope: 0 where it isn't known
+abbrev pub known : Option ℕ → ℕ
+known None = 0
+known (Some epoch) = epoch
+
+-- what RESET and ACTIVATE say
+abbrev pub shown_by : LinkEnd → Reset
+shown_by e = record { destination_node = e.peer; priority = priority_of e.bearer; contact = e.contact; peer_contact = e.peer_contact }
+
+abbrev pub notice_fields : LinkEnd → Header → Fields
+notice_fields e h = record { acknowledgement = 0; sequence = 0; previous = e.own; header = h; rest = [] }
+
+abbrev pub notice : LinkEnd → Header → Outgoing
+notice e h = record {
+  bearer = e.bearer;
+  to = to.Node (record { word = e.peer });
+  frame = frame_of e.fsm.own (known e.fsm.peer) (spelling (notice_fields e h));
+}
+
+-- on a cut bearer nothing is sent
+abbrev pub on_bearer : LinkEnd → Outgoing → List Outgoing
+on_bearer e frame = if e.mended then frame ∷ [] else []
+
+abbrev pub reset_frames : LinkEnd → List Outgoing
+reset_frames e = on_bearer e (notice e (header.Reset (shown_by e)))
+
+abbrev pub activate_frames : LinkEnd → List Outgoing
+activate_frames e = on_bearer e (notice e (header.Activate (shown_by e)))
+
+abbrev pub state_frames : Option SessionEnd → BroadcastState → Bool → List Outgoing
+state_frames None shown probe = []
+state_frames (Some s) shown probe = state_frame s shown probe ∷ []
+
+-- ---- what follows a change of the link states
+
+abbrev pub session_of : LinkEnd → SessionEnd
+session_of e = begun e.own e.peer e.bearer e.fsm.own (known e.fsm.peer)
+
+-- a link that goes up begins a session and sends a STATE; a STATE that is sent is the session's
+abbrev pub followed : LinkEnd → Change → LinkEnd
+followed e Up = record e { session = Some (session_of e) }
+followed e (Answer (reply.State probe)) = record e { session = option_map told e.session }
+followed e other = e
+
+abbrev pub follow_frames : LinkEnd → Change → BroadcastState → List Outgoing
+follow_frames e Up shown = state_frame (session_of e) shown false ∷ []
+follow_frames e (Answer reply.Reset) shown = reset_frames e
+follow_frames e (Answer reply.Activate) shown = activate_frames e
+follow_frames e (Answer (reply.State probe)) shown = state_frames e.session shown probe
+follow_frames e other shown = []
+
+abbrev pub with_fsm : LinkEnd → Fsm → LinkEnd
+with_fsm e fsm = record e { fsm = fsm }
+
+abbrev pub with_session : LinkEnd → SessionEnd → LinkEnd
+with_session e s = record e { session = Some s }
+
+-- the end after an outcome of its link states, and the frames that it sends then
+abbrev pub after : LinkEnd → Outcome → LinkEnd
+after e o = followed (with_fsm e o.after) o.change
+
+abbrev pub frames : LinkEnd → Outcome → BroadcastState → List Outgoing
+frames e o shown = follow_frames (with_fsm e o.after) o.change shown
+
+-- ---- calls
+
+abbrev pub is_reset_unknown : LinkState → Bool
+is_reset_unknown ResetUnknown = true
+is_reset_unknown _ = false
+
+-- the bearer is mended: an end in RESET_UNKNOWN sends RESET
+abbrev pub mended_end : LinkEnd → LinkEnd
+mended_end e = record e { mended = true }
+
+abbrev pub mend_frames : LinkEnd → List Outgoing
+mend_frames e = if is_reset_unknown e.fsm.state then reset_frames (mended_end e) else []
+
+abbrev pub cut_end : LinkEnd → Bool → LinkEnd
+cut_end e held = record e { mended = false; fsm = (on_cut e.fsm held).after }
+
+-- the end of the contact, which sends a RESET whether the link was up or not
+abbrev pub ended_end : LinkEnd → LinkEnd
+ended_end e = record e { fsm = (contact_ended e.fsm).after }
+
+abbrev pub is_down : Change → Bool
+is_down (Down cause) = true
+is_down other = false
+
+-- an end that forgets the peer says RESET only where that took it down
+abbrev pub forget_frames : LinkEnd → List Outgoing
+forget_frames e = if is_down (forget_peer e.fsm).change then reset_frames (with_fsm e (forget_peer e.fsm).after) else []
+
+-- how many packets were numbered under an epoch of this end, where that is the epoch of the present session or the last one
+abbrev pub numbered_in : Option SessionEnd → ℕ → Option ℕ
+numbered_in None epoch = None
+numbered_in (Some s) epoch = if s.epoch == epoch then Some s.sending.numbered else None
+
+-- the STATE that is due after an arrival; nothing is sent where the link isn't up
+abbrev pub answered_end : LinkEnd → LinkEnd
+answered_end e = if is_up e.fsm.state then record e { session = option_map answered e.session } else e
+
+abbrev pub session_answer : Option SessionEnd → BroadcastState → List Outgoing
+session_answer None shown = []
+session_answer (Some s) shown = answer_frames s shown
+
+abbrev pub answered_frames : LinkEnd → BroadcastState → List Outgoing
+answered_frames e shown = if is_up e.fsm.state then session_answer e.session shown else []
+
+-- ---- an arrival
+
+-- what the link states make of a packet
+abbrev pub outcome_of : Fsm → Header → ℕ → ℕ → Bool → Outcome
+outcome_of s (header.Reset r) es er held = on_reset s es held
+outcome_of s (header.Activate a) es er held = on_activate s es er
+outcome_of s (header.Discovery d) es er held = gives s (Ignore why.Epoch)
+outcome_of s other es er held = on_traffic s es er
+
+-- whether the link states took it as a packet of the session
+abbrev pub is_taken : Change → Bool
+is_taken Up = true
+is_taken Stay = true
+is_taken other = false
+
+abbrev pub is_traffic : Header → Bool
+is_traffic (header.Reset r) = false
+is_traffic (header.Activate a) = false
+is_traffic (header.Discovery d) = false
+is_traffic other = true
+
+-- a STATE or a numbered packet of the session is heard by it
+abbrev pub is_heard : Header → Change → Bool
+is_heard h change = is_traffic h && is_taken change
+
+abbrev pub heard_end : LinkEnd → ℕ → Content → LinkEnd
+heard_end e acknowledgement c = record e { session = option_map (λ s. arrived s acknowledgement c) e.session }
+
+abbrev pub heard_by : Option SessionEnd → ℕ → Content → List Outgoing
+heard_by None acknowledgement c = []
+heard_by (Some s) acknowledgement c = arrival_frames s acknowledgement c
+
+-- what a session sends that hears a packet; nothing waits on one that has just begun
+abbrev pub heard_frames : LinkEnd → Change → ℕ → Content → List Outgoing
+heard_frames e Up acknowledgement c = []
+heard_frames e other acknowledgement c = heard_by e.session acknowledgement c
+
+abbrev pub heard_outcome : Option SessionEnd → ℕ → Content → LinkOutcome
+heard_outcome None by c = LinkOutcome.Took []
+heard_outcome (Some s) by c = outcome s by c
+
+abbrev pub change_outcome : Change → LinkOutcome
+change_outcome (Ignore reason) = LinkOutcome.Ignored reason
+change_outcome other = LinkOutcome.Took []
+
+-- the end after a packet arrived, the frames that it sends, and what the arrival brought
+abbrev pub arrival_end : LinkEnd → Outcome → Fields → LinkEnd
+arrival_end e o p = if is_heard p.header o.change then heard_end (after e o) p.acknowledgement (content_of p) else after e o
+
+abbrev pub link_frames : LinkEnd → Outcome → Fields → BroadcastState → List Outgoing
+link_frames e o p shown =
+    if is_heard p.header o.change then frames e o shown ++ heard_frames (after e o) o.change p.acknowledgement (content_of p) else frames e o shown
+
+abbrev pub link_outcome : LinkEnd → Outcome → Fields → ℕ → LinkOutcome
+link_outcome e o p by = if is_heard p.header o.change then heard_outcome (after e o).session by (content_of p) else change_outcome o.change

@@ -1,0 +1,653 @@
+ghost use Rattle.std.specs.Prelude.{◌≡◌, ℕ, ◌⊎◌, ◌<◌, ◌≤◌, ◌++◌, ◌∷◌, [], true, false, is_some, Some, None, Err, length, All, IfOk, OnErr, OnOk};
+ghost use Rattle.tipc_header.specs.Grammar.{Fits, ResetFits};
+ghost use Rattle.tipc_header.specs.Spelling.{view};
+ghost use Rattle.tipc_outside.specs.Frames.{Adds};
+ghost use Rattle.tipc_link_fsm.specs.Table.{is_up, on_activate, on_cut, on_reset, on_tick, contact_ended, forget_peer};
+ghost use Rattle.tipc_link.specs.Links.{change_outcome, is_down, is_heard, is_reset_unknown, is_taken, is_traffic, numbered_in, outcome_of};
+ghost use Rattle.tipc_link.specs.Sessions.{SessionEnd, arrived, content_of, flush_frames, flushed, outcome, put, state_frame};
+
+use crate::outcomes::LinkOutcome;
+use crate::session::Session;
+use std::alloc::{AllocError, Global};
+use std::marker::Model;
+use std::mem;
+use tipc_header::{Header, Packet, Reset, encode_frame};
+use tipc_link_fsm::{Change, LinkFsm};
+use tipc_outside::Outbox;
+use tipc_send_window::OfferFault;
+use tipc_types::{
+    Addr, BroadcastState, Bytes, LinkState, NoMemory, Pieces, Reply, TakenList, To, Why,
+};
+
+/// What an arrival did to a link: to its state, and what it brought.
+#[derive(Clone, Debug, Drop, PartialEq)]
+pub struct LinkArrival {
+    /// What became of the link's state.
+    pub change: Change,
+    /// What was taken.
+    pub outcome: LinkOutcome,
+}
+
+/// One end of a link to a peer on one bearer, through its resets and sessions.
+///
+/// RESET and ACTIVATE show the contact numbers of [`Link::show_contact`]. Nothing is sent on a cut bearer. (States: TIPC
+/// 2.0 draft; epochs and contact numbers: this project's profile.)
+#[derive(Drop)]
+pub struct Link {
+    own: Addr,
+    peer: Addr,
+    bearer: u8,
+    mended: bool,
+    fsm: LinkFsm,
+    contact: u64,
+    peer_contact: u64,
+    session: Option<Session>,
+}
+
+impl Model for Link {
+    ghost use Rattle.std.specs.Prelude.{◌≤◌};
+    ghost use Rattle.tipc_link.specs.Links.{LinkEnd};
+
+    ghost Value = { LinkEnd };
+
+    ghost view = { λ l. record {
+      own = l.own.word;
+      peer = l.peer.word;
+      bearer = l.bearer;
+      mended = l.mended;
+      fsm = l.fsm;
+      contact = l.contact;
+      peer_contact = l.peer_contact;
+      session = l.session;
+    } };
+
+    ghost invariant = { λ l. l.bearer ≤ 1 };
+}
+
+impl Link {
+    ghost use Rattle.tipc_link.specs.Links.{activate_frames, after, answered_end, answered_frames, arrival_end, cut_end, ended_end, follow_frames, followed, forget_frames, frames, heard_by, heard_end, heard_frames, heard_outcome, is_taken, link_frames, link_outcome, made, mend_frames, mended_end, notice, on_bearer, reset_frames, session_of, shown_by, state_frames, with_fsm, with_session};
+
+    /// A link end in RESET_UNKNOWN under this epoch, on a bearer 0 or 1 that counts as cut.
+    pub fn new(own: Addr, peer: Addr, bearer: u8, epoch: u64) -> Link
+        requires { bearer ≤ 1 }
+        ensures { result ≡ made own.word peer.word bearer epoch }
+    {
+        Link {
+            own,
+            peer,
+            bearer,
+            mended: false,
+            fsm: LinkFsm::new(epoch),
+            contact: epoch,
+            peer_contact: 0,
+            session: None,
+        }
+    }
+
+    /// Sets the contact numbers that RESET and ACTIVATE show: the node's own, and the highest that the peer has shown.
+    pub fn show_contact(&mut self, own: u64, peer: u64)
+        ensures { self.new ≡ record self.old { contact = own; peer_contact = peer } }
+    {
+        self.contact = own;
+        self.peer_contact = peer;
+    }
+
+    /// The frame of a RESET or an ACTIVATE.
+    fn notice(&self, alloc: Global, header: Header) -> Result<Bytes, AllocError>
+        requires kind { (header ≡ Header.Reset (shown_by self.now)) ⊎ (header ≡ Header.Activate (shown_by self.now)) }
+        requires fits { ResetFits (shown_by self.now) }
+        ensures { IfOk result (λ f. f ≡ (notice self.now header).frame) }
+    {
+        let own = self.own.word;
+        let packet = Packet {
+            acknowledgement: 0,
+            sequence: 0,
+            previous: own,
+            header,
+            rest: &[],
+        };
+        let peer_epoch = self.fsm.peer().unwrap_or(0);
+        Ok(Bytes::from_vec(encode_frame(alloc, self.fsm.own(), peer_epoch, &packet)?))
+    }
+
+    /// What RESET and ACTIVATE say.
+    fn shown(&self) -> Reset
+        ensures value { result ≡ shown_by self.now }
+        ensures fits { ResetFits result }
+    {
+        let peer = self.peer.word;
+        let contact = self.contact;
+        let peer_contact = self.peer_contact;
+        Reset {
+            destination_node: peer,
+            priority: if self.bearer == 0 { 11 } else { 10 },
+            contact,
+            peer_contact,
+        }
+    }
+
+    /// Sends a RESET or an ACTIVATE, where the bearer is mended.
+    fn send_notice(&self, alloc: Global, header: Header, out: &mut Outbox)
+        requires kind { (header ≡ Header.Reset (shown_by self.now)) ⊎ (header ≡ Header.Activate (shown_by self.now)) }
+        requires fits { ResetFits (shown_by self.now) }
+        ensures { Adds out.old out.new (on_bearer self.now (notice self.now header)) }
+    {
+        if !self.mended {
+            return;
+        }
+        match self.notice(alloc, header) {
+            Ok(frame) => out.push(self.bearer, To::Node(self.peer), frame),
+            Err(_) => out.mark_lost(),
+        }
+    }
+
+    /// Sends a RESET.
+    fn send_reset(&self, alloc: Global, out: &mut Outbox)
+        ensures { Adds out.old out.new (reset_frames self.now) }
+    {
+        self.send_notice(alloc, Header::Reset(self.shown()), out);
+    }
+
+    /// Sends an ACTIVATE.
+    fn send_activate(&self, alloc: Global, out: &mut Outbox)
+        ensures { Adds out.old out.new (activate_frames self.now) }
+    {
+        self.send_notice(alloc, Header::Activate(self.shown()), out);
+    }
+
+    /// A session of the present epochs.
+    fn new_session(&self, alloc: Global) -> Session
+        ensures { result ≡ session_of self.now }
+    {
+        Session::established(
+            alloc,
+            self.own,
+            self.peer,
+            self.bearer,
+            self.fsm.own(),
+            self.fsm.peer().unwrap_or(0),
+        )
+    }
+
+    /// Begins a session, whose first frame is a STATE.
+    fn begin(&mut self, alloc: Global, shown: BroadcastState, out: &mut Outbox)
+        ensures after { self.new ≡ followed self.old Change.Up }
+        ensures frames { Adds out.old out.new (follow_frames self.old Change.Up shown) }
+    {
+        let mut session = self.new_session(alloc);
+        session.tell(alloc, shown, false, out);
+        self.session = Some(session);
+    }
+
+    /// Sends a STATE of the session.
+    fn tell(&mut self, alloc: Global, shown: BroadcastState, probe: bool, out: &mut Outbox)
+        ensures after { self.new ≡ followed self.old (Change.Answer (Reply.State probe)) }
+        ensures frames { Adds out.old out.new (state_frames self.old.session shown probe) }
+    {
+        match &mut self.session {
+            Some(session) => session.tell(alloc, shown, probe, out),
+            None => {}
+        }
+    }
+
+    /// Does what a change of the link states calls for.
+    fn follow(&mut self, alloc: Global, change: Change, shown: BroadcastState, out: &mut Outbox)
+        ensures after { self.new ≡ followed self.old change }
+        ensures frames { Adds out.old out.new (follow_frames self.old change shown) }
+    {
+        match change {
+            Change::Up => self.begin(alloc, shown, out),
+            Change::Answer(Reply::Reset) => self.send_reset(alloc, out),
+            Change::Answer(Reply::Activate) => self.send_activate(alloc, out),
+            Change::Answer(Reply::State { probe }) => self.tell(alloc, shown, probe, out),
+            Change::Stay => {}
+            Change::Down(_) => {}
+            Change::Ignore(_) => {}
+        }
+    }
+
+    /// The bearer is mended: an end in RESET_UNKNOWN sends RESET.
+    pub fn mend(&mut self, alloc: Global, out: &mut Outbox)
+        ensures after { self.new ≡ mended_end self.old }
+        ensures frames { Adds out.old out.new (mend_frames self.old) }
+    {
+        self.mended = true;
+        if is_reset_unknown(self.fsm.state()) {
+            self.send_reset(alloc, out);
+        }
+    }
+
+    /// The bearer is cut: a link that is up goes down. `held` says that the pair's other link is up, so that the end is Held.
+    pub fn cut(&mut self, held: bool) -> Change
+        ensures change { result ≡ (on_cut self.old.fsm held).change }
+        ensures after { self.new ≡ cut_end self.old held }
+    {
+        self.mended = false;
+        self.fsm.on_cut(held)
+    }
+
+    /// A tick: an end in reset says so again, a link that is up sends a STATE or, silent for too long, goes down.
+    pub fn tick(
+        &mut self,
+        alloc: Global,
+        held: bool,
+        shown: BroadcastState,
+        out: &mut Outbox,
+    ) -> Change
+        ensures change { result ≡ (on_tick self.old.fsm held).change }
+        ensures after { self.new ≡ after self.old (on_tick self.old.fsm held) }
+        ensures frames { Adds out.old out.new (frames self.old (on_tick self.old.fsm held) shown) }
+    {
+        let change = self.fsm.on_tick(held);
+        self.follow(alloc, change, shown, out);
+        change
+    }
+
+    /// Puts packets on a link that is up, and sends those that the window of 50 has room for: as [`Session::send`].
+    ///
+    /// # Errors
+    ///
+    /// Congested exactly where at least `limit` packets wait; else NoMemory. Either changes nothing.
+    pub fn send(
+        &mut self,
+        alloc: Global,
+        pieces: Pieces,
+        limit: u32,
+        out: &mut Outbox,
+    ) -> Result<(), OfferFault>
+        requires up { is_up self.old.fsm.state ≡ true }
+        requires session { is_some self.old.session ≡ true }
+        requires pieces { All (λ q. 16 ≤ length q) pieces }
+        ensures ok { (s : SessionEnd) → self.old.session ≡ Some s →
+            OnOk result ((length s.sending.waiting < limit) × (self.new ≡ with_session self.old (flushed (put s pieces))) × Adds out.old out.new (flush_frames (put s pieces))) }
+        ensures congested { (s : SessionEnd) → self.old.session ≡ Some s → limit ≤ length s.sending.waiting →
+            result ≡ Err (OfferFault.Congested (length s.sending.unacked) (length s.sending.waiting)) }
+        ensures congested_only { (s : SessionEnd) (in_flight waiting : ℕ) → self.old.session ≡ Some s → result ≡ Err (OfferFault.Congested in_flight waiting) → limit ≤ length s.sending.waiting }
+        ensures err { OnErr result ((self.new ≡ self.old) × (out.new ≡ out.old)) }
+    {
+        match &mut self.session {
+            Some(session) => session.send(alloc, pieces, limit, out),
+            None => unreachable!(),
+        }
+    }
+
+    /// Takes a packet that arrived under an envelope of these two epochs: `es` is the sender's, `er` this end's as the sender
+    /// knows it. `held` says that the pair's other link is up, `by` is the arrival's number at this node, and `shown` fills the
+    /// broadcast fields of a STATE that is sent.
+    ///
+    /// What becomes of the link's state is told, and what the session took of a STATE or a packet with a number. After
+    /// Down(PeerReset) without `held` the contact ends, and then the same RESET is to be given again. At NoMemory nothing is
+    /// changed.
+    pub fn arrive(
+        &mut self,
+        alloc: Global,
+        es: u64,
+        er: u64,
+        packet: &Packet<'_>,
+        held: bool,
+        by: u64,
+        shown: BroadcastState,
+        out: &mut Outbox,
+    ) -> Result<LinkArrival, NoMemory>
+        requires { Fits (view packet.now) }
+        ensures change { IfOk result (λ a. a.change ≡ (outcome_of self.old.fsm packet.now.header es er held).change) }
+        ensures outcome { IfOk result (λ a. a.outcome ≡ link_outcome self.old (outcome_of self.old.fsm packet.now.header es er held) (view packet.now) by) }
+        ensures after { OnOk result (self.new ≡ arrival_end self.old (outcome_of self.old.fsm packet.now.header es er held) (view packet.now)) }
+        ensures frames { OnOk result (Adds out.old out.new (link_frames self.old (outcome_of self.old.fsm packet.now.header es er held) (view packet.now) shown)) }
+        ensures err { OnErr result ((self.new ≡ self.old) × (out.new ≡ out.old)) }
+    {
+        let mut fsm = self.fsm.copy()?;
+        let change = change_of(&mut fsm, &packet.header, es, er, held);
+        if !is_heard(&packet.header, change) {
+            self.fsm = fsm;
+            self.follow(alloc, change, shown, out);
+            return Ok(LinkArrival {
+                change,
+                outcome: change_outcome(alloc, change),
+            });
+        }
+        let outcome = self.hear(alloc, fsm, change, packet, by, shown, out)?;
+        Ok(LinkArrival { change, outcome })
+    }
+
+    /// Takes a RESET under this epoch of its sender: as [`Link::arrive`], but for want of memory, since it needs none but for its
+    /// frame.
+    pub fn reset(
+        &mut self,
+        alloc: Global,
+        es: u64,
+        held: bool,
+        shown: BroadcastState,
+        out: &mut Outbox,
+    ) -> LinkArrival
+        ensures change { result.change ≡ (on_reset self.old.fsm es held).change }
+        ensures outcome { result.outcome ≡ change_outcome (on_reset self.old.fsm es held).change }
+        ensures after { self.new ≡ after self.old (on_reset self.old.fsm es held) }
+        ensures frames { Adds out.old out.new (frames self.old (on_reset self.old.fsm es held) shown) }
+    {
+        let change = self.fsm.on_reset(es, held);
+        self.follow(alloc, change, shown, out);
+        LinkArrival {
+            change,
+            outcome: change_outcome(alloc, change),
+        }
+    }
+
+    /// Takes an ACTIVATE under an envelope of these two epochs: as [`Link::arrive`], but for want of memory, since it needs none
+    /// but for its frame.
+    pub fn activate(
+        &mut self,
+        alloc: Global,
+        es: u64,
+        er: u64,
+        shown: BroadcastState,
+        out: &mut Outbox,
+    ) -> LinkArrival
+        ensures change { result.change ≡ (on_activate self.old.fsm es er).change }
+        ensures outcome { result.outcome ≡ change_outcome (on_activate self.old.fsm es er).change }
+        ensures after { self.new ≡ after self.old (on_activate self.old.fsm es er) }
+        ensures frames { Adds out.old out.new (frames self.old (on_activate self.old.fsm es er) shown) }
+    {
+        let change = self.fsm.on_activate(es, er);
+        self.follow(alloc, change, shown, out);
+        LinkArrival {
+            change,
+            outcome: change_outcome(alloc, change),
+        }
+    }
+
+    /// Gives a packet that isn't ignored to the session, which begins with it where the link goes up.
+    fn hear(
+        &mut self,
+        alloc: Global,
+        fsm: LinkFsm,
+        change: Change,
+        packet: &Packet<'_>,
+        by: u64,
+        shown: BroadcastState,
+        out: &mut Outbox,
+    ) -> Result<LinkOutcome, NoMemory>
+        requires packet { Fits (view packet.now) }
+        requires taken { is_taken change ≡ true }
+        ensures outcome { IfOk result (λ o. o ≡ heard_outcome (followed (with_fsm self.old fsm) change).session by (content_of (view packet.now))) }
+        ensures after { OnOk result (self.new ≡ heard_end (followed (with_fsm self.old fsm) change) packet.now.acknowledgement (content_of (view packet.now))) }
+        ensures frames { OnOk result (Adds out.old out.new (follow_frames (with_fsm self.old fsm) change shown ++ heard_frames (followed (with_fsm self.old fsm) change) change packet.now.acknowledgement (content_of (view packet.now)))) }
+        ensures err { OnErr result ((self.new ≡ self.old) × (out.new ≡ out.old)) }
+    {
+        let before = mem::replace(&mut self.fsm, fsm);
+        let heard = match change {
+            Change::Up => self.hear_first(alloc, packet, by, shown, out),
+            Change::Stay => self.hear_more(alloc, packet, by, out),
+            Change::Down(_) => unreachable!(),
+            Change::Answer(_) => unreachable!(),
+            Change::Ignore(_) => unreachable!(),
+        };
+        if heard.is_err() {
+            self.fsm = before;
+        }
+        heard
+    }
+
+    /// Begins a session with a packet. Its first frame is a STATE of before.
+    fn hear_first(
+        &mut self,
+        alloc: Global,
+        packet: &Packet<'_>,
+        by: u64,
+        shown: BroadcastState,
+        out: &mut Outbox,
+    ) -> Result<LinkOutcome, NoMemory>
+        requires { Fits (view packet.now) }
+        ensures outcome { IfOk result (λ o. o ≡ outcome (session_of self.old) by (content_of (view packet.now))) }
+        ensures after { OnOk result (self.new ≡ with_session self.old (arrived (session_of self.old) packet.now.acknowledgement (content_of (view packet.now)))) }
+        ensures frames { OnOk result (Adds out.old out.new (state_frame (session_of self.old) shown false ∷ [])) }
+        ensures err { OnErr result ((self.new ≡ self.old) × (out.new ≡ out.old)) }
+    {
+        let mut session = self.new_session(alloc);
+        let state = session.state_frame(alloc, shown, false);
+        let mut nothing = Outbox::new(alloc);
+        let outcome = session.hear(alloc, packet, by, &mut nothing)?;
+        match state {
+            Ok(frame) => out.push(self.bearer, To::Node(self.peer), frame),
+            Err(_) => out.mark_lost(),
+        }
+        self.session = Some(session);
+        Ok(outcome)
+    }
+
+    /// Gives a packet to the session that there is.
+    fn hear_more(
+        &mut self,
+        alloc: Global,
+        packet: &Packet<'_>,
+        by: u64,
+        out: &mut Outbox,
+    ) -> Result<LinkOutcome, NoMemory>
+        requires { Fits (view packet.now) }
+        ensures outcome { IfOk result (λ o. o ≡ heard_outcome self.old.session by (content_of (view packet.now))) }
+        ensures after { OnOk result (self.new ≡ heard_end self.old packet.now.acknowledgement (content_of (view packet.now))) }
+        ensures frames { OnOk result (Adds out.old out.new (heard_by self.old.session packet.now.acknowledgement (content_of (view packet.now)))) }
+        ensures err { OnErr result ((self.new ≡ self.old) × (out.new ≡ out.old)) }
+    {
+        match &mut self.session {
+            Some(session) => session.hear(alloc, packet, by, out),
+            None => Ok(LinkOutcome::Took(TakenList::new(alloc))),
+        }
+    }
+
+    /// Sends the STATE that is due once 16 packets were taken since the last frame on this link. Nothing is sent where the link
+    /// isn't up.
+    pub fn answer(&mut self, alloc: Global, shown: BroadcastState, out: &mut Outbox)
+        ensures after { self.new ≡ answered_end self.old }
+        ensures frames { Adds out.old out.new (answered_frames self.old shown) }
+    {
+        if !self.is_up() {
+            return;
+        }
+        match &mut self.session {
+            Some(session) => session.answer(alloc, shown, out),
+            None => {}
+        }
+    }
+
+    /// How many packets each direction numbered in the present session, or the last one: the own ones exactly, and the peer's as
+    /// taken. None exactly where there was no session.
+    pub fn numbered(&self) -> Option<(u64, u64)>
+        ensures some { (s : SessionEnd) → self.now.session ≡ Some s → result ≡ Some (s.sending.numbered, s.taken) }
+        ensures none { self.now.session ≡ None → result ≡ None }
+    {
+        match &self.session {
+            Some(session) => Some(session.numbered()),
+            None => None,
+        }
+    }
+
+    /// The numbers of unacknowledged and of waiting packets of the present session, or the last one. None exactly where there was
+    /// no session.
+    pub fn load(&self) -> Option<(u32, u32)>
+        ensures some { (s : SessionEnd) → self.now.session ≡ Some s → result ≡ Some (length s.sending.unacked, length s.sending.waiting) }
+        ensures none { self.now.session ≡ None → result ≡ None }
+    {
+        match &self.session {
+            Some(session) => Some(session.load()),
+            None => None,
+        }
+    }
+
+    /// How many packets were numbered in the present session, or the last one, where this is the end's own epoch in it. None
+    /// exactly where it isn't.
+    pub fn numbered_in(&self, epoch: u64) -> Option<u64>
+        ensures { result ≡ numbered_in self.now.session epoch }
+    {
+        match &self.session {
+            Some(session) => session.numbered_in(epoch),
+            None => None,
+        }
+    }
+
+    /// The own epoch of the present session, or of the last one, and how many packets were numbered in it. None exactly where there
+    /// was no session.
+    pub fn last_count(&self) -> Option<(u64, u64)>
+        ensures some { (s : SessionEnd) → self.now.session ≡ Some s → result ≡ Some (s.epoch, s.sending.numbered) }
+        ensures none { self.now.session ≡ None → result ≡ None }
+    {
+        match &self.session {
+            Some(session) => Some((session.epoch(), session.numbered().0)),
+            None => None,
+        }
+    }
+
+    /// Its own epoch.
+    pub fn own_epoch(&self) -> u64
+        ensures { result ≡ self.now.fsm.own }
+    {
+        self.fsm.own()
+    }
+
+    /// The peer's epoch, where it is known.
+    pub fn peer_epoch(&self) -> Option<u64>
+        ensures { result ≡ self.now.fsm.peer }
+    {
+        self.fsm.peer()
+    }
+
+    /// Its state.
+    pub fn state(&self) -> LinkState
+        ensures { result ≡ self.now.fsm.state }
+    {
+        self.fsm.state()
+    }
+
+    /// Whether the link is up.
+    pub fn is_up(&self) -> bool
+        ensures { result ≡ is_up self.now.fsm.state }
+    {
+        match self.fsm.state() {
+            LinkState::WorkingWorking => true,
+            LinkState::WorkingUnknown => true,
+            LinkState::ResetUnknown => false,
+            LinkState::ResetReset => false,
+            LinkState::Held => false,
+        }
+    }
+
+    /// The peer showed a higher contact number while there was no contact: the end forgets the peer's epoch. An end that is up has
+    /// a contact, which ends.
+    pub fn forget_peer(&mut self, alloc: Global, out: &mut Outbox) -> Change
+        ensures change { result ≡ (forget_peer self.old.fsm).change }
+        ensures after { self.new ≡ with_fsm self.old (forget_peer self.old.fsm).after }
+        ensures frames { Adds out.old out.new (forget_frames self.old) }
+    {
+        let change = self.fsm.forget_peer();
+        if is_down(change) {
+            self.send_reset(alloc, out);
+        }
+        change
+    }
+
+    /// The contact ended: the end takes the next epoch, forgets the peer's and sends RESET.
+    pub fn contact_ended(&mut self, alloc: Global, out: &mut Outbox) -> Change
+        ensures change { result ≡ (contact_ended self.old.fsm).change }
+        ensures after { self.new ≡ ended_end self.old }
+        ensures frames { Adds out.old out.new (reset_frames (ended_end self.old)) }
+    {
+        let change = self.fsm.contact_ended();
+        self.send_reset(alloc, out);
+        change
+    }
+}
+
+/// Whether a change took the link down.
+pub fn is_down(change: Change) -> bool
+    ensures { result ≡ is_down change }
+{
+    match change {
+        Change::Down(_) => true,
+        Change::Up => false,
+        Change::Stay => false,
+        Change::Answer(_) => false,
+        Change::Ignore(_) => false,
+    }
+}
+
+/// Gives a packet to the link states.
+fn change_of(fsm: &mut LinkFsm, header: &Header, es: u64, er: u64, held: bool) -> Change
+    ensures change { result ≡ (outcome_of fsm.old header.now es er held).change }
+    ensures after { fsm.new ≡ (outcome_of fsm.old header.now es er held).after }
+{
+    match header {
+        Header::Reset(_) => fsm.on_reset(es, held),
+        Header::Activate(_) => fsm.on_activate(es, er),
+        Header::Discovery(_) => Change::Ignore(Why::Epoch),
+        Header::State(_) => fsm.on_traffic(es, er),
+        Header::Payload(_) => fsm.on_traffic(es, er),
+        Header::Bundler(_) => fsm.on_traffic(es, er),
+        Header::Changeover(_) => fsm.on_traffic(es, er),
+        Header::NameDistributor(_) => fsm.on_traffic(es, er),
+        Header::Fragmenter(_) => fsm.on_traffic(es, er),
+    }
+}
+
+/// Whether a packet is a STATE or has a number.
+fn is_traffic(header: &Header) -> bool
+    ensures { result ≡ is_traffic header.now }
+{
+    match header {
+        Header::Reset(_) => false,
+        Header::Activate(_) => false,
+        Header::Discovery(_) => false,
+        Header::State(_) => true,
+        Header::Payload(_) => true,
+        Header::Bundler(_) => true,
+        Header::Changeover(_) => true,
+        Header::NameDistributor(_) => true,
+        Header::Fragmenter(_) => true,
+    }
+}
+
+/// Whether the link states took it as a packet of the session.
+fn is_taken(change: Change) -> bool
+    ensures { result ≡ is_taken change }
+{
+    match change {
+        Change::Up => true,
+        Change::Stay => true,
+        Change::Down(_) => false,
+        Change::Answer(_) => false,
+        Change::Ignore(_) => false,
+    }
+}
+
+/// Whether a packet is heard by the session.
+fn is_heard(header: &Header, change: Change) -> bool
+    ensures value { result ≡ is_heard header.now change }
+    ensures taken { result ≡ true → is_taken change ≡ true }
+{
+    is_traffic(header) && is_taken(change)
+}
+
+/// What an arrival brought that no session heard.
+fn change_outcome(alloc: Global, change: Change) -> LinkOutcome
+    ensures { result ≡ change_outcome change }
+{
+    match change {
+        Change::Ignore(why) => LinkOutcome::Ignored(why),
+        Change::Stay => LinkOutcome::Took(TakenList::new(alloc)),
+        Change::Up => LinkOutcome::Took(TakenList::new(alloc)),
+        Change::Down(_) => LinkOutcome::Took(TakenList::new(alloc)),
+        Change::Answer(_) => LinkOutcome::Took(TakenList::new(alloc)),
+    }
+}
+
+/// Whether a link end in this state says RESET.
+fn is_reset_unknown(state: LinkState) -> bool
+    ensures { result ≡ is_reset_unknown state }
+{
+    match state {
+        LinkState::ResetUnknown => true,
+        LinkState::ResetReset => false,
+        LinkState::WorkingWorking => false,
+        LinkState::WorkingUnknown => false,
+        LinkState::Held => false,
+    }
+}
