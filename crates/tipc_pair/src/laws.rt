@@ -1,0 +1,46 @@
+//! Laws of two nodes, whatever either does and whatever arrives of all that they ever sent to each other. They do nothing when
+//! they run.
+
+ghost use Rattle.std.specs.Prelude.{◌≡◌, ◌⊎◌, ◌<◌, ◌+◌, ◌^◌, ◌++◌, [], ℕ, Bool, List, None, Some, if◌then◌else◌, slice_get};
+ghost use Rattle.tipc_types.specs.declared.link_words.BroadcastState.{BroadcastState};
+ghost use Rattle.tipc_header.specs.Spelling.{Fields};
+ghost use Rattle.tipc_link.specs.Laws.{IsPrefixOf};
+ghost use Rattle.tipc_link.specs.Links.{LinkEnd, answered_end, answered_frames, mend_frames, mended_end, with_session};
+ghost use Rattle.tipc_link.specs.Sessions.{SessionEnd, flush_frames, flushed, put};
+ghost use Rattle.tipc_pair.specs.Paired.{ArePaired, Comes, IsBrought, IsNew, IsPacket, IsShowable};
+ghost use Rattle.tipc_pair.specs.Pairs.{arrival, cut_pair, lonely, packets_of, tick_frames, tick_pair};
+ghost use Rattle.tipc_pair.specs.Views.{Goes, Restarts, View, session_of};
+
+/// What holds of two nodes at the beginning goes on to hold, whatever call is made at either: a node comes to know the other,
+/// its bearer is mended or cut, a tick passes, packets are put, a frame of the other arrives, and the STATE that is due then is
+/// sent, or the node is restarted. Of the frames that a call sends, any number of the last may be lost for want of memory. Any
+/// frame that the other ever sent may arrive, again and in any order. Only a STATE or a numbered packet mustn't be older than
+/// 30,000 packets of either node.
+pub fn two_nodes_stay_paired()
+    ensures start { (x y : View) → IsNew x → IsNew y → ArePaired x y }
+    ensures turned { (x y : View) → ArePaired x y → ArePaired y x }
+    ensures knows { (x x' y : View) (mended : Bool) → ArePaired x y → x.link ≡ None →
+        Goes x x' y (if mended then mended_end (lonely x.own x.peer x.boot) else lonely x.own x.peer x.boot) (if mended then mend_frames (lonely x.own x.peer x.boot) else []) [] [] → ArePaired x' y }
+    ensures mends { (x x' y : View) (e : LinkEnd) → ArePaired x y → x.link ≡ Some e → Goes x x' y (mended_end e) (mend_frames e) [] [] → ArePaired x' y }
+    ensures cuts { (x x' y : View) (e : LinkEnd) → ArePaired x y → x.link ≡ Some e → Goes x x' y (cut_pair e) [] [] [] → ArePaired x' y }
+    ensures ticks { (x x' y : View) (e : LinkEnd) (shown : BroadcastState) → ArePaired x y → x.link ≡ Some e → IsShowable shown → Goes x x' y (tick_pair e) (tick_frames e shown) [] [] → ArePaired x' y }
+    ensures puts { (x x' y : View) (e : LinkEnd) (s : SessionEnd) (pieces : List (List ℕ)) → ArePaired x y → x.link ≡ Some e → session_of x ≡ Some s →
+        ((k : ℕ) (bytes : List ℕ) → slice_get pieces k ≡ Some bytes → IsPacket bytes) →
+        Goes x x' y (with_session e (flushed (put s pieces))) (flush_frames (put s pieces)) pieces [] → ArePaired x' y }
+    ensures arrives { (x x' y : View) (e : LinkEnd) (es er : ℕ) (p : Fields) (by : ℕ) (shown shown' : BroadcastState) → ArePaired x y → x.link ≡ Some e → Comes x y es er p → IsShowable shown → IsShowable shown' →
+        Goes x x' y (answered_end (arrival e es er p by shown).after) ((arrival e es er p by shown).frames ++ answered_frames (arrival e es er p by shown).after shown') [] (packets_of (arrival e es er p by shown).outcome) →
+        ArePaired x' y }
+    ensures restarts { (x x' y : View) → ArePaired x y → Restarts x x' → x.boot + 1 < 2 ^ 32 → ArePaired x' y }
+{}
+
+/// What a node took from the link in a contact is a beginning of what the other put on it in the same contact, which each names
+/// by its own number first: no packet is lost between two that were taken, none is taken twice, and none out of order.
+pub fn what_is_taken_was_put()
+    ensures { (x y : View) → ArePaired x y → (own theirs : ℕ) → IsPrefixOf (x.took own theirs) (y.put theirs own) }
+{}
+
+/// An arrival brings nothing, or the one packet that arrived, in the contact in which the node was before. The link is up then.
+pub fn an_arrival_brings_its_packet()
+    ensures { (x y : View) (e : LinkEnd) (es er : ℕ) (p : Fields) (by : ℕ) (shown : BroadcastState) → ArePaired x y → x.link ≡ Some e →
+        (packets_of (arrival e es er p by shown).outcome ≡ []) ⊎ IsBrought e p (arrival e es er p by shown) }
+{}
