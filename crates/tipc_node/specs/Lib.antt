@@ -1,0 +1,4 @@
+pub mod Inboxes
+pub mod Neighbours
+pub mod Nodes
+pub mod Calls

@@ -1,0 +1,309 @@
+-- A node, and what each call makes of it.
+use Rattle.std.specs.Prelude.{ℕ, ◌+◌, ◌-◌, ◌*◌, ◌%◌, ◌==◌, Bool, true, false, List, [], ◌∷◌, ◌++◌, Option, Some, None, drop, length, map, nat_le, nat_lt, not, is_some, slice_index_or, slice_set, ◌&&◌, if◌then◌else◌}
+use Rattle.std.specs.List.{flat_map}
+use Rattle.tipc_types.specs.Address.{node_word}
+use Rattle.tipc_types.specs.declared.identity.PortId.{PortId}
+use Rattle.tipc_types.specs.declared.link_words.LinkState.TheVariants.{ResetUnknown}
+use Rattle.tipc_types.specs.declared.link_words.Why.{Why}
+use Rattle.tipc_types.specs.declared.link_words.Why.TheVariants as why
+use Rattle.tipc_types.specs.declared.message_forms.Flow.TheVariants.{Zero}
+use Rattle.tipc_types.specs.declared.message_forms.Form.TheVariants as form
+use Rattle.tipc_types.specs.declared.message_forms.Importance.{Importance}
+use Rattle.tipc_types.specs.declared.message_forms.Importance.TheVariants.{Low, Medium, High, Critical}
+use Rattle.tipc_types.specs.declared.message_forms.Message.{Message}
+use Rattle.tipc_types.specs.declared.message_forms.Message.TheVariants.{Payload, Items}
+use Rattle.tipc_types.specs.declared.node_calls.Answer.{Answer}
+use Rattle.tipc_types.specs.declared.node_calls.Answer.TheVariants as answer
+use Rattle.tipc_types.specs.declared.node_calls.Arrival.{Arrival}
+use Rattle.tipc_types.specs.declared.node_calls.Arrival.TheVariants as arrival
+use Rattle.tipc_types.specs.declared.node_calls.By.{By}
+use Rattle.tipc_types.specs.declared.node_calls.EventNote.{EventNote}
+use Rattle.tipc_types.specs.declared.node_calls.EventNote.TheVariants as event
+use Rattle.tipc_outside.specs.declared.outgoing.Outgoing.{Outgoing}
+use Rattle.tipc_journal.specs.declared.entries.Entry.{Entry}
+use Rattle.tipc_journal.specs.declared.entries.Entry.TheVariants as entry
+use Rattle.tipc_journal.specs.Room.{message_bytes}
+use Rattle.tipc_journal.specs.Steps.{NodeStep, step_entries}
+use Rattle.tipc_header.specs.declared.fault.HeaderFault.{HeaderFault}
+use Rattle.tipc_header.specs.Faults.{fault_of, number_of}
+use Rattle.tipc_header.specs.Reading.{word_at}
+use Rattle.tipc_header.specs.Spelling.{Fields}
+use Rattle.tipc_message.specs.Wire.{message_of}
+use Rattle.tipc_link_fsm.specs.Table.{is_up}
+use Rattle.tipc_link.specs.declared.outcomes.LinkOutcome.{LinkOutcome}
+use Rattle.tipc_link.specs.declared.outcomes.LinkOutcome.TheVariants.{Took, Ignored}
+use Rattle.tipc_link.specs.Links.{LinkEnd, mend_frames, mended_end, with_session}
+use Rattle.tipc_link.specs.Sessions.{SessionEnd, flushed, put}
+use Rattle.tipc_pair.specs.declared.changes.PairChange.{PairChange}
+use Rattle.tipc_pair.specs.declared.changes.PairChange.TheVariants.{Stay, Began, Ended}
+use Rattle.tipc_pair.specs.Pairs.{Met, lonely}
+use Rattle.tipc_node.specs.declared.neighbours.Neighbour.{Neighbour}
+use Rattle.tipc_node.specs.declared.neighbours.Deed.{Deed}
+use Rattle.tipc_node.specs.declared.neighbours.Deed.TheVariants as deed
+use Rattle.tipc_node.specs.Inboxes.{inboxes_with}
+use Rattle.tipc_node.specs.Neighbours.{done, heard_neighbour, neighbour}
+
+-- a node: its address word, its boot number, whether bearer 0 is mended, its neighbours by number, the inboxes of its ports from
+-- port 1 on, and its journal
+pub record NodeState : Type 0 where
+  pub own : ℕ
+  pub boot : ℕ
+  pub mended : Bool
+  pub neighbours : List (Option Neighbour)
+  pub inboxes : List (List Message)
+  pub journal : List Entry
+
+-- what node n keeps of a peer
+abbrev pub neighbour_of : NodeState → ℕ → Option Neighbour
+neighbour_of n peer = slice_index_or n.neighbours peer None
+
+abbrev pub with_neighbours : NodeState → List (Option Neighbour) → NodeState
+with_neighbours n xs = record { own = n.own; boot = n.boot; mended = n.mended; neighbours = xs; inboxes = n.inboxes; journal = n.journal }
+
+abbrev pub with_inboxes : NodeState → List (List Message) → NodeState
+with_inboxes n inboxes = record { own = n.own; boot = n.boot; mended = n.mended; neighbours = n.neighbours; inboxes = inboxes; journal = n.journal }
+
+abbrev pub with_mended : NodeState → Bool → NodeState
+with_mended n mended = record { own = n.own; boot = n.boot; mended = mended; neighbours = n.neighbours; inboxes = n.inboxes; journal = n.journal }
+
+-- ---- the journal
+
+-- there are at least 65,536 free entries and 4,194,304 free message bytes
+unfoldable pub has_room : List Entry → Bool
+has_room entries = nat_le (length entries + 65536) 1048576 && nat_le (message_bytes entries + 4194304) 67108864
+
+-- a call is recorded: who made it, the call itself, what happened in it, and its answer
+abbrev pub step_of : By → EventNote → List Entry → Answer → NodeStep
+step_of by event inside answered = record { by = by; event = event; inside = inside; caller = by.caller; call = by.call; answer = answered }
+
+abbrev pub recorded : NodeState → By → EventNote → List Entry → Answer → NodeState
+recorded n by event inside answered =
+    record { own = n.own; boot = n.boot; mended = n.mended; neighbours = n.neighbours; inboxes = n.inboxes; journal = n.journal ++ step_entries (step_of by event inside answered) }
+
+-- the answers to a receive
+abbrev pub IsReceived : Answer → Type 0
+IsReceived (answer.Received message) = Unit {0}
+IsReceived answer.Empty = Unit {0}
+IsReceived answer.NoSocket = Unit {0}
+IsReceived other = ⊥
+
+-- what is recorded of a change of the link to a peer
+abbrev pub change_entries : ℕ → PairChange → List Entry
+change_entries peer Stay = []
+change_entries peer (Began own_epoch peer_epoch contact) =
+    entry.LinkUp (record { word = node_word peer }) 0 own_epoch peer_epoch ∷ entry.ContactUp (record { word = node_word peer }) contact ∷ []
+change_entries peer (Ended cause shown_epoch contact shown_contact) =
+    entry.LinkDown (record { word = node_word peer }) 0 cause shown_epoch ∷ entry.ContactDown (record { word = node_word peer }) contact (Some ResetUnknown, None) shown_contact ∷ []
+
+-- ---- what happens to all neighbours alike, in order of their numbers
+
+abbrev pub after_one : Deed → Option Neighbour → Option Neighbour
+after_one d None = None
+after_one d (Some x) = Some (done d x).after
+
+abbrev pub frames_one : Deed → Option Neighbour → List Outgoing
+frames_one d None = []
+frames_one d (Some x) = (done d x).frames
+
+abbrev pub entries_one : Deed → ℕ → Option Neighbour → List Entry
+entries_one d number None = []
+entries_one d number (Some x) = change_entries number (done d x).change
+
+unfoldable pub after_all : Deed → List (Option Neighbour) → List (Option Neighbour)
+after_all d xs = map (after_one d) xs
+
+unfoldable pub frames_all : Deed → List (Option Neighbour) → List Outgoing
+frames_all d xs = flat_map (frames_one d) xs
+
+-- the first of them has that number
+unfoldable pub entries_all : Deed → ℕ → List (Option Neighbour) → List Entry
+entries_all d number [] = []
+entries_all d number (x ∷ xs) = entries_one d number x ++ entries_all d (number + 1) xs
+
+-- ---- sockets
+
+-- the ports of a boot follow this number: they are other ones than those of the 4,095 boots before it
+abbrev pub port_base : ℕ → ℕ
+port_base boot = ((boot - 1) % 4096) * 1048576
+
+abbrev pub has_port : NodeState → ℕ → Bool
+has_port n port = nat_lt (port_base n.boot) port && nat_le port (port_base n.boot + length n.inboxes)
+
+-- the place of a port's inbox
+abbrev pub inbox_place : ℕ → ℕ → ℕ
+inbox_place boot port = port - port_base boot - 1
+
+-- a node is asked for a socket: one more, with an empty inbox, where fewer than 256 are there
+unfoldable pub socket_inboxes : List (List Message) → List (List Message)
+socket_inboxes inboxes = if nat_lt (length inboxes) 256 then inboxes ++ [] ∷ [] else inboxes
+
+unfoldable pub socket_answer : NodeState → Answer
+socket_answer n = if nat_lt (length n.inboxes) 256 then answer.Socket (port_base n.boot + length n.inboxes + 1) else answer.Full 256
+
+abbrev pub socket_node : NodeState → By → NodeState
+socket_node n by = recorded (with_inboxes n (socket_inboxes n.inboxes)) by event.Socket [] (socket_answer n)
+
+-- a node is asked for the first message of a port's inbox
+abbrev pub inbox_of : NodeState → ℕ → List Message
+inbox_of n port = slice_index_or n.inboxes (inbox_place n.boot port) []
+
+abbrev pub without_first : List (List Message) → ℕ → List Message → List (List Message)
+without_first inboxes place [] = inboxes
+without_first inboxes place (first ∷ rest) = slice_set inboxes place rest
+
+abbrev pub first_answer : List Message → Answer
+first_answer [] = answer.Empty
+first_answer (first ∷ rest) = answer.Received first
+
+unfoldable pub receive_inboxes : NodeState → ℕ → List (List Message)
+receive_inboxes n port = if has_port n port then without_first n.inboxes (inbox_place n.boot port) (inbox_of n port) else n.inboxes
+
+unfoldable pub receive_answer : NodeState → ℕ → Answer
+receive_answer n port = if has_port n port then first_answer (inbox_of n port) else answer.NoSocket
+
+-- of a message that was given the journal keeps only that one was
+abbrev pub kept_answer : Answer → Answer
+kept_answer (answer.Received message) = answer.Got
+kept_answer other = other
+
+abbrev pub receive_node : NodeState → By → ℕ → NodeState
+receive_node n by port = recorded (with_inboxes n (receive_inboxes n port)) by (event.Receive port) [] (kept_answer (receive_answer n port))
+
+-- ---- sending
+
+-- how many packets may wait before a message of this importance is congested
+abbrev pub limit_of : Importance → ℕ
+limit_of Low = 50
+limit_of Medium = 100
+limit_of High = 150
+limit_of Critical = 200
+
+-- a user's message to a port of another node
+abbrev pub direct : ℕ → ℕ → PortId → Importance → List ℕ → Message
+direct own port to importance body = Payload importance form.Direct (record { node = record { word = own }; port = port }) to 0 0 0 0 false body
+
+-- the session to a peer, where the node is in contact with it
+abbrev pub session_with : Option Neighbour → Option SessionEnd
+session_with None = None
+session_with (Some x) = if is_up x.pair.fsm.state then x.pair.session else None
+
+-- there is no contact with the peer, or too much waits on the link to it
+abbrev pub refusal_at : Option SessionEnd → ℕ → Option Answer
+refusal_at None limit = Some answer.NoNode
+refusal_at (Some s) limit = if nat_le limit (length s.sending.waiting) then Some (answer.Congested (length s.sending.unacked) (length s.sending.waiting)) else None
+
+-- why a send is refused: the first reason that holds
+unfoldable pub refusal : NodeState → ℕ → ℕ → ℕ → Option Answer
+refusal n port peer limit = if has_port n port then refusal_at (session_with (neighbour_of n peer)) limit else Some answer.NoSocket
+
+abbrev pub accepted_entry : ℕ → LinkEnd → Message → Entry
+accepted_entry peer e m = entry.Accepted (record { word = node_word peer }) (e.contact, e.peer_contact) Zero m
+
+-- a node after it put a packet of a message on the link to a peer
+abbrev pub sent_node : NodeState → By → EventNote → ℕ → Neighbour → SessionEnd → List ℕ → Message → NodeState
+sent_node n by event peer x s packet m =
+    recorded (with_neighbours n (slice_set n.neighbours peer (Some (neighbour (with_session x.pair (flushed (put s (packet ∷ [])))) x.in_step)))) by event
+    (accepted_entry peer x.pair m ∷ []) answer.Sent
+
+-- ---- all neighbours at once
+
+abbrev pub deed_note : Deed → EventNote
+deed_note deed.Mend = event.Mend 0
+deed_note deed.Cut = event.Cut 0
+deed_note deed.Tick = event.Tick
+
+abbrev pub mended_by : Deed → Bool → Bool
+mended_by deed.Mend mended = true
+mended_by deed.Cut mended = false
+mended_by deed.Tick mended = mended
+
+abbrev pub deed_node : NodeState → By → Deed → NodeState
+deed_node n by d = recorded (with_mended (with_neighbours n (after_all d n.neighbours)) (mended_by d n.mended)) by (deed_note d) (entries_all d 0 n.neighbours) answer.Done
+
+-- ---- a link end to a peer is made
+
+abbrev pub new_pair : NodeState → ℕ → LinkEnd
+new_pair n peer = lonely n.own (node_word peer) n.boot
+
+abbrev pub known_node : NodeState → ℕ → NodeState
+known_node n peer = with_neighbours n (slice_set n.neighbours peer (Some (neighbour (if n.mended then mended_end (new_pair n peer) else new_pair n peer) false)))
+
+abbrev pub known_frames : NodeState → ℕ → List Outgoing
+known_frames n peer = if n.mended then mend_frames (new_pair n peer) else []
+
+-- ---- arrivals
+
+-- the port that a message is for
+abbrev pub port_of : Message → ℕ
+port_of (Payload importance form from to kind lower upper code droppable body) = to.port
+port_of (Items withdrawal items) = 0
+
+-- what the packet that was taken in a contact adds to the journal: its message, or that it carries none
+abbrev pub delivered_by : ℕ → ℕ × ℕ → Option Message → List ℕ → Entry
+delivered_by peer contact (Some m) by = entry.Delivered (record { word = node_word peer }) contact Zero m by
+delivered_by peer contact None by = entry.Dropped 0
+
+abbrev pub taken_inboxes : ℕ → List (List Message) → Option Message → List (List Message)
+taken_inboxes base inboxes (Some m) = inboxes_with inboxes (port_of m - base) m
+taken_inboxes base inboxes None = inboxes
+
+abbrev pub taken_count : Option Message → ℕ
+taken_count (Some m) = 1
+taken_count None = 0
+
+-- what an arrival adds to the journal, makes of the inboxes, and answers: at most one packet is taken, whose message is m
+abbrev pub taken_by : LinkOutcome → ℕ → ℕ × ℕ → Option Message → List ℕ → List Entry
+taken_by (Took []) peer contact m by = []
+taken_by (Took (packet ∷ packets)) peer contact m by = delivered_by peer contact m by ∷ []
+taken_by (Ignored why) peer contact m by = []
+
+abbrev pub taken_entries : LinkOutcome → ℕ → LinkEnd → Option Message → ℕ → List Entry
+taken_entries outcome peer e m by = taken_by outcome peer (e.contact, e.peer_contact) m (by ∷ [])
+
+abbrev pub heard_inboxes : LinkOutcome → ℕ → List (List Message) → Option Message → List (List Message)
+heard_inboxes (Took []) base inboxes m = inboxes
+heard_inboxes (Took (packet ∷ packets)) base inboxes m = taken_inboxes base inboxes m
+heard_inboxes (Ignored why) base inboxes m = inboxes
+
+abbrev pub heard_answer : LinkOutcome → Option Message → Arrival
+heard_answer (Took []) m = arrival.Took 0
+heard_answer (Took (packet ∷ packets)) m = arrival.Took (taken_count m)
+heard_answer (Ignored why) m = arrival.Ignored why
+
+-- a node after the frame of that number brought a packet of a peer, which is its neighbour x
+abbrev pub heard_node : NodeState → By → ℕ → ℕ → Neighbour → Fields → Met → NodeState
+heard_node n by number peer x p m =
+    recorded (with_inboxes (with_neighbours n (slice_set n.neighbours peer (Some (heard_neighbour x p m)))) (heard_inboxes m.outcome (port_base n.boot) n.inboxes (message_of p)))
+    by (event.Arrive 0 number) (change_entries peer m.change ++ taken_entries m.outcome peer m.after (message_of p) number) (answer.Arrived (heard_answer m.outcome (message_of p)))
+
+-- ---- an arrival that reaches no link
+
+abbrev pub is_frame_size : ℕ → Bool
+is_frame_size bytes = nat_le 16 bytes && nat_le bytes 1516
+
+-- whether an address word is of another of the 32 nodes
+unfoldable pub is_other : ℕ → ℕ → Bool
+is_other own word = nat_lt (node_word 0) word && (nat_le word (node_word 32) && not (word == own))
+
+-- the sender that a frame names has to be another of the 32 nodes, and a neighbour
+abbrev pub stop_by_sender : ℕ → List (Option Neighbour) → ℕ → Option Why
+stop_by_sender own neighbours word =
+    if is_other own word then (if is_some (slice_index_or neighbours (word - node_word 0) None) then None else Some why.Unknown) else Some why.Own
+
+abbrev pub stop_by_fault : ℕ → List (Option Neighbour) → List ℕ → Option HeaderFault → Option Why
+stop_by_fault own neighbours bytes (Some fault) = Some (why.Header (number_of fault))
+stop_by_fault own neighbours bytes None = stop_by_sender own neighbours (word_at 3 (drop 16 bytes))
+
+-- why a frame that arrives on a bearer reaches no link, the first reason that holds: the bearer is cut, as bearer 1 always is; it
+-- has no frame's size; its packet has a fault; it names no other node as its sender; there is no link end to that
+unfoldable pub stop_among : ℕ → Bool → List (Option Neighbour) → ℕ → List ℕ → Option Why
+stop_among own mended neighbours bearer bytes =
+    if mended && (bearer == 0)
+    then (if is_frame_size (length bytes) then stop_by_fault own neighbours bytes (fault_of (drop 16 bytes)) else Some why.Envelope)
+    else Some why.Cut
+
+abbrev pub stop_of : NodeState → ℕ → List ℕ → Option Why
+stop_of n bearer bytes = stop_among n.own n.mended n.neighbours bearer bytes
+
+abbrev pub stopped_node : NodeState → By → ℕ → ℕ → Why → NodeState
+stopped_node n by bearer number reason = recorded n by (event.Arrive bearer number) [] (answer.Arrived (arrival.Ignored reason))

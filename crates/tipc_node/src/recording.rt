@@ -1,0 +1,147 @@
+ghost use Rattle.std.specs.Prelude.{◌≡◌, ◌+◌, ◌≤◌, ◌++◌, true, false, length, OnOk, Err, sum_by, None, Some, vec_len, vec_capacity};
+ghost use Rattle.tipc_types.specs.Address.{node_word};
+ghost use Rattle.tipc_journal.specs.Room.{entry_bytes, message_bytes};
+ghost use Rattle.tipc_journal.specs.Steps.{step_entries};
+ghost use Rattle.tipc_node.specs.Nodes.{change_entries, has_room, step_of};
+
+use std::alloc::{AllocError, AllocFailed, Global};
+use std::collections::VecDeque;
+use tipc_journal::{Entry, Journal, MOST_ENTRIES, MOST_MESSAGE_BYTES};
+use tipc_pair::PairChange;
+use tipc_types::{Addr, Answer, By, EventNote, LinkState, NoMemory};
+
+/// A call is refused where the journal has fewer free entries than this. (This project's profile.)
+const FREE_ENTRIES: u64 = 65_536;
+
+/// A call is refused where the journal has fewer free message bytes than this. (This project's profile.)
+const FREE_MESSAGE_BYTES: u64 = 4_194_304;
+
+/// Why a call of a node wasn't made. Nothing is changed then.
+#[derive(Clone, Copy, Debug, PartialEq, Eq)]
+pub enum NodeFault {
+    /// The journal has no room for a call: fewer than 65,536 free entries, or fewer than 4,194,304 free message bytes.
+    JournalFull,
+    /// Memory ran out.
+    NoMemory,
+}
+
+impl From<NoMemory> for NodeFault {
+    ghost use Rattle.tipc_node.specs.declared.recording.NodeFault.{NodeFault};
+
+    ghost from_gives = { λ _ e. e ≡ NodeFault.NoMemory };
+
+    fn from(_error: NoMemory) -> NodeFault {
+        NodeFault::NoMemory
+    }
+}
+
+impl From<AllocError> for NodeFault {
+    ghost use Rattle.tipc_node.specs.declared.recording.NodeFault.{NodeFault};
+
+    ghost from_gives = { λ _ e. e ≡ NodeFault.NoMemory };
+
+    fn from(_error: AllocError) -> NodeFault {
+        NodeFault::NoMemory
+    }
+}
+
+impl<T: Drop> From<AllocFailed<T>> for NodeFault {
+    ghost use Rattle.tipc_node.specs.declared.recording.NodeFault.{NodeFault};
+
+    ghost from_gives = { λ _ e. e ≡ NodeFault.NoMemory };
+
+    fn from(_error: AllocFailed<T>) -> NodeFault {
+        NodeFault::NoMemory
+    }
+}
+
+/// Whether a journal has room for a call.
+#[tactic(auto, unfolding(crate::specs::Nodes::has_room))]
+pub fn has_room(journal: &Journal) -> bool
+    ensures { result ≡ has_room journal.now.entries }
+{
+    journal.len() <= MOST_ENTRIES - FREE_ENTRIES
+        && journal.message_bytes() <= MOST_MESSAGE_BYTES - FREE_MESSAGE_BYTES
+}
+
+/// Makes a journal ready for a step with at most so many entries inside.
+pub fn begin(journal: &mut Journal, inside: u64) -> Result<(), NodeFault>
+    requires { inside ≤ 64 }
+    ensures ok { OnOk result ((inside + 2 ≤ journal.new.spare) × (has_room journal.old.entries ≡ true)) }
+    ensures full { has_room journal.old.entries ≡ false → result ≡ Err NodeFault.JournalFull }
+    ensures only { result ≡ Err NodeFault.JournalFull → has_room journal.old.entries ≡ false }
+    ensures journal { journal.new.entries ≡ journal.old.entries }
+{
+    if !has_room(journal) {
+        return Err(NodeFault::JournalFull);
+    }
+    journal.reserve(inside + 2)?;
+    Ok(())
+}
+
+/// Records a step: who made the call, the call, what happened in it, and its answer.
+pub fn record(journal: &mut Journal, by: By, event: EventNote, inside: Vec<Entry>, answer: Answer)
+    requires room { has_room journal.old.entries ≡ true }
+    requires few { length inside.items ≤ 64 }
+    requires spare { length inside.items + 2 ≤ journal.old.spare }
+    requires bytes { sum_by entry_bytes inside.items ≤ 4194304 }
+    ensures { journal.new.entries ≡ journal.old.entries ++ step_entries (step_of by event inside.items answer) }
+{
+    journal.commit(Entry::Step { by, event });
+    let mut waiting = VecDeque::from_vec(inside);
+    while let Some(entry) = waiting.pop_front() {
+        journal.commit(entry);
+    }
+    journal.commit(Entry::Answered {
+        caller: by.caller,
+        call: by.call,
+        answer,
+    });
+}
+
+/// Tells what became of the link to a peer and of the contact with it, in a list that has room.
+pub fn note_change(inside: &mut Vec<Entry>, peer: u8, change: PairChange)
+    requires peer { (1 ≤ peer) × (peer ≤ 32) }
+    requires room { vec_len inside.old + 2 ≤ vec_capacity inside.old }
+    ensures entries { inside.new.items ≡ inside.old.items ++ change_entries peer change }
+    ensures room { vec_capacity inside.new ≡ vec_capacity inside.old }
+{
+    match change {
+        PairChange::Stay => {}
+        PairChange::Began {
+            own_epoch,
+            peer_epoch,
+            contact,
+        } => {
+            inside.push_reserved(Entry::LinkUp {
+                peer: Addr::node(peer),
+                bearer: 0,
+                own_epoch,
+                peer_epoch,
+            });
+            inside.push_reserved(Entry::ContactUp {
+                peer: Addr::node(peer),
+                contact,
+            });
+        }
+        PairChange::Ended {
+            cause,
+            shown_epoch,
+            contact,
+            shown_contact,
+        } => {
+            inside.push_reserved(Entry::LinkDown {
+                peer: Addr::node(peer),
+                bearer: 0,
+                cause,
+                shown: shown_epoch,
+            });
+            inside.push_reserved(Entry::ContactDown {
+                peer: Addr::node(peer),
+                contact,
+                states: (Some(LinkState::ResetUnknown), None),
+                shown: shown_contact,
+            });
+        }
+    }
+}

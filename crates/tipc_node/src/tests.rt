@@ -1,0 +1,124 @@
+ghost use Rattle.std.specs.Prelude.{◌≤◌};
+
+use super::{Deed, Node};
+use std::alloc::Global;
+use std::test::Fail;
+use tipc_outside::Outbox;
+use tipc_types::{Addr, Answer, Arrival, By, Bytes, Importance, PortId};
+
+/// A call of a scripted world.
+const SCRIPTED: By = By {
+    stamp: 0,
+    caller: 0,
+    call: 0,
+};
+
+/// All frames of a box arrive at a node on bearer 0, in order, and the box is emptied.
+fn give(alloc: Global, from: Outbox, to: &mut Node, out: &mut Outbox) -> Result<Arrival, Fail> {
+    let mut last = Arrival::Took(0);
+    for sent in from.into_frames() {
+        last = match to.due(sent.bearer, sent.frame.as_slice()) {
+            Ok(due) => to.hear(alloc, SCRIPTED, 0, due, out)?,
+            Err(why) => to.ignore(alloc, SCRIPTED, sent.bearer, 0, why)?,
+        };
+    }
+    Ok(last)
+}
+
+#[test]
+fn a_node_alone_makes_a_socket_and_sends_nothing(rt: HostRuntime) -> Result<(), Fail> {
+    let alloc = rt.alloc();
+    let mut out = Outbox::new(alloc);
+    let mut node = Node::new(alloc, Addr::node(1), 1)?;
+    let to = PortId {
+        node: Addr::node(2),
+        port: 1,
+    };
+    let body = Bytes::from_slice(alloc, &[1, 2, 3])?;
+    let refused = node.send_port(
+        alloc,
+        SCRIPTED,
+        1,
+        to,
+        2,
+        Importance::Low,
+        body.clone()?,
+        &mut out,
+    )?;
+    assert_eq!(rt; refused, Answer::NoSocket);
+    assert_eq!(rt; node.socket(alloc, SCRIPTED)?, Answer::Socket(1));
+    let refused = node.send_port(alloc, SCRIPTED, 1, to, 2, Importance::Low, body, &mut out)?;
+    assert_eq!(rt; refused, Answer::NoNode);
+    assert_eq!(rt; node.receive(alloc, SCRIPTED, 1)?, Answer::Empty);
+    node.take_part(alloc, SCRIPTED, Deed::Tick, &mut out)?;
+    assert!(rt; out.frames().is_empty());
+    assert_eq!(rt; node.journal().len(), 10);
+    Ok(())
+}
+
+#[test]
+fn the_ports_of_the_second_boot_are_new_ones(rt: HostRuntime) -> Result<(), Fail> {
+    let alloc = rt.alloc();
+    let mut node = Node::new(alloc, Addr::node(1), 2)?;
+    assert_eq!(rt; node.socket(alloc, SCRIPTED)?, Answer::Socket(1_048_577));
+    assert_eq!(rt; node.socket(alloc, SCRIPTED)?, Answer::Socket(1_048_578));
+    assert_eq!(rt; node.receive(alloc, SCRIPTED, 1)?, Answer::NoSocket);
+    Ok(())
+}
+
+/// Frames that leave the left node arrive at the right one, those that leave there then at the left one, and so on four times.
+fn settle(alloc: Global, left: &mut Node, right: &mut Node, first: Outbox) -> Result<(), Fail> {
+    let mut leaving = first;
+    for _ in 0..4 {
+        let mut back = Outbox::new(alloc);
+        give(alloc, leaving, right, &mut back)?;
+        leaving = Outbox::new(alloc);
+        give(alloc, back, left, &mut leaving)?;
+    }
+    Ok(())
+}
+
+/// A node of that number, with a socket, that knows that peer and has its bearer mended, and the frames that it sent.
+fn mended(alloc: Global, own: u8, peer: u8) -> Result<(Node, Outbox), Fail>
+    requires { (1 ≤ own) × (own ≤ 32) × (1 ≤ peer) × (peer ≤ 32) }
+{
+    let mut out = Outbox::new(alloc);
+    let mut node = Node::new(alloc, Addr::node(own), 1)?;
+    node.know(alloc, peer, &mut out);
+    node.socket(alloc, SCRIPTED)?;
+    node.take_part(alloc, SCRIPTED, Deed::Mend, &mut out)?;
+    Ok((node, out))
+}
+
+/// A node sends a message of three bytes from its first port to the first of node 2. It answers what became of it at node 2.
+fn send(alloc: Global, from: &mut Node, to: &mut Node) -> Result<Arrival, Fail> {
+    let (mut leaving, mut back) = (Outbox::new(alloc), Outbox::new(alloc));
+    let port = PortId {
+        node: Addr::node(2),
+        port: 1,
+    };
+    let body = Bytes::from_slice(alloc, &[1, 2, 3])?;
+    from.send_port(
+        alloc,
+        SCRIPTED,
+        1,
+        port,
+        2,
+        Importance::Low,
+        body,
+        &mut leaving,
+    )?;
+    give(alloc, leaving, to, &mut back)
+}
+
+#[test]
+fn a_message_arrives_at_a_node_in_contact(rt: HostRuntime) -> Result<(), Fail> {
+    let alloc = rt.alloc();
+    let (mut right, _) = mended(alloc, 2, 1)?;
+    let (mut left, leaving) = mended(alloc, 1, 2)?;
+    settle(alloc, &mut left, &mut right, leaving)?;
+    assert_eq!(rt; send(alloc, &mut left, &mut right)?, Arrival::Took(1));
+    assert!(rt; matches!(right.receive(alloc, SCRIPTED, 1)?, Answer::Received(_)));
+    assert_eq!(rt; right.receive(alloc, SCRIPTED, 1)?, Answer::Empty);
+    Ok(())
+}
