@@ -2,6 +2,7 @@ ghost use Rattle.std.specs.Prelude.{◌≡◌, IfOk};
 ghost use Rattle.tipc_report.specs.Answering.{text_of, what_word, event_text, arrival_text};
 
 use crate::bodies::message_text;
+use crate::links::links_text;
 use crate::words::{at_port, event, flow, numbered, numbered_twice, word};
 use std::alloc::Global;
 use tipc_types::{Answer, Arrival, Event, NoMemory, Why};
@@ -86,6 +87,18 @@ pub fn answer_text(alloc: Global, answer: &Answer) -> Result<Vec<u8>, NoMemory>
             delivered,
         } => flow(alloc, *accepted, *delivered),
         Answer::NoContact => word(alloc, "no-contact"),
+        Answer::Drained(count) => numbered(alloc, "drained", *count),
+        Answer::Pumped(count) => numbered(alloc, "pumped", *count),
+        Answer::Moved(count) => numbered(alloc, "moved", *count),
+        Answer::Quiet => word(alloc, "quiet"),
+        Answer::Unsettled { unacked, waiting } => numbered_twice(
+            alloc,
+            "unsettled",
+            *unacked,
+            *waiting,
+        ),
+        Answer::Air(count) => numbered(alloc, "air", *count),
+        Answer::Links(peers) => links_text(alloc, peers.as_slice()),
         Answer::NoSocket => word(alloc, "no-socket"),
         Answer::TooLong(length) => numbered(alloc, "too-long", *length),
         Answer::BadRange => word(alloc, "bad-range"),
@@ -95,14 +108,14 @@ pub fn answer_text(alloc: Global, answer: &Answer) -> Result<Vec<u8>, NoMemory>
         Answer::Congested { in_flight, waiting } => numbered_twice(
             alloc,
             "congested",
-            *in_flight,
-            *waiting,
+            u64::from(*in_flight),
+            u64::from(*waiting),
         ),
         Answer::NamesCongested { peer, waiting } => numbered_twice(
             alloc,
             "names-congested",
-            u32::from(*peer),
-            *waiting,
+            u64::from(*peer),
+            u64::from(*waiting),
         ),
         Answer::Reserved => word(alloc, "reserved"),
         Answer::Duplicate(key) => numbered(alloc, "duplicate", u64::from(*key)),

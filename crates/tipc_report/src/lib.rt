@@ -4,6 +4,7 @@
 mod answers;
 mod bodies;
 mod limits;
+mod links;
 mod printing;
 mod words;
 

@@ -2,7 +2,8 @@ use crate::{Which, print, print_bad, print_limit, print_nothing};
 use std::test::Fail;
 use tipc_script::LineWhy;
 use tipc_types::{
-    Addr, Answer, Arrival, Bytes, Event, Form, Importance, Message, PortId, Subscription, Why,
+    Addr, Answer, Arrival, Bytes, Event, Form, Importance, LinkState, Message, PeerLinks, PortId,
+    Sequence, Subscription, Why,
 };
 
 /// A message from port 1 of node 1.
@@ -60,6 +61,62 @@ fn answers_have_their_texts(rt: HostRuntime) -> Result<(), Fail> {
     print(65_536, &Answer::NoFrame, &mut report)?;
     let expected =
         b"1 ok\n2 socket 4294967295\n3 sent\n4 took 1\n5 ignored old\n6 ignored header 17\n7 too-old 30001\n8 accepted 3 delivered 2\n9 congested 50 51\n65536 no-frame\n";
+    assert_eq!(rt; report.as_slice(), expected.as_slice());
+    Ok(())
+}
+
+#[test]
+fn counts_and_unsettled_packets_are_told(rt: HostRuntime) -> Result<(), Fail> {
+    let mut report = Vec::new(rt.alloc());
+    print(1, &Answer::Drained(0), &mut report)?;
+    print(2, &Answer::Pumped(12), &mut report)?;
+    print(3, &Answer::Moved(u64::MAX), &mut report)?;
+    print(4, &Answer::Quiet, &mut report)?;
+    print(
+        5,
+        &Answer::Unsettled {
+            unacked: 4_294_967_296,
+            waiting: 7,
+        },
+        &mut report,
+    )?;
+    print(6, &Answer::Air(100_000), &mut report)?;
+    let expected =
+        b"1 drained 0\n2 pumped 12\n3 moved 18446744073709551615\n4 quiet\n5 unsettled 4294967296 7\n6 air 100000\n";
+    assert_eq!(rt; report.as_slice(), expected.as_slice());
+    Ok(())
+}
+
+/// The link ends to a peer.
+fn links_to(peer: Addr, first: Option<LinkState>, second: Option<LinkState>) -> PeerLinks {
+    PeerLinks {
+        peer,
+        first,
+        second,
+    }
+}
+
+#[test]
+fn links_have_a_letter_for_each_bearer(rt: HostRuntime) -> Result<(), Fail> {
+    let two = [
+        links_to(Addr::node(2), Some(LinkState::WorkingWorking), None),
+        links_to(Addr::node(3), Some(LinkState::ResetUnknown), None),
+    ];
+    let more = [
+        links_to(
+            Addr::node(1),
+            Some(LinkState::WorkingUnknown),
+            Some(LinkState::Held),
+        ),
+        links_to(Addr::node(32), None, Some(LinkState::ResetReset)),
+    ];
+    let mut report = Vec::new(rt.alloc());
+    print(1, &Answer::Links(Sequence::new(rt.alloc())), &mut report)?;
+    for peers in [two, more] {
+        let peers = Sequence::from_slice(rt.alloc(), peers.as_slice())?;
+        print(2, &Answer::Links(peers), &mut report)?;
+    }
+    let expected = b"1 links\n2 links 2:W- 3:R-\n2 links 1:WH 32:-R\n";
     assert_eq!(rt; report.as_slice(), expected.as_slice());
     Ok(())
 }

@@ -24,8 +24,8 @@ pub fn numbered(alloc: Global, word: &str, number: u64) -> Result<Vec<u8>, NoMem
 pub fn numbered_twice(
     alloc: Global,
     word: &str,
-    first: u32,
-    second: u32,
+    first: u64,
+    second: u64,
 ) -> Result<Vec<u8>, NoMemory>
     ensures { IfOk result (λ text. text.items ≡ spaced (word.now ∷ decimal first ∷ decimal second ∷ [])) }
 {

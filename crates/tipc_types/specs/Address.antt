@@ -1,4 +1,4 @@
-use Rattle.std.specs.Prelude.{◌≡◌, ◌+◌, ◌≤◌, ℕ}
+use Rattle.std.specs.Prelude.{◌+◌, ◌≤◌, ℕ}
 
 -- the address word of node <1.1.n>: zone 1 in bits 31-24, cluster 1 in bits 23-12, n in bits 11-0
 abbrev pub node_word : ℕ → ℕ

@@ -16,7 +16,7 @@ pub use identity::{Addr, PortId, To};
 pub use link_words::{BroadcastState, Cause, LinkState, OldSession, Reply, Why};
 pub use memory::NoMemory;
 pub use message_forms::{Flow, Form, Importance, Item, ItemList, Message, MessageList};
-pub use node_calls::{Answer, Arrival, By, Event, EventNote, Subscription};
+pub use node_calls::{Answer, Arrival, By, Event, EventNote, PeerLinks, Subscription};
 pub use packet_lists::{Kept, KeptList, Taken, TakenList};
 pub use positions::{number_distance, sequence_number};
 pub use sequences::{Bytes, Inner, Pieces, Sequence};

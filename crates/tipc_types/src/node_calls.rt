@@ -1,8 +1,12 @@
-use crate::identity::PortId;
-use crate::link_words::Why;
+ghost use Rattle.std.specs.Prelude.{◌≡◌, IfOk};
+
+use crate::identity::{Addr, PortId};
+use crate::link_words::{LinkState, Why};
+use crate::memory::NoMemory;
 use crate::message_forms::{Importance, Message};
-use crate::sequences::Bytes;
+use crate::sequences::{Bytes, Sequence};
 use crate::services::{Scope, ServiceRange};
+use std::alloc::AllocError;
 
 /// Who made a call of a node, and when. (This project's profile.)
 #[derive(Clone, Copy, Debug, PartialEq, Eq)]
@@ -168,6 +172,27 @@ pub enum Arrival {
     Ignored(Why),
 }
 
+/// The link ends that a node has to one peer.
+#[derive(Copy, Debug, PartialEq, Eq)]
+pub struct PeerLinks {
+    /// The peer.
+    pub peer: Addr,
+    /// The state of the link end on bearer 0: None where there is none.
+    pub first: Option<LinkState>,
+    /// The state of the link end on bearer 1: None where there is none.
+    pub second: Option<LinkState>,
+}
+
+impl Clone for PeerLinks {
+    ghost use Rattle.std.specs.Prelude.{◌≡◌};
+
+    ghost is_clone = { λ x y. y ≡ x };
+
+    fn clone(&self) -> Result<PeerLinks, AllocError> {
+        Ok(*self)
+    }
+}
+
 /// The answer of an event, as it is printed and as a journal keeps it.
 #[derive(Clone, Debug, Drop, PartialEq)]
 pub enum Answer {
@@ -210,6 +235,25 @@ pub enum Answer {
     },
     /// The two nodes aren't in contact.
     NoContact,
+    /// So many messages were taken from an inbox.
+    Drained(u64),
+    /// So many frames arrived.
+    Pumped(u64),
+    /// So many messages went from one port to another.
+    Moved(u64),
+    /// No packet is unacknowledged and none waits.
+    Quiet,
+    /// Packets are still under way.
+    Unsettled {
+        /// The packets that are unacknowledged.
+        unacked: u64,
+        /// The packets that wait.
+        waiting: u64,
+    },
+    /// So many frames were sent.
+    Air(u64),
+    /// The link ends of a node, in order of the peers.
+    Links(Sequence<PeerLinks>),
     /// There is no such socket.
     NoSocket,
     /// The body has this length, which is over 66,000.
@@ -244,4 +288,13 @@ pub enum Answer {
     Full(u32),
     /// The named key or number isn't there.
     Unknown,
+}
+
+impl Answer {
+    /// An equal answer.
+    pub fn copy(&self) -> Result<Answer, NoMemory>
+        ensures { IfOk result (λ answer. answer ≡ self.now) }
+    {
+        Ok(self.clone()?)
+    }
 }
