@@ -1,8 +1,7 @@
 -- A line of the grammar has no fault, and asks for what it is spelled from.
-use Rattle.std.proofs.Common.{◌≡◌, ℕ, ◌+◌, ◌-◌, ◌<◌, ◌≤◌, ◌^◌, Bool, true, false, not, ◌&&◌, cond, Option, Some, None, List, [], ◌∷◌, length, drop, refl, sym, ap, subst, ◌∙◌, arith, inl, inr, eqb}
+use Rattle.std.proofs.Common.{◌≡◌, ℕ, ◌+◌, true, false, not, ◌&&◌, Some, None, List, [], ◌∷◌, length, refl, sym, ap, subst, ◌∙◌, arith, eqb}
 use Rattle.std.specs.Prelude.{codes}
-use Rattle.std.specs.List.{join_with_byte, list_all, All}
-use Rattle.std.specs.Str.{bytes_eq}
+use Rattle.std.specs.List.{list_all}
 use Rattle.std.specs.Fmt.{decimal}
 use Rattle.std.proofs.lemmas.Bool.{and_from, not_from_false, ne_eqb}
 use Rattle.tipc_types.specs.declared.identity.PortId.{PortId}
@@ -10,10 +9,10 @@ use Rattle.tipc_types.specs.declared.message_forms.Importance.{Importance}
 use Rattle.tipc_types.specs.declared.message_forms.Importance.TheVariants.{Low}
 use Rattle.tipc_types.specs.Address.{node_word}
 use Rattle.tipc_script.specs.declared.lines.Line.{Line}
-use Rattle.tipc_script.specs.declared.lines.Line.TheVariants.{Nothing, Node, Link, Mark, Socket, Send, Arrive, Receive, Flow}
-use Rattle.tipc_script.specs.Splitting.{Left, whole, first_token, behind, tokens_of}
-use Rattle.tipc_script.specs.Kinds.{is_number, number_of, is_body, is_remark, is_visible}
-use Rattle.tipc_script.specs.Grammar.{Row, row_of, asked, node_row, link_row, mark_row, socket_row, send_row, arrive_row, receive_row, flow_row}
+use Rattle.tipc_script.specs.declared.lines.Line.TheVariants.{Nothing, Node, Mend, Cut, Tick, Restart, Link, Mark, Socket, Send, Arrive, Receive, Pump, Settle, Links, Flow}
+use Rattle.tipc_script.specs.Splitting.{Left, tokens_of}
+use Rattle.tipc_script.specs.Kinds.{is_number, number_of, is_remark}
+use Rattle.tipc_script.specs.Grammar.{Row, row_of, asked, node_row, mend_row, cut_row, tick_row, restart_row, link_row, mark_row, socket_row, send_row, arrive_row, receive_row, pump_row, settle_row, links_row, flow_row}
 use Rattle.tipc_script.specs.Spelling.{Asks, IsMessage, spaced, node_number, spelling_of}
 use Rattle.tipc_script.specs.Faults.{row_fault, fault_of, first_fault, end_fault}
 use Rattle.tipc_script.proofs.Numerals.{is_number-decimal, number_of-decimal}
@@ -45,6 +44,38 @@ node_accepted : (text : List ℕ) (n : ℕ) → Asks text (Node n) → IsAccepte
 unfolding row_of row_fault first_fault end_fault
 node_accepted text n h =
     spelled text node_row (decimal n ∷ []) (Node n) h.1 refl (rw (no_space-decimal n (omega arith)) refl) refl
+    (rw (is_number-decimal 1 32 n h.0.0 h.0.1 (omega arith)) refl) (rw (number_of-decimal n (omega arith)) refl)
+
+mend_accepted : (text : List ℕ) (n x : ℕ) → Asks text (Mend n x) → IsAccepted text (Mend n x)
+unfolding row_of row_fault first_fault end_fault
+mend_accepted text n x h =
+    let node = h.0.0 in
+    let bearer = h.0.1 in
+    spelled text mend_row (decimal n ∷ decimal x ∷ []) (Mend n x) h.1 refl
+    (rw (no_space-decimal n (omega arith), no_space-decimal x (omega arith)) refl) refl
+    (rw (is_number-decimal 1 32 n node.0 node.1 (omega arith), is_number-decimal 0 0 x (omega arith) (omega arith) (omega arith)) refl)
+    (rw (number_of-decimal n (omega arith), number_of-decimal x (omega arith)) refl)
+
+cut_accepted : (text : List ℕ) (n x : ℕ) → Asks text (Cut n x) → IsAccepted text (Cut n x)
+unfolding row_of row_fault first_fault end_fault
+cut_accepted text n x h =
+    let node = h.0.0 in
+    let bearer = h.0.1 in
+    spelled text cut_row (decimal n ∷ decimal x ∷ []) (Cut n x) h.1 refl
+    (rw (no_space-decimal n (omega arith), no_space-decimal x (omega arith)) refl) refl
+    (rw (is_number-decimal 1 32 n node.0 node.1 (omega arith), is_number-decimal 0 0 x (omega arith) (omega arith) (omega arith)) refl)
+    (rw (number_of-decimal n (omega arith), number_of-decimal x (omega arith)) refl)
+
+tick_accepted : (text : List ℕ) (n : ℕ) → Asks text (Tick n) → IsAccepted text (Tick n)
+unfolding row_of row_fault first_fault end_fault
+tick_accepted text n h =
+    spelled text tick_row (decimal n ∷ []) (Tick n) h.1 refl (rw (no_space-decimal n (omega arith)) refl) refl
+    (rw (is_number-decimal 1 32 n h.0.0 h.0.1 (omega arith)) refl) (rw (number_of-decimal n (omega arith)) refl)
+
+restart_accepted : (text : List ℕ) (n : ℕ) → Asks text (Restart n) → IsAccepted text (Restart n)
+unfolding row_of row_fault first_fault end_fault
+restart_accepted text n h =
+    spelled text restart_row (decimal n ∷ []) (Restart n) h.1 refl (rw (no_space-decimal n (omega arith)) refl) refl
     (rw (is_number-decimal 1 32 n h.0.0 h.0.1 (omega arith)) refl) (rw (number_of-decimal n (omega arith)) refl)
 
 link_accepted : (text : List ℕ) (a b x : ℕ) → Asks text (Link a b x) → IsAccepted text (Link a b x)
@@ -116,6 +147,26 @@ receive_accepted text n p h =
     (rw (is_number-decimal 1 32 n node.0 node.1 (omega arith), is_number-decimal 0 4294967295 p (omega arith) (omega arith) (omega arith)) refl)
     (rw (number_of-decimal n (omega arith), number_of-decimal p (omega arith)) refl)
 
+pump_accepted : (text : List ℕ) (x : ℕ) → Asks text (Pump x) → IsAccepted text (Pump x)
+unfolding row_of row_fault first_fault end_fault
+pump_accepted text x h =
+    let bearer = h.0 in
+    spelled text pump_row (decimal x ∷ []) (Pump x) h.1 refl (rw (no_space-decimal x (omega arith)) refl) refl
+    (rw (is_number-decimal 0 0 x (omega arith) (omega arith) (omega arith)) refl) (rw (number_of-decimal x (omega arith)) refl)
+
+settle_accepted : (text : List ℕ) (r : ℕ) → Asks text (Settle r) → IsAccepted text (Settle r)
+unfolding row_of row_fault first_fault end_fault
+settle_accepted text r h =
+    let rounds = h.0 in
+    spelled text settle_row (decimal r ∷ []) (Settle r) h.1 refl (rw (no_space-decimal r (omega arith)) refl) refl
+    (rw (is_number-decimal 0 1000000 r (omega arith) rounds (omega arith)) refl) (rw (number_of-decimal r (omega arith)) refl)
+
+links_accepted : (text : List ℕ) (n : ℕ) → Asks text (Links n) → IsAccepted text (Links n)
+unfolding row_of row_fault first_fault end_fault
+links_accepted text n h =
+    spelled text links_row (decimal n ∷ []) (Links n) h.1 refl (rw (no_space-decimal n (omega arith)) refl) refl
+    (rw (is_number-decimal 1 32 n h.0.0 h.0.1 (omega arith)) refl) (rw (number_of-decimal n (omega arith)) refl)
+
 flow_accepted : (text : List ℕ) (a b : ℕ) → Asks text (Flow a b) → IsAccepted text (Flow a b)
 unfolding row_of row_fault first_fault end_fault
 flow_accepted text a b h =
@@ -133,10 +184,17 @@ nothing_accepted text remark = record { fault = rw remark refl; asked = rw remar
 pub asks_accepted : (text : List ℕ) (line : Line) → Asks text line → IsAccepted text line
 asks_accepted text Nothing h = nothing_accepted text h
 asks_accepted text (Node n) h = node_accepted text n h
+asks_accepted text (Mend n x) h = mend_accepted text n x h
+asks_accepted text (Cut n x) h = cut_accepted text n x h
+asks_accepted text (Tick n) h = tick_accepted text n h
+asks_accepted text (Restart n) h = restart_accepted text n h
 asks_accepted text (Link a b x) h = link_accepted text a b x h
 asks_accepted text Mark h = mark_accepted text h
 asks_accepted text (Socket n) h = socket_accepted text n h
 asks_accepted text (Send n p to importance body) h = send_accepted text n p to importance body h
 asks_accepted text (Arrive n x k) h = arrive_accepted text n x k h
 asks_accepted text (Receive n p) h = receive_accepted text n p h
+asks_accepted text (Pump x) h = pump_accepted text x h
+asks_accepted text (Settle r) h = settle_accepted text r h
+asks_accepted text (Links n) h = links_accepted text n h
 asks_accepted text (Flow a b) h = flow_accepted text a b h

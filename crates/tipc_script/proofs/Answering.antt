@@ -1,5 +1,5 @@
 -- What an answer with the right fault and the right line says of the grammar.
-use Rattle.std.proofs.Common.{◌≡◌, None, Some, List, ℕ, Result, Ok, Err, sym, subst, ◌∙◌, ap}
+use Rattle.std.proofs.Common.{◌≡◌, List, ℕ, Result, Ok, Err, sym, subst, ◌∙◌}
 use Rattle.std.specs.Prelude.{IfOk}
 use Rattle.tipc_script.specs.declared.lines.Line.{Line}
 use Rattle.tipc_script.specs.declared.lines.Command.{Command}

@@ -1,21 +1,17 @@
 -- A line without a fault is a line of the grammar.
-use Rattle.std.proofs.Common.{◌≡◌, ℕ, ◌+◌, ◌-◌, ◌<◌, ◌≤◌, ◌^◌, Bool, true, false, not, ◌&&◌, cond, Option, Some, None, List, [], ◌∷◌, length, drop, refl, sym, ap, subst, ◌∙◌, arith, inl, inr, eqb}
+use Rattle.std.proofs.Common.{◌≡◌, ℕ, ◌<◌, ◌≤◌, not, ◌&&◌, Option, Some, None, List, [], ◌∷◌, length, drop, refl, sym, ap, ◌∙◌, arith, inl, inr}
 use Rattle.std.specs.Prelude.{slice_index_or, ◌==◌, codes}
-use Rattle.std.specs.List.{join_with_byte, count_by}
 use Rattle.std.specs.Str.{bytes_eq}
 use Rattle.std.specs.Fmt.{decimal}
 use Rattle.std.proofs.lemmas.Bool.{cases_Bool, and_parts, not-true, eqb-false}
 use Rattle.std.proofs.lemmas.Slice.Eq.{bytes_eq-Decides}
 use Rattle.std.proofs.lemmas.List.Splits.{join_with_byte-slice_split, length-slice_split}
-use Rattle.tipc_types.specs.Address.{node_word}
-use Rattle.tipc_types.specs.declared.message_forms.Importance.TheVariants.{Low}
-use Rattle.tipc_script.specs.declared.faults.LineWhy.TheVariants as why
 use Rattle.tipc_script.specs.Splitting.{Left, whole, first_token, behind, is_space, tokens_of}
 use Rattle.tipc_script.specs.Kinds.{is_number, number_of, is_body, is_remark}
-use Rattle.tipc_script.specs.Grammar.{Row, rows, row_of, row_among, asked, asked_by, first_number, node_row, link_row, mark_row, socket_row, send_row, arrive_row, receive_row, flow_row, port_at}
-use Rattle.tipc_script.specs.Spelling.{Asks, IsNode, IsMessage, spaced, node_number}
-use Rattle.tipc_script.specs.Faults.{row_fault, fault_of, fault_by, Fault}
-use Rattle.tipc_script.proofs.Numerals.{is_number_parts, IsNumberToken}
+use Rattle.tipc_script.specs.Grammar.{Row, rows, row_of, asked, asked_by, first_number, node_row, mend_row, cut_row, tick_row, restart_row, link_row, mark_row, socket_row, send_row, arrive_row, receive_row, pump_row, settle_row, links_row, flow_row, port_at}
+use Rattle.tipc_script.specs.Spelling.{Asks, spaced, node_number}
+use Rattle.tipc_script.specs.Faults.{row_fault, fault_of, fault_by}
+use Rattle.tipc_script.proofs.Numerals.{is_number_parts}
 use Rattle.tipc_script.proofs.Bodies.{is_body_parts, IsBodyToken}
 use Rattle.tipc_script.proofs.Reading.{IsTaken, AreTaken, are_taken, OfRows, row_found}
 
@@ -38,6 +34,34 @@ node_found text left e h =
     let node = number_taken 1 32 left h.0 in
     let last = h.1 in
     ((node.1, node.2), respelled text node_row.word left.tokens (decimal (first_number left) ∷ []) e cc)
+
+mend_found : IsFound mend_row
+mend_found text left e h =
+    let x = behind left in
+    let node = number_taken 1 32 left h.0 in
+    let bearer = number_taken 0 0 x h.1.0 in
+    let last = h.1.1 in
+    (((node.1, node.2), omega (arith, bearer.2)), respelled text mend_row.word left.tokens (decimal (first_number left) ∷ decimal (first_number x) ∷ []) e cc)
+
+cut_found : IsFound cut_row
+cut_found text left e h =
+    let x = behind left in
+    let node = number_taken 1 32 left h.0 in
+    let bearer = number_taken 0 0 x h.1.0 in
+    let last = h.1.1 in
+    (((node.1, node.2), omega (arith, bearer.2)), respelled text cut_row.word left.tokens (decimal (first_number left) ∷ decimal (first_number x) ∷ []) e cc)
+
+tick_found : IsFound tick_row
+tick_found text left e h =
+    let node = number_taken 1 32 left h.0 in
+    let last = h.1 in
+    ((node.1, node.2), respelled text tick_row.word left.tokens (decimal (first_number left) ∷ []) e cc)
+
+restart_found : IsFound restart_row
+restart_found text left e h =
+    let node = number_taken 1 32 left h.0 in
+    let last = h.1 in
+    ((node.1, node.2), respelled text restart_row.word left.tokens (decimal (first_number left) ∷ []) e cc)
 
 link_found : IsFound link_row
 link_found text left e h =
@@ -135,6 +159,24 @@ receive_found text left e h =
     let last = h.1.1 in
     (((node.1, node.2), omega (arith, port.2)), respelled text receive_row.word left.tokens (decimal (first_number left) ∷ decimal (first_number p) ∷ []) e cc)
 
+pump_found : IsFound pump_row
+pump_found text left e h =
+    let bearer = number_taken 0 0 left h.0 in
+    let last = h.1 in
+    (omega (arith, bearer.2), respelled text pump_row.word left.tokens (decimal (first_number left) ∷ []) e cc)
+
+settle_found : IsFound settle_row
+settle_found text left e h =
+    let rounds = number_taken 0 1000000 left h.0 in
+    let last = h.1 in
+    (rounds.2, respelled text settle_row.word left.tokens (decimal (first_number left) ∷ []) e cc)
+
+links_found : IsFound links_row
+links_found text left e h =
+    let node = number_taken 1 32 left h.0 in
+    let last = h.1 in
+    ((node.1, node.2), respelled text links_row.word left.tokens (decimal (first_number left) ∷ []) e cc)
+
 flow_found : IsFound flow_row
 flow_found text left e h =
     let b = behind left in
@@ -144,7 +186,8 @@ flow_found text left e h =
     (((from.1, from.2), (to.1, to.2)), respelled text flow_row.word left.tokens (decimal (first_number left) ∷ decimal (first_number b) ∷ []) e cc)
 
 all_found : OfRows IsFound rows
-all_found = (node_found, (link_found, (mark_found, (socket_found, (send_found, (arrive_found, (receive_found, (flow_found, tt))))))))
+all_found =
+    (node_found, (mend_found, (cut_found, (tick_found, (restart_found, (link_found, (mark_found, (socket_found, (send_found, (arrive_found, (receive_found, (pump_found, (settle_found, (links_found, (flow_found, tt)))))))))))))))
 
 -- a line has a first token
 some_token : (text : List ℕ) → tokens_of text ≡ first_token (whole text) ∷ (behind (whole text)).tokens

@@ -1,5 +1,5 @@
 -- What no fault means.
-use Rattle.std.proofs.Common.{◌≡◌, ℕ, ◌+◌, ◌<◌, Bool, true, false, cond, Option, Some, None, List, [], ◌∷◌, length, drop, refl, sym, ap, subst, ◌∙◌, inl, inr}
+use Rattle.std.proofs.Common.{◌≡◌, ℕ, Bool, true, Option, Some, None, List, [], ◌∷◌, drop, refl, sym, subst, ◌∙◌, inl, inr}
 use Rattle.std.specs.Option.{option_or}
 use Rattle.std.specs.Prelude.{slice_index_or}
 use Rattle.std.specs.Str.{bytes_eq}
@@ -9,7 +9,7 @@ use Rattle.tipc_script.specs.declared.faults.LineWhy.{LineWhy}
 use Rattle.tipc_script.specs.Splitting.{Left, first_token, behind}
 use Rattle.tipc_script.specs.Kinds.{Kind, takes}
 use Rattle.tipc_script.specs.Grammar.{Row, row_among}
-use Rattle.tipc_script.specs.Faults.{Fault, why_not, fault_among, first_fault, more_fault, end_fault, fault_in}
+use Rattle.tipc_script.specs.Faults.{why_not, fault_among, first_fault, more_fault, end_fault, fault_in}
 
 -- the first token is there and passes the test
 pub record IsTaken (test : List ℕ → Bool) (left : Left) : Type 0 where

@@ -1,5 +1,5 @@
 -- The first fault of a line from the left: its byte place from 1, and why.
-use Rattle.std.specs.Prelude.{◌≡◌, ℕ, Bool, true, false, if◌then◌else◌, List, [], ◌∷◌, Option, Some, None, Result, Ok, Err}
+use Rattle.std.specs.Prelude.{◌≡◌, ℕ, Bool, true, if◌then◌else◌, List, [], ◌∷◌, Option, Some, None, Result, Ok, Err}
 use Rattle.std.specs.Option.{option_or}
 use Rattle.tipc_script.specs.declared.faults.LineWhy.{LineWhy}
 use Rattle.tipc_script.specs.declared.faults.LineWhy.TheVariants as why
@@ -8,7 +8,7 @@ use Rattle.tipc_script.specs.declared.faults.LineFault.TheVariants as faults
 use Rattle.tipc_script.specs.declared.lines.Line.{Line}
 use Rattle.tipc_script.specs.declared.lines.Command.{Command}
 use Rattle.tipc_script.specs.Splitting.{Left, whole, first_token, behind}
-use Rattle.tipc_script.specs.Kinds.{Kind, NewNode, OldNode, OtherNode, BearerNumber, PortNumber, FrameNumber, FormWord, ImportanceWord, BodyText, takes, is_remark}
+use Rattle.tipc_script.specs.Kinds.{Kind, NewNode, OldNode, OtherNode, BearerNumber, PortNumber, FrameNumber, RoundsNumber, FormWord, ImportanceWord, BodyText, takes, is_remark}
 use Rattle.tipc_script.specs.Grammar.{Row, row_of, first_number}
 
 abbrev pub Fault : Type 0
@@ -22,6 +22,7 @@ why_not OtherNode = why.Number
 why_not BearerNumber = why.Number
 why_not PortNumber = why.Number
 why_not FrameNumber = why.Number
+why_not RoundsNumber = why.Number
 why_not FormWord = why.Word
 why_not ImportanceWord = why.Word
 why_not BodyText = why.Body

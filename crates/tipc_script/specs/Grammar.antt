@@ -1,17 +1,15 @@
 -- The grammar of a line: a row for each form, with its first word, what the tokens behind that word have
 -- to be, and what the line asks for.
-use Rattle.std.specs.Prelude.{ℕ, ◌+◌, List, [], ◌∷◌, ◌++◌, Option, Some, None, codes, drop, true, false, if◌then◌else◌}
+use Rattle.std.specs.Prelude.{ℕ, List, [], ◌∷◌, ◌++◌, Option, Some, None, codes, drop, true, false, if◌then◌else◌}
 use Rattle.std.specs.Str.{bytes_eq}
-use Rattle.tipc_types.specs.declared.identity.Addr.{Addr}
 use Rattle.tipc_types.specs.declared.identity.PortId.{PortId}
-use Rattle.tipc_types.specs.declared.message_forms.Importance.{Importance}
 use Rattle.tipc_types.specs.declared.message_forms.Importance.TheVariants.{Low}
 use Rattle.tipc_types.specs.Address.{node_word}
 use Rattle.tipc_script.specs.declared.lines.Line.{Line}
 use Rattle.tipc_script.specs.declared.lines.Line.TheVariants as line
 use Rattle.tipc_script.specs.declared.lines.NodeToken.{NodeToken}
 use Rattle.tipc_script.specs.Splitting.{Left, whole, first_token, behind}
-use Rattle.tipc_script.specs.Kinds.{Kind, NewNode, OldNode, OtherNode, BearerNumber, PortNumber, FrameNumber, FormWord, ImportanceWord, BodyText, number_of, is_remark}
+use Rattle.tipc_script.specs.Kinds.{Kind, NewNode, OldNode, OtherNode, BearerNumber, PortNumber, FrameNumber, RoundsNumber, FormWord, ImportanceWord, BodyText, number_of, is_remark}
 
 pub record Row : Type 0 where
   pub word : List ℕ
@@ -24,6 +22,18 @@ first_number left = number_of (first_token left)
 
 abbrev pub node_row : Row
 node_row = record { word = codes "node"; kinds = NewNode ∷ []; asks = λ node. line.Node (first_number node) }
+
+abbrev pub mend_row : Row
+mend_row = record { word = codes "mend"; kinds = OldNode ∷ BearerNumber ∷ []; asks = λ node. line.Mend (first_number node) (first_number (behind node)) }
+
+abbrev pub cut_row : Row
+cut_row = record { word = codes "cut"; kinds = OldNode ∷ BearerNumber ∷ []; asks = λ node. line.Cut (first_number node) (first_number (behind node)) }
+
+abbrev pub tick_row : Row
+tick_row = record { word = codes "tick"; kinds = OldNode ∷ []; asks = λ node. line.Tick (first_number node) }
+
+abbrev pub restart_row : Row
+restart_row = record { word = codes "restart"; kinds = OldNode ∷ []; asks = λ node. line.Restart (first_number node) }
 
 abbrev pub link_row : Row
 link_row = record {
@@ -61,11 +71,24 @@ arrive_row = record {
 abbrev pub receive_row : Row
 receive_row = record { word = codes "receive"; kinds = OldNode ∷ PortNumber ∷ []; asks = λ node. line.Receive (first_number node) (first_number (behind node)) }
 
+abbrev pub pump_row : Row
+pump_row = record { word = codes "pump"; kinds = BearerNumber ∷ []; asks = λ bearer. line.Pump (first_number bearer) }
+
+abbrev pub settle_row : Row
+settle_row = record { word = codes "settle"; kinds = RoundsNumber ∷ []; asks = λ rounds. line.Settle (first_number rounds) }
+
+abbrev pub links_row : Row
+links_row = record { word = codes "links"; kinds = OldNode ∷ []; asks = λ node. line.Links (first_number node) }
+
 abbrev pub flow_row : Row
 flow_row = record { word = codes "flow"; kinds = OldNode ∷ OldNode ∷ []; asks = λ from. line.Flow (first_number from) (first_number (behind from)) }
 
+-- the rows of lines about messages, frames and links that are there
+abbrev pub traffic_rows : List Row
+traffic_rows = send_row ∷ arrive_row ∷ receive_row ∷ pump_row ∷ settle_row ∷ links_row ∷ flow_row ∷ []
+
 abbrev pub rows : List Row
-rows = node_row ∷ link_row ∷ mark_row ∷ socket_row ∷ send_row ∷ arrive_row ∷ receive_row ∷ flow_row ∷ []
+rows = node_row ∷ mend_row ∷ cut_row ∷ tick_row ∷ restart_row ∷ link_row ∷ mark_row ∷ socket_row ∷ traffic_rows
 
 abbrev pub row_among : List Row → List ℕ → Option Row
 row_among [] word = None
@@ -91,6 +114,7 @@ node_in OtherNode left = []
 node_in BearerNumber left = []
 node_in PortNumber left = []
 node_in FrameNumber left = []
+node_in RoundsNumber left = []
 node_in FormWord left = []
 node_in ImportanceWord left = []
 node_in BodyText left = []

@@ -1,5 +1,5 @@
 -- What a token of a line may have to be, and which tokens are so.
-use Rattle.std.specs.Prelude.{ℕ, ◌+◌, ◌-◌, ◌==◌, nat_le, Bool, true, false, not, ◌&&◌, if◌then◌else◌, List, [], ◌∷◌, length, Option, Some, None, codes, drop}
+use Rattle.std.specs.Prelude.{ℕ, ◌==◌, nat_le, Bool, true, false, not, ◌&&◌, List, [], ◌∷◌, length, codes}
 use Rattle.std.specs.List.{list_all}
 use Rattle.std.specs.Str.{bytes_eq}
 use Rattle.std.specs.Str.Parse.{digits_value}
@@ -13,6 +13,7 @@ pub data Kind : Type 0 where
   BearerNumber : Kind
   PortNumber : Kind
   FrameNumber : Kind
+  RoundsNumber : Kind
   FormWord : Kind
   ImportanceWord : Kind
   BodyText : Kind
@@ -42,6 +43,7 @@ takes own OtherNode token = is_number 1 32 token && not (number_of token == own)
 takes own BearerNumber token = is_number 0 0 token
 takes own PortNumber token = is_number 0 4294967295 token
 takes own FrameNumber token = is_number 0 1000000 token
+takes own RoundsNumber token = is_number 0 1000000 token
 takes own FormWord token = bytes_eq token (codes "port")
 takes own ImportanceWord token = bytes_eq token (codes "low")
 takes own BodyText token = is_body token

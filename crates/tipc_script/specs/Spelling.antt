@@ -1,5 +1,5 @@
 -- How a line is spelled: each line that asks for something has one spelling.
-use Rattle.std.specs.Prelude.{◌≡◌, ◌≢◌, ℕ, ◌+◌, ◌-◌, ◌<◌, ◌≤◌, ◌^◌, true, List, [], ◌∷◌, length, codes}
+use Rattle.std.specs.Prelude.{◌≡◌, ◌≢◌, ℕ, ◌-◌, ◌<◌, ◌≤◌, ◌^◌, true, List, [], ◌∷◌, length, codes}
 use Rattle.std.specs.List.{join_with_byte, All}
 use Rattle.std.specs.Fmt.{decimal}
 use Rattle.tipc_types.specs.declared.identity.PortId.{PortId}
@@ -7,7 +7,7 @@ use Rattle.tipc_types.specs.declared.message_forms.Importance.{Importance}
 use Rattle.tipc_types.specs.declared.message_forms.Importance.TheVariants.{Low, Medium, High, Critical}
 use Rattle.tipc_types.specs.Address.{node_word, IsNodeWord}
 use Rattle.tipc_script.specs.declared.lines.Line.{Line}
-use Rattle.tipc_script.specs.declared.lines.Line.TheVariants.{Nothing, Node, Link, Mark, Socket, Send, Arrive, Receive, Flow}
+use Rattle.tipc_script.specs.declared.lines.Line.TheVariants.{Nothing, Node, Mend, Cut, Tick, Restart, Link, Mark, Socket, Send, Arrive, Receive, Pump, Settle, Links, Flow}
 use Rattle.tipc_script.specs.Kinds.{is_remark}
 
 -- words with single spaces between them
@@ -28,6 +28,10 @@ node_number port = port.node.word - node_word 0
 abbrev pub words_of : Line → List (List ℕ)
 words_of Nothing = []
 words_of (Node node) = codes "node" ∷ decimal node ∷ []
+words_of (Mend node bearer) = codes "mend" ∷ decimal node ∷ decimal bearer ∷ []
+words_of (Cut node bearer) = codes "cut" ∷ decimal node ∷ decimal bearer ∷ []
+words_of (Tick node) = codes "tick" ∷ decimal node ∷ []
+words_of (Restart node) = codes "restart" ∷ decimal node ∷ []
 words_of (Link first second bearer) = codes "link" ∷ decimal first ∷ decimal second ∷ decimal bearer ∷ []
 words_of Mark = codes "mark" ∷ []
 words_of (Socket node) = codes "socket" ∷ decimal node ∷ []
@@ -35,6 +39,9 @@ words_of (Send node port to importance body) =
     codes "send" ∷ decimal node ∷ decimal port ∷ codes "port" ∷ decimal (node_number to) ∷ decimal to.port ∷ importance_word importance ∷ (61 ∷ body) ∷ []
 words_of (Arrive node bearer frame) = codes "arrive" ∷ decimal node ∷ decimal bearer ∷ decimal frame ∷ []
 words_of (Receive node port) = codes "receive" ∷ decimal node ∷ decimal port ∷ []
+words_of (Pump bearer) = codes "pump" ∷ decimal bearer ∷ []
+words_of (Settle rounds) = codes "settle" ∷ decimal rounds ∷ []
+words_of (Links node) = codes "links" ∷ decimal node ∷ []
 words_of (Flow from to) = codes "flow" ∷ decimal from ∷ decimal to ∷ []
 
 abbrev pub spelling_of : Line → List ℕ
@@ -59,22 +66,36 @@ pub record IsMessage (node port : ℕ) (to : PortId) (importance : Importance) (
 abbrev pub Fits : Line → Type 0
 Fits Nothing = Unit {0}
 Fits (Node node) = IsNode node
+Fits (Mend node bearer) = IsNode node × (bearer ≡ 0)
+Fits (Cut node bearer) = IsNode node × (bearer ≡ 0)
+Fits (Tick node) = IsNode node
+Fits (Restart node) = IsNode node
 Fits (Link first second bearer) = IsNode first × IsNode second × (bearer ≡ 0)
 Fits Mark = Unit {0}
 Fits (Socket node) = IsNode node
 Fits (Send node port to importance body) = IsMessage node port to importance body
 Fits (Arrive node bearer frame) = IsNode node × (bearer ≡ 0) × (frame ≤ 1000000)
 Fits (Receive node port) = IsNode node × (port < 2 ^ 32)
+Fits (Pump bearer) = bearer ≡ 0
+Fits (Settle rounds) = rounds ≤ 1000000
+Fits (Links node) = IsNode node
 Fits (Flow from to) = IsNode from × IsNode to
 
 -- a text asks for a line: it is a remark, which asks for nothing, or the spelling of the line
 abbrev pub Asks : List ℕ → Line → Type 0
 Asks text Nothing = is_remark text ≡ true
 Asks text (Node node) = Fits (Node node) × (text ≡ spelling_of (Node node))
+Asks text (Mend node bearer) = Fits (Mend node bearer) × (text ≡ spelling_of (Mend node bearer))
+Asks text (Cut node bearer) = Fits (Cut node bearer) × (text ≡ spelling_of (Cut node bearer))
+Asks text (Tick node) = Fits (Tick node) × (text ≡ spelling_of (Tick node))
+Asks text (Restart node) = Fits (Restart node) × (text ≡ spelling_of (Restart node))
 Asks text (Link first second bearer) = Fits (Link first second bearer) × (text ≡ spelling_of (Link first second bearer))
 Asks text Mark = text ≡ spelling_of Mark
 Asks text (Socket node) = Fits (Socket node) × (text ≡ spelling_of (Socket node))
 Asks text (Send node port to importance body) = Fits (Send node port to importance body) × (text ≡ spelling_of (Send node port to importance body))
 Asks text (Arrive node bearer frame) = Fits (Arrive node bearer frame) × (text ≡ spelling_of (Arrive node bearer frame))
 Asks text (Receive node port) = Fits (Receive node port) × (text ≡ spelling_of (Receive node port))
+Asks text (Pump bearer) = Fits (Pump bearer) × (text ≡ spelling_of (Pump bearer))
+Asks text (Settle rounds) = Fits (Settle rounds) × (text ≡ spelling_of (Settle rounds))
+Asks text (Links node) = Fits (Links node) × (text ≡ spelling_of (Links node))
 Asks text (Flow from to) = Fits (Flow from to) × (text ≡ spelling_of (Flow from to))

@@ -1,5 +1,5 @@
 -- A line cut into its tokens, and the tokens that are left of it.
-use Rattle.std.specs.Prelude.{ℕ, ◌+◌, ◌-◌, ◌==◌, Bool, List, [], ◌∷◌, length, drop, slice_index_or, Option, Some, None}
+use Rattle.std.specs.Prelude.{ℕ, ◌+◌, ◌-◌, ◌==◌, Bool, List, [], length, drop, slice_index_or, Option, Some, None}
 use Rattle.std.specs.List.{slice_split}
 
 -- the space, which stands between two tokens

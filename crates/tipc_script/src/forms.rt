@@ -1,5 +1,5 @@
 ghost use Rattle.std.specs.Prelude.{◌≡◌, ◌+◌, ◌<◌, ◌^◌, IfOk, length, ℕ, MatchOption, Some, None};
-ghost use Rattle.tipc_script.specs.Grammar.{node_row, link_row, mark_row, socket_row, send_row, arrive_row, receive_row, flow_row, row_of, nodes_in, asked, nodes_of};
+ghost use Rattle.tipc_script.specs.Grammar.{node_row, mend_row, cut_row, tick_row, restart_row, link_row, mark_row, socket_row, send_row, arrive_row, receive_row, pump_row, settle_row, links_row, flow_row, row_of, nodes_in, asked, nodes_of};
 ghost use Rattle.tipc_script.specs.Faults.{Tells, row_fault, fault_of};
 
 use crate::faults::LineFault;
@@ -13,6 +13,9 @@ const HIGHEST_PORT: u32 = u32::MAX;
 
 /// The highest number of a frame.
 const HIGHEST_FRAME: u32 = 1_000_000;
+
+/// The most rounds that are waited for.
+const MOST_ROUNDS: u32 = 1_000_000;
 
 /// The highest number of a bearer.
 const HIGHEST_BEARER: u32 = 0;
@@ -28,6 +31,74 @@ pub fn node_line(alloc: Global, tokens: &mut Tokens<'_>) -> Result<Command, Line
     tokens.finish()?;
     Ok(Command {
         line: Line::Node { node: node.node },
+        nodes: Sequence::from_slice(alloc, [node].as_slice())?,
+    })
+}
+
+/// What follows `mend`.
+#[tactic(auto, unfolding(crate::specs::Faults::row_fault))]
+pub fn mend_line(alloc: Global, tokens: &mut Tokens<'_>) -> Result<Command, LineFault>
+    ensures fault { Tells result (row_fault mend_row tokens.old) }
+    ensures line { IfOk result (λ c. c.line ≡ mend_row.asks tokens.old) }
+    ensures nodes { IfOk result (λ c. c.nodes ≡ nodes_in mend_row.kinds tokens.old) }
+{
+    let node = tokens.node(true)?;
+    let bearer = tokens.number(0, HIGHEST_BEARER)?;
+    tokens.finish()?;
+    Ok(Command {
+        line: Line::Mend {
+            node: node.node,
+            bearer: bearer as u8,
+        },
+        nodes: Sequence::from_slice(alloc, [node].as_slice())?,
+    })
+}
+
+/// What follows `cut`.
+#[tactic(auto, unfolding(crate::specs::Faults::row_fault))]
+pub fn cut_line(alloc: Global, tokens: &mut Tokens<'_>) -> Result<Command, LineFault>
+    ensures fault { Tells result (row_fault cut_row tokens.old) }
+    ensures line { IfOk result (λ c. c.line ≡ cut_row.asks tokens.old) }
+    ensures nodes { IfOk result (λ c. c.nodes ≡ nodes_in cut_row.kinds tokens.old) }
+{
+    let node = tokens.node(true)?;
+    let bearer = tokens.number(0, HIGHEST_BEARER)?;
+    tokens.finish()?;
+    Ok(Command {
+        line: Line::Cut {
+            node: node.node,
+            bearer: bearer as u8,
+        },
+        nodes: Sequence::from_slice(alloc, [node].as_slice())?,
+    })
+}
+
+/// What follows `tick`.
+#[tactic(auto, unfolding(crate::specs::Faults::row_fault))]
+pub fn tick_line(alloc: Global, tokens: &mut Tokens<'_>) -> Result<Command, LineFault>
+    ensures fault { Tells result (row_fault tick_row tokens.old) }
+    ensures line { IfOk result (λ c. c.line ≡ tick_row.asks tokens.old) }
+    ensures nodes { IfOk result (λ c. c.nodes ≡ nodes_in tick_row.kinds tokens.old) }
+{
+    let node = tokens.node(true)?;
+    tokens.finish()?;
+    Ok(Command {
+        line: Line::Tick { node: node.node },
+        nodes: Sequence::from_slice(alloc, [node].as_slice())?,
+    })
+}
+
+/// What follows `restart`.
+#[tactic(auto, unfolding(crate::specs::Faults::row_fault))]
+pub fn restart_line(alloc: Global, tokens: &mut Tokens<'_>) -> Result<Command, LineFault>
+    ensures fault { Tells result (row_fault restart_row tokens.old) }
+    ensures line { IfOk result (λ c. c.line ≡ restart_row.asks tokens.old) }
+    ensures nodes { IfOk result (λ c. c.nodes ≡ nodes_in restart_row.kinds tokens.old) }
+{
+    let node = tokens.node(true)?;
+    tokens.finish()?;
+    Ok(Command {
+        line: Line::Restart { node: node.node },
         nodes: Sequence::from_slice(alloc, [node].as_slice())?,
     })
 }
@@ -149,6 +220,53 @@ pub fn receive_line(alloc: Global, tokens: &mut Tokens<'_>) -> Result<Command, L
             node: node.node,
             port,
         },
+        nodes: Sequence::from_slice(alloc, [node].as_slice())?,
+    })
+}
+
+/// What follows `pump`.
+#[tactic(auto, unfolding(crate::specs::Faults::row_fault))]
+pub fn pump_line(alloc: Global, tokens: &mut Tokens<'_>) -> Result<Command, LineFault>
+    ensures fault { Tells result (row_fault pump_row tokens.old) }
+    ensures line { IfOk result (λ c. c.line ≡ pump_row.asks tokens.old) }
+    ensures nodes { IfOk result (λ c. c.nodes ≡ nodes_in pump_row.kinds tokens.old) }
+{
+    let bearer = tokens.number(0, HIGHEST_BEARER)?;
+    tokens.finish()?;
+    Ok(Command {
+        line: Line::Pump {
+            bearer: bearer as u8,
+        },
+        nodes: Sequence::new(alloc),
+    })
+}
+
+/// What follows `settle`.
+#[tactic(auto, unfolding(crate::specs::Faults::row_fault))]
+pub fn settle_line(alloc: Global, tokens: &mut Tokens<'_>) -> Result<Command, LineFault>
+    ensures fault { Tells result (row_fault settle_row tokens.old) }
+    ensures line { IfOk result (λ c. c.line ≡ settle_row.asks tokens.old) }
+    ensures nodes { IfOk result (λ c. c.nodes ≡ nodes_in settle_row.kinds tokens.old) }
+{
+    let rounds = tokens.number(0, MOST_ROUNDS)?;
+    tokens.finish()?;
+    Ok(Command {
+        line: Line::Settle { rounds },
+        nodes: Sequence::new(alloc),
+    })
+}
+
+/// What follows `links`.
+#[tactic(auto, unfolding(crate::specs::Faults::row_fault))]
+pub fn links_line(alloc: Global, tokens: &mut Tokens<'_>) -> Result<Command, LineFault>
+    ensures fault { Tells result (row_fault links_row tokens.old) }
+    ensures line { IfOk result (λ c. c.line ≡ links_row.asks tokens.old) }
+    ensures nodes { IfOk result (λ c. c.nodes ≡ nodes_in links_row.kinds tokens.old) }
+{
+    let node = tokens.node(true)?;
+    tokens.finish()?;
+    Ok(Command {
+        line: Line::Links { node: node.node },
         nodes: Sequence::from_slice(alloc, [node].as_slice())?,
     })
 }

@@ -11,6 +11,30 @@ pub enum Line {
         /// The node.
         node: u8,
     },
+    /// A bearer is to be mended at a node.
+    Mend {
+        /// The node.
+        node: u8,
+        /// The bearer.
+        bearer: u8,
+    },
+    /// A bearer is to be cut at a node.
+    Cut {
+        /// The node.
+        node: u8,
+        /// The bearer.
+        bearer: u8,
+    },
+    /// Time goes on by one tick at a node.
+    Tick {
+        /// The node.
+        node: u8,
+    },
+    /// A node is to be restarted.
+    Restart {
+        /// The node.
+        node: u8,
+    },
     /// A link between two nodes.
     Link {
         /// The one node.
@@ -55,6 +79,21 @@ pub enum Line {
         node: u8,
         /// The socket's port.
         port: u32,
+    },
+    /// The frames of a bearer arrive until none is left.
+    Pump {
+        /// The bearer.
+        bearer: u8,
+    },
+    /// The nodes go on until no packet is under way, for so many rounds at most.
+    Settle {
+        /// How many rounds, from 0 to 1,000,000.
+        rounds: u32,
+    },
+    /// The link ends of a node are shown.
+    Links {
+        /// The node.
+        node: u8,
     },
     /// The messages from one node to another are counted.
     Flow {

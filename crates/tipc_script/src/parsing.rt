@@ -1,7 +1,7 @@
 ghost use Rattle.std.specs.Prelude.{◌≡◌, ◌+◌, ◌<◌, ◌^◌, IfOk, length, MatchOption, Some, None, List, ℕ};
 ghost use Rattle.std.specs.Str.{bytes_eq};
 ghost use Rattle.tipc_script.specs.Kinds.{is_remark};
-ghost use Rattle.tipc_script.specs.Grammar.{row_of, asked_by, nodes_by, asked, nodes_of};
+ghost use Rattle.tipc_script.specs.Grammar.{traffic_rows, row_among, row_of, asked_by, nodes_by, asked, nodes_of};
 ghost use Rattle.tipc_script.specs.Faults.{Tells, Reads, fault_by, fault_of};
 ghost use Rattle.tipc_script.specs.declared.lines.Line.{Line};
 ghost use Rattle.tipc_script.specs.Spelling.{Asks};
@@ -25,12 +25,19 @@ const NO_SUCH_WORD: LineFault = LineFault::BadLine {
 #[derive(Clone, Copy)]
 enum FirstWord {
     Node,
+    Mend,
+    Cut,
+    Tick,
+    Restart,
     Link,
     Mark,
     Socket,
     Send,
     Arrive,
     Receive,
+    Pump,
+    Settle,
+    Links,
     Flow,
 }
 
@@ -49,6 +56,18 @@ fn first_word(token: &[u8]) -> Option<FirstWord>
     if is_word(token, b"node") {
         return Some(FirstWord::Node);
     }
+    if is_word(token, b"mend") {
+        return Some(FirstWord::Mend);
+    }
+    if is_word(token, b"cut") {
+        return Some(FirstWord::Cut);
+    }
+    if is_word(token, b"tick") {
+        return Some(FirstWord::Tick);
+    }
+    if is_word(token, b"restart") {
+        return Some(FirstWord::Restart);
+    }
     if is_word(token, b"link") {
         return Some(FirstWord::Link);
     }
@@ -58,6 +77,13 @@ fn first_word(token: &[u8]) -> Option<FirstWord>
     if is_word(token, b"socket") {
         return Some(FirstWord::Socket);
     }
+    traffic_word(token)
+}
+
+/// The first word of a line about messages, frames and links that are there, if the token is one.
+fn traffic_word(token: &[u8]) -> Option<FirstWord>
+    ensures { MatchOption result (row_among traffic_rows token.now ≡ None) (λ word. row_among traffic_rows token.now ≡ Some (row_for word)) }
+{
     if is_word(token, b"send") {
         return Some(FirstWord::Send);
     }
@@ -66,6 +92,15 @@ fn first_word(token: &[u8]) -> Option<FirstWord>
     }
     if is_word(token, b"receive") {
         return Some(FirstWord::Receive);
+    }
+    if is_word(token, b"pump") {
+        return Some(FirstWord::Pump);
+    }
+    if is_word(token, b"settle") {
+        return Some(FirstWord::Settle);
+    }
+    if is_word(token, b"links") {
+        return Some(FirstWord::Links);
     }
     if is_word(token, b"flow") {
         return Some(FirstWord::Flow);
@@ -85,12 +120,19 @@ fn line_behind(
 {
     match word {
         FirstWord::Node => forms::node_line(alloc, tokens),
+        FirstWord::Mend => forms::mend_line(alloc, tokens),
+        FirstWord::Cut => forms::cut_line(alloc, tokens),
+        FirstWord::Tick => forms::tick_line(alloc, tokens),
+        FirstWord::Restart => forms::restart_line(alloc, tokens),
         FirstWord::Link => forms::link_line(alloc, tokens),
         FirstWord::Mark => forms::mark_line(alloc, tokens),
         FirstWord::Socket => forms::socket_line(alloc, tokens),
         FirstWord::Send => forms::send_line(alloc, tokens),
         FirstWord::Arrive => forms::arrive_line(alloc, tokens),
         FirstWord::Receive => forms::receive_line(alloc, tokens),
+        FirstWord::Pump => forms::pump_line(alloc, tokens),
+        FirstWord::Settle => forms::settle_line(alloc, tokens),
+        FirstWord::Links => forms::links_line(alloc, tokens),
         FirstWord::Flow => forms::flow_line(alloc, tokens),
     }
 }

@@ -5,13 +5,13 @@ use std::test::Fail;
 use tipc_types::{Addr, Importance, PortId};
 
 /// The lines that are refused, each with the place and the reason that the rules give.
-const BAD_LINES: [(&[u8], u32, LineWhy); 62] = [
+const BAD_LINES: [(&[u8], u32, LineWhy); 89] = [
     (b" ", 1, LineWhy::Command),
     (b"nod 1", 1, LineWhy::Command),
     (b" node 1", 1, LineWhy::Command),
     (b"Node 1", 1, LineWhy::Command),
     (b"node\t1", 1, LineWhy::Command),
-    (b"tick 1", 1, LineWhy::Command),
+    (b"close 1 1", 1, LineWhy::Command),
     (b"publish 1 1 100 0 9 zone 1", 1, LineWhy::Command),
     (b"\xffode 1", 1, LineWhy::Command),
     (b"node", 5, LineWhy::End),
@@ -27,6 +27,21 @@ const BAD_LINES: [(&[u8], u32, LineWhy); 62] = [
     (b"node 1\r", 6, LineWhy::Number),
     (b"node 1 ", 8, LineWhy::End),
     (b"node 1 2", 8, LineWhy::End),
+    (b"mend", 5, LineWhy::End),
+    (b"mend 33 0", 6, LineWhy::Number),
+    (b"mend 1", 7, LineWhy::End),
+    (b"mend 1 1", 8, LineWhy::Number),
+    (b"mend 1 0 0", 10, LineWhy::End),
+    (b"cut 0 0", 5, LineWhy::Number),
+    (b"cut 1 ", 7, LineWhy::Number),
+    (b"cut 1 1", 7, LineWhy::Number),
+    (b"cut 1 0 x", 9, LineWhy::End),
+    (b"tick", 5, LineWhy::End),
+    (b"tick 0", 6, LineWhy::Number),
+    (b"tick 1 1", 8, LineWhy::End),
+    (b"restart", 8, LineWhy::End),
+    (b"restart 33", 9, LineWhy::Number),
+    (b"restart 1 0", 11, LineWhy::End),
     (b"link 0 2 0", 6, LineWhy::Number),
     (b"link 1 33 0", 8, LineWhy::Number),
     (b"link 1 2", 9, LineWhy::End),
@@ -68,6 +83,18 @@ const BAD_LINES: [(&[u8], u32, LineWhy); 62] = [
     (b"receive 1", 10, LineWhy::End),
     (b"receive 1 99999999999", 11, LineWhy::Number),
     (b"receive 1 1 x", 13, LineWhy::End),
+    (b"pump", 5, LineWhy::End),
+    (b"pump 1", 6, LineWhy::Number),
+    (b"pump 00", 6, LineWhy::Number),
+    (b"pump 0 0", 8, LineWhy::End),
+    (b"settle", 7, LineWhy::End),
+    (b"settle -1", 8, LineWhy::Number),
+    (b"settle 012", 8, LineWhy::Number),
+    (b"settle 1000001", 8, LineWhy::Number),
+    (b"settle 12 1", 11, LineWhy::End),
+    (b"links", 6, LineWhy::End),
+    (b"links x", 7, LineWhy::Number),
+    (b"links 1 2", 9, LineWhy::End),
     (b"flow 1", 7, LineWhy::End),
     (b"flow 1 a", 8, LineWhy::Number),
     (b"flow 1 1 1", 10, LineWhy::End),
@@ -144,6 +171,55 @@ fn lines_are_read_with_their_values(rt: HostRuntime) -> Result<(), Fail> {
             frame: 1_000_000
         }
     );
+    Ok(())
+}
+
+/// A token that names a node which has to be there.
+fn old_node(place: u32, node: u8) -> NodeToken {
+    NodeToken {
+        place,
+        node,
+        there: true,
+    }
+}
+
+#[test]
+fn lines_of_one_node_are_read(rt: HostRuntime) -> Result<(), Fail> {
+    let mend = read(&rt, rt.alloc(), b"mend 32 0").ok().ok_or("mend")?;
+    assert_eq!(rt;
+        mend.line,
+        Line::Mend {
+            node: 32,
+            bearer: 0
+        }
+    );
+    assert_eq!(rt; mend.nodes.as_slice(), [old_node(6, 32)].as_slice());
+    let cut = read(&rt, rt.alloc(), b"cut 1 0").ok().ok_or("cut")?;
+    assert_eq!(rt; cut.line, Line::Cut { node: 1, bearer: 0 });
+    assert_eq!(rt; cut.nodes.as_slice(), [old_node(5, 1)].as_slice());
+    let tick = read(&rt, rt.alloc(), b"tick 7").ok().ok_or("tick")?;
+    assert_eq!(rt; tick.line, Line::Tick { node: 7 });
+    assert_eq!(rt; tick.nodes.as_slice(), [old_node(6, 7)].as_slice());
+    let restart = read(&rt, rt.alloc(), b"restart 10").ok().ok_or("restart")?;
+    assert_eq!(rt; restart.line, Line::Restart { node: 10 });
+    assert_eq!(rt; restart.nodes.as_slice(), [old_node(9, 10)].as_slice());
+    let links = read(&rt, rt.alloc(), b"links 2").ok().ok_or("links")?;
+    assert_eq!(rt; links.line, Line::Links { node: 2 });
+    assert_eq!(rt; links.nodes.as_slice(), [old_node(7, 2)].as_slice());
+    Ok(())
+}
+
+#[test]
+fn lines_of_no_node_are_read(rt: HostRuntime) -> Result<(), Fail> {
+    let pump = read(&rt, rt.alloc(), b"pump 0").ok().ok_or("pump")?;
+    assert_eq!(rt; pump.line, Line::Pump { bearer: 0 });
+    assert!(rt; pump.nodes.is_empty());
+    let none = read(&rt, rt.alloc(), b"settle 0").ok().ok_or("none")?;
+    assert_eq!(rt; none.line, Line::Settle { rounds: 0 });
+    assert!(rt; none.nodes.is_empty());
+    let most = read(&rt, rt.alloc(), b"settle 1000000").ok().ok_or("most")?;
+    assert_eq!(rt; most.line, Line::Settle { rounds: 1_000_000 });
+    assert!(rt; most.nodes.is_empty());
     Ok(())
 }
 

@@ -1,7 +1,7 @@
-use Rattle.std.proofs.Common.{◌≡◌, ℕ, ◌<◌, ◌≤◌, Some, None, arith, ◌∙◌, ap, sym}
+use Rattle.std.proofs.Common.{◌≡◌, ℕ, ◌≤◌, Some, arith, ◌∙◌, ap, sym}
 use Rattle.std.specs.Fmt.{decimal}
 use Rattle.std.proofs.lemmas.Bool.{cond-true, cond-false}
-use Rattle.tipc_script.specs.Kinds.{number_of, is_number}
+use Rattle.tipc_script.specs.Kinds.{number_of}
 use Rattle.tipc_script.proofs.Numerals.{is_number_none, is_number_from, number_of-decimal}
 use Rattle.tipc_script.proofs.numbers.number_in.Goals as goal
 use Rattle.tipc_script.proofs.numbers.number_in.Goals.{then-number-from-via-then-number-from, then-number-from-via-else-number-from+then-number-from-2}

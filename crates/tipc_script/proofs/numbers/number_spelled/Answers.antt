@@ -1,7 +1,5 @@
-use Rattle.std.proofs.Common.{◌≡◌, ℕ, ◌<◌, ◌≤◌, arith, sym, ◌∙◌, ap, length, true, false}
+use Rattle.std.proofs.Common.{arith, sym, ◌∙◌, ap, length}
 use Rattle.std.proofs.lemmas.Fmt.{length-decimal-le}
-use Rattle.std.specs.Fmt.{decimal}
-use Rattle.tipc_script.specs.Kinds.{has_plain_front}
 use Rattle.tipc_script.proofs.Numerals.{not_plain, read_digits}
 use Rattle.tipc_script.proofs.numbers.number_spelled.Goals as goal
 use Rattle.tipc_script.proofs.numbers.number_spelled.Goals.{then-token-gt-MOST_DIGITS-via-then-token-gt-MOST_DIGITS, then-token-gt-MOST_DIGITS-via-else-token-gt-MOST_DIGITS+then-not-has_plain_front}

@@ -1,4 +1,4 @@
-use Rattle.std.proofs.Common.{◌≡◌, ◌+◌, ◌-◌, take, drop, length, ◌∷◌, ◌∙◌, ap, sym, arith}
+use Rattle.std.proofs.Common.{◌+◌, ◌-◌, take, drop, length, ◌∷◌, ◌∙◌, ap, sym, arith}
 use Rattle.std.proofs.lemmas.List.{take_all, length-drop}
 use Rattle.tipc_script.specs.Splitting.{tokens_of}
 use Rattle.tipc_script.proofs.Cutting.{one_token, first_and_rest}
