@@ -1,9 +1,8 @@
 -- What stands where in a frame, and a packet's words 2 and 3 written anew.
-use Rattle.std.proofs.Common.{◌≡◌, ℕ, ◌+◌, ◌*◌, ◌^◌, ◌<◌, ◌≤◌, List, [], ◌∷◌, ◌++◌, length, take, drop, refl, sym, ap, ◌∙◌, append_assoc, append-nil, length-append, subst, arith}
-use Rattle.std.proofs.Math.Seq.{take-append_seam, drop-append_seam}
+use Rattle.std.proofs.Common.{◌≡◌, ℕ, ◌+◌, ◌≤◌, List, [], ◌∷◌, ◌++◌, length, take, drop, refl, sym, ap, ◌∙◌, append_assoc, append-nil, length-append, subst, arith}
 use Rattle.std.proofs.lemmas.List.{drop_at, take_at}
 use Rattle.std.proofs.lemmas.List.Concat.{flat_map-cons}
-use Rattle.tipc_header.specs.Spelling.{Fields, from_bit, word, words, word_0, word_1, word_2, two_words, all_words, spelling, user_words, number_words}
+use Rattle.tipc_header.specs.Spelling.{Fields, from_bit, word, words, word_0, word_1, word_2, two_words, spelling, user_words, number_words}
 use Rattle.tipc_header.specs.Frames.{envelope, stamped, sent_as}
 use Rattle.tipc_header.specs.Reading.{word_at, long_at}
 use Rattle.tipc_header.proofs.Places.{long-high, long-low}

@@ -4,6 +4,7 @@ ghost use Rattle.std.specs.Prelude.{◌≡◌, ◌+◌, [], ◌∷◌, take, dro
 ghost use Rattle.tipc_header.specs.Grammar.{Fits};
 ghost use Rattle.tipc_header.specs.Spelling.{from_bit, spelling, view, words};
 ghost use Rattle.tipc_header.specs.Frames.{envelope, frame_of, stamped};
+ghost use Rattle.tipc_header.specs.Reading.{long_at};
 
 use crate::bits::long;
 use crate::encoding::{encode, put_bytes, put_long, put_words};
@@ -29,6 +30,7 @@ pub struct Frame<'a> {
 pub fn open_frame(bytes: &[u8]) -> Option<Frame<'_>>
     ensures none { IsNone result ↔ ((length bytes.now < 16) ⊎ (1516 < length bytes.now)) }
     ensures some { IfSome result (λ f. bytes.now ≡ frame_of f.first f.second f.packet.now) }
+    ensures places { IfSome result (λ f. (f.first ≡ long_at 0 bytes.now) × (f.second ≡ long_at 2 bytes.now) × (f.packet.now ≡ drop 16 bytes.now)) }
 {
     if bytes.len() < 16 || bytes.len() > MOST_FRAME_BYTES {
         return None;

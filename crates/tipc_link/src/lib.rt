@@ -7,7 +7,7 @@ mod outcomes;
 mod session;
 
 pub use laws::session_gives_prefix;
-pub use link::{Link, LinkArrival, is_down};
+pub use link::{Link, LinkArrival, is_down, is_traffic};
 pub use outcomes::LinkOutcome;
 pub use session::Session;
 

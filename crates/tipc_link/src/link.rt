@@ -588,8 +588,8 @@ fn change_of(fsm: &mut LinkFsm, header: &Header, es: u64, er: u64, held: bool) -
     }
 }
 
-/// Whether a packet is a STATE or has a number.
-fn is_traffic(header: &Header) -> bool
+/// Whether a packet is a STATE or has a number: it belongs to a session.
+pub fn is_traffic(header: &Header) -> bool
     ensures { result ≡ is_traffic header.now }
 {
     match header {

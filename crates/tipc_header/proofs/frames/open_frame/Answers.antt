@@ -1,6 +1,4 @@
-use Rattle.std.proofs.Common.{◌≡◌, ◌-◌, ◌++◌, length, take, drop, sym, ap, ◌∙◌, take_all, length-drop, arith}
-use Rattle.tipc_header.specs.Reading.{long_at}
-use Rattle.tipc_header.specs.Frames.{envelope, frame_of}
+use Rattle.std.proofs.Common.{◌≡◌, ◌-◌, length, take, drop, take_all, length-drop, arith}
 use Rattle.tipc_header.proofs.FrameWords.{envelope-reads}
 use Rattle.tipc_header.proofs.frames.open_frame.Goals as goal
 
