@@ -1,9 +1,10 @@
-use Rattle.std.specs.Prelude.{◌==◌}
+use Rattle.std.specs.Prelude.{◌==◌, count_by, is_some}
 use Rattle.std.specs.List.{cons_option, filter_map}
-use Rattle.std.proofs.Common.{◌≡◌, ◌⊎◌, inl, inr, ℕ, Bool, true, false, List, [], ◌∷◌, ◌++◌, Option, Some, None, cond, refl, ◌∙◌, ap, eq-eqb, eqb-true}
+use Rattle.std.proofs.Common.{◌≡◌, ◌⊎◌, inl, inr, ℕ, Bool, true, false, List, [], ◌∷◌, ◌++◌, Option, Some, None, cond, length, ◌+◌, refl, ◌∙◌, ap, eq-eqb, eqb-true, arith}
 use Rattle.std.proofs.lemmas.Bool.{and_from, and_parts}
 use Rattle.std.proofs.lemmas.List.{append-nil}
 use Rattle.std.proofs.lemmas.List.Elements.{filter_map-append}
+use Rattle.std.proofs.lemmas.List.Recursion.{is_count_by}
 use Rattle.tipc_types.specs.declared.message_forms.Flow.{Flow}
 use Rattle.tipc_types.specs.declared.message_forms.Flow.TheVariants.{Zero, One, Broadcast}
 use Rattle.tipc_types.specs.declared.message_forms.Message.{Message}
@@ -70,6 +71,16 @@ filter_map_more {X} {Y} h xs x =
     let P : Option Y → Type 0 = λ o. filter_map h xs ++ cons_option o [] ≡ list_with (filter_map h xs) o in
     filter_map-append h xs (x ∷ []) ∙ (elim (h x) as P [ None ↦ append-nil (filter_map h xs) | Some y ↦ refl ])
 
+-- an item before others, where there is one, makes a list longer by one
+length_cons_option : {Y : Type 0} (o : Option Y) (ys : List Y) → length (cons_option o ys) ≡ cond (is_some o) (1 + length ys) (length ys)
+length_cons_option None ys = refl
+length_cons_option (Some y) ys = omega arith
+
+-- a list that is read for some of its entries gives as many items as there are such entries
+length_filter_map : {X Y : Type 0} (h : X → Option Y) (xs : List X) → length (filter_map h xs) ≡ count_by (λ x. is_some (h x)) xs
+length_filter_map h xs =
+    is_count_by (λ ys. length (filter_map h ys)) (λ x. is_some (h x)) refl (λ x ys. length_cons_option (h x) (filter_map h ys)) xs
+
 -- an empty journal accepted nothing
 pub accepted_nil : (s : Stream) → accepted [] s ≡ []
 unfolding accepted
@@ -99,6 +110,11 @@ accepted_other xs s t m other =
     accepted_more xs (Accepted t.peer t.contact t.flow m) s
     ∙ ap (λ b. list_with (accepted xs s) (cond b (Some m) None)) other
 
+-- as many messages were accepted as there are Accepted entries of the stream
+pub length_accepted : (entries : List Entry) (s : Stream) → length (accepted entries s) ≡ count_by (λ e. is_some (accepted_message s e)) entries
+unfolding accepted
+length_accepted entries s = length_filter_map (accepted_message s) entries
+
 -- an empty journal delivered nothing
 pub delivered_nil : (s : Stream) → delivered [] s ≡ []
 unfolding delivered
@@ -127,6 +143,11 @@ pub delivered_other : (xs : List Entry) (s t : Stream) (m : Message) (by : List 
 delivered_other xs s t m by other =
     delivered_more xs (Delivered t.peer t.contact t.flow m by) s
     ∙ ap (λ b. list_with (delivered xs s) (cond b (Some m) None)) other
+
+-- as many messages were delivered as there are Delivered entries of the stream
+pub length_delivered : (entries : List Entry) (s : Stream) → length (delivered entries s) ≡ count_by (λ e. is_some (delivered_message s e)) entries
+unfolding delivered
+length_delivered entries s = length_filter_map (delivered_message s) entries
 
 -- the messages accepted in later entries stand behind the earlier ones
 pub accepted_adds : (xs ys : List Entry) (s : Stream) → accepted (xs ++ ys) s ≡ accepted xs s ++ filter_map (accepted_message s) ys

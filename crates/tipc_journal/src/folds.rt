@@ -1,4 +1,4 @@
-ghost use Rattle.std.specs.Prelude.{◌≡◌, ◌++◌, Option, IfOk, OnOk};
+ghost use Rattle.std.specs.Prelude.{◌≡◌, ◌++◌, Option, IfOk, OnOk, is_some, length};
 ghost use Rattle.std.specs.Option.{option_copied};
 ghost use Rattle.tipc_journal.specs.Streams.{Stream, stream_eq, flow_eq, accepted_message, delivered_message, accepted, delivered};
 ghost use Rattle.tipc_journal.specs.Prefixes.{list_with};
@@ -46,6 +46,30 @@ impl Journal {
             add_copy(&mut found, delivered_message(entry, peer, contact, flow))?;
         }
         Ok(MessageList::from_vec(found))
+    }
+
+    /// How many messages were accepted for a peer in a contact (this node's number, then the peer's) and a
+    /// flow. It takes no memory. (This project's profile.)
+    #[tactic(auto, using(crate::proofs::StreamLaws::length_accepted))]
+    pub fn accepted_count(&self, peer: Addr, contact: (u64, u64), flow: Flow) -> u64
+        ensures { result ≡ length (accepted self.now.entries (record { peer = peer; contact = contact; flow = flow })) }
+    {
+        let entries = self.entries().iter();
+        entries
+            .filter(|entry| is_accepted(entry, peer, contact, flow))
+            .count() as u64
+    }
+
+    /// How many messages were delivered from a peer in a contact (this node's number, then the peer's) and
+    /// a flow. It takes no memory. (This project's profile.)
+    #[tactic(auto, using(crate::proofs::StreamLaws::length_delivered))]
+    pub fn delivered_count(&self, peer: Addr, contact: (u64, u64), flow: Flow) -> u64
+        ensures { result ≡ length (delivered self.now.entries (record { peer = peer; contact = contact; flow = flow })) }
+    {
+        let entries = self.entries().iter();
+        entries
+            .filter(|entry| is_delivered(entry, peer, contact, flow))
+            .count() as u64
     }
 
     /// This node's live publications: those Published without a Withdrawn of that key after them, in order.
@@ -145,6 +169,20 @@ fn delivered_message(entry: &Entry, peer: Addr, contact: (u64, u64), flow: Flow)
         }
         _ => None,
     }
+}
+
+/// Whether the entry is an Accepted entry of the stream.
+fn is_accepted(entry: &Entry, peer: Addr, contact: (u64, u64), flow: Flow) -> bool
+    ensures { result ≡ is_some (accepted_message (record { peer = peer; contact = contact; flow = flow }) entry.now) }
+{
+    accepted_message(entry, peer, contact, flow).is_some()
+}
+
+/// Whether the entry is a Delivered entry of the stream.
+fn is_delivered(entry: &Entry, peer: Addr, contact: (u64, u64), flow: Flow) -> bool
+    ensures { result ≡ is_some (delivered_message (record { peer = peer; contact = contact; flow = flow }) entry.now) }
+{
+    delivered_message(entry, peer, contact, flow).is_some()
 }
 
 /// Adds a copy of the message, where there is one.

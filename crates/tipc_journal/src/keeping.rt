@@ -33,7 +33,8 @@ impl Model for Journal {
 
     ghost invariant = { λ j. (vec_len j.stored + j.promised ≤ vec_capacity j.stored)
         × (j.bytes ≡ message_bytes j.stored.items)
-        × (j.bytes ≤ 67108864) };
+        × (j.bytes ≤ 67108864)
+        × (vec_len j.stored ≤ 1048576) };
 }
 
 /// Why an entry wasn't appended.
@@ -138,9 +139,10 @@ impl Journal {
         self.stored.as_slice()
     }
 
-    /// How many entries it has.
+    /// How many entries it has, at most 1,048,576.
     pub fn len(&self) -> u64
-        ensures { result ≡ length self.now.entries }
+        ensures value { result ≡ length self.now.entries }
+        ensures bound { result ≤ 1048576 }
     {
         self.stored.len() as u64
     }
