@@ -1,5 +1,5 @@
 -- What the calls of a node come to, with the frames that leave.
-use Rattle.std.specs.Prelude.{◌≡◌, ◌≤◌, ℕ, true, List, [], ◌∷◌, Some, is_some}
+use Rattle.std.specs.Prelude.{◌≡◌, ◌<◌, ◌≤◌, ◌^◌, ℕ, true, List, [], ◌∷◌, Some, is_some}
 use Rattle.tipc_types.specs.Address.{node_word}
 use Rattle.tipc_types.specs.declared.message_forms.Message.{Message}
 use Rattle.tipc_types.specs.declared.node_calls.By.{By}
@@ -28,6 +28,8 @@ pub record IsSent (old new : NodeState) (box box' : Out) (by : By) (event : Even
 -- a frame brings a packet, under an envelope of two numbers, that is due at the link of its sender, the peer of that number
 pub record IsDue (n : NodeState) (bytes : List ℕ) (peer first second : ℕ) (p : Fields) : Type 0 where
   pub range : (1 ≤ peer) × (peer ≤ 32)
+  pub first_fits : first < 2 ^ 64
+  pub second_fits : second < 2 ^ 64
   pub fits : Fits p
   pub opened : bytes ≡ frame_of first second (spelling p)
   pub previous : p.previous ≡ node_word peer

@@ -1,5 +1,5 @@
 -- A node, and what each call makes of it.
-use Rattle.std.specs.Prelude.{ℕ, ◌+◌, ◌-◌, ◌*◌, ◌%◌, ◌==◌, Bool, true, false, List, [], ◌∷◌, ◌++◌, Option, Some, None, drop, length, map, nat_le, nat_lt, not, is_some, slice_index_or, slice_set, ◌&&◌, if◌then◌else◌}
+use Rattle.std.specs.Prelude.{ℕ, ◌+◌, ◌-◌, ◌*◌, ◌%◌, ◌==◌, Bool, true, false, List, [], ◌∷◌, ◌++◌, Option, Some, None, drop, length, map, nat_le, nat_lt, not, is_some, option_and_then, slice_index_or, slice_set, sum_by, ◌&&◌, if◌then◌else◌}
 use Rattle.std.specs.List.{flat_map}
 use Rattle.tipc_types.specs.Address.{node_word}
 use Rattle.tipc_types.specs.declared.identity.PortId.{PortId}
@@ -36,7 +36,7 @@ use Rattle.tipc_link.specs.Links.{LinkEnd, mend_frames, mended_end, with_session
 use Rattle.tipc_link.specs.Sessions.{SessionEnd, flushed, put}
 use Rattle.tipc_pair.specs.declared.changes.PairChange.{PairChange}
 use Rattle.tipc_pair.specs.declared.changes.PairChange.TheVariants.{Stay, Began, Ended}
-use Rattle.tipc_pair.specs.Pairs.{Met, lonely}
+use Rattle.tipc_pair.specs.Pairs.{Met, contact_of, lonely}
 use Rattle.tipc_node.specs.declared.neighbours.Neighbour.{Neighbour}
 use Rattle.tipc_node.specs.declared.neighbours.Deed.{Deed}
 use Rattle.tipc_node.specs.declared.neighbours.Deed.TheVariants as deed
@@ -56,6 +56,10 @@ pub record NodeState : Type 0 where
 -- what node n keeps of a peer
 abbrev pub neighbour_of : NodeState → ℕ → Option Neighbour
 neighbour_of n peer = slice_index_or n.neighbours peer None
+
+-- the contact in which node n is with a peer: n's own contact number, then the peer's
+abbrev pub contact_with : NodeState → ℕ → Option (ℕ × ℕ)
+contact_with n peer = option_and_then (λ x. contact_of x.pair) (neighbour_of n peer)
 
 abbrev pub with_neighbours : NodeState → List (Option Neighbour) → NodeState
 with_neighbours n xs = record { own = n.own; boot = n.boot; mended = n.mended; neighbours = xs; inboxes = n.inboxes; journal = n.journal }
@@ -186,6 +190,22 @@ direct own port to importance body = Payload importance form.Direct (record { no
 abbrev pub session_with : Option Neighbour → Option SessionEnd
 session_with None = None
 session_with (Some x) = if is_up x.pair.fsm.state then x.pair.session else None
+
+-- how many packets are unacknowledged, and how many wait, on a link: none without contact
+abbrev pub unacked_in : Option SessionEnd → ℕ
+unacked_in None = 0
+unacked_in (Some s) = length s.sending.unacked
+
+abbrev pub waiting_in : Option SessionEnd → ℕ
+waiting_in None = 0
+waiting_in (Some s) = length s.sending.waiting
+
+-- how many packets are unacknowledged, and how many wait, on all links of a node that are up
+unfoldable pub load_all : List (Option Neighbour) → ℕ × ℕ
+load_all xs = (sum_by (λ x. unacked_in (session_with x)) xs, sum_by (λ x. waiting_in (session_with x)) xs)
+
+abbrev pub load_of : NodeState → ℕ × ℕ
+load_of n = load_all n.neighbours
 
 -- there is no contact with the peer, or too much waits on the link to it
 abbrev pub refusal_at : Option SessionEnd → ℕ → Option Answer

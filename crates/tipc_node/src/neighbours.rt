@@ -4,7 +4,7 @@ ghost use Rattle.tipc_header.specs.Spelling.{view};
 ghost use Rattle.tipc_header.specs.Grammar.{Fits};
 ghost use Rattle.tipc_link.specs.Links.{with_session};
 ghost use Rattle.tipc_link.specs.Sessions.{SessionEnd, flush_frames, flushed, put};
-ghost use Rattle.tipc_node.specs.Nodes.{accepted_entry, after_all, after_one, deed_note, entries_all, entries_one, frames_all, frames_one, mended_by, session_with};
+ghost use Rattle.tipc_node.specs.Nodes.{accepted_entry, after_all, after_one, deed_note, entries_all, entries_one, frames_all, frames_one, load_all, mended_by, session_with, unacked_in, waiting_in};
 ghost use Rattle.tipc_node.specs.Neighbours.{done, heard_frames, heard_neighbour, in_step_after, is_state, is_taken, met_by, neighbour, no_broadcast, stays_in_step};
 
 use crate::recording::note_change;
@@ -267,4 +267,31 @@ pub fn take_part_all(
             out,
         );
     }
+}
+
+/// The numbers of packets unacknowledged and waiting on the link to a neighbour: none where there is no contact.
+fn load_at(place: &Option<Neighbour>) -> (u32, u32)
+    ensures unacked { result.0 ≡ unacked_in (session_with place.now) }
+    ensures waiting { result.1 ≡ waiting_in (session_with place.now) }
+{
+    let Some(neighbour) = place else {
+        return (0, 0);
+    };
+    neighbour.load().unwrap_or((0, 0))
+}
+
+/// The numbers of packets unacknowledged and waiting on all links together, of those that are up.
+#[tactic(auto, unfolding(crate::specs::Nodes::load_all))]
+pub fn load_all(neighbours: &[Option<Neighbour>]) -> (u64, u64)
+    requires { length neighbours.now ≤ 33 }
+    ensures { result ≡ load_all neighbours.now }
+{
+    let mut unacked = 0;
+    let mut waiting = 0;
+    for place in neighbours {
+        let (in_flight, queued) = load_at(place);
+        unacked += in_flight as u64;
+        waiting += queued as u64;
+    }
+    (unacked, waiting)
 }

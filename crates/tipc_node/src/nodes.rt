@@ -1,19 +1,20 @@
-ghost use Rattle.std.specs.Prelude.{◌≡◌, ◌+◌, ◌-◌, ◌<◌, ◌≤◌, ◌≢◌, ◌^◌, ◌++◌, ◌∷◌, [], List, ℕ, Bool, true, false, Option, Some, None, Ok, Err, length, map, slice_index_or, slice_set, is_some, unwrap_or, IfErr, IfOk, IfSome, IfNone, OnErr, OnOk, vec_len, vec_capacity, sum_by};
+ghost use Rattle.std.specs.Prelude.{◌≡◌, ◌+◌, ◌-◌, ◌<◌, ◌≤◌, ◌≢◌, ◌^◌, ◌++◌, ◌∷◌, [], List, ℕ, Bool, true, false, Option, Some, None, Ok, Err, length, map, slice_index_or, slice_set, is_some, option_map, unwrap_or, IfErr, IfOk, IfSome, IfNone, OnErr, OnOk, vec_len, vec_capacity, sum_by};
 ghost use Rattle.tipc_types.specs.Address.{node_word, IsNodeWord};
 ghost use Rattle.tipc_outside.specs.Frames.{Adds};
 ghost use Rattle.tipc_header.specs.Spelling.{Fields, spelling, view};
 ghost use Rattle.tipc_header.specs.Grammar.{Fits};
 ghost use Rattle.tipc_journal.specs.Room.{counted_bytes, entry_bytes};
+ghost use Rattle.tipc_journal.specs.Streams.{Stream, accepted, delivered};
 ghost use Rattle.tipc_message.specs.Wire.{message_of, packet_of, IsPayload};
 ghost use Rattle.tipc_link.specs.Links.{LinkEnd, with_session};
 ghost use Rattle.tipc_link.specs.Sessions.{SessionEnd, flush_frames, flushed, put};
 ghost use Rattle.tipc_node.specs.Calls.{IsDue, IsSent};
 ghost use Rattle.tipc_node.specs.Neighbours.{heard_frames, heard_neighbour, met_by, neighbour};
-ghost use Rattle.tipc_node.specs.Nodes.{NodeState, accepted_entry, after_all, deed_node, deed_note, direct, entries_all, frames_all, has_port, has_room, heard_answer, heard_node, known_frames, known_node, limit_of, mended_by, neighbour_of, port_base, port_of, receive_answer, receive_node, refusal, session_with, socket_answer, socket_node, stop_of, stopped_node, recorded, taken_entries};
+ghost use Rattle.tipc_node.specs.Nodes.{NodeState, accepted_entry, after_all, contact_with, deed_node, deed_note, direct, entries_all, frames_all, has_port, has_room, heard_answer, heard_node, known_frames, known_node, limit_of, load_of, mended_by, neighbour_of, port_base, port_of, receive_answer, receive_node, refusal, session_with, socket_answer, socket_node, stop_of, stopped_node, recorded, taken_entries};
 
 use crate::arriving::{Due, finish, is_known, look, prepare_delivery};
 use crate::inboxes::Inbox;
-use crate::neighbours::{Deed, NUMBERS, Neighbour, deed_note, mended_by, take_part_all};
+use crate::neighbours::{Deed, NUMBERS, Neighbour, deed_note, load_all, mended_by, take_part_all};
 use crate::ports::{MOST_SOCKETS, kept_answer, port_base, socket_answer, take_first};
 use crate::recording::{NodeFault, begin, has_room, note_change, record};
 use crate::sending::{direct, limit};
@@ -24,7 +25,8 @@ use tipc_message::packet_bytes;
 use tipc_outside::Outbox;
 use tipc_pair::Pair;
 use tipc_types::{
-    Addr, Answer, Arrival, By, Bytes, EventNote, Importance, Message, NoMemory, PortId, Why,
+    Addr, Answer, Arrival, By, Bytes, EventNote, Flow, Importance, LinkState, Message, NoMemory,
+    PortId, Why,
 };
 
 /// The most changes of links that one call tells of: two for each peer.
@@ -134,6 +136,45 @@ impl Node {
         self.journal.entries()
     }
 
+    /// How many messages were accepted for the peer in a contact: this node's contact number, then the peer's.
+    pub fn accepted_count(&self, peer: u8, contact: (u64, u64)) -> u64
+        requires { (1 ≤ peer) × (peer ≤ 32) }
+        ensures { result ≡ length (accepted self.now.journal (record { peer = record { word = node_word peer }; contact = contact; flow = Flow.Zero })) }
+    {
+        self.journal
+            .accepted_count(Addr::node(peer), contact, Flow::Zero)
+    }
+
+    /// How many messages were delivered from the peer in a contact: this node's contact number, then the peer's.
+    pub fn delivered_count(&self, peer: u8, contact: (u64, u64)) -> u64
+        requires { (1 ≤ peer) × (peer ≤ 32) }
+        ensures { result ≡ length (delivered self.now.journal (record { peer = record { word = node_word peer }; contact = contact; flow = Flow.Zero })) }
+    {
+        self.journal
+            .delivered_count(Addr::node(peer), contact, Flow::Zero)
+    }
+
+    /// The contact with the peer: this node's contact number, then the peer's. None exactly where it isn't in contact with it.
+    pub fn contact(&self, peer: u8) -> Option<(u64, u64)>
+        ensures { result ≡ contact_with self.now peer }
+    {
+        self.neighbour(peer)?.pair.contact()
+    }
+
+    /// The numbers of packets unacknowledged and waiting, each on all its links together that are up.
+    pub fn load(&self) -> (u64, u64)
+        ensures { result ≡ load_of self.now }
+    {
+        load_all(self.neighbours.as_slice())
+    }
+
+    /// The state of the link end to the peer on bearer 0: None exactly where there is none.
+    pub fn links(&self, peer: u8) -> Option<LinkState>
+        ensures { result ≡ option_map (λ x. x.pair.fsm.state) (neighbour_of self.now peer) }
+    {
+        Some(self.neighbour(peer)?.pair.state())
+    }
+
     /// Gives up its journal: the boot is over.
     pub fn into_journal(self) -> Journal
         ensures { result.entries ≡ self.journal }
@@ -228,7 +269,7 @@ impl Node {
     }
 
     /// The numbers of packets unacknowledged and waiting on the link to the peer: None exactly where there is no contact.
-    fn load(&self, peer: u8) -> Option<(u32, u32)>
+    fn load_to(&self, peer: u8) -> Option<(u32, u32)>
         ensures some { IfSome result (λ counts. (s : SessionEnd) × (session_with (neighbour_of self.now peer) ≡ Some s) × (counts.0 ≡ length s.sending.unacked) × (counts.1 ≡ length s.sending.waiting)) }
         ensures none { IfNone result (session_with (neighbour_of self.now peer) ≡ None) }
     {
@@ -246,7 +287,7 @@ impl Node {
         if !self.has_port(port) {
             return Some(Answer::NoSocket);
         }
-        let Some((in_flight, waiting)) = self.load(peer) else {
+        let Some((in_flight, waiting)) = self.load_to(peer) else {
             return Some(Answer::NoNode);
         };
         if waiting >= limit {
@@ -294,7 +335,7 @@ impl Node {
         };
         let most = limit(importance);
         if let Some(refusal) = self.refusal(port, peer, most) {
-            let kept = refusal.clone()?;
+            let kept = refusal.copy()?;
             record(&mut self.journal, by, note, Vec::new(alloc), kept);
             return Ok(refusal);
         }

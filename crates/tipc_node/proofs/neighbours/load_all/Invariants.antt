@@ -1,0 +1,5 @@
+use Rattle.tipc_node.proofs.Loads.{IsSummed}
+use Rattle.tipc_node.proofs.neighbours.load_all.Given as goal
+
+abbrev pub invariant-loop-place : goal.invariant-loop-place
+invariant-loop-place l = IsSummed l.neighbours l.place-index l.unacked l.waiting
