@@ -1,11 +1,18 @@
 -- A world only grows.
-use Rattle.std.proofs.Common.{◌≡◌, ℕ, List, [], ◌++◌, Option, Some, None, slice_index_or, slice_set, sym, ap, ◌∙◌, subst, inl, inr, append-nil, append_assoc}
+use Rattle.std.proofs.Common.{◌≡◌, ℕ, Bool, List, [], ◌++◌, Option, Some, None, inl, inr, map, take, slice_index_or, slice_set, refl, sym, ap, subst, ◌∙◌, append-nil, append_assoc}
 use Rattle.std.proofs.lemmas.Bool.{cases_eq}
+use Rattle.tipc_types.specs.declared.node_calls.Answer.{Answer}
 use Rattle.tipc_journal.specs.Prefixes.{IsPrefixOf}
-use Rattle.tipc_world.specs.States.{NodeState, WorldState, journal_at}
+use Rattle.tipc_world.specs.declared.events.WorldEvent.{WorldEvent}
+use Rattle.tipc_world.specs.declared.events.WorldEvent.TheVariants.{Arrive}
+use Rattle.tipc_world.specs.Air.{airborne}
+use Rattle.tipc_world.specs.Calls.{node_of}
+use Rattle.tipc_world.specs.Due.{unarrived}
 use Rattle.tipc_world.specs.Growth.{Grows}
-use Rattle.tipc_world.proofs.LookUps.{node_at-put_same, node_at-put_other, journal_at-there, journal_at-same_node}
-use Rattle.tipc_world.proofs.Steps.{at_is, within_where_some}
+use Rattle.tipc_world.specs.States.{MemberState, WorldState, history, history_at}
+use Rattle.tipc_world.specs.Steps.{Becomes, Happens, IsArrival, IsStep, Stage, stage}
+use Rattle.tipc_world.proofs.LookUps.{history_at-is, history_at-same, member_at-changed, member_at-is, member_at-other}
+use Rattle.tipc_world.proofs.HistoryEvents.{does_grow}
 
 pub prefix_same : {A : Type 0} (xs ys : List A) → ys ≡ xs → IsPrefixOf xs ys
 prefix_same xs ys same = ([], same ∙ sym (append-nil xs))
@@ -13,34 +20,50 @@ prefix_same xs ys same = ([], same ∙ sym (append-nil xs))
 pub prefix_trans : {A : Type 0} (xs ys zs : List A) → IsPrefixOf xs ys → IsPrefixOf ys zs → IsPrefixOf xs zs
 prefix_trans xs ys zs p q = (p.0 ++ q.0, q.1 ∙ ap (λ l. l ++ q.0) p.1 ∙ append_assoc xs p.0 q.0)
 
--- every journal of these nodes is a prefix of that of those
-abbrev pub JournalsGrow : List (Option NodeState) → List (Option NodeState) → Type 0
-JournalsGrow nodes nodes' = (n : ℕ) → IsPrefixOf (journal_at nodes n) (journal_at nodes' n)
+-- the air and each node's history grew
+pub record StageGrows (old new : Stage) : Type 0 where
+  pub air : IsPrefixOf old.air new.air
+  pub histories : (n : ℕ) → IsPrefixOf (history_at old.members n) (history_at new.members n)
 
-pub journals_same : (nodes nodes' : List (Option NodeState)) → nodes' ≡ nodes → JournalsGrow nodes nodes'
-journals_same nodes nodes' same n = prefix_same (journal_at nodes n) (journal_at nodes' n) (ap (λ ns. journal_at ns n) same)
-
-pub journals_trans : (a b c : List (Option NodeState)) → JournalsGrow a b → JournalsGrow b c → JournalsGrow a c
-journals_trans a b c p q n = prefix_trans (journal_at a n) (journal_at b n) (journal_at c n) (p n) (q n)
+stage_same : (old new : Stage) → new ≡ old → StageGrows old new
+stage_same old new same = record {
+  air = prefix_same old.air new.air (ap (λ (s : Stage). s.air) same);
+  histories = λ n. prefix_same (history_at old.members n) (history_at new.members n) (ap (λ (s : Stage). history_at s.members n) same);
+}
 
 -- a node was written
-pub put_grows : (nodes : List (Option NodeState)) (a : ℕ) (n n' : NodeState) → slice_index_or nodes a None ≡ Some n → IsPrefixOf n.journal n'.journal → JournalsGrow nodes (slice_set nodes a (Some n'))
-put_grows nodes a n n' was longer m =
-    let nodes' = slice_set nodes a (Some n') in
-    elim (cases_eq m a) [
+put_grows : (members : List (Option MemberState)) (a : ℕ) (m m' : MemberState) → slice_index_or members a None ≡ Some m → IsPrefixOf (history m) (history m')
+    → (n : ℕ) → IsPrefixOf (history_at members n) (history_at (slice_set members a (Some m')) n)
+put_grows members a m m' was longer n =
+    let members' = slice_set members a (Some m') in
+    elim (cases_eq n a) [
       | inl same ↦
-          let old : journal_at nodes a ≡ n.journal = journal_at-there nodes a n (at_is nodes a n was) in
-          let new : journal_at nodes' a ≡ n'.journal = journal_at-there nodes' a n' (node_at-put_same nodes a n' (within_where_some nodes a n was)) in
-          let here : IsPrefixOf (journal_at nodes a) (journal_at nodes' a) = subst (λ l. IsPrefixOf l (journal_at nodes' a)) (sym old) (subst (λ l. IsPrefixOf n.journal l) (sym new) longer) in
-          subst (λ k. IsPrefixOf (journal_at nodes k) (journal_at nodes' k)) (sym same) here
-      | inr other ↦ prefix_same (journal_at nodes m) (journal_at nodes' m) (journal_at-same_node nodes nodes' m (node_at-put_other nodes a m n' other))
+          let old = history_at-is members a m (member_at-is members a m was) in
+          let new = history_at-is members' a m' (member_at-changed members a m m' was) in
+          let here : IsPrefixOf (history_at members a) (history_at members' a) = subst (λ es. IsPrefixOf es (history_at members' a)) (sym old) (subst (λ es. IsPrefixOf (history m) es) (sym new) longer) in
+          subst (λ k. IsPrefixOf (history_at members k) (history_at members' k)) (sym same) here
+      | inr other ↦ prefix_same (history_at members n) (history_at members' n) (history_at-same members members' n (member_at-other members a n m' other))
     ]
 
-pub put_grows_by : (nodes nodes' : List (Option NodeState)) (a : ℕ) (n n' : NodeState) → slice_index_or nodes a None ≡ Some n → nodes' ≡ slice_set nodes a (Some n') → IsPrefixOf n.journal n'.journal → JournalsGrow nodes nodes'
-put_grows_by nodes nodes' a n n' was is longer = subst (λ ns. JournalsGrow nodes ns) (sym is) (put_grows nodes a n n' was longer)
-
-pub same_grows : (old new : WorldState) → new ≡ old → Grows old new
-same_grows old new same = record {
-  air = prefix_same old.air new.air (ap (λ (w : WorldState). w.air) same);
-  journals = journals_same old.nodes new.nodes (ap (λ (w : WorldState). w.nodes) same);
+pub happens_grows : (old new : Stage) (stamp : ℕ) (event : WorldEvent) (bytes : List ℕ) (answered : Answer) (lost : Bool) → Happens old new stamp event bytes answered lost → StageGrows old new
+happens_grows old new stamp event bytes answered lost h = record {
+  air = (map (airborne new.members (node_of event)) (take h.turns.leaves.count h.frames), h.turns.leaves.air);
+  histories = λ n. subst (λ ms. IsPrefixOf (history_at old.members n) (history_at ms n)) (sym h.turns.members)
+      (put_grows old.members (node_of event) h.before h.after h.turns.was (does_grow stamp event bytes h.before h.after h.frames answered h.does) n);
 }
+
+arrival_grows : (old new : Stage) (stamp node bearer place : ℕ) (answered : Answer) (lost : Bool) → IsArrival old new stamp node bearer place answered lost → StageGrows old new
+arrival_grows old new stamp node bearer place answered lost h = case (unarrived old.members old.air node bearer place) refl
+  where
+    case : (r : Option Answer) → unarrived old.members old.air node bearer place ≡ r → StageGrows old new
+    case None due = let a = h.arrives due in happens_grows old new stamp (Arrive node bearer place) (a.0).frame answered lost a.2
+    case (Some why) stays = stage_same old new (h.none why stays).1
+
+becomes_grows : (old new : Stage) (stamp : ℕ) (event : WorldEvent) (answered : Answer) (lost : Bool) → Becomes old stamp event new answered lost → StageGrows old new
+becomes_grows old new stamp (Arrive node bearer place) answered lost h = arrival_grows old new stamp node bearer place answered lost h
+becomes_grows old new stamp event answered lost h = happens_grows old new stamp event [] answered lost h
+
+pub step_grows : (old new : WorldState) (event : WorldEvent) (answered : Answer) → IsStep old event new answered → Grows old new
+step_grows old new event answered h =
+    let grown = becomes_grows (stage old.members old.air) (stage new.members new.air) old.stamps event answered h.lost h.becomes in
+    record { air = grown.air; histories = grown.histories }

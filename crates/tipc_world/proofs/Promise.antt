@@ -1,74 +1,69 @@
 -- A sound world is a good one.
-use Rattle.std.proofs.Common.{◌≡◌, ◌⊎◌, ℕ, List, ◌++◌, Option, Some, None, drop, refl, sym, ap, ◌∙◌, subst, inl, inr, take-append-drop}
-use Rattle.std.proofs.lemmas.Bool.{cases_eq}
+use Rattle.std.proofs.Common.{◌≡◌, ◌≢◌, ℕ, zero, suc, List, [], ◌∷◌, ◌++◌, Option, map, refl, sym, ap, subst, ◌∙◌}
 use Rattle.tipc_types.specs.declared.message_forms.Flow.{Flow}
 use Rattle.tipc_types.specs.declared.message_forms.Flow.TheVariants.{Zero, One, Broadcast}
+use Rattle.tipc_types.specs.declared.message_forms.Message.{Message}
 use Rattle.tipc_journal.specs.Prefixes.{IsPrefixOf}
+use Rattle.tipc_link.proofs.LinkLaw.{Each}
 use Rattle.tipc_world.specs.declared.air.Sent.{Sent}
-use Rattle.tipc_world.specs.States.{NodeState, WorldState, end_at, accepted_at, delivered_at, static_number}
-use Rattle.tipc_world.specs.Sound.{IsFrame, IsSound, IsOtherStream, accepted_now, delivered_now}
-use Rattle.tipc_header.specs.Frames.{frame_of}
-use Rattle.tipc_header.specs.Spelling.{spelling}
-use Rattle.tipc_world.specs.Good.{IsGood, IsTrue}
+use Rattle.tipc_world.specs.Good.{IsGood}
+use Rattle.tipc_world.specs.Members.{bytes_of}
+use Rattle.tipc_world.specs.Sound.{IsSendable, IsSound}
+use Rattle.tipc_world.specs.States.{MemberState, WorldState, accepted_at, delivered_at}
+use Rattle.tipc_world.specs.Views.{view_at}
+use Rattle.tipc_world.specs.Watched.{AreWatched}
+use Rattle.tipc_world.proofs.Entered.{both_entered}
+use Rattle.tipc_world.proofs.Messages.{same_bytes}
+use Rattle.tipc_world.proofs.Truth.{frame_is_true}
 
--- a contact and a flow are those that there are, or others
-stream_choice : (c d : ℕ) (f : Flow) → ((c ≡ static_number) × (d ≡ static_number) × (f ≡ Zero)) ⊎ IsOtherStream c d f
-stream_choice c d Zero = elim (cases_eq c static_number) [
-  | inl same ↦ elim (cases_eq d static_number) [ inl too ↦ inl (same, too, refl) | inr other ↦ inr (λ _ e _. other e) ]
-  | inr other ↦ inr (λ e _ _. other e)
-]
-stream_choice c d One = inr (λ _ _ e. (let wrong : ⊥ = cc in wrong))
-stream_choice c d Broadcast = inr (λ _ _ e. (let wrong : ⊥ = cc in wrong))
+pub no_message : (ys : List Message) → IsPrefixOf [] ys
+no_message ys = (ys, refl)
 
-static_prefix : (nodes : List (Option NodeState)) (air : List Sent) (a b : ℕ) → IsSound nodes air → IsPrefixOf (delivered_now nodes b a) (accepted_now nodes a b)
-static_prefix nodes air a b h =
-    elim (end_at nodes a b) as (λ o. end_at nodes a b ≡ o → IsPrefixOf (delivered_now nodes b a) (accepted_now nodes a b)) [
-      | None ↦ λ none.
-          elim (end_at nodes b a) as (λ o. end_at nodes b a ≡ o → IsPrefixOf (delivered_now nodes b a) (accepted_now nodes a b)) [
-            | None ↦ λ back. (accepted_now nodes a b, ap (λ ms. ms ++ accepted_now nodes a b) (sym (h.silent b a back).1))
-            | Some r ↦ λ back. absurd (let there = h.both b a r back in let is = there.1 in let wrong : ⊥ = cc in wrong)
-          ] refl
-      | Some s ↦ λ is.
-          let other = h.both a b s is in
-          let pair = h.pairs a b s other.0 is other.1 in
-          let n = other.0.taken in
-          (drop n (accepted_now nodes a b), sym (take-append-drop n (accepted_now nodes a b)) ∙ ap (λ ms. ms ++ drop n (accepted_now nodes a b)) (sym pair.got))
-    ] refl
+-- where packets stand in front, so do their messages
+pub messages_in_front : (xs ys : List Message) → Each IsSendable xs → Each IsSendable ys → IsPrefixOf (map bytes_of xs) (map bytes_of ys) → IsPrefixOf xs ys
+messages_in_front [] ys hx hy h = no_message ys
+messages_in_front (x ∷ xs) [] hx hy h = let is = h.1 in absurd cc
+messages_in_front (x ∷ xs) (y ∷ ys) hx hy h =
+    let is = h.1 in
+    let firsts : bytes_of y ≡ bytes_of x = cc in
+    let rests : map bytes_of ys ≡ map bytes_of xs ++ h.0 = cc in
+    let same = same_bytes y x (hy zero y refl) (hx zero x refl) firsts in
+    let later = messages_in_front xs ys (λ k m. hx (suc k) m) (λ k m. hy (suc k) m) (h.0, rests) in
+    (later.0, ap (λ m. m ∷ ys) same ∙ ap (λ ms. x ∷ ms) later.1)
 
--- a frame in the air of a sound world is true
-frame_true : (nodes : List (Option NodeState)) (air : List Sent) (f : Sent) → IsSound nodes air → IsFrame nodes f → IsTrue nodes f
-frame_true nodes air f h x =
-    let e = (h.pairs x.a x.b x.sender x.receiver x.sender_is x.receiver_is).end in
-    let between = x.between in
-    record {
-      a = x.a;
-      b = x.b;
-      sender = x.sender;
-      sender_is = x.sender_is;
-      from_is = between.from_is;
-      to_is = between.to_is;
-      packet = between.packet;
-      fits = between.fits;
-      frame_is = between.frame_is
-          ∙ ap (λ k. frame_of k static_number (spelling between.packet)) (sym e.epoch)
-          ∙ ap (λ k. frame_of x.sender.epoch k (spelling between.packet)) (sym e.peer_epoch);
-      previous = between.previous;
-      told = between.flies.told;
-      told_is = between.flies.told_is;
-      told_taken = between.flies.told_taken;
-    }
+-- two nodes of a sound world that are apart keep the promise for flow Zero
+pair_promise : (members : List (Option MemberState)) (air : List Sent) (a b own theirs : ℕ) → IsSound members air
+    → delivered_at members b a own theirs Zero ≢ [] → IsPrefixOf (delivered_at members b a own theirs Zero) (accepted_at members a b theirs own Zero)
+unfolding view_at accepted_at delivered_at
+pair_promise members air a b own theirs h some =
+    let numbers = h.nothing b a own theirs some in
+    messages_in_front (delivered_at members b a own theirs Zero) (accepted_at members a b theirs own Zero) (h.delivered b a own theirs) (h.accepted a b theirs own)
+    ((h.pairs b a numbers.0 numbers.1 numbers.2).here.prefix own theirs)
 
-pub is_good : (w : WorldState) → IsSound w.nodes w.air → IsGood w
-is_good w h = record {
-  prefix = λ a b c d f. elim (stream_choice c d f) [
-    | inl same ↦
-        subst (λ k. IsPrefixOf (delivered_at w.nodes b a d k f) (accepted_at w.nodes a b k d f)) (sym same.0)
-        (subst (λ k. IsPrefixOf (delivered_at w.nodes b a k static_number f) (accepted_at w.nodes a b static_number k f)) (sym same.1)
-        (subst (λ k. IsPrefixOf (delivered_at w.nodes b a static_number static_number k) (accepted_at w.nodes a b static_number static_number k)) (sym same.2)
-        (static_prefix w.nodes w.air a b h)))
-    | inr other ↦
-        let none = h.others b a d c f (λ d_is c_is f_is. other c_is d_is f_is) in
-        (accepted_at w.nodes a b c d f, ap (λ ms. ms ++ accepted_at w.nodes a b c d f) (sym none))
-  ];
-  truth = λ k f at. frame_true w.nodes w.air f h (h.frames k f at);
+-- what was delivered in flow Zero is nothing, or was delivered between two nodes
+zero_promise : (members : List (Option MemberState)) (air : List Sent) (a b own theirs : ℕ) → IsSound members air
+    → IsPrefixOf (delivered_at members b a own theirs Zero) (accepted_at members a b theirs own Zero)
+zero_promise members air a b own theirs h = case (delivered_at members b a own theirs Zero) refl
+  where
+    case : (ds : List Message) → delivered_at members b a own theirs Zero ≡ ds → IsPrefixOf (delivered_at members b a own theirs Zero) (accepted_at members a b theirs own Zero)
+    case [] none = subst (λ ds. IsPrefixOf ds (accepted_at members a b theirs own Zero)) (sym none) (no_message (accepted_at members a b theirs own Zero))
+    case (d ∷ ds) some = pair_promise members air a b own theirs h (λ none. (let wrong : ⊥ = cc in wrong))
+
+other_promise : (members : List (Option MemberState)) (air : List Sent) (a b own theirs : ℕ) (flow : Flow) → IsSound members air → flow ≢ Zero
+    → IsPrefixOf (delivered_at members b a own theirs flow) (accepted_at members a b theirs own flow)
+other_promise members air a b own theirs flow h other =
+    subst (λ ds. IsPrefixOf ds (accepted_at members a b theirs own flow)) (sym (h.one_flow b a own theirs flow other).1) (no_message (accepted_at members a b theirs own flow))
+
+promise : (members : List (Option MemberState)) (air : List Sent) (a b own theirs : ℕ) (flow : Flow) → IsSound members air
+    → IsPrefixOf (delivered_at members b a own theirs flow) (accepted_at members a b theirs own flow)
+promise members air a b own theirs Zero h = zero_promise members air a b own theirs h
+promise members air a b own theirs One h = other_promise members air a b own theirs One h (λ same. (let wrong : ⊥ = cc in wrong))
+promise members air a b own theirs Broadcast h = other_promise members air a b own theirs Broadcast h (λ same. (let wrong : ⊥ = cc in wrong))
+
+pub is_good : (w : WorldState) → IsSound w.members w.air → AreWatched w.members w.air → IsGood w
+is_good w h all = record {
+  prefix = λ a b a_number b_number flow. promise w.members w.air a b b_number a_number flow h;
+  entered = λ a b a_number b_number flow some. both_entered w.members w.air a b a_number b_number flow (λ n m there. (all n m there).lawful) (promise w.members w.air a b b_number a_number flow h) some;
+  truth = frame_is_true w.members w.air h;
+  lawful = λ n m there. (all n m there).lawful;
 }

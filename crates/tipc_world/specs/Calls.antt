@@ -1,17 +1,95 @@
--- What an event needs.
-use Rattle.std.specs.Prelude.{◌≡◌, ◌≢◌, ◌≤◌, ℕ, true, List, Option, None, is_some, length, slice_index_or}
+-- What an event needs, and what it counts for.
+use Rattle.std.specs.Prelude.{◌≡◌, ◌≢◌, ◌≤◌, ℕ, Bool, true, false, ◌&&◌, List, Option, None, is_none, is_some, length, slice_index_or}
 use Rattle.tipc_types.specs.Address.{node_word}
+use Rattle.tipc_node.specs.declared.recording.NodeFault.{NodeFault}
+use Rattle.tipc_node.specs.declared.recording.NodeFault.TheVariants.{JournalFull, NoMemory}
+use Rattle.tipc_world.specs.declared.events.Limit.TheVariants as limit
 use Rattle.tipc_world.specs.declared.events.WorldEvent.{WorldEvent}
-use Rattle.tipc_world.specs.declared.events.WorldEvent.TheVariants.{Socket, SendPort, Receive, Arrive}
-use Rattle.tipc_world.specs.States.{NodeState, WorldState}
+use Rattle.tipc_world.specs.declared.events.WorldEvent.TheVariants.{Know, Mend, Cut, Tick, Restart, Socket, SendPort, Receive, Arrive}
+use Rattle.tipc_world.specs.declared.events.WorldFault.{WorldFault}
+use Rattle.tipc_world.specs.declared.events.WorldFault.TheVariants as fault
+use Rattle.tipc_world.specs.declared.air.Sent.{Sent}
+use Rattle.tipc_world.specs.Due.{unarrived}
+use Rattle.tipc_world.specs.States.{MemberState, WorldState, knows}
 
--- The node is there, the bearer is 0 or 1, and a message goes to another of the 32 nodes and fits one packet.
-abbrev pub CanHappenAt : List (Option NodeState) → WorldEvent → Type 0
-CanHappenAt nodes (Socket node) = is_some (slice_index_or nodes node None) ≡ true
-CanHappenAt nodes (SendPort node port to importance body) =
-    (is_some (slice_index_or nodes node None) ≡ true) × ((m : ℕ) × (1 ≤ m) × (m ≤ 32) × (m ≢ node) × (to.node.word ≡ node_word m)) × (length body ≤ 1420)
-CanHappenAt nodes (Receive node port) = is_some (slice_index_or nodes node None) ≡ true
-CanHappenAt nodes (Arrive node bearer frame) = (is_some (slice_index_or nodes node None) ≡ true) × (bearer ≤ 1)
+-- the node at which an event happens
+abbrev pub node_of : WorldEvent → ℕ
+node_of (Know node peer) = node
+node_of (Mend node bearer) = node
+node_of (Cut node bearer) = node
+node_of (Tick node) = node
+node_of (Restart node) = node
+node_of (Socket node) = node
+node_of (SendPort node port to importance body) = node
+node_of (Receive node port) = node
+node_of (Arrive node bearer frame) = node
+
+-- The node that a node comes to know is another one that is there and that it doesn't know yet. What is mended or cut is bearer 0. A
+-- message goes to another of the 32 nodes and fits one packet.
+abbrev pub CanHappenAt : List (Option MemberState) → WorldEvent → Type 0
+CanHappenAt members (Know node peer) =
+    (is_some (slice_index_or members node None) ≡ true) × (is_some (slice_index_or members peer None) ≡ true) × (peer ≢ node) × (knows members node peer ≡ false)
+CanHappenAt members (Mend node bearer) = (is_some (slice_index_or members node None) ≡ true) × (bearer ≡ 0)
+CanHappenAt members (Cut node bearer) = (is_some (slice_index_or members node None) ≡ true) × (bearer ≡ 0)
+CanHappenAt members (Tick node) = is_some (slice_index_or members node None) ≡ true
+CanHappenAt members (Restart node) = is_some (slice_index_or members node None) ≡ true
+CanHappenAt members (Socket node) = is_some (slice_index_or members node None) ≡ true
+CanHappenAt members (SendPort node port to importance body) =
+    (is_some (slice_index_or members node None) ≡ true) × ((m : ℕ) × (1 ≤ m) × (m ≤ 32) × (m ≢ node) × (to.node.word ≡ node_word m)) × (length body ≤ 1420)
+CanHappenAt members (Receive node port) = is_some (slice_index_or members node None) ≡ true
+CanHappenAt members (Arrive node bearer frame) = (is_some (slice_index_or members node None) ≡ true) × (bearer ≤ 1)
 
 abbrev pub CanHappen : WorldState → WorldEvent → Type 0
-CanHappen w event = CanHappenAt w.nodes event
+CanHappen w event = CanHappenAt w.members event
+
+-- what an event needs of itself alone; an arrival is none of these
+abbrev pub CanDo : WorldEvent → Type 0
+CanDo (Know node peer) = (1 ≤ peer) × (peer ≤ 32)
+CanDo (Mend node bearer) = Unit {0}
+CanDo (Cut node bearer) = Unit {0}
+CanDo (Tick node) = Unit {0}
+CanDo (Restart node) = Unit {0}
+CanDo (Socket node) = Unit {0}
+CanDo (SendPort node port to importance body) = ((m : ℕ) × (1 ≤ m) × (m ≤ 32) × (to.node.word ≡ node_word m)) × (length body ≤ 1420)
+CanDo (Receive node port) = Unit {0}
+CanDo (Arrive node bearer frame) = ⊥
+
+-- whether a journal records the event as a call: coming to know a peer isn't one, and a restart isn't
+abbrev pub is_recorded : WorldEvent → Bool
+is_recorded (Know node peer) = false
+is_recorded (Restart node) = false
+is_recorded event = true
+
+-- whether it counts as an event: an arrival of no frame, or of one that is too old, is none
+abbrev pub counts_at : List (Option MemberState) → List Sent → WorldEvent → Bool
+counts_at members air (Arrive node bearer frame) = is_none (unarrived members air node bearer frame)
+counts_at members air event = true
+
+abbrev pub counts : WorldState → WorldEvent → Bool
+counts w event = counts_at w.members w.air event
+
+-- whether it is a call that is recorded
+abbrev pub is_call_at : List (Option MemberState) → List Sent → WorldEvent → Bool
+is_call_at members air event = is_recorded event && counts_at members air event
+
+abbrev pub is_call : WorldState → WorldEvent → Bool
+is_call w event = is_call_at w.members w.air event
+
+-- a fault of a node as the world tells it
+abbrev pub fault_of : NodeFault → WorldFault
+fault_of JournalFull = fault.Limit limit.Journal
+fault_of NoMemory = fault.NoMemory
+
+-- a recorded call wasn't made: the journal has no room for it, or memory ran out
+abbrev pub RecordStops : Bool → WorldFault → Type 0
+RecordStops room (fault.Limit limit.Journal) = room ≡ false
+RecordStops room fault.NoMemory = Unit {0}
+RecordStops room (fault.Limit limit.Events) = ⊥
+RecordStops room (fault.Limit limit.Frames) = ⊥
+
+-- an event didn't happen at its node
+abbrev pub CallStops : WorldEvent → Bool → WorldFault → Type 0
+CallStops event room (fault.Limit limit.Journal) = (is_recorded event ≡ true) × (room ≡ false)
+CallStops event room fault.NoMemory = Unit {0}
+CallStops event room (fault.Limit limit.Events) = ⊥
+CallStops event room (fault.Limit limit.Frames) = ⊥

@@ -1,21 +1,19 @@
 -- Which frame arrives, and how old it is.
-use Rattle.std.specs.Prelude.{◌≡◌, ℕ, ◌-◌, ◌≤◌, ◌⊎◌, Bool, true, not, ◌&&◌, List, Option, Some, None, length, drop, max, nat_le, nat_lt, option_map, unwrap_or, slice_get, ◌==◌, if◌then◌else◌}
+use Rattle.std.specs.Prelude.{◌≡◌, ◌⊎◌, false, ℕ, ◌-◌, ◌==◌, Bool, true, List, Option, Some, None, drop, length, max, nat_lt, slice_get, if◌then◌else◌}
 use Rattle.tipc_types.specs.Address.{node_word}
 use Rattle.tipc_types.specs.declared.identity.To.{To}
 use Rattle.tipc_types.specs.declared.identity.To.TheVariants as to
-use Rattle.tipc_types.specs.declared.link_words.Why.{Why}
-use Rattle.tipc_types.specs.declared.link_words.Why.TheVariants as why
 use Rattle.tipc_types.specs.declared.node_calls.Answer.{Answer}
 use Rattle.tipc_types.specs.declared.node_calls.Answer.TheVariants as answer
-use Rattle.tipc_types.specs.declared.node_calls.Arrival.TheVariants as arrival
 use Rattle.tipc_header.specs.declared.fault.HeaderFault.{HeaderFault}
-use Rattle.tipc_header.specs.Faults.{fault_of, number_of}
-use Rattle.tipc_header.specs.Reading.{word_at}
-use Rattle.tipc_header.specs.Frames.{frame_of}
-use Rattle.tipc_header.specs.Grammar.{Fits}
-use Rattle.tipc_header.specs.Spelling.{Fields, spelling}
+use Rattle.tipc_header.specs.Faults.{fault_of}
+use Rattle.tipc_header.specs.Reading.{fields_at}
+use Rattle.tipc_link.specs.Links.{is_traffic}
+use Rattle.tipc_node.specs.Nodes.{is_frame_size}
+use Rattle.tipc_pair.specs.Views.{er_of, es_of}
 use Rattle.tipc_world.specs.declared.air.Sent.{Sent}
-use Rattle.tipc_world.specs.States.{NodeState, end_at}
+use Rattle.tipc_world.specs.Air.{number_of_node}
+use Rattle.tipc_world.specs.States.{MemberState, count_at}
 
 -- whether a frame is for node n
 abbrev pub is_for : To → ℕ → Bool
@@ -30,51 +28,40 @@ kept_for (Some f) n = if is_for f.to n then Some f else None
 unfoldable pub frame_for : List Sent → ℕ → ℕ → ℕ → Option Sent
 frame_for air n bearer k = if bearer == 0 then kept_for (slice_get air k) n else None
 
--- how many packets the end at node a to node b has numbered
-unfoldable pub count_at : List (Option NodeState) → ℕ → ℕ → ℕ
-count_at nodes a b = unwrap_or (option_map (λ e. e.sending.numbered) (end_at nodes a b)) 0
+-- ---- the age of a frame
 
--- how many packets either direction numbered since a frame from node a to node b was sent: the larger number
-unfoldable pub age_of : List (Option NodeState) → Sent → ℕ → ℕ → ℕ
-age_of nodes f a b = max (count_at nodes a b - f.numbered) (count_at nodes b a - f.peer_numbered)
+-- how many packets were numbered since a frame was sent to node n, in the session of the two epochs of its envelope: the larger number
+-- of its two directions
+abbrev pub session_age : List (Option MemberState) → Sent → ℕ → ℕ
+session_age members f n =
+    max (count_at members (number_of_node f.from.word) n (es_of f.frame) - f.numbered) (count_at members n (number_of_node f.from.word) (er_of f.frame) - f.peer_numbered)
 
--- ---- why a frame reaches no link
+abbrev pub age_by_fault : List (Option MemberState) → Sent → ℕ → Option HeaderFault → ℕ
+age_by_fault members f n (Some fault) = 0
+age_by_fault members f n None = if is_traffic (fields_at (drop 16 f.frame)).header then session_age members f n else 0
 
-abbrev pub ignored : Why → Option Answer
-ignored reason = Some (answer.Arrived (arrival.Ignored reason))
+-- the age of a frame: that of a STATE or a numbered packet alone grows
+unfoldable pub age_of : List (Option MemberState) → Sent → ℕ → ℕ
+age_of members f n = if is_frame_size (length f.frame) then age_by_fault members f n (fault_of (drop 16 f.frame)) else 0
 
-abbrev pub is_frame_size : ℕ → Bool
-is_frame_size bytes = nat_le 16 bytes && nat_le bytes 1516
+-- a frame is a STATE or a numbered packet, of the session of these two epochs
+pub record HasSession (bytes : List ℕ) (sender receiver : ℕ) : Type 0 where
+  pub size : is_frame_size (length bytes) ≡ true
+  pub clear : fault_of (drop 16 bytes) ≡ None
+  pub traffic : is_traffic (fields_at (drop 16 bytes)).header ≡ true
+  pub sender_is : sender ≡ es_of bytes
+  pub receiver_is : receiver ≡ er_of bytes
 
-abbrev pub stop_by_age : ℕ → Option Answer
-stop_by_age age = if nat_le age 30000 then None else Some (answer.TooOld age)
+-- a frame is neither
+abbrev pub HasNoSession : List ℕ → Type 0
+HasNoSession bytes = (is_frame_size (length bytes) ≡ false) ⊎ (((fault : HeaderFault) × (fault_of (drop 16 bytes) ≡ Some fault)) ⊎ ((fault_of (drop 16 bytes) ≡ None) × (is_traffic (fields_at (drop 16 bytes)).header ≡ false)))
 
--- the sender that a frame names has to be another of the 32 nodes
-unfoldable pub stop_by_sender : List (Option NodeState) → ℕ → Sent → ℕ → Option Answer
-stop_by_sender nodes n f word =
-    if nat_lt (node_word 0) word && (nat_le word (node_word 32) && not (word == node_word n)) then stop_by_age (age_of nodes f (word - node_word 0) n)
-    else ignored why.Own
+-- ---- an arrival that is none
 
-abbrev pub stop_by_fault : List (Option NodeState) → ℕ → Sent → Option HeaderFault → Option Answer
-stop_by_fault nodes n f (Some fault) = ignored (why.Header (number_of fault))
-stop_by_fault nodes n f None = stop_by_sender nodes n f (word_at 3 (drop 16 f.frame))
+abbrev pub stopped_by_age : List (Option MemberState) → ℕ → Option Sent → Option Answer
+stopped_by_age members n None = Some answer.NoFrame
+stopped_by_age members n (Some f) = if nat_lt 30000 (age_of members f n) then Some (answer.TooOld (age_of members f n)) else None
 
--- why a frame that arrives at node n reaches no link, the first reason that holds: it has no frame's size, its packet has a
--- fault, it names no other node as its sender, or it is too old
-unfoldable pub stop_of : List (Option NodeState) → ℕ → Sent → Option Answer
-stop_of nodes n f = if is_frame_size (length f.frame) then stop_by_fault nodes n f (fault_of (drop 16 f.frame)) else ignored why.Envelope
-
--- an arrival at node n reaches no link, and that is its answer
-abbrev pub IsStopped : List (Option NodeState) → List Sent → ℕ → ℕ → ℕ → Answer → Type 0
-IsStopped nodes air n bearer k answered =
-    ((frame_for air n bearer k ≡ None) × (answered ≡ answer.NoFrame)) ⊎ ((f : Sent) × (frame_for air n bearer k ≡ Some f) × (stop_of nodes n f ≡ Some answered))
-
--- a frame that is due at node n: from node a, young enough, with an envelope and a packet
-pub record IsDue (nodes : List (Option NodeState)) (air : List Sent) (n bearer k a first second : ℕ) (p : Fields) : Type 0 where
-  pub frame : Sent
-  pub there : frame_for air n bearer k ≡ Some frame
-  pub clear : stop_of nodes n frame ≡ None
-  pub young : age_of nodes frame a n ≤ 30000
-  pub opened : frame.frame ≡ frame_of first second (spelling p)
-  pub fits : Fits p
-  pub previous : p.previous ≡ node_word a
+-- why a frame doesn't arrive: there is no such frame for that node, or it is too old
+unfoldable pub unarrived : List (Option MemberState) → List Sent → ℕ → ℕ → ℕ → Option Answer
+unarrived members air n bearer k = stopped_by_age members n (frame_for air n bearer k)

@@ -1,37 +1,56 @@
 -- What is promised of every world.
-use Rattle.std.specs.Prelude.{◌≡◌, ◌≤◌, ℕ, List, Option, Some, slice_get}
+use Rattle.std.specs.Prelude.{◌≡◌, ◌≢◌, ◌≤◌, ◌+◌, ℕ, true, List, [], Option, Some, None, length, slice_get, slice_index_or}
 use Rattle.tipc_types.specs.Address.{node_word}
 use Rattle.tipc_types.specs.Position.{number_of}
 use Rattle.tipc_types.specs.declared.identity.To.TheVariants as to
 use Rattle.tipc_types.specs.declared.message_forms.Flow.{Flow}
+use Rattle.tipc_types.specs.declared.message_forms.Flow.TheVariants.{Zero}
+use Rattle.tipc_types.specs.declared.message_forms.Message.{Message}
 use Rattle.tipc_header.specs.Frames.{frame_of}
 use Rattle.tipc_header.specs.Grammar.{Fits}
 use Rattle.tipc_header.specs.Spelling.{Fields, spelling}
 use Rattle.tipc_journal.specs.Prefixes.{IsPrefixOf}
-use Rattle.tipc_link.specs.Sessions.{SessionEnd}
+use Rattle.tipc_link.specs.Links.{is_traffic}
+use Rattle.tipc_link.specs.Sessions.{Carries, content_of}
 use Rattle.tipc_world.specs.declared.air.Sent.{Sent}
-use Rattle.tipc_world.specs.States.{NodeState, WorldState, accepted_at, delivered_at, end_at}
+use Rattle.tipc_world.specs.Lawful.{AreLawful, HasBegun}
+use Rattle.tipc_world.specs.Members.{bytes_of}
+use Rattle.tipc_world.specs.States.{MemberState, WorldState, accepted_at, delivered_at, history_at}
 
--- A frame is true: node a sent it to node b on their link, in the session of the epochs that it shows, and what it
--- acknowledges was taken by a: the packet at position `told` and those before it.
-pub record IsTrue (nodes : List (Option NodeState)) (f : Sent) : Type 0 where
+-- A STATE or a numbered packet from node a to node b speaks the truth of their contact, node a's number first: what it acknowledges, the
+-- packet at position `told` and those before it, was delivered at a; and what it carries was accepted by a for b, at the position of its
+-- number.
+pub record IsTold (members : List (Option MemberState)) (a b own theirs : ℕ) (p : Fields) : Type 0 where
+  pub told : ℕ
+  pub told_is : p.acknowledgement ≡ number_of told
+  pub told_taken : told ≤ length (delivered_at members a b own theirs Zero)
+  pub carried : (number : ℕ) (bytes : List ℕ) → content_of p ≡ Carries number bytes
+      → (position : ℕ) × (m : Message) × (number ≡ number_of (position + 1)) × (slice_get (accepted_at members a b own theirs Zero) position ≡ Some m) × (bytes_of m ≡ bytes)
+
+-- A frame is true: node a sent it to node b, it is a packet of a under an envelope, and what it says of the contact whose numbers stand
+-- beside it is so.
+pub record IsTrue (members : List (Option MemberState)) (f : Sent) : Type 0 where
   pub a : ℕ
   pub b : ℕ
-  pub sender : SessionEnd
-  pub sender_is : end_at nodes a b ≡ Some sender
   pub from_is : f.from.word ≡ node_word a
   pub to_is : f.to ≡ to.Node (record { word = node_word b })
+  pub es : ℕ
+  pub er : ℕ
   pub packet : Fields
   pub fits : Fits packet
-  pub frame_is : f.frame ≡ frame_of sender.epoch sender.peer_epoch (spelling packet)
+  pub frame_is : f.frame ≡ frame_of es er (spelling packet)
   pub previous : packet.previous ≡ node_word a
-  pub told : ℕ
-  pub told_is : packet.acknowledgement ≡ number_of told
-  pub told_taken : told ≤ sender.taken
+  pub told : is_traffic packet.header ≡ true → IsTold members a b f.contact.0 f.contact.1 packet
 
--- For all nodes a and b, each contact and each flow: what was delivered at b from a is a prefix of what a accepted for b.
--- Every frame in the air is true.
 pub record IsGood (w : WorldState) : Type 0 where
+  -- For all nodes a and b, each contact and each flow: what was ever delivered at b from a is a prefix of what a ever accepted for b.
   pub prefix : (a b a_number b_number : ℕ) (flow : Flow) →
-      IsPrefixOf (delivered_at w.nodes b a b_number a_number flow) (accepted_at w.nodes a b a_number b_number flow)
-  pub truth : (k : ℕ) (f : Sent) → slice_get w.air k ≡ Some f → IsTrue w.nodes f
+      IsPrefixOf (delivered_at w.members b a b_number a_number flow) (accepted_at w.members a b a_number b_number flow)
+  -- Where anything was delivered in a contact, both nodes entered it: a contact that only one side entered has nothing delivered.
+  pub entered : (a b a_number b_number : ℕ) (flow : Flow) → delivered_at w.members b a b_number a_number flow ≢ [] →
+      HasBegun (history_at w.members a) (record { word = node_word b }) (a_number, b_number) × HasBegun (history_at w.members b) (record { word = node_word a }) (b_number, a_number)
+  -- Every frame in the air is true.
+  pub truth : (k : ℕ) (f : Sent) → slice_get w.air k ≡ Some f → IsTrue w.members f
+  -- For each node and each of its boots: each link that went down shows its cause, each contact that ended stands where no link is up, and
+  -- messages are accepted and delivered in the contact in which the node is.
+  pub lawful : (n : ℕ) (m : MemberState) → slice_index_or w.members n None ≡ Some m → AreLawful w.air m

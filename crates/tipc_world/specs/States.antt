@@ -1,5 +1,7 @@
--- What a world is, as its contracts see it.
-use Rattle.std.specs.Prelude.{ℕ, Bool, false, List, [], Option, None, option_map, option_and_then, slice_index_or, is_some, length, min, unwrap_or, Some}
+-- What a world is, as its contracts see it, and what may be looked up in it.
+use Rattle.std.specs.Prelude.{ℕ, ◌==◌, Bool, false, ◌&&◌, List, [], ◌++◌, Option, None, Some, option_map, option_and_then, slice_index_or, is_some, length, min, unwrap_or}
+use Rattle.std.specs.List.{flat_map}
+use Rattle.std.specs.Map.{lookup}
 use Rattle.tipc_types.specs.Address.{node_word}
 use Rattle.tipc_types.specs.declared.message_forms.Flow.{Flow}
 use Rattle.tipc_types.specs.declared.message_forms.Flow.TheVariants.{Zero}
@@ -7,73 +9,121 @@ use Rattle.tipc_types.specs.declared.message_forms.Message.{Message}
 use Rattle.tipc_types.specs.declared.node_calls.Answer.{Answer}
 use Rattle.tipc_types.specs.declared.node_calls.Answer.TheVariants as answer
 use Rattle.tipc_journal.specs.declared.entries.Entry.{Entry}
+use Rattle.tipc_journal.specs.Room.{JournalState}
 use Rattle.tipc_journal.specs.Streams.{Stream, accepted, delivered}
-use Rattle.tipc_link.specs.Sessions.{SessionEnd}
-use Rattle.tipc_world.specs.declared.neighbours.Neighbour.{Neighbour}
+use Rattle.tipc_link.specs.Links.{LinkEnd}
+use Rattle.tipc_link_fsm.specs.Table.{is_up}
+use Rattle.tipc_pair.specs.Pairs.{contact_of}
+use Rattle.tipc_node.specs.Nodes.{NodeState, neighbour_of}
+use Rattle.tipc_world.specs.declared.air.Arrived.{Arrived}
 use Rattle.tipc_world.specs.declared.air.Sent.{Sent}
 
--- a node: its address word, its link ends by the peer's number, the inboxes of its ports from port 1 on, its journal, and how many frames
--- have arrived at it
-pub record NodeState : Type 0 where
-  pub own : ℕ
-  pub ends : List (Option Neighbour)
-  pub inboxes : List (List Message)
-  pub journal : List Entry
-  pub arrivals : ℕ
+-- A node over all its boots: the present one, the journals of those before it, how many calls the present boot has recorded, every frame
+-- that ever arrived, and how many packets were numbered for each peer under each epoch.
+pub record MemberState : Type 0 where
+  pub node : NodeState
+  pub past : List (List Entry)
+  pub calls : ℕ
+  pub arrivals : List Arrived
+  pub counts : List ((ℕ × ℕ) × ℕ)
 
--- the contact number and the epoch of every static link
-abbrev pub static_number : ℕ
-static_number = 4294967297
-
--- what node n keeps of a peer
-abbrev pub neighbour_of : NodeState → ℕ → Option Neighbour
-neighbour_of n peer = slice_index_or n.ends peer None
-
--- a world: its nodes by number, every frame that was ever sent on bearer 0, where `k` of the script counts from, and
--- whether a frame was lost for want of memory
+-- a world: its nodes by number, every frame that was ever sent on bearer 0, how many events happened, how many calls were recorded,
+-- and whether a frame was lost for want of memory
 pub record WorldState : Type 0 where
-  pub nodes : List (Option NodeState)
+  pub members : List (Option MemberState)
   pub air : List Sent
-  pub base : ℕ
+  pub events : ℕ
+  pub stamps : ℕ
   pub lost : Bool
 
 abbrev pub no_nodes : WorldState
-no_nodes = record { nodes = []; air = []; base = 0; lost = false }
-
-unfoldable pub node_at : List (Option NodeState) → ℕ → Option NodeState
-node_at nodes n = slice_index_or nodes n None
+no_nodes = record { members = []; air = []; events = 0; stamps = 0; lost = false }
 
 abbrev pub is_there : WorldState → ℕ → Bool
-is_there w n = is_some (slice_index_or w.nodes n None)
+is_there w n = is_some (slice_index_or w.members n None)
 
--- the link end at node a to node b
-unfoldable pub end_at : List (Option NodeState) → ℕ → ℕ → Option SessionEnd
-end_at nodes a b = option_and_then (λ n. option_map (λ x. x.link) (slice_index_or n.ends b None)) (node_at nodes a)
+-- ---- of one node
 
-unfoldable pub journal_at : List (Option NodeState) → ℕ → List Entry
-journal_at nodes n = unwrap_or (option_map (λ node. node.journal) (node_at nodes n)) []
+-- everything that happened at the node, in all its boots
+unfoldable pub history : MemberState → List Entry
+history m = flat_map (λ entries. entries) m.past ++ m.node.journal
+
+-- the entries of journals, one behind the other
+abbrev pub joined : List JournalState → List Entry
+joined journals = flat_map (λ j. j.entries) journals
 
 -- one flow of one contact with node n
 abbrev pub stream_of : ℕ → ℕ → ℕ → Flow → Stream
 stream_of n own theirs flow = record { peer = record { word = node_word n }; contact = (own, theirs); flow = flow }
 
+-- the link end to a peer
+abbrev pub link_in : NodeState → ℕ → Option LinkEnd
+link_in n peer = option_map (λ x. x.pair) (neighbour_of n peer)
+
+-- a session is named by the number of the peer and the node's own epoch
+abbrev pub same_session : ℕ × ℕ → ℕ × ℕ → Bool
+same_session s t = (s.0 == t.0) && (s.1 == t.1)
+
+-- how many packets were numbered for a peer under an epoch
+unfoldable pub count_in : List ((ℕ × ℕ) × ℕ) → ℕ → ℕ → ℕ
+count_in counts peer epoch = unwrap_or (lookup (same_session (peer, epoch)) counts) 0
+
+-- ---- of a world
+
+unfoldable pub member_at : List (Option MemberState) → ℕ → Option MemberState
+member_at members n = slice_index_or members n None
+
+-- a node that isn't there counts as one that has just begun its first boot
+unfoldable pub boot_at : List (Option MemberState) → ℕ → ℕ
+boot_at members n = unwrap_or (option_map (λ m. m.node.boot) (member_at members n)) 1
+
+unfoldable pub link_at : List (Option MemberState) → ℕ → ℕ → Option LinkEnd
+link_at members a b = option_and_then (λ m. link_in m.node b) (member_at members a)
+
+unfoldable pub history_at : List (Option MemberState) → ℕ → List Entry
+history_at members n = unwrap_or (option_map history (member_at members n)) []
+
+unfoldable pub count_at : List (Option MemberState) → ℕ → ℕ → ℕ → ℕ
+count_at members a b epoch = unwrap_or (option_map (λ m. count_in m.counts b epoch) (member_at members a)) 0
+
 -- what node a accepted for node b in a contact, its own number first, and a flow
-unfoldable pub accepted_at : List (Option NodeState) → ℕ → ℕ → ℕ → ℕ → Flow → List Message
-accepted_at nodes a b own theirs flow = accepted (journal_at nodes a) (stream_of b own theirs flow)
+unfoldable pub accepted_at : List (Option MemberState) → ℕ → ℕ → ℕ → ℕ → Flow → List Message
+accepted_at members a b own theirs flow = accepted (history_at members a) (stream_of b own theirs flow)
 
 -- what was delivered at node b from node a in a contact, its own number first, and a flow
-unfoldable pub delivered_at : List (Option NodeState) → ℕ → ℕ → ℕ → ℕ → Flow → List Message
-delivered_at nodes b a own theirs flow = delivered (journal_at nodes b) (stream_of a own theirs flow)
+unfoldable pub delivered_at : List (Option MemberState) → ℕ → ℕ → ℕ → ℕ → Flow → List Message
+delivered_at members b a own theirs flow = delivered (history_at members b) (stream_of a own theirs flow)
+
+-- ---- what is told of a world
+
+-- the contact in which node a is with node b
+unfoldable pub contact_at : List (Option MemberState) → ℕ → ℕ → Option (ℕ × ℕ)
+contact_at members a b = option_and_then contact_of (link_at members a b)
 
 -- a count as it is told: it stops at the last number of 64 bits
 abbrev pub counted : ℕ → ℕ
 counted count = min count 18446744073709551615
 
-abbrev pub flow_in : Option SessionEnd → ℕ → ℕ → Answer
-flow_in None accepted delivered = answer.NoContact
-flow_in (Some end) accepted delivered = answer.Flow (counted accepted) delivered
+abbrev pub flow_in : List (Option MemberState) → ℕ → ℕ → Option (ℕ × ℕ) → Answer
+flow_in members a b None = answer.NoContact
+flow_in members a b (Some contact) =
+    answer.Flow (counted (length (accepted_at members a b contact.0 contact.1 Zero))) (counted (length (delivered_at members b a contact.1 contact.0 Zero)))
 
--- how many messages node a accepted for node b in their contact, and how many of them were delivered
-unfoldable pub flow_of : List (Option NodeState) → ℕ → ℕ → Answer
-flow_of nodes a b =
-    flow_in (end_at nodes a b) (length (accepted_at nodes a b static_number static_number Zero)) (length (delivered_at nodes b a static_number static_number Zero))
+-- how many messages node a accepted for node b in the contact in which it is with it, and how many of them were delivered
+unfoldable pub flow_of : List (Option MemberState) → ℕ → ℕ → Answer
+flow_of members a b = flow_in members a b (contact_at members a b)
+
+-- whether the link end at node a to node b is there, and whether it is up
+abbrev pub knows : List (Option MemberState) → ℕ → ℕ → Bool
+knows members a b = is_some (link_at members a b)
+
+abbrev pub is_up_in : Option LinkEnd → Bool
+is_up_in None = false
+is_up_in (Some e) = is_up e.fsm.state
+
+abbrev pub is_up_at : List (Option MemberState) → ℕ → ℕ → Bool
+is_up_at members a b = is_up_in (link_at members a b)
+
+-- whether bearer 0 is mended at a node
+abbrev pub is_mended_at : List (Option MemberState) → ℕ → Bool
+is_mended_at members n = unwrap_or (option_map (λ m. m.node.mended) (member_at members n)) false

@@ -1,10 +1,44 @@
 ghost use Rattle.std.specs.Prelude.{◌≡◌};
+ghost use Rattle.tipc_world.specs.Calls.{is_recorded, node_of};
 
+use std::alloc::AllocError;
+use tipc_node::NodeFault;
 use tipc_types::{Bytes, Importance, NoMemory, PortId};
 
 /// What may happen to a node of a world.
 #[derive(Clone, Debug, Drop, PartialEq)]
 pub enum WorldEvent {
+    /// A node comes to know another: it makes its link end to it.
+    Know {
+        /// The node's number.
+        node: u8,
+        /// The other's number.
+        peer: u8,
+    },
+    /// A bearer of a node is mended.
+    Mend {
+        /// The node's number.
+        node: u8,
+        /// The bearer, which is 0.
+        bearer: u8,
+    },
+    /// A bearer of a node is cut.
+    Cut {
+        /// The node's number.
+        node: u8,
+        /// The bearer, which is 0.
+        bearer: u8,
+    },
+    /// A tick passes at a node.
+    Tick {
+        /// The node's number.
+        node: u8,
+    },
+    /// A node is restarted: it keeps nothing, its bearers are cut, and its boot number is the next one.
+    Restart {
+        /// The node's number.
+        node: u8,
+    },
     /// A socket is made.
     Socket {
         /// The node's number.
@@ -41,15 +75,94 @@ pub enum WorldEvent {
     },
 }
 
-/// Why an event didn't happen. Nothing is changed then.
+impl WorldEvent {
+    /// The number of the node at which it happens.
+    pub fn node(&self) -> u8
+        ensures { result ≡ node_of self.now }
+    {
+        match self {
+            WorldEvent::Know { node, .. } => *node,
+            WorldEvent::Mend { node, .. } => *node,
+            WorldEvent::Cut { node, .. } => *node,
+            WorldEvent::Tick { node } => *node,
+            WorldEvent::Restart { node } => *node,
+            WorldEvent::Socket { node } => *node,
+            WorldEvent::SendPort { node, .. } => *node,
+            WorldEvent::Receive { node, .. } => *node,
+            WorldEvent::Arrive { node, .. } => *node,
+        }
+    }
+
+    /// Whether the node's journal records it as a call: coming to know a peer isn't one, and a restart isn't.
+    pub fn is_recorded(&self) -> bool
+        ensures { result ≡ is_recorded self.now }
+    {
+        match self {
+            WorldEvent::Know { .. } => false,
+            WorldEvent::Restart { .. } => false,
+            WorldEvent::Mend { .. } => true,
+            WorldEvent::Cut { .. } => true,
+            WorldEvent::Tick { .. } => true,
+            WorldEvent::Socket { .. } => true,
+            WorldEvent::SendPort { .. } => true,
+            WorldEvent::Receive { .. } => true,
+            WorldEvent::Arrive { .. } => true,
+        }
+    }
+}
+
+/// A limit of a world. (This project's profile.)
+#[derive(Clone, Copy, Debug, PartialEq, Eq)]
+pub enum Limit {
+    /// 300,000 events.
+    Events,
+    /// 100,000 frames in the air.
+    Frames,
+    /// 1,048,576 entries of a journal: it is reached where one has no room for a call.
+    Journal,
+}
+
+/// Why an event has no answer.
 #[derive(Clone, Copy, Debug, PartialEq, Eq)]
 pub enum WorldFault {
-    /// Memory ran out. A journal at its limit counts as this.
+    /// A limit was reached. At Events and Journal nothing is changed; at Frames the event happened, and the air has passed its limit.
+    Limit(Limit),
+    /// Memory ran out. Nothing is changed.
     NoMemory,
 }
 
 impl From<NoMemory> for WorldFault {
+    ghost use Rattle.tipc_world.specs.declared.events.WorldFault.{WorldFault};
+
+    ghost from_gives = { λ _ e. e ≡ WorldFault.NoMemory };
+
     fn from(_error: NoMemory) -> WorldFault {
         WorldFault::NoMemory
+    }
+}
+
+impl From<AllocError> for WorldFault {
+    ghost use Rattle.tipc_world.specs.declared.events.WorldFault.{WorldFault};
+
+    ghost from_gives = { λ _ e. e ≡ WorldFault.NoMemory };
+
+    fn from(_error: AllocError) -> WorldFault {
+        WorldFault::NoMemory
+    }
+}
+
+impl From<NodeFault> for WorldFault {
+    ghost use Rattle.tipc_world.specs.declared.events.Limit.{Limit};
+    ghost use Rattle.tipc_world.specs.declared.events.WorldFault.{WorldFault};
+    ghost use Rattle.tipc_node.specs.declared.recording.NodeFault.{NodeFault};
+    ghost use Rattle.tipc_world.specs.Calls.{fault_of};
+
+    ghost from_gives = { λ fault e. e ≡ fault_of fault };
+
+    fn from(error: NodeFault) -> WorldFault {
+        match error {
+            NodeFault::JournalFull => WorldFault::Limit(Limit::Journal),
+            NodeFault::NoMemory => WorldFault::NoMemory,
+        }
     }
 }

@@ -3,13 +3,13 @@
 
 mod air;
 mod events;
-mod inboxes;
-mod neighbours;
-mod nodes;
+mod flying;
+mod members;
+mod readers;
 #[cfg(test)]
 mod tests;
 mod worlds;
 
-pub use air::Sent;
-pub use events::{WorldEvent, WorldFault};
+pub use air::{Arrived, Sent};
+pub use events::{Limit, WorldEvent, WorldFault};
 pub use worlds::World;

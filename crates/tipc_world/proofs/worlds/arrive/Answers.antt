@@ -1,40 +1,23 @@
-use Rattle.std.proofs.Common.{subst, sym}
-use Rattle.tipc_header.specs.Spelling.{view}
-use Rattle.tipc_world.specs.Air.{IsReleased}
-use Rattle.tipc_world.specs.Due.{count_at, IsDue, IsStopped}
-use Rattle.tipc_world.proofs.Becoming.{reach_is, stop_is, Left}
-use Rattle.tipc_world.proofs.Steps.{due_sound}
+use Rattle.std.proofs.Common.{◌≡◌, List, Some, None, subst, sym}
+use Rattle.tipc_world.specs.declared.air.Sent.{Sent}
+use Rattle.tipc_world.specs.declared.events.WorldEvent.TheVariants.{Arrive}
+use Rattle.tipc_world.specs.Air.{Emits}
+use Rattle.tipc_world.specs.Due.{frame_for, unarrived}
+use Rattle.tipc_world.specs.Events.{DidAt}
+use Rattle.tipc_world.specs.Sound.{IsSound}
+use Rattle.tipc_world.proofs.Happening.{arrival_of, happens_of, senders_of}
 use Rattle.tipc_world.proofs.worlds.arrive.Goals as goal
 
-pub returns-clause-sound : goal.returns-clause-sound
-returns-clause-sound c =
-    let a = c.args.a in
-    let d = c.in-Ok.due in
-    let looked = c.in-Ok.ensures.due in
-    let due = subst (λ fs. IsDue c.args.nodes.now.items fs a c.args.bearer c.args.place d.peer d.first d.second (view d.packet)) c.deref-2.ensures.value
-    (subst (λ ns. IsDue ns c.deref-2.result.now a c.args.bearer c.args.place d.peer d.first d.second (view d.packet)) c.deref.ensures.value looked.3) in
-    let released = subst (λ ns. IsReleased c.args.air.now.items c.emit-lost.new.air.items a (count_at ns a d.peer) (count_at ns d.peer a) c.arrive_at.new.out.frames) c.deref-3.ensures.value c.emit-lost.ensures.front in
-    due_sound _ _ _ _ _ _ _ _ _ _ _ _ _ _ c.requires.sound (λ same. looked.2 (sym same)) c.requires.here.1 looked.1 c.new-out.ensures.frames due c.in_ok-arrive_at-in-Ok.ensures.ok released
+pub find-requires-clause-senders : goal.find-requires-clause-senders
+find-requires-clause-senders c =
+    senders_of c.args.members.now.items c.deref-2.result.now (subst (IsSound c.args.members.now.items) (sym c.deref-2.ensures.value) c.requires.sound)
 
-pub returns-clause-step : goal.returns-clause-step
-returns-clause-step c =
-    let a = c.args.a in
-    let d = c.in-Ok.due in
-    let looked = c.in-Ok.ensures.due in
-    let due = subst (λ fs. IsDue c.args.nodes.now.items fs a c.args.bearer c.args.place d.peer d.first d.second (view d.packet)) c.deref-2.ensures.value
-    (subst (λ ns. IsDue ns c.deref-2.result.now a c.args.bearer c.args.place d.peer d.first d.second (view d.packet)) c.deref.ensures.value looked.3) in
-    let told : Left c.deref-3.result.now c.args.air.now.items c.emit-lost.new.air.items a d.peer c.arrive_at.new.out c.emit-lost.result = record {
-      front = c.emit-lost.ensures.front;
-      all = c.emit-lost.ensures.all;
-      none = c.emit-lost.ensures.none;
-    } in
-    let left = subst (λ ns. Left ns c.args.air.now.items c.emit-lost.new.air.items a d.peer c.arrive_at.new.out c.emit-lost.result) c.deref-3.ensures.value told in
-    reach_is _ _ _ _ _ _ _ _ _ _ _ _ _ _ _ c.new-out.ensures.frames c.new-out.ensures.lost due c.in_ok-arrive_at-in-Ok.ensures.ok left
-
-pub returns-in-Err-clause-step : goal.returns-in-Err-clause-step
-returns-in-Err-clause-step c =
-    let a = c.args.a in
-    let looked = c.in-Err.ensures.stopped in
-    let stopped = subst (λ fs. IsStopped c.args.nodes.now.items fs a c.args.bearer c.args.place c.in-Err.answer) c.deref-2.ensures.value
-    (subst (λ ns. IsStopped ns c.deref-2.result.now a c.args.bearer c.args.place c.in-Err.answer) c.deref.ensures.value looked) in
-    stop_is _ _ _ _ _ _ stopped
+pub returns-clause-arrives : goal.returns-clause-arrives
+returns-clause-arrives c =
+    let f = c.in-Ok.sent.now in
+    let found = c.in-Ok.ensures.found in
+    let emits = subst (λ ms. Emits c.args.air.now.items c.emit-lost.new.air.items ms c.args.node c.arrive_at.new.out c.emit-lost.result) c.deref-3.ensures.value c.emit-lost.ensures in
+    let did = subst (λ bytes. DidAt c.args.members.now.items c.arrive_at.new.members.items c.args.stamp (Arrive c.args.node c.args.bearer c.args.place) bytes c.new-out.result c.arrive_at.new.out c.in_ok-answer.answer) c.as_slice-frame.ensures c.in_ok-answer.ensures.did in
+    let there = subst (λ (air : List Sent). frame_for air c.args.node c.args.bearer c.args.place ≡ Some f) c.deref-2.ensures.value found.0 in
+    let arrives = subst (λ ms. unarrived ms c.args.air.now.items c.args.node c.args.bearer c.args.place ≡ None) c.deref.ensures.value (subst (λ (air : List Sent). unarrived c.deref.result.now air c.args.node c.args.bearer c.args.place ≡ None) c.deref-2.ensures.value found.1) in
+    arrival_of _ _ _ _ _ _ _ _ f _ _ there arrives (happens_of _ _ _ _ _ _ _ _ _ _ _ c.new-out.ensures.frames did emits)

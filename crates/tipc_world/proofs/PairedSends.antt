@@ -1,0 +1,64 @@
+-- A message that is put on a link leaves the node paired with each other.
+use Rattle.std.proofs.Common.{◌≡◌, ◌≢◌, ℕ, Bool, true, false, List, [], ◌∷◌, Some, None, if◌then◌else◌, refl, sym, ap, ◌∙◌, subst}
+use Rattle.tipc_types.specs.Address.{node_word}
+use Rattle.tipc_types.specs.declared.message_forms.Message.{Message}
+use Rattle.tipc_types.specs.declared.node_calls.Answer.{Answer}
+use Rattle.tipc_types.specs.declared.node_calls.EventNote.{EventNote}
+use Rattle.tipc_outside.specs.declared.outgoing.Outgoing.{Outgoing}
+use Rattle.tipc_link.specs.Links.{with_session}
+use Rattle.tipc_link.specs.Sessions.{SessionEnd, flushed, put}
+use Rattle.tipc_link.proofs.LinkLaw.{Each-one}
+use Rattle.tipc_pair.specs.Paired.{IsPacket}
+use Rattle.tipc_pair.specs.Views.{Goes, View, session_in, session_of}
+use Rattle.tipc_pair.proofs.Calls.{puts}
+use Rattle.tipc_node.specs.declared.neighbours.Neighbour.{Neighbour}
+use Rattle.tipc_node.specs.Neighbours.{neighbour}
+use Rattle.tipc_node.specs.Nodes.{session_with}
+use Rattle.tipc_world.specs.Deeds.{Puts}
+use Rattle.tipc_world.specs.Members.{bytes_of, sent_member}
+use Rattle.tipc_world.specs.Sound.{IsNumber}
+use Rattle.tipc_world.specs.States.{MemberState}
+use Rattle.tipc_world.specs.Steps.{Stage, Turns}
+use Rattle.tipc_world.proofs.Addressing.{AreFor, flush_for}
+use Rattle.tipc_world.proofs.PairedChanges.{IsOne, one_pairs}
+use Rattle.tipc_world.proofs.Standing.{IsAcquainted, all_names, view_link}
+use Rattle.tipc_world.proofs.Turning.{AllPaired, Records, view_in, was_there}
+
+-- the session with a neighbour is that of its link
+pub session_there : (x : Neighbour) (s : SessionEnd) → session_with (Some x) ≡ Some s → x.pair.session ≡ Some s
+session_there x s is = case _ is
+  where
+    case : (up : Bool) → (if up then x.pair.session else None) ≡ Some s → x.pair.session ≡ Some s
+    case true has = has
+    case false has = absurd cc
+
+session_viewed : (v : View) (x : Neighbour) (s : SessionEnd) → v.link ≡ Some x.pair → session_with (Some x) ≡ Some s → session_of v ≡ Some s
+unfolding session_of
+session_viewed v x s link is = ap session_in link ∙ is
+
+-- the neighbour after packets were put
+abbrev put_neighbour : Neighbour → SessionEnd → List (List ℕ) → Neighbour
+put_neighbour x s pieces = neighbour (with_session x.pair (flushed (put s pieces))) x.in_step
+
+pub put_pairs : (old new : Stage) (a stamp : ℕ) (event : EventNote) (peer : ℕ) (message : Message) (before after : MemberState) (frames : List Outgoing) (answered : Answer) (lost : Bool)
+    → AllPaired old → IsAcquainted old.members a → Turns old new a before after frames lost → Puts stamp event peer message before after frames answered → IsPacket (bytes_of message)
+    → (IsNumber peer → peer ≢ a → Records (view_in old a peer) before after peer (bytes_of message ∷ []) []) → ((b : ℕ) → IsNumber b → b ≢ a → b ≢ peer → Records (view_in old a b) before after b [] []) → AllPaired new
+put_pairs old new a stamp event peer message before after frames answered lost paired knows t p is_packet here others =
+    let x = p.neighbour in
+    let s = p.session in
+    let pieces = bytes_of message ∷ [] in
+    let was = was_there old new a before after frames lost t in
+    let names = all_names old a before knows paired was peer x p.neighbour_is in
+    let all_for = flush_for (node_word peer) (put s pieces) (names.session s (session_there x s p.session_is)) in
+    let one : IsOne before (sent_member stamp before event peer x s message) frames peer x (put_neighbour x s pieces) = record {
+      boot = refl;
+      was = p.neighbour_is;
+      neighbours = refl;
+      counts = refl;
+      all_for = subst (λ fs. AreFor (node_word peer) fs) (sym p.frames_are) all_for;
+    } in
+    one_pairs old new a before after frames lost peer x (put_neighbour x s pieces) pieces [] paired t (subst (λ m. IsOne before m frames peer x (put_neighbour x s pieces)) (sym p.after) one) here others
+    (λ peer_is apart h g.
+    let link = view_link old a peer before x was p.neighbour_is in
+    puts (view_in old a peer) (view_in new a peer) (view_in old peer a) x.pair s pieces h link (session_viewed (view_in old a peer) x s link p.session_is) (Each-one IsPacket _ is_packet)
+    (subst (λ fs. Goes (view_in old a peer) (view_in new a peer) (view_in old peer a) (put_neighbour x s pieces).pair fs pieces []) p.frames_are g))

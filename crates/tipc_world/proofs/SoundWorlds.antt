@@ -1,0 +1,198 @@
+-- A world is sound at the beginning, when a node comes in, and after every step.
+use Rattle.std.proofs.Common.{◌≡◌, ◌<◌, ℕ, Bool, List, [], ◌++◌, Option, Some, None, map, option_map, option_and_then, slice_index_or, unwrap_or, refl, sym, ap, ◌∙◌, subst, inl, inr, arith}
+use Rattle.std.specs.Prelude.{slice_get}
+use Rattle.std.specs.List.{flat_map}
+use Rattle.std.specs.Map.{lookup}
+use Rattle.std.proofs.lemmas.Bool.{cases_eq}
+use Rattle.tipc_types.specs.Address.{node_word}
+use Rattle.tipc_types.specs.declared.message_forms.Flow.TheVariants.{Zero}
+use Rattle.tipc_types.specs.declared.node_calls.Answer.{Answer}
+use Rattle.tipc_journal.proofs.StreamLaws.{accepted_nil, delivered_nil}
+use Rattle.tipc_pair.specs.Paired.{ArePaired, IsNew}
+use Rattle.tipc_pair.proofs.CallsStart.{starts}
+use Rattle.tipc_node.specs.declared.neighbours.Neighbour.{Neighbour}
+use Rattle.tipc_world.specs.declared.air.Sent.{Sent}
+use Rattle.tipc_world.specs.declared.events.WorldEvent.{WorldEvent}
+use Rattle.tipc_world.specs.declared.events.WorldEvent.TheVariants.{Know, Mend, Cut, Tick, Restart, Socket, SendPort, Receive, Arrive}
+use Rattle.tipc_world.specs.Air.{sent_between}
+use Rattle.tipc_world.specs.Calls.{CanHappenAt}
+use Rattle.tipc_world.specs.Due.{unarrived}
+use Rattle.tipc_world.specs.Members.{IsNewcomer, bytes_of}
+use Rattle.tipc_world.specs.Sound.{IsAirborne, IsNumber, IsSound}
+use Rattle.tipc_world.specs.States.{MemberState, WorldState, boot_at, count_at, count_in, history, history_at, link_at, link_in, member_at, same_session, stream_of}
+use Rattle.tipc_world.specs.Steps.{Becomes, IsArrival, IsJoined, IsStep, Stage, stage}
+use Rattle.tipc_world.specs.Views.{put_in, took_in, view_at, view_from}
+use Rattle.tipc_world.proofs.LookUps.{boot_at-is, boot_at-same, count_at-is, count_at-same, history_at-is, history_at-same, link_at-is, link_at-same, member_at-is}
+use Rattle.tipc_world.proofs.SoundEvents.{happens_sound}
+use Rattle.tipc_world.proofs.StreamsEvents.{joined_keeps_streams, streams_start}
+use Rattle.tipc_world.proofs.StreamsKept.{streams_of}
+
+-- ---- after an event
+
+-- each node's boot has a next one
+abbrev pub HaveNextBoots : List (Option MemberState) → Type 0
+HaveNextBoots members = (n : ℕ) (m : MemberState) → slice_index_or members n None ≡ Some m → m.node.boot < 4294967295
+
+arrival_sound : (old new : Stage) (stamp node bearer place : ℕ) (answered : Answer) (lost : Bool) → IsSound old.members old.air → IsArrival old new stamp node bearer place answered lost → IsSound new.members new.air
+arrival_sound old new stamp node bearer place answered lost sound h = case (unarrived old.members old.air node bearer place) refl
+  where
+    case : (o : Option Answer) → unarrived old.members old.air node bearer place ≡ o → IsSound new.members new.air
+    case (Some why) stops = subst (λ (s : Stage). IsSound s.members s.air) (sym (h.none why stops).1) sound
+    case None free =
+        let a = h.arrives free in
+        happens_sound old new stamp (Arrive node bearer place) a.0.frame answered lost sound a.2 (a.0, a.1, free, refl)
+
+pub becomes_sound : (old new : Stage) (stamp : ℕ) (event : WorldEvent) (answered : Answer) (lost : Bool) → IsSound old.members old.air → HaveNextBoots old.members → CanHappenAt old.members event → Becomes old stamp event new answered lost
+    → IsSound new.members new.air
+becomes_sound old new stamp (Know node peer) answered lost sound boots can h = happens_sound old new stamp (Know node peer) [] answered lost sound h (can.2, can.1, can.3)
+becomes_sound old new stamp (Mend node bearer) answered lost sound boots can h = happens_sound old new stamp (Mend node bearer) [] answered lost sound h tt
+becomes_sound old new stamp (Cut node bearer) answered lost sound boots can h = happens_sound old new stamp (Cut node bearer) [] answered lost sound h tt
+becomes_sound old new stamp (Tick node) answered lost sound boots can h = happens_sound old new stamp (Tick node) [] answered lost sound h tt
+becomes_sound old new stamp (Restart node) answered lost sound boots can h =
+    happens_sound old new stamp (Restart node) [] answered lost sound h (let next = boots node h.before h.turns.was in omega arith)
+becomes_sound old new stamp (Socket node) answered lost sound boots can h = happens_sound old new stamp (Socket node) [] answered lost sound h tt
+becomes_sound old new stamp (SendPort node port to importance body) answered lost sound boots can h = happens_sound old new stamp (SendPort node port to importance body) [] answered lost sound h tt
+becomes_sound old new stamp (Receive node port) answered lost sound boots can h = happens_sound old new stamp (Receive node port) [] answered lost sound h tt
+becomes_sound old new stamp (Arrive node bearer place) answered lost sound boots can h = arrival_sound old new stamp node bearer place answered lost sound h
+
+-- after one step
+pub step_sound : (old : WorldState) (event : WorldEvent) (new : WorldState) (answered : Answer) → IsSound old.members old.air → HaveNextBoots old.members → CanHappenAt old.members event → IsStep old event new answered → IsSound new.members new.air
+step_sound old event new answered sound boots can s = becomes_sound (stage old.members old.air) (stage new.members new.air) old.stamps event answered s.lost sound boots can s.becomes
+
+-- ---- a node comes in
+
+absent_boot : (members : List (Option MemberState)) (n : ℕ) → slice_index_or members n None ≡ None → boot_at members n ≡ 1
+unfolding boot_at member_at
+absent_boot members n none = ap (λ o. unwrap_or (option_map (λ (m : MemberState). m.node.boot) o) 1) none
+
+absent_history : (members : List (Option MemberState)) (n : ℕ) → slice_index_or members n None ≡ None → history_at members n ≡ []
+unfolding history_at member_at
+absent_history members n none = ap (λ o. unwrap_or (option_map history o) []) none
+
+absent_link : (members : List (Option MemberState)) (n b : ℕ) → slice_index_or members n None ≡ None → link_at members n b ≡ None
+unfolding link_at member_at
+absent_link members n b none = ap (λ o. option_and_then (λ (m : MemberState). link_in m.node b) o) none
+
+absent_count : (members : List (Option MemberState)) (n b epoch : ℕ) → slice_index_or members n None ≡ None → count_at members n b epoch ≡ 0
+unfolding count_at member_at
+absent_count members n b epoch none = ap (λ o. unwrap_or (option_map (λ (m : MemberState). count_in m.counts b epoch) o) 0) none
+
+new_history : (m : MemberState) (n : ℕ) → IsNewcomer m n → history m ≡ []
+unfolding history
+new_history m n c = ap (λ p. flat_map (λ entries. entries) p ++ m.node.journal) c.past ∙ c.node.no_history
+
+new_count : (m : MemberState) (n b epoch : ℕ) → IsNewcomer m n → count_in m.counts b epoch ≡ 0
+unfolding count_in
+new_count m n b epoch c = ap (λ cs. unwrap_or (lookup (same_session (b, epoch)) cs) 0) c.counts
+
+-- a node is to each other as before
+record IsSame (members members' : List (Option MemberState)) (a : ℕ) : Type 0 where
+  pub boot : boot_at members' a ≡ boot_at members a
+  pub link : (b : ℕ) → link_at members' a b ≡ link_at members a b
+  pub entries : history_at members' a ≡ history_at members a
+  pub numbered : (b epoch : ℕ) → count_at members' a b epoch ≡ count_at members a b epoch
+
+-- a node that has just come in is as the one that wasn't there
+newcomer_same : (members members' : List (Option MemberState)) (n : ℕ) (m : MemberState) → slice_index_or members n None ≡ None → slice_index_or members' n None ≡ Some m → IsNewcomer m n → IsSame members members' n
+newcomer_same members members' n m none there c =
+    let is = member_at-is members' n m there in record {
+      boot = boot_at-is members' n m is ∙ c.node.boot_is ∙ sym (absent_boot members n none);
+      link = λ b. link_at-is members' n b m is ∙ ap (λ o. option_map (λ (x : Neighbour). x.pair) o) (c.node.alone b) ∙ sym (absent_link members n b none);
+      entries = history_at-is members' n m is ∙ new_history m n c ∙ sym (absent_history members n none);
+      numbered = λ b epoch. count_at-is members' n b epoch m is ∙ new_count m n b epoch c ∙ sym (absent_count members n b epoch none);
+    }
+
+member_alike : (members members' : List (Option MemberState)) (n : ℕ) → slice_index_or members' n None ≡ slice_index_or members n None → member_at members' n ≡ member_at members n
+unfolding member_at
+member_alike members members' n same = same
+
+all_same : (old new : WorldState) (n : ℕ) → slice_index_or old.members n None ≡ None → IsJoined old new n → (a : ℕ) → IsSame old.members new.members a
+all_same old new n none j a = elim (cases_eq a n) [
+  | inl same ↦ subst (λ k. IsSame old.members new.members k) (sym same) (newcomer_same old.members new.members n j.newcomer none j.here j.fresh)
+  | inr other ↦
+      let is = member_alike old.members new.members a (j.others a other) in record {
+        boot = boot_at-same old.members new.members a is;
+        link = λ b. link_at-same old.members new.members a b is;
+        entries = history_at-same old.members new.members a is;
+        numbered = λ b epoch. count_at-same old.members new.members a b epoch is;
+      }
+]
+
+same_view : (members members' : List (Option MemberState)) (air air' : List Sent) (a b : ℕ) → air' ≡ air → IsSame members members' a → view_at members' air' a b ≡ view_at members air a b
+unfolding view_at
+same_view members members' air air' a b flown s =
+    let boot = s.boot in
+    let link = s.link b in
+    let entries = s.entries in
+    let sent : sent_between air' a b ≡ sent_between air a b = ap (λ fs. sent_between fs a b) flown in
+    λ i. view_from a b (boot i) (link i) (entries i) (λ epoch. s.numbered b epoch i) (sent i)
+
+joined_numbers : (old new : WorldState) (n : ℕ) → IsNumber n → IsSound old.members old.air → IsJoined old new n → (k : ℕ) (m : MemberState) → slice_index_or new.members k None ≡ Some m → IsNumber k × (m.node.own ≡ node_word k)
+joined_numbers old new n number sound j k m there = elim (cases_eq k n) [
+  | inl same ↦
+      let there_n : slice_index_or new.members n None ≡ Some m = ap (λ i. slice_index_or new.members i None) (sym same) ∙ there in
+      let here = j.here in
+      let is : j.newcomer ≡ m = cc in
+      (subst IsNumber (sym same) number, ap (λ (x : MemberState). x.node.own) (sym is) ∙ j.fresh.node.own_is ∙ ap node_word (sym same))
+  | inr other ↦ sound.numbered k m (sym (j.others k other) ∙ there)
+]
+
+joined_absent : (old new : WorldState) (n b : ℕ) → IsJoined old new n → slice_index_or new.members b None ≡ None → slice_index_or old.members b None ≡ None
+joined_absent old new n b j none = elim (cases_eq b n) [
+  | inl same ↦ absurd (let here = j.here in let gone : slice_index_or new.members n None ≡ None = ap (λ i. slice_index_or new.members i None) (sym same) ∙ none in let wrong : ⊥ = cc in wrong)
+  | inr other ↦ sym (j.others b other) ∙ none
+]
+
+-- after a node came in under a number that no node had
+pub joined_sound : (old new : WorldState) (n : ℕ) → IsNumber n → slice_index_or old.members n None ≡ None → IsSound old.members old.air → IsJoined old new n → IsSound new.members new.air
+joined_sound old new n number none sound j =
+    let same = all_same old new n none j in
+    let streams = joined_keeps_streams old new n (streams_of old.members old.air sound) j in
+    let view : (a b : ℕ) → view_at new.members new.air a b ≡ view_at old.members old.air a b = λ a b. same_view old.members new.members old.air new.air a b j.air (same a) in
+    record {
+      numbered = joined_numbers old new n number sound j;
+      apart = λ a. (same a).link a ∙ sound.apart a;
+      known = λ a b absent. (same a).link b ∙ sound.known a b (λ is. joined_absent old new n b j (absent is));
+      pairs = λ a b a_is b_is apart. subst (λ x. ArePaired x (view_at new.members new.air b a)) (sym (view a b)) (subst (λ y. ArePaired (view_at old.members old.air a b) y) (sym (view b a)) (sound.pairs a b a_is b_is apart));
+      one_flow = streams.one_flow;
+      accepted = streams.accepted;
+      delivered = streams.delivered;
+      nothing = streams.nothing;
+      frames = subst (λ air. (k : ℕ) (f : Sent) → slice_get air k ≡ Some f → IsAirborne f) (sym j.air) sound.frames;
+    }
+
+-- ---- the beginning
+
+nothing_there : (n : ℕ) → let nobody : List (Option MemberState) = [] in slice_index_or nobody n None ≡ None
+nothing_there n = refl
+
+new_view : (a b : ℕ) → IsNumber a → IsNumber b → IsNew (view_at [] [] a b)
+unfolding view_at sent_between
+new_view a b a_is b_is =
+    let a_high = a_is.1 in
+    let b_high = b_is.1 in
+    let entries = absent_history [] a (nothing_there a) in
+    record {
+      own = omega arith;
+      peer = omega arith;
+      boot = let first = absent_boot [] a (nothing_there a) in omega arith;
+      link = absent_link [] a b (nothing_there a);
+      put = λ own theirs. ap (λ es. put_in es b own theirs) entries ∙ ap (map bytes_of) (accepted_nil (stream_of b own theirs Zero));
+      took = λ own theirs. ap (λ es. took_in es b own theirs) entries ∙ ap (map bytes_of) (delivered_nil (stream_of b own theirs Zero));
+      numbered = λ epoch. absent_count [] a b epoch (nothing_there a);
+      sent = refl;
+    }
+
+-- where no nodes are
+pub start_sound : IsSound [] []
+start_sound = record {
+  numbered = λ n m there. absurd cc;
+  apart = λ a. absent_link [] a a (nothing_there a);
+  known = λ a b _. absent_link [] a b (nothing_there a);
+  pairs = λ a b a_is b_is apart. starts (view_at [] [] a b) (view_at [] [] b a) (new_view a b a_is b_is) (new_view b a b_is a_is);
+  one_flow = streams_start.one_flow;
+  accepted = streams_start.accepted;
+  delivered = streams_start.delivered;
+  nothing = streams_start.nothing;
+  frames = λ k f there. absurd cc;
+}

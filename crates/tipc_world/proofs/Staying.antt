@@ -1,0 +1,120 @@
+-- The nodes that are there stay, and what has happened stays.
+use Rattle.std.proofs.Common.{◌≡◌, ℕ, Bool, false, List, [], Option, Some, None, Result, Ok, Err, slice_index_or, slice_set, is_some, refl, sym, ap, subst, ◌∙◌, inl, inr}
+use Rattle.std.specs.Prelude.{IfErr, IfOk, OnErr, OnOk}
+use Rattle.std.proofs.lemmas.Bool.{cases_eq}
+use Rattle.std.proofs.lemmas.List.{append-nil}
+use Rattle.tipc_types.specs.declared.node_calls.Answer.{Answer}
+use Rattle.tipc_journal.specs.declared.entries.Entry.{Entry}
+use Rattle.tipc_journal.specs.Prefixes.{IsPrefixOf}
+use Rattle.tipc_world.specs.Events.{JoinsAt}
+use Rattle.tipc_world.specs.declared.events.Limit.TheVariants as limit
+use Rattle.tipc_world.specs.declared.events.WorldEvent.{WorldEvent}
+use Rattle.tipc_world.specs.declared.events.WorldEvent.TheVariants.{Know, Mend, Cut, Tick, Restart, Socket, SendPort, Receive, Arrive}
+use Rattle.tipc_world.specs.declared.events.WorldFault.{WorldFault}
+use Rattle.tipc_world.specs.declared.events.WorldFault.TheVariants as fault
+use Rattle.tipc_world.specs.Calls.{node_of}
+use Rattle.tipc_world.specs.Due.{unarrived}
+use Rattle.tipc_world.specs.Growth.{Grows}
+use Rattle.tipc_world.specs.Limits.{IsAnswered, Stops}
+use Rattle.tipc_world.specs.States.{MemberState, WorldState, history_at, is_there, member_at}
+use Rattle.tipc_world.specs.Steps.{stage, Becomes, Happens, IsArrival, IsJoined, IsStep, Stage}
+use Rattle.tipc_world.proofs.Growing.{step_grows}
+use Rattle.tipc_world.proofs.LookUps.{history_at-same, member_at-changed, member_at-other}
+
+abbrev SameThere : List (Option MemberState) → List (Option MemberState) → Type 0
+SameThere old new = (n : ℕ) → is_some (member_at new n) ≡ is_some (member_at old n)
+
+at_is : (members : List (Option MemberState)) (n : ℕ) → member_at members n ≡ slice_index_or members n None
+unfolding member_at
+at_is members n = refl
+
+happens_there : (old new : Stage) (stamp : ℕ) (event : WorldEvent) (bytes : List ℕ) (answered : Answer) (lost : Bool) → Happens old new stamp event bytes answered lost → SameThere old.members new.members
+happens_there old new stamp event bytes answered lost h n = subst (λ ms. is_some (member_at ms n) ≡ is_some (member_at old.members n)) (sym h.turns.members) (elim (cases_eq n (node_of event)) [
+  | inl same ↦
+      let changed = member_at-changed old.members (node_of event) h.before h.after h.turns.was in
+      let was : member_at old.members (node_of event) ≡ Some h.before = at_is old.members (node_of event) ∙ h.turns.was in
+      ap (λ k. is_some (member_at (slice_set old.members (node_of event) (Some h.after)) k)) same ∙ (ap is_some changed ∙ (sym (ap is_some was) ∙ ap (λ k. is_some (member_at old.members k)) (sym same)))
+  | inr other ↦ ap is_some (member_at-other old.members (node_of event) n h.after other)
+])
+
+arrival_there : (old new : Stage) (stamp node bearer place : ℕ) (answered : Answer) (lost : Bool) (why : Option Answer) → unarrived old.members old.air node bearer place ≡ why → IsArrival old new stamp node bearer place answered lost
+    → SameThere old.members new.members
+arrival_there old new stamp node bearer place answered lost (Some why) e h n = ap (λ (s : Stage). is_some (member_at s.members n)) (h.none why e).1
+arrival_there old new stamp node bearer place answered lost None e h n = let arrives = h.arrives e in happens_there old new stamp (Arrive node bearer place) arrives.0.frame answered lost arrives.2 n
+
+becomes_there : (old new : Stage) (stamp : ℕ) (event : WorldEvent) (answered : Answer) (lost : Bool) → Becomes old stamp event new answered lost → SameThere old.members new.members
+becomes_there old new stamp (Arrive node bearer place) answered lost h = arrival_there old new stamp node bearer place answered lost _ refl h
+becomes_there old new stamp (Know node peer) answered lost h = happens_there old new stamp (Know node peer) [] answered lost h
+becomes_there old new stamp (Mend node bearer) answered lost h = happens_there old new stamp (Mend node bearer) [] answered lost h
+becomes_there old new stamp (Cut node bearer) answered lost h = happens_there old new stamp (Cut node bearer) [] answered lost h
+becomes_there old new stamp (Tick node) answered lost h = happens_there old new stamp (Tick node) [] answered lost h
+becomes_there old new stamp (Restart node) answered lost h = happens_there old new stamp (Restart node) [] answered lost h
+becomes_there old new stamp (Socket node) answered lost h = happens_there old new stamp (Socket node) [] answered lost h
+becomes_there old new stamp (SendPort node port to importance body) answered lost h = happens_there old new stamp (SendPort node port to importance body) [] answered lost h
+becomes_there old new stamp (Receive node port) answered lost h = happens_there old new stamp (Receive node port) [] answered lost h
+
+-- a world after an event: the same nodes are there, and it only grew
+pub record Stays (old new : WorldState) : Type 0 where
+  pub nodes : (n : ℕ) → is_there new n ≡ is_there old n
+  pub grown : Grows old new
+
+step_stays : (old new : WorldState) (event : WorldEvent) (answered : Answer) → IsStep old event new answered → Stays old new
+step_stays old new event answered h = record {
+  nodes = λ n. ap is_some (sym (at_is new.members n)) ∙ (becomes_there (stage old.members old.air) (stage new.members new.air) old.stamps event answered h.lost h.becomes n ∙ ap is_some (at_is old.members n));
+  grown = step_grows old new event answered h;
+}
+
+same_stays : (old new : WorldState) → new ≡ old → Stays old new
+same_stays old new same = subst (λ w. Stays old w) (sym same) (record {
+  nodes = λ n. refl;
+  grown = record { air = ([], sym (append-nil old.air)); histories = λ n. ([], sym (append-nil (history_at old.members n))) };
+})
+
+fault_stays : (old new : WorldState) (event : WorldEvent) (why : WorldFault) → Stops old event new why → Stays old new
+fault_stays old new event (fault.Limit limit.Events) h = same_stays old new h.1
+fault_stays old new event (fault.Limit limit.Journal) h = same_stays old new h.1
+fault_stays old new event (fault.Limit limit.Frames) h = step_stays old new event h.answer h.step
+fault_stays old new event fault.NoMemory h = same_stays old new h
+
+-- whatever an event came to
+pub stays : (old new : WorldState) (event : WorldEvent) (result : Result Answer WorldFault) → IfOk result (IsAnswered old event new) → IfErr result (Stops old event new) → Stays old new
+stays old new event (Ok answered) done failed = step_stays old new event answered done.step
+stays old new event (Err why) done failed = fault_stays old new event why failed
+
+-- ---- a node comes in
+
+history_none : (members : List (Option MemberState)) (n : ℕ) → member_at members n ≡ None → history_at members n ≡ []
+unfolding history_at
+history_none members n none = rw none refl
+
+none_there : (members : List (Option MemberState)) (n : ℕ) → is_some (slice_index_or members n None) ≡ false → slice_index_or members n None ≡ None
+none_there members n absent = by (slice_index_or members n None) absent
+  where
+    by : (o : Option MemberState) → is_some o ≡ false → o ≡ None
+    by None e = refl
+    by (Some m) e = absurd cc
+
+joined_grows : (old new : WorldState) (n : ℕ) → is_there old n ≡ false → IsJoined old new n → Grows old new
+joined_grows old new n absent j = record {
+  air = ([], j.air ∙ sym (append-nil old.air));
+  histories = λ k. elim (cases_eq k n) [
+    | inl same ↦
+        let none : history_at old.members k ≡ [] = ap (history_at old.members) same ∙ history_none old.members n (at_is old.members n ∙ none_there old.members n absent) in
+        subst (λ (es : List Entry). IsPrefixOf es (history_at new.members k)) (sym none) (history_at new.members k, refl)
+    | inr other ↦
+        let same = history_at-same old.members new.members k (at_is new.members k ∙ (j.others k other ∙ sym (at_is old.members k))) in
+        ([], same ∙ sym (append-nil (history_at old.members k)))
+  ];
+}
+
+-- whatever adding a node came to
+pub joining_grows : {E : Type 0} (old new : WorldState) (n : ℕ) (result : Result (Unit {0}) E) → is_there old n ≡ false → OnOk result (IsJoined old new n) → OnErr result (new ≡ old) → Grows old new
+joining_grows old new n (Ok done) absent joined same = joined_grows old new n absent joined
+joining_grows old new n (Err why) absent joined same = (same_stays old new same).grown
+
+pub joins_world : (old : WorldState) (members : List (Option MemberState)) (n : ℕ) → JoinsAt old.members members n
+    → IsJoined old (record { members = members; air = old.air; events = old.events; stamps = old.stamps; lost = old.lost }) n
+joins_world old members n j = record { newcomer = j.newcomer; fresh = j.fresh; here = j.here; others = j.others; air = refl; events = refl; stamps = refl; lost = refl }
+
+pub absent_at : (w : WorldState) (n : ℕ) → is_there w n ≡ false → slice_index_or w.members n None ≡ None
+absent_at w n absent = none_there w.members n absent

@@ -1,9 +1,0 @@
-use Rattle.std.specs.VecDeque.{deque_len}
-use Rattle.tipc_world.proofs.Released.{IsReleasing}
-use Rattle.tipc_world.proofs.worlds.release.Given as goal
-
-abbrev pub invariant-loop-outgoing : goal.invariant-loop-outgoing
-invariant-loop-outgoing l = IsReleasing l.fn.air.items l.air.items l.a l.numbered l.peer_numbered l.fn.frames.items l.waiting.items
-
-abbrev pub decreases-loop-outgoing : goal.decreases-loop-outgoing
-decreases-loop-outgoing l = deque_len l.waiting

@@ -1,0 +1,111 @@
+-- Why a link goes down, as the journals, the arrivals and the air show it.
+use Rattle.std.specs.Prelude.{◌≡◌, ◌⊎◌, ◌<◌, ◌^◌, ◌≤◌, ℕ, ◌+◌, Bool, true, false, List, Option, Some, None, drop, option_and_then, slice_get, sum_by}
+use Rattle.tipc_types.specs.declared.identity.Addr.{Addr}
+use Rattle.tipc_types.specs.declared.link_words.Cause.{Cause}
+use Rattle.tipc_types.specs.declared.link_words.Cause.TheVariants as cause
+use Rattle.tipc_types.specs.declared.link_words.LinkState.{LinkState}
+use Rattle.tipc_types.specs.declared.node_calls.Answer.TheVariants as answer
+use Rattle.tipc_types.specs.declared.node_calls.Arrival.TheVariants as arrival
+use Rattle.tipc_types.specs.declared.node_calls.EventNote.{EventNote}
+use Rattle.tipc_types.specs.declared.node_calls.EventNote.TheVariants as event
+use Rattle.tipc_header.specs.declared.packet.Header.{Header}
+use Rattle.tipc_header.specs.declared.packet.Header.TheVariants as header
+use Rattle.tipc_header.specs.Frames.{frame_of}
+use Rattle.tipc_header.specs.Grammar.{Fits}
+use Rattle.tipc_header.specs.Spelling.{Fields, spelling}
+use Rattle.tipc_journal.specs.declared.entries.Entry.TheVariants as entry
+use Rattle.tipc_journal.specs.Steps.{NodeStep, PlacedStep}
+use Rattle.tipc_world.specs.declared.air.Arrived.{Arrived}
+use Rattle.tipc_world.specs.declared.air.Sent.{Sent}
+
+-- ---- arrivals
+
+-- every frame that was sent, and every frame that arrived at the node
+pub record Seen : Type 0 where
+  pub air : List Sent
+  pub arrivals : List Arrived
+
+-- the frame of an arrival at the node, by the number of the arrival
+unfoldable pub arrived_frame : Seen → ℕ → Option Sent
+arrived_frame seen number = option_and_then (λ (x : Arrived). slice_get seen.air x.frame) (slice_get seen.arrivals number)
+
+-- a step is the arrival of this frame, from this node, on bearer 0
+pub record IsArrivalOf (seen : Seen) (s : NodeStep) (f : Sent) (peer : Addr) : Type 0 where
+  pub number : ℕ
+  pub event_is : s.event ≡ event.Arrive 0 number
+  pub frame_is : arrived_frame seen number ≡ Some f
+  pub from : f.from.word ≡ peer.word
+
+-- the contact number that a packet shows
+abbrev pub shown_contact : Header → Option ℕ
+shown_contact (header.Reset said) = Some said.contact
+shown_contact (header.Activate said) = Some said.contact
+shown_contact other = None
+
+abbrev pub is_reset : Header → Bool
+is_reset (header.Reset said) = true
+is_reset other = false
+
+-- a step is the arrival of a RESET of the peer with this epoch
+pub record IsResetOf (seen : Seen) (s : NodeStep) (peer : Addr) (epoch : ℕ) : Type 0 where
+  pub frame : Sent
+  pub arrives : IsArrivalOf seen s frame peer
+  pub packet : Fields
+  pub other_epoch : ℕ
+  pub epoch_fits : epoch < 2 ^ 64
+  pub fits : Fits packet
+  pub bytes : frame.frame ≡ frame_of epoch other_epoch (spelling packet)
+  pub reset : is_reset packet.header ≡ true
+
+-- a step is the arrival of a frame of the peer that shows this contact number
+pub record IsNumberOf (seen : Seen) (s : NodeStep) (peer : Addr) (number : ℕ) : Type 0 where
+  pub frame : Sent
+  pub arrives : IsArrivalOf seen s frame peer
+  pub packet : Fields
+  pub epoch : ℕ
+  pub other_epoch : ℕ
+  pub fits : Fits packet
+  pub bytes : frame.frame ≡ frame_of epoch other_epoch (spelling packet)
+  pub shows : shown_contact packet.header ≡ Some number
+
+-- ---- silence
+
+-- 1 for a tick, and 0 for every other call
+abbrev pub tick_of : EventNote → ℕ
+tick_of event.Tick = 1
+tick_of other = 0
+
+-- how many of the steps are ticks
+unfoldable pub ticks : List PlacedStep → ℕ
+ticks made = sum_by (λ (s : PlacedStep). tick_of s.step.event) made
+
+-- in a step the link to the peer went up
+pub record BringsUp (s : NodeStep) (peer : Addr) : Type 0 where
+  pub place : ℕ
+  pub own : ℕ
+  pub theirs : ℕ
+  pub entry_is : slice_get s.inside place ≡ Some (entry.LinkUp peer 0 own theirs)
+
+-- a step is the arrival of a frame of the peer that the link took
+pub record IsTakenFrom (seen : Seen) (s : NodeStep) (peer : Addr) : Type 0 where
+  pub frame : Sent
+  pub arrives : IsArrivalOf seen s frame peer
+  pub messages : ℕ
+  pub took : s.answer ≡ answer.Arrived (arrival.Took messages)
+
+-- At least so many ticks stand after each of these steps in which the link to the peer went up or took a frame of it.
+abbrev pub HasTicked : Seen → List PlacedStep → Addr → ℕ → Type 0
+HasTicked seen made peer least = (k : ℕ) (s : PlacedStep) → slice_get made k ≡ Some s → BringsUp s.step peer ⊎ IsTakenFrom seen s.step peer → least ≤ ticks (drop (k + 1) made)
+
+-- ---- why a link goes down
+
+-- In a step after these earlier ones, the link to the peer, which went up under the peer's epoch theirs, may go down for this cause,
+-- beside which the epoch that the peer showed is kept. A contact's end shows a number above the peer's number of the contact, the second.
+abbrev pub IsCaused : Seen → List PlacedStep → PlacedStep → Addr → ℕ → Cause → ℕ → Type 0
+IsCaused seen earlier s peer theirs cause.Cut shown = s.step.event ≡ event.Cut 0
+IsCaused seen earlier s peer theirs cause.Silent shown = (s.step.event ≡ event.Tick) × HasTicked seen earlier peer 4
+IsCaused seen earlier s peer theirs cause.PeerReset shown = IsResetOf seen s.step peer shown × (theirs < shown)
+IsCaused seen earlier s peer theirs cause.PeerTunnel shown = ⊥
+IsCaused seen earlier s peer theirs cause.ContactEnded shown =
+    (place : ℕ) × (numbers : ℕ × ℕ) × (states : Option LinkState × Option LinkState) × (number : ℕ)
+    × (slice_get s.step.inside place ≡ Some (entry.ContactDown peer numbers states number)) × IsNumberOf seen s.step peer number × (numbers.1 < number)

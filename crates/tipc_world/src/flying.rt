@@ -1,0 +1,196 @@
+//! Frames that leave a node and come into the air, and those of the air that arrive.
+
+ghost use Rattle.std.specs.Prelude.{◌≡◌, ◌≤◌, ◌++◌, ◌⊎◌, [], ℕ, true, false, Some, None, length, map, drop, is_some, slice_get, IfOk, IfSome, IfNone, IfErr, OnOk};
+ghost use Rattle.tipc_types.specs.Address.{node_word};
+ghost use Rattle.tipc_pair.specs.Views.{own_in, seen_in};
+ghost use Rattle.tipc_world.specs.Air.{airborne, Emits, Releases};
+ghost use Rattle.tipc_world.specs.Due.{age_of, frame_for, is_for, unarrived, HasNoSession, HasSession};
+ghost use Rattle.tipc_world.specs.States.{boot_at, count_at, link_at};
+
+use crate::air::Sent;
+use crate::members::Member;
+use std::collections::VecDeque;
+use tipc_header::{decode, open_frame};
+use tipc_link::is_traffic;
+use tipc_outside::{Outbox, Outgoing};
+use tipc_types::{Addr, Answer, To};
+
+/// A frame is too old once more packets than this were numbered since it was sent. (This project's profile.)
+const OLDEST: u64 = 30_000;
+
+/// The first contact number of the first boot.
+const FIRST_CONTACT: u64 = 4_294_967_297;
+
+/// How many packets node `a` has numbered for node `b` under an epoch.
+#[tactic(auto, unfolding(crate::specs::States::count_at, crate::specs::States::member_at))]
+fn count_at(members: &[Option<Member>], a: u8, b: u8, epoch: u64) -> u64
+    ensures { result ≡ count_at members.now a b epoch }
+{
+    match members.get(a as usize) {
+        Some(Some(member)) => member.count(b, epoch),
+        _ => 0,
+    }
+}
+
+/// The contact number of node `a` for node `b`, and the highest that it was shown.
+#[tactic(auto, unfolding(crate::specs::States::boot_at, crate::specs::States::link_at, crate::specs::States::member_at))]
+fn contact_numbers(members: &[Option<Member>], a: u8, b: u8) -> (u64, u64)
+    ensures own { result.0 ≡ own_in (boot_at members.now a) (link_at members.now a b) }
+    ensures seen { result.1 ≡ seen_in (link_at members.now a b) }
+{
+    match members.get(a as usize) {
+        Some(Some(member)) => member.contact_numbers(b),
+        _ => (FIRST_CONTACT, 0),
+    }
+}
+
+// ---- the age of a frame
+
+/// Whether a frame is a STATE or a numbered packet, and the epochs of its envelope.
+#[derive(Clone, Copy)]
+struct Epochs {
+    sender: u64,
+    receiver: u64,
+}
+
+/// The epochs of the session of a frame: None where it is no STATE and no numbered packet.
+fn session_of(frame: &[u8]) -> Option<Epochs>
+    ensures some { IfSome result (λ e. HasSession frame.now e.sender e.receiver) }
+    ensures none { IfNone result (HasNoSession frame.now) }
+{
+    let opened = open_frame(frame)?;
+    let Ok(packet) = decode(opened.packet) else {
+        return None;
+    };
+    if !is_traffic(&packet.header) {
+        return None;
+    }
+    Some(Epochs {
+        sender: opened.first,
+        receiver: opened.second,
+    })
+}
+
+/// How many packets were numbered in the session of a frame to node `n` since it was sent: the larger number of its two
+/// directions. The age of a STATE or a numbered packet alone grows.
+fn age_of(members: &[Option<Member>], sent: &Sent, n: u8) -> u64
+    requires { (n_from : ℕ) × (1 ≤ n_from) × (n_from ≤ 32) × (sent.now.from.word ≡ node_word n_from) }
+    ensures { result ≡ age_of members.now sent.now n }
+{
+    let Some(epochs) = session_of(sent.frame.as_slice()) else {
+        return 0;
+    };
+    let Some(from) = sent.from.number() else {
+        unreachable!()
+    };
+    let own = count_at(members, from, n, epochs.sender).saturating_sub(sent.numbered);
+    let peer = count_at(members, n, from, epochs.receiver).saturating_sub(sent.peer_numbered);
+    own.max(peer)
+}
+
+// ---- the frame that arrives
+
+/// Whether a frame is for a node.
+fn is_for(to: To, node: u8) -> bool
+    requires { (1 ≤ node) × (node ≤ 32) }
+    ensures { result ≡ is_for to node }
+{
+    match to {
+        To::Node(address) => address.word == Addr::node(node).word,
+        To::All => true,
+    }
+}
+
+/// The frame of that place in a bearer's air, where it is for the node.
+#[tactic(auto, unfolding(crate::specs::Due::frame_for))]
+fn frame_for(air: &[Sent], node: u8, bearer: u8, place: u64) -> Option<&Sent>
+    requires { (1 ≤ node) × (node ≤ 32) }
+    ensures some { IfSome result (λ f. frame_for air.now node bearer place ≡ Some f.now) }
+    ensures none { IfNone result (frame_for air.now node bearer place ≡ None) }
+{
+    if bearer != 0 {
+        return None;
+    }
+    let sent = air.get(place as usize)?;
+    if !is_for(sent.to, node) {
+        return None;
+    }
+    Some(sent)
+}
+
+/// The frame of that place in a bearer's air that arrives at a node, or the answer where none does: NoFrame exactly where there is
+/// none for that node, TooOld exactly where more than 30,000 packets were numbered in its session since it was sent.
+#[tactic(auto, unfolding(crate::specs::Due::unarrived))]
+pub fn find<'a>(
+    members: &[Option<Member>],
+    air: &'a [Sent],
+    node: u8,
+    bearer: u8,
+    place: u64,
+) -> Result<&'a Sent, Answer>
+    requires number { (1 ≤ node) × (node ≤ 32) }
+    requires senders { (k : ℕ) (f : Sent) → slice_get air.now k ≡ Some f → (n : ℕ) × (1 ≤ n) × (n ≤ 32) × (f.from.word ≡ node_word n) }
+    ensures found { IfOk result (λ f. (frame_for air.now node bearer place ≡ Some f.now) × (unarrived members.now air.now node bearer place ≡ None)) }
+    ensures none { IfErr result (λ why. unarrived members.now air.now node bearer place ≡ Some why) }
+{
+    let Some(sent) = frame_for(air, node, bearer, place) else {
+        return Err(Answer::NoFrame);
+    };
+    let age = age_of(members, sent, node);
+    if age > OLDEST {
+        return Err(Answer::TooOld(age));
+    }
+    Ok(sent)
+}
+
+// ---- frames that leave
+
+/// The frame that leaves node `a`, as the air keeps it: None where it has no frame's size, or isn't for one of the 32 nodes.
+fn airborne(members: &[Option<Member>], a: u8, outgoing: Outgoing) -> Option<Sent>
+    requires { (1 ≤ a) × (a ≤ 32) }
+    ensures { IfSome result (λ f. f ≡ airborne members.now a outgoing) }
+{
+    let To::Node(address) = outgoing.to else {
+        return None;
+    };
+    let to = address.number()?;
+    let opened = open_frame(outgoing.frame.as_slice())?;
+    let (first, second) = (opened.first, opened.second);
+    Some(Sent {
+        from: Addr::node(a),
+        to: outgoing.to,
+        contact: contact_numbers(members, a, to),
+        numbered: count_at(members, a, to, first),
+        peer_numbered: count_at(members, to, a, second),
+        frame: outgoing.frame,
+    })
+}
+
+/// Brings frames that leave node `a` into the air, in order, up to one that finds no memory. It answers whether all came there.
+fn release(members: &[Option<Member>], air: &mut Vec<Sent>, a: u8, frames: Vec<Outgoing>) -> bool
+    requires { (1 ≤ a) × (a ≤ 32) }
+    ensures some { Releases air.old.items air.new.items members.now a frames.items }
+    ensures all { result ≡ true → air.new.items ≡ air.old.items ++ map (airborne members.now a) frames.items }
+{
+    let mut waiting = VecDeque::from_vec(frames);
+    while let Some(outgoing) = waiting.pop_front() {
+        let Some(sent) = airborne(members, a, outgoing) else {
+            return false;
+        };
+        match air.push(sent) {
+            Ok(()) => {}
+            Err(_) => return false,
+        }
+    }
+    true
+}
+
+/// Brings what left node `a` into the air. It answers whether a frame was lost for want of memory.
+pub fn emit(members: &[Option<Member>], air: &mut Vec<Sent>, a: u8, out: Outbox) -> bool
+    requires { (1 ≤ a) × (a ≤ 32) }
+    ensures { Emits air.old.items air.new.items members.now a out result }
+{
+    let lost = out.lost();
+    let all = release(members, air, a, out.into_frames());
+    lost || !all
+}

@@ -1,0 +1,282 @@
+//! What is told of a world. None of these takes memory but `links`.
+
+ghost use Rattle.std.specs.Prelude.{◌≡◌, ◌≤◌, ◌+◌, ◌++◌, [], ℕ, Some, None, length, is_some, slice_index_or, option_map, IfOk, IfSome, OnErr, OnOk};
+ghost use Rattle.tipc_link_fsm.specs.Table.{is_up};
+ghost use Rattle.tipc_types.specs.declared.message_forms.Flow.TheVariants.{Zero};
+ghost use Rattle.tipc_world.specs.Readers.{link_shown, links_of, load_of, node_number, receiver_at, receiver_number, sender_at, unacked_in, waiting_in};
+ghost use Rattle.tipc_world.specs.States.{contact_at, counted, accepted_at, delivered_at, flow_of, is_mended_at, link_at, is_there, is_up_at, knows};
+
+use crate::air::{Arrived, Sent};
+use crate::members::Member;
+use crate::worlds::World;
+use std::alloc::Global;
+use tipc_types::{Addr, Answer, LinkState, NoMemory, PeerLinks, Sequence, To};
+
+/// The number of the node of an address, where it is one of the 32.
+#[tactic(auto, unfolding(crate::specs::Readers::node_number))]
+fn number_of(address: Addr) -> Option<u8>
+    ensures value { result ≡ node_number address.word }
+    ensures range { IfSome result (λ n. (1 ≤ n) × (n ≤ 32)) }
+{
+    address.number()
+}
+
+/// The number of the node that a frame is for.
+fn receiver_of(to: To) -> Option<u8>
+    ensures value { result ≡ receiver_number to }
+    ensures range { IfSome result (λ n. (1 ≤ n) × (n ≤ 32)) }
+{
+    match to {
+        To::Node(address) => number_of(address),
+        To::All => None,
+    }
+}
+
+/// The number of the node that the frame at that place is for.
+#[tactic(auto, unfolding(crate::specs::Readers::receiver_at))]
+fn receiver_at(air: &[Sent], place: u64) -> Option<u8>
+    ensures value { result ≡ receiver_at air.now place }
+    ensures range { IfSome result (λ n. (1 ≤ n) × (n ≤ 32)) }
+{
+    receiver_of(air.get(place as usize)?.to)
+}
+
+/// The number of the node that sent the frame at that place.
+#[tactic(auto, unfolding(crate::specs::Readers::sender_at))]
+fn sender_at(air: &[Sent], place: u64) -> Option<u8>
+    ensures value { result ≡ sender_at air.now place }
+    ensures range { IfSome result (λ n. (1 ≤ n) × (n ≤ 32)) }
+{
+    number_of(air.get(place as usize)?.from)
+}
+
+/// The numbers of packets unacknowledged and waiting at a node, where it is there.
+fn load_at(member: &Option<Member>) -> (u64, u64)
+    ensures { (result.0 ≡ unacked_in member.now) × (result.1 ≡ waiting_in member.now) }
+{
+    match member {
+        Some(member) => member.load(),
+        None => (0, 0),
+    }
+}
+
+/// The numbers of packets unacknowledged and waiting at all nodes.
+#[tactic(auto, unfolding(crate::specs::Readers::load_of))]
+fn load_all(members: &[Option<Member>]) -> (u64, u64)
+    ensures { result ≡ load_of members.now }
+{
+    let mut unacked = 0_u64;
+    let mut waiting = 0_u64;
+    for member in members {
+        let (in_flight, queued) = load_at(member);
+        unacked = unacked.saturating_add(in_flight);
+        waiting = waiting.saturating_add(queued);
+    }
+    (unacked, waiting)
+}
+
+/// Whether a link end in this state is up.
+fn is_working(state: LinkState) -> bool
+    ensures { result ≡ is_up state }
+{
+    match state {
+        LinkState::WorkingWorking => true,
+        LinkState::WorkingUnknown => true,
+        LinkState::ResetUnknown => false,
+        LinkState::ResetReset => false,
+        LinkState::Held => false,
+    }
+}
+
+/// The contact in which node `a` is with node `b`.
+#[tactic(auto, unfolding(crate::specs::States::contact_at, crate::specs::States::link_at, crate::specs::States::member_at))]
+fn contact_at(members: &[Option<Member>], a: u8, b: u8) -> Option<(u64, u64)>
+    ensures { result ≡ contact_at members.now a b }
+{
+    match members.get(a as usize) {
+        Some(Some(member)) => member.contact(b),
+        _ => None,
+    }
+}
+
+/// How many messages node `a` accepted for node `b` in a contact.
+#[tactic(auto, using(crate::proofs::Flows::accepted_none), unfolding(crate::specs::States::accepted_at, crate::specs::States::history_at, crate::specs::States::member_at))]
+fn accepted_at(members: &[Option<Member>], a: u8, b: u8, contact: (u64, u64)) -> u64
+    requires { (1 ≤ b) × (b ≤ 32) }
+    ensures { result ≡ counted (length (accepted_at members.now a b contact.0 contact.1 Zero)) }
+{
+    match members.get(a as usize) {
+        Some(Some(member)) => member.accepted_count(b, contact),
+        _ => 0,
+    }
+}
+
+/// How many messages were delivered at node `b` from node `a` in a contact.
+#[tactic(auto, using(crate::proofs::Flows::delivered_none), unfolding(crate::specs::States::delivered_at, crate::specs::States::history_at, crate::specs::States::member_at))]
+fn delivered_at(members: &[Option<Member>], b: u8, a: u8, contact: (u64, u64)) -> u64
+    requires { (1 ≤ a) × (a ≤ 32) }
+    ensures { result ≡ counted (length (delivered_at members.now b a contact.0 contact.1 Zero)) }
+{
+    match members.get(b as usize) {
+        Some(Some(member)) => member.delivered_count(a, contact),
+        _ => 0,
+    }
+}
+
+/// The counts of the contact in which node `a` is with node `b`.
+#[tactic(auto, unfolding(crate::specs::States::flow_of))]
+fn flow_at(members: &[Option<Member>], a: u8, b: u8) -> Answer
+    requires { (1 ≤ a) × (a ≤ 32) × (1 ≤ b) × (b ≤ 32) }
+    ensures { result ≡ flow_of members.now a b }
+{
+    match contact_at(members, a, b) {
+        None => Answer::NoContact,
+        Some(contact) => Answer::Flow {
+            accepted: accepted_at(members, a, b, contact),
+            delivered: delivered_at(members, b, a, (contact.1, contact.0)),
+        },
+    }
+}
+
+/// The state of the link end at node `a` to node `b`.
+#[tactic(auto, unfolding(crate::specs::States::link_at, crate::specs::States::member_at))]
+fn link_at(members: &[Option<Member>], a: u8, b: u8) -> Option<LinkState>
+    ensures { result ≡ option_map (λ e. e.fsm.state) (link_at members.now a b) }
+{
+    match members.get(a as usize) {
+        Some(Some(member)) => member.link(b),
+        _ => None,
+    }
+}
+
+/// Whether bearer 0 is mended at a node.
+#[tactic(auto, unfolding(crate::specs::States::member_at))]
+fn is_mended_at(members: &[Option<Member>], n: u8) -> bool
+    ensures { result ≡ is_mended_at members.now n }
+{
+    match members.get(n as usize) {
+        Some(Some(member)) => member.is_mended(),
+        _ => false,
+    }
+}
+
+/// Adds the link end of node `n` to a peer, where it has one.
+fn add_link(
+    links: &mut Vec<PeerLinks>,
+    members: &[Option<Member>],
+    n: u8,
+    peer: u8,
+) -> Result<(), NoMemory>
+    requires { (1 ≤ peer) × (peer ≤ 32) }
+    ensures { OnOk result (links.new.items ≡ links.old.items ++ link_shown peer (link_at members.now n peer)) }
+{
+    if let Some(state) = link_at(members, n, peer) {
+        links.push(PeerLinks {
+            peer: Addr::node(peer),
+            first: Some(state),
+            second: None,
+        })?;
+    }
+    Ok(())
+}
+
+/// The link ends of node `n`, in order of the peers.
+#[tactic(auto, using(crate::proofs::Flows::links_more), unfolding(crate::specs::Readers::links_up_to))]
+fn links_at(members: &[Option<Member>], alloc: Global, n: u8) -> Result<Vec<PeerLinks>, NoMemory>
+    ensures { IfOk result (λ links. links.items ≡ links_of members.now n) }
+{
+    let mut links = Vec::new(alloc);
+    for peer in 1..33_u8 {
+        add_link(&mut links, members, n, peer)?;
+    }
+    Ok(links)
+}
+
+impl World {
+    /// Whether a node is there.
+    pub fn has_node(&self, n: u8) -> bool
+        ensures { result ≡ is_there self.now n }
+    {
+        match self.members.get(n as usize) {
+            Some(Some(_)) => true,
+            _ => false,
+        }
+    }
+
+    /// Whether a frame was lost for want of memory.
+    pub fn lost(&self) -> bool
+        ensures { result ≡ self.now.lost }
+    {
+        self.lost
+    }
+
+    /// How many messages node `a` accepted for node `b` in the contact in which it is with it, and how many of them were delivered, in all
+    /// boots: NoContact exactly where it is in none. A count stops at the last number of 64 bits.
+    pub fn flow(&self, a: u8, b: u8) -> Answer
+        requires { (1 ≤ a) × (a ≤ 32) × (1 ≤ b) × (b ≤ 32) }
+        ensures { result ≡ flow_of self.now.members a b }
+    {
+        flow_at(&self.members, a, b)
+    }
+
+    /// Whether node `a` has a link end to node `b`.
+    pub fn knows(&self, a: u8, b: u8) -> bool
+        ensures { result ≡ knows self.now.members a b }
+    {
+        link_at(&self.members, a, b).is_some()
+    }
+
+    /// Whether the link end at node `a` to node `b` is up.
+    pub fn is_up(&self, a: u8, b: u8) -> bool
+        ensures { result ≡ is_up_at self.now.members a b }
+    {
+        match link_at(&self.members, a, b) {
+            Some(state) => is_working(state),
+            None => false,
+        }
+    }
+
+    /// Whether bearer 0 is mended at a node.
+    pub fn is_mended(&self, n: u8) -> bool
+        ensures { result ≡ is_mended_at self.now.members n }
+    {
+        is_mended_at(&self.members, n)
+    }
+
+    /// How many frames were ever sent on bearer 0.
+    pub fn air_len(&self) -> u64
+        ensures len { result ≡ length self.now.air }
+    {
+        self.air.len() as u64
+    }
+
+    /// The node that the frame of that place on bearer 0 is for, from 0 on: None exactly where there is no such frame.
+    pub fn receiver(&self, place: u64) -> Option<u8>
+        ensures value { result ≡ receiver_at self.now.air place }
+        ensures range { IfSome result (λ n. (1 ≤ n) × (n ≤ 32)) }
+    {
+        receiver_at(&self.air, place)
+    }
+
+    /// The node that sent the frame of that place on bearer 0: None exactly where there is no such frame.
+    pub fn sender(&self, place: u64) -> Option<u8>
+        ensures value { result ≡ sender_at self.now.air place }
+        ensures range { IfSome result (λ n. (1 ≤ n) × (n ≤ 32)) }
+    {
+        sender_at(&self.air, place)
+    }
+
+    /// The numbers of packets unacknowledged and waiting at all nodes. Each stops at the last number of 64 bits.
+    pub fn load(&self) -> (u64, u64)
+        ensures { result ≡ load_of self.now.members }
+    {
+        load_all(&self.members)
+    }
+
+    /// The link ends of a node, in order of the peers.
+    pub fn links(&self, alloc: Global, n: u8) -> Result<Sequence<PeerLinks>, NoMemory>
+        ensures { IfOk result (λ links. links ≡ links_of self.now.members n) }
+    {
+        Ok(Sequence::from_vec(links_at(&self.members, alloc, n)?))
+    }
+}
