@@ -1,18 +1,25 @@
 -- A line without fault can be done.
-use Rattle.std.proofs.Common.{◌≡◌, ◌≢◌, arith, ℕ, ◌≤◌, Bool, true, false, not, Option, Some, None, List, [], ◌∷◌, drop, refl, sym, ◌∙◌, inl, inr}
+use Rattle.std.proofs.Common.{◌≡◌, ◌≢◌, arith, ℕ, ◌≤◌, Bool, true, false, not, Option, Some, None, List, [], ◌∷◌, drop, refl, sym, subst, ◌∙◌, inl, inr}
 use Rattle.std.specs.Option.{option_or}
 use Rattle.std.proofs.lemmas.Bool.{cases_Bool}
 use Rattle.tipc_script.specs.declared.lines.NodeToken.{NodeToken}
 use Rattle.tipc_script.specs.declared.faults.LineWhy.TheVariants as why
 use Rattle.tipc_script.specs.Splitting.{Left, whole, first_token, behind}
 use Rattle.tipc_script.specs.Kinds.{Kind, OldNode, BearerNumber, is_remark}
-use Rattle.tipc_script.specs.Grammar.{Row, rows, row_of, asked, asked_by, nodes_of, nodes_by, nodes_in, first_number, node_row, link_row, mark_row, socket_row, send_row, arrive_row, receive_row, flow_row}
+use Rattle.tipc_script.specs.Grammar.{Row, rows, traffic_rows, row_of, asked, asked_by, nodes_of, nodes_by, nodes_in, first_number, node_row, mend_row, cut_row, tick_row, restart_row, link_row, mark_row, socket_row, send_row, arrive_row, receive_row, pump_row, settle_row, links_row, flow_row}
 use Rattle.tipc_script.specs.Spelling.{Asks, IsMessage, node_number}
 use Rattle.tipc_types.specs.declared.identity.PortId.{PortId}
 use Rattle.tipc_types.specs.declared.message_forms.Importance.{Importance}
 use Rattle.tipc_types.specs.Address.{node_word}
 use Rattle.tipc_script.proofs.Reading.{OfRows, row_found}
 use Rattle.tipc_script.proofs.Found.{asks_found}
+use Rattle.tipc_script.specs.declared.lines.Line.{Line}
+use Rattle.tipc_script.specs.declared.lines.Line.TheVariants.{Nothing, Node, Mend, Cut, Tick, Restart, Link, Mark, Socket, Send, Arrive, Receive, Pump, Settle, Links, Flow}
+use Rattle.tipc_world.specs.declared.events.WorldEvent.{WorldEvent}
+use Rattle.tipc_world.specs.Calls.{CanHappen}
+use Rattle.tipc_world.specs.States.{WorldState, is_there}
+use Rattle.tipc_sim.specs.Happenings.{event_of}
+use Rattle.tipc_sim.specs.Noted.{NotesState}
 use Rattle.tipc_sim.specs.Nodes.{is_misplaced, node_fault, fault_where, CanBeDone}
 
 -- without a fault, the first node is as it has to be, and so are the others
@@ -40,6 +47,18 @@ CanDo row = (there : ℕ → Bool) (text : List ℕ) (left : Left) → Asks text
 node_can : CanDo node_row
 node_can there text left asks e = (asks.0, (first_in_place there (record { place = left.place; node = first_number left; there = false }) [] e).0)
 
+mend_can : CanDo mend_row
+mend_can there text left asks e = ((old_in_place there (BearerNumber ∷ []) left e).0, asks.0.1)
+
+cut_can : CanDo cut_row
+cut_can there text left asks e = ((old_in_place there (BearerNumber ∷ []) left e).0, asks.0.1)
+
+tick_can : CanDo tick_row
+tick_can there text left asks e = (old_in_place there [] left e).0
+
+restart_can : CanDo restart_row
+restart_can there text left asks e = (old_in_place there [] left e).0
+
 link_can : CanDo link_row
 link_can there text left asks e =
     let first = old_in_place there (OldNode ∷ BearerNumber ∷ []) left e in
@@ -61,14 +80,26 @@ arrive_can there text left asks e = ((old_in_place there (drop 1 arrive_row.kind
 receive_can : CanDo receive_row
 receive_can there text left asks e = (old_in_place there (drop 1 receive_row.kinds) left e).0
 
+pump_can : CanDo pump_row
+pump_can there text left asks e = tt
+
+settle_can : CanDo settle_row
+settle_can there text left asks e = tt
+
+links_can : CanDo links_row
+links_can there text left asks e = ((old_in_place there [] left e).0, asks.0)
+
 flow_can : CanDo flow_row
 flow_can there text left asks e =
     let from = old_in_place there (OldNode ∷ []) left e in
     let to = old_in_place there [] (behind left) from.1 in
-    (from.0, to.0)
+    (from.0, to.0, asks.0.0, asks.0.1)
+
+traffic_can : OfRows CanDo traffic_rows
+traffic_can = (send_can, (arrive_can, (receive_can, (pump_can, (settle_can, (links_can, (flow_can, tt)))))))
 
 all_can : OfRows CanDo rows
-all_can = (node_can, (link_can, (mark_can, (socket_can, (send_can, (arrive_can, (receive_can, (flow_can, tt))))))))
+all_can = (node_can, (mend_can, (cut_can, (tick_can, (restart_can, (link_can, (mark_can, (socket_can, traffic_can))))))))
 
 row_can : (there : ℕ → Bool) (text : List ℕ) (row : Option Row) → row_of (first_token (whole text)) ≡ row → Asks text (asked_by row (behind (whole text)))
     → node_fault there (nodes_by row (behind (whole text))) ≡ None → CanBeDone there (asked_by row (behind (whole text)))
@@ -103,3 +134,27 @@ reaches {node} {port} {to} message =
     let place = message.to_node in
     let other = message.other in
     (node_number to, omega arith, omega arith, λ same. other (omega arith), omega arith)
+
+inside : {A : Type 0} {x y : A} → Some x ≡ Some y → x ≡ y
+inside e = cc
+
+-- the event that a line is can happen where the line can be done
+pub can_happen : (w : WorldState) (notes : NotesState) (line : Line) (event : WorldEvent) → CanBeDone (is_there w) line → event_of line notes ≡ Some event → CanHappen w event
+can_happen w notes (Cut node bearer) event can e = subst (CanHappen w) (inside e) can
+can_happen w notes (Tick node) event can e = subst (CanHappen w) (inside e) can
+can_happen w notes (Restart node) event can e = subst (CanHappen w) (inside e) can
+can_happen w notes (Socket node) event can e = subst (CanHappen w) (inside e) can
+can_happen w notes (Send node port to importance body) event can e =
+    let message = can.1 in
+    subst (CanHappen w) (inside e) (can.0, reaches can.1, (let short = message.short in omega arith))
+can_happen w notes (Arrive node bearer frame) event can e = subst (CanHappen w) (inside e) (can.0, omega (arith, can.1))
+can_happen w notes (Receive node port) event can e = subst (CanHappen w) (inside e) can
+can_happen w notes Nothing event can e = absurd cc
+can_happen w notes (Node node) event can e = absurd cc
+can_happen w notes (Mend node bearer) event can e = absurd cc
+can_happen w notes (Link first second bearer) event can e = absurd cc
+can_happen w notes Mark event can e = absurd cc
+can_happen w notes (Pump bearer) event can e = absurd cc
+can_happen w notes (Settle rounds) event can e = absurd cc
+can_happen w notes (Links node) event can e = absurd cc
+can_happen w notes (Flow from to) event can e = absurd cc

@@ -1,5 +1,5 @@
 -- The run of a script: its beginning, one line more, and its ends.
-use Rattle.std.proofs.Common.{◌≡◌, ℕ, ◌+◌, ◌-◌, ◌≤◌, ◌||◌, Option, Some, None, Err, List, [], ◌∷◌, ◌++◌, length, take, drop, refl, sym, ap, subst, ◌∙◌, arith, inl, inr, append-nil, add-one, false}
+use Rattle.std.proofs.Common.{◌≡◌, ℕ, ◌+◌, ◌-◌, ◌≤◌, ◌⊎◌, ◌||◌, Option, Some, None, Err, List, [], ◌∷◌, ◌++◌, length, take, drop, refl, sym, ap, subst, ◌∙◌, arith, inl, inr, append-nil, add-one, false}
 use Rattle.std.specs.Prelude.{IfSome}
 use Rattle.std.specs.Io.KnownBytes.{Appends}
 use Rattle.std.proofs.KnownBytes.{Appends-trans, Appends-nil}
@@ -7,18 +7,19 @@ use Rattle.std.proofs.lemmas.List.{length-drop, length-take, take_all}
 use Rattle.std.proofs.Math.Seq.{take-append-add}
 use Rattle.tipc_script.specs.Grammar.{asked}
 use Rattle.tipc_world.specs.States.{WorldState, is_there}
-use Rattle.tipc_world.proofs.Growing.{same_grows}
 use Rattle.tipc_sim.specs.declared.status.Status.{Status}
 use Rattle.tipc_sim.specs.declared.status.Status.TheVariants as status
-use Rattle.tipc_sim.specs.Happenings.{Runs, begin, go_on, answer_text}
-use Rattle.tipc_sim.specs.Lines.{lines_of}
+use Rattle.tipc_sim.specs.Happenings.{Runs, Scene, begin, go_on, answer_text, scene}
+use Rattle.tipc_sim.specs.Lines.{lines_of, IsWithin}
 use Rattle.tipc_sim.specs.Nodes.{AreSound, IsFirstBad, fault_where, made_by, makes}
+use Rattle.tipc_sim.specs.Noted.{no_notes}
 use Rattle.tipc_sim.specs.Output.{AppendsFront}
-use Rattle.tipc_sim.specs.Reports.{Reports, EndsBadly, EndsOver}
-use Rattle.tipc_sim.specs.Steps.{IsUnderWay, IsDone, IsRefused, IsCut, IsUntold, TellsAnswer, TellsFault, LineRuns, IsLimitStatus}
+use Rattle.tipc_sim.specs.Reports.{Ends, EndsBadly, EndsLimited, EndsOver, ReachesLimit, Reports, WritesReport}
+use Rattle.tipc_sim.specs.Steps.{IsUnderWay, IsDone, IsHalted, IsRefused, IsCut, IsUntold, TellsAnswer, TellsFault, TellsLimit, LineRuns, IsLimitStatus}
 use Rattle.tipc_sim.proofs.LineLaws.{lines_of-nil}
 use Rattle.tipc_sim.proofs.ListLaws.{here}
 use Rattle.tipc_sim.proofs.ReportLaws.{fault_where_same, made_by_more, sound_more, sound_none}
+use Rattle.tipc_sim.proofs.WorldLaws.{grows_equal, grows_same}
 
 -- a text and a front of another are a front of both
 front_more : (a b c : Option (List ℕ)) (text more : List ℕ) → Appends a b text → AppendsFront b c more → AppendsFront a c (text ++ more)
@@ -26,7 +27,7 @@ front_more a b c text more whole front =
     (length text + front.0, subst (Appends a c) (sym (take-append-add text more front.0)) (Appends-trans a b c text (take front.0 more) whole front.1))
 
 -- a script before its first line
-pub begins : (script : List ℕ) (start : WorldState) (contents : Option (List ℕ)) → ((n : ℕ) → is_there start n ≡ false) → IsUnderWay script script 0 start start contents contents
+pub begins : (script : List ℕ) (start : WorldState) (contents : Option (List ℕ)) → ((n : ℕ) → is_there start n ≡ false) → IsUnderWay script script 0 (scene start no_notes) (scene start no_notes) contents contents
 unfolding made_by
 begins script start contents none = record {
   few = omega arith;
@@ -43,20 +44,20 @@ abbrev Next : List ℕ → List ℕ → List ℕ → Type 0
 Next rest line behind = lines_of rest ≡ line ∷ lines_of behind
 
 -- what is behind a line that was done
-record IsMore (script line behind : List ℕ) (number : ℕ) (start now : WorldState) (report text : List ℕ) : Type 0 where
+record IsMore (script line behind : List ℕ) (number : ℕ) (start now : Scene) (report text : List ℕ) : Type 0 where
   few : number + 1 ≤ length (lines_of script)
   left : lines_of behind ≡ drop (number + 1) (lines_of script)
   sound : AreSound (take (number + 1) (lines_of script))
-  nodes : (n : ℕ) → is_there now n ≡ made_by (take (number + 1) (lines_of script)) n
+  nodes : (n : ℕ) → is_there now.world n ≡ made_by (take (number + 1) (lines_of script)) n
   runs : Runs start (take (number + 1) (lines_of script)) now (report ++ text)
 
-one_more : (script rest line behind text : List ℕ) (number : ℕ) (start old new : WorldState) (before between : Option (List ℕ)) (u : IsUnderWay script rest number start old before between) → Next rest line behind
+one_more : (script rest line behind text : List ℕ) (number : ℕ) (start old new : Scene) (before between : Option (List ℕ)) (u : IsUnderWay script rest number start old before between) → Next rest line behind
     → TellsAnswer (number + 1) line old new text → IsMore script line behind number start new u.report text
 one_more script rest line behind text number start old new before between u next told =
     let lines = lines_of script in
     let h = here lines number line (lines_of behind) (sym u.left ∙ next) in
     let answered = told.1 in
-    let none : fault_where (made_by (take number lines)) line ≡ None = sym (fault_where_same (is_there old) (made_by (take number lines)) line u.nodes) ∙ told.0 in
+    let none : fault_where (made_by (take number lines)) line ≡ None = sym (fault_where_same (is_there old.world) (made_by (take number lines)) line u.nodes) ∙ told.0 in
     let plus = add-one number in
     let front : take number lines ++ line ∷ [] ≡ take (number + 1) lines = sym (ap (λ k. take k lines) plus ∙ h.front) in
     let count : length (take number lines) + 1 ≡ number + 1 = omega (arith, length-take number lines, u.few) in
@@ -72,7 +73,7 @@ one_more script rest line behind text number start old new before between u next
     }
 
 -- one line more was done
-pub goes_on : (script rest line behind : List ℕ) (number : ℕ) (start old new : WorldState) (before between after : Option (List ℕ)) → IsUnderWay script rest number start old before between → Next rest line behind
+pub goes_on : (script rest line behind : List ℕ) (number : ℕ) (start old new : Scene) (before between after : Option (List ℕ)) → IsUnderWay script rest number start old before between → Next rest line behind
     → IsDone (number + 1) line old new between after → IsUnderWay script behind (number + 1) start new before after
 goes_on script rest line behind number start old new before between after u next done =
     let m = one_more script rest line behind done.text number start old new before between u next done.told in
@@ -86,8 +87,12 @@ goes_on script rest line behind number start old new before between after u next
       written = Appends-trans before between after u.report done.text u.written done.written;
     }
 
+-- where a script is under way, from its beginning on
+abbrev IsRunning : List ℕ → List ℕ → ℕ → WorldState → Scene → Option (List ℕ) → Option (List ℕ) → Type 0
+IsRunning script rest number start now before after = IsUnderWay script rest number (scene start no_notes) now before after
+
 -- each line was done
-pub ends_whole : (script rest : List ℕ) (number : ℕ) (start now : WorldState) (before after : Option (List ℕ)) → IsUnderWay script rest number start now before after → rest ≡ [] → Reports script status.Ok start now before after
+pub ends_whole : (script rest : List ℕ) (number : ℕ) (start : WorldState) (now : Scene) (before after : Option (List ℕ)) → IsRunning script rest number start now before after → rest ≡ [] → Reports script status.Ok start now.world before after
 ends_whole script rest number start now before after u none =
     let past : drop number (lines_of script) ≡ [] = sym u.left ∙ ap lines_of none ∙ lines_of-nil in
     let all : length (lines_of script) - number ≡ 0 = sym (length-drop number (lines_of script)) ∙ ap length past in
@@ -98,16 +103,15 @@ ends_whole script rest number start now before after u none =
       left = now;
       report = u.report;
       runs = u.runs;
-      reached = λ other. refl;
-      grown = same_grows now now refl;
+      grown = grows_same now.world;
       closing = [];
-      ends = (omega (arith, all, u.few), refl);
+      ends = (omega (arith, all, u.few), refl, refl);
       written = subst (Appends before after) (sym (append-nil u.report)) u.written;
     }
 
 -- the closing line of a bad line
-ends_badly : (script rest line behind text : List ℕ) (number : ℕ) (start old new : WorldState) (before between : Option (List ℕ)) → IsUnderWay script rest number start old before between → Next rest line behind
-    → TellsFault (number + 1) line old new text → EndsBadly script number text
+ends_badly : (script rest line behind text : List ℕ) (number : ℕ) (start old new : Scene) (before between : Option (List ℕ)) → IsUnderWay script rest number start old before between → Next rest line behind
+    → TellsFault (number + 1) line old new text → EndsBadly script number text × (new.world ≡ old.world)
 ends_badly script rest line behind text number start old new before between u next told =
     let lines = lines_of script in
     let h = here lines number line (lines_of behind) (sym u.left ∙ next) in
@@ -115,34 +119,66 @@ ends_badly script rest line behind text number start old new before between u ne
       before = u.sound;
       line = line;
       there = h.at;
-      bad = sym (fault_where_same (is_there old) (made_by (take number lines)) line u.nodes) ∙ told.1;
+      bad = sym (fault_where_same (is_there old.world) (made_by (take number lines)) line u.nodes) ∙ told.1;
     } in
-    (told.0, bad, told.2)
+    ((told.0, bad, told.2), ap (λ s. s.world) told.3)
 
-refused : (script rest line behind : List ℕ) (number : ℕ) (start old new : WorldState) (before between after : Option (List ℕ)) → IsUnderWay script rest number start old before between → Next rest line behind
-    → IsRefused (number + 1) line old new between after → Reports script status.BadLine start new before after
-refused script rest line behind number start old new before between after u next bad = record {
+-- the closing line of a limit
+ends_limited : (script rest line behind text : List ℕ) (number : ℕ) (start old new : Scene) (before between : Option (List ℕ)) → IsUnderWay script rest number start old before between → Next rest line behind
+    → TellsLimit (number + 1) line old new text → EndsLimited script number old new.world text
+ends_limited script rest line behind text number start old new before between u next told =
+    let lines = lines_of script in
+    let h = here lines number line (lines_of behind) (sym u.left ∙ next) in
+    record {
+      line = line;
+      there = h.at;
+      clear = sym (fault_where_same (is_there old.world) (made_by (take number lines)) line u.nodes) ∙ told.1;
+      stop = told.0;
+      limited = told.2;
+      told = told.3;
+    }
+
+refused : (script rest line behind : List ℕ) (number : ℕ) (start : WorldState) (old new : Scene) (before between after : Option (List ℕ)) → IsRunning script rest number start old before between → Next rest line behind
+    → IsRefused (number + 1) line old new between after → Reports script status.BadLine start new.world before after
+refused script rest line behind number start old new before between after u next bad =
+    let ends = ends_badly script rest line behind bad.text number (scene start no_notes) old new before between u next bad.told in
+    record {
+      done = number;
+      few = u.few;
+      sound = u.sound;
+      left = old;
+      report = u.report;
+      runs = u.runs;
+      grown = grows_equal old.world new.world ends.1;
+      closing = bad.text;
+      ends = ends;
+      written = Appends-trans before between after u.report bad.text u.written bad.written;
+    }
+
+-- a limit stopped the line
+halted : (script rest line behind : List ℕ) (number : ℕ) (start : WorldState) (old new : Scene) (before between after : Option (List ℕ)) → IsRunning script rest number start old before between → Next rest line behind
+    → IsHalted (number + 1) line old new between after → Reports script status.Limit start new.world before after
+halted script rest line behind number start old new before between after u next halt = record {
   done = number;
   few = u.few;
   sound = u.sound;
   left = old;
   report = u.report;
   runs = u.runs;
-  reached = λ other. bad.told.3;
-  grown = same_grows old new bad.told.3;
-  closing = bad.text;
-  ends = ends_badly script rest line behind bad.text number start old new before between u next bad.told;
-  written = Appends-trans before between after u.report bad.text u.written bad.written;
+  grown = halt.told.2.grown;
+  closing = halt.text;
+  ends = inr (ends_limited script rest line behind halt.text number (scene start no_notes) old new before between u next halt.told);
+  written = Appends-trans before between after u.report halt.text u.written halt.written;
 }
 
 -- the sink or memory gave out
-cut_short : (script rest line behind : List ℕ) (number : ℕ) (start old new : WorldState) (before between after : Option (List ℕ)) → IsUnderWay script rest number start old before between → Next rest line behind
-    → IsCut (number + 1) line old new between after → Reports script status.WriteFault start new before after
+cut_short : (script rest line behind : List ℕ) (number : ℕ) (start : WorldState) (old new : Scene) (before between after : Option (List ℕ)) → IsRunning script rest number start old before between → Next rest line behind
+    → IsCut (number + 1) line old new between after → Reports script status.WriteFault start new.world before after
 cut_short script rest line behind number start old new before between after u next cut =
     let written : AppendsFront before after (u.report ++ cut.text) = front_more before between after u.report cut.text u.written cut.written in
     elim cut.told [
       | inl shown ↦
-          let m = one_more script rest line behind cut.text number start old new before between u next shown in
+          let m = one_more script rest line behind cut.text number (scene start no_notes) old new before between u next shown in
           record {
             done = number + 1;
             few = m.few;
@@ -150,30 +186,44 @@ cut_short script rest line behind number start old new before between after u ne
             left = new;
             report = u.report ++ cut.text;
             runs = m.runs;
-            reached = λ other. refl;
-            grown = same_grows new new refl;
+            grown = grows_same new.world;
             closing = [];
-            ends = inl refl;
+            ends = inl (refl, refl);
             written = subst (AppendsFront before after) (sym (append-nil (u.report ++ cut.text))) written;
           }
-      | inr told ↦ record {
-        done = number;
-        few = u.few;
-        sound = u.sound;
-        left = old;
-        report = u.report;
-        runs = u.runs;
-        reached = λ other. told.3;
-        grown = same_grows old new told.3;
-        closing = cut.text;
-        ends = inr (inl (ends_badly script rest line behind cut.text number start old new before between u next told));
-        written = written;
-      }
+      | inr other ↦ elim other [
+        | inl told ↦
+            let ends = ends_badly script rest line behind cut.text number (scene start no_notes) old new before between u next told in
+            record {
+              done = number;
+              few = u.few;
+              sound = u.sound;
+              left = old;
+              report = u.report;
+              runs = u.runs;
+              grown = grows_equal old.world new.world ends.1;
+              closing = cut.text;
+              ends = inr (inl ends);
+              written = written;
+            }
+        | inr told ↦ record {
+          done = number;
+          few = u.few;
+          sound = u.sound;
+          left = old;
+          report = u.report;
+          runs = u.runs;
+          grown = told.2.grown;
+          closing = cut.text;
+          ends = inr (inr (inr (ends_limited script rest line behind cut.text number (scene start no_notes) old new before between u next told)));
+          written = written;
+        }
+      ]
     ]
 
 -- memory ran out before anything was written of a line
-untold : (script rest : List ℕ) (number : ℕ) (start old new : WorldState) (before between after : Option (List ℕ)) → IsUnderWay script rest number start old before between → IsUntold old new between after
-    → Reports script status.NoMemory start new before after
+untold : (script rest : List ℕ) (number : ℕ) (start : WorldState) (old new : Scene) (before between after : Option (List ℕ)) → IsRunning script rest number start old before between → IsUntold old new between after
+    → Reports script status.NoMemory start new.world before after
 untold script rest number start old new before between after u none = record {
   done = number;
   few = u.few;
@@ -181,7 +231,6 @@ untold script rest number start old new before between after u none = record {
   left = old;
   report = u.report;
   runs = u.runs;
-  reached = λ other. absurd (other refl);
   grown = none.grown;
   closing = [];
   ends = inl refl;
@@ -189,21 +238,32 @@ untold script rest number start old new before between after u none = record {
 }
 
 -- what a line that ends the run comes to
-pub stops : (script rest line behind : List ℕ) (number : ℕ) (start old new : WorldState) (before between after : Option (List ℕ)) (s : Status) → IsUnderWay script rest number start old before between → Next rest line behind
-    → LineRuns (Err s) (number + 1) line old new between after → Reports script s start new before after
+pub stops : (script rest line behind : List ℕ) (number : ℕ) (start : WorldState) (old new : Scene) (before between after : Option (List ℕ)) (s : Status) → IsRunning script rest number start old before between → Next rest line behind
+    → LineRuns (Err s) (number + 1) line old new between after → Reports script s start new.world before after
 stops script rest line behind number start old new before between after status.BadLine u next run = refused script rest line behind number start old new before between after u next run
+stops script rest line behind number start old new before between after status.Limit u next run = halted script rest line behind number start old new before between after u next run
 stops script rest line behind number start old new before between after status.WriteFault u next run = cut_short script rest line behind number start old new before between after u next run
 stops script rest line behind number start old new before between after status.NoMemory u next run =
     elim run [
       | inl none ↦ untold script rest number start old new before between after u none
       | inr cut ↦
           let r = cut_short script rest line behind number start old new before between after u next cut in
-          record { done = r.done; few = r.few; sound = r.sound; left = r.left; report = r.report; runs = r.runs; reached = λ other. absurd (other refl); grown = r.grown; closing = r.closing; ends = r.ends; written = r.written }
+          record { done = r.done; few = r.few; sound = r.sound; left = r.left; report = r.report; runs = r.runs; grown = r.grown; closing = r.closing; ends = inr r.ends; written = r.written }
     ]
 stops script rest line behind number start old new before between after status.Ok u next run = absurd run
 stops script rest line behind number start old new before between after status.Usage u next run = absurd run
 stops script rest line behind number start old new before between after status.ReadFault u next run = absurd run
-stops script rest line behind number start old new before between after status.Limit u next run = absurd run
+
+-- what telling a limit comes to
+pub limit_told : (number : ℕ) (line : List ℕ) (old new : Scene) (before after : Option (List ℕ)) (text : List ℕ) (s : Status) → TellsLimit number line old new text → IsLimitStatus s → (s ≡ status.Limit → Appends before after text)
+    → AppendsFront before after text → LineRuns (Err s) number line old new before after
+limit_told number line old new before after text status.Limit told is whole front = record { text = text; told = told; written = whole refl }
+limit_told number line old new before after text status.WriteFault told is whole front = record { text = text; told = inr (inr told); written = front }
+limit_told number line old new before after text status.NoMemory told is whole front = inr (record { text = text; told = inr (inr told); written = front })
+limit_told number line old new before after text status.Ok told is whole front = absurd is
+limit_told number line old new before after text status.Usage told is whole front = absurd is
+limit_told number line old new before after text status.BadLine told is whole front = absurd is
+limit_told number line old new before after text status.ReadFault told is whole front = absurd is
 
 -- a script that was run to its end is without fault
 pub sound_at_end : (script : List ℕ) (start now : WorldState) (before after : Option (List ℕ)) (s : Status) → s ≡ status.Ok → Reports script s start now before after → AreSound (lines_of script)
@@ -212,41 +272,47 @@ sound_at_end script start now before after s ok reports =
     let all : take r.done (lines_of script) ≡ lines_of script = take_all r.done (lines_of script) (omega (arith, r.ends.0)) in
     subst AreSound all r.sound
 
--- nothing was done or written
-pub unread : (script : List ℕ) (start : WorldState) (before : Option (List ℕ)) → Reports script status.ReadFault start start before before
-unread script start before = record {
+-- a script whose run ends at a limit is too long, or reaches a limit of the world
+pub limit_reached : (script : List ℕ) (start now : WorldState) (before after : Option (List ℕ)) (s : Status) → s ≡ status.Limit → Reports script s start now before after
+    → (IsWithin script → ⊥) ⊎ ReachesLimit script start now
+limit_reached script start now before after s limit reports =
+    let r = subst (λ t. Reports script t start now before after) limit reports in
+    elim r.ends [
+      | inl over ↦ inl (λ within. elim over.0.1 [ inl bytes ↦ absurd (omega (arith, within.0, bytes.0)) | inr lines ↦ absurd (omega (arith, within.1, lines.1)) ])
+      | inr limited ↦ inr (record { done = r.done; left = r.left; report = r.report; runs = r.runs; closing = r.closing; ends = limited })
+    ]
+
+-- a closing line alone was written, or a front of it
+only_closing : (script closing : List ℕ) (start : WorldState) (before after : Option (List ℕ)) (s : Status) → Ends s script 0 (scene start no_notes) start closing → WritesReport s before after closing → Reports script s start start before after
+only_closing script closing start before after s ends written = record {
   done = 0;
   few = omega arith;
   sound = sound_none;
-  left = start;
+  left = scene start no_notes;
   report = [];
   runs = begin;
-  reached = λ other. refl;
-  grown = same_grows start start refl;
-  closing = [];
-  ends = inl refl;
-  written = (0, Appends-nil before);
+  grown = grows_same start;
+  closing = closing;
+  ends = ends;
+  written = written;
 }
 
+-- nothing was done or written
+pub unread : (script : List ℕ) (start : WorldState) (before : Option (List ℕ)) → Reports script status.ReadFault start start before before
+unread script start before = only_closing script [] start before before status.ReadFault (inl (refl, refl)) (0, Appends-nil before)
+
 pub unused : (script : List ℕ) (start : WorldState) (before : Option (List ℕ)) → Reports script status.Usage start start before before
-unfolding unread
-unused script start before = let r = unread script start before in
-    record { done = r.done; few = r.few; sound = r.sound; left = r.left; report = r.report; runs = r.runs; reached = λ other. refl; grown = r.grown; closing = r.closing; ends = r.ends; written = r.written }
+unused script start before = only_closing script [] start before before status.Usage (inl (refl, refl)) (0, Appends-nil before)
 
 pub unwritten : (script : List ℕ) (start : WorldState) (before : Option (List ℕ)) → Reports script status.NoMemory start start before before
-unfolding unread
-unwritten script start before = let r = unread script start before in
-    record { done = r.done; few = r.few; sound = r.sound; left = r.left; report = r.report; runs = r.runs; reached = λ other. refl; grown = r.grown; closing = r.closing; ends = r.ends; written = r.written }
+unwritten script start before = only_closing script [] start before before status.NoMemory (inl refl) (0, Appends-nil before)
 
 -- a script that is too long
 pub too_long : (script closing : List ℕ) (start : WorldState) (before after : Option (List ℕ)) (s : Status) → EndsOver script 0 closing → IsLimitStatus s → (s ≡ status.Limit → Appends before after closing) → AppendsFront before after closing
     → Reports script s start start before after
-too_long script closing start before after status.Limit over is whole front =
-    record { done = 0; few = omega arith; sound = sound_none; left = start; report = []; runs = begin; reached = λ other. refl; grown = same_grows start start refl; closing = closing; ends = over; written = whole refl }
-too_long script closing start before after status.WriteFault over is whole front =
-    record { done = 0; few = omega arith; sound = sound_none; left = start; report = []; runs = begin; reached = λ other. refl; grown = same_grows start start refl; closing = closing; ends = inr (inr over); written = front }
-too_long script closing start before after status.NoMemory over is whole front =
-    record { done = 0; few = omega arith; sound = sound_none; left = start; report = []; runs = begin; reached = λ other. refl; grown = same_grows start start refl; closing = closing; ends = inr (inr over); written = front }
+too_long script closing start before after status.Limit over is whole front = only_closing script closing start before after status.Limit (inl (over, refl)) (whole refl)
+too_long script closing start before after status.WriteFault over is whole front = only_closing script closing start before after status.WriteFault (inr (inr (inl (over, refl)))) front
+too_long script closing start before after status.NoMemory over is whole front = only_closing script closing start before after status.NoMemory (inr (inr (inr (inl (over, refl))))) front
 too_long script closing start before after status.Ok over is whole front = absurd is
 too_long script closing start before after status.Usage over is whole front = absurd is
 too_long script closing start before after status.BadLine over is whole front = absurd is

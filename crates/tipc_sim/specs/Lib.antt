@@ -1,6 +1,9 @@
+pub mod Courses
 pub mod Happenings
 pub mod Lines
+pub mod Meanings
 pub mod Nodes
+pub mod Noted
 pub mod Output
 pub mod Reports
 pub mod Statuses

@@ -4,7 +4,7 @@ use Rattle.std.specs.List.{list_any}
 use Rattle.std.specs.Option.{option_or, option_map}
 use Rattle.tipc_script.specs.declared.faults.LineWhy.TheVariants as why
 use Rattle.tipc_script.specs.declared.lines.Line.{Line}
-use Rattle.tipc_script.specs.declared.lines.Line.TheVariants.{Nothing, Node, Link, Mark, Socket, Send, Arrive, Receive, Flow}
+use Rattle.tipc_script.specs.declared.lines.Line.TheVariants.{Nothing, Node, Mend, Cut, Tick, Restart, Link, Mark, Socket, Send, Arrive, Receive, Pump, Settle, Links, Flow}
 use Rattle.tipc_script.specs.declared.lines.NodeToken.{NodeToken}
 use Rattle.tipc_script.specs.Grammar.{asked, nodes_of}
 use Rattle.tipc_script.specs.Faults.{Fault, fault_of}
@@ -46,10 +46,17 @@ pub record IsFirstBad (lines : List (List ℕ)) (i : ℕ) (fault : Fault) : Type
 abbrev pub CanBeDone : (ℕ → Bool) → Line → Type 0
 CanBeDone there Nothing = Unit {0}
 CanBeDone there (Node node) = IsNode node × (there node ≡ false)
+CanBeDone there (Mend node bearer) = (there node ≡ true) × (bearer ≡ 0)
+CanBeDone there (Cut node bearer) = (there node ≡ true) × (bearer ≡ 0)
+CanBeDone there (Tick node) = there node ≡ true
+CanBeDone there (Restart node) = there node ≡ true
 CanBeDone there (Link first second bearer) = (there first ≡ true) × (there second ≡ true)
 CanBeDone there Mark = Unit {0}
 CanBeDone there (Socket node) = there node ≡ true
 CanBeDone there (Send node port to importance body) = (there node ≡ true) × IsMessage node port to importance body
 CanBeDone there (Arrive node bearer frame) = (there node ≡ true) × (bearer ≡ 0)
 CanBeDone there (Receive node port) = there node ≡ true
-CanBeDone there (Flow from to) = (there from ≡ true) × (there to ≡ true)
+CanBeDone there (Pump bearer) = Unit {0}
+CanBeDone there (Settle rounds) = Unit {0}
+CanBeDone there (Links node) = (there node ≡ true) × IsNode node
+CanBeDone there (Flow from to) = (there from ≡ true) × (there to ≡ true) × IsNode from × IsNode to

@@ -5,65 +5,77 @@ use Rattle.tipc_types.specs.declared.node_calls.Answer.{Answer}
 use Rattle.tipc_script.specs.declared.lines.Line.{Line}
 use Rattle.tipc_script.specs.Grammar.{asked}
 use Rattle.tipc_script.specs.Faults.{Fault}
-use Rattle.tipc_report.specs.Text.{bad_line}
+use Rattle.tipc_report.specs.Text.{bad_line, limit_line}
+use Rattle.tipc_world.specs.declared.events.Limit.{Limit}
 use Rattle.tipc_world.specs.Growth.{Grows}
-use Rattle.tipc_world.specs.States.{WorldState, is_there}
+use Rattle.tipc_world.specs.States.{is_there}
 use Rattle.tipc_sim.specs.declared.status.Status.{Status}
 use Rattle.tipc_sim.specs.declared.status.Status.TheVariants as status
-use Rattle.tipc_sim.specs.Happenings.{Happens, Runs, answer_text}
+use Rattle.tipc_sim.specs.Happenings.{Happens, IsLimited, Runs, Scene, answer_text, which_of}
 use Rattle.tipc_sim.specs.Lines.{lines_of}
 use Rattle.tipc_sim.specs.Nodes.{AreSound, fault_where, made_by}
 use Rattle.tipc_sim.specs.Output.{AppendsFront}
 
 -- a line was done, and a text is the printed line of its answer
-pub record IsAnswered (number : ℕ) (line : Line) (old new : WorldState) (text : List ℕ) : Type 0 where
+pub record IsAnswered (number : ℕ) (line : Line) (old new : Scene) (text : List ℕ) : Type 0 where
   pub answer : Option Answer
   pub happened : Happens line old new answer
   pub spelled : text ≡ answer_text number answer
 
 -- a line without fault was done, and a text is its printed line
-abbrev pub TellsAnswer : ℕ → List ℕ → WorldState → WorldState → List ℕ → Type 0
-TellsAnswer number line old new text = (fault_where (is_there old) line ≡ None) × IsAnswered number (asked line) old new text
+abbrev pub TellsAnswer : ℕ → List ℕ → Scene → Scene → List ℕ → Type 0
+TellsAnswer number line old new text = (fault_where (is_there old.world) line ≡ None) × IsAnswered number (asked line) old new text
 
 -- a line has a fault, nothing was done, and a text tells the fault
-abbrev pub TellsFault : ℕ → List ℕ → WorldState → WorldState → List ℕ → Type 0
-TellsFault number line old new text = (fault : Fault) × (fault_where (is_there old) line ≡ Some fault) × (text ≡ bad_line number fault.0 fault.1) × (new ≡ old)
+abbrev pub TellsFault : ℕ → List ℕ → Scene → Scene → List ℕ → Type 0
+TellsFault number line old new text = (fault : Fault) × (fault_where (is_there old.world) line ≡ Some fault) × (text ≡ bad_line number fault.0 fault.1) × (new ≡ old)
 
-pub record IsDone (number : ℕ) (line : List ℕ) (old new : WorldState) (before after : Option (List ℕ)) : Type 0 where
+-- a line without fault was begun, a limit stopped one of its events, and a text tells the limit
+abbrev pub TellsLimit : ℕ → List ℕ → Scene → Scene → List ℕ → Type 0
+TellsLimit number line old new text =
+    (stop : Limit) × (fault_where (is_there old.world) line ≡ None) × IsLimited (asked line) old stop new.world × (text ≡ limit_line number (which_of stop))
+
+pub record IsDone (number : ℕ) (line : List ℕ) (old new : Scene) (before after : Option (List ℕ)) : Type 0 where
   pub text : List ℕ
   pub told : TellsAnswer number line old new text
   pub written : Appends before after text
 
-pub record IsRefused (number : ℕ) (line : List ℕ) (old new : WorldState) (before after : Option (List ℕ)) : Type 0 where
+pub record IsRefused (number : ℕ) (line : List ℕ) (old new : Scene) (before after : Option (List ℕ)) : Type 0 where
   pub text : List ℕ
   pub told : TellsFault number line old new text
   pub written : Appends before after text
 
--- only a front was written of what a line comes to
-pub record IsCut (number : ℕ) (line : List ℕ) (old new : WorldState) (before after : Option (List ℕ)) : Type 0 where
+pub record IsHalted (number : ℕ) (line : List ℕ) (old new : Scene) (before after : Option (List ℕ)) : Type 0 where
   pub text : List ℕ
-  pub told : TellsAnswer number line old new text ⊎ TellsFault number line old new text
+  pub told : TellsLimit number line old new text
+  pub written : Appends before after text
+
+-- only a front was written of what a line comes to
+pub record IsCut (number : ℕ) (line : List ℕ) (old new : Scene) (before after : Option (List ℕ)) : Type 0 where
+  pub text : List ℕ
+  pub told : TellsAnswer number line old new text ⊎ (TellsFault number line old new text ⊎ TellsLimit number line old new text)
   pub written : AppendsFront before after text
 
 -- nothing was written of it, whether it was done or not
-pub record IsUntold (old new : WorldState) (before after : Option (List ℕ)) : Type 0 where
-  pub grown : Grows old new
+pub record IsUntold (old new : Scene) (before after : Option (List ℕ)) : Type 0 where
+  pub grown : Grows old.world new.world
   pub written : AppendsFront before after []
 
 -- what a line comes to, by what its run answers
-abbrev pub LineRuns : Result (Unit {0}) Status → ℕ → List ℕ → WorldState → WorldState → Option (List ℕ) → Option (List ℕ) → Type 0
+abbrev pub LineRuns : Result (Unit {0}) Status → ℕ → List ℕ → Scene → Scene → Option (List ℕ) → Option (List ℕ) → Type 0
 LineRuns (Ok done) number line old new before after = IsDone number line old new before after
 LineRuns (Err status.BadLine) number line old new before after = IsRefused number line old new before after
+LineRuns (Err status.Limit) number line old new before after = IsHalted number line old new before after
 LineRuns (Err status.WriteFault) number line old new before after = IsCut number line old new before after
 LineRuns (Err status.NoMemory) number line old new before after = IsUntold old new before after ⊎ IsCut number line old new before after
 LineRuns (Err other) number line old new before after = ⊥
 
 -- so many lines of a script were done, and these bytes are left of it
-pub record IsUnderWay (script rest : List ℕ) (number : ℕ) (start now : WorldState) (before after : Option (List ℕ)) : Type 0 where
+pub record IsUnderWay (script rest : List ℕ) (number : ℕ) (start now : Scene) (before after : Option (List ℕ)) : Type 0 where
   pub few : number ≤ length (lines_of script)
   pub left : lines_of rest ≡ drop number (lines_of script)
   pub sound : AreSound (take number (lines_of script))
-  pub nodes : (n : ℕ) → is_there now n ≡ made_by (take number (lines_of script)) n
+  pub nodes : (n : ℕ) → is_there now.world n ≡ made_by (take number (lines_of script)) n
   pub report : List ℕ
   pub runs : Runs start (take number (lines_of script)) now report
   pub written : Appends before after report
@@ -74,9 +86,17 @@ IsWriteStatus status.WriteFault = Unit {0}
 IsWriteStatus status.NoMemory = Unit {0}
 IsWriteStatus other = ⊥
 
+-- what telling a bad line may end with
+abbrev pub IsBadStatus : Status → Type 0
+IsBadStatus status.BadLine = Unit {0}
+IsBadStatus status.WriteFault = Unit {0}
+IsBadStatus status.NoMemory = Unit {0}
+IsBadStatus other = ⊥
+
 -- what a line may end with
 abbrev pub IsLineStatus : Status → Type 0
 IsLineStatus status.BadLine = Unit {0}
+IsLineStatus status.Limit = Unit {0}
 IsLineStatus status.WriteFault = Unit {0}
 IsLineStatus status.NoMemory = Unit {0}
 IsLineStatus other = ⊥
@@ -85,11 +105,12 @@ IsLineStatus other = ⊥
 abbrev pub IsLinesStatus : Status → Type 0
 IsLinesStatus status.Ok = Unit {0}
 IsLinesStatus status.BadLine = Unit {0}
+IsLinesStatus status.Limit = Unit {0}
 IsLinesStatus status.WriteFault = Unit {0}
 IsLinesStatus status.NoMemory = Unit {0}
 IsLinesStatus other = ⊥
 
--- what telling that a script is too long may end with
+-- what telling that a limit is reached may end with
 abbrev pub IsLimitStatus : Status → Type 0
 IsLimitStatus status.Limit = Unit {0}
 IsLimitStatus status.WriteFault = Unit {0}

@@ -2,10 +2,14 @@
 //! and answers each with one line on standard output.
 #![tactic(auto)]
 
+mod frames;
 mod lines;
+mod linking;
+mod notes;
 mod reading;
 mod running;
 mod scripts;
+mod settling;
 mod status;
 mod writing;
 

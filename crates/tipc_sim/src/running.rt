@@ -10,11 +10,13 @@ ghost use Rattle.tipc_sim.specs.Lines.{lines_of, IsWithin};
 ghost use Rattle.tipc_sim.specs.Nodes.{AreSound, IsFirstBad};
 ghost use Rattle.tipc_sim.specs.Words.{is_run};
 ghost use Rattle.tipc_script.specs.Faults.{Fault};
-ghost use Rattle.tipc_sim.specs.Reports.{Reports};
+ghost use Rattle.tipc_sim.specs.Happenings.{scene, which_of};
+ghost use Rattle.tipc_sim.specs.Reports.{ReachesLimit, Reports};
 ghost use Rattle.tipc_sim.specs.Output.{AppendsFront};
-ghost use Rattle.tipc_sim.specs.Steps.{LineRuns, IsWriteStatus, IsLineStatus, IsLinesStatus, IsLimitStatus};
+ghost use Rattle.tipc_sim.specs.Steps.{LineRuns, IsWriteStatus, IsBadStatus, IsLinesStatus, IsLimitStatus};
 
 use crate::lines::{do_line, line_in};
+use crate::notes::Notes;
 use crate::reading::{ReadStop, read_script};
 use crate::scripts::first_line;
 use crate::status::Status;
@@ -24,7 +26,7 @@ use tipc_outside::{Sink, SinkFault, Source};
 use tipc_report::{Which, print_bad, print_limit};
 use tipc_script::{LineFault, LineWhy};
 use tipc_types::NoMemory;
-use tipc_world::World;
+use tipc_world::{Limit, World, WorldFault};
 
 /// The most lines of a script. (This project's profile.)
 const MOST_LINES: usize = 65_536;
@@ -58,7 +60,7 @@ fn bad_text(alloc: Global, number: u32, place: u32, why: LineWhy) -> Result<Vec<
 fn refuse<K: Sink>(alloc: Global, number: u32, place: u32, why: LineWhy, sink: &mut K) -> Status
     ensures bad { result ≡ Status.BadLine → Appends (K.contents sink.old) (K.contents sink.new) (bad_line number place why) }
     ensures front { AppendsFront (K.contents sink.old) (K.contents sink.new) (bad_line number place why) }
-    ensures status { IsLineStatus result }
+    ensures status { IsBadStatus result }
     ensures failed { result ≡ Status.WriteFault → Rose (K.faults sink.old) (K.faults sink.new) ⊎ Rose (K.stalls sink.old) (K.stalls sink.new) }
     ensures later { K.faults sink.old ≤ K.faults sink.new }
     ensures no_fewer { K.stalls sink.old ≤ K.stalls sink.new }
@@ -72,13 +74,52 @@ fn refuse<K: Sink>(alloc: Global, number: u32, place: u32, why: LineWhy, sink: &
     }
 }
 
-/// Runs one line: does what it asks for and prints its answer, or tells that it is bad.
+/// The closing line of a limit.
+fn limit_text(alloc: Global, number: u32, which: Which) -> Result<Vec<u8>, NoMemory>
+    ensures { IfOk result (λ text. text.items ≡ limit_line number which) }
+{
+    let mut text = Vec::new(alloc);
+    print_limit(number, which, &mut text)?;
+    Ok(text)
+}
+
+/// Tells that a limit is reached, and answers the status of that.
+fn tell_limit<K: Sink>(alloc: Global, number: u32, which: Which, sink: &mut K) -> Status
+    ensures limit { result ≡ Status.Limit → Appends (K.contents sink.old) (K.contents sink.new) (limit_line number which) }
+    ensures front { AppendsFront (K.contents sink.old) (K.contents sink.new) (limit_line number which) }
+    ensures status { IsLimitStatus result }
+    ensures failed { result ≡ Status.WriteFault → Rose (K.faults sink.old) (K.faults sink.new) ⊎ Rose (K.stalls sink.old) (K.stalls sink.new) }
+    ensures later { K.faults sink.old ≤ K.faults sink.new }
+    ensures no_fewer { K.stalls sink.old ≤ K.stalls sink.new }
+{
+    let Ok(text) = limit_text(alloc, number, which) else {
+        return Status::NoMemory;
+    };
+    match write_text(sink, text.as_slice()) {
+        Ok(()) => Status::Limit,
+        Err(status) => status,
+    }
+}
+
+/// How a limit of a world is told.
+fn which_of(limit: Limit) -> Which
+    ensures { result ≡ which_of limit }
+{
+    match limit {
+        Limit::Events => Which::Events,
+        Limit::Frames => Which::Frames,
+        Limit::Journal => Which::Journal,
+    }
+}
+
+/// Runs one line: does what it asks for and prints its answer, or tells that it is bad or reaches a limit.
 fn run_line<K: Sink>(
     alloc: Global,
     number: u32,
     text: &[u8],
     sink: &mut K,
     world: &mut World,
+    notes: &mut Notes,
 ) -> Result<(), Status>
     requires short { length text.now < 2 ^ 31 }
     requires kept { world.old.lost ≡ false }
@@ -86,7 +127,7 @@ fn run_line<K: Sink>(
     ensures good { IsGood world.new }
     ensures grows { Grows world.old world.new }
     ensures kept { (result ≡ Err Status.NoMemory → ⊥) → world.new.lost ≡ false }
-    ensures run { LineRuns result number text.now world.old world.new (K.contents sink.old) (K.contents sink.new) }
+    ensures run { LineRuns result number text.now (scene world.old notes.old) (scene world.new notes.new) (K.contents sink.old) (K.contents sink.new) }
     ensures failed { IsErrOf result Status.WriteFault → Rose (K.faults sink.old) (K.faults sink.new) ⊎ Rose (K.stalls sink.old) (K.stalls sink.new) }
     ensures later { K.faults sink.old ≤ K.faults sink.new }
     ensures no_fewer { K.stalls sink.old ≤ K.stalls sink.new }
@@ -98,8 +139,12 @@ fn run_line<K: Sink>(
         }
         Err(LineFault::NoMemory) => return Err(Status::NoMemory),
     };
-    let Ok(printed) = do_line(alloc, number, line, world) else {
-        return Err(Status::NoMemory);
+    let printed = match do_line(alloc, number, line, world, notes) {
+        Ok(printed) => printed,
+        Err(WorldFault::Limit(limit)) => {
+            return Err(tell_limit(alloc, number, which_of(limit), sink));
+        }
+        Err(WorldFault::NoMemory) => return Err(Status::NoMemory),
     };
     write_text(sink, printed.as_slice())
 }
@@ -117,11 +162,12 @@ fn run_lines<K: Sink>(alloc: Global, script: &[u8], sink: &mut K, world: &mut Wo
     ensures status { IsLinesStatus result }
     ensures failed { result ≡ Status.WriteFault → Rose (K.faults sink.old) (K.faults sink.new) ⊎ Rose (K.stalls sink.old) (K.stalls sink.new) }
 {
+    let mut notes = Notes::new(alloc);
     let mut rest = script;
     let mut done = 0;
     while !rest.is_empty() {
         let (line, behind) = first_line(rest);
-        if let Err(status) = run_line(alloc, done + 1, line, sink, world) {
+        if let Err(status) = run_line(alloc, done + 1, line, sink, world, &mut notes) {
             return status;
         }
         done += 1;
@@ -142,31 +188,6 @@ fn line_count(script: &[u8]) -> usize
         rest = behind;
     }
     count
-}
-
-/// The closing line of a script that reaches a limit as a whole.
-fn limit_text(alloc: Global, which: Which) -> Result<Vec<u8>, NoMemory>
-    ensures { IfOk result (λ text. text.items ≡ limit_line 0 which) }
-{
-    let mut text = Vec::new(alloc);
-    print_limit(0, which, &mut text)?;
-    Ok(text)
-}
-
-/// Tells that a script is too long, and answers the status of that.
-fn refuse_script<K: Sink>(alloc: Global, which: Which, sink: &mut K) -> Status
-    ensures limit { result ≡ Status.Limit → Appends (K.contents sink.old) (K.contents sink.new) (limit_line 0 which) }
-    ensures front { AppendsFront (K.contents sink.old) (K.contents sink.new) (limit_line 0 which) }
-    ensures status { IsLimitStatus result }
-    ensures failed { result ≡ Status.WriteFault → Rose (K.faults sink.old) (K.faults sink.new) ⊎ Rose (K.stalls sink.old) (K.stalls sink.new) }
-{
-    let Ok(text) = limit_text(alloc, which) else {
-        return Status::NoMemory;
-    };
-    match write_text(sink, text.as_slice()) {
-        Ok(()) => Status::Limit,
-        Err(status) => status,
-    }
 }
 
 /// Whether the words after the program's name are a form.
@@ -190,7 +211,8 @@ pub fn run<S: Source, K: Sink>(
     sink: &mut K,
     world: &mut World,
 ) -> Status
-    requires { world.old ≡ no_nodes }
+    requires empty { world.old ≡ no_nodes }
+    requires good { IsGood world.old }
 
     // Whatever the status, the messages delivered are a front of those accepted.
     ensures good { IsGood world.new }
@@ -203,7 +225,7 @@ pub fn run<S: Source, K: Sink>(
     ensures untouched { result ≡ Status.Usage → (source.new ≡ source.old) × (sink.new ≡ sink.old) × (world.new ≡ world.old) }
     ensures read { result ≡ Status.ReadFault → Rose (S.faults source.old) (S.faults source.new) × (sink.new ≡ sink.old) × (world.new ≡ world.old) }
     ensures write { result ≡ Status.WriteFault → Rose (K.faults sink.old) (K.faults sink.new) ⊎ Rose (K.stalls sink.old) (K.stalls sink.new) }
-    ensures limit { result ≡ Status.Limit → IfSome (S.left source.old) (λ script. IsWithin script → ⊥) }
+    ensures limit { result ≡ Status.Limit → IfSome (S.left source.old) (λ script. (IsWithin script → ⊥) ⊎ ReachesLimit script world.old world.new) }
     ensures within { (result ≡ Status.Ok) ⊎ (result ≡ Status.BadLine) → IfSome (S.left source.old) IsWithin }
     ensures bad { result ≡ Status.BadLine → IfSome (S.left source.old) (λ script. (i : ℕ) × (fault : Fault) × IsFirstBad (lines_of script) i fault) }
     ensures sound { result ≡ Status.Ok → IfSome (S.left source.old) (λ script. AreSound (lines_of script)) }
@@ -212,10 +234,11 @@ pub fn run<S: Source, K: Sink>(
     // A frame that was lost for want of memory ends the run so.
     ensures lost { world.new.lost ≡ true → result ≡ Status.NoMemory }
 
-    // A script without fault, within the limits and with no failure outside, is run to its end, unless memory runs out.
+    // A script without fault, within the limits of a script and with no failure outside, is run to its end, unless it
+    // reaches a limit of the world or memory runs out.
     ensures complete { IfSome (S.left source.old) (λ script. is_run (map string_bytes words.now) ≡ true → IsWithin script → AreSound (lines_of script)
         → (Rose (S.faults source.old) (S.faults source.new) → ⊥) → (Rose (K.faults sink.old) (K.faults sink.new) → ⊥) → (Rose (K.stalls sink.old) (K.stalls sink.new) → ⊥)
-        → (result ≡ Status.Ok) ⊎ (result ≡ Status.NoMemory)) }
+        → (result ≡ Status.Ok) ⊎ ((result ≡ Status.NoMemory) ⊎ ((result ≡ Status.Limit) × ReachesLimit script world.old world.new))) }
 {
     if !is_form(words) {
         return Status::Usage;
@@ -223,11 +246,11 @@ pub fn run<S: Source, K: Sink>(
     let script = match read_script(alloc, source) {
         Ok(script) => script,
         Err(ReadStop::Failed) => return Status::ReadFault,
-        Err(ReadStop::TooLong) => return refuse_script(alloc, Which::Bytes, sink),
+        Err(ReadStop::TooLong) => return tell_limit(alloc, 0, Which::Bytes, sink),
         Err(ReadStop::NoMemory) => return Status::NoMemory,
     };
     if line_count(script.as_slice()) > MOST_LINES {
-        return refuse_script(alloc, Which::Lines, sink);
+        return tell_limit(alloc, 0, Which::Lines, sink);
     }
     run_lines(alloc, script.as_slice(), sink, world)
 }

@@ -16,7 +16,7 @@ pub enum Status {
     WriteFault,
     /// Memory ran out.
     NoMemory,
-    /// The script is too long.
+    /// A limit is reached: the script is too long, or the world has had too many events, frames or journal entries.
     Limit,
 }
 

@@ -6,6 +6,14 @@ use tipc_outside::{MemorySink, MemorySource};
 const FIRST_MESSAGE: &[u8] =
     b"node 1\nnode 2\nlink 1 2 0\nmark\nsocket 1\nsocket 2\nsend 1 1 port 2 1 low =hello\narrive 2 0 0\narrive 2 0 0\nreceive 2 1\nreceive 2 1\nflow 1 2\n";
 
+/// A link end that is cut, while a message goes to the other node, and mended again.
+const ONE_SIDE_DOWN: &[u8] =
+    b"node 1\nnode 2\nlink 1 2 0\nmark\nsocket 1\nsocket 2\nsend 1 1 port 2 1 low =a\ncut 1 0\nlinks 1\nlinks 2\narrive 2 0 0\nflow 1 2\nmend 1 0\nsettle 12\nlinks 1\nflow 1 2\nreceive 2 1\n";
+
+/// A link end that hears nothing for five ticks.
+const SILENT: &[u8] =
+    b"node 1\nnode 2\nlink 1 2 0\nmark\ntick 1\ntick 1\ntick 1\ntick 1\nlinks 1\ntick 1\nlinks 1\n";
+
 /// The status of a run over memory, and what it wrote. Reads and writes of these numbers fail.
 fn run_over(
     rt: &HostRuntime,
@@ -60,13 +68,40 @@ fn words_and_faults_of_the_outside(rt: HostRuntime) -> Result<(), Fail> {
 
 #[test]
 fn reports(rt: HostRuntime) -> Result<(), Fail> {
-    let rows: [(&[u8], Status, &[u8]); 9] = [
+    let rows: [(&[u8], Status, &[u8]); 5] = [
         (
             FIRST_MESSAGE,
             Status::Ok,
             b"1 ok\n2 ok\n3 up\n4 ok\n5 socket 1\n6 socket 1\n7 sent\n8 took 1\n9 ignored old\n10 got 1:1 0 5 hello\n11 empty\n12 accepted 1 delivered 1\n",
         ),
+        (
+            ONE_SIDE_DOWN,
+            Status::Ok,
+            b"1 ok\n2 ok\n3 up\n4 ok\n5 socket 1\n6 socket 1\n7 sent\n8 ok\n9 links 2:R-\n10 links 1:W-\n11 took 1\n12 no-contact\n13 ok\n14 quiet\n15 links 2:W-\n16 accepted 0 delivered 0\n17 got 1:1 0 1 a\n",
+        ),
+        (
+            SILENT,
+            Status::Ok,
+            b"1 ok\n2 ok\n3 up\n4 ok\n5 ok\n6 ok\n7 ok\n8 ok\n9 links 2:W-\n10 ok\n11 links 2:R-\n",
+        ),
+        (
+            b"node 1\nsettle 300001\n",
+            Status::Limit,
+            b"1 ok\n2 limit events 300000\n",
+        ),
         (b"\n# nothing\nnode 32", Status::Ok, b"1 -\n2 -\n3 ok\n"),
+    ];
+    for (script, status, written) in rows {
+        let (ended, wrote) = run_over(&rt, &["run"], script, &[], &[])?;
+        assert_eq!(rt; ended, status);
+        assert_eq!(rt; wrote.as_slice(), written);
+    }
+    Ok(())
+}
+
+#[test]
+fn bad_lines(rt: HostRuntime) -> Result<(), Fail> {
+    let rows: [(&[u8], Status, &[u8]); 7] = [
         (
             b"node 1\nnode x\nnode 2\n",
             Status::BadLine,

@@ -1,37 +1,14 @@
-use Rattle.std.proofs.Common.{◌≡◌, ◌<◌, ◌∙◌, ap, sym, subst, refl, inl, inr, length, arith, Err}
+use Rattle.std.proofs.Common.{◌≡◌, ◌<◌, ap, subst, refl, inl, inr, length, arith, Err}
 use Rattle.tipc_report.specs.Text.{limit_line}
 use Rattle.tipc_report.specs.declared.limits.Which.TheVariants as which
-use Rattle.tipc_world.specs.States.{WorldState, is_there, no_nodes}
-use Rattle.tipc_world.specs.Good.{IsGood}
-use Rattle.tipc_world.proofs.Start.{none_there, good_start}
+use Rattle.tipc_world.specs.States.{is_there}
 use Rattle.tipc_sim.specs.Lines.{lines_of}
 use Rattle.tipc_sim.specs.Reports.{Reports}
 use Rattle.tipc_sim.proofs.RunLaws.{unread, unused, unwritten, too_long, known, always}
 use Rattle.tipc_sim.proofs.running.run.Goals as goal
 
-good_at : (w : WorldState) → w ≡ no_nodes → IsGood w
-good_at w e = subst IsGood (sym e) good_start
-
-pub returns-then-not-is_form-clause-good : goal.returns-then-not-is_form-clause-good
-returns-then-not-is_form-clause-good g c = good_at c.args.world.now c.requires
-
-pub returns-in-Err-Failed-clause-good : goal.returns-in-Err-Failed-clause-good
-returns-in-Err-Failed-clause-good g c = good_at c.args.world.now c.requires
-
-pub returns-in-Err-TooLong-clause-good : goal.returns-in-Err-TooLong-clause-good
-returns-in-Err-TooLong-clause-good g c = good_at c.args.world.now c.requires
-
-pub returns-in-Err-NoMemory-clause-good : goal.returns-in-Err-NoMemory-clause-good
-returns-in-Err-NoMemory-clause-good g c = good_at c.args.world.now c.requires
-
-pub returns-then-line_count-gt-MOST_LINES-clause-good : goal.returns-then-line_count-gt-MOST_LINES-clause-good
-returns-then-line_count-gt-MOST_LINES-clause-good g c = good_at c.args.world.now c.requires
-
-pub run_lines-requires-clause-good : goal.run_lines-requires-clause-good
-run_lines-requires-clause-good g c = good_at c.args.world.now c.requires
-
 pub run_lines-requires-clause-empty : goal.run_lines-requires-clause-empty
-run_lines-requires-clause-empty g c = λ n. ap (λ w. is_there w n) c.requires ∙ none_there n
+run_lines-requires-clause-empty g c = λ n. ap (λ w. is_there w n) c.requires.empty
 
 pub returns-then-not-is_form-clause-report : goal.returns-then-not-is_form-clause-report
 returns-then-not-is_form-clause-report g c =
@@ -47,15 +24,15 @@ returns-in-Err-NoMemory-clause-report g c =
 
 pub returns-in-Err-TooLong-clause-report : goal.returns-in-Err-TooLong-clause-report
 returns-in-Err-TooLong-clause-report g c =
-    let told = c.refuse_script.ensures in
+    let told = c.tell_limit.ensures in
     known (g.S.Source.left c.args.source.now) (λ bytes. 16777216 < length bytes) _
-    (λ script long. too_long script (limit_line 0 which.Bytes) c.args.world.now (g.K.Sink.contents c.args.sink.now) (g.K.Sink.contents c.refuse_script.new.sink) c.refuse_script.result
+    (λ script long. too_long script (limit_line 0 which.Bytes) c.args.world.now (g.K.Sink.contents c.args.sink.now) (g.K.Sink.contents c.tell_limit.new.sink) c.tell_limit.result
     (refl, inl (long, refl)) told.status told.limit told.front)
     (c.in-Err-TooLong.ensures.long (ap (λ e. Err e) c.in-Err-TooLong.field-0-is))
 
 pub returns-then-line_count-gt-MOST_LINES-clause-report : goal.returns-then-line_count-gt-MOST_LINES-clause-report
 returns-then-line_count-gt-MOST_LINES-clause-report g c =
-    let stop = c.refuse_script-then-line_count-gt-MOST_LINES in
+    let stop = c.tell_limit-then-line_count-gt-MOST_LINES in
     let script = c.in-Ok.script.items in
     let read = c.in-Ok.ensures in
     let many : 65536 < length (lines_of script) = omega (arith, c.if-line_count-gt-MOST_LINES.true, c.line_count.ensures, ap (λ bytes. length (lines_of bytes)) c.as_slice.ensures.value) in

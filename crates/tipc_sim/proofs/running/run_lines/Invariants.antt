@@ -1,5 +1,7 @@
 use Rattle.std.proofs.Common.{◌≡◌, ◌≤◌, length, false}
 use Rattle.tipc_world.specs.Good.{IsGood}
+use Rattle.tipc_sim.specs.Happenings.{scene}
+use Rattle.tipc_sim.specs.Noted.{no_notes}
 use Rattle.tipc_sim.specs.Steps.{IsUnderWay}
 use Rattle.tipc_sim.proofs.running.run_lines.Given as goal
 
@@ -8,7 +10,7 @@ decreases-loop-rest g l = length l.rest
 
 abbrev pub invariant-loop-rest : goal.invariant-loop-rest
 invariant-loop-rest g l = record {
-  under_way : IsUnderWay l.script l.rest l.done l.fn.world l.world (g.K.Sink.contents l.fn.sink) (g.K.Sink.contents l.sink);
+  under_way : IsUnderWay l.script l.rest l.done (scene l.fn.world no_notes) (scene l.world l.notes) (g.K.Sink.contents l.fn.sink) (g.K.Sink.contents l.sink);
   shorter : length l.rest ≤ length l.script;
   good : IsGood l.world;
   kept : l.world.lost ≡ false;

@@ -1,0 +1,82 @@
+-- Courses of events, step by step.
+use Rattle.std.proofs.Common.{◌≡◌, ℕ, ◌<◌, ◌≤◌, max, Bool, true, false, List, Option, Some, None, Result, Ok, Err, length, refl, sym, ap, subst, arith, inl, inr}
+use Rattle.tipc_types.specs.declared.node_calls.Answer.{Answer}
+use Rattle.tipc_world.specs.declared.events.WorldEvent.{WorldEvent}
+use Rattle.tipc_world.specs.declared.events.WorldFault.{WorldFault}
+use Rattle.tipc_world.specs.declared.events.WorldFault.TheVariants as fault
+use Rattle.tipc_world.specs.States.{WorldState}
+use Rattle.tipc_sim.specs.Courses.{Asks, Comes, Course, Drains, Goes, Maybe, Once, Takes, TakesAll, Then}
+use Rattle.tipc_sim.specs.declared.frames.Receivers.TheVariants.{Any}
+use Rattle.tipc_sim.specs.Meanings.{arrival_asked, Delivers, JoinsFrom, Links, Round, Rounds, Settles}
+use Rattle.tipc_sim.proofs.WorldLaws.{answered_few}
+
+-- ---- one number
+
+-- a number asks for nothing
+pub takes_none : (asks : Asks) (number : ℕ) (now : WorldState) → asks now number ≡ None → Takes asks number now (Ok false) now
+takes_none asks number now e = let P : Option WorldEvent → Type 0 = λ o. Maybe o now (Ok false) now in subst P (sym e) (refl, refl)
+
+-- a number asks for an event, and it happens
+pub takes_some : (asks : Asks) (number : ℕ) (before now : WorldState) (event : WorldEvent) (answer : Answer) → asks before number ≡ Some event → Once event before (Ok answer) now → Takes asks number before (Ok true) now
+takes_some asks number before now event answer e once = let P : Option WorldEvent → Type 0 = λ o. Maybe o before (Ok true) now in subst P (sym e) (refl, (answer, once))
+
+-- or it doesn't
+pub takes_fault : (asks : Asks) (number : ℕ) (before now : WorldState) (event : WorldEvent) (f : WorldFault) → asks before number ≡ Some event → Comes (Once event before) (Err f) now → Comes (Takes asks number before) (Err f) now
+takes_fault asks number before now event (fault.Limit stop) e once = let P : Option WorldEvent → Type 0 = λ o. Maybe o before (Err stop) now in subst P (sym e) once
+takes_fault asks number before now event fault.NoMemory e once = tt
+
+maybe_few : (asked : Option WorldEvent) (before : WorldState) (made : Bool) (now : WorldState) → Maybe asked before (Ok made) now → length now.air ≤ max 100000 (length before.air)
+maybe_few None before made now h = omega (arith, ap (λ w. length w.air) h.1)
+maybe_few (Some event) before made now h = answered_few before event now h.1.0 h.1.1
+
+pub takes_few : (asks : Asks) (number : ℕ) (before : WorldState) (made : Bool) (now : WorldState) → Takes asks number before (Ok made) now → length now.air ≤ max 100000 (length before.air)
+takes_few asks number before made now h = maybe_few (asks before number) before made now h
+
+-- ---- numbers in order
+
+-- the next number stopped
+pub halts_at : (asks : Asks) (first : ℕ) (start : WorldState) (next count : ℕ) (before now : WorldState) (f : WorldFault) → Goes asks first start next count before → Comes (Takes asks next before) (Err f) now
+    → Comes (Drains asks first start) (Err f) now
+halts_at asks first start next count before now (fault.Limit stop) goes stopped = record { next = next; count = count; before = before; goes = goes; stopped = stopped }
+halts_at asks first start next count before now fault.NoMemory goes stopped = tt
+
+pub all_halts : (asks : Asks) (first end : ℕ) (start : WorldState) (next count : ℕ) (before now : WorldState) (f : WorldFault) → next < end → Goes asks first start next count before → Comes (Takes asks next before) (Err f) now
+    → Comes (TakesAll asks first end start) (Err f) now
+all_halts asks first end start next count before now (fault.Limit stop) below goes stopped = (record { next = next; count = count; before = before; goes = goes; stopped = stopped }, below)
+all_halts asks first end start next count before now fault.NoMemory below goes stopped = tt
+
+-- ---- one course and then another
+
+-- the first stopped
+pub then_stopped : {A B : Type 0} (first : Course A) (second : Course B) (start now : WorldState) (f : WorldFault) → Comes (first start) (Err f) now → Comes (Then first second start) (Err f) now
+then_stopped first second start now (fault.Limit stop) h = inl h
+then_stopped first second start now fault.NoMemory h = tt
+
+-- the first came to its end
+pub then_came : {A B : Type 0} (first : Course A) (second : Course B) (start between now : WorldState) (a : A) (came : Result B WorldFault) → first start (Ok a) between → Comes (second between) came now
+    → Comes (Then first second start) came now
+then_came first second start between now a (Ok value) before after = (between, a, before, after)
+then_came first second start between now a (Err (fault.Limit stop)) before after = inr (between, a, before, after)
+then_came first second start between now a (Err fault.NoMemory) before after = tt
+
+-- ---- rounds
+
+-- a frame of a round stopped
+pub delivery_halts : (first : ℕ) (start : WorldState) (next count : ℕ) (before now : WorldState) (f : WorldFault) → next < length start.air → Goes (arrival_asked Any) first start next count before
+    → Comes (Takes (arrival_asked Any) next before) (Err f) now → Comes (Delivers first start) (Err f) now
+delivery_halts first start next count before now (fault.Limit stop) below goes stopped = all_halts (arrival_asked Any) first (length start.air) start next count before now (fault.Limit stop) below goes stopped
+delivery_halts first start next count before now fault.NoMemory below goes stopped = tt
+
+-- a round stopped
+pub settle_halts : (rounds : ℕ) (start : WorldState) (done place : ℕ) (before now : WorldState) (f : WorldFault) → done < rounds → Rounds start done place before → Comes (Round place before) (Err f) now
+    → Comes (Settles rounds start) (Err f) now
+settle_halts rounds start done place before now (fault.Limit stop) fewer made stopped = record { done = done; fewer = fewer; place = place; before = before; made = made; stopped = stopped }
+settle_halts rounds start done place before now fault.NoMemory fewer made stopped = tt
+
+-- ---- a link
+
+-- an event of a link stopped
+pub links_halt : (named : List (ℕ × ℕ)) (first second place : ℕ) (start now : WorldState) (f : WorldFault) → place ≡ length start.air → Comes (JoinsFrom place named first second start) (Err f) now
+    → Comes (Links named first second start) (Err f) now
+links_halt named first second place start now (fault.Limit stop) is came = subst (λ k. JoinsFrom k named first second start (Err stop) now) is came
+links_halt named first second place start now fault.NoMemory is came = tt

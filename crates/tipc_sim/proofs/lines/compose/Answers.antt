@@ -1,0 +1,29 @@
+use Rattle.tipc_sim.proofs.WorldLaws.{grows_same}
+use Rattle.tipc_sim.proofs.lines.compose.Goals.{in-Node+in_ok-add_node-in-Node, in-Mend+in_ok-answer-in-Mend, in-Link+in_ok-answer-in-Link, in-Mark, in-Pump+in_ok-answer-in-Pump, in-Settle+in_ok-answer-in-Settle, in-Links+in_ok-links-in-Links, in-Flow}
+use Rattle.tipc_sim.proofs.lines.compose.Goals as goal
+
+pub returns-clause-good : goal.returns-clause-good
+returns-clause-good c =
+    elim c.match-line.branch [
+      | in-Node+in_ok-add_node-in-Node w ↦ rw w.world-is w.add_node.ensures.good
+      | in-Mend+in_ok-answer-in-Mend w ↦ rw w.world-is (w.mend.ensures.continues.good c.requires.good)
+      | in-Link+in_ok-answer-in-Link w ↦ rw w.world-is (w.link_named.ensures.continues.good c.requires.good)
+      | in-Mark w ↦ rw w.world-is c.requires.good
+      | in-Pump+in_ok-answer-in-Pump w ↦ rw w.world-is (w.pump_on.ensures.continues.good c.requires.good)
+      | in-Settle+in_ok-answer-in-Settle w ↦ rw w.world-is (w.settle.ensures.continues.good c.requires.good)
+      | in-Links+in_ok-links-in-Links w ↦ rw w.world-is c.requires.good
+      | in-Flow w ↦ rw w.world-is c.requires.good
+    ]
+
+pub returns-clause-grows : goal.returns-clause-grows
+returns-clause-grows c =
+    elim c.match-line.branch [
+      | in-Node+in_ok-add_node-in-Node w ↦ rw w.world-is w.add_node.ensures.grows
+      | in-Mend+in_ok-answer-in-Mend w ↦ rw w.world-is w.mend.ensures.continues.grown
+      | in-Link+in_ok-answer-in-Link w ↦ rw w.world-is w.link_named.ensures.continues.grown
+      | in-Mark w ↦ rw w.world-is (grows_same c.args.world.now)
+      | in-Pump+in_ok-answer-in-Pump w ↦ rw w.world-is w.pump_on.ensures.continues.grown
+      | in-Settle+in_ok-answer-in-Settle w ↦ rw w.world-is w.settle.ensures.continues.grown
+      | in-Links+in_ok-links-in-Links w ↦ rw w.world-is (grows_same c.args.world.now)
+      | in-Flow w ↦ rw w.world-is (grows_same c.args.world.now)
+    ]

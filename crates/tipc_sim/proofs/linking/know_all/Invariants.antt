@@ -1,0 +1,10 @@
+use Rattle.std.proofs.Common.{ℕ}
+use Rattle.tipc_sim.specs.Courses.{Continues, Goes}
+use Rattle.tipc_sim.specs.Meanings.{know_asked}
+use Rattle.tipc_sim.proofs.linking.know_all.Given as goal
+
+abbrev pub invariant-loop-peer : goal.invariant-loop-peer
+invariant-loop-peer l = record {
+  goes : (count : ℕ) × Goes (know_asked l.notes.named l.node) 1 l.fn.world l.peer count l.world;
+  continues : Continues l.fn.world l.world;
+}

@@ -1,0 +1,25 @@
+use Rattle.std.proofs.Common.{Err}
+use Rattle.std.proofs.lemmas.Result.{err_from_is_err_and}
+use Rattle.tipc_sim.specs.declared.frames.Receivers.TheVariants.{Both}
+use Rattle.tipc_sim.specs.Courses.{Drains}
+use Rattle.tipc_sim.specs.Meanings.{arrival_asked, Joins}
+use Rattle.tipc_sim.proofs.CourseLaws.{links_halt, then_came}
+use Rattle.tipc_sim.proofs.WorldLaws.{continues_more}
+use Rattle.tipc_sim.proofs.linking.link.Goals as goal
+
+pub returns-in_err-drain-clause-comes : goal.returns-in_err-drain-clause-comes
+returns-in_err-drain-clause-comes c =
+    let named = c.args.notes.now.named in
+    let start = c.args.world.now in
+    let now = c.drain.new.world in
+    let place = c.air_len-place.result in
+    let p = err_from_is_err_and c.from_residual-in_err-drain.result c.from_residual-in_err-drain.ensures.1 in
+    rw (p.1, p.2) (links_halt named c.args.first c.args.second place start now c.in_err-drain.field-0.0 c.air_len-place.ensures.len
+    (then_came (Joins named c.args.first c.args.second) (Drains (arrival_asked (Both c.args.first c.args.second)) place) start c.join.new.world now _ (Err c.in_err-drain.field-0.0)
+    c.in_ok-join.ensures.comes c.in_err-drain.ensures.comes))
+
+pub returns-in_err-drain-clause-continues : goal.returns-in_err-drain-clause-continues
+returns-in_err-drain-clause-continues c = continues_more c.args.world.now c.join.new.world c.drain.new.world c.join.ensures.continues c.drain.ensures.continues
+
+pub returns-clause-continues : goal.returns-clause-continues
+returns-clause-continues c = continues_more c.args.world.now c.join.new.world c.drain.new.world c.join.ensures.continues c.drain.ensures.continues

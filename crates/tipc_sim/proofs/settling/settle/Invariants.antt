@@ -1,0 +1,11 @@
+use Rattle.std.proofs.Common.{◌≤◌, length}
+use Rattle.tipc_sim.specs.Courses.{Continues}
+use Rattle.tipc_sim.specs.Meanings.{Rounds}
+use Rattle.tipc_sim.proofs.settling.settle.Given as goal
+
+abbrev pub invariant-loop : goal.invariant-loop
+invariant-loop l = record {
+  made : Rounds l.fn.world l.counter l.place l.world;
+  continues : Continues l.fn.world l.world;
+  within : l.place ≤ length l.world.air;
+}

@@ -1,0 +1,10 @@
+use Rattle.std.proofs.Common.{ℕ}
+use Rattle.tipc_sim.specs.Courses.{Continues, Goes}
+use Rattle.tipc_sim.specs.Meanings.{tick_asked}
+use Rattle.tipc_sim.proofs.settling.tick_all.Given as goal
+
+abbrev pub invariant-loop-node : goal.invariant-loop-node
+invariant-loop-node l = record {
+  goes : (count : ℕ) × Goes tick_asked 1 l.fn.world l.node count l.world;
+  continues : Continues l.fn.world l.world;
+}
