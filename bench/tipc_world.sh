@@ -21,7 +21,7 @@ mkdir "$bench/specs"
 cat >"$bench/src/main.rt" <<'RT'
 #![tactic(auto)]
 
-ghost use Rattle.std.specs.Prelude.{◌≡◌, ℕ, true, IfOk};
+ghost use Rattle.std.specs.Prelude.{◌≡◌, ◌≢◌, ℕ, true, IfOk};
 ghost use Rattle.tipc_world.specs.States.{is_there};
 
 use std::alloc::Global;
@@ -30,13 +30,32 @@ use std::time::Instant;
 use tipc_types::{Addr, Bytes, Importance, PortId};
 use tipc_world::{World, WorldEvent, WorldFault};
 
+/// The frames that take the link up.
+const LINK_FRAMES: u64 = 5;
+
+fn know(alloc: Global, world: &mut World, node: u8, peer: u8) -> Result<(), WorldFault>
+    requires { (is_there world.old node ≡ true) × (is_there world.old peer ≡ true) × (peer ≢ node) }
+    ensures { (n : ℕ) → is_there world.new n ≡ is_there world.old n }
+{
+    if !world.knows(node, peer) {
+        world.step(alloc, WorldEvent::Know { node, peer })?;
+    }
+    Ok(())
+}
+
 fn two_nodes(alloc: Global) -> Result<World, WorldFault>
     ensures { IfOk result (λ w. (is_there w 1 ≡ true) × (is_there w 2 ≡ true)) }
 {
     let mut world = World::new(alloc);
     world.add_node(alloc, 1)?;
     world.add_node(alloc, 2)?;
-    world.link(alloc, 1, 2)?;
+    know(alloc, &mut world, 1, 2)?;
+    know(alloc, &mut world, 2, 1)?;
+    world.step(alloc, WorldEvent::Mend { node: 1, bearer: 0 })?;
+    world.step(alloc, WorldEvent::Mend { node: 2, bearer: 0 })?;
+    arrive(alloc, &mut world, 2, 0)?;
+    arrive(alloc, &mut world, 1, 2)?;
+    arrive(alloc, &mut world, 2, 3)?;
     world.step(alloc, WorldEvent::Socket { node: 1 })?;
     world.step(alloc, WorldEvent::Socket { node: 2 })?;
     Ok(world)
@@ -76,7 +95,7 @@ fn exchange(alloc: Global, world: &mut World, number: u64, frame: u64) -> Result
 
 fn exchange_all(alloc: Global, messages: u64) -> Result<World, WorldFault> {
     let mut world = two_nodes(alloc)?;
-    let mut frame = 0;
+    let mut frame = LINK_FRAMES;
     for number in 0..messages {
         frame = exchange(alloc, &mut world, number, frame)?;
     }

@@ -1,0 +1,100 @@
+#!/usr/bin/env python3
+"""Prints a random script for `tipc_sim run`.
+
+random_script.py SEED LINES: a script of so many lines behind the ones that make its nodes. The same
+seed gives the same script. Links are asked for, cut, mended and left to fall silent, nodes are restarted,
+messages are sent between all ports that were ever made, and frames arrive late, again and in any order.
+"""
+
+import random
+import sys
+
+BOOTS_BASE = 1_048_576
+
+
+class Cluster:
+    """The nodes that a script has made, as far as it needs to know them."""
+
+    def __init__(self, draw: random.Random):
+        self.draw = draw
+        self.nodes = list(range(1, draw.randint(2, 4) + 1))
+        self.boots = {n: 1 for n in self.nodes}
+        self.sockets = {n: 0 for n in self.nodes}
+
+    def first_lines(self) -> list:
+        lines = [f"node {n}" for n in self.nodes]
+        lines += [f"link {a} {b} 0" for a in self.nodes for b in self.nodes if a < b]
+        for n in self.nodes:
+            lines.append(self.socket(n))
+        return lines
+
+    def node(self) -> int:
+        return self.draw.choice(self.nodes)
+
+    def two_nodes(self) -> tuple:
+        return tuple(self.draw.sample(self.nodes, 2))
+
+    def port(self, n: int) -> int:
+        """Mostly a port of the present boot; sometimes one that isn't there."""
+        boot = self.boots[n] if self.draw.random() < 0.9 else self.draw.randint(1, self.boots[n] + 1)
+        return (boot - 1) * BOOTS_BASE + self.draw.randint(1, max(1, self.sockets[n]))
+
+    def socket(self, n: int) -> str:
+        self.sockets[n] += 1
+        return f"socket {n}"
+
+    def restart(self, n: int) -> str:
+        self.boots[n] += 1
+        self.sockets[n] = 0
+        return f"restart {n}"
+
+    def send(self) -> str:
+        a, b = self.two_nodes()
+        body = "".join(self.draw.choice("abcxyz=#") for _ in range(self.draw.randint(1, 8)))
+        return f"send {a} {self.port(a)} port {b} {self.port(b)} low ={body}"
+
+    def line(self) -> str:
+        """One more line."""
+        kinds = {
+            "send": 60, "arrive": 44, "receive": 16, "pump": 10, "tick": 14, "settle": 8, "cut": 4, "mend": 8,
+            "restart": 1, "socket": 5, "links": 8, "flow": 10, "link": 6, "mark": 4,
+        }
+        kind = self.draw.choices(list(kinds), list(kinds.values()))[0]
+        n = self.node()
+        if kind == "send":
+            return self.send()
+        if kind == "arrive":
+            return f"arrive {n} 0 {self.draw.randint(0, self.draw.choice((10, 40, 400)))}"
+        if kind == "receive":
+            return f"receive {n} {self.port(n)}"
+        if kind == "pump":
+            return "pump 0"
+        if kind == "settle":
+            return f"settle {self.draw.randint(0, 6)}"
+        if kind in ("cut", "mend"):
+            return f"{kind} {n} 0"
+        if kind == "restart":
+            return self.restart(n)
+        if kind == "socket":
+            return self.socket(n)
+        if kind == "flow":
+            a, b = self.two_nodes()
+            return f"flow {a} {b}"
+        if kind == "link":
+            a, b = self.two_nodes() if self.draw.random() < 0.95 else (n, n)
+            return f"link {a} {b} 0"
+        if kind == "mark":
+            return "mark"
+        return f"{kind} {n}"
+
+
+def main() -> None:
+    seed, lines = int(sys.argv[1]), int(sys.argv[2])
+    cluster = Cluster(random.Random(seed))
+    script = cluster.first_lines()
+    script += [cluster.line() for _ in range(lines)]
+    print("\n".join(script))
+
+
+if __name__ == "__main__":
+    main()
