@@ -1,2 +1,3 @@
-pub mod Holding
 pub mod ArrivalLaws
+pub mod Holding
+pub mod Runs

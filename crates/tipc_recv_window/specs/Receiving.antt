@@ -1,4 +1,4 @@
-use Rattle.std.specs.Prelude.{◌≡◌, ℕ, ◌+◌, ◌-◌, ◌≤◌, ◌^◌, ◌&&◌, ◌==◌, Bool, not, List, [], ◌++◌, length, drop, replicate, slice_index_or, slice_set, Option, Some, None, is_some, count_by, position, unwrap_or, nat_lt, if◌then◌else◌}
+use Rattle.std.specs.Prelude.{◌≡◌, ℕ, ◌+◌, ◌-◌, ◌≤◌, ◌^◌, ◌&&◌, ◌==◌, Bool, not, List, [], ◌∷◌, ◌++◌, length, drop, replicate, slice_index_or, slice_set, Option, Some, None, is_some, count_by, position, unwrap_or, nat_lt, if◌then◌else◌}
 use Rattle.tipc_types.specs.Position.{distance_of, number_of}
 use Rattle.tipc_types.specs.declared.packet_lists.Taken.{Taken}
 use Rattle.tipc_recv_window.specs.declared.outcomes.Place.{Place}
@@ -63,3 +63,13 @@ deferred_count r = count_by (λ packet. is_some packet) (drop 1 r.held)
 -- the distance from the wanted packet to the first that is held, and 0 where none is
 abbrev pub gap_of : Receiving → ℕ
 gap_of r = unwrap_or (position (λ packet. is_some packet) r.held) 0
+
+-- the packets that are held from the wanted one on, up to the first that isn't
+abbrev pub run_of : List (Option Taken) → List Taken
+run_of [] = []
+run_of (None ∷ held) = []
+run_of (Some packet ∷ held) = packet ∷ run_of held
+
+-- after all of them were taken
+abbrev pub drained : Receiving → Receiving
+drained r = record { wanted = r.wanted + length (run_of r.held); held = drop (length (run_of r.held)) r.held }

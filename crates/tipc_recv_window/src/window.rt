@@ -1,11 +1,11 @@
-ghost use Rattle.std.specs.Prelude.{◌≡◌, ◌+◌, ◌-◌, ◌<◌, ◌≤◌, ◌^◌, ◌++◌, ◌↔◌, is_some, length, replicate, position, IfOk, IfSome, IsTrue, OnErr, OnOk};
+ghost use Rattle.std.specs.Prelude.{◌≡◌, ◌+◌, ◌-◌, ◌<◌, ◌≤◌, ◌^◌, ◌++◌, ◌↔◌, is_some, length, not, replicate, position, IfOk, IfSome, IsTrue, OnErr, OnOk};
 ghost use Rattle.tipc_types.specs.Position.{number_of};
 
 use crate::outcomes::Place;
 use std::alloc::Global;
 use std::collections::VecDeque;
 use std::marker::Model;
-use tipc_types::{Bytes, NoMemory, Taken, number_distance, sequence_number};
+use tipc_types::{Bytes, NoMemory, Taken, TakenList, number_distance, sequence_number};
 
 /// How many packets, from the wanted one on, are kept when they arrive. (TIPC 2.0 draft, default window.)
 pub const WINDOW: usize = 50;
@@ -35,7 +35,7 @@ impl Model for RecvWindow {
 }
 
 impl RecvWindow {
-    ghost use Rattle.tipc_recv_window.specs.Receiving.{after_take, arrived_at, deferred_count, filled, fresh, gap_of, held_at, IsReceiving, next_of, past_wanted, place_at};
+    ghost use Rattle.tipc_recv_window.specs.Receiving.{after_take, arrived_at, deferred_count, drained, filled, fresh, gap_of, held_at, IsReceiving, next_of, past_wanted, place_at, run_of};
 
     /// A window that wants the packet with the number `next` and holds none.
     pub fn new(alloc: Global, next: u16) -> RecvWindow
@@ -65,6 +65,14 @@ impl RecvWindow {
         sequence_number(self.wanted)
     }
 
+    /// The position of the packet that is wanted.
+    pub fn wanted_position(&self) -> u64
+        ensures value { result ≡ self.now.wanted }
+        ensures window { IsReceiving self.now }
+    {
+        self.wanted
+    }
+
     /// How many packets are held behind the wanted one.
     pub fn deferred(&self) -> u32
         ensures { result ≡ deferred_count self.now }
@@ -85,7 +93,8 @@ impl RecvWindow {
 
     /// How far the first packet that is held lies past the wanted one, and 0 where none is held.
     pub fn gap(&self) -> u16
-        ensures { result ≡ gap_of self.now }
+        ensures value { result ≡ gap_of self.now }
+        ensures near { result < 50 }
     {
         self.first_held().unwrap_or(0) as u16
     }
@@ -127,6 +136,39 @@ impl RecvWindow {
         }
         self.wanted += 1;
         self.held.pop_front()?
+    }
+
+    /// Gives the packets that can be taken, in order: the wanted one and those behind it, up to the first that isn't held, which
+    /// is the wanted one then. NoMemory changes nothing.
+    pub fn take_run(&mut self, alloc: Global) -> Result<TakenList, NoMemory>
+        ensures ok { IfOk result (λ run. (run ≡ run_of self.old.held) × (self.new ≡ drained self.old)) }
+        ensures err { OnErr result (self.new ≡ self.old) }
+        ensures window { IsReceiving self.new }
+    {
+        let count = self.run_length();
+        let mut run = Vec::with_capacity(alloc, count)?;
+        for _ in 0..count {
+            match self.take_next() {
+                Some(packet) => run.push_reserved(packet),
+                None => unreachable!(),
+            }
+        }
+        Ok(TakenList::from_vec(run))
+    }
+
+    /// How many packets can be taken.
+    fn run_length(&self) -> usize
+        ensures value { result ≡ length (run_of self.now.held) }
+        ensures window { IsReceiving self.now }
+    {
+        self.first_free().unwrap_or(self.held.len())
+    }
+
+    /// How far the first packet that isn't held lies past the wanted one, where a place is kept for it.
+    fn first_free(&self) -> Option<usize>
+        ensures { result ≡ position (λ packet. not (is_some packet)) self.now.held }
+    {
+        self.held.iter().position(|packet| packet.is_none())
     }
 
     /// Whether the packet at a distance from the wanted one is held.
