@@ -3,13 +3,15 @@
 
 random_script.py SEED LINES: a script of so many lines behind the ones that make its nodes. The same
 seed gives the same script. Links are asked for, cut, mended and left to fall silent, nodes are restarted,
-messages are sent between all ports that were ever made, and frames arrive late, again and in any order.
+messages are sent between all ports that were ever made, one or many at a time, and frames arrive late, again
+and in any order.
 """
 
 import random
 import sys
 
 BOOTS_BASE = 1_048_576
+IMPORTANCES = ("low", "medium", "high", "critical")
 
 
 class Cluster:
@@ -48,16 +50,24 @@ class Cluster:
         self.sockets[n] = 0
         return f"restart {n}"
 
+    def body(self) -> str:
+        return "=" + "".join(self.draw.choice("abcxyz=#") for _ in range(self.draw.randint(1, 8)))
+
     def send(self) -> str:
         a, b = self.two_nodes()
-        body = "".join(self.draw.choice("abcxyz=#") for _ in range(self.draw.randint(1, 8)))
-        return f"send {a} {self.port(a)} port {b} {self.port(b)} low ={body}"
+        importance = self.draw.choice(IMPORTANCES)
+        return f"send {a} {self.port(a)} port {b} {self.port(b)} {importance} {self.body()}"
+
+    def burst(self) -> str:
+        a, b = self.two_nodes()
+        return f"burst {a} {self.port(a)} {b} {self.port(b)} {self.draw.randint(1, 8)} {self.body()}"
 
     def line(self) -> str:
         """One more line."""
         kinds = {
             "send": 60, "arrive": 44, "receive": 16, "pump": 10, "tick": 14, "settle": 8, "cut": 4, "mend": 8,
-            "restart": 1, "socket": 5, "links": 8, "flow": 10, "link": 6, "mark": 4,
+            "restart": 1, "socket": 5, "links": 8, "flow": 10, "link": 6, "mark": 4, "repeat": 6, "drain": 8, "burst": 6,
+            "air": 6, "show": 6,
         }
         kind = self.draw.choices(list(kinds), list(kinds.values()))[0]
         n = self.node()
@@ -65,10 +75,16 @@ class Cluster:
             return self.send()
         if kind == "arrive":
             return f"arrive {n} 0 {self.draw.randint(0, self.draw.choice((10, 40, 400)))}"
-        if kind == "receive":
-            return f"receive {n} {self.port(n)}"
-        if kind == "pump":
-            return "pump 0"
+        if kind == "repeat":
+            return f"repeat {self.draw.randint(1, 12)} {self.send()}"
+        if kind == "burst":
+            return self.burst()
+        if kind == "show":
+            return f"show 0 {self.draw.randint(0, self.draw.choice((10, 40, 400)))}"
+        if kind in ("receive", "drain"):
+            return f"{kind} {n} {self.port(n)}"
+        if kind in ("pump", "air"):
+            return f"{kind} 0"
         if kind == "settle":
             return f"settle {self.draw.randint(0, 6)}"
         if kind in ("cut", "mend"):

@@ -2,6 +2,7 @@
 use Rattle.std.proofs.Common.{◌≡◌, ℕ, ◌+◌, ◌<◌, ◌≤◌, ◌==◌, false, List, [], ◌∷◌, ◌++◌, Some, length, take, drop, slice_get, refl, sym, ap, ◌∙◌, append_assoc, append-nil, length-drop, get_or, add-zero, subst, arith}
 use Rattle.std.proofs.lemmas.Bool.Decides.{nat_tests}
 use Rattle.std.proofs.lemmas.List.{drop-drop, get_or-drop, take_more, length-take-le}
+use Rattle.tipc_types.specs.Position.{number_of}
 use Rattle.tipc_outside.proofs.Adding.{adds_more}
 use Rattle.std.proofs.lemmas.Option.{slice_get-get_or}
 use Rattle.std.proofs.Math.Seq.{take-add}
@@ -28,11 +29,11 @@ sent-more e i =
     rw (advanced-more e.sending i, tested) refl
 
 -- the frame behind others
-pub packet_frames-more : (e : SessionEnd) (before : ℕ) (qs : List (List ℕ)) (q : List ℕ) → packet_frames e before (qs ++ q ∷ []) ≡ packet_frames e before qs ++ packet_frame e (before + length qs + 1) q ∷ []
-packet_frames-more e before [] q = ap (λ n. packet_frame e n q ∷ []) (omega arith)
+pub packet_frames-more : (e : SessionEnd) (before : ℕ) (qs : List (List ℕ)) (q : List ℕ) → packet_frames e before (qs ++ q ∷ []) ≡ packet_frames e before qs ++ packet_frame e (number_of (before + length qs + 1)) q ∷ []
+packet_frames-more e before [] q = let place : before + 1 ≡ before + 0 + 1 = omega arith in ap (λ n. packet_frame e (number_of n) q ∷ []) place
 packet_frames-more e before (x ∷ qs) q =
     let place : before + 1 + length qs + 1 ≡ before + length (x ∷ qs) + 1 = omega arith in
-    ap (λ fs. packet_frame e (before + 1) x ∷ fs) (packet_frames-more e (before + 1) qs q ∙ ap (λ n. packet_frames e (before + 1) qs ++ packet_frame e n q ∷ []) place)
+    ap (λ fs. packet_frame e (number_of (before + 1)) x ∷ fs) (packet_frames-more e (before + 1) qs q ∙ ap (λ n. packet_frames e (before + 1) qs ++ packet_frame e (number_of n) q ∷ []) place)
 
 -- the packet that is the first to wait when i packets were sent
 pub first_of_sent : (e : SessionEnd) (i : ℕ) → i < length e.sending.waiting → slice_get (sent i e).sending.waiting 0 ≡ slice_get e.sending.waiting i
@@ -49,7 +50,7 @@ pub record IsFlushing (before : SessionEnd) (box_before : Out) (now : SessionEnd
   pub within : i ≤ n
 
 -- one more was sent
-pub flushing-step : (before now now' : SessionEnd) (box_before box box' : Out) (i n : ℕ) → IsFlushing before box_before now box i n → i < n → now' ≡ sent 1 now → ((q : List ℕ) → slice_get now.sending.waiting 0 ≡ Some q → Adds box box' (packet_frame now (now.sending.numbered + 1) q ∷ [])) → IsFlushing before box_before now' box' (i + 1) n
+pub flushing-step : (before now now' : SessionEnd) (box_before box box' : Out) (i n : ℕ) → IsFlushing before box_before now box i n → i < n → now' ≡ sent 1 now → ((q : List ℕ) → slice_get now.sending.waiting 0 ≡ Some q → Adds box box' (packet_frame now (number_of (now.sending.numbered + 1)) q ∷ [])) → IsFlushing before box_before now' box' (i + 1) n
 flushing-step before now now' box_before box box' i n h more after frame =
     let w = before.sending.waiting in
     let count = h.count in
@@ -57,12 +58,12 @@ flushing-step before now now' box_before box box' i n h more after frame =
     let q = get_or w i [] in
     let there : slice_get w i ≡ Some q = slice_get-get_or w i [] within in
     let first : slice_get now.sending.waiting 0 ≡ Some q = subst (λ (e : SessionEnd). slice_get e.sending.waiting 0 ≡ Some q) (sym h.state) (first_of_sent before i within ∙ there) in
-    let sent_frame = subst (λ (e : SessionEnd). Adds box box' (packet_frame e (e.sending.numbered + 1) q ∷ [])) h.state (frame q first) in
+    let sent_frame = subst (λ (e : SessionEnd). Adds box box' (packet_frame e (number_of (e.sending.numbered + 1)) q ∷ [])) h.state (frame q first) in
     let long : length (take i w) ≡ i = length-take-le i w (omega arith) in
-    let all : packet_frames before before.sending.numbered (take (i + 1) w) ≡ packet_frames before before.sending.numbered (take i w) ++ packet_frame before (before.sending.numbered + i + 1) q ∷ [] =
+    let all : packet_frames before before.sending.numbered (take (i + 1) w) ≡ packet_frames before before.sending.numbered (take i w) ++ packet_frame before (number_of (before.sending.numbered + i + 1)) q ∷ [] =
     ap (λ qs. packet_frames before before.sending.numbered qs) (take_more w i [] within)
     ∙ packet_frames-more before before.sending.numbered (take i w) q
-    ∙ ap (λ k. packet_frames before before.sending.numbered (take i w) ++ packet_frame before (before.sending.numbered + k + 1) q ∷ []) long in
+    ∙ ap (λ k. packet_frames before before.sending.numbered (take i w) ++ packet_frame before (number_of (before.sending.numbered + k + 1)) q ∷ []) long in
     record {
       state = after ∙ ap (sent 1) h.state ∙ sent-more before i;
       frames = subst (λ fs. Adds box_before box' fs) (sym all) (adds_more box_before box box' _ _ h.frames sent_frame);

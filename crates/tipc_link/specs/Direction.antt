@@ -1,19 +1,25 @@
--- One direction of a link in one session: its sending end, its receiving end, everything that was put into it and
--- everything that was taken from it; and a frame of that direction, at any time after it was sent.
-use Rattle.std.specs.Prelude.{◌≡◌, ℕ, ◌+◌, ◌-◌, ◌<◌, ◌≤◌, List, ◌++◌, Some, length, take, drop, slice_get}
+-- One direction of a link in one session: its sending end, its receiving end, and every packet that was numbered; and a frame
+-- of that direction, at any time after it was sent.
+use Rattle.std.specs.Prelude.{◌≡◌, ℕ, Bool, ◌+◌, ◌-◌, ◌<◌, ◌≤◌, List, Some, Option, None, length, drop, slice_get, slice_index_or}
 use Rattle.tipc_types.specs.Position.{number_of}
 use Rattle.tipc_send_window.specs.Sending.{Sending, acked_of}
-use Rattle.tipc_link.specs.Sessions.{SessionEnd, Content, Carries, Shows}
+use Rattle.tipc_types.specs.declared.packet_lists.Taken.{Taken}
+use Rattle.tipc_link.specs.Sessions.{Content, Carries, Shows}
 
--- what the sender s has, how many packets the receiver took, the packets that were put and those that were taken
-pub record IsDirection (s : Sending) (taken : ℕ) (put took : List (List ℕ)) : Type 0 where
+-- what the sender s has, how many packets the receiver took, and the packets that were numbered, in order
+pub record IsDirection (s : Sending) (taken : ℕ) (line : List (List ℕ)) : Type 0 where
   pub window : length s.unacked ≤ 50
   pub below : length s.unacked ≤ s.numbered
-  pub count : length put ≡ s.numbered + length s.waiting
-  pub kept : drop (acked_of s) put ≡ s.unacked ++ s.waiting
-  pub got : took ≡ take taken put
+  pub count : length line ≡ s.numbered
+  pub kept : drop (acked_of s) line ≡ s.unacked
   pub acked_taken : acked_of s ≤ taken
   pub taken_numbered : taken ≤ s.numbered
+
+-- what a receiver holds that took so many packets: not the next one, and others that were numbered, each at its place
+pub record IsReceiver (held : List (Option Taken)) (taken : ℕ) (line : List (List ℕ)) : Type 0 where
+  pub window : length held ≤ 50
+  pub wants : slice_index_or held 0 None ≡ None
+  pub holds : (d : ℕ) (t : Taken) → slice_index_or held d None ≡ Some t → slice_get line (taken + d) ≡ Some t.packet
 
 -- what a frame brings, and how many packets each end had numbered when it was sent
 pub record Flight : Type 0 where
@@ -27,35 +33,31 @@ abbrev pub packet_flight : ℕ → ℕ → ℕ → ℕ → List ℕ → Flight
 packet_flight taken numbered peer_numbered position packet =
     record { acknowledgement = number_of taken; content = Carries (number_of position) packet; numbered = numbered; peer_numbered = peer_numbered }
 
-abbrev pub state_flight : ℕ → ℕ → ℕ → Flight
-state_flight taken numbered peer_numbered =
-    record { acknowledgement = number_of taken; content = Shows (number_of (numbered + 1)); numbered = numbered; peer_numbered = peer_numbered }
+abbrev pub state_flight : ℕ → ℕ → ℕ → ℕ → Bool → Flight
+state_flight taken numbered peer_numbered gap probe =
+    record { acknowledgement = number_of taken; content = Shows (number_of (numbered + 1)) gap probe; numbered = numbered; peer_numbered = peer_numbered }
 
 -- neither end has numbered more than 30,000 packets since the frame was sent
 pub record IsFresh (numbered peer_numbered : ℕ) (f : Flight) : Type 0 where
   pub own : numbered ≤ f.numbered + 30000
   pub peer : peer_numbered ≤ f.peer_numbered + 30000
 
--- the packet under this number was put, and it was among the last 50 that were numbered when the frame was sent
-pub record IsCarried (put : List (List ℕ)) (numbered number : ℕ) (packet : List ℕ) : Type 0 where
+-- the packet under this number was numbered so, and it was among the last 50 that were numbered when the frame was sent
+pub record IsCarried (line : List (List ℕ)) (numbered number : ℕ) (packet : List ℕ) : Type 0 where
   pub position : ℕ
   pub positive : 1 ≤ position
   pub number_is : number ≡ number_of position
   pub recent : numbered < position + 50
   pub sent : position ≤ numbered
-  pub packet_is : slice_get put (position - 1) ≡ Some packet
+  pub packet_is : slice_get line (position - 1) ≡ Some packet
 
 -- a frame whose sender has numbered and taken so many packets, and whose receiver has numbered so many: what it
--- acknowledges was taken by its sender, and what it carries was put
-pub record IsFlight (numbered taken peer_numbered : ℕ) (put : List (List ℕ)) (f : Flight) : Type 0 where
+-- acknowledges was taken by its sender, and what it carries was numbered
+pub record IsFlight (numbered taken peer_numbered : ℕ) (line : List (List ℕ)) (f : Flight) : Type 0 where
   pub told : ℕ
   pub told_is : f.acknowledgement ≡ number_of told
   pub told_taken : told ≤ taken
   pub told_recent : f.peer_numbered ≤ told + 50
   pub so_far : f.numbered ≤ numbered
   pub peer_so_far : f.peer_numbered ≤ peer_numbered
-  pub carried : (number : ℕ) (packet : List ℕ) → f.content ≡ Carries number packet → IsCarried put f.numbered number packet
-
--- the direction from one end to the other
-abbrev pub Joins : SessionEnd → SessionEnd → List (List ℕ) → List (List ℕ) → Type 0
-Joins sender receiver put took = IsDirection sender.sending receiver.taken put took
+  pub carried : (number : ℕ) (packet : List ℕ) → f.content ≡ Carries number packet → IsCarried line f.numbered number packet

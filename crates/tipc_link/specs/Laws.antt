@@ -1,18 +1,35 @@
--- A link as a machine of two ends: packets are put at either end, STATEs are sent at any time, and of all frames that
--- were ever sent any may arrive, again and in any order, as long as it isn't too old.
-use Rattle.std.specs.Prelude.{◌≡◌, ℕ, ◌+◌, Bool, true, false, List, [], ◌∷◌, ◌++◌, Option, Some, None, take, slice_get, nat_le, ◌==◌, ◌&&◌, if◌then◌else◌}
-use Rattle.tipc_link.specs.Sessions.{SessionEnd, Content, Carries, begun, flushed, heard, put, room, wanted}
-use Rattle.tipc_link.specs.Direction.{Flight, packet_flight, state_flight}
+-- Two ends of a link in one session, with all that each numbered, took and sent: whatever happens at one of them, both directions
+-- stay whole, and what was taken is a beginning of what the other end numbered.
+use Rattle.std.specs.Prelude.{◌≡◌, ℕ, ◌+◌, Bool, false, List, [], ◌∷◌, ◌++◌, Some, map, take, slice_get, if◌then◌else◌}
+use Rattle.tipc_types.specs.Position.{number_of}
+use Rattle.tipc_types.specs.declared.packet_lists.Kept.{Kept}
+use Rattle.tipc_types.specs.declared.packet_lists.Taken.{Taken}
+use Rattle.tipc_link.specs.Sessions.{SessionEnd, Content, Shows, Carries, Nothing, IsPut, answered, arrival_moving, arrived, begun, brought, due_with, flushed, gap, heard, is_due, moving, released, repeated, room, told}
+use Rattle.tipc_link.specs.Direction.{Flight, IsDirection, IsFlight, IsFresh, IsReceiver, packet_flight, state_flight}
 
--- one side: its end, what was put there, what was taken there, and every frame that it sent
+-- xs is a prefix of ys: ys is xs and then some rest
+abbrev pub IsPrefixOf : {A : Type 0} → List A → List A → Type 0
+IsPrefixOf {A} xs ys = (rest : List A) × (ys ≡ xs ++ rest)
+
+-- one side: its end, every packet that it numbered, every packet that it took, and every frame that it sent
 pub record Side : Type 0 where
   pub end : SessionEnd
-  pub put : List (List ℕ)
+  pub line : List (List ℕ)
   pub took : List (List ℕ)
   pub sent : List Flight
 
-abbrev pub new_side : ℕ → ℕ → ℕ → ℕ → ℕ → Side
-new_side own peer bearer epoch peer_epoch = record { end = begun own peer bearer epoch peer_epoch; put = []; took = []; sent = [] }
+-- one direction, from a to b
+pub record Reaches (a b : Side) : Type 0 where
+  pub direction : IsDirection a.end.sending b.end.taken a.line
+  pub receiver : IsReceiver b.end.held b.end.taken a.line
+  pub took : b.took ≡ take b.end.taken a.line
+  pub flights : (k : ℕ) (f : Flight) → slice_get a.sent k ≡ Some f → IsFlight a.end.sending.numbered a.end.taken b.end.sending.numbered a.line f
+
+pub record AreJoined (a b : Side) : Type 0 where
+  pub there : Reaches a b
+  pub back : Reaches b a
+
+-- ---- frames
 
 -- the frames of packets, the first of them behind the position `before`
 abbrev pub packet_flights : ℕ → ℕ → ℕ → ℕ → List (List ℕ) → List Flight
@@ -22,87 +39,89 @@ packet_flights taken numbered peer_numbered before (packet ∷ packets) =
 
 -- the frames that leave an end when waiting packets move up, where the peer has numbered so many packets
 abbrev pub flush_flights : SessionEnd → ℕ → List Flight
-flush_flights e peer_numbered =
-    packet_flights e.taken (e.sending.numbered + room e.sending) peer_numbered e.sending.numbered (take (room e.sending) e.sending.waiting)
+flush_flights e peer_numbered = packet_flights e.taken (e.sending.numbered + room e.sending) peer_numbered e.sending.numbered (moving e)
 
--- packets are put at a side whose other side has numbered so many
-abbrev pub puts : Side → ℕ → List (List ℕ) → Side
-puts a peer_numbered pieces = record {
-  end = flushed (put a.end pieces);
-  put = a.put ++ pieces;
+-- the frame of a packet that is sent again
+abbrev pub kept_flight : ℕ → ℕ → ℕ → Kept → Flight
+kept_flight taken numbered peer_numbered k =
+    record { acknowledgement = number_of taken; content = Carries k.number k.packet; numbered = numbered; peer_numbered = peer_numbered }
+
+-- the frames that leave an end at an arrival
+abbrev pub arrival_flights : SessionEnd → ℕ → ℕ → ℕ → Content → List Flight
+arrival_flights e peer_numbered by acknowledgement Nothing = []
+arrival_flights e peer_numbered by acknowledgement (Shows next gap probe) =
+    map (kept_flight e.taken (arrived e by acknowledgement (Shows next gap probe)).sending.numbered peer_numbered) (repeated (released e acknowledgement) acknowledgement gap)
+    ++ flush_flights (heard e by acknowledgement (Shows next gap probe)) peer_numbered
+arrival_flights e peer_numbered by acknowledgement (Carries number packet) = flush_flights (heard e by acknowledgement (Carries number packet)) peer_numbered
+
+-- the packets that are taken at an arrival
+abbrev pub taken_from : SessionEnd → ℕ → Content → List (List ℕ)
+taken_from e by (Carries number packet) = map (λ (t : Taken). t.packet) (due_with e (brought number packet by))
+taken_from e by other = []
+
+-- ---- what happens at a side whose other side has numbered so many packets
+
+-- packets were put at its end, and waiting packets move up
+abbrev pub puts : Side → ℕ → SessionEnd → Side
+puts a peer_numbered put = record {
+  end = flushed put;
+  line = a.line ++ moving put;
   took = a.took;
-  sent = a.sent ++ flush_flights (put a.end pieces) peer_numbered;
+  sent = a.sent ++ flush_flights put peer_numbered;
 }
 
--- a STATE is sent
-abbrev pub states : Side → ℕ → Side
-states a peer_numbered = record {
-  end = record a.end { unanswered = 0 };
-  put = a.put;
+-- it sends a STATE
+abbrev pub tells : Side → ℕ → Bool → Side
+tells a peer_numbered probe = record {
+  end = told a.end;
+  line = a.line;
   took = a.took;
-  sent = a.sent ++ state_flight a.end.taken a.end.sending.numbered peer_numbered ∷ [];
+  sent = a.sent ++ state_flight a.end.taken a.end.sending.numbered peer_numbered (gap a.end) probe ∷ [];
 }
-
--- what is taken from a frame
-abbrev pub taken_from : SessionEnd → Content → List (List ℕ)
-taken_from e (Carries number packet) = if number == wanted e then packet ∷ [] else []
-taken_from e _ = []
 
 -- a frame arrives
-abbrev pub hears : Side → ℕ → Flight → Side
-hears a peer_numbered f = record {
-  end = flushed (heard a.end f.acknowledgement f.content);
-  put = a.put;
-  took = a.took ++ taken_from a.end f.content;
-  sent = a.sent ++ flush_flights (heard a.end f.acknowledgement f.content) peer_numbered;
+abbrev pub hears : Side → ℕ → ℕ → Flight → Side
+hears a peer_numbered by f = record {
+  end = arrived a.end by f.acknowledgement f.content;
+  line = a.line ++ arrival_moving a.end by f.acknowledgement f.content;
+  took = a.took ++ taken_from a.end by f.content;
+  sent = a.sent ++ arrival_flights a.end peer_numbered by f.acknowledgement f.content;
 }
 
--- neither side has numbered more than 30,000 packets since the frame was sent from b
-abbrev pub is_fresh : Side → Side → Flight → Bool
-is_fresh a b f = nat_le b.end.sending.numbered (f.numbered + 30000) && nat_le a.end.sending.numbered (f.peer_numbered + 30000)
+-- it sends the STATE that is due, if one is
+abbrev pub answers : Side → ℕ → Side
+answers a peer_numbered = record {
+  end = answered a.end;
+  line = a.line;
+  took = a.took;
+  sent = a.sent ++ (if is_due a.end then state_flight a.end.taken a.end.sending.numbered peer_numbered (gap a.end) false ∷ [] else []);
+}
 
-abbrev pub comes : Side → Side → Option Flight → Side
-comes a b None = a
-comes a b (Some f) = if is_fresh a b f then hears a b.end.sending.numbered f else a
+-- ---- the law, step by step
 
--- what may happen at a side
-pub data Happening : Type 0 where
-  Put : (pieces : List (List ℕ)) → Happening
-  State : Happening
-  -- the k-th of all frames that the other side sent arrives
-  Comes : (k : ℕ) → Happening
+abbrev pub new_side : ℕ → ℕ → ℕ → ℕ → ℕ → Side
+new_side own peer bearer epoch peer_epoch = record { end = begun own peer bearer epoch peer_epoch; line = []; took = []; sent = [] }
 
-abbrev pub after : Side → Side → Happening → Side
-after a b (Put pieces) = puts a b.end.sending.numbered pieces
-after a b State = states a b.end.sending.numbered
-after a b (Comes k) = comes a b (slice_get b.sent k)
+abbrev pub BeginJoined : Type 0
+BeginJoined = (own peer bearer epoch peer_epoch : ℕ) → AreJoined (new_side own peer bearer epoch peer_epoch) (new_side peer own bearer peer_epoch epoch)
 
-pub record Link : Type 0 where
-  pub left : Side
-  pub right : Side
+-- what holds of the left side holds of the right one
+abbrev pub TurnJoined : Type 0
+TurnJoined = (a b : Side) → AreJoined a b → AreJoined b a
 
--- one event: at the left side or at the right
-pub record Event : Type 0 where
-  pub at_left : Bool
-  pub what : Happening
+abbrev pub PutsStayJoined : Type 0
+PutsStayJoined = (a b : Side) (pieces : List (List ℕ)) (put : SessionEnd) → AreJoined a b → IsPut a.end pieces put → AreJoined (puts a b.end.sending.numbered put) b
 
-abbrev pub happens_at : Bool → Link → Happening → Link
-happens_at true l what = record { left = after l.left l.right what; right = l.right }
-happens_at false l what = record { left = l.left; right = after l.right l.left what }
+abbrev pub StatesStayJoined : Type 0
+StatesStayJoined = (a b : Side) (probe : Bool) → AreJoined a b → AreJoined (tells a b.end.sending.numbered probe) b
 
-abbrev pub happens : Link → Event → Link
-happens l e = happens_at e.at_left l e.what
+-- of all frames that were ever sent any may arrive, again and in any order, as long as it isn't too old
+abbrev pub ArrivalsStayJoined : Type 0
+ArrivalsStayJoined = (a b : Side) (k by : ℕ) (f : Flight) → AreJoined a b → slice_get b.sent k ≡ Some f → IsFresh b.end.sending.numbered a.end.sending.numbered f
+    → AreJoined (hears a b.end.sending.numbered by f) b
 
-abbrev pub run : Link → List Event → Link
-run l [] = l
-run l (e ∷ es) = run (happens l e) es
+abbrev pub AnswersStayJoined : Type 0
+AnswersStayJoined = (a b : Side) → AreJoined a b → AreJoined (answers a b.end.sending.numbered) b
 
--- xs is a prefix of ys: ys is xs and then some rest
-abbrev pub IsPrefixOf : {A : Type 0} → List A → List A → Type 0
-IsPrefixOf {A} xs ys = (rest : List A) × (ys ≡ xs ++ rest)
-
--- whatever happens to a link, what was taken at either side is a prefix of what was put at the other
-abbrev pub KeepsPrefix : Type 0
-KeepsPrefix = (a b bearer epoch peer_epoch : ℕ) (events : List Event) →
-    let l = run (record { left = new_side a b bearer epoch peer_epoch; right = new_side b a bearer peer_epoch epoch }) events in
-    IsPrefixOf l.right.took l.left.put × IsPrefixOf l.left.took l.right.put
+abbrev pub JoinedGivePrefix : Type 0
+JoinedGivePrefix = (a b : Side) → AreJoined a b → IsPrefixOf b.took a.line

@@ -15,8 +15,8 @@ use Rattle.tipc_header.specs.Frames.{frame_of}
 use Rattle.tipc_link_fsm.specs.declared.changes.Change.{Change}
 use Rattle.tipc_link_fsm.specs.declared.changes.Change.TheVariants.{Stay, Up, Down, Answer, Ignore}
 use Rattle.tipc_link_fsm.specs.Table.{Fsm, Outcome, fresh, gives, is_up, on_activate, on_cut, on_reset, on_traffic, contact_ended, forget_peer}
-use Rattle.tipc_link.specs.declared.outcomes.LinkOutcome.{LinkOutcome}
-use Rattle.tipc_link.specs.Sessions.{SessionEnd, Content, answer_frames, answered, arrival_frames, arrived, begun, content_of, outcome, priority_of, state_frame, told}
+use Rattle.tipc_recv_window.specs.declared.outcomes.LinkOutcome.{LinkOutcome}
+use Rattle.tipc_link.specs.Sessions.{SessionEnd, Content, answer_frames, answered, arrival_frames, arrival_moving, arrived, begun, content_of, outcome, priority_of, state_frame, told}
 
 pub record LinkEnd : Type 0 where
   -- address words
@@ -171,17 +171,22 @@ is_traffic other = true
 abbrev pub is_heard : Header → Change → Bool
 is_heard h change = is_traffic h && is_taken change
 
-abbrev pub heard_end : LinkEnd → ℕ → Content → LinkEnd
-heard_end e acknowledgement c = record e { session = option_map (λ s. arrived s acknowledgement c) e.session }
+abbrev pub heard_end : LinkEnd → ℕ → ℕ → Content → LinkEnd
+heard_end e by acknowledgement c = record e { session = option_map (λ s. arrived s by acknowledgement c) e.session }
 
-abbrev pub heard_by : Option SessionEnd → ℕ → Content → List Outgoing
-heard_by None acknowledgement c = []
-heard_by (Some s) acknowledgement c = arrival_frames s acknowledgement c
+abbrev pub heard_by : Option SessionEnd → ℕ → ℕ → Content → List Outgoing
+heard_by None by acknowledgement c = []
+heard_by (Some s) by acknowledgement c = arrival_frames s by acknowledgement c
+
+-- the packets that move up then
+abbrev pub moved_by : Option SessionEnd → ℕ → ℕ → Content → List (List ℕ)
+moved_by None by acknowledgement c = []
+moved_by (Some s) by acknowledgement c = arrival_moving s by acknowledgement c
 
 -- what a session sends that hears a packet; nothing waits on one that has just begun
-abbrev pub heard_frames : LinkEnd → Change → ℕ → Content → List Outgoing
-heard_frames e Up acknowledgement c = []
-heard_frames e other acknowledgement c = heard_by e.session acknowledgement c
+abbrev pub heard_frames : LinkEnd → Change → ℕ → ℕ → Content → List Outgoing
+heard_frames e Up by acknowledgement c = []
+heard_frames e other by acknowledgement c = heard_by e.session by acknowledgement c
 
 abbrev pub heard_outcome : Option SessionEnd → ℕ → Content → LinkOutcome
 heard_outcome None by c = LinkOutcome.Took []
@@ -192,12 +197,16 @@ change_outcome (Ignore reason) = LinkOutcome.Ignored reason
 change_outcome other = LinkOutcome.Took []
 
 -- the end after a packet arrived, the frames that it sends, and what the arrival brought
-abbrev pub arrival_end : LinkEnd → Outcome → Fields → LinkEnd
-arrival_end e o p = if is_heard p.header o.change then heard_end (after e o) p.acknowledgement (content_of p) else after e o
+abbrev pub arrival_end : LinkEnd → Outcome → Fields → ℕ → LinkEnd
+arrival_end e o p by = if is_heard p.header o.change then heard_end (after e o) by p.acknowledgement (content_of p) else after e o
 
-abbrev pub link_frames : LinkEnd → Outcome → Fields → BroadcastState → List Outgoing
-link_frames e o p shown =
-    if is_heard p.header o.change then frames e o shown ++ heard_frames (after e o) o.change p.acknowledgement (content_of p) else frames e o shown
+abbrev pub link_frames : LinkEnd → Outcome → Fields → ℕ → BroadcastState → List Outgoing
+link_frames e o p by shown =
+    if is_heard p.header o.change then frames e o shown ++ heard_frames (after e o) o.change by p.acknowledgement (content_of p) else frames e o shown
+
+-- the packets that move up at an arrival
+abbrev pub link_moving : LinkEnd → Outcome → Fields → ℕ → List (List ℕ)
+link_moving e o p by = if is_heard p.header o.change then moved_by (after e o).session by p.acknowledgement (content_of p) else []
 
 abbrev pub link_outcome : LinkEnd → Outcome → Fields → ℕ → LinkOutcome
 link_outcome e o p by = if is_heard p.header o.change then heard_outcome (after e o).session by (content_of p) else change_outcome o.change

@@ -1,16 +1,23 @@
 -- One end of a link in one session, and what each call makes of it. Packets are bytes as they wait to be sent, words 2 and 3 zero.
-use Rattle.std.specs.Prelude.{ℕ, ◌+◌, ◌-◌, Bool, false, List, [], ◌∷◌, ◌++◌, length, take, drop, min, nat_le, nat_lt, ◌==◌, ◌&&◌, if◌then◌else◌}
+use Rattle.std.specs.Prelude.{◌≡◌, ℕ, ◌+◌, ◌-◌, ◌<◌, ◌≤◌, Bool, true, false, ◌||◌, List, [], ◌∷◌, ◌++◌, Option, length, take, drop, filter, map, max, min, nat_le, nat_lt, slice_index_or, ◌==◌, ◌&&◌, if◌then◌else◌}
 use Rattle.tipc_types.specs.Position.{number_of, distance_of}
 use Rattle.tipc_types.specs.declared.identity.To.TheVariants as to
 use Rattle.tipc_types.specs.declared.link_words.BroadcastState.{BroadcastState}
-use Rattle.tipc_types.specs.declared.link_words.Why.TheVariants as Why
-use Rattle.tipc_link.specs.declared.outcomes.LinkOutcome.{LinkOutcome}
+use Rattle.tipc_types.specs.declared.link_words.Why.TheVariants as why
+use Rattle.tipc_types.specs.declared.packet_lists.Kept.{Kept}
+use Rattle.tipc_types.specs.declared.packet_lists.Taken.{Taken}
 use Rattle.tipc_outside.specs.declared.outgoing.Outgoing.{Outgoing}
 use Rattle.tipc_header.specs.declared.packet.Header.{Header}
 use Rattle.tipc_header.specs.declared.packet.Header.TheVariants as header
 use Rattle.tipc_header.specs.Spelling.{Fields, spelling}
 use Rattle.tipc_header.specs.Frames.{frame_of, stamped, unsent}
-use Rattle.tipc_send_window.specs.Sending.{Sending, fresh, offered, acknowledged}
+use Rattle.tipc_send_window.specs.Sending.{Sending, fresh, offered, acknowledged, kept_of, swapped}
+use Rattle.tipc_recv_window.specs.declared.outcomes.LinkOutcome.{LinkOutcome}
+use Rattle.tipc_recv_window.specs.declared.outcomes.Place.{Place}
+use Rattle.tipc_recv_window.specs.declared.outcomes.Place.TheVariants as place
+use Rattle.tipc_recv_window.specs.Receiving.{Receiving, arrived_at, deferred_count, gap_of, past_wanted, place_at, run_of}
+use Rattle.tipc_bundle.specs.Bundles.{Carries as Waits, IsInner, joined}
+use Rattle.tipc_bundle.specs.Splitting.{IsBundle}
 
 pub record SessionEnd : Type 0 where
   -- address words
@@ -22,12 +29,15 @@ pub record SessionEnd : Type 0 where
   pub peer_epoch : ℕ
   -- what it sends
   pub sending : Sending
-  -- how many packets of the peer it has taken
+  -- how many packets of the peer it has taken, and what it holds of those behind them
   pub taken : ℕ
-  -- the highest next number that the peer has shown
+  pub held : List (Option Taken)
+  -- the position that the next packet of the peer will have, as far as the peer has shown
   pub shown : ℕ
   -- how many packets it has taken since it last sent a frame
   pub unanswered : ℕ
+  -- whether the last arrival asks for a STATE
+  pub owes : Bool
 
 -- ---- receiving
 
@@ -35,29 +45,46 @@ pub record SessionEnd : Type 0 where
 abbrev pub wanted : SessionEnd → ℕ
 wanted e = number_of (e.taken + 1)
 
--- how far a number is ahead of the wanted one: 0 where it is more than 32,767 ahead, and so behind
+-- its receive window
+abbrev pub receiving : SessionEnd → Receiving
+receiving e = record { wanted = e.taken + 1; held = e.held }
+
+-- how far a number lies past the wanted one
+abbrev pub past : SessionEnd → ℕ → ℕ
+past e number = past_wanted (receiving e) number
+
+-- how far a next number is ahead of the wanted one: 0 where it is more than 32,767 ahead, and so behind
 unfoldable pub ahead : SessionEnd → ℕ → ℕ
-ahead e number = if nat_le (distance_of (wanted e) number) 32767 then distance_of (wanted e) number else 0
+ahead e number = if nat_le (past e number) 32767 then past e number else 0
 
--- how many packets are missing: up to the highest next number shown, as far as a window reaches
-unfoldable pub gap : SessionEnd → ℕ
-gap e = if nat_le (ahead e e.shown) 50 then ahead e e.shown else 0
-
--- the highest next number, after the peer has shown this one
+-- the highest next position, after the peer has shown this number
 unfoldable pub highest : SessionEnd → ℕ → ℕ
-highest e number = if nat_lt (ahead e e.shown) (ahead e number) then number else e.shown
+highest e number = max e.shown (e.taken + 1 + ahead e number)
+
+-- a next number is 1 to 50 past the own one: the peer has sent more than was taken
+abbrev pub shows_more : SessionEnd → ℕ → Bool
+shows_more e number = nat_lt 0 (past e number) && nat_le (past e number) 50
+
+-- how many packets are missing where none is held: up to the next position shown, as far as a window reaches
+abbrev pub missing : SessionEnd → ℕ
+missing e = if nat_le (e.shown - (e.taken + 1)) 50 then e.shown - (e.taken + 1) else 0
+
+-- how many packets are missing: up to the first that is held, or up to the next position shown
+unfoldable pub gap : SessionEnd → ℕ
+gap e = if gap_of (receiving e) == 0 then missing e else gap_of (receiving e)
 
 abbrev pub is_of_session : SessionEnd → ℕ → ℕ → Bool
 is_of_session e es er = (es == e.peer_epoch) && (er == e.epoch)
 
--- what a packet of the session brings: the peer's next number, a packet under a number, or nothing
+-- what a packet of the session brings: the peer's next number, how many packets it misses, and whether it asks for a STATE; a
+-- packet under a number; or nothing
 pub data Content : Type 0 where
-  Shows : (next : ℕ) → Content
+  Shows : (next gap : ℕ) (probe : Bool) → Content
   Carries : (number : ℕ) (packet : List ℕ) → Content
   Nothing : Content
 
 abbrev pub content_by : Header → ℕ → List ℕ → Content
-content_by (header.State state) sequence packet = Shows state.next
+content_by (header.State state) sequence packet = Shows state.next state.gap state.probe
 content_by (header.Reset reset) sequence packet = Nothing
 content_by (header.Activate activate) sequence packet = Nothing
 content_by (header.Discovery discovery) sequence packet = Nothing
@@ -69,33 +96,107 @@ content_of p = content_by p.header p.sequence (spelling (unsent p))
 abbrev pub released : SessionEnd → ℕ → SessionEnd
 released e acknowledgement = record e { sending = acknowledged e.sending acknowledgement }
 
-abbrev pub took : SessionEnd → SessionEnd
-took e = record e { taken = e.taken + 1; unanswered = e.unanswered + 1 }
+-- a packet that was brought by this arrival
+abbrev pub brought : ℕ → List ℕ → ℕ → Taken
+brought number packet by = record { number = number; packet = packet; by = by }
 
-abbrev pub noted : SessionEnd → ℕ → SessionEnd
-noted e number = record e { shown = highest e number }
+-- where it stands, the receive window with it, and the packets that can be taken then
+abbrev pub place_of : SessionEnd → Taken → Place
+place_of e t = place_at (receiving e) (past e t.number)
 
--- The acknowledgement of a packet is read first, then what it brings: the wanted packet is taken, any other is old.
-abbrev pub heard : SessionEnd → ℕ → Content → SessionEnd
-heard e acknowledgement (Shows next) = noted (released e acknowledgement) next
-heard e acknowledgement (Carries number packet) = if number == wanted e then took (released e acknowledgement) else released e acknowledgement
-heard e acknowledgement Nothing = e
+abbrev pub window_with : SessionEnd → Taken → Receiving
+window_with e t = arrived_at (receiving e) (past e t.number) t
+
+unfoldable pub due_with : SessionEnd → Taken → List Taken
+due_with e t = run_of (window_with e t).held
+
+abbrev pub is_deferred : Place → Bool
+is_deferred place.Deferred = true
+is_deferred other = false
+
+-- it is deferred, and the only one
+unfoldable pub is_only_deferred : SessionEnd → Taken → Bool
+is_only_deferred e t = is_deferred (place_of e t) && (deferred_count (window_with e t) == 1)
+
+-- what can be taken is taken; the only deferred packet asks for a STATE
+abbrev pub took : SessionEnd → Taken → SessionEnd
+took e t = record e {
+  taken = e.taken + length (due_with e t);
+  held = drop (length (due_with e t)) (window_with e t).held;
+  unanswered = e.unanswered + length (due_with e t);
+  owes = is_only_deferred e t;
+}
+
+-- a next number was shown; one that is past the own one asks for a STATE, and a probe does
+abbrev pub noted : SessionEnd → ℕ → Bool → SessionEnd
+noted e next probe = record e { shown = highest e next; owes = probe || shows_more e next }
+
+-- the unacknowledged packets among the `gap` ones behind an acknowledgement
+abbrev pub is_behind : ℕ → ℕ → Kept → Bool
+is_behind acknowledgement gap k = nat_lt 0 (distance_of acknowledgement k.number) && nat_le (distance_of acknowledgement k.number) gap
+
+unfoldable pub repeated : SessionEnd → ℕ → ℕ → List Kept
+repeated e acknowledgement gap = filter (is_behind acknowledgement gap) (kept_of e.sending)
+
+-- frames were sent, or none
+abbrev pub spoke : {A : Type 0} → SessionEnd → List A → SessionEnd
+spoke e [] = e
+spoke e (first ∷ others) = record e { unanswered = 0 }
+
+-- The acknowledgement of a packet is read first, then what it brings: missing packets are repeated, the wanted packet is taken
+-- with those behind it, and one that is early is held.
+abbrev pub heard : SessionEnd → ℕ → ℕ → Content → SessionEnd
+heard e by acknowledgement (Shows next gap probe) =
+    noted (spoke (released e acknowledgement) (repeated (released e acknowledgement) acknowledgement gap)) next probe
+heard e by acknowledgement (Carries number packet) = took (released e acknowledgement) (brought number packet by)
+heard e by acknowledgement Nothing = e
 
 -- what an arrival answers; a packet that is taken is kept as it waited to be sent
+abbrev pub placed : Place → List Taken → LinkOutcome
+placed place.InOrder due = LinkOutcome.Took due
+placed place.Deferred due = LinkOutcome.Deferred
+placed place.Old due = LinkOutcome.Ignored why.Old
+
 abbrev pub outcome : SessionEnd → ℕ → Content → LinkOutcome
-outcome e by (Shows next) = LinkOutcome.Took []
-outcome e by (Carries number packet) =
-    if number == wanted e then LinkOutcome.Took (record { number = number; packet = packet; by = by } ∷ []) else LinkOutcome.Ignored Why.Old
-outcome e by Nothing = LinkOutcome.Ignored Why.Epoch
+outcome e by (Shows next gap probe) = LinkOutcome.Took []
+outcome e by (Carries number packet) = placed (place_of e (brought number packet by)) (due_with e (brought number packet by))
+outcome e by Nothing = LinkOutcome.Ignored why.Epoch
 
 -- ---- sending
 
+-- a packet that may wait: a bundle is one that was made of packets
+pub record IsWaiting (packet : List ℕ) : Type 0 where
+  pub long : 16 ≤ length packet
+  pub made : IsBundle packet → (packets : List (List ℕ)) × Waits packet packets
+
+-- packets are put behind those that wait
 abbrev pub put : SessionEnd → List (List ℕ) → SessionEnd
 put e pieces = record e { sending = offered e.sending pieces }
 
+-- the last packet that waits is another one
+abbrev pub with_last : SessionEnd → List ℕ → SessionEnd
+with_last e packet = record e { sending = swapped e.sending packet }
+
+abbrev pub last_of : SessionEnd → List ℕ
+last_of e = slice_index_or e.sending.waiting (length e.sending.waiting - 1) []
+
+-- A packet may join these, which wait as the last packet: it is payload or name items as they are, and the bundle of all isn't
+-- too long.
+pub record MayJoin (e : SessionEnd) (packets : List (List ℕ)) (packet : List ℕ) : Type 0 where
+  pub waits : 0 < length e.sending.waiting
+  pub last : Waits (last_of e) packets
+  pub inner : IsInner packet
+  pub fits : length (joined (packets ++ packet ∷ [])) ≤ 1452
+
+-- The packets of a message are put: one that may join the last packet that waits does, and any others wait behind it.
+pub data IsPut (e : SessionEnd) : List (List ℕ) → SessionEnd → Type 0 where
+  joins : (packets : List (List ℕ)) (packet : List ℕ) → MayJoin e packets packet → IsPut e (packet ∷ []) (with_last e (joined (packets ++ packet ∷ [])))
+  waits : (pieces : List (List ℕ)) → ((packets : List (List ℕ)) (packet : List ℕ) → pieces ≡ packet ∷ [] → MayJoin e packets packet → ⊥) → IsPut e pieces (put e pieces)
+
 -- a new end, which is up
 abbrev pub begun : ℕ → ℕ → ℕ → ℕ → ℕ → SessionEnd
-begun own peer bearer epoch peer_epoch = record { own = own; peer = peer; bearer = bearer; epoch = epoch; peer_epoch = peer_epoch; sending = fresh; taken = 0; shown = 1; unanswered = 0 }
+begun own peer bearer epoch peer_epoch =
+    record { own = own; peer = peer; bearer = bearer; epoch = epoch; peer_epoch = peer_epoch; sending = fresh; taken = 0; held = []; shown = 1; unanswered = 0; owes = false }
 
 -- how many of the waiting packets the window has room for
 abbrev pub room : Sending → ℕ
@@ -113,39 +214,51 @@ sent n e = record e { sending = advanced n e.sending; unanswered = if n == 0 the
 unfoldable pub flushed : SessionEnd → SessionEnd
 flushed e = sent (room e.sending) e
 
--- the frame of the packet at a position
+-- the packets that move up then
+abbrev pub moving : SessionEnd → List (List ℕ)
+moving e = take (room e.sending) e.sending.waiting
+
+-- the frame of a packet under a number
 abbrev pub packet_frame : SessionEnd → ℕ → List ℕ → Outgoing
-packet_frame e position packet = record {
+packet_frame e number packet = record {
   bearer = e.bearer;
   to = to.Node (record { word = e.peer });
-  frame = frame_of e.epoch e.peer_epoch (stamped (number_of e.taken) (number_of position) e.own packet);
+  frame = frame_of e.epoch e.peer_epoch (stamped (number_of e.taken) number e.own packet);
 }
 
 -- the frames of packets, the first of them behind the position `before`
 abbrev pub packet_frames : SessionEnd → ℕ → List (List ℕ) → List Outgoing
 packet_frames e before [] = []
-packet_frames e before (packet ∷ packets) = packet_frame e (before + 1) packet ∷ packet_frames e (before + 1) packets
+packet_frames e before (packet ∷ packets) = packet_frame e (number_of (before + 1)) packet ∷ packet_frames e (before + 1) packets
 
 -- the frames that leave when waiting packets move up
 unfoldable pub flush_frames : SessionEnd → List Outgoing
-flush_frames e = packet_frames e e.sending.numbered (take (room e.sending) e.sending.waiting)
+flush_frames e = packet_frames e e.sending.numbered (moving e)
+
+-- the frames of packets that are sent again
+unfoldable pub repeat_frames : SessionEnd → ℕ → ℕ → List Outgoing
+repeat_frames e acknowledgement gap = map (λ k. packet_frame e k.number k.packet) (repeated e acknowledgement gap)
 
 -- ---- an arrival
 
--- nothing is brought by a packet of another session
-abbrev pub content_in : SessionEnd → ℕ → ℕ → Fields → Content
-content_in e es er p = if is_of_session e es er then content_of p else Nothing
+-- the end after an arrival: what it released, held and took, and what then moved up
+abbrev pub arrived : SessionEnd → ℕ → ℕ → Content → SessionEnd
+arrived e by acknowledgement Nothing = e
+arrived e by acknowledgement (Shows next gap probe) = flushed (heard e by acknowledgement (Shows next gap probe))
+arrived e by acknowledgement (Carries number packet) = flushed (heard e by acknowledgement (Carries number packet))
 
--- the end after an arrival: what it released and took, and what then moved up
-abbrev pub arrived : SessionEnd → ℕ → Content → SessionEnd
-arrived e acknowledgement Nothing = e
-arrived e acknowledgement (Shows next) = flushed (heard e acknowledgement (Shows next))
-arrived e acknowledgement (Carries number packet) = flushed (heard e acknowledgement (Carries number packet))
+-- packets that are sent again leave before those that move up
+abbrev pub arrival_frames : SessionEnd → ℕ → ℕ → Content → List Outgoing
+arrival_frames e by acknowledgement Nothing = []
+arrival_frames e by acknowledgement (Shows next gap probe) =
+    repeat_frames (released e acknowledgement) acknowledgement gap ++ flush_frames (heard e by acknowledgement (Shows next gap probe))
+arrival_frames e by acknowledgement (Carries number packet) = flush_frames (heard e by acknowledgement (Carries number packet))
 
-abbrev pub arrival_frames : SessionEnd → ℕ → Content → List Outgoing
-arrival_frames e acknowledgement Nothing = []
-arrival_frames e acknowledgement (Shows next) = flush_frames (heard e acknowledgement (Shows next))
-arrival_frames e acknowledgement (Carries number packet) = flush_frames (heard e acknowledgement (Carries number packet))
+-- the packets that move up at an arrival
+abbrev pub arrival_moving : SessionEnd → ℕ → ℕ → Content → List (List ℕ)
+arrival_moving e by acknowledgement Nothing = []
+arrival_moving e by acknowledgement (Shows next gap probe) = moving (heard e by acknowledgement (Shows next gap probe))
+arrival_moving e by acknowledgement (Carries number packet) = moving (heard e by acknowledgement (Carries number packet))
 
 -- ---- STATE
 
@@ -181,16 +294,17 @@ state_frame e broadcast probe = record {
   frame = frame_of e.epoch e.peer_epoch (spelling (state_fields e broadcast probe));
 }
 
--- a STATE is due once 16 packets were taken since the last frame
+-- a STATE is due where the arrival asks for one, and once 16 packets were taken since the last frame
 abbrev pub is_due : SessionEnd → Bool
-is_due e = nat_le 16 e.unanswered
+is_due e = e.owes || nat_le 16 e.unanswered
 
 -- the end when it has sent a STATE
 abbrev pub told : SessionEnd → SessionEnd
 told e = record e { unanswered = 0 }
 
+-- the end when it has sent the STATE that was due
 abbrev pub answered : SessionEnd → SessionEnd
-answered e = record e { unanswered = if is_due e then 0 else e.unanswered }
+answered e = record e { unanswered = if is_due e then 0 else e.unanswered; owes = false }
 
 abbrev pub answer_frames : SessionEnd → BroadcastState → List Outgoing
 answer_frames e broadcast = if is_due e then state_frame e broadcast false ∷ [] else []

@@ -1,8 +1,16 @@
-ghost use Rattle.tipc_link.specs.Laws.{KeepsPrefix};
+ghost use Rattle.tipc_link.specs.Laws.{AnswersStayJoined, ArrivalsStayJoined, BeginJoined, JoinedGivePrefix, PutsStayJoined, StatesStayJoined, TurnJoined};
 
-/// Whatever packets are put at either end of a link, and whatever frames arrive of all that were ever sent, again and
-/// in any order, as long as neither end numbered more than 30,000 packets since a frame was sent: what was taken at
-/// either end is a prefix of what was put at the other.
-pub fn session_gives_prefix()
-    ensures { KeepsPrefix }
+/// Two ends of a session stay joined: what one of them numbered is what the other takes, at its place, once and in order. So it
+/// is when they begin; when packets are put at either end, and move up or join a packet that waits; when an end sends a STATE;
+/// when any frame arrives of all that were ever sent, again and in any order, as long as neither end numbered more than 30,000
+/// packets since it was sent, with the packets that are sent again and those that move up; and when an end answers. So what was
+/// taken at either end is a prefix of what was numbered at the other.
+pub fn two_ends_stay_joined()
+    ensures begin { BeginJoined }
+    ensures either { TurnJoined }
+    ensures put { PutsStayJoined }
+    ensures state { StatesStayJoined }
+    ensures arrival { ArrivalsStayJoined }
+    ensures answer { AnswersStayJoined }
+    ensures prefix { JoinedGivePrefix }
 {}

@@ -1,19 +1,21 @@
-ghost use Rattle.std.specs.Prelude.{◌≡◌, ℕ, ◌⊎◌, ◌<◌, ◌≤◌, ◌++◌, ◌∷◌, [], true, false, is_some, Some, None, Err, length, All, IfOk, OnErr, OnOk};
+ghost use Rattle.std.specs.Prelude.{◌≡◌, ℕ, ◌⊎◌, ◌<◌, ◌≤◌, [], true, false, is_some, Some, None, Err, length, All, IfOk, OnErr, OnOk};
 ghost use Rattle.tipc_header.specs.Grammar.{Fits, ResetFits};
 ghost use Rattle.tipc_header.specs.Spelling.{view};
 ghost use Rattle.tipc_outside.specs.Frames.{Adds};
 ghost use Rattle.tipc_link_fsm.specs.Table.{is_up, on_activate, on_cut, on_reset, on_tick, contact_ended, forget_peer};
 ghost use Rattle.tipc_link.specs.Links.{change_outcome, is_down, is_heard, is_reset_unknown, is_taken, is_traffic, numbered_in, outcome_of};
-ghost use Rattle.tipc_link.specs.Sessions.{SessionEnd, arrived, content_of, flush_frames, flushed, outcome, put, state_frame};
+ghost use Rattle.tipc_link.specs.Sessions.{SessionEnd, IsPut, IsWaiting, content_of, flush_frames, flushed};
+ghost use Rattle.tipc_link.specs.Hearings.{IsArriving, IsHearing};
 
-use crate::outcomes::LinkOutcome;
+use crate::arriving::Arriving;
+use crate::hearing::Hearing;
 use crate::session::Session;
 use std::alloc::{AllocError, Global};
 use std::marker::Model;
-use std::mem;
 use tipc_header::{Header, Packet, Reset, encode_frame};
 use tipc_link_fsm::{Change, LinkFsm};
 use tipc_outside::Outbox;
+use tipc_recv_window::LinkOutcome;
 use tipc_send_window::OfferFault;
 use tipc_types::{
     Addr, BroadcastState, Bytes, LinkState, NoMemory, Pieces, Reply, TakenList, To, Why,
@@ -65,7 +67,7 @@ impl Model for Link {
 }
 
 impl Link {
-    ghost use Rattle.tipc_link.specs.Links.{activate_frames, after, answered_end, answered_frames, arrival_end, cut_end, ended_end, follow_frames, followed, forget_frames, frames, heard_by, heard_end, heard_frames, heard_outcome, is_taken, link_frames, link_outcome, made, mend_frames, mended_end, notice, on_bearer, reset_frames, session_of, shown_by, state_frames, with_fsm, with_session};
+    ghost use Rattle.tipc_link.specs.Links.{activate_frames, after, answered_end, answered_frames, arrival_end, cut_end, ended_end, follow_frames, followed, forget_frames, frames, heard_by, heard_end, heard_outcome, link_frames, link_outcome, made, mend_frames, mended_end, notice, on_bearer, reset_frames, session_of, shown_by, state_frames, with_fsm, with_session};
 
     /// A link end in RESET_UNKNOWN under this epoch, on a bearer 0 or 1 that counts as cut.
     pub fn new(own: Addr, peer: Addr, bearer: u8, epoch: u64) -> Link
@@ -155,17 +157,17 @@ impl Link {
         self.send_notice(alloc, Header::Activate(self.shown()), out);
     }
 
-    /// A session of the present epochs.
-    fn new_session(&self, alloc: Global) -> Session
-        ensures { result ≡ session_of self.now }
+    /// A session of the epochs of these link states.
+    fn new_session(&self, alloc: Global, fsm: &LinkFsm) -> Session
+        ensures { result ≡ session_of (with_fsm self.now fsm.now) }
     {
         Session::established(
             alloc,
             self.own,
             self.peer,
             self.bearer,
-            self.fsm.own(),
-            self.fsm.peer().unwrap_or(0),
+            fsm.own(),
+            fsm.peer().unwrap_or(0),
         )
     }
 
@@ -174,7 +176,7 @@ impl Link {
         ensures after { self.new ≡ followed self.old Change.Up }
         ensures frames { Adds out.old out.new (follow_frames self.old Change.Up shown) }
     {
-        let mut session = self.new_session(alloc);
+        let mut session = self.new_session(alloc, &self.fsm);
         session.tell(alloc, shown, false, out);
         self.session = Some(session);
     }
@@ -257,9 +259,9 @@ impl Link {
     ) -> Result<(), OfferFault>
         requires up { is_up self.old.fsm.state ≡ true }
         requires session { is_some self.old.session ≡ true }
-        requires pieces { All (λ q. 16 ≤ length q) pieces }
+        requires pieces { All IsWaiting pieces }
         ensures ok { (s : SessionEnd) → self.old.session ≡ Some s →
-            OnOk result ((length s.sending.waiting < limit) × (self.new ≡ with_session self.old (flushed (put s pieces))) × Adds out.old out.new (flush_frames (put s pieces))) }
+            OnOk result ((length s.sending.waiting < limit) × ((put : SessionEnd) × IsPut s pieces put × (self.new ≡ with_session self.old (flushed put)) × Adds out.old out.new (flush_frames put))) }
         ensures congested { (s : SessionEnd) → self.old.session ≡ Some s → limit ≤ length s.sending.waiting →
             result ≡ Err (OfferFault.Congested (length s.sending.unacked) (length s.sending.waiting)) }
         ensures congested_only { (s : SessionEnd) (in_flight waiting : ℕ) → self.old.session ≡ Some s → result ≡ Err (OfferFault.Congested in_flight waiting) → limit ≤ length s.sending.waiting }
@@ -271,47 +273,124 @@ impl Link {
         }
     }
 
-    /// Takes a packet that arrived under an envelope of these two epochs: `es` is the sender's, `er` this end's as the sender
-    /// knows it. `held` says that the pair's other link is up, `by` is the arrival's number at this node, and `shown` fills the
-    /// broadcast fields of a STATE that is sent.
+    /// What a packet that arrived under an envelope of these two epochs makes of the link: `es` is the sender's, `er` this end's as
+    /// the sender knows it. `held` says that the pair's other link is up, and `by` is the arrival's number at this node.
     ///
-    /// What becomes of the link's state is told, and what the session took of a STATE or a packet with a number. After
-    /// Down(PeerReset) without `held` the contact ends, and then the same RESET is to be given again. At NoMemory nothing is
-    /// changed.
-    pub fn arrive(
-        &mut self,
+    /// It tells what becomes of the link's state, and what the session takes of a STATE or a packet with a number. Nothing is
+    /// changed yet: [`Link::commit`] does it.
+    pub fn prepare(
+        &self,
         alloc: Global,
         es: u64,
         er: u64,
         packet: &Packet<'_>,
         held: bool,
         by: u64,
-        shown: BroadcastState,
-        out: &mut Outbox,
-    ) -> Result<LinkArrival, NoMemory>
+    ) -> Result<Arriving, NoMemory>
         requires { Fits (view packet.now) }
-        ensures change { IfOk result (λ a. a.change ≡ (outcome_of self.old.fsm packet.now.header es er held).change) }
-        ensures outcome { IfOk result (λ a. a.outcome ≡ link_outcome self.old (outcome_of self.old.fsm packet.now.header es er held) (view packet.now) by) }
-        ensures after { OnOk result (self.new ≡ arrival_end self.old (outcome_of self.old.fsm packet.now.header es er held) (view packet.now)) }
-        ensures frames { OnOk result (Adds out.old out.new (link_frames self.old (outcome_of self.old.fsm packet.now.header es er held) (view packet.now) shown)) }
-        ensures err { OnErr result ((self.new ≡ self.old) × (out.new ≡ out.old)) }
+        ensures states { IfOk result (λ a. a.states ≡ outcome_of self.now.fsm packet.now.header es er held) }
+        ensures by { IfOk result (λ a. a.hearing.by ≡ by) }
+        ensures arriving { IfOk result (λ a. IsArriving self.now (view packet.now) a) }
     {
         let mut fsm = self.fsm.copy()?;
         let change = change_of(&mut fsm, &packet.header, es, er, held);
-        if !is_heard(&packet.header, change) {
-            self.fsm = fsm;
-            self.follow(alloc, change, shown, out);
-            return Ok(LinkArrival {
-                change,
-                outcome: change_outcome(alloc, change),
-            });
-        }
-        let outcome = self.hear(alloc, fsm, change, packet, by, shown, out)?;
-        Ok(LinkArrival { change, outcome })
+        let hearing = self.prepare_session(alloc, &fsm, change, packet, by)?;
+        Ok(Arriving {
+            fsm,
+            change,
+            hearing,
+        })
     }
 
-    /// Takes a RESET under this epoch of its sender: as [`Link::arrive`], but for want of memory, since it needs none but for its
-    /// frame.
+    /// What a packet makes of the session, where the link states are these after it.
+    fn prepare_session(
+        &self,
+        alloc: Global,
+        fsm: &LinkFsm,
+        change: Change,
+        packet: &Packet<'_>,
+        by: u64,
+    ) -> Result<Hearing, NoMemory>
+        requires { Fits (view packet.now) }
+        ensures by { IfOk result (λ h. h.by ≡ by) }
+        ensures arriving { IfOk result (λ h. IsArriving self.now (view packet.now) (record { states = record { after = fsm.now; change = change }; hearing = h })) }
+    {
+        if !is_heard(&packet.header, change) {
+            return Ok(Hearing::without_window(by, change_outcome(alloc, change)));
+        }
+        match change {
+            Change::Up => self.new_session(alloc, fsm).prepare(alloc, packet, by),
+            Change::Stay => self.prepare_more(alloc, packet, by),
+            Change::Down(_) => unreachable!(),
+            Change::Answer(_) => unreachable!(),
+            Change::Ignore(_) => unreachable!(),
+        }
+    }
+
+    /// What a packet makes of the session that there is.
+    fn prepare_more(&self, alloc: Global, packet: &Packet<'_>, by: u64) -> Result<Hearing, NoMemory>
+        requires { Fits (view packet.now) }
+        ensures by { IfOk result (λ h. h.by ≡ by) }
+        ensures hearing { (s : SessionEnd) → self.now.session ≡ Some s → IfOk result (λ h. IsHearing s (view packet.now) h) }
+        ensures outcome { IfOk result (λ h. h.outcome ≡ heard_outcome self.now.session by (content_of (view packet.now))) }
+    {
+        match &self.session {
+            Some(session) => session.prepare(alloc, packet, by),
+            None => Ok(Hearing::without_window(by, LinkOutcome::Took(TakenList::new(alloc)))),
+        }
+    }
+
+    /// Takes a packet that arrived, as [`Link::prepare`] told of it when the link was as it is. `shown` fills the broadcast fields
+    /// of a STATE that is sent.
+    ///
+    /// What becomes of the link's state is told again, and what the session took. After Down(PeerReset) without another link that
+    /// is up the contact ends, and then the same RESET is to be given again.
+    pub fn commit(
+        &mut self,
+        alloc: Global,
+        arriving: Arriving,
+        packet: &Packet<'_>,
+        shown: BroadcastState,
+        out: &mut Outbox,
+    ) -> LinkArrival
+        requires { IsArriving self.old (view packet.now) arriving }
+        ensures change { result.change ≡ arriving.states.change }
+        ensures outcome { result.outcome ≡ link_outcome self.old arriving.states (view packet.now) arriving.hearing.by }
+        ensures after { self.new ≡ arrival_end self.old arriving.states (view packet.now) arriving.hearing.by }
+        ensures frames { Adds out.old out.new (link_frames self.old arriving.states (view packet.now) arriving.hearing.by shown) }
+    {
+        let change = arriving.change;
+        self.fsm = arriving.fsm;
+        self.follow(alloc, change, shown, out);
+        let outcome = if is_heard(&packet.header, change) {
+            self.hear(alloc, arriving.hearing, packet, out)
+        } else {
+            arriving.hearing.into_outcome()
+        };
+        LinkArrival { change, outcome }
+    }
+
+    /// Gives a packet to the session that there is.
+    fn hear(
+        &mut self,
+        alloc: Global,
+        hearing: Hearing,
+        packet: &Packet<'_>,
+        out: &mut Outbox,
+    ) -> LinkOutcome
+        requires { (s : SessionEnd) → self.old.session ≡ Some s → IsHearing s (view packet.now) hearing }
+        ensures outcome { result ≡ hearing.outcome }
+        ensures after { self.new ≡ heard_end self.old hearing.by packet.now.acknowledgement (content_of (view packet.now)) }
+        ensures frames { Adds out.old out.new (heard_by self.old.session hearing.by packet.now.acknowledgement (content_of (view packet.now))) }
+    {
+        match &mut self.session {
+            Some(session) => session.hear(alloc, hearing, packet, out),
+            None => hearing.into_outcome(),
+        }
+    }
+
+    /// Takes a RESET under this epoch of its sender: as [`Link::prepare`] and [`Link::commit`], but for want of
+    /// memory, since it needs none but for its frame.
     pub fn reset(
         &mut self,
         alloc: Global,
@@ -333,8 +412,8 @@ impl Link {
         }
     }
 
-    /// Takes an ACTIVATE under an envelope of these two epochs: as [`Link::arrive`], but for want of memory, since it needs none
-    /// but for its frame.
+    /// Takes an ACTIVATE under an envelope of these two epochs: as [`Link::prepare`] and [`Link::commit`], but for
+    /// want of memory, since it needs none but for its frame.
     pub fn activate(
         &mut self,
         alloc: Global,
@@ -356,87 +435,8 @@ impl Link {
         }
     }
 
-    /// Gives a packet that isn't ignored to the session, which begins with it where the link goes up.
-    fn hear(
-        &mut self,
-        alloc: Global,
-        fsm: LinkFsm,
-        change: Change,
-        packet: &Packet<'_>,
-        by: u64,
-        shown: BroadcastState,
-        out: &mut Outbox,
-    ) -> Result<LinkOutcome, NoMemory>
-        requires packet { Fits (view packet.now) }
-        requires taken { is_taken change ≡ true }
-        ensures outcome { IfOk result (λ o. o ≡ heard_outcome (followed (with_fsm self.old fsm) change).session by (content_of (view packet.now))) }
-        ensures after { OnOk result (self.new ≡ heard_end (followed (with_fsm self.old fsm) change) packet.now.acknowledgement (content_of (view packet.now))) }
-        ensures frames { OnOk result (Adds out.old out.new (follow_frames (with_fsm self.old fsm) change shown ++ heard_frames (followed (with_fsm self.old fsm) change) change packet.now.acknowledgement (content_of (view packet.now)))) }
-        ensures err { OnErr result ((self.new ≡ self.old) × (out.new ≡ out.old)) }
-    {
-        let before = mem::replace(&mut self.fsm, fsm);
-        let heard = match change {
-            Change::Up => self.hear_first(alloc, packet, by, shown, out),
-            Change::Stay => self.hear_more(alloc, packet, by, out),
-            Change::Down(_) => unreachable!(),
-            Change::Answer(_) => unreachable!(),
-            Change::Ignore(_) => unreachable!(),
-        };
-        if heard.is_err() {
-            self.fsm = before;
-        }
-        heard
-    }
-
-    /// Begins a session with a packet. Its first frame is a STATE of before.
-    fn hear_first(
-        &mut self,
-        alloc: Global,
-        packet: &Packet<'_>,
-        by: u64,
-        shown: BroadcastState,
-        out: &mut Outbox,
-    ) -> Result<LinkOutcome, NoMemory>
-        requires { Fits (view packet.now) }
-        ensures outcome { IfOk result (λ o. o ≡ outcome (session_of self.old) by (content_of (view packet.now))) }
-        ensures after { OnOk result (self.new ≡ with_session self.old (arrived (session_of self.old) packet.now.acknowledgement (content_of (view packet.now)))) }
-        ensures frames { OnOk result (Adds out.old out.new (state_frame (session_of self.old) shown false ∷ [])) }
-        ensures err { OnErr result ((self.new ≡ self.old) × (out.new ≡ out.old)) }
-    {
-        let mut session = self.new_session(alloc);
-        let state = session.state_frame(alloc, shown, false);
-        let mut nothing = Outbox::new(alloc);
-        let outcome = session.hear(alloc, packet, by, &mut nothing)?;
-        match state {
-            Ok(frame) => out.push(self.bearer, To::Node(self.peer), frame),
-            Err(_) => out.mark_lost(),
-        }
-        self.session = Some(session);
-        Ok(outcome)
-    }
-
-    /// Gives a packet to the session that there is.
-    fn hear_more(
-        &mut self,
-        alloc: Global,
-        packet: &Packet<'_>,
-        by: u64,
-        out: &mut Outbox,
-    ) -> Result<LinkOutcome, NoMemory>
-        requires { Fits (view packet.now) }
-        ensures outcome { IfOk result (λ o. o ≡ heard_outcome self.old.session by (content_of (view packet.now))) }
-        ensures after { OnOk result (self.new ≡ heard_end self.old packet.now.acknowledgement (content_of (view packet.now))) }
-        ensures frames { OnOk result (Adds out.old out.new (heard_by self.old.session packet.now.acknowledgement (content_of (view packet.now)))) }
-        ensures err { OnErr result ((self.new ≡ self.old) × (out.new ≡ out.old)) }
-    {
-        match &mut self.session {
-            Some(session) => session.hear(alloc, packet, by, out),
-            None => Ok(LinkOutcome::Took(TakenList::new(alloc))),
-        }
-    }
-
-    /// Sends the STATE that is due once 16 packets were taken since the last frame on this link. Nothing is sent where the link
-    /// isn't up.
+    /// Sends the STATE that is due where the last arrival asks for one, or once 16 packets were taken since the last frame on this
+    /// link. Nothing is sent where the link isn't up.
     pub fn answer(&mut self, alloc: Global, shown: BroadcastState, out: &mut Outbox)
         ensures after { self.new ≡ answered_end self.old }
         ensures frames { Adds out.old out.new (answered_frames self.old shown) }

@@ -1,18 +1,24 @@
-ghost use Rattle.std.specs.Prelude.{◌≡◌, ◌+◌, ◌-◌, ◌^◌, ◌*◌, ◌<◌, ◌≤◌, [], ◌∷◌, ◌++◌, ◌==◌, if◌then◌else◌, List, ℕ, None, Err, length, take, slice_get, All, IfOk, OnErr, OnOk, Some};
+ghost use Rattle.std.specs.Prelude.{◌≡◌, ◌+◌, ◌-◌, ◌<◌, ◌≤◌, [], ◌∷◌, ◌==◌, if◌then◌else◌, List, ℕ, None, Err, length, take, slice_get, All, IfNone, IfOk, IfSome, OnErr, OnOk, Some};
 ghost use Rattle.tipc_types.specs.Position.{number_of};
 ghost use Rattle.tipc_header.specs.Spelling.{spelling, view};
 ghost use Rattle.tipc_header.specs.Frames.{unsent};
 ghost use Rattle.tipc_header.specs.Grammar.{Fits};
 ghost use Rattle.tipc_outside.specs.Frames.{Adds};
+ghost use Rattle.tipc_types.specs.declared.packet_lists.Taken.{Taken};
+ghost use Rattle.tipc_send_window.specs.Sending.{kept_of};
+ghost use Rattle.tipc_link.specs.Sessions.{is_behind};
 
-use crate::outcomes::LinkOutcome;
+use crate::hearing::{Hearing, is_only_deferred, outcome_at, unsent_bytes};
+use crate::joining::{joined_with, may_be_joined};
 use std::alloc::{AllocError, Global};
 use std::marker::Model;
-use tipc_header::{Header, Packet, State, encode, encode_frame, stamp_frame};
+use tipc_bundle::may_be_bundled;
+use tipc_header::{Header, Packet, State, encode_frame, stamp_frame};
 use tipc_outside::Outbox;
+use tipc_recv_window::{LinkOutcome, RecvWindow};
 use tipc_send_window::{OfferFault, SendWindow, WINDOW};
 use tipc_types::{
-    Addr, BroadcastState, Bytes, NoMemory, Pieces, Taken, TakenList, To, Why, number_distance,
+    Addr, BroadcastState, Bytes, Kept, NoMemory, Pieces, TakenList, To, Why, number_distance,
     sequence_number,
 };
 
@@ -22,26 +28,28 @@ const UNANSWERED: u64 = 16;
 /// A number further ahead of the wanted one lies behind it.
 const FURTHEST_AHEAD: u16 = 32_767;
 
-/// No link takes more packets: memory ends long before.
-const LAST_POSITION: u64 = 1 << 62;
-
 /// What one end of a link to a peer on one bearer keeps in one session.
 #[derive(Drop)]
-pub struct Session {
+pub(crate) struct Session {
     own: Addr,
     peer: Addr,
     bearer: u8,
     epoch: u64,
     peer_epoch: u64,
     window: SendWindow,
-    taken: u64,
-    shown: u16,
+    receiving: RecvWindow,
+    /// The position that the peer's next packet will have, as far as the peer has shown.
+    shown: u64,
+    /// How many packets were taken since the last frame.
     unanswered: u64,
+    /// Whether the last arrival asks for a STATE.
+    owes: bool,
 }
 
 impl Model for Session {
-    ghost use Rattle.std.specs.Prelude.{◌≤◌, ◌^◌, length, All};
+    ghost use Rattle.std.specs.Prelude.{◌-◌};
     ghost use Rattle.tipc_link.specs.Sessions.{SessionEnd};
+    ghost use Rattle.tipc_link.specs.Hearings.{IsSession};
 
     ghost Value = { SessionEnd };
 
@@ -52,16 +60,19 @@ impl Model for Session {
       epoch = l.epoch;
       peer_epoch = l.peer_epoch;
       sending = l.window;
-      taken = l.taken;
+      taken = l.receiving.wanted - 1;
+      held = l.receiving.held;
       shown = l.shown;
       unanswered = l.unanswered;
+      owes = l.owes;
     } };
 
-    ghost invariant = { λ l. (l.taken ≤ 2 ^ 62) × (l.unanswered ≤ l.taken) × (l.bearer ≤ 1) × All (λ q. 16 ≤ length q) l.window.waiting };
+    ghost invariant = { λ l. IsSession l.bearer l.shown l.unanswered l.window l.receiving };
 }
 
 impl Session {
-    ghost use Rattle.tipc_link.specs.Sessions.{ahead, answer_frames, answered, arrival_frames, arrived, begun, content_in, content_of, flush_frames, flushed, gap, heard, highest, noted, outcome, packet_frame, priority_of, put, released, room, sent, state_fields, state_frame, told, took, Content};
+    ghost use Rattle.tipc_link.specs.Sessions.{ahead, answer_frames, answered, arrival_frames, arrived, begun, brought, content_of, flush_frames, flushed, gap, highest, missing, noted, outcome, packet_frame, past, put, priority_of, receiving, released, repeat_frames, repeated, room, sent, shows_more, is_only_deferred, spoke, state_fields, state_frame, told, took, wanted, with_last, Content, IsPut, IsWaiting, MayJoin, SessionEnd};
+    ghost use Rattle.tipc_link.specs.Hearings.{IsHearing, IsJoined, numbered_hearing};
 
     /// An end that is up, in the session of these two epochs, over a bearer 0 or 1.
     pub fn established(
@@ -82,10 +93,18 @@ impl Session {
             epoch,
             peer_epoch,
             window: SendWindow::new(alloc),
-            taken: 0,
+            receiving: RecvWindow::new(alloc, 1),
             shown: 1,
             unanswered: 0,
+            owes: false,
         }
+    }
+
+    /// How many packets it has taken.
+    fn taken(&self) -> u64
+        ensures { result ≡ self.now.taken }
+    {
+        self.receiving.wanted_position() - 1
     }
 
     /// How many packets each direction numbered in this session: the own one exactly, and the peer's as taken.
@@ -93,7 +112,7 @@ impl Session {
         ensures own { result.0 ≡ self.now.sending.numbered }
         ensures peer { result.1 ≡ self.now.taken }
     {
-        (self.window.numbered(), self.taken)
+        (self.window.numbered(), self.taken())
     }
 
     /// The end's own epoch.
@@ -122,8 +141,9 @@ impl Session {
         (self.window.unacked().len() as u32, self.window.waiting())
     }
 
-    /// Puts packets on the link, and sends those that the window of 50 has room for. Words 2 and 3 of the pieces are
-    /// written when they are sent.
+    /// Puts packets on the link, and sends those that the window of 50 has room for. A packet that is alone, and is payload or name
+    /// items, joins the last packet that waits, where that is a bundle or such a packet and the bundle has at most 1,452 bytes.
+    /// Words 2 and 3 of the pieces are written when they are sent. (TIPC 2.0 draft; the limits: this project's profile.)
     ///
     /// # Errors
     ///
@@ -136,38 +156,101 @@ impl Session {
         limit: u32,
         out: &mut Outbox,
     ) -> Result<(), OfferFault>
-        requires { All (λ q. 16 ≤ length q) pieces }
-        ensures ok { OnOk result ((length self.old.sending.waiting < limit) × (self.new ≡ flushed (put self.old pieces)) × Adds out.old out.new (flush_frames (put self.old pieces))) }
+        requires { All IsWaiting pieces }
+        ensures ok { OnOk result ((length self.old.sending.waiting < limit) × ((put : SessionEnd) × IsPut self.old pieces put × (self.new ≡ flushed put) × Adds out.old out.new (flush_frames put))) }
         ensures congested { limit ≤ length self.old.sending.waiting →
             result ≡ Err (OfferFault.Congested (length self.old.sending.unacked) (length self.old.sending.waiting)) }
         ensures congested_only { (in_flight waiting : ℕ) → result ≡ Err (OfferFault.Congested in_flight waiting) →
             (limit ≤ length self.old.sending.waiting) × (in_flight ≡ length self.old.sending.unacked) × (waiting ≡ length self.old.sending.waiting) }
         ensures err { OnErr result ((self.new ≡ self.old) × (out.new ≡ out.old)) }
     {
-        self.window.offer(pieces, limit)?;
+        self.put(alloc, pieces, limit)?;
         self.flush(alloc, out);
         Ok(())
     }
 
-    /// The frame of the first packet that waits, under the next number.
-    fn next_frame(&self, alloc: Global) -> Result<Bytes, AllocError>
-        requires { 0 < length self.now.sending.waiting }
-        ensures { IfOk result (λ f. (q : List ℕ) → slice_get self.now.sending.waiting 0 ≡ Some q → f ≡ (packet_frame self.now (self.now.sending.numbered + 1) q).frame) }
+    /// Puts packets behind those that wait, or joins one to the last of them.
+    fn put(&mut self, alloc: Global, pieces: Pieces, limit: u32) -> Result<(), OfferFault>
+        requires { All IsWaiting pieces }
+        ensures ok { OnOk result ((length self.old.sending.waiting < limit) × IsPut self.old pieces self.new) }
+        ensures congested { limit ≤ length self.old.sending.waiting →
+            result ≡ Err (OfferFault.Congested (length self.old.sending.unacked) (length self.old.sending.waiting)) }
+        ensures congested_only { (in_flight waiting : ℕ) → result ≡ Err (OfferFault.Congested in_flight waiting) →
+            (limit ≤ length self.old.sending.waiting) × (in_flight ≡ length self.old.sending.unacked) × (waiting ≡ length self.old.sending.waiting) }
+        ensures err { OnErr result (self.new ≡ self.old) }
     {
-        let Some(packet) = self.window.first() else {
-            unreachable!()
+        if self.load().1 < limit {
+            if let Some(bundle) = self.bundle_with(alloc, &pieces)? {
+                self.join(bundle);
+                return Ok(());
+            }
+        }
+        self.wait(pieces, limit)
+    }
+
+    /// Puts packets behind those that wait.
+    fn wait(&mut self, pieces: Pieces, limit: u32) -> Result<(), OfferFault>
+        requires { All IsWaiting pieces }
+        ensures ok { OnOk result ((length self.old.sending.waiting < limit) × (self.new ≡ put self.old pieces)) }
+        ensures congested { limit ≤ length self.old.sending.waiting →
+            result ≡ Err (OfferFault.Congested (length self.old.sending.unacked) (length self.old.sending.waiting)) }
+        ensures congested_only { (in_flight waiting : ℕ) → result ≡ Err (OfferFault.Congested in_flight waiting) →
+            (limit ≤ length self.old.sending.waiting) × (in_flight ≡ length self.old.sending.unacked) × (waiting ≡ length self.old.sending.waiting) }
+        ensures err { OnErr result (self.new ≡ self.old) }
+    {
+        self.window.offer(pieces, limit)
+    }
+
+    /// The bundle of the last packet that waits and the only one of these. None exactly where they may not be joined.
+    fn bundle_with(&self, alloc: Global, pieces: &Pieces) -> Result<Option<Bytes>, NoMemory>
+        ensures some { IfOk result (λ given. IfSome given (λ bundle. IsJoined self.now pieces.now bundle)) }
+        ensures none { IfOk result (λ given. IfNone given ((packets : List (List ℕ)) (packet : List ℕ) → pieces.now ≡ packet ∷ [] → MayJoin self.now packets packet → ⊥)) }
+    {
+        let (Some(packet), Some(last)) = (only_piece(pieces), self.window.last()) else {
+            return Ok(None);
         };
-        let number = sequence_number(self.window.numbered() + 1);
+        if !may_be_bundled(packet) || !may_be_joined(last) {
+            return Ok(None);
+        }
+        joined_with(alloc, last, packet)
+    }
+
+    /// Puts a bundle in the place of the last packet that waits.
+    fn join(&mut self, bundle: Bytes)
+        requires waits { 0 < length self.old.sending.waiting }
+        requires bundle { IsWaiting bundle }
+        ensures { self.new ≡ with_last self.old bundle }
+    {
+        let _last = self.window.swap_last(bundle);
+    }
+
+    /// The frame of a packet under a number.
+    fn packet_frame(&self, alloc: Global, number: u16, packet: &[u8]) -> Result<Bytes, AllocError>
+        requires { 16 ≤ length packet.now }
+        ensures { IfOk result (λ f. f ≡ (packet_frame self.now number packet.now).frame) }
+    {
+        let acknowledgement = sequence_number(self.taken());
         let frame = stamp_frame(
             alloc,
             self.epoch,
             self.peer_epoch,
             packet,
-            sequence_number(self.taken),
+            acknowledgement,
             number,
             self.own.word,
         )?;
         Ok(Bytes::from_vec(frame))
+    }
+
+    /// Sends a packet under a number.
+    fn send_packet(&self, alloc: Global, number: u16, packet: &[u8], out: &mut Outbox)
+        requires { 16 ≤ length packet.now }
+        ensures { Adds out.old out.new (packet_frame self.now number packet.now ∷ []) }
+    {
+        match self.packet_frame(alloc, number, packet) {
+            Ok(frame) => out.push(self.bearer, To::Node(self.peer), frame),
+            Err(_) => out.mark_lost(),
+        }
     }
 
     /// Numbers the first packet that waits, and sends it.
@@ -175,15 +258,15 @@ impl Session {
         requires waiting { 0 < length self.old.sending.waiting }
         requires window { length self.old.sending.unacked < 50 }
         ensures after { self.new ≡ sent 1 self.old }
-        ensures frame { (q : List ℕ) → slice_get self.old.sending.waiting 0 ≡ Some q → Adds out.old out.new (packet_frame self.old (self.old.sending.numbered + 1) q ∷ []) }
+        ensures frame { (q : List ℕ) → slice_get self.old.sending.waiting 0 ≡ Some q → Adds out.old out.new (packet_frame self.old (number_of (self.old.sending.numbered + 1)) q ∷ []) }
     {
-        let frame = self.next_frame(alloc);
+        let number = sequence_number(self.window.numbered() + 1);
+        match self.window.first() {
+            Some(packet) => self.send_packet(alloc, number, packet, out),
+            None => unreachable!(),
+        }
         let _number = self.window.due();
         self.unanswered = 0;
-        match frame {
-            Ok(frame) => out.push(self.bearer, To::Node(self.peer), frame),
-            Err(_) => out.mark_lost(),
-        }
     }
 
     /// How many of the waiting packets the window has room for.
@@ -206,128 +289,228 @@ impl Session {
         }
     }
 
+    /// The receive window.
+    fn receive_window(&self) -> &RecvWindow
+        ensures value { result.now ≡ receiving self.now }
+        ensures wants { result.now.wanted ≡ self.now.taken + 1 }
+    {
+        &self.receiving
+    }
+
+    /// How far a number lies past the wanted one.
+    fn past(&self, number: u16) -> u16
+        ensures { result ≡ past self.now number }
+    {
+        number_distance(self.receive_window().wanted(), number)
+    }
+
     /// How far a number is ahead of the wanted one: 0 where it lies behind.
     #[tactic(auto, unfolding(crate::specs::Sessions::ahead))]
     fn ahead(&self, number: u16) -> u16
-        ensures { result ≡ ahead self.now number }
+        ensures value { result ≡ ahead self.now number }
+        ensures within { result ≤ 32767 }
     {
-        let distance = number_distance(sequence_number(self.taken + 1), number);
-        if distance <= FURTHEST_AHEAD {
-            distance
-        } else {
-            0
-        }
+        let past = self.past(number);
+        if past <= FURTHEST_AHEAD { past } else { 0 }
     }
 
-    /// Keeps the highest next number that the peer has shown.
+    /// Whether a next number shows that the peer has sent more than was taken.
+    fn shows_more(&self, number: u16) -> bool
+        ensures { result ≡ shows_more self.now number }
+    {
+        let past = self.past(number);
+        0 < past && past <= WINDOW as u16
+    }
+
+    /// Keeps the highest next position that the peer has shown, and asks for a STATE where more is missing, or at a probe.
     #[tactic(auto, unfolding(crate::specs::Sessions::highest))]
-    fn note(&mut self, next: u16)
-        ensures { self.new ≡ noted self.old next }
+    fn note(&mut self, next: u16, probe: bool)
+        ensures { self.new ≡ noted self.old next probe }
     {
-        if self.ahead(self.shown) < self.ahead(next) {
-            self.shown = next;
+        let position = self.receiving.wanted_position() + self.ahead(next) as u64;
+        self.owes = probe || self.shows_more(next);
+        self.shown = self.shown.max(position);
+    }
+
+    /// Releases every packet up to the one with this number.
+    fn acknowledge(&mut self, number: u16)
+        ensures { self.new ≡ released self.old number }
+    {
+        self.window.acknowledge(number);
+    }
+
+    /// The unacknowledged packets beside their numbers.
+    fn unacked(&self) -> &[Kept]
+        ensures kept { result.now ≡ kept_of self.now.sending }
+        ensures long { All (λ kept. 16 ≤ length kept.packet) result.now }
+    {
+        self.window.unacked()
+    }
+
+    /// Sends the unacknowledged packets again that are among the `gap` ones behind an acknowledgement. (TIPC 2.0 draft.)
+    fn repeat(&mut self, alloc: Global, acknowledgement: u16, gap: u16, out: &mut Outbox)
+        ensures after { self.new ≡ spoke self.old (repeated self.old acknowledgement gap) }
+        ensures frames { Adds out.old out.new (repeat_frames self.old acknowledgement gap) }
+    {
+        if self.send_missing(alloc, acknowledgement, gap, out) {
+            self.unanswered = 0;
         }
     }
 
-    /// Takes a packet that arrived in the session of these epochs: `es` is the sender's, `er` this end's as the sender
-    /// knows it. `by` is the arrival's number at this node. A packet of another session, or one that carries nothing
-    /// for a link end that is up, is ignored with `Epoch`; a packet with another number than the wanted one with `Old`.
+    /// Sends those packets again, and says whether there is one.
+    fn send_missing(&self, alloc: Global, acknowledgement: u16, gap: u16, out: &mut Outbox) -> bool
+        ensures after { (if result then record self.now { unanswered = 0 } else self.now) ≡ spoke self.now (repeated self.now acknowledgement gap) }
+        ensures frames { Adds out.old out.new (repeat_frames self.now acknowledgement gap) }
+    {
+        let mut any = false;
+        for kept in self.unacked() {
+            if is_behind(acknowledgement, gap, kept) {
+                self.send_packet(alloc, kept.number, kept.packet.as_slice(), out);
+                any = true;
+            }
+        }
+        any
+    }
+
+    /// What a packet that arrived in this session makes of it. `by` is the arrival's number at this node. A packet that carries
+    /// nothing for a link end that is up is ignored with `Epoch`.
     ///
-    /// The acknowledgement of a packet of the session is read first, and what then moves up is sent. A packet that is
-    /// taken is given as it waited to be sent. At NoMemory nothing is changed. (TIPC 2.0 draft; this project's profile.)
-    pub fn arrive(
-        &mut self,
-        alloc: Global,
-        es: u64,
-        er: u64,
-        packet: &Packet<'_>,
-        by: u64,
-        out: &mut Outbox,
-    ) -> Result<LinkOutcome, NoMemory>
-        requires { Fits (view packet.now) }
-        ensures answer { IfOk result (λ o. o ≡ outcome self.old by (content_in self.old es er (view packet.now))) }
-        ensures after { OnOk result (self.new ≡ arrived self.old packet.now.acknowledgement (content_in self.old es er (view packet.now))) }
-        ensures frames { OnOk result (Adds out.old out.new (arrival_frames self.old packet.now.acknowledgement (content_in self.old es er (view packet.now)))) }
-        ensures err { OnErr result ((self.new ≡ self.old) × (out.new ≡ out.old)) }
-    {
-        if es != self.peer_epoch || er != self.epoch {
-            return Ok(LinkOutcome::Ignored(Why::Epoch));
-        }
-        self.hear(alloc, packet, by, out)
-    }
-
-    /// Takes a packet that arrived in this session.
+    /// A packet with a number is taken where it is the wanted one, and with it those behind it that are held; it is deferred where
+    /// it is one of the next 49 and isn't held; else it is ignored with `Old`. A packet that is taken is given as it waited to be
+    /// sent. (TIPC 2.0 draft; this project's profile.)
     #[tactic(auto, unfolding(crate::specs::Sessions::content_of))]
-    pub(crate) fn hear(
-        &mut self,
-        alloc: Global,
-        packet: &Packet<'_>,
-        by: u64,
-        out: &mut Outbox,
-    ) -> Result<LinkOutcome, NoMemory>
+    pub fn prepare(&self, alloc: Global, packet: &Packet<'_>, by: u64) -> Result<Hearing, NoMemory>
         requires { Fits (view packet.now) }
-        ensures answer { IfOk result (λ o. o ≡ outcome self.old by (content_of (view packet.now))) }
-        ensures after { OnOk result (self.new ≡ arrived self.old packet.now.acknowledgement (content_of (view packet.now))) }
-        ensures frames { OnOk result (Adds out.old out.new (arrival_frames self.old packet.now.acknowledgement (content_of (view packet.now)))) }
-        ensures err { OnErr result ((self.new ≡ self.old) × (out.new ≡ out.old)) }
+        ensures by { IfOk result (λ h. h.by ≡ by) }
+        ensures hearing { IfOk result (λ h. IsHearing self.now (view packet.now) h) }
     {
         match packet.header {
             Header::Reset(_) | Header::Activate(_) | Header::Discovery(_) => {
-                Ok(LinkOutcome::Ignored(Why::Epoch))
+                Ok(Hearing::without_window(by, LinkOutcome::Ignored(Why::Epoch)))
             }
-            Header::State(state) => {
-                self.window.acknowledge(packet.acknowledgement);
-                self.note(state.next);
-                self.flush(alloc, out);
-                Ok(LinkOutcome::Took(TakenList::new(alloc)))
+            Header::State(_) => {
+                Ok(Hearing::without_window(by, LinkOutcome::Took(TakenList::new(alloc))))
             }
             Header::Payload(_)
             | Header::Bundler(_)
             | Header::Changeover(_)
             | Header::NameDistributor(_)
-            | Header::Fragmenter(_) => self.take(alloc, packet, by, out),
+            | Header::Fragmenter(_) => self.prepare_numbered(alloc, packet, by),
         }
     }
 
-    /// Takes a packet with a number, where it is the wanted one.
-    fn take(
-        &mut self,
+    /// What a packet with a number makes of it.
+    fn prepare_numbered(
+        &self,
         alloc: Global,
         packet: &Packet<'_>,
         by: u64,
-        out: &mut Outbox,
-    ) -> Result<LinkOutcome, NoMemory>
+    ) -> Result<Hearing, NoMemory>
         requires { Fits (view packet.now) }
-        ensures answer { IfOk result (λ o. o ≡ outcome self.old by (Content.Carries packet.now.sequence (spelling (unsent (view packet.now))))) }
-        ensures after { OnOk result (self.new ≡ flushed (heard self.old packet.now.acknowledgement (Content.Carries packet.now.sequence (spelling (unsent (view packet.now)))))) }
-        ensures frames { OnOk result (Adds out.old out.new (flush_frames (heard self.old packet.now.acknowledgement (Content.Carries packet.now.sequence (spelling (unsent (view packet.now))))))) }
-        ensures err { OnErr result ((self.new ≡ self.old) × (out.new ≡ out.old)) }
+        ensures { IfOk result (λ h. h ≡ numbered_hearing self.now (brought packet.now.sequence (spelling (unsent (view packet.now))) by)) }
     {
-        if packet.sequence != sequence_number(self.taken + 1) {
-            self.window.acknowledge(packet.acknowledgement);
-            self.flush(alloc, out);
-            return Ok(LinkOutcome::Ignored(Why::Old));
-        }
-        let taken = taken_packet(alloc, packet, by)?;
-        if self.taken >= LAST_POSITION {
-            return Err(NoMemory);
-        }
-        self.window.acknowledge(packet.acknowledgement);
-        self.taken += 1;
-        self.unanswered += 1;
-        self.flush(alloc, out);
-        Ok(LinkOutcome::Took(taken))
+        let mut window = self.receive_window().copy()?;
+        let place = window.arrive(packet.sequence, unsent_bytes(alloc, packet)?, by)?;
+        let owes = is_only_deferred(place, &window);
+        let due = window.take_run(alloc)?;
+        Ok(Hearing {
+            by,
+            window: Some(window),
+            owes,
+            outcome: outcome_at(place, due),
+        })
     }
 
-    /// Sends the STATE that is due once 16 packets were taken since the last frame on this link. `broadcast` fills its
-    /// broadcast fields. (This project's profile.)
+    /// Takes a packet that arrived in this session, as it was prepared: the acknowledgement is read first, and packets that the
+    /// peer misses are sent again; then what moves up is sent.
+    #[tactic(auto, unfolding(crate::specs::Sessions::content_of))]
+    pub fn hear(
+        &mut self,
+        alloc: Global,
+        hearing: Hearing,
+        packet: &Packet<'_>,
+        out: &mut Outbox,
+    ) -> LinkOutcome
+        requires { IsHearing self.old (view packet.now) hearing }
+        ensures answer { result ≡ outcome self.old hearing.by (content_of (view packet.now)) }
+        ensures after { self.new ≡ arrived self.old hearing.by packet.now.acknowledgement (content_of (view packet.now)) }
+        ensures frames { Adds out.old out.new (arrival_frames self.old hearing.by packet.now.acknowledgement (content_of (view packet.now))) }
+    {
+        match packet.header {
+            Header::Reset(_) | Header::Activate(_) | Header::Discovery(_) => hearing.outcome,
+            Header::State(state) => {
+                self.hear_state(alloc, packet.acknowledgement, &state, out);
+                hearing.outcome
+            }
+            Header::Payload(_)
+            | Header::Bundler(_)
+            | Header::Changeover(_)
+            | Header::NameDistributor(_)
+            | Header::Fragmenter(_) => {
+                self.hear_numbered(alloc, packet.acknowledgement, hearing, out)
+            }
+        }
+    }
+
+    /// Takes a STATE.
+    fn hear_state(&mut self, alloc: Global, acknowledgement: u16, state: &State, out: &mut Outbox)
+        ensures after { self.new ≡ arrived self.old 0 acknowledgement (Content.Shows state.now.next state.now.gap state.now.probe) }
+        ensures frames { Adds out.old out.new (arrival_frames self.old 0 acknowledgement (Content.Shows state.now.next state.now.gap state.now.probe)) }
+    {
+        self.acknowledge(acknowledgement);
+        self.repeat(alloc, acknowledgement, state.gap, out);
+        self.note(state.next, state.probe);
+        self.flush(alloc, out);
+    }
+
+    /// Takes a packet with a number.
+    fn hear_numbered(
+        &mut self,
+        alloc: Global,
+        acknowledgement: u16,
+        hearing: Hearing,
+        out: &mut Outbox,
+    ) -> LinkOutcome
+        requires { (t : Taken) × (hearing ≡ numbered_hearing self.old t) }
+        ensures answer { result ≡ hearing.outcome }
+        ensures after { (t : Taken) → hearing ≡ numbered_hearing self.old t → self.new ≡ flushed (took (released self.old acknowledgement) t) }
+        ensures frames { (t : Taken) → hearing ≡ numbered_hearing self.old t → Adds out.old out.new (flush_frames (took (released self.old acknowledgement) t)) }
+    {
+        let Hearing {
+            window,
+            owes,
+            outcome,
+            ..
+        } = hearing;
+        match window {
+            Some(window) => self.take(window, owes),
+            None => unreachable!(),
+        }
+        self.acknowledge(acknowledgement);
+        self.flush(alloc, out);
+        outcome
+    }
+
+    /// Keeps the receive window that a packet with a number left.
+    fn take(&mut self, window: RecvWindow, owes: bool)
+        requires { (t : Taken) × (window ≡ receiving (took self.old t)) }
+        ensures { (t : Taken) → window ≡ receiving (took self.old t) → owes ≡ is_only_deferred self.old t → self.new ≡ took self.old t }
+    {
+        self.unanswered += window.wanted_position() - self.receiving.wanted_position();
+        self.owes = owes;
+        self.receiving = window;
+    }
+
+    /// Sends the STATE that is due where the last arrival asks for one, or once 16 packets were taken since the last frame on this
+    /// link. `broadcast` fills its broadcast fields. (This project's profile.)
     pub fn answer(&mut self, alloc: Global, broadcast: BroadcastState, out: &mut Outbox)
         ensures after { self.new ≡ answered self.old }
         ensures frames { Adds out.old out.new (answer_frames self.old broadcast) }
     {
-        if self.unanswered >= UNANSWERED {
+        if self.owes || self.unanswered >= UNANSWERED {
             self.tell(alloc, broadcast, false, out);
         }
+        self.owes = false;
     }
 
     /// Sends a STATE.
@@ -349,14 +532,27 @@ impl Session {
         }
     }
 
-    /// How many packets are missing, as far as a window reaches.
+    /// How many packets are missing where none is held, as far as a window reaches.
+    fn missing(&self) -> u16
+        ensures value { result ≡ missing self.now }
+        ensures within { result ≤ 50 }
+    {
+        let missing = self.shown.saturating_sub(self.receiving.wanted_position());
+        if missing <= WINDOW as u64 {
+            missing as u16
+        } else {
+            0
+        }
+    }
+
+    /// How many packets are missing: up to the first that is held, or up to the next position that was shown.
     #[tactic(auto, unfolding(crate::specs::Sessions::gap))]
     fn gap(&self) -> u16
         ensures value { result ≡ gap self.now }
         ensures within { result ≤ 50 }
     {
-        let ahead = self.ahead(self.shown);
-        if ahead <= WINDOW as u16 { ahead } else { 0 }
+        let gap = self.receive_window().gap();
+        if gap == 0 { self.missing() } else { gap }
     }
 
     /// The priority of the bearer's links.
@@ -380,7 +576,7 @@ impl Session {
         let own = self.own.word;
         let peer = self.peer.word;
         let packet = Packet {
-            acknowledgement: sequence_number(self.taken),
+            acknowledgement: sequence_number(self.taken()),
             sequence: 0,
             previous: own,
             header: Header::State(State {
@@ -401,25 +597,21 @@ impl Session {
     }
 }
 
-/// A packet that was taken, as it waited to be sent.
-fn taken_packet(alloc: Global, packet: &Packet<'_>, by: u64) -> Result<TakenList, NoMemory>
-    requires { Fits (view packet.now) }
-    ensures { IfOk result (λ taken. taken ≡ record { number = packet.now.sequence; packet = spelling (unsent (view packet.now)); by = by } ∷ []) }
+/// The only one of these packets. None exactly where they are none or several.
+fn only_piece(pieces: &Pieces) -> Option<&[u8]>
+    ensures some { IfSome result (λ packet. pieces.now ≡ packet.now ∷ []) }
+    ensures none { IfNone result ((packet : List ℕ) → pieces.now ≡ packet ∷ [] → ⊥) }
 {
-    let unsent = Packet {
-        acknowledgement: 0,
-        sequence: 0,
-        previous: 0,
-        header: packet.header,
-        rest: packet.rest,
-    };
-    let mut bytes = Vec::new(alloc);
-    encode(&unsent, &mut bytes)?;
-    let mut taken = TakenList::new(alloc);
-    taken.push(Taken {
-        number: packet.sequence,
-        packet: Bytes::from_vec(bytes),
-        by,
-    })?;
-    Ok(taken)
+    match pieces.as_slice() {
+        [packet] => Some(packet.as_slice()),
+        _ => None,
+    }
+}
+
+/// Whether an unacknowledged packet is among the `gap` ones behind an acknowledgement.
+fn is_behind(acknowledgement: u16, gap: u16, kept: &Kept) -> bool
+    ensures { result ≡ is_behind acknowledgement gap kept.now }
+{
+    let distance = number_distance(acknowledgement, kept.number);
+    0 < distance && distance <= gap
 }

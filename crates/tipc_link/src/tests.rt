@@ -1,12 +1,16 @@
-ghost use Rattle.std.specs.Prelude.{◌≤◌, length, IfOk};
+ghost use Rattle.std.specs.Prelude.{IfOk};
+ghost use Rattle.tipc_link.specs.Sessions.{IsWaiting};
 
-use super::{Link, LinkArrival, LinkOutcome, Session};
+use super::{Link, LinkArrival};
+use crate::session::Session;
 use std::alloc::Global;
 use std::process::Abort;
 use std::test::Fail;
+use tipc_bundle::may_be_bundled;
 use tipc_header::{decode, open_frame};
 use tipc_link_fsm::Change;
 use tipc_outside::Outbox;
+use tipc_recv_window::LinkOutcome;
 use tipc_send_window::OfferFault;
 use tipc_types::{Addr, BroadcastState, Bytes, Cause, Pieces, Reply, Why};
 
@@ -14,6 +18,9 @@ use tipc_types::{Addr, BroadcastState, Bytes, Cause, Pieces, Reply, Why};
 const LEFT: u64 = 0x1_0000_0001;
 
 const RIGHT: u64 = 0x1_0000_0002;
+
+/// Two packets of so many bytes are too long for a bundle.
+const LONG: u16 = 724;
 
 /// A link over bearer 0 from node 1 to node 2: its ends, and the frames that each has sent.
 #[derive(Drop)]
@@ -35,23 +42,23 @@ impl Ends {
         }
     }
 
-    /// Puts a packet of 24 bytes on the left end, where fewer than 50 wait.
-    fn send(&mut self, alloc: Global) -> Result<Result<(), OfferFault>, Fail> {
+    /// Puts a packet of so many bytes on the left end, where fewer than 50 wait.
+    fn send(&mut self, alloc: Global, size: u16) -> Result<Result<(), OfferFault>, Fail> {
         let mut pieces = Pieces::new(alloc);
-        pieces.push(connected(alloc)?)?;
+        pieces.push(connected(alloc, size)?)?;
         Ok(self.left.send(alloc, pieces, 50, &mut self.sent))
     }
 
-    /// Puts so many packets on the left end.
-    fn send_all(&mut self, alloc: Global, count: u8) -> Result<(), Fail> {
+    /// Puts so many such packets on the left end.
+    fn send_all(&mut self, alloc: Global, size: u16, count: u8) -> Result<(), Fail> {
         for _ in 0..count {
-            self.send(alloc)?.ok().ok_or("refused")?;
+            self.send(alloc, size)?.ok().ok_or("refused")?;
         }
         Ok(())
     }
 
     /// The frame of the left end at this place arrives at the right end.
-    fn to_right(&mut self, alloc: Global, place: usize) -> Result<Result<u16, Why>, Fail> {
+    fn to_right(&mut self, alloc: Global, place: usize) -> Result<Result<u16, Option<Why>>, Fail> {
         let frame = self.sent.frames().get(place).ok_or("no frame")?;
         arrive(
             alloc,
@@ -70,7 +77,7 @@ impl Ends {
     }
 
     /// The frame of the right end at this place arrives at the left end.
-    fn to_left(&mut self, alloc: Global, place: usize) -> Result<Result<u16, Why>, Fail> {
+    fn to_left(&mut self, alloc: Global, place: usize) -> Result<Result<u16, Option<Why>>, Fail> {
         let frame = self.answers.frames().get(place).ok_or("no frame")?;
         arrive(
             alloc,
@@ -81,46 +88,50 @@ impl Ends {
     }
 }
 
-/// A packet without a body between two connected ports, port 7 and port 8, as it waits to be sent.
-fn connected(alloc: Global) -> Result<Bytes, Fail>
-    ensures { IfOk result (λ bytes. 16 ≤ length bytes) }
+/// A packet of so many bytes between two connected ports, port 7 and port 8, as it waits to be sent.
+#[tactic(auto, using(crate::proofs::JoinLaws::inner_waits))]
+fn connected(alloc: Global, size: u16) -> Result<Bytes, Fail>
+    ensures { IfOk result (λ bytes. IsWaiting bytes) }
 {
-    Ok(Bytes::from_slice(
-        alloc,
-        &[
-            0x40, 0xc0, 0, 24, 0, 0, 0, 0, 0, 0, 0, 0, 0, 0, 0, 0, 0, 0, 0, 7, 0, 0, 0, 8,
-        ],
-    )?)
+    let words = [0x40c0_0000 | u32::from(size), 0, 0, 0, 7, 8];
+    let mut bytes = bytes_of(alloc, &words)?;
+    bytes.resize(size as usize, 0)?;
+    let packet = Bytes::from_vec(bytes);
+    if !may_be_bundled(packet.as_slice()) {
+        return Err("no payload".into());
+    }
+    Ok(packet)
 }
 
-/// A frame arrives, and the STATE that is due then is sent. It gives the number of the packet that is taken, or 0
-/// where none is.
-fn arrive(
-    alloc: Global,
-    link: &mut Session,
-    frame: &[u8],
-    out: &mut Outbox,
-) -> Result<Result<u16, Why>, Fail> {
-    let frame = open_frame(frame).ok_or("no frame")?;
-    let packet = decode(frame.packet).ok().ok_or("no packet")?;
-    let outcome = link.arrive(alloc, frame.first, frame.second, &packet, 40, out)?;
-    let no_broadcast = BroadcastState {
+/// The broadcast fields of a STATE, where nothing was broadcast.
+fn no_broadcast() -> BroadcastState {
+    BroadcastState {
         acknowledged: 0,
         next: 1,
         start: 1,
         gap: 0,
         in_step: false,
-    };
-    link.answer(alloc, no_broadcast, out);
-    Ok(number_of(&outcome))
+    }
 }
 
-/// The number of the packet that was taken, or 0 where none was.
-fn number_of(outcome: &LinkOutcome) -> Result<u16, Why> {
-    match outcome {
-        LinkOutcome::Took(taken) => Ok(taken.as_slice().first().map_or(0, |one| one.number)),
-        LinkOutcome::Ignored(why) => Err(*why),
-    }
+/// A frame arrives, and the STATE that is due then is sent. It gives the number of the last packet that is taken, or 0
+/// where none is; why, where the frame is ignored; and None where it is deferred.
+fn arrive(
+    alloc: Global,
+    link: &mut Session,
+    frame: &[u8],
+    out: &mut Outbox,
+) -> Result<Result<u16, Option<Why>>, Fail> {
+    let frame = open_frame(frame).ok_or("no frame")?;
+    let packet = decode(frame.packet).ok().ok_or("no packet")?;
+    let hearing = link.prepare(alloc, &packet, 40)?;
+    let outcome = link.hear(alloc, hearing, &packet, out);
+    link.answer(alloc, no_broadcast(), out);
+    Ok(match outcome {
+        LinkOutcome::Took(taken) => Ok(taken.as_slice().last().map_or(0, |one| one.number)),
+        LinkOutcome::Deferred => Err(None),
+        LinkOutcome::Ignored(why) => Err(Some(why)),
+    })
 }
 
 /// The bytes of these words.
@@ -136,12 +147,12 @@ fn bytes_of(alloc: Global, words: &[u32]) -> Result<Vec<u8>, Fail> {
 fn the_101st_packet_is_congested(rt: HostRuntime) -> Result<(), Fail> {
     let alloc = rt.alloc();
     let mut ends = Ends::new(alloc);
-    ends.send_all(alloc, 100)?;
+    ends.send_all(alloc, LONG, 100)?;
     let congested = OfferFault::Congested {
         in_flight: 50,
         waiting: 50,
     };
-    assert_eq!(rt; ends.send(alloc)?, Err(congested));
+    assert_eq!(rt; ends.send(alloc, 24)?, Err(congested));
     assert_eq!(rt; ends.sent.frames().len(), 50);
     Ok(())
 }
@@ -150,7 +161,7 @@ fn the_101st_packet_is_congested(rt: HostRuntime) -> Result<(), Fail> {
 fn acknowledgements_move_waiting_packets_up(rt: HostRuntime) -> Result<(), Fail> {
     let alloc = rt.alloc();
     let mut ends = Ends::new(alloc);
-    ends.send_all(alloc, 100)?;
+    ends.send_all(alloc, LONG, 100)?;
     ends.all_to_right(&rt, alloc, 48)?;
     // a STATE after each 16th packet; the last acknowledges 48, and the one before it nothing more
     assert_eq!(rt; ends.answers.frames().len(), 3);
@@ -164,16 +175,35 @@ fn acknowledgements_move_waiting_packets_up(rt: HostRuntime) -> Result<(), Fail>
 }
 
 #[test]
-fn only_the_wanted_packet_of_the_session_is_taken(rt: HostRuntime) -> Result<(), Fail> {
+fn missing_packets_are_sent_again(rt: HostRuntime) -> Result<(), Fail> {
     let alloc = rt.alloc();
     let mut ends = Ends::new(alloc);
-    ends.send_all(alloc, 3)?;
-    let old = Err(Why::Old);
-    for (place, outcome) in [(1, old), (0, Ok(1)), (2, old), (0, old), (1, Ok(2))] {
+    ends.send_all(alloc, 24, 4)?;
+    // the third packet is the only one that is deferred: its STATE tells that two are missing
+    assert_eq!(rt; ends.to_right(alloc, 2)?, Err(None));
+    assert_eq!(rt; ends.to_right(alloc, 3)?, Err(None));
+    assert_eq!(rt; ends.to_right(alloc, 2)?, Err(Some(Why::Old)));
+    assert_eq!(rt; ends.answers.frames().len(), 1);
+    assert_eq!(rt; ends.to_left(alloc, 0)?, Ok(0));
+    assert_eq!(rt; ends.sent.frames().len(), 6);
+    for (place, outcome) in [(4, Ok(1)), (0, Err(Some(Why::Old))), (5, Ok(4))] {
         assert_eq!(rt; ends.to_right(alloc, place)?, outcome, "at {place}");
     }
-    ends.right = Session::established(alloc, Addr::node(2), Addr::node(1), 0, LEFT, LEFT);
-    assert_eq!(rt; ends.to_right(alloc, 0)?, Err(Why::Epoch));
+    assert_eq!(rt; ends.right.numbered(), (0, 4));
+    Ok(())
+}
+
+#[test]
+fn small_packets_wait_as_a_bundle(rt: HostRuntime) -> Result<(), Fail> {
+    let alloc = rt.alloc();
+    let mut ends = Ends::new(alloc);
+    ends.send_all(alloc, LONG, 51)?;
+    assert_eq!(rt; ends.left.load(), (50, 1));
+    // a bundle of 40 and 724 bytes, and of 688 more
+    for (size, waiting) in [(688, 1), (24, 2), (24, 2)] {
+        assert_eq!(rt; ends.send(alloc, size)?, Ok(()));
+        assert_eq!(rt; ends.left.load(), (50, waiting), "after {size}");
+    }
     Ok(())
 }
 
@@ -181,7 +211,7 @@ fn only_the_wanted_packet_of_the_session_is_taken(rt: HostRuntime) -> Result<(),
 fn frames_are_spelled(rt: HostRuntime) -> Result<(), Fail> {
     let alloc = rt.alloc();
     let mut ends = Ends::new(alloc);
-    ends.send_all(alloc, 16)?;
+    ends.send_all(alloc, 24, 16)?;
     ends.all_to_right(&rt, alloc, 16)?;
     let words = [1, 1, 1, 2, 0x40c0_0018, 0, 1, 0x0100_1001, 7, 8];
     let first = ends.sent.frames().first().ok_or("no frame")?;
@@ -208,38 +238,41 @@ fn frames_are_spelled(rt: HostRuntime) -> Result<(), Fail> {
     Ok(())
 }
 
-/// A frame arrives at a link end.
+/// The first frame of a link end of node 1 to node 2, a RESET.
+const RESET: [u32; 18] = [
+    1,
+    1,
+    0,
+    0,
+    0x4f50_0038,
+    0x2000_0000,
+    0,
+    0x0100_1001,
+    0,
+    0,
+    0,
+    0x0100_1002,
+    0x2c,
+    0,
+    1,
+    1,
+    0,
+    0,
+];
+
+/// The frame at a place of those that were sent arrives at a link end.
 fn reaches(
     alloc: Global,
     link: &mut Link,
-    frame: &[u8],
+    sent: &Outbox,
+    place: usize,
     out: &mut Outbox,
 ) -> Result<LinkArrival, Fail> {
-    let frame = open_frame(frame).ok_or("no frame")?;
+    let frame = sent.frames().get(place).ok_or("not sent")?;
+    let frame = open_frame(frame.frame.as_slice()).ok_or("no frame")?;
     let packet = decode(frame.packet).ok().ok_or("no packet")?;
-    let shown = BroadcastState {
-        acknowledged: 0,
-        next: 1,
-        start: 1,
-        gap: 0,
-        in_step: false,
-    };
-    Ok(link.arrive(
-        alloc,
-        frame.first,
-        frame.second,
-        &packet,
-        false,
-        40,
-        shown,
-        out,
-    )?)
-}
-
-/// The bytes of the frame at a place in a box.
-fn frame_at(alloc: Global, out: &Outbox, place: usize) -> Result<Vec<u8>, Fail> {
-    let frame = out.frames().get(place).ok_or("no frame")?;
-    Ok(frame.frame.as_slice().to_vec(alloc)?)
+    let arriving = link.prepare(alloc, frame.first, frame.second, &packet, false, 40)?;
+    Ok(link.commit(alloc, arriving, &packet, no_broadcast(), out))
 }
 
 /// RESET, ACTIVATE and STATE take both ends of a link up; a cut takes one down.
@@ -251,50 +284,13 @@ fn two_ends_go_up(rt: HostRuntime) -> Result<(), Fail> {
     let (mut sent, mut answers) = (Outbox::new(alloc), Outbox::new(alloc));
     left.mend(alloc, &mut sent);
     right.mend(alloc, &mut answers);
-    let reset = [
-        1,
-        1,
-        0,
-        0,
-        0x4f50_0038,
-        0x2000_0000,
-        0,
-        0x0100_1001,
-        0,
-        0,
-        0,
-        0x0100_1002,
-        0x2c,
-        0,
-        1,
-        1,
-        0,
-        0,
-    ];
-    assert_eq!(rt;
-        frame_at(alloc, &sent, 0)?.as_slice(),
-        bytes_of(alloc, &reset)?.as_slice()
-    );
-    let first = reaches(
-        alloc,
-        &mut right,
-        frame_at(alloc, &sent, 0)?.as_slice(),
-        &mut answers,
-    )?;
+    let reset = sent.frames().first().ok_or("no RESET")?;
+    assert_eq!(rt; reset.frame.as_slice(), bytes_of(alloc, &RESET)?.as_slice());
+    let first = reaches(alloc, &mut right, &sent, 0, &mut answers)?;
     assert_eq!(rt; first.change, Change::Answer(Reply::Activate));
-    let second = reaches(
-        alloc,
-        &mut left,
-        frame_at(alloc, &answers, 1)?.as_slice(),
-        &mut sent,
-    )?;
+    let second = reaches(alloc, &mut left, &answers, 1, &mut sent)?;
     assert_eq!(rt; second.change, Change::Up);
-    let third = reaches(
-        alloc,
-        &mut right,
-        frame_at(alloc, &sent, 1)?.as_slice(),
-        &mut answers,
-    )?;
+    let third = reaches(alloc, &mut right, &sent, 1, &mut answers)?;
     assert_eq!(rt; third.change, Change::Up);
     assert_eq!(rt; (sent.frames().len(), answers.frames().len()), (2, 3));
     assert!(rt; left.is_up() && right.is_up());

@@ -5,3 +5,8 @@ pub mod Parts
 pub mod Stops
 pub mod Refusals
 pub mod Hearings
+pub mod Sendings
+pub mod Faults
+pub mod Quiet
+pub mod Deliveries
+pub mod Heard

@@ -22,7 +22,7 @@ IsUnder now waiting old first inside = now ++ waiting ≡ old ++ first ∷ insid
 -- what may be recorded in one step
 pub record IsSmall (old inside : List Entry) : Type 0 where
   pub room : has_room old ≡ true
-  pub few : length inside ≤ 64
+  pub few : length inside ≤ 65534
   pub bytes : sum_by entry_bytes inside ≤ 4194304
 
 -- the journal has room for the first entry of the step

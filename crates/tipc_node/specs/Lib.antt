@@ -2,3 +2,4 @@ pub mod Inboxes
 pub mod Neighbours
 pub mod Nodes
 pub mod Calls
+pub mod Deliveries

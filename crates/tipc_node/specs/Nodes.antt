@@ -26,17 +26,21 @@ use Rattle.tipc_journal.specs.Room.{message_bytes}
 use Rattle.tipc_journal.specs.Steps.{NodeStep, step_entries}
 use Rattle.tipc_header.specs.declared.fault.HeaderFault.{HeaderFault}
 use Rattle.tipc_header.specs.Faults.{fault_of, number_of}
-use Rattle.tipc_header.specs.Reading.{word_at}
+use Rattle.tipc_header.specs.Reading.{fields_at, word_at}
 use Rattle.tipc_header.specs.Spelling.{Fields}
 use Rattle.tipc_message.specs.Wire.{message_of}
 use Rattle.tipc_link_fsm.specs.Table.{is_up}
-use Rattle.tipc_link.specs.declared.outcomes.LinkOutcome.{LinkOutcome}
-use Rattle.tipc_link.specs.declared.outcomes.LinkOutcome.TheVariants.{Took, Ignored}
 use Rattle.tipc_link.specs.Links.{LinkEnd, mend_frames, mended_end, with_session}
-use Rattle.tipc_link.specs.Sessions.{SessionEnd, flushed, put}
+use Rattle.tipc_link.specs.Sessions.{SessionEnd, flushed}
 use Rattle.tipc_pair.specs.declared.changes.PairChange.{PairChange}
 use Rattle.tipc_pair.specs.declared.changes.PairChange.TheVariants.{Stay, Began, Ended}
+use Rattle.tipc_pair.specs.declared.changes.PairOutcome.{PairOutcome}
 use Rattle.tipc_pair.specs.Pairs.{Met, contact_of, lonely}
+use Rattle.tipc_pair.specs.Partners.{opened_in}
+use Rattle.tipc_fragments.specs.Joining.{Joining, fresh}
+use Rattle.tipc_reassembly.specs.declared.opening.Opened.{Opened}
+use Rattle.tipc_reassembly.specs.declared.opening.Opened.TheVariants.{Whole, Passed}
+use Rattle.tipc_node.specs.declared.arriving.Delivery.{Delivery}
 use Rattle.tipc_node.specs.declared.neighbours.Neighbour.{Neighbour}
 use Rattle.tipc_node.specs.declared.neighbours.Deed.{Deed}
 use Rattle.tipc_node.specs.declared.neighbours.Deed.TheVariants as deed
@@ -59,7 +63,7 @@ neighbour_of n peer = slice_index_or n.neighbours peer None
 
 -- the contact in which node n is with a peer: n's own contact number, then the peer's
 abbrev pub contact_with : NodeState → ℕ → Option (ℕ × ℕ)
-contact_with n peer = option_and_then (λ x. contact_of x.pair) (neighbour_of n peer)
+contact_with n peer = option_and_then (λ x. contact_of x.pair.link) (neighbour_of n peer)
 
 abbrev pub with_neighbours : NodeState → List (Option Neighbour) → NodeState
 with_neighbours n xs = record { own = n.own; boot = n.boot; mended = n.mended; neighbours = xs; inboxes = n.inboxes; journal = n.journal }
@@ -189,7 +193,7 @@ direct own port to importance body = Payload importance form.Direct (record { no
 -- the session to a peer, where the node is in contact with it
 abbrev pub session_with : Option Neighbour → Option SessionEnd
 session_with None = None
-session_with (Some x) = if is_up x.pair.fsm.state then x.pair.session else None
+session_with (Some x) = if is_up x.pair.link.fsm.state then x.pair.link.session else None
 
 -- how many packets are unacknowledged, and how many wait, on a link: none without contact
 abbrev pub unacked_in : Option SessionEnd → ℕ
@@ -212,18 +216,22 @@ abbrev pub refusal_at : Option SessionEnd → ℕ → Option Answer
 refusal_at None limit = Some answer.NoNode
 refusal_at (Some s) limit = if nat_le limit (length s.sending.waiting) then Some (answer.Congested (length s.sending.unacked) (length s.sending.waiting)) else None
 
+-- a body has at most 66,000 bytes
+abbrev pub refusal_of_body : NodeState → ℕ → ℕ → List ℕ → Option Answer
+refusal_of_body n peer limit body = if nat_le (length body) 66000 then refusal_at (session_with (neighbour_of n peer)) limit else Some (answer.TooLong (length body))
+
 -- why a send is refused: the first reason that holds
-unfoldable pub refusal : NodeState → ℕ → ℕ → ℕ → Option Answer
-refusal n port peer limit = if has_port n port then refusal_at (session_with (neighbour_of n peer)) limit else Some answer.NoSocket
+unfoldable pub refusal : NodeState → ℕ → ℕ → ℕ → List ℕ → Option Answer
+refusal n port peer limit body = if has_port n port then refusal_of_body n peer limit body else Some answer.NoSocket
 
 abbrev pub accepted_entry : ℕ → LinkEnd → Message → Entry
 accepted_entry peer e m = entry.Accepted (record { word = node_word peer }) (e.contact, e.peer_contact) Zero m
 
--- a node after it put a packet of a message on the link to a peer
-abbrev pub sent_node : NodeState → By → EventNote → ℕ → Neighbour → SessionEnd → List ℕ → Message → NodeState
-sent_node n by event peer x s packet m =
-    recorded (with_neighbours n (slice_set n.neighbours peer (Some (neighbour (with_session x.pair (flushed (put s (packet ∷ [])))) x.in_step)))) by event
-    (accepted_entry peer x.pair m ∷ []) answer.Sent
+-- a node after it put a message on the link to a peer, whose session is this one then but for the packets that move up
+abbrev pub sent_node : NodeState → By → EventNote → ℕ → Neighbour → SessionEnd → Message → NodeState
+sent_node n by event peer x put m =
+    recorded (with_neighbours n (slice_set n.neighbours peer (Some (neighbour (with_session x.pair.link (flushed put)) x.pair.begun x.in_step)))) by event
+    (accepted_entry peer x.pair.link m ∷ []) answer.Sent
 
 -- ---- all neighbours at once
 
@@ -246,7 +254,7 @@ abbrev pub new_pair : NodeState → ℕ → LinkEnd
 new_pair n peer = lonely n.own (node_word peer) n.boot
 
 abbrev pub known_node : NodeState → ℕ → NodeState
-known_node n peer = with_neighbours n (slice_set n.neighbours peer (Some (neighbour (if n.mended then mended_end (new_pair n peer) else new_pair n peer) false)))
+known_node n peer = with_neighbours n (slice_set n.neighbours peer (Some (neighbour (if n.mended then mended_end (new_pair n peer) else new_pair n peer) fresh false)))
 
 abbrev pub known_frames : NodeState → ℕ → List Outgoing
 known_frames n peer = if n.mended then mend_frames (new_pair n peer) else []
@@ -258,43 +266,63 @@ abbrev pub port_of : Message → ℕ
 port_of (Payload importance form from to kind lower upper code droppable body) = to.port
 port_of (Items withdrawal items) = 0
 
--- what the packet that was taken in a contact adds to the journal: its message, or that it carries none
+-- the message that a packet carries, where it carries one
+abbrev pub message_in : List ℕ → Option Message
+message_in packet = message_of (fields_at packet)
+
+-- what a whole packet that was given in a contact adds to the journal: its message with the arrivals that brought it, or that it
+-- carries none
 abbrev pub delivered_by : ℕ → ℕ × ℕ → Option Message → List ℕ → Entry
 delivered_by peer contact (Some m) by = entry.Delivered (record { word = node_word peer }) contact Zero m by
 delivered_by peer contact None by = entry.Dropped 0
+
+-- what a member of what was given comes to: its entry, and its message where it has one
+abbrev pub delivery_of : ℕ → ℕ × ℕ → Opened → Delivery
+delivery_of peer contact (Whole packet by) = record { entry = delivered_by peer contact (message_in packet) by; message = message_in packet }
+delivery_of peer contact (Passed place) = record { entry = entry.Dropped place; message = None }
+
+abbrev pub deliveries_of : ℕ → ℕ × ℕ → List Opened → List Delivery
+deliveries_of peer contact opened = map (delivery_of peer contact) opened
+
+abbrev pub entries_in : List Delivery → List Entry
+entries_in deliveries = map (λ (d : Delivery). d.entry) deliveries
 
 abbrev pub taken_inboxes : ℕ → List (List Message) → Option Message → List (List Message)
 taken_inboxes base inboxes (Some m) = inboxes_with inboxes (port_of m - base) m
 taken_inboxes base inboxes None = inboxes
 
+-- the inboxes after one delivery after the other
+abbrev pub inboxes_after : ℕ → List (List Message) → List Delivery → List (List Message)
+inboxes_after base inboxes [] = inboxes
+inboxes_after base inboxes (d ∷ ds) = inboxes_after base (taken_inboxes base inboxes d.message) ds
+
 abbrev pub taken_count : Option Message → ℕ
 taken_count (Some m) = 1
 taken_count None = 0
 
--- what an arrival adds to the journal, makes of the inboxes, and answers: at most one packet is taken, whose message is m
-abbrev pub taken_by : LinkOutcome → ℕ → ℕ × ℕ → Option Message → List ℕ → List Entry
-taken_by (Took []) peer contact m by = []
-taken_by (Took (packet ∷ packets)) peer contact m by = delivered_by peer contact m by ∷ []
-taken_by (Ignored why) peer contact m by = []
+-- how many messages there are
+abbrev pub message_count : List Delivery → ℕ
+message_count deliveries = sum_by (λ (d : Delivery). taken_count d.message) deliveries
 
-abbrev pub taken_entries : LinkOutcome → ℕ → LinkEnd → Option Message → ℕ → List Entry
-taken_entries outcome peer e m by = taken_by outcome peer (e.contact, e.peer_contact) m (by ∷ [])
+abbrev pub arrival_answer : PairOutcome → List Delivery → Arrival
+arrival_answer (PairOutcome.Took opened) deliveries = arrival.Took (message_count deliveries)
+arrival_answer PairOutcome.Deferred deliveries = arrival.Deferred
+arrival_answer (PairOutcome.Ignored reason) deliveries = arrival.Ignored reason
 
-abbrev pub heard_inboxes : LinkOutcome → ℕ → List (List Message) → Option Message → List (List Message)
-heard_inboxes (Took []) base inboxes m = inboxes
-heard_inboxes (Took (packet ∷ packets)) base inboxes m = taken_inboxes base inboxes m
-heard_inboxes (Ignored why) base inboxes m = inboxes
+-- the contact that a link end shows
+abbrev pub shown_contact : LinkEnd → ℕ × ℕ
+shown_contact e = (e.contact, e.peer_contact)
 
-abbrev pub heard_answer : LinkOutcome → Option Message → Arrival
-heard_answer (Took []) m = arrival.Took 0
-heard_answer (Took (packet ∷ packets)) m = arrival.Took (taken_count m)
-heard_answer (Ignored why) m = arrival.Ignored why
+-- what an arrival from a peer delivers, whose link end is this one after it
+abbrev pub arrival_deliveries : ℕ → LinkEnd → PairOutcome → List Delivery
+arrival_deliveries peer e out = deliveries_of peer (shown_contact e) (opened_in out)
 
--- a node after the frame of that number brought a packet of a peer, which is its neighbour x
-abbrev pub heard_node : NodeState → By → ℕ → ℕ → Neighbour → Fields → Met → NodeState
-heard_node n by number peer x p m =
-    recorded (with_inboxes (with_neighbours n (slice_set n.neighbours peer (Some (heard_neighbour x p m)))) (heard_inboxes m.outcome (port_base n.boot) n.inboxes (message_of p)))
-    by (event.Arrive 0 number) (change_entries peer m.change ++ taken_entries m.outcome peer m.after (message_of p) number) (answer.Arrived (heard_answer m.outcome (message_of p)))
+-- A node after the frame of that number brought a packet of a peer, which is its neighbour x. m is what the link made of it, out
+-- what was given, and last the message that is begun then.
+abbrev pub heard_node : NodeState → By → ℕ → ℕ → Neighbour → Fields → Met → PairOutcome → Joining → NodeState
+heard_node n by number peer x p m out last =
+    recorded (with_inboxes (with_neighbours n (slice_set n.neighbours peer (Some (heard_neighbour x p m last)))) (inboxes_after (port_base n.boot) n.inboxes (arrival_deliveries peer m.after out)))
+    by (event.Arrive 0 number) (change_entries peer m.change ++ entries_in (arrival_deliveries peer m.after out)) (answer.Arrived (arrival_answer out (arrival_deliveries peer m.after out)))
 
 -- ---- an arrival that reaches no link
 

@@ -1,19 +1,29 @@
-ghost use Rattle.std.specs.Prelude.{◌≡◌, ◌≢◌, ◌++◌, ◌∷◌, [], ◌≤◌, ◌+◌, ◌-◌, ℕ, true, false, None, Some, is_some, length, slice_index_or, sum_by, vec_capacity, vec_len, IfErr, IfOk, IfSome, IfNone};
+ghost use Rattle.std.specs.Prelude.{◌≡◌, ◌++◌, ◌≤◌, ◌+◌, ◌-◌, ◌^◌, true, false, All, None, Some, is_some, length, min, slice_index_or, sum_by, vec_capacity, vec_len, IfErr, IfOk, IfSome, IfNone, OnOk};
 ghost use Rattle.tipc_types.specs.Address.{node_word};
+ghost use Rattle.tipc_header.specs.Faults.{fault_of};
 ghost use Rattle.tipc_header.specs.Frames.{frame_of};
 ghost use Rattle.tipc_header.specs.Grammar.{Fits};
 ghost use Rattle.tipc_header.specs.Spelling.{spelling, view};
-ghost use Rattle.tipc_message.specs.Wire.{message_of};
-ghost use Rattle.tipc_node.specs.Nodes.{delivered_by, heard_answer, heard_inboxes, is_other, port_of, stop_among, taken_by, taken_count, taken_inboxes};
+ghost use Rattle.tipc_journal.specs.Room.{counted_bytes, entry_bytes};
+ghost use Rattle.tipc_reassembly.specs.declared.opening.Opened.TheVariants.{Whole};
+ghost use Rattle.tipc_pair.specs.Partners.{IsPairArriving, opened_in};
+ghost use Rattle.tipc_node.specs.Deliveries.{HasNoFault};
+ghost use Rattle.tipc_node.specs.Nodes.{arrival_answer, deliveries_of, delivered_by, delivery_of, entries_in, inboxes_after, is_other, message_count, port_of, shown_contact, stop_among, taken_count, taken_inboxes};
 
 use crate::inboxes::Inbox;
 use crate::neighbours::Neighbour;
+use crate::recording::FREE_MESSAGE_BYTES;
 use std::alloc::Global;
+use std::collections::VecDeque;
 use tipc_header::{Packet, decode, open_frame};
 use tipc_journal::{Arrivals, Entry};
-use tipc_link::LinkOutcome;
 use tipc_message::message_from;
+use tipc_pair::{PairArriving, PairOutcome};
+use tipc_reassembly::Opened;
 use tipc_types::{Addr, Arrival, Flow, Message, NoMemory, Why};
+
+/// The most deliveries of one arrival, of the 65,536 free entries that a call needs.
+const MOST_DELIVERIES: usize = 65_530;
 
 /// A packet that is due at the link of the node that it names as its sender, and the two numbers of its envelope.
 #[derive(Clone, Copy)]
@@ -88,28 +98,16 @@ pub fn is_known(neighbours: &[Option<Neighbour>], peer: u8) -> bool
     }
 }
 
-/// The message of a packet that may be taken: for the journal, for the inbox, and the arrival that brought it.
+/// What a member of what was given comes to.
 #[derive(Drop)]
 pub struct Delivery {
-    recorded: Option<Message>,
-    queued: Option<Message>,
-    by: Arrivals,
+    /// Its entry in the journal.
+    pub entry: Entry,
+    /// Its message once more, for the inbox, where it has one.
+    pub message: Option<Message>,
 }
 
-/// What is needed where the packet of that arrival is taken.
-pub fn prepare_delivery(alloc: Global, packet: &Packet<'_>, by: u64) -> Result<Delivery, NoMemory>
-    ensures { IfOk result (λ d. (d.recorded ≡ message_of (view packet.now)) × (d.queued ≡ message_of (view packet.now)) × (d.by ≡ by ∷ [])) }
-{
-    let mut arrivals = Arrivals::new(alloc);
-    arrivals.push(by)?;
-    Ok(Delivery {
-        recorded: message_from(alloc, packet)?,
-        queued: message_from(alloc, packet)?,
-        by: arrivals,
-    })
-}
-
-/// The entry of a packet that was taken in a contact: its message is delivered, or the packet is dropped where it carries none.
+/// The entry of a whole packet that was given in a contact: its message is delivered, or the packet is dropped where it carries none.
 fn delivered_entry(
     peer: u8,
     contact: (u64, u64),
@@ -131,50 +129,233 @@ fn delivered_entry(
     }
 }
 
-/// Tells of the message of a packet that was taken, in a list that has room, and puts it into the inbox of its port. Answers what
-/// became of the arrival.
-pub fn finish(
-    inside: &mut Vec<Entry>,
-    inboxes: &mut Vec<Inbox>,
-    base: u32,
+/// What a whole packet comes to that was given in a contact.
+fn whole_delivery(
+    alloc: Global,
     peer: u8,
     contact: (u64, u64),
-    outcome: LinkOutcome,
-    delivery: Delivery,
-) -> Arrival
+    packet: &[u8],
+    by: &Arrivals,
+) -> Result<Delivery, NoMemory>
     requires peer { (1 ≤ peer) × (peer ≤ 32) }
-    requires room { vec_len inside.old + 1 ≤ vec_capacity inside.old }
-    requires same { delivery.queued ≡ delivery.recorded }
-    ensures answer { result ≡ heard_answer outcome delivery.recorded }
-    ensures entries { inside.new.items ≡ inside.old.items ++ taken_by outcome peer contact delivery.recorded delivery.by }
-    ensures inboxes { inboxes.new.items ≡ heard_inboxes outcome base inboxes.old.items delivery.recorded }
+    requires sound { fault_of packet.now ≡ None }
+    ensures { IfOk result (λ d. d ≡ delivery_of peer contact (Whole packet.now by.now)) }
 {
-    match outcome {
-        LinkOutcome::Ignored(why) => Arrival::Ignored(why),
-        LinkOutcome::Took(taken) => {
-            if taken.is_empty() {
-                return Arrival::Took(0);
-            }
-            inside.push_reserved(delivered_entry(peer, contact, delivery.recorded, delivery.by));
-            Arrival::Took(put_message(inboxes, base, delivery.queued))
+    let Ok(packet) = decode(packet) else {
+        unreachable!()
+    };
+    let recorded = message_from(alloc, &packet)?;
+    let message = message_from(alloc, &packet)?;
+    Ok(Delivery {
+        entry: delivered_entry(peer, contact, recorded, by.clone()?),
+        message,
+    })
+}
+
+/// What a member of what was given in a contact comes to.
+fn delivery_from(
+    alloc: Global,
+    peer: u8,
+    contact: (u64, u64),
+    opened: &Opened,
+) -> Result<Delivery, NoMemory>
+    requires peer { (1 ≤ peer) × (peer ≤ 32) }
+    requires sound { HasNoFault opened.now }
+    ensures { IfOk result (λ d. d ≡ delivery_of peer contact opened.now) }
+{
+    match opened {
+        Opened::Whole { packet, by } => {
+            whole_delivery(alloc, peer, contact, packet.as_slice(), by)
         }
+        Opened::Passed { place } => Ok(Delivery {
+            entry: Entry::Dropped { place: *place },
+            message: None,
+        }),
     }
 }
 
-/// Puts a message that was taken into the inbox of its port, and answers how many messages there were. A message for a
-/// port that isn't there is dropped.
-fn put_message(inboxes: &mut Vec<Inbox>, base: u32, message: Option<Message>) -> u32
-    ensures inboxes { inboxes.new.items ≡ taken_inboxes base inboxes.old.items message }
-    ensures count { result ≡ taken_count message }
+/// What all that was given in a contact comes to.
+fn deliveries(
+    alloc: Global,
+    peer: u8,
+    contact: (u64, u64),
+    opened: &[Opened],
+) -> Result<Vec<Delivery>, NoMemory>
+    requires peer { (1 ≤ peer) × (peer ≤ 32) }
+    requires sound { All HasNoFault opened.now }
+    ensures { IfOk result (λ ds. ds.items ≡ deliveries_of peer contact opened.now) }
+{
+    let mut deliveries = Vec::new(alloc);
+    for given in opened {
+        deliveries.push(delivery_from(alloc, peer, contact, given)?)?;
+    }
+    Ok(deliveries)
+}
+
+/// What all that an arrival gives in a contact comes to.
+pub fn prepare_deliveries(
+    alloc: Global,
+    peer: u8,
+    contact: (u64, u64),
+    outcome: &PairOutcome,
+) -> Result<Vec<Delivery>, NoMemory>
+    requires peer { (1 ≤ peer) × (peer ≤ 32) }
+    requires sound { All HasNoFault (opened_in outcome.now) }
+    ensures { IfOk result (λ ds. ds.items ≡ deliveries_of peer contact (opened_in outcome.now)) }
+{
+    match outcome {
+        PairOutcome::Took(opened) => deliveries(alloc, peer, contact, opened.as_slice()),
+        PairOutcome::Deferred => Ok(Vec::new(alloc)),
+        PairOutcome::Ignored(_) => Ok(Vec::new(alloc)),
+    }
+}
+
+/// The message bytes of a message; where there are more than a u64 holds, its last value.
+fn message_bytes(message: &Message) -> u64
+    ensures { result ≡ min (counted_bytes message.now) (2 ^ 64 - 1) }
+{
+    match message {
+        Message::Payload { body, .. } => body.len() as u64,
+        Message::Items { items, .. } => (items.len() as u64).saturating_mul(20),
+    }
+}
+
+/// The message bytes of an entry; where there are more than a u64 holds, its last value.
+fn delivered_bytes(entry: &Entry) -> u64
+    ensures { result ≡ min (entry_bytes entry.now) (2 ^ 64 - 1) }
+{
+    match entry {
+        Entry::Accepted { message, .. } => message_bytes(message),
+        Entry::Delivered { message, .. } => message_bytes(message),
+        _ => 0,
+    }
+}
+
+/// Whether the deliveries of one arrival have room in the step that tells of it, beside its begin, its end, and two changes.
+///
+/// They always have: what is given at once came in the packets that were held, 50 at most, and in this one. A frame has at most
+/// 1,516 bytes, so these are some thousand messages at most, and some 80,000 bytes beside the 66,044 of a message that was begun.
+pub fn fits(deliveries: &[Delivery]) -> bool
+    ensures { result ≡ true → (length deliveries.now ≤ 65530) × (sum_by entry_bytes (entries_in deliveries.now) ≤ 4194304) }
+{
+    let mut left = FREE_MESSAGE_BYTES;
+    for delivery in deliveries {
+        let bytes = delivered_bytes(&delivery.entry);
+        if bytes > left {
+            return false;
+        }
+        left -= bytes;
+    }
+    deliveries.len() <= MOST_DELIVERIES
+}
+
+/// How many messages a delivery has.
+fn taken_count(message: &Option<Message>) -> u32
+    ensures value { result ≡ taken_count message.now }
+    ensures one { result ≤ 1 }
+{
+    match message {
+        Some(_) => 1,
+        None => 0,
+    }
+}
+
+/// How many messages there are.
+fn message_count(deliveries: &[Delivery]) -> u32
+    requires { length deliveries.now ≤ 65530 }
+    ensures { result ≡ message_count deliveries.now }
+{
+    let mut count = 0;
+    for delivery in deliveries {
+        count += taken_count(&delivery.message);
+    }
+    count
+}
+
+/// What became of an arrival that gives this, with these deliveries.
+pub fn arrival_answer(outcome: &PairOutcome, deliveries: &[Delivery]) -> Arrival
+    requires { length deliveries.now ≤ 65530 }
+    ensures { result ≡ arrival_answer outcome.now deliveries.now }
+{
+    match outcome {
+        PairOutcome::Took(_) => Arrival::Took(message_count(deliveries)),
+        PairOutcome::Deferred => Arrival::Deferred,
+        PairOutcome::Ignored(why) => Arrival::Ignored(*why),
+    }
+}
+
+/// What a packet that shows no contact number will make of a neighbour, what it delivers, and what will have become of it.
+#[derive(Drop)]
+pub struct Hearing {
+    /// What it will make of the pair.
+    pub arriving: PairArriving,
+    /// What it delivers.
+    pub deliveries: Vec<Delivery>,
+    /// What will have become of it.
+    pub answer: Arrival,
+}
+
+/// What a packet that shows no contact number will make of a neighbour; `number` is the arrival's number at this node. Nothing is
+/// changed yet.
+pub fn prepare(
+    alloc: Global,
+    neighbour: &Neighbour,
+    number: u64,
+    due: &Due<'_>,
+) -> Result<Hearing, NoMemory>
+    requires peer { (1 ≤ due.now.peer) × (due.now.peer ≤ 32) }
+    requires fits { Fits (view due.now.packet) }
+    ensures arriving { IfOk result (λ h. IsPairArriving neighbour.now.pair due.now.first due.now.second (view due.now.packet) number h.arriving) }
+    ensures deliveries { IfOk result (λ h. h.deliveries.items ≡ deliveries_of due.now.peer (shown_contact neighbour.now.pair.link) (opened_in h.arriving.outcome)) }
+    ensures answer { IfOk result (λ h. h.answer ≡ arrival_answer h.arriving.outcome h.deliveries.items) }
+    ensures few { IfOk result (λ h. length h.deliveries.items ≤ 65530) }
+    ensures bytes { IfOk result (λ h. sum_by entry_bytes (entries_in h.deliveries.items) ≤ 4194304) }
+{
+    let arriving = neighbour
+        .pair
+        .prepare(alloc, due.first, due.second, &due.packet, number)?;
+    let contact = neighbour.contact_numbers();
+    let deliveries = prepare_deliveries(alloc, due.peer, contact, arriving.outcome())?;
+    if !fits(deliveries.as_slice()) {
+        return Err(NoMemory);
+    }
+    let answer = arrival_answer(arriving.outcome(), deliveries.as_slice());
+    Ok(Hearing {
+        arriving,
+        deliveries,
+        answer,
+    })
+}
+
+/// Tells of the deliveries of an arrival, in a list that has room, and puts their messages into the inboxes of their ports.
+pub fn deliver(
+    inside: &mut Vec<Entry>,
+    inboxes: &mut Vec<Inbox>,
+    base: u32,
+    deliveries: Vec<Delivery>,
+)
+    requires room { vec_len inside.old + length deliveries.items ≤ vec_capacity inside.old }
+    ensures entries { inside.new.items ≡ inside.old.items ++ entries_in deliveries.items }
+    ensures inboxes { inboxes.new.items ≡ inboxes_after base inboxes.old.items deliveries.items }
+{
+    let mut waiting = VecDeque::from_vec(deliveries);
+    while let Some(delivery) = waiting.pop_front() {
+        inside.push_reserved(delivery.entry);
+        put_message(inboxes, base, delivery.message);
+    }
+}
+
+/// Puts a message that was given into the inbox of its port. A message for a port that isn't there is dropped.
+fn put_message(inboxes: &mut Vec<Inbox>, base: u32, message: Option<Message>)
+    ensures { inboxes.new.items ≡ taken_inboxes base inboxes.old.items message }
 {
     let Some(message) = message else {
-        return 0;
+        return;
     };
     let place = port_of(&message).saturating_sub(base) as usize;
     if 1 <= place && place <= inboxes.len() {
         inboxes[place - 1].put(message);
     }
-    1
 }
 
 /// The port that a message is for.

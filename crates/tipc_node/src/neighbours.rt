@@ -1,20 +1,20 @@
-ghost use Rattle.std.specs.Prelude.{◌≡◌, ◌+◌, ◌++◌, ◌||◌, ◌&&◌, ◌<◌, ◌≤◌, ◌∷◌, [], Some, None, length, slice_index_or, vec_capacity, vec_len, IfOk, IfSome, IfNone, OnErr, OnOk};
+ghost use Rattle.std.specs.Prelude.{◌≡◌, ℕ, ◌+◌, ◌++◌, ◌||◌, ◌&&◌, ◌<◌, ◌≤◌, [], true, false, All, Some, None, length, slice_index_or, vec_capacity, vec_len, IfSome, IfNone, OnErr, OnOk};
 ghost use Rattle.tipc_outside.specs.Frames.{Adds};
-ghost use Rattle.tipc_header.specs.Spelling.{view};
-ghost use Rattle.tipc_header.specs.Grammar.{Fits};
+ghost use Rattle.tipc_header.specs.Spelling.{Fields, view};
 ghost use Rattle.tipc_link.specs.Links.{with_session};
-ghost use Rattle.tipc_link.specs.Sessions.{SessionEnd, flush_frames, flushed, put};
-ghost use Rattle.tipc_node.specs.Nodes.{accepted_entry, after_all, after_one, deed_note, entries_all, entries_one, frames_all, frames_one, load_all, mended_by, session_with, unacked_in, waiting_in};
-ghost use Rattle.tipc_node.specs.Neighbours.{done, heard_frames, heard_neighbour, in_step_after, is_state, is_taken, met_by, neighbour, no_broadcast, stays_in_step};
+ghost use Rattle.tipc_link.specs.Sessions.{SessionEnd, IsPut, IsWaiting, flush_frames, flushed};
+ghost use Rattle.tipc_pair.specs.Pairs.{shows_contact};
+ghost use Rattle.tipc_pair.specs.Partners.{IsPairArriving, OpensTo, begun_after};
+ghost use Rattle.tipc_node.specs.Nodes.{accepted_entry, after_all, after_one, deed_note, entries_all, entries_one, frames_all, frames_one, load_all, mended_by, session_with, shown_contact, unacked_in, waiting_in};
+ghost use Rattle.tipc_node.specs.Neighbours.{done, heard_frames, heard_neighbour, is_given, is_state, met_by, neighbour, no_broadcast, stays_in_step};
 
 use crate::recording::note_change;
 use std::alloc::Global;
 use tipc_header::{Header, Packet};
 use tipc_journal::Entry;
-use tipc_link::LinkOutcome;
 use tipc_outside::Outbox;
-use tipc_pair::{Pair, PairArrival, PairChange};
-use tipc_types::{Addr, BroadcastState, Bytes, EventNote, Flow, Message, NoMemory, Pieces};
+use tipc_pair::{Pair, PairArrival, PairArriving, PairChange, PairOutcome};
+use tipc_types::{Addr, BroadcastState, EventNote, Flow, Message, NoMemory, Pieces};
 
 /// The numbers of nodes are from 1 to 32.
 pub const NUMBERS: usize = 33;
@@ -67,21 +67,29 @@ fn is_state(header: &Header) -> bool
     }
 }
 
-/// Whether a link took what arrived.
-fn is_taken(outcome: &LinkOutcome) -> bool
-    ensures { result ≡ is_taken outcome.now }
+/// Whether an arrival gave what its link took.
+fn is_given(outcome: &PairOutcome) -> bool
+    ensures { result ≡ is_given outcome.now }
 {
     match outcome {
-        LinkOutcome::Took(_) => true,
-        LinkOutcome::Ignored(_) => false,
+        PairOutcome::Took(_) => true,
+        PairOutcome::Deferred => false,
+        PairOutcome::Ignored(_) => false,
     }
 }
 
-/// Whether a node is in step with the broadcast of a peer after an arrival.
-fn is_in_step(in_step: bool, arrival: &PairArrival, header: &Header) -> bool
-    ensures { result ≡ (stays_in_step in_step arrival.now.change || (is_state header.now && is_taken arrival.now.outcome)) }
+/// Whether a node gets in step with the broadcast of a peer by what it heard.
+fn gets_in_step(header: &Header, outcome: &PairOutcome) -> bool
+    ensures { result ≡ (is_state header.now && is_given outcome.now) }
 {
-    stays_in_step(in_step, arrival.change) || (is_state(header) && is_taken(&arrival.outcome))
+    is_state(header) && is_given(outcome)
+}
+
+/// Whether a node is in step with the broadcast of a peer after an arrival.
+fn is_in_step(in_step: bool, change: PairChange, gets_in_step: bool) -> bool
+    ensures { result ≡ (stays_in_step in_step change || gets_in_step) }
+{
+    stays_in_step(in_step, change) || gets_in_step
 }
 
 /// What a STATE of a node that has broadcast nothing says of the broadcast.
@@ -116,29 +124,51 @@ impl Neighbour {
         change
     }
 
-    /// Takes a packet that arrived, and then sends the STATE that is due.
-    pub fn hear(
+    /// Takes a RESET or an ACTIVATE that arrived, and then sends the STATE that is due. No call of it fails.
+    pub fn notice(
         &mut self,
         alloc: Global,
         es: u64,
         er: u64,
-        packet: &Packet<'_>,
-        by: u64,
+        header: Header,
         out: &mut Outbox,
-    ) -> Result<PairArrival, NoMemory>
-        requires { Fits (view packet.now) }
-        ensures change { IfOk result (λ a. a.change ≡ (met_by self.old es er (view packet.now) by).change) }
-        ensures outcome { IfOk result (λ a. a.outcome ≡ (met_by self.old es er (view packet.now) by).outcome) }
-        ensures after { OnOk result (self.new ≡ heard_neighbour self.old (view packet.now) (met_by self.old es er (view packet.now) by)) }
-        ensures frames { OnOk result (Adds out.old out.new (heard_frames self.old (view packet.now) (met_by self.old es er (view packet.now) by))) }
-        ensures err { OnErr result ((self.new ≡ self.old) × (out.new ≡ out.old)) }
+    ) -> PairArrival
+        requires { shows_contact header ≡ true }
+        ensures change { (p : Fields) (by : ℕ) → p.header ≡ header → result.change ≡ (met_by self.old es er p by).change }
+        ensures opens { (p : Fields) (by : ℕ) → p.header ≡ header → OpensTo (begun_after (met_by self.old es er p by).change self.old.pair.begun) (met_by self.old es er p by).outcome result.outcome self.new.pair.begun }
+        ensures after { (p : Fields) (by : ℕ) → p.header ≡ header → self.new ≡ heard_neighbour self.old p (met_by self.old es er p by) self.new.pair.begun }
+        ensures frames { (p : Fields) (by : ℕ) → p.header ≡ header → Adds out.old out.new (heard_frames self.old p (met_by self.old es er p by)) }
     {
-        let arrival = self
-            .pair
-            .arrive(alloc, es, er, packet, by, no_broadcast(self.in_step), out)?;
-        self.in_step = is_in_step(self.in_step, &arrival, &packet.header);
+        let shown = no_broadcast(self.in_step);
+        let arrival = self.pair.notice(alloc, es, er, header, shown, out);
+        self.in_step = stays_in_step(self.in_step, arrival.change);
         self.pair.answer(alloc, no_broadcast(self.in_step), out);
-        Ok(arrival)
+        arrival
+    }
+
+    /// Takes a packet that shows no contact number, as its pair told of it when it was as it is, and then sends the STATE that is
+    /// due.
+    pub fn take(
+        &mut self,
+        alloc: Global,
+        arriving: PairArriving,
+        packet: &Packet<'_>,
+        out: &mut Outbox,
+    ) -> PairChange
+        requires plain { shows_contact packet.now.header ≡ false }
+        requires arriving { (es : ℕ) × (er : ℕ) × (by : ℕ) × IsPairArriving self.old.pair es er (view packet.now) by arriving }
+        ensures change { (es er by : ℕ) → IsPairArriving self.old.pair es er (view packet.now) by arriving → result ≡ (met_by self.old es er (view packet.now) by).change }
+        ensures after { (es er by : ℕ) → IsPairArriving self.old.pair es er (view packet.now) by arriving →
+            self.new ≡ heard_neighbour self.old (view packet.now) (met_by self.old es er (view packet.now) by) arriving.begun }
+        ensures frames { (es er by : ℕ) → IsPairArriving self.old.pair es er (view packet.now) by arriving →
+            Adds out.old out.new (heard_frames self.old (view packet.now) (met_by self.old es er (view packet.now) by)) }
+    {
+        let gets_in_step = gets_in_step(&packet.header, arriving.outcome());
+        let shown = no_broadcast(self.in_step);
+        let change = self.pair.commit(alloc, arriving, packet, shown, out);
+        self.in_step = is_in_step(self.in_step, change, gets_in_step);
+        self.pair.answer(alloc, no_broadcast(self.in_step), out);
+        change
     }
 
     /// The numbers of packets unacknowledged and waiting on the link: None exactly where there is no contact.
@@ -155,7 +185,7 @@ impl Neighbour {
 
     /// The node's own contact number and the highest that the peer has shown.
     pub fn contact_numbers(&self) -> (u64, u64)
-        ensures { (result.0 ≡ self.now.pair.contact) × (result.1 ≡ self.now.pair.peer_contact) }
+        ensures { result ≡ shown_contact self.now.pair.link }
     {
         (self.pair.own_contact(), self.pair.peer_contact())
     }
@@ -163,7 +193,7 @@ impl Neighbour {
     /// The entry of a message that is accepted for the peer of this number.
     pub fn accepted(&self, peer: u8, message: Message) -> Entry
         requires { (1 ≤ peer) × (peer ≤ 32) }
-        ensures { result ≡ accepted_entry peer self.now.pair message }
+        ensures { result ≡ accepted_entry peer self.now.pair.link message }
     {
         Entry::Accepted {
             peer: Addr::node(peer),
@@ -173,22 +203,20 @@ impl Neighbour {
         }
     }
 
-    /// Puts a packet on the link, where there is a contact and fewer packets than the limit wait.
+    /// Puts the packets of a message on the link, where there is a contact and fewer packets than the limit wait.
     pub fn send(
         &mut self,
         alloc: Global,
-        packet: Bytes,
+        pieces: Pieces,
         limit: u32,
         out: &mut Outbox,
     ) -> Result<(), NoMemory>
         requires link { (s : SessionEnd) × (session_with (Some self.old) ≡ Some s) × (length s.sending.waiting < limit) }
-        requires long { 24 ≤ length packet }
+        requires pieces { All IsWaiting pieces }
         ensures ok { (s : SessionEnd) → session_with (Some self.old) ≡ Some s →
-            OnOk result ((self.new ≡ neighbour (with_session self.old.pair (flushed (put s (packet ∷ [])))) self.old.in_step) × Adds out.old out.new (flush_frames (put s (packet ∷ [])))) }
+            OnOk result ((put : SessionEnd) × IsPut s pieces put × (self.new ≡ neighbour (with_session self.old.pair.link (flushed put)) self.old.pair.begun self.old.in_step) × Adds out.old out.new (flush_frames put)) }
         ensures err { OnErr result ((self.new ≡ self.old) × (out.new ≡ out.old)) }
     {
-        let mut pieces = Pieces::new(alloc);
-        pieces.push(packet)?;
         match self.pair.send(alloc, pieces, limit, out) {
             Ok(()) => Ok(()),
             Err(_) => Err(NoMemory),

@@ -1,29 +1,27 @@
-ghost use Rattle.std.specs.Prelude.{◌≡◌, ◌+◌, ◌-◌, ◌<◌, ◌≤◌, ◌≢◌, ◌^◌, ◌++◌, ◌∷◌, [], List, ℕ, Bool, true, false, Option, Some, None, Ok, Err, length, map, slice_index_or, slice_set, is_some, option_map, unwrap_or, IfErr, IfOk, IfSome, IfNone, OnErr, OnOk, vec_len, vec_capacity, sum_by};
-ghost use Rattle.tipc_types.specs.Address.{node_word, IsNodeWord};
+ghost use Rattle.std.specs.Prelude.{◌≡◌, ℕ, ◌+◌, ◌<◌, ◌≤◌, [], true, false, None, Some, Err, length, slice_index_or, is_some, option_map, unwrap_or, IfErr, IfOk, IfSome, IfNone, OnErr, OnOk};
+ghost use Rattle.tipc_types.specs.Address.{node_word};
 ghost use Rattle.tipc_outside.specs.Frames.{Adds};
-ghost use Rattle.tipc_header.specs.Spelling.{Fields, spelling, view};
+ghost use Rattle.tipc_header.specs.Spelling.{view};
 ghost use Rattle.tipc_header.specs.Grammar.{Fits};
-ghost use Rattle.tipc_journal.specs.Room.{counted_bytes, entry_bytes};
-ghost use Rattle.tipc_journal.specs.Streams.{Stream, accepted, delivered};
-ghost use Rattle.tipc_message.specs.Wire.{message_of, packet_of, IsPayload};
-ghost use Rattle.tipc_link.specs.Links.{LinkEnd, with_session};
-ghost use Rattle.tipc_link.specs.Sessions.{SessionEnd, flush_frames, flushed, put};
-ghost use Rattle.tipc_node.specs.Calls.{IsDue, IsSent};
-ghost use Rattle.tipc_node.specs.Neighbours.{heard_frames, heard_neighbour, met_by, neighbour};
-ghost use Rattle.tipc_node.specs.Nodes.{NodeState, accepted_entry, after_all, contact_with, deed_node, deed_note, direct, entries_all, frames_all, has_port, has_room, heard_answer, heard_node, known_frames, known_node, limit_of, load_of, mended_by, neighbour_of, port_base, port_of, receive_answer, receive_node, refusal, session_with, socket_answer, socket_node, stop_of, stopped_node, recorded, taken_entries};
+ghost use Rattle.tipc_journal.specs.Room.{counted_bytes};
+ghost use Rattle.tipc_journal.specs.Streams.{accepted, delivered};
+ghost use Rattle.tipc_message.specs.Wire.{IsPayload};
+ghost use Rattle.tipc_link.specs.Sessions.{SessionEnd};
+ghost use Rattle.tipc_pair.specs.Pairs.{shows_contact};
+ghost use Rattle.tipc_node.specs.Calls.{IsDue, IsHeard, IsSent};
+ghost use Rattle.tipc_node.specs.Nodes.{contact_with, deed_node, direct, frames_all, has_port, has_room, known_frames, known_node, limit_of, load_of, neighbour_of, receive_answer, receive_node, recorded, refusal, session_with, socket_answer, socket_node, stop_of, stopped_node};
 
-use crate::arriving::{Due, finish, is_known, look, prepare_delivery};
+use crate::arriving::{Due, arrival_answer, deliver, is_known, look, prepare};
 use crate::inboxes::Inbox;
 use crate::neighbours::{Deed, NUMBERS, Neighbour, deed_note, load_all, mended_by, take_part_all};
 use crate::ports::{MOST_SOCKETS, kept_answer, port_base, socket_answer, take_first};
 use crate::recording::{NodeFault, begin, has_room, note_change, record};
-use crate::sending::{direct, limit};
+use crate::sending::{MOST_BODY_BYTES, direct, limit, pieces};
 use std::alloc::Global;
 use std::marker::Model;
 use tipc_journal::{Entry, Journal};
-use tipc_message::packet_bytes;
 use tipc_outside::Outbox;
-use tipc_pair::Pair;
+use tipc_pair::{Pair, shows_contact};
 use tipc_types::{
     Addr, Answer, Arrival, By, Bytes, EventNote, Flow, Importance, LinkState, Message, NoMemory,
     PortId, Why,
@@ -170,7 +168,7 @@ impl Node {
 
     /// The state of the link end to the peer on bearer 0: None exactly where there is none.
     pub fn links(&self, peer: u8) -> Option<LinkState>
-        ensures { result ≡ option_map (λ x. x.pair.fsm.state) (neighbour_of self.now peer) }
+        ensures { result ≡ option_map (λ x. x.pair.link.fsm.state) (neighbour_of self.now peer) }
     {
         Some(self.neighbour(peer)?.pair.state())
     }
@@ -189,7 +187,7 @@ impl Node {
         ensures frames { Adds out.old out.new (known_frames self.old peer) }
         ensures within { peer < length self.old.neighbours }
     {
-        let mut pair = Pair::new(self.own, Addr::node(peer), self.boot);
+        let mut pair = Pair::new(alloc, self.own, Addr::node(peer), self.boot);
         if self.mended {
             pair.mend(alloc, out);
         }
@@ -281,11 +279,14 @@ impl Node {
 
     /// Why a message to the peer isn't sent: the first reason that holds.
     #[tactic(auto, unfolding(crate::specs::Nodes::refusal))]
-    fn refusal(&self, port: u32, peer: u8, limit: u32) -> Option<Answer>
-        ensures { result ≡ refusal self.now port peer limit }
+    fn refusal(&self, port: u32, peer: u8, limit: u32, body: &Bytes) -> Option<Answer>
+        ensures { result ≡ refusal self.now port peer limit body.now }
     {
         if !self.has_port(port) {
             return Some(Answer::NoSocket);
+        }
+        if body.len() > MOST_BODY_BYTES {
+            return Some(Answer::TooLong(body.len() as u64));
         }
         let Some((in_flight, waiting)) = self.load_to(peer) else {
             return Some(Answer::NoNode);
@@ -296,9 +297,9 @@ impl Node {
         None
     }
 
-    /// Sends a message to a port of the peer. NoSocket exactly where the sending port isn't there, else NoNode exactly
-    /// where there is no contact with the peer, else Congested exactly where as many packets wait on the link as the limit of
-    /// the importance. At Sent the message is recorded as accepted.
+    /// Sends a message to a port of the peer. NoSocket exactly where the sending port isn't there, else TooLong exactly where the
+    /// body has more than 66,000 bytes, else NoNode exactly where there is no contact with the peer, else Congested exactly where
+    /// as many packets wait on the link as the limit of the importance. At Sent the message is recorded as accepted.
     ///
     /// # Errors
     ///
@@ -315,11 +316,10 @@ impl Node {
         out: &mut Outbox,
     ) -> Result<Answer, NodeFault>
         requires peer { (1 ≤ peer) × (peer ≤ 32) }
-        requires body { length body ≤ 1420 }
-        ensures answer { IfOk result (λ a. a ≡ unwrap_or (refusal self.old port peer (limit_of importance)) Answer.Sent) }
-        ensures refused { (why : Answer) → refusal self.old port peer (limit_of importance) ≡ Some why →
+        ensures answer { IfOk result (λ a. a ≡ unwrap_or (refusal self.old port peer (limit_of importance) body) Answer.Sent) }
+        ensures refused { (why : Answer) → refusal self.old port peer (limit_of importance) body ≡ Some why →
             OnOk result ((self.new ≡ recorded self.old by (EventNote.SendPort port to importance body) [] why) × (out.new ≡ out.old)) }
-        ensures sent { refusal self.old port peer (limit_of importance) ≡ None →
+        ensures sent { refusal self.old port peer (limit_of importance) body ≡ None →
             OnOk result (IsSent self.old self.new out.old out.new by (EventNote.SendPort port to importance body) peer (direct self.old.own port to importance body)) }
         ensures room { OnOk result (has_room self.old.journal ≡ true) }
         ensures full { has_room self.old.journal ≡ false → result ≡ Err NodeFault.JournalFull }
@@ -334,7 +334,7 @@ impl Node {
             body: body.clone()?,
         };
         let most = limit(importance);
-        if let Some(refusal) = self.refusal(port, peer, most) {
+        if let Some(refusal) = self.refusal(port, peer, most, &body) {
             let kept = refusal.copy()?;
             record(&mut self.journal, by, note, Vec::new(alloc), kept);
             return Ok(refusal);
@@ -358,20 +358,20 @@ impl Node {
     ) -> Result<(), NoMemory>
         requires peer { (1 ≤ peer) × (peer ≤ 32) }
         requires payload { IsPayload message }
-        requires small { counted_bytes message ≤ 1420 }
+        requires small { counted_bytes message ≤ 66000 }
         requires room { has_room self.old.journal ≡ true }
         requires link { (s : SessionEnd) × (session_with (neighbour_of self.old peer) ≡ Some s) × (length s.sending.waiting < limit) }
         ensures sent { OnOk result (IsSent self.old self.new out.old out.new by note peer message) }
         ensures err { OnErr result ((self.new ≡ self.old) × (out.new ≡ out.old)) }
     {
-        let packet = packet_bytes(alloc, &message)?;
+        let pieces = pieces(alloc, &message)?;
         let mut inside = Vec::with_capacity(alloc, 1)?;
         self.journal.reserve(3)?;
         let Some(neighbour) = &mut self.neighbours[peer as usize] else {
             unreachable!()
         };
         inside.push_reserved(neighbour.accepted(peer, message));
-        neighbour.send(alloc, packet, limit, out)?;
+        neighbour.send(alloc, pieces, limit, out)?;
         record(&mut self.journal, by, note, inside, Answer::Sent);
         Ok(())
     }
@@ -443,7 +443,7 @@ impl Node {
     }
 
     /// A frame arrives whose packet is due at the link of a peer; `number` is its number among all that arrived at this node. The link
-    /// makes of it what its states and the contact numbers say. A message that is taken is recorded as delivered and put into the
+    /// makes of it what its states and the contact numbers say. A message that is given is recorded as delivered and put into the
     /// inbox of its port. A STATE that is due is sent last.
     ///
     /// # Errors
@@ -461,42 +461,90 @@ impl Node {
         requires fits { Fits (view due.packet) }
         requires there { is_some (neighbour_of self.old due.peer) ≡ true }
         ensures heard { (x : Neighbour) → neighbour_of self.old due.entry.peer ≡ Some x →
-            IfOk result (λ a. (a ≡ heard_answer (met_by x due.entry.first due.entry.second (view due.entry.packet) number).outcome (message_of (view due.entry.packet)))
-            × (self.new ≡ heard_node self.old by number due.entry.peer x (view due.entry.packet) (met_by x due.entry.first due.entry.second (view due.entry.packet) number))
-            × Adds out.old out.new (heard_frames x (view due.entry.packet) (met_by x due.entry.first due.entry.second (view due.entry.packet) number))) }
+            IfOk result (λ a. IsHeard self.old self.new out.old out.new by number due.entry.peer due.entry.first due.entry.second x (view due.entry.packet) a) }
         ensures room { OnOk result (has_room self.old.journal ≡ true) }
         ensures full { has_room self.old.journal ≡ false → result ≡ Err NodeFault.JournalFull }
         ensures only { result ≡ Err NodeFault.JournalFull → has_room self.old.journal ≡ false }
         ensures err { OnErr result ((self.new ≡ self.old) × (out.new ≡ out.old)) }
     {
-        begin(&mut self.journal, 3)?;
-        let delivery = prepare_delivery(alloc, &due.packet, number)?;
-        let mut inside = Vec::with_capacity(alloc, 3)?;
+        if !self.has_room() {
+            return Err(NodeFault::JournalFull);
+        }
+        let arrived = if shows_contact(&due.packet.header) {
+            self.notice(alloc, by, number, due, out)?
+        } else {
+            self.take(alloc, by, number, due, out)?
+        };
+        Ok(arrived)
+    }
+
+    /// A RESET or an ACTIVATE arrives, and there is room for the call: as [`Node::hear`].
+    fn notice(
+        &mut self,
+        alloc: Global,
+        by: By,
+        number: u64,
+        due: Due<'_>,
+        out: &mut Outbox,
+    ) -> Result<Arrival, NoMemory>
+        requires peer { (1 ≤ due.peer) × (due.peer ≤ 32) }
+        requires there { is_some (neighbour_of self.old due.peer) ≡ true }
+        requires room { has_room self.old.journal ≡ true }
+        requires shows { shows_contact due.packet.header ≡ true }
+        ensures heard { (x : Neighbour) → neighbour_of self.old due.entry.peer ≡ Some x →
+            IfOk result (λ a. IsHeard self.old self.new out.old out.new by number due.entry.peer due.entry.first due.entry.second x (view due.entry.packet) a) }
+        ensures err { OnErr result ((self.new ≡ self.old) × (out.new ≡ out.old)) }
+    {
+        self.journal.reserve(4)?;
+        let mut inside = Vec::with_capacity(alloc, 2)?;
         let Some(neighbour) = &mut self.neighbours[due.peer as usize] else {
             unreachable!()
         };
-        let arrival = neighbour.hear(alloc, due.first, due.second, &due.packet, number, out)?;
+        let arrival = neighbour.notice(alloc, due.first, due.second, due.packet.header, out);
         note_change(&mut inside, due.peer, arrival.change);
-        let contact = neighbour.contact_numbers();
+        let answer = arrival_answer(&arrival.outcome, &[]);
+        let note = EventNote::Arrive { bearer: 0, number };
+        record(&mut self.journal, by, note, inside, Answer::Arrived(answer));
+        Ok(answer)
+    }
+
+    /// A packet arrives that shows no contact number, and there is room for the call: as [`Node::hear`].
+    fn take(
+        &mut self,
+        alloc: Global,
+        by: By,
+        number: u64,
+        due: Due<'_>,
+        out: &mut Outbox,
+    ) -> Result<Arrival, NoMemory>
+        requires peer { (1 ≤ due.peer) × (due.peer ≤ 32) }
+        requires fits { Fits (view due.packet) }
+        requires there { is_some (neighbour_of self.old due.peer) ≡ true }
+        requires room { has_room self.old.journal ≡ true }
+        requires plain { shows_contact due.packet.header ≡ false }
+        ensures heard { (x : Neighbour) → neighbour_of self.old due.entry.peer ≡ Some x →
+            IfOk result (λ a. IsHeard self.old self.new out.old out.new by number due.entry.peer due.entry.first due.entry.second x (view due.entry.packet) a) }
+        ensures err { OnErr result ((self.new ≡ self.old) × (out.new ≡ out.old)) }
+    {
+        let Some(neighbour) = &mut self.neighbours[due.peer as usize] else {
+            unreachable!()
+        };
+        let heard = prepare(alloc, neighbour, number, &due)?;
+        let count = heard.deliveries.len();
+        self.journal.reserve(count as u64 + 4)?;
+        let mut inside = Vec::with_capacity(alloc, count + 2)?;
+        let change = neighbour.take(alloc, heard.arriving, &due.packet, out);
+        note_change(&mut inside, due.peer, change);
         let base = port_base(self.boot);
-        let outcome = arrival.outcome;
-        let arrived = finish(
-            &mut inside,
-            &mut self.inboxes,
-            base,
-            due.peer,
-            contact,
-            outcome,
-            delivery,
-        );
+        deliver(&mut inside, &mut self.inboxes, base, heard.deliveries);
         let note = EventNote::Arrive { bearer: 0, number };
         record(
             &mut self.journal,
             by,
             note,
             inside,
-            Answer::Arrived(arrived),
+            Answer::Arrived(heard.answer),
         );
-        Ok(arrived)
+        Ok(heard.answer)
     }
 }

@@ -11,10 +11,10 @@ use tipc_pair::PairChange;
 use tipc_types::{Addr, Answer, By, EventNote, LinkState, NoMemory};
 
 /// A call is refused where the journal has fewer free entries than this. (This project's profile.)
-const FREE_ENTRIES: u64 = 65_536;
+pub const FREE_ENTRIES: u64 = 65_536;
 
 /// A call is refused where the journal has fewer free message bytes than this. (This project's profile.)
-const FREE_MESSAGE_BYTES: u64 = 4_194_304;
+pub const FREE_MESSAGE_BYTES: u64 = 4_194_304;
 
 /// Why a call of a node wasn't made. Nothing is changed then.
 #[derive(Clone, Copy, Debug, PartialEq, Eq)]
@@ -66,7 +66,7 @@ pub fn has_room(journal: &Journal) -> bool
 
 /// Makes a journal ready for a step with at most so many entries inside.
 pub fn begin(journal: &mut Journal, inside: u64) -> Result<(), NodeFault>
-    requires { inside ≤ 64 }
+    requires { inside ≤ 65534 }
     ensures ok { OnOk result ((inside + 2 ≤ journal.new.spare) × (has_room journal.old.entries ≡ true)) }
     ensures full { has_room journal.old.entries ≡ false → result ≡ Err NodeFault.JournalFull }
     ensures only { result ≡ Err NodeFault.JournalFull → has_room journal.old.entries ≡ false }
@@ -82,7 +82,7 @@ pub fn begin(journal: &mut Journal, inside: u64) -> Result<(), NodeFault>
 /// Records a step: who made the call, the call, what happened in it, and its answer.
 pub fn record(journal: &mut Journal, by: By, event: EventNote, inside: Vec<Entry>, answer: Answer)
     requires room { has_room journal.old.entries ≡ true }
-    requires few { length inside.items ≤ 64 }
+    requires few { length inside.items ≤ 65534 }
     requires spare { length inside.items + 2 ≤ journal.old.spare }
     requires bytes { sum_by entry_bytes inside.items ≤ 4194304 }
     ensures { journal.new.entries ≡ journal.old.entries ++ step_entries (step_of by event inside.items answer) }

@@ -1,16 +1,26 @@
-ghost use Rattle.std.specs.Prelude.{◌≡◌, ◌≤◌, length};
+ghost use Rattle.std.specs.Prelude.{◌≡◌, ◌≤◌, All, Some, length, IfOk};
+ghost use Rattle.tipc_header.specs.Grammar.{Fits};
+ghost use Rattle.tipc_header.specs.Spelling.{Fields, spelling};
 ghost use Rattle.tipc_journal.specs.Room.{counted_bytes};
-ghost use Rattle.tipc_message.specs.Wire.{IsPayload};
+ghost use Rattle.tipc_link.specs.Sessions.{IsWaiting};
+ghost use Rattle.tipc_pair.specs.Partners.{pieces_for};
+ghost use Rattle.tipc_message.specs.Wire.{packet_of, IsPayload};
 ghost use Rattle.tipc_node.specs.Nodes.{direct, limit_of};
 
-use tipc_types::{Addr, Bytes, Form, Importance, Message, PortId};
+use std::alloc::Global;
+use tipc_fragments::{LEAST_CUT, cut};
+use tipc_message::packet_bytes;
+use tipc_types::{Addr, Bytes, Form, Importance, Message, NoMemory, Pieces, PortId};
+
+/// The most bytes of a body. (This project's profile.)
+pub const MOST_BODY_BYTES: usize = 66_000;
 
 /// A user's message to a port of another node.
 pub fn direct(own: Addr, port: u32, to: PortId, importance: Importance, body: Bytes) -> Message
-    requires { length body ≤ 1420 }
+    requires { length body ≤ 66000 }
     ensures value { result ≡ direct own.word port to importance body }
     ensures payload { IsPayload result }
-    ensures small { counted_bytes result ≤ 1420 }
+    ensures small { counted_bytes result ≤ 66000 }
 {
     Message::Payload {
         importance,
@@ -36,4 +46,19 @@ pub fn limit(importance: Importance) -> u32
         Importance::High => 150,
         Importance::Critical => 200,
     }
+}
+
+/// The packets in which a user's message is sent: its own, or its fragments where that is too long for one packet.
+pub fn pieces(alloc: Global, message: &Message) -> Result<Pieces, NoMemory>
+    requires { IsPayload message.now }
+    ensures spelled { IfOk result (λ pieces. (p : Fields) × (packet_of message.now ≡ Some p) × Fits p × (pieces ≡ pieces_for (spelling p))) }
+    ensures waiting { IfOk result (All IsWaiting) }
+{
+    let packet = packet_bytes(alloc, message)?;
+    if packet.len() >= LEAST_CUT {
+        return cut(alloc, packet.as_slice());
+    }
+    let mut pieces = Pieces::new(alloc);
+    pieces.push(packet)?;
+    Ok(pieces)
 }

@@ -4,7 +4,7 @@ use super::{Deed, Node};
 use std::alloc::Global;
 use std::test::Fail;
 use tipc_outside::Outbox;
-use tipc_types::{Addr, Answer, Arrival, By, Bytes, Importance, PortId};
+use tipc_types::{Addr, Answer, Arrival, By, Bytes, Importance, Message, PortId};
 
 /// A call of a scripted world.
 const SCRIPTED: By = By {
@@ -90,14 +90,13 @@ fn mended(alloc: Global, own: u8, peer: u8) -> Result<(Node, Outbox), Fail>
     Ok((node, out))
 }
 
-/// A node sends a message of three bytes from its first port to the first of node 2. It answers what became of it at node 2.
-fn send(alloc: Global, from: &mut Node, to: &mut Node) -> Result<Arrival, Fail> {
+/// A node sends a message from its first port to the first of node 2. It answers what became of its last frame at node 2.
+fn send(alloc: Global, from: &mut Node, to: &mut Node, body: Bytes) -> Result<Arrival, Fail> {
     let (mut leaving, mut back) = (Outbox::new(alloc), Outbox::new(alloc));
     let port = PortId {
         node: Addr::node(2),
         port: 1,
     };
-    let body = Bytes::from_slice(alloc, &[1, 2, 3])?;
     from.send_port(
         alloc,
         SCRIPTED,
@@ -111,14 +110,46 @@ fn send(alloc: Global, from: &mut Node, to: &mut Node) -> Result<Arrival, Fail> 
     give(alloc, leaving, to, &mut back)
 }
 
-#[test]
-fn a_message_arrives_at_a_node_in_contact(rt: HostRuntime) -> Result<(), Fail> {
-    let alloc = rt.alloc();
+/// A message of this body arrives at a node in contact, by its last frame, and is received once.
+fn arrives(alloc: Global, body: Bytes) -> Result<bool, Fail> {
     let (mut right, _) = mended(alloc, 2, 1)?;
     let (mut left, leaving) = mended(alloc, 1, 2)?;
     settle(alloc, &mut left, &mut right, leaving)?;
-    assert_eq!(rt; send(alloc, &mut left, &mut right)?, Arrival::Took(1));
-    assert!(rt; matches!(right.receive(alloc, SCRIPTED, 1)?, Answer::Received(_)));
-    assert_eq!(rt; right.receive(alloc, SCRIPTED, 1)?, Answer::Empty);
+    let taken = send(alloc, &mut left, &mut right, body.clone()?)? == Arrival::Took(1);
+    let Answer::Received(Message::Payload { body: received, .. }) = right.receive(
+        alloc, SCRIPTED, 1,
+    )?
+    else {
+        return Ok(false);
+    };
+    let once = right.receive(alloc, SCRIPTED, 1)? == Answer::Empty;
+    Ok(taken && once && received == body)
+}
+
+#[test]
+fn a_message_arrives_at_a_node_in_contact(rt: HostRuntime) -> Result<(), Fail> {
+    let body = Bytes::from_slice(rt.alloc(), &[1, 2, 3])?;
+    assert!(rt; arrives(rt.alloc(), body)?);
+    Ok(())
+}
+
+#[test]
+fn a_message_of_3000_bytes_arrives_in_fragments(rt: HostRuntime) -> Result<(), Fail> {
+    let body = Bytes::from_vec(vec![in rt.alloc(); 7; 3_000]?);
+    assert!(rt; arrives(rt.alloc(), body)?);
+    Ok(())
+}
+
+#[test]
+fn a_message_of_66001_bytes_is_too_long(rt: HostRuntime) -> Result<(), Fail> {
+    let alloc = rt.alloc();
+    let (mut node, mut out) = mended(alloc, 1, 2)?;
+    let to = PortId {
+        node: Addr::node(2),
+        port: 1,
+    };
+    let body = Bytes::from_vec(vec![in alloc; 7; 66_001]?);
+    let refused = node.send_port(alloc, SCRIPTED, 1, to, 2, Importance::Low, body, &mut out)?;
+    assert_eq!(rt; refused, Answer::TooLong(66_001));
     Ok(())
 }

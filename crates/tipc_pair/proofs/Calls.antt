@@ -9,10 +9,12 @@ use Rattle.tipc_outside.specs.declared.outgoing.Outgoing.{Outgoing}
 use Rattle.tipc_link_fsm.specs.Table.{Fsm, Outcome, is_up, on_cut, on_tick, tick_in, unheard, up_tick}
 use Rattle.tipc_link_fsm.proofs.Moves.{cases_on}
 use Rattle.tipc_link.specs.Links.{LinkEnd, is_down, is_reset_unknown, mended_end, mend_frames, reset_frames, state_frames, with_session}
-use Rattle.tipc_link.specs.Sessions.{SessionEnd, flush_frames, flushed, put, told}
+use Rattle.tipc_link.specs.Sessions.{IsPut, SessionEnd, flush_frames, flushed, moving, told}
 use Rattle.tipc_link.proofs.LinkLaw.{Each, Each-none}
 use Rattle.tipc_pair.specs.Paired.{ArePaired, IsPacket, IsShowable}
-use Rattle.tipc_pair.specs.Pairs.{cut_pair, parted, settled, settled_frames, tick_frames, tick_pair}
+use Rattle.tipc_pair.specs.declared.changes.PairChange.{PairChange}
+use Rattle.tipc_pair.specs.declared.changes.PairChange.TheVariants.{Stay}
+use Rattle.tipc_pair.specs.Pairs.{change_of, cut_pair, parted, settled, settled_frames, tick_frames, tick_pair}
 use Rattle.tipc_pair.specs.Views.{Goes, View, own_of, seen_of, session_of}
 use Rattle.tipc_pair.proofs.CallsArrivals.{session_now}
 use Rattle.tipc_pair.proofs.CallsDown.{is_down_then}
@@ -23,18 +25,19 @@ use Rattle.tipc_pair.proofs.HalvesEvents.{no_more, no_more_took}
 use Rattle.tipc_pair.proofs.PeeringCalls.{mend_course, send_course, tick_course}
 use Rattle.tipc_pair.proofs.PeeringFalls.{cut_course}
 use Rattle.tipc_pair.proofs.PeeringLaws.{small_of}
+use Rattle.tipc_pair.proofs.Sessions.{each_front}
 use Rattle.tipc_pair.proofs.SessionsHeard.{Follows, put_follows, state_follows}
 
 -- ---- a tick
 
 -- what a tick makes of a link: it is down, or tells where it stands
-data Ticked (e : LinkEnd) (shown : BroadcastState) (e' : LinkEnd) (frames : List Outgoing) : Type 0 where
-  is_low : is_up e'.fsm.state ≡ false → Ticked e shown e' frames
-  tells : (probe : Bool) → is_up e.fsm.state ≡ true → is_up e'.fsm.state ≡ true → e'.session ≡ option_map told e.session → frames ≡ state_frames e.session shown probe → Ticked e shown e' frames
+pub data Ticked (e : LinkEnd) (shown : BroadcastState) (e' : LinkEnd) (frames : List Outgoing) (change : PairChange) : Type 0 where
+  is_low : is_up e'.fsm.state ≡ false → Ticked e shown e' frames change
+  tells : (probe : Bool) → is_up e.fsm.state ≡ true → is_up e'.fsm.state ≡ true → e'.session ≡ option_map told e.session → frames ≡ state_frames e.session shown probe → change ≡ Stay → Ticked e shown e' frames change
 
 -- what the link states make of a tick
 abbrev TickedBy : LinkEnd → BroadcastState → Outcome → Type 0
-TickedBy e shown o = Ticked e shown (settled e o) (settled_frames e o shown)
+TickedBy e shown o = Ticked e shown (settled e o) (settled_frames e o shown) (change_of e o 0)
 
 still_up : (f : Fsm) → is_up (unheard f).state ≡ true
 still_up f = elim (nat_le 1 f.silent) as (λ b. is_up (if b then WorkingUnknown else WorkingWorking) ≡ true) [ true ↦ refl | false ↦ refl ]
@@ -43,7 +46,7 @@ up_ticked : (e : LinkEnd) (shown : BroadcastState) → is_up e.fsm.state ≡ tru
 up_ticked e shown up =
     cases_on (TickedBy e shown) (e.fsm.silent == 4) _ _
     (λ _. is_low (ap (λ (f : Fsm). is_up f.state) (ended-is _)))
-    (λ _. tells (nat_le 1 e.fsm.silent) up (still_up e.fsm) refl refl)
+    (λ _. tells (nat_le 1 e.fsm.silent) up (still_up e.fsm) refl refl refl)
 
 ticked_in : (st : LinkState) (e : LinkEnd) (shown : BroadcastState) → e.fsm.state ≡ st → TickedBy e shown (tick_in st e.fsm false)
 ticked_in ResetUnknown e shown is = is_low (ap is_up is)
@@ -52,13 +55,13 @@ ticked_in Held e shown is = is_low (ap is_up is)
 ticked_in WorkingWorking e shown is = up_ticked e shown (ap is_up is)
 ticked_in WorkingUnknown e shown is = up_ticked e shown (ap is_up is)
 
-ticked : (e : LinkEnd) (shown : BroadcastState) → Ticked e shown (tick_pair e) (tick_frames e shown)
+pub ticked : (e : LinkEnd) (shown : BroadcastState) → Ticked e shown (tick_pair e) (tick_frames e shown) (change_of e (on_tick e.fsm false) 0)
 unfolding on_tick
 ticked e shown = ticked_in e.fsm.state e shown refl
 
-ticks_by : (x x' y : View) (e : LinkEnd) (shown : BroadcastState) → ArePaired x y → x.link ≡ Some e → IsShowable shown → Goes x x' y (tick_pair e) (tick_frames e shown) [] [] → Ticked e shown (tick_pair e) (tick_frames e shown) → ArePaired x' y
+ticks_by : (x x' y : View) (e : LinkEnd) (shown : BroadcastState) → ArePaired x y → x.link ≡ Some e → IsShowable shown → Goes x x' y (tick_pair e) (tick_frames e shown) [] [] → Ticked e shown (tick_pair e) (tick_frames e shown) (change_of e (on_tick e.fsm false) 0) → ArePaired x' y
 ticks_by x x' y e shown h is showable g (is_low down) = is_down_then x x' y e (tick_pair e) _ h is g (tick_course x y.sent e shown (small_of x y h.here) (h.here.end e is)) down
-ticks_by x x' y e shown h is showable g (tells probe up up' session frames) =
+ticks_by x x' y e shown h is showable g (tells probe up up' session frames still) =
     let now = session_now x e (h.here.end e is) up in
     let s = now.session in
     goes_on x x' y e (tick_pair e) _ [] [] s (told s) h is g (tick_course x y.sent e shown (small_of x y h.here) (h.here.end e is)) up up' now.is (session ∙ ap (λ o. option_map told o) now.is) (Each-none _)
@@ -70,7 +73,7 @@ ticks x x' y e shown h is showable g = ticks_by x x' y e shown h is showable g (
 
 -- ---- the bearer is cut
 
-cut_low : (e : LinkEnd) → is_up (cut_pair e).fsm.state ≡ false
+pub cut_low : (e : LinkEnd) → is_up (cut_pair e).fsm.state ≡ false
 unfolding on_cut
 cut_low e =
     let cut : Outcome → LinkEnd = λ o. record e { mended = false; fsm = o.after } in
@@ -82,15 +85,15 @@ cuts x x' y e h is g = is_down_then x x' y e (cut_pair e) [] h is g (cut_course 
 
 -- ---- packets are put
 
-pub puts : (x x' y : View) (e : LinkEnd) (s : SessionEnd) (pieces : List (List ℕ)) → ArePaired x y → x.link ≡ Some e → session_of x ≡ Some s → Each IsPacket pieces
-    → Goes x x' y (with_session e (flushed (put s pieces))) (flush_frames (put s pieces)) pieces [] → ArePaired x' y
-puts x x' y e s pieces h is has packets g =
+pub puts : (x x' y : View) (e : LinkEnd) (s s' : SessionEnd) (pieces : List (List ℕ)) → ArePaired x y → x.link ≡ Some e → session_of x ≡ Some s → IsPut s pieces s' → Each IsPacket s'.sending.waiting
+    → Goes x x' y (with_session e (flushed s')) (flush_frames s') (moving s') [] → ArePaired x' y
+puts x x' y e s s' pieces h is has put packets g =
     let here = session_here x s has in
     let same : here.end ≡ e = same_some here.end e x.link here.link is in
     let up : is_up e.fsm.state ≡ true = ap (λ (d : LinkEnd). is_up d.fsm.state) (sym same) ∙ here.up in
     let session : e.session ≡ Some s = ap (λ (d : LinkEnd). d.session) (sym same) ∙ here.session in
-    goes_on x x' y e (with_session e (flushed (put s pieces))) _ pieces [] s (flushed (put s pieces)) h is g (send_course x y.sent e s pieces (small_of x y h.here) (h.here.end e is) up session) up up session refl packets
-    (λ k. no_more_took x y _ _ _ _ (put_follows x y s _ _ pieces k packets))
+    goes_on x x' y e (with_session e (flushed s')) _ (moving s') [] s (flushed s') h is g (send_course x y.sent e s s' pieces (small_of x y h.here) (h.here.end e is) up session put) up up session refl (each_front _ s'.sending.waiting packets)
+    (λ k. no_more_took x y _ _ _ _ (put_follows x y s s' _ _ pieces k put packets))
 
 -- ---- the bearer is mended
 

@@ -71,6 +71,7 @@ goes_up x x' y e e' frames took s' h is g c was up has alike seen follows =
       epoch = rested.1 ∙ sym (epoch_is x e is);
       sending = refl;
       taken = refl;
+      held = refl;
     } in
     begins x x' y (raised e') e' (begun_by e') s' took frames h g begun (elim seen [ inl none ↦ inl none | inr same ↦ inr (same ∙ sym (seen_is x e is)) ]) (k.end e' g.link)
     refl refl refl has (sym alike.peer_epoch) follows (record { peers = k.peers; heard = k.heard; named = k.named; meets = meets x' y x k h.there })

@@ -1,10 +1,12 @@
 -- A node against its peer, and what stays of it while either goes on.
-use Rattle.std.proofs.Common.{◌≡◌, ℕ, ◌/◌, ◌^◌, ◌<◌, ◌≤◌, true, false, if◌then◌else◌, List, [], ◌++◌, Option, Some, None, length, take, slice_get, refl, sym, ap, ◌∙◌, subst, inl, inr, append_assoc, append-nil, length-append, arith}
+use Rattle.std.proofs.Common.{◌≡◌, ℕ, get_or, ◌+◌, ◌/◌, ◌^◌, ◌<◌, ◌≤◌, true, false, if◌then◌else◌, List, [], ◌∷◌, ◌++◌, Option, Some, None, length, take, slice_get, zero, suc, refl, sym, ap, ◌∙◌, subst, inl, inr, append_assoc, append-nil, length-append, arith}
+use Rattle.std.proofs.lemmas.List.{get_or-take}
 use Rattle.std.proofs.lemmas.Option.{get_or_from_slice_get, slice_get-get_or, slice_get_within}
 use Rattle.std.proofs.Math.ListN.{get_or-append}
 use Rattle.tipc_link_fsm.specs.Table.{is_last, is_up}
 use Rattle.tipc_contact.specs.Peers.{ArePeers}
-use Rattle.tipc_link.specs.Direction.{IsDirection}
+use Rattle.tipc_types.specs.declared.packet_lists.Taken.{Taken}
+use Rattle.tipc_link.specs.Direction.{IsDirection, IsReceiver}
 use Rattle.tipc_link.specs.Laws.{IsPrefixOf}
 use Rattle.tipc_link.specs.Links.{LinkEnd}
 use Rattle.tipc_link.specs.Sessions.{SessionEnd}
@@ -103,8 +105,10 @@ pub record IsCore (x y : View) : Type 0 where
   pub peer_fits : x.peer < 2 ^ 32
   pub boot_fits : x.boot < 2 ^ 32
   pub packets : (own theirs k : ℕ) (bytes : List ℕ) → slice_get (x.put own theirs) k ≡ Some bytes → IsPacket bytes
-  pub sends : (s : SessionEnd) → session_of x ≡ Some s → IsDirection s.sending (length (y.took (seen_of x) (own_of x))) (x.put (own_of x) (seen_of x)) (take (length (y.took (seen_of x) (own_of x))) (x.put (own_of x) (seen_of x)))
+  pub waiting : (s : SessionEnd) (k : ℕ) (bytes : List ℕ) → session_of x ≡ Some s → slice_get s.sending.waiting k ≡ Some bytes → IsPacket bytes
+  pub sends : (s : SessionEnd) → session_of x ≡ Some s → IsDirection s.sending (length (y.took (seen_of x) (own_of x))) (x.put (own_of x) (seen_of x))
   pub takes : (s : SessionEnd) → session_of x ≡ Some s → length (x.took (own_of x) (seen_of x)) ≡ s.taken
+  pub holds : (s : SessionEnd) → session_of x ≡ Some s → IsReceiver s.held s.taken (take (y.numbered s.peer_epoch) (y.put (seen_of x) (own_of x)))
   pub bounded : (s : SessionEnd) → session_of x ≡ Some s → length (x.took (own_of x) (seen_of x)) ≤ y.numbered s.peer_epoch
   pub counts : (e : LinkEnd) (s : SessionEnd) → x.link ≡ Some e → e.session ≡ Some s → x.numbered s.epoch ≡ s.sending.numbered
   pub unborn : (epoch : ℕ) → IsUnborn x epoch → x.numbered epoch ≡ 0
@@ -119,8 +123,10 @@ core_of x y h = record {
   peer_fits = h.peer_fits;
   boot_fits = h.boot_fits;
   packets = h.packets;
+  waiting = h.waiting;
   sends = h.sends;
   takes = h.takes;
+  holds = h.holds;
   bounded = h.bounded;
   counts = h.counts;
   unborn = h.unborn;
@@ -146,8 +152,10 @@ half_of x y h heard named = record {
   heard = heard;
   named = named;
   packets = h.packets;
+  waiting = h.waiting;
   sends = h.sends;
   takes = h.takes;
+  holds = h.holds;
   bounded = h.bounded;
   counts = h.counts;
   unborn = h.unborn;
@@ -281,9 +289,46 @@ frame_there x x' y f g h = record {
 pub frames_here : (x x' y : View) → Grows x x' → Each (IsFrame x y) x.sent → Each (IsFrame x' y) x.sent
 frames_here x x' y g h k f is = frame_here x x' y f g (h k f is)
 
+pub length-take-most : {A : Type 0} (n : ℕ) (xs : List A) → length (take n xs) ≤ n
+length-take-most zero xs = omega arith
+length-take-most (suc n) [] = omega arith
+length-take-most (suc n) (x ∷ xs) = let h = length-take-most n xs in omega arith
+
+pub length-take-short : {A : Type 0} (n : ℕ) (xs : List A) → length (take n xs) ≤ length xs
+length-take-short zero xs = omega arith
+length-take-short (suc n) [] = omega arith
+length-take-short (suc n) (x ∷ xs) = let h = length-take-short n xs in omega arith
+
+pub length-take-both : {A : Type 0} (n : ℕ) (xs : List A) (i : ℕ) → i < n → i < length xs → i < length (take n xs)
+length-take-both zero xs i a b = omega arith
+length-take-both (suc n) [] i a b = absurd (omega arith)
+length-take-both (suc n) (x ∷ xs) zero a b = omega arith
+length-take-both (suc n) (x ∷ xs) (suc i) a b = let h = length-take-both n xs i (omega arith) (omega arith) in omega arith
+
+-- a longer front of a longer list
+front_extends : (n n' : ℕ) (line line' : List (List ℕ)) → n ≤ n' → IsLonger line line' → Extends (take n line) (take n' line')
+front_extends n n' line line' more longer i x e =
+    let within : i < length (take n line) = slice_get_within (take n line) i x e in
+    let few : length (take n line) ≤ n = length-take-most n line in
+    let before : i < n = omega arith in
+    let value : get_or line i x ≡ x = sym (get_or-take n line i x before) ∙ get_or_from_slice_get (take n line) i x x e in
+    let short : length (take n line) ≤ length line = length-take-short n line in
+    let there : slice_get line' i ≡ Some x = longer_extends line line' longer i x (slice_get-get_or line i x (omega arith) ∙ ap Some value) in
+    let within' : i < length line' = slice_get_within line' i x there in
+    let value' : get_or (take n' line') i x ≡ x = get_or-take n' line' i x (omega arith) ∙ get_or_from_slice_get line' i x x there in
+    slice_get-get_or (take n' line') i x (length-take-both n' line' i (omega arith) within') ∙ ap Some value'
+
+-- what is held of packets that were numbered, when more were
+held_later : (held : List (Option Taken)) (taken n n' : ℕ) (line line' : List (List ℕ)) → n ≤ n' → IsLonger line line' → IsReceiver held taken (take n line) → IsReceiver held taken (take n' line')
+held_later held taken n n' line line' more longer h = record {
+  window = h.window;
+  wants = h.wants;
+  holds = λ d t there. front_extends n n' line line' more longer (taken + d) t.packet (h.holds d t there);
+}
+
 -- the peer's side of what a node does: what the peer sends may have been taken
 pub there_stays : (x x' y : View) → Grows x x' → IsCore y x
-    → ((s : SessionEnd) → session_of y ≡ Some s → IsDirection s.sending (length (x'.took (seen_of y) (own_of y))) (y.put (own_of y) (seen_of y)) (take (length (x'.took (seen_of y) (own_of y))) (y.put (own_of y) (seen_of y))))
+    → ((s : SessionEnd) → session_of y ≡ Some s → IsDirection s.sending (length (x'.took (seen_of y) (own_of y))) (y.put (own_of y) (seen_of y)))
     → IsCore y x'
 there_stays x x' y g h sends = record {
   end = h.end;
@@ -291,8 +336,10 @@ there_stays x x' y g h sends = record {
   peer_fits = h.peer_fits;
   boot_fits = h.boot_fits;
   packets = h.packets;
+  waiting = h.waiting;
   sends = sends;
   takes = h.takes;
+  holds = λ s is. held_later s.held s.taken _ _ _ _ (g.numbered s.peer_epoch) (g.put_more (seen_of y) (own_of y)) (h.holds s is);
   bounded = λ s is. (let before = h.bounded s is in let more = g.numbered s.peer_epoch in omega arith);
   counts = h.counts;
   unborn = h.unborn;
@@ -305,7 +352,7 @@ there_stays x x' y g h sends = record {
 pub there_same : (x x' y : View) → Grows x x' → ((own theirs : ℕ) → x'.took own theirs ≡ x.took own theirs) → IsCore y x → IsCore y x'
 there_same x x' y g same h =
     there_stays x x' y g h
-    (λ s is. subst (λ ts. IsDirection s.sending (length ts) (y.put (own_of y) (seen_of y)) (take (length ts) (y.put (own_of y) (seen_of y)))) (sym (same (seen_of y) (own_of y))) (h.sends s is))
+    (λ s is. subst (λ ts. IsDirection s.sending (length ts) (y.put (own_of y) (seen_of y))) (sym (same (seen_of y) (own_of y))) (h.sends s is))
 
 -- two cores are a pair, with what is said of notices
 pub paired : (x x' y : View) (more : List Frame) → ArePaired x y → x'.sent ≡ x.sent ++ more → IsCore x' y → IsCore y x'

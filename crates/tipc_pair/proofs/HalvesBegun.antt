@@ -1,10 +1,11 @@
 -- A node whose link goes up: the session begins, in a contact in which nothing was put or taken yet.
-use Rattle.std.proofs.Common.{◌≡◌, ◌⊎◌, ℕ, ◌==◌, ◌&&◌, true, List, [], ◌∷◌, ◌++◌, Some, None, if◌then◌else◌, length, take, refl, sym, ap, ◌∙◌, subst, inl, inr, append-nil, arith}
+use Rattle.std.proofs.Common.{◌≡◌, ◌⊎◌, ℕ, ◌==◌, ◌&&◌, true, List, [], ◌∷◌, ◌++◌, Option, Some, None, if◌then◌else◌, length, slice_get, slice_index_or, refl, sym, ap, ◌∙◌, subst, inl, inr, append-nil, arith}
 use Rattle.tipc_outside.specs.declared.outgoing.Outgoing.{Outgoing}
 use Rattle.tipc_send_window.specs.Sending.{Sending, fresh}
 use Rattle.tipc_contact.specs.Peers.{ArePeers}
 use Rattle.tipc_link_fsm.specs.Table.{Fsm, is_up}
-use Rattle.tipc_link.specs.Direction.{IsDirection}
+use Rattle.tipc_types.specs.declared.packet_lists.Taken.{Taken}
+use Rattle.tipc_link.specs.Direction.{IsDirection, IsReceiver}
 use Rattle.tipc_link.specs.Links.{LinkEnd}
 use Rattle.tipc_link.specs.Sessions.{SessionEnd}
 use Rattle.tipc_link.proofs.LinkLaw.{Each-none}
@@ -30,15 +31,28 @@ pub record Begins (x : View) (e : LinkEnd) (s : SessionEnd) : Type 0 where
   pub epoch : e.fsm.own ≡ epoch_of x
   pub sending : s.sending ≡ fresh
   pub taken : s.taken ≡ 0
+  pub held : s.held ≡ []
 
 -- ---- the moment of going up
 
-empty_direction : (s : Sending) (ts ps : List (List ℕ)) → s ≡ fresh → ts ≡ [] → ps ≡ [] → IsDirection s (length ts) ps (take (length ts) ps)
+empty_direction : (s : Sending) (ts ps : List (List ℕ)) → s ≡ fresh → ts ≡ [] → ps ≡ [] → IsDirection s (length ts) ps
 empty_direction s ts ps s_is ts_is ps_is =
-    subst (λ (k : Sending). IsDirection k (length ts) ps (take (length ts) ps)) (sym s_is)
-    (subst (λ us. IsDirection fresh (length us) ps (take (length us) ps)) (sym ts_is)
-    (subst (λ us. IsDirection fresh 0 us (take 0 us)) (sym ps_is)
-    (record { window = omega arith; below = omega arith; count = refl; kept = refl; got = refl; acked_taken = omega arith; taken_numbered = omega arith })))
+    subst (λ (k : Sending). IsDirection k (length ts) ps) (sym s_is)
+    (subst (λ us. IsDirection fresh (length us) ps) (sym ts_is)
+    (subst (λ us. IsDirection fresh 0 us) (sym ps_is) (record { window = omega arith; below = omega arith; count = refl; kept = refl; acked_taken = omega arith; taken_numbered = omega arith })))
+
+nothing_held : (held : List (Option Taken)) (d : ℕ) (t : Taken) → held ≡ [] → slice_index_or held d None ≡ Some t → ⊥
+nothing_held held d t none is = let there : slice_index_or [] d None ≡ Some t = subst (λ (hs : List (Option Taken)). slice_index_or hs d None ≡ Some t) none is in cc
+
+empty_receiver : (held : List (Option Taken)) (taken : ℕ) (line : List (List ℕ)) → held ≡ [] → IsReceiver held taken line
+empty_receiver held taken line none = record {
+  window = (let long = ap (λ (hs : List (Option Taken)). length hs) none in omega arith);
+  wants = ap (λ (hs : List (Option Taken)). slice_index_or hs 0 None) none;
+  holds = λ d t is. absurd (nothing_held held d t none is);
+}
+
+nothing_waits : (s : Sending) (k : ℕ) (bytes : List ℕ) → s ≡ fresh → slice_get s.waiting k ≡ Some bytes → ⊥
+nothing_waits s k bytes none is = let there : slice_get [] k ≡ Some bytes = subst (λ (t : Sending). slice_get t.waiting k ≡ Some bytes) none is in cc
 
 empty_front : (xs rest : List (List ℕ)) → [] ≡ xs ++ rest → xs ≡ []
 empty_front [] rest e = refl
@@ -121,8 +135,10 @@ begun_here x y e s here there b =
       peer_fits = here.peer_fits;
       boot_fits = here.boot_fits;
       packets = here.packets;
+      waiting = λ t k bytes is there_is. absurd (nothing_waits t.sending k bytes (ap (λ (k : SessionEnd). k.sending) (sym (is_s t is)) ∙ b.sending) there_is);
       sends = λ t is. empty_direction t.sending _ _ (ap (λ (k : SessionEnd). k.sending) (sym (is_s t is)) ∙ b.sending) (nothing_there x y e s here there b) nothing.0;
       takes = λ t is. none ∙ sym b.taken ∙ ap (λ (k : SessionEnd). k.taken) (is_s t is);
+      holds = λ t is. empty_receiver t.held t.taken _ (ap (λ (k : SessionEnd). k.held) (sym (is_s t is)) ∙ b.held);
       bounded = λ t is. omega arith;
       counts = λ other t is session.
           let same : e ≡ other = cc in
@@ -160,7 +176,7 @@ pub come_nothing : (x : View) (more : List (List ℕ)) (own theirs : ℕ) → mo
 come_nothing x more own theirs none = ap (λ ms. come x ms own theirs) none ∙ nothing_came x [] (come x [] own theirs) own theirs refl
 
 -- the contact is the same
-come_same : (x z : View) (more : List (List ℕ)) (own theirs : ℕ) → own_of z ≡ own_of x → seen_of z ≡ seen_of x → come z more own theirs ≡ come x more own theirs
+pub come_same : (x z : View) (more : List (List ℕ)) (own theirs : ℕ) → own_of z ≡ own_of x → seen_of z ≡ seen_of x → come z more own theirs ≡ come x more own theirs
 come_same x z more own theirs own_same seen_same =
     ap (λ (n : ℕ). if (own == n) && (theirs == seen_of z) then more else []) own_same ∙ ap (λ (n : ℕ). if (own == own_of x) && (theirs == n) then more else []) seen_same
 

@@ -4,7 +4,7 @@ use Rattle.std.proofs.lemmas.Bool.{cases_eq}
 use Rattle.std.proofs.lemmas.Bool.Decides.{nat_tests}
 use Rattle.tipc_outside.specs.declared.outgoing.Outgoing.{Outgoing}
 use Rattle.tipc_header.specs.Spelling.{spelling}
-use Rattle.tipc_link.specs.Direction.{IsCarried, IsDirection}
+use Rattle.tipc_link.specs.Direction.{IsCarried, IsDirection, IsReceiver}
 use Rattle.tipc_link.specs.Laws.{IsPrefixOf}
 use Rattle.tipc_link.specs.Links.{LinkEnd}
 use Rattle.tipc_link.specs.Sessions.{SessionEnd}
@@ -25,17 +25,17 @@ use Rattle.tipc_pair.proofs.SpokenNotices.{traffic_shows}
 abbrev pub IsElsewhere : View → ℕ → ℕ → Type 0
 IsElsewhere x own theirs = own ≡ own_of x → theirs ≡ seen_of x → ⊥
 
-contact_cases : (x : View) (own theirs : ℕ) → ((own ≡ own_of x) × (theirs ≡ seen_of x)) ⊎ IsElsewhere x own theirs
+pub contact_cases : (x : View) (own theirs : ℕ) → ((own ≡ own_of x) × (theirs ≡ seen_of x)) ⊎ IsElsewhere x own theirs
 contact_cases x own theirs =
     elim (cases_eq own (own_of x)) [
       | inl same ↦ elim (cases_eq theirs (seen_of x)) [ inl both ↦ inl (same, both) | inr other ↦ inr (λ a b. other b) ]
       | inr other ↦ inr (λ a b. other a)
     ]
 
-both_equal : (a b c d : ℕ) → a ≡ c → b ≡ d → ((a == c) && (b == d)) ≡ true
+pub both_equal : (a b c d : ℕ) → a ≡ c → b ≡ d → ((a == c) && (b == d)) ≡ true
 both_equal a b c d e f = grind (arith, nat_tests)
 
-not_both : (a b c d : ℕ) → (a ≡ c → b ≡ d → ⊥) → ((a == c) && (b == d)) ≡ false
+pub not_both : (a b c d : ℕ) → (a ≡ c → b ≡ d → ⊥) → ((a == c) && (b == d)) ≡ false
 not_both a b c d h =
     elim (cases_eq a c) [
       | inl same ↦ let other : b ≢ d = λ e. h same e in grind (arith, nat_tests)
@@ -124,7 +124,7 @@ frame_told x x' y e s put took frames o w t =
     let peer_numbered : y.numbered (er_of o.frame) ≡ y.numbered s.peer_epoch = ap (λ n. y.numbered n) er in
     let so_far : x'.numbered s.epoch ≡ s.sending.numbered = numbered_now x x' y e s put took frames w in
     let tooks : length (x'.took (own_of x') (seen_of x')) ≡ s.taken = ap (λ (ts : List (List ℕ)). length ts) (took_now x x' y e s put took frames w) ∙ h.takes in
-    let recent = taken_recently s.sending _ _ _ h.direction in
+    let recent = taken_recently s.sending _ _ h.direction in
     let facing : length (y.took (seen_of x') (own_of x')) ≡ length (y.took (seen_of x) (own_of x)) = ap (λ n. length (y.took n (own_of x'))) w.seen ∙ ap (λ n. length (y.took (seen_of x) n)) w.own in
     let told_taken = t.told_taken in
     record {
@@ -200,14 +200,24 @@ works_unborn x x' y e s put took frames epoch core w u =
 
 -- what the session sends, against what the peer took
 works_sends : (x x' y : View) (e : LinkEnd) (s t : SessionEnd) (put took : List (List ℕ)) (frames : List Outgoing) → Works x x' y e s put took frames → session_of x' ≡ Some t
-    → IsDirection t.sending (length (y.took (seen_of x') (own_of x'))) (x'.put (own_of x') (seen_of x')) (take (length (y.took (seen_of x') (own_of x'))) (x'.put (own_of x') (seen_of x')))
+    → IsDirection t.sending (length (y.took (seen_of x') (own_of x'))) (x'.put (own_of x') (seen_of x'))
 works_sends x x' y e s t put took frames w is =
     let puts = x.put (own_of x) (seen_of x) ++ put in
     let same : s ≡ t = same_some s t (session_of x') w.session is in
-    subst (λ ps. IsDirection t.sending (length (y.took (seen_of x') (own_of x'))) ps (take (length (y.took (seen_of x') (own_of x'))) ps)) (sym (put_now x x' y e s put took frames w))
-    (subst (λ n. IsDirection t.sending (length (y.took (seen_of x') n)) puts (take (length (y.took (seen_of x') n)) puts)) (sym w.own)
-    (subst (λ n. IsDirection t.sending (length (y.took n (own_of x))) puts (take (length (y.took n (own_of x))) puts)) (sym w.seen)
-    (subst (λ (k : SessionEnd). IsDirection k.sending (length (y.took (seen_of x) (own_of x))) puts (take (length (y.took (seen_of x) (own_of x))) puts)) same w.follows.stands.direction)))
+    subst (λ ps. IsDirection t.sending (length (y.took (seen_of x') (own_of x'))) ps) (sym (put_now x x' y e s put took frames w))
+    (subst (λ n. IsDirection t.sending (length (y.took (seen_of x') n)) puts) (sym w.own)
+    (subst (λ n. IsDirection t.sending (length (y.took n (own_of x))) puts) (sym w.seen)
+    (subst (λ (k : SessionEnd). IsDirection k.sending (length (y.took (seen_of x) (own_of x))) puts) same w.follows.stands.direction)))
+
+works_waits : (x x' y : View) (e : LinkEnd) (s t : SessionEnd) (put took : List (List ℕ)) (frames : List Outgoing) → Works x x' y e s put took frames → session_of x' ≡ Some t → Each IsPacket t.sending.waiting
+works_waits x x' y e s t put took frames w is = subst (λ (k : SessionEnd). Each IsPacket k.sending.waiting) (same_some s t (session_of x') w.session is) w.follows.stands.waiting
+
+works_holds : (x x' y : View) (e : LinkEnd) (s t : SessionEnd) (put took : List (List ℕ)) (frames : List Outgoing) → Works x x' y e s put took frames → session_of x' ≡ Some t
+    → IsReceiver t.held t.taken (take (y.numbered t.peer_epoch) (y.put (seen_of x') (own_of x')))
+works_holds x x' y e s t put took frames w is =
+    subst (λ n. IsReceiver t.held t.taken (take (y.numbered t.peer_epoch) (y.put n (own_of x')))) (sym w.seen)
+    (subst (λ n. IsReceiver t.held t.taken (take (y.numbered t.peer_epoch) (y.put (seen_of x) n))) (sym w.own)
+    (subst (λ (k : SessionEnd). IsReceiver k.held k.taken (take (y.numbered k.peer_epoch) (y.put (seen_of x) (own_of x)))) (same_some s t (session_of x') w.session is) w.follows.stands.holds))
 
 works_takes : (x x' y : View) (e : LinkEnd) (s t : SessionEnd) (put took : List (List ℕ)) (frames : List Outgoing) → Works x x' y e s put took frames → session_of x' ≡ Some t → (length (x'.took (own_of x') (seen_of x')) ≡ t.taken) × (t.taken ≤ y.numbered t.peer_epoch)
 works_takes x x' y e s t put took frames w is =
@@ -224,7 +234,9 @@ works_here x x' y e s put took frames core w = record {
   peer_fits = subst (λ n. n < 2 ^ 32) (sym w.goes.peer) core.peer_fits;
   boot_fits = subst (λ n. n < 2 ^ 32) (sym w.goes.boot) core.boot_fits;
   packets = λ own theirs. works_packets x x' y e s put took frames own theirs core w;
+  waiting = λ t k bytes is there. works_waits x x' y e s t put took frames w is k bytes there;
   sends = λ t is. works_sends x x' y e s t put took frames w is;
+  holds = λ t is. works_holds x x' y e s t put took frames w is;
   takes = λ t is. (works_takes x x' y e s t put took frames w is).0;
   bounded = λ t is. (let facts = works_takes x x' y e s t put took frames w is in let taken = facts.0 in let low = facts.1 in omega arith);
   counts = λ other t is session. w.goes.numbered_now t (subst (λ (k : LinkEnd). k.session ≡ Some t) (sym (same_some e other x'.link w.goes.link is)) session);
@@ -238,7 +250,7 @@ works_here x x' y e s put took frames core w = record {
 
 -- what the peer sends in its session, against what was taken
 works_back : (x x' y : View) (e : LinkEnd) (s r : SessionEnd) (put took : List (List ℕ)) (frames : List Outgoing) → IsCore y x → Works x x' y e s put took frames → session_of y ≡ Some r
-    → IsDirection r.sending (length (x'.took (seen_of y) (own_of y))) (y.put (own_of y) (seen_of y)) (take (length (x'.took (seen_of y) (own_of y))) (y.put (own_of y) (seen_of y)))
+    → IsDirection r.sending (length (x'.took (seen_of y) (own_of y))) (y.put (own_of y) (seen_of y))
 works_back x x' y e s r put took frames there w is =
     let h = w.follows.stands in
     let came = w.goes.took_is (seen_of y) (own_of y) in
@@ -246,11 +258,10 @@ works_back x x' y e s r put took frames there w is =
       | inl here ↦
           let now : x'.took (seen_of y) (own_of y) ≡ x.took (own_of x) (seen_of x) ++ took = came_here x _ _ took (seen_of y) (own_of y) came here.0 here.1 ∙ ap (λ n. x.took n (own_of y) ++ took) here.0 ∙ ap (λ n. x.took (own_of x) n ++ took) here.1 in
           let long : length (x'.took (seen_of y) (own_of y)) ≡ s.taken = ap (λ (ts : List (List ℕ)). length ts) now ∙ h.takes in
-          subst (λ n. IsDirection r.sending n (y.put (own_of y) (seen_of y)) (take n (y.put (own_of y) (seen_of y)))) (sym long)
-          (subst (λ n. IsDirection r.sending s.taken (y.put (own_of y) n) (take s.taken (y.put (own_of y) n))) (sym here.0)
-          (subst (λ n. IsDirection r.sending s.taken (y.put n (own_of x)) (take s.taken (y.put n (own_of x)))) (sym here.1) (h.back r is here.1 here.0)))
+          subst (λ n. IsDirection r.sending n (y.put (own_of y) (seen_of y))) (sym long)
+          (subst (λ n. IsDirection r.sending s.taken (y.put (own_of y) n)) (sym here.0) (subst (λ n. IsDirection r.sending s.taken (y.put n (own_of x))) (sym here.1) (h.back r is here.1 here.0)))
       | inr other ↦
-          subst (λ ts. IsDirection r.sending (length ts) (y.put (own_of y) (seen_of y)) (take (length ts) (y.put (own_of y) (seen_of y)))) (sym (came_else x _ _ took (seen_of y) (own_of y) came other)) (there.sends r is)
+          subst (λ ts. IsDirection r.sending (length ts) (y.put (own_of y) (seen_of y))) (sym (came_else x _ _ took (seen_of y) (own_of y) came other)) (there.sends r is)
     ]
 
 pub works_there : (x x' y : View) (e : LinkEnd) (s : SessionEnd) (put took : List (List ℕ)) (frames : List Outgoing) → IsCore x y → IsCore y x → Works x x' y e s put took frames → IsCore y x'

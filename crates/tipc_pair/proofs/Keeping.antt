@@ -13,7 +13,8 @@ use Rattle.tipc_link_fsm.specs.declared.changes.Change.TheVariants.{Stay, Up, Do
 use Rattle.tipc_link_fsm.specs.Table.{Fsm, Outcome, apart, gives, is_held, is_last, is_peer, is_up, lowered, next_epoch, on_cut, on_reset, on_tick, tick_in, contact_ended, forget_peer}
 use Rattle.tipc_link_fsm.proofs.Moves.{Moves, stays, rises, falls, cases_on, is_going_up, on_activate_moves, on_cut_moves, on_reset_moves, on_traffic_moves}
 use Rattle.tipc_link.specs.Links.{LinkEnd, after, arrival_end, cut_end, ended_end, followed, heard_end, is_down, is_heard, outcome_of, with_fsm, with_session}
-use Rattle.tipc_link.specs.Sessions.{Content, SessionEnd, content_of}
+use Rattle.tipc_link.specs.Sessions.{Content, SessionEnd, content_of, flushed}
+use Rattle.tipc_pair.specs.Partners.{PairState, pair_state}
 use Rattle.tipc_pair.specs.Pairs.{IsKept, parted}
 
 -- ---- the next epoch
@@ -146,8 +147,8 @@ kept_after e shown o kept moves =
     kept_moved e (after e o) shown o kept moves (followed_contact (with_fsm e o.after) o.change) (followed_fsm (with_fsm e o.after) o.change)
     (λ up. followed_session (with_fsm e o.after) o.change (moved_session e shown o kept moves up))
 
-kept_heard : (e : LinkEnd) (acknowledgement : ℕ) (c : Content) → IsKept e → IsKept (heard_end e acknowledgement c)
-kept_heard e acknowledgement c kept = record {
+kept_heard : (e : LinkEnd) (by acknowledgement : ℕ) (c : Content) → IsKept e → IsKept (heard_end e by acknowledgement c)
+kept_heard e by acknowledgement c kept = record {
   order = kept.order;
   fits = kept.fits;
   going_on = kept.going_on;
@@ -165,12 +166,12 @@ outcome_moves s (header.Changeover x) es er = on_traffic_moves s es er
 outcome_moves s (header.NameDistributor x) es er = on_traffic_moves s es er
 outcome_moves s (header.Fragmenter x) es er = on_traffic_moves s es er
 
-pub kept_arrival : (e : LinkEnd) (p : Fields) (es er : ℕ) → IsKept e → IsKept (arrival_end e (outcome_of e.fsm p.header es er false) p)
-kept_arrival e p es er kept =
+pub kept_arrival : (e : LinkEnd) (p : Fields) (es er by : ℕ) → IsKept e → IsKept (arrival_end e (outcome_of e.fsm p.header es er false) p by)
+kept_arrival e p es er by kept =
     let o = outcome_of e.fsm p.header es er false in
     let now : IsKept (after e o) = kept_after e _ o kept (outcome_moves e.fsm p.header es er) in
-    elim (is_heard p.header o.change) as (λ b. IsKept (if b then heard_end (after e o) p.acknowledgement (content_of p) else after e o)) [
-      | true ↦ kept_heard (after e o) p.acknowledgement (content_of p) now
+    elim (is_heard p.header o.change) as (λ b. IsKept (if b then heard_end (after e o) by p.acknowledgement (content_of p) else after e o)) [
+      | true ↦ kept_heard (after e o) by p.acknowledgement (content_of p) now
       | false ↦ now
     ]
 
@@ -223,12 +224,12 @@ holds_after own seen e x shown o held moves is =
       kept_after e shown o held.2 moves,
     )
 
-pub holds_arrival : (own seen : ℕ) (e x : LinkEnd) (p : Fields) (es er : ℕ) → Holds own seen e → x ≡ arrival_end e (outcome_of e.fsm p.header es er false) p → Holds own seen x
-holds_arrival own seen e x p es er held is =
+pub holds_arrival : (own seen : ℕ) (e x : LinkEnd) (p : Fields) (es er by : ℕ) → Holds own seen e → x ≡ arrival_end e (outcome_of e.fsm p.header es er false) p by → Holds own seen x
+holds_arrival own seen e x p es er by held is =
     let o = outcome_of e.fsm p.header es er false in
     let now : Holds own seen (after e o) = holds_after own seen e (after e o) _ o held (outcome_moves e.fsm p.header es er) refl in
-    subst (Holds own seen) (sym is) (elim (is_heard p.header o.change) as (λ b. Holds own seen (if b then heard_end (after e o) p.acknowledgement (content_of p) else after e o)) [
-      | true ↦ (now.0, now.1, kept_heard (after e o) p.acknowledgement (content_of p) now.2)
+    subst (Holds own seen) (sym is) (elim (is_heard p.header o.change) as (λ b. Holds own seen (if b then heard_end (after e o) by p.acknowledgement (content_of p) else after e o)) [
+      | true ↦ (now.0, now.1, kept_heard (after e o) by p.acknowledgement (content_of p) now.2)
       | false ↦ now
     ])
 
@@ -243,13 +244,23 @@ is_some_value (Some v) is = (v, refl)
 is_some_value None is = cc
 
 -- packets were put on an end that has a session, or nothing was done
-pub holds_sent : {T E : Type 0} (A : Type 0) (B C : SessionEnd → Type 0) (own seen : ℕ) (e x : LinkEnd) (f : SessionEnd → SessionEnd) (r : Result T E) → Holds own seen e → is_up e.fsm.state ≡ true
-    → ((s : SessionEnd) → e.session ≡ Some s → OnOk r (B s × (x ≡ with_session e (f s)) × C s)) → OnErr r ((x ≡ e) × A) → Holds own seen x
-holds_sent A B C own seen e x f (Err fault) held up ok err = subst (Holds own seen) (sym err.0) held
-holds_sent A B C own seen e x f (Ok done) held up ok err =
+pub holds_sent : {T E : Type 0} (A : Type 0) (B : SessionEnd → Type 0) (C : SessionEnd → SessionEnd → Type 0) (D : SessionEnd → Type 0) (own seen : ℕ) (e x : LinkEnd) (r : Result T E) → Holds own seen e → is_up e.fsm.state ≡ true
+    → ((s : SessionEnd) → e.session ≡ Some s → OnOk r (B s × ((put : SessionEnd) × C s put × (x ≡ with_session e (flushed put)) × D put))) → OnErr r ((x ≡ e) × A) → Holds own seen x
+holds_sent A B C D own seen e x (Err fault) held up ok err = subst (Holds own seen) (sym err.0) held
+holds_sent A B C D own seen e x (Ok done) held up ok err =
     let there = is_some_value e.session (held.2.begun up) in
     let after_it = ok there.0 there.1 in
-    subst (Holds own seen) (sym after_it.1) (held.0, held.1, with_session_kept e (f there.0) held.2)
+    let put = after_it.1.0 in
+    subst (Holds own seen) (sym after_it.1.2) (held.0, held.1, with_session_kept e (flushed put) held.2)
+
+-- packets were put on the end of a pair
+pub pair_sent : {T E : Type 0} (B : SessionEnd → Type 0) (C : SessionEnd → SessionEnd → Type 0) (D : SessionEnd → Type 0) (x now : PairState) (y : LinkEnd) (r : Result T E) → x ≡ now
+    → ((s : SessionEnd) → x.link.session ≡ Some s → OnOk r (B s × ((put : SessionEnd) × C s put × (y ≡ with_session x.link (flushed put)) × D put)))
+    → (s : SessionEnd) → now.link.session ≡ Some s → OnOk r (B s × ((put : SessionEnd) × C s put × (pair_state y x.begun ≡ pair_state (with_session now.link (flushed put)) now.begun) × D put))
+pair_sent B C D x now y (Err fault) is ok s session = tt
+pair_sent B C D x now y (Ok done) is ok s session =
+    let a = ok s (ap (λ n. n.link.session) is ∙ session) in
+    (a.0, (a.1.0, a.1.1, ap (λ l. pair_state l x.begun) a.1.2 ∙ ap (λ n. pair_state (with_session n.link (flushed a.1.0)) n.begun) is, a.1.3))
 
 -- the contact ended: the next number is shown
 pub parted_is : (e x y : LinkEnd) (own seen : ℕ) → own ≡ e.contact + 1 → seen ≡ e.peer_contact → x ≡ record e { contact = own; peer_contact = seen } → y ≡ ended_end x → y ≡ parted e

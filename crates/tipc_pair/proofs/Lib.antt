@@ -3,6 +3,7 @@ pub mod Meeting
 pub mod Frames
 pub mod Halves
 pub mod HalvesStill
+pub mod Receivings
 pub mod Sessions
 pub mod SessionsHeard
 pub mod HalvesWorks
@@ -31,4 +32,11 @@ pub mod CallsTraffic
 pub mod PeeringBecame
 pub mod Calls
 pub mod CallsStart
-pub mod CallsTaken
+pub mod PartnersPackets
+pub mod PartnersSends
+pub mod PartnersPuts
+pub mod PartnersGives
+pub mod PartnersCalls
+pub mod PartnersArrives
+pub mod PartnersHeard
+pub mod Holding

@@ -16,7 +16,7 @@ use Rattle.tipc_link_fsm.specs.Table.{Outcome, is_up, on_activate, on_reset, for
 use Rattle.tipc_contact.specs.declared.contact.Standing.{Standing}
 use Rattle.tipc_contact.specs.declared.contact.Standing.TheVariants as standing
 use Rattle.tipc_link.specs.Links.{LinkEnd, after, change_outcome, follow_frames, forget_frames, frames, is_down, outcome_of, reset_frames, with_fsm}
-use Rattle.tipc_link.specs.declared.outcomes.LinkOutcome.{LinkOutcome}
+use Rattle.tipc_recv_window.specs.declared.outcomes.LinkOutcome.{LinkOutcome}
 use Rattle.tipc_pair.specs.Pairs.{Met, arrival, arrival_of, by_number, change_of, link_met, parted, passed_over, reset_met, risen, risen_activate, risen_change, risen_frames, risen_reset, shows_contact}
 
 -- how a contact number stands to the highest seen
@@ -66,7 +66,7 @@ reset_higher e es er p by shown said is stood = reset_arrival e es er p by shown
 -- ---- an ACTIVATE, which brings nothing
 
 abbrev pub activate_met : LinkEnd → Outcome → BroadcastState → Met
-activate_met e o shown = record { after = after e o; frames = frames e o shown; change = change_of e o 0; outcome = change_outcome o.change }
+activate_met e o shown = record { after = after e o; frames = frames e o shown; change = change_of e o 0; outcome = change_outcome o.change; moved = [] }
 
 activate_link : (e : LinkEnd) (es er : ℕ) (p : Fields) (by : ℕ) (shown : BroadcastState) (said : Reset) → p.header ≡ header.Activate said
     → link_met e (outcome_of e.fsm p.header es er false) p by shown ≡ activate_met e (on_activate e.fsm es er) shown
@@ -88,7 +88,7 @@ activate_same e es er p by shown said is stood =
 
 -- a contact ended by it
 abbrev pub ended_met : LinkEnd → ℕ → Met
-ended_met e number = record { after = risen e number; frames = risen_frames e number; change = risen_change e number; outcome = LinkOutcome.Took [] }
+ended_met e number = record { after = risen e number; frames = risen_frames e number; change = risen_change e number; outcome = LinkOutcome.Took []; moved = [] }
 
 when_up : (e : LinkEnd) (es er : ℕ) (p : Fields) (by : ℕ) (shown : BroadcastState) (number : ℕ) → is_up e.fsm.state ≡ true → risen_activate e number es er p by shown ≡ ended_met e number
 when_up e es er p by shown number up =

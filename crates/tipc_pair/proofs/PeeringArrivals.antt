@@ -15,7 +15,7 @@ use Rattle.tipc_link_fsm.specs.Runs.{ActivateArrives, ResetArrives, TrafficArriv
 use Rattle.tipc_link_fsm.specs.Table.{Fsm, Outcome, gives, is_held, is_in_reset, is_last, is_peer, is_reset_reset, is_session, is_up, on_activate, on_reset, on_traffic}
 use Rattle.tipc_link_fsm.proofs.Moves.{cases_on}
 use Rattle.tipc_contact.specs.Sides.{IsTold}
-use Rattle.tipc_link.specs.declared.outcomes.LinkOutcome.{LinkOutcome}
+use Rattle.tipc_recv_window.specs.declared.outcomes.LinkOutcome.{LinkOutcome}
 use Rattle.tipc_link.specs.Links.{LinkEnd, after, frames, heard_by, heard_end, heard_frames, is_down, is_heard, is_taken, is_traffic, outcome_of, reset_frames}
 use Rattle.tipc_link.specs.Sessions.{Content, SessionEnd, arrival_frames, arrived, content_of}
 use Rattle.tipc_link.proofs.LinkLaw.{Each}
@@ -167,7 +167,7 @@ higher_activate_meets x heard e number es er p by shown small end a may notice i
     let d = risen e number in
     let first = risen_course x heard e number small end higher fits in
     let o = outcome_of d.fsm p.header es er false in
-    let ended : Met = record { after = d; frames = risen_frames e number; change = risen_change e number; outcome = LinkOutcome.Took [] } in
+    let ended : Met = record { after = d; frames = risen_frames e number; change = risen_change e number; outcome = LinkOutcome.Took []; moved = [] } in
     elim (is_up e.fsm.state) as (λ b. is_up e.fsm.state ≡ b → Meets x heard e (if b then ended else link_met d o p by shown)) [
       | true ↦ λ up. first
       | false ↦ λ down. (
@@ -192,21 +192,21 @@ traffic_taken f es er =
     cases_on P (is_session f es er && (is_reset_reset f.state && not (is_last f.own))) _ _ (λ _ taken. refl)
     (λ _. cases_on P (is_session f es er && is_up f.state) _ _ (λ _ taken. refl) (λ _ taken. absurd (let wrong : ⊥ = cc in wrong)))
 
-heard_says_as : (x : View) (e : LinkEnd) (o : Option SessionEnd) (change : Change) (acknowledgement : ℕ) (c : Content) → IsSmall x → IsEnd x e → is_up e.fsm.state ≡ true → e.session ≡ o → Each (SaysAs e) (heard_by o acknowledgement c)
-heard_says_as x e None change acknowledgement c small end up is = each_none (SaysAs e)
-heard_says_as x e (Some s) change acknowledgement c small end up is =
+heard_says_as : (x : View) (e : LinkEnd) (o : Option SessionEnd) (change : Change) (by acknowledgement : ℕ) (c : Content) → IsSmall x → IsEnd x e → is_up e.fsm.state ≡ true → e.session ≡ o → Each (SaysAs e) (heard_by o by acknowledgement c)
+heard_says_as x e None change by acknowledgement c small end up is = each_none (SaysAs e)
+heard_says_as x e (Some s) change by acknowledgement c small end up is =
     let fits = session_fits x e s small end up is in
-    session_says x e s (arrival_frames s acknowledgement c) end up is (heard_says s acknowledgement c fits.0 fits.1)
+    session_says x e s (arrival_frames s by acknowledgement c) end up is (heard_says s by acknowledgement c fits.0 fits.1)
 
-heard_frames_say : (x : View) (e : LinkEnd) (change : Change) (acknowledgement : ℕ) (c : Content) → IsSmall x → IsEnd x e → is_up e.fsm.state ≡ true → Each (SaysAs e) (heard_frames e change acknowledgement c)
-heard_frames_say x e Up acknowledgement c small end up = each_none (SaysAs e)
-heard_frames_say x e other acknowledgement c small end up = heard_says_as x e e.session other acknowledgement c small end up refl
+heard_frames_say : (x : View) (e : LinkEnd) (change : Change) (by acknowledgement : ℕ) (c : Content) → IsSmall x → IsEnd x e → is_up e.fsm.state ≡ true → Each (SaysAs e) (heard_frames e change by acknowledgement c)
+heard_frames_say x e Up by acknowledgement c small end up = each_none (SaysAs e)
+heard_frames_say x e other by acknowledgement c small end up = heard_says_as x e e.session other by acknowledgement c small end up refl
 
-heard_course : (x : View) (heard : List Frame) (e : LinkEnd) (change : Change) (acknowledgement : ℕ) (c : Content) → IsSmall x → IsEnd x e → is_up e.fsm.state ≡ true → Course x heard e (heard_end e acknowledgement c) (heard_frames e change acknowledgement c)
-heard_course x heard e change acknowledgement c small end up =
-    let e' = heard_end e acknowledgement c in
-    let still : IsStill e e' = record { own = refl; peer = refl; bearer = refl; contact = refl; seen = refl; epoch = refl; peer_epoch = refl; highest = refl; up = refl; sessions = like-map (λ s. arrived s acknowledgement c) e.session (λ s. arrived_alike s acknowledgement c) } in
-    still_course x heard e e' (heard_frames e change acknowledgement c) end still refl (λ k o there. (let said = heard_frames_say x e change acknowledgement c small end up k o there in record { es = said.es; er = said.er })) (λ down. absurd (true≢false (sym up ∙ down))) (λ down. absurd (true≢false (sym up ∙ down)))
+heard_course : (x : View) (heard : List Frame) (e : LinkEnd) (change : Change) (by acknowledgement : ℕ) (c : Content) → IsSmall x → IsEnd x e → is_up e.fsm.state ≡ true → Course x heard e (heard_end e by acknowledgement c) (heard_frames e change by acknowledgement c)
+heard_course x heard e change by acknowledgement c small end up =
+    let e' = heard_end e by acknowledgement c in
+    let still : IsStill e e' = record { own = refl; peer = refl; bearer = refl; contact = refl; seen = refl; epoch = refl; peer_epoch = refl; highest = refl; up = refl; sessions = like-map (λ s. arrived s by acknowledgement c) e.session (λ s. arrived_alike s by acknowledgement c) } in
+    still_course x heard e e' (heard_frames e change by acknowledgement c) end still refl (λ k o there. (let said = heard_frames_say x e change by acknowledgement c small end up k o there in record { es = said.es; er = said.er })) (λ down. absurd (true≢false (sym up ∙ down))) (λ down. absurd (true≢false (sym up ∙ down)))
 
 traffic_meets : (x : View) (heard : List Frame) (e : LinkEnd) (es er : ℕ) (p : Fields) (by : ℕ) (shown : BroadcastState) → IsSmall x → IsEnd x e → Arrives heard es er p → Meets x heard e (link_met e (on_traffic e.fsm es er) p by shown)
 traffic_meets x heard e es er p by shown small end a =
@@ -214,12 +214,12 @@ traffic_meets x heard e es er p by shown small end a =
     let d = after e o in
     let first : Course x heard e d (frames e o shown) = after_course x heard e (TrafficArrives es er) (Some (es, er)) shown small end tt (offered heard es er p a) (on_traffic_turns e.fsm es er) (traffic_goes_on e.fsm es er) in
     let c = content_of p in
-    let at : Bool → Type 0 = λ b. is_heard p.header o.change ≡ b → Course x heard e (if b then heard_end d p.acknowledgement c else d) (if b then frames e o shown ++ heard_frames d o.change p.acknowledgement c else frames e o shown) in
+    let at : Bool → Type 0 = λ b. is_heard p.header o.change ≡ b → Course x heard e (if b then heard_end d by p.acknowledgement c else d) (if b then frames e o shown ++ heard_frames d o.change by p.acknowledgement c else frames e o shown) in
     elim (is_heard p.header o.change) as (λ b. at b) [
       | true ↦ λ is. (
           let taken = (and_parts (is_traffic p.header) (is_taken o.change) is).1 in
           let up : is_up d.fsm.state ≡ true = ap (λ (f : Fsm). is_up f.state) (fsm_after e o) ∙ traffic_taken e.fsm es er taken in
-          then_kept x heard e d (heard_end d p.acknowledgement c) (frames e o shown) (heard_frames d o.change p.acknowledgement c) first (heard_course x heard d o.change p.acknowledgement c small first.end up) refl refl)
+          then_kept x heard e d (heard_end d by p.acknowledgement c) (frames e o shown) (heard_frames d o.change by p.acknowledgement c) first (heard_course x heard d o.change by p.acknowledgement c small first.end up) refl refl)
       | false ↦ λ is. first
     ] refl
 

@@ -6,7 +6,7 @@ use Rattle.tipc_outside.specs.declared.outgoing.Outgoing.{Outgoing}
 use Rattle.tipc_link_fsm.specs.Runs.{TickPasses}
 use Rattle.tipc_link_fsm.specs.Table.{is_up}
 use Rattle.tipc_link.specs.Links.{LinkEnd, answered_end, answered_frames, is_reset_unknown, mended_end, mend_frames, reset_frames, session_answer, with_session}
-use Rattle.tipc_link.specs.Sessions.{SessionEnd, answered, answer_frames, flush_frames, flushed, put}
+use Rattle.tipc_link.specs.Sessions.{SessionEnd, answered, answer_frames, flush_frames, flushed, IsPut, joins, waits}
 use Rattle.tipc_link.proofs.LinkLaw.{Each}
 use Rattle.tipc_pair.proofs.Ends.{Alike, AreLike, IsStill, like-map, like-same, still_end}
 use Rattle.tipc_pair.proofs.EndsTurns.{on_tick_turns}
@@ -64,12 +64,16 @@ session_course x heard e s s' frames end up is alike says =
     still_course x heard e (with_session e s') frames end still refl (λ k o there. (let said = session_says x e s frames end up is says k o there in record { es = said.es; er = said.er })) (λ down. absurd (true≢false (sym up ∙ down))) (λ down. absurd (true≢false (sym up ∙ down)))
 
 -- packets are put on it
-pub send_course : (x : View) (heard : List Frame) (e : LinkEnd) (s : SessionEnd) (pieces : List (List ℕ)) → IsSmall x → IsEnd x e → is_up e.fsm.state ≡ true → e.session ≡ Some s
-    → Course x heard e (with_session e (flushed (put s pieces))) (flush_frames (put s pieces))
-send_course x heard e s pieces small end up is =
-    let alike : Alike s (put s pieces) = record { own = refl; peer = refl; bearer = refl; epoch = refl; peer_epoch = refl } in
+put_alike : (s s' : SessionEnd) (pieces : List (List ℕ)) → IsPut s pieces s' → Alike s s'
+put_alike s _ _ (joins packets packet may) = record { own = refl; peer = refl; bearer = refl; epoch = refl; peer_epoch = refl }
+put_alike s _ _ (waits pieces apart) = record { own = refl; peer = refl; bearer = refl; epoch = refl; peer_epoch = refl }
+
+pub send_course : (x : View) (heard : List Frame) (e : LinkEnd) (s s' : SessionEnd) (pieces : List (List ℕ)) → IsSmall x → IsEnd x e → is_up e.fsm.state ≡ true → e.session ≡ Some s → IsPut s pieces s'
+    → Course x heard e (with_session e (flushed s')) (flush_frames s')
+send_course x heard e s s' pieces small end up is put =
+    let alike = put_alike s s' pieces put in
     let fits = session_fits x e s small end up is in
-    session_course x heard e s (flushed (put s pieces)) (flush_frames (put s pieces)) end up is (flushed_alike s (put s pieces) alike) (flush_says_of s (put s pieces) alike fits.0 fits.1)
+    session_course x heard e s (flushed s') (flush_frames s') end up is (flushed_alike s s' alike) (flush_says_of s s' alike fits.0 fits.1)
 
 -- the STATE that is due
 answered_says : (x : View) (e : LinkEnd) (shown : BroadcastState) (o : Option SessionEnd) → IsSmall x → IsEnd x e → is_up e.fsm.state ≡ true → e.session ≡ o → Each (SaysAs e) (session_answer o shown)

@@ -1,6 +1,6 @@
 -- What became of a link at which a STATE or a numbered packet arrived, or an ACTIVATE.
 use Rattle.std.proofs.Common.{◌≡◌, ℕ, Bool, true, false, [], ◌∷◌, ◌++◌, Option, Some, None, refl, sym, ap, ◌∙◌, subst, if◌then◌else◌, option_map, eqb-true}
-use Rattle.std.specs.Prelude.{◌&&◌, ◌==◌, not}
+use Rattle.std.specs.Prelude.{◌&&◌, not}
 use Rattle.std.proofs.lemmas.Bool.{and_parts, true≢false}
 use Rattle.tipc_types.specs.declared.link_words.BroadcastState.{BroadcastState}
 use Rattle.tipc_types.specs.declared.link_words.Why.TheVariants as why
@@ -8,17 +8,13 @@ use Rattle.tipc_header.specs.Spelling.{Fields}
 use Rattle.tipc_link_fsm.specs.declared.changes.Change.TheVariants.{Stay, Up, Ignore}
 use Rattle.tipc_link_fsm.specs.Table.{Fsm, Outcome, gives, heard as heard_again, is_last, is_peer, is_reset_reset, is_session, is_up, on_traffic}
 use Rattle.tipc_link_fsm.proofs.Moves.{cases_on, not_true}
-use Rattle.tipc_link.specs.declared.outcomes.LinkOutcome.{LinkOutcome}
-use Rattle.tipc_link.specs.Laws.{taken_from}
-use Rattle.tipc_link.specs.Links.{LinkEnd, after, arrival_end, change_outcome, frames, heard_by, heard_end, heard_outcome, heard_frames, is_heard, is_traffic, link_frames, link_outcome, session_of, with_fsm}
-use Rattle.tipc_link.specs.Sessions.{Carries, Content, Nothing, SessionEnd, Shows, arrival_frames, arrived, content_of, outcome, state_frame, wanted}
+use Rattle.tipc_link.specs.Links.{LinkEnd, after, arrival_end, change_outcome, frames, heard_by, heard_end, heard_outcome, heard_frames, is_heard, is_traffic, link_frames, link_moving, link_outcome, moved_by, session_of, with_fsm}
+use Rattle.tipc_link.specs.Sessions.{SessionEnd, arrival_frames, arrival_moving, arrived, content_of, state_frame}
+use Rattle.tipc_pair.specs.declared.changes.PairChange.{PairChange}
+use Rattle.tipc_pair.specs.declared.changes.PairChange.TheVariants as pair
+use Rattle.tipc_pair.specs.declared.changes.PairChange.TheVariants.{Began}
+use Rattle.tipc_pair.proofs.SessionsHeard.{taken_from}
 use Rattle.tipc_pair.specs.Pairs.{Met, link_met, packets_of}
-
-outcome_packets : (s : SessionEnd) (by : ℕ) (c : Content) → packets_of (outcome s by c) ≡ taken_from s c
-outcome_packets s by (Shows next) = refl
-outcome_packets s by (Carries number packet) =
-    elim (number == wanted s) as (λ b. packets_of (if b then LinkOutcome.Took (record { number = number; packet = packet; by = by } ∷ []) else LinkOutcome.Ignored why.Old) ≡ (if b then packet ∷ [] else [])) [ true ↦ refl | false ↦ refl ]
-outcome_packets s by Nothing = refl
 
 -- ---- the rows of the table
 
@@ -46,25 +42,31 @@ row_of f es er =
 
 -- ---- traffic
 
+-- a contact began
+pub data HasBegun : PairChange → Type 0 where
+  begun : (own_epoch peer_epoch : ℕ) (contact : ℕ × ℕ) → HasBegun (Began own_epoch peer_epoch contact)
+
 -- What became of a link at which traffic arrived that shows these epochs: it went up and heard the packet, or it was up and
 -- heard it, or it did nothing.
-pub data Traffic (e : LinkEnd) (es er : ℕ) (p : Fields) (shown : BroadcastState) (m : Met) : Type 0 where
+pub data Traffic (e : LinkEnd) (es er : ℕ) (p : Fields) (by : ℕ) (shown : BroadcastState) (m : Met) : Type 0 where
   rises : (s : SessionEnd) → s ≡ session_of (with_fsm e (heard_again e.fsm)) → e.fsm.peer ≡ Some es → er ≡ e.fsm.own → is_reset_reset e.fsm.state ≡ true → is_last e.fsm.own ≡ false
-      → m.after ≡ record e { fsm = heard_again e.fsm; session = Some (arrived s p.acknowledgement (content_of p)) } → m.frames ≡ state_frame s shown false ∷ [] → packets_of m.outcome ≡ taken_from s (content_of p) → Traffic e es er p shown m
+      → m.after ≡ record e { fsm = heard_again e.fsm; session = Some (arrived s by p.acknowledgement (content_of p)) } → m.frames ≡ state_frame s shown false ∷ [] → packets_of m.outcome ≡ taken_from s by (content_of p) → m.moved ≡ arrival_moving s by p.acknowledgement (content_of p) → HasBegun m.change → Traffic e es er p by shown m
   hears : e.fsm.peer ≡ Some es → er ≡ e.fsm.own → is_up e.fsm.state ≡ true
-      → m.after ≡ record e { fsm = heard_again e.fsm; session = option_map (λ s. arrived s p.acknowledgement (content_of p)) e.session }
-      → ((s : SessionEnd) → e.session ≡ Some s → (m.frames ≡ arrival_frames s p.acknowledgement (content_of p)) × (packets_of m.outcome ≡ taken_from s (content_of p))) → Traffic e es er p shown m
-  ignores : m.after ≡ e → m.frames ≡ [] → packets_of m.outcome ≡ [] → Traffic e es er p shown m
+      → m.after ≡ record e { fsm = heard_again e.fsm; session = option_map (λ s. arrived s by p.acknowledgement (content_of p)) e.session }
+      → ((s : SessionEnd) → e.session ≡ Some s → (m.frames ≡ arrival_frames s by p.acknowledgement (content_of p)) × (packets_of m.outcome ≡ taken_from s by (content_of p)) × (m.moved ≡ arrival_moving s by p.acknowledgement (content_of p))) → m.change ≡ pair.Stay → Traffic e es er p by shown m
+  ignores : m.after ≡ e → m.frames ≡ [] → packets_of m.outcome ≡ [] → m.moved ≡ [] → m.change ≡ pair.Stay → Traffic e es er p by shown m
 
 -- a packet that the link states took is heard by the session
 heard_met : (e : LinkEnd) (o : Outcome) (p : Fields) (by : ℕ) (shown : BroadcastState) → is_heard p.header o.change ≡ true
-    → (arrival_end e o p ≡ heard_end (after e o) p.acknowledgement (content_of p)) × (link_frames e o p shown ≡ frames e o shown ++ heard_frames (after e o) o.change p.acknowledgement (content_of p)) × (link_outcome e o p by ≡ heard_outcome (after e o).session by (content_of p))
+    → (arrival_end e o p by ≡ heard_end (after e o) by p.acknowledgement (content_of p)) × (link_frames e o p by shown ≡ frames e o shown ++ heard_frames (after e o) o.change by p.acknowledgement (content_of p))
+    × (link_outcome e o p by ≡ heard_outcome (after e o).session by (content_of p)) × (link_moving e o p by ≡ moved_by (after e o).session by p.acknowledgement (content_of p))
 heard_met e o p by shown is =
     let c = content_of p in
     let d = after e o in (
-      elim (is_heard p.header o.change) as (λ b. b ≡ true → (if b then heard_end d p.acknowledgement c else d) ≡ heard_end d p.acknowledgement c) [ true ↦ λ _. refl | false ↦ λ wrong. absurd (true≢false (sym wrong)) ] is,
-      elim (is_heard p.header o.change) as (λ b. b ≡ true → (if b then frames e o shown ++ heard_frames d o.change p.acknowledgement c else frames e o shown) ≡ frames e o shown ++ heard_frames d o.change p.acknowledgement c) [ true ↦ λ _. refl | false ↦ λ wrong. absurd (true≢false (sym wrong)) ] is,
+      elim (is_heard p.header o.change) as (λ b. b ≡ true → (if b then heard_end d by p.acknowledgement c else d) ≡ heard_end d by p.acknowledgement c) [ true ↦ λ _. refl | false ↦ λ wrong. absurd (true≢false (sym wrong)) ] is,
+      elim (is_heard p.header o.change) as (λ b. b ≡ true → (if b then frames e o shown ++ heard_frames d o.change by p.acknowledgement c else frames e o shown) ≡ frames e o shown ++ heard_frames d o.change by p.acknowledgement c) [ true ↦ λ _. refl | false ↦ λ wrong. absurd (true≢false (sym wrong)) ] is,
       elim (is_heard p.header o.change) as (λ b. b ≡ true → (if b then heard_outcome d.session by c else change_outcome o.change) ≡ heard_outcome d.session by c) [ true ↦ λ _. refl | false ↦ λ wrong. absurd (true≢false (sym wrong)) ] is,
+      elim (is_heard p.header o.change) as (λ b. b ≡ true → (if b then moved_by d.session by p.acknowledgement c else []) ≡ moved_by d.session by p.acknowledgement c) [ true ↦ λ _. refl | false ↦ λ wrong. absurd (true≢false (sym wrong)) ] is,
     )
 
 not_heard : (b : Bool) → (b && false) ≡ false
@@ -74,21 +76,22 @@ not_heard false = refl
 -- a packet that they ignored is not
 ignored_met : (e : LinkEnd) (p : Fields) (by : ℕ) (shown : BroadcastState) (b : Bool) → is_heard p.header (Ignore why.Epoch) ≡ b
     → ((link_met e (gives e.fsm (Ignore why.Epoch)) p by shown).after ≡ e) × ((link_met e (gives e.fsm (Ignore why.Epoch)) p by shown).frames ≡ []) × (packets_of (link_met e (gives e.fsm (Ignore why.Epoch)) p by shown).outcome ≡ [])
+    × ((link_met e (gives e.fsm (Ignore why.Epoch)) p by shown).moved ≡ [])
 ignored_met e p by shown true is = absurd (true≢false (sym is ∙ not_heard (is_traffic p.header)))
-ignored_met e p by shown false is = (rw is refl, rw is refl, rw is refl)
+ignored_met e p by shown false is = (rw is refl, rw is refl, rw is refl, rw is refl)
 
-pub traffic_became : (e : LinkEnd) (es er : ℕ) (p : Fields) (by : ℕ) (shown : BroadcastState) → is_traffic p.header ≡ true → Traffic e es er p shown (link_met e (on_traffic e.fsm es er) p by shown)
+pub traffic_became : (e : LinkEnd) (es er : ℕ) (p : Fields) (by : ℕ) (shown : BroadcastState) → is_traffic p.header ≡ true → Traffic e es er p by shown (link_met e (on_traffic e.fsm es er) p by shown)
 traffic_became e es er p by shown traffic = by_row (on_traffic e.fsm es er) (row_of e.fsm es er) where
-  by_row : (o : Outcome) → Row e.fsm es er o → Traffic e es er p shown (link_met e o p by shown)
-  by_row o (goes_up peer own was goes_on is) = subst (λ o. Traffic e es er p shown (link_met e o p by shown)) (sym is) (
+  by_row : (o : Outcome) → Row e.fsm es er o → Traffic e es er p by shown (link_met e o p by shown)
+  by_row o (goes_up peer own was goes_on is) = subst (λ o. Traffic e es er p by shown (link_met e o p by shown)) (sym is) (
       let up : Outcome = gives (heard_again e.fsm) Up in
       let s = session_of (with_fsm e (heard_again e.fsm)) in
       let met = heard_met e up p by shown (ap (λ b. b && true) traffic) in
-      rises s refl peer own was goes_on met.0 met.1 (ap packets_of met.2 ∙ outcome_packets s by (content_of p)))
-  by_row o (is_kept peer own up is) = subst (λ o. Traffic e es er p shown (link_met e o p by shown)) (sym is) (
+      rises s refl peer own was goes_on met.0 met.1 (ap packets_of met.2) met.3 (begun _ _ _))
+  by_row o (is_kept peer own up is) = subst (λ o. Traffic e es er p by shown (link_met e o p by shown)) (sym is) (
       let stay : Outcome = gives (heard_again e.fsm) Stay in
       let met = heard_met e stay p by shown (ap (λ b. b && true) traffic) in
-      hears peer own up met.0 (λ s has. (met.1 ∙ ap (λ o. heard_by o p.acknowledgement (content_of p)) has, ap packets_of met.2 ∙ ap (λ o. packets_of (heard_outcome o by (content_of p))) has ∙ outcome_packets s by (content_of p))))
-  by_row o (is_other is) = subst (λ o. Traffic e es er p shown (link_met e o p by shown)) (sym is) (
+      hears peer own up met.0 (λ s has. (met.1 ∙ ap (λ o. heard_by o by p.acknowledgement (content_of p)) has, ap packets_of met.2 ∙ ap (λ o. packets_of (heard_outcome o by (content_of p))) has, met.3 ∙ ap (λ o. moved_by o by p.acknowledgement (content_of p)) has)) refl)
+  by_row o (is_other is) = subst (λ o. Traffic e es er p by shown (link_met e o p by shown)) (sym is) (
       let met = ignored_met e p by shown (is_heard p.header (Ignore why.Epoch)) refl in
-      ignores met.0 met.1 met.2)
+      ignores met.0 met.1 met.2 met.3 refl)

@@ -1,7 +1,6 @@
 -- What a link end says: RESET, ACTIVATE, and the frames of its session.
-use Rattle.std.proofs.Common.{◌≡◌, ◌≤◌, ◌<◌, ◌+◌, ◌^◌, ℕ, zero, suc, Bool, true, false, List, [], ◌∷◌, Option, Some, None, refl, sym, ap, ◌∙◌, subst, if◌then◌else◌, take, arith}
+use Rattle.std.proofs.Common.{◌≡◌, ◌≤◌, ◌<◌, ◌+◌, ◌^◌, ℕ, zero, suc, Bool, true, false, List, [], ◌∷◌, Option, Some, None, refl, sym, ap, ◌∙◌, subst, if◌then◌else◌, map, take, arith}
 use Rattle.std.proofs.lemmas.Bool.{true≢false}
-use Rattle.std.specs.Prelude.{◌==◌}
 use Rattle.tipc_types.specs.Position.{number_of}
 use Rattle.tipc_types.specs.declared.link_words.BroadcastState.{BroadcastState}
 use Rattle.tipc_outside.specs.declared.outgoing.Outgoing.{Outgoing}
@@ -11,8 +10,9 @@ use Rattle.tipc_header.specs.Frames.{stamped}
 use Rattle.tipc_header.specs.Grammar.{HeaderFits, NumberingFits, ResetFits, RestFits}
 use Rattle.tipc_header.specs.Spelling.{spelling, size_of}
 use Rattle.tipc_link.specs.Links.{LinkEnd, is_traffic, activate_frames, known, notice, notice_fields, on_bearer, reset_frames, shown_by}
-use Rattle.tipc_link.specs.Sessions.{SessionEnd, Content, Carries, Nothing, Shows, answer_frames, arrival_frames, arrived, flush_frames, flushed, heard, is_due, packet_frame, packet_frames, priority_of, released, room, state_fields, state_frame, took, wanted}
-use Rattle.tipc_link.proofs.LinkLaw.{Each}
+use Rattle.tipc_link.specs.Sessions.{SessionEnd, Content, Carries, Nothing, Shows, answer_frames, arrival_frames, arrived, flush_frames, flushed, heard, is_due, noted, packet_frame, packet_frames, priority_of, released, repeat_frames, repeated, room, spoke, state_fields, state_frame}
+use Rattle.tipc_types.specs.declared.packet_lists.Kept.{Kept}
+use Rattle.tipc_link.proofs.LinkLaw.{Each, Each-append}
 use Rattle.tipc_pair.proofs.Ends.{Alike, alike-same}
 use Rattle.tipc_pair.proofs.PeeringLeads.{SaysAs}
 use Rattle.tipc_pair.proofs.Spoken.{er_of-frame, es_of-frame}
@@ -162,40 +162,52 @@ state_says s shown probe fits peer_fits = record {
   er = er_of-frame s.epoch s.peer_epoch (spelling (state_fields s shown probe)) fits peer_fits;
 }
 
-pub packet_says : (s : SessionEnd) (position : ℕ) (packet : List ℕ) → s.epoch < 2 ^ 64 → s.peer_epoch < 2 ^ 64 → SaysIn s (packet_frame s position packet)
-packet_says s position packet fits peer_fits = record {
-  es = es_of-frame s.epoch s.peer_epoch (stamped (number_of s.taken) (number_of position) s.own packet) fits peer_fits;
-  er = er_of-frame s.epoch s.peer_epoch (stamped (number_of s.taken) (number_of position) s.own packet) fits peer_fits;
+pub packet_says : (s : SessionEnd) (number : ℕ) (packet : List ℕ) → s.epoch < 2 ^ 64 → s.peer_epoch < 2 ^ 64 → SaysIn s (packet_frame s number packet)
+packet_says s number packet fits peer_fits = record {
+  es = es_of-frame s.epoch s.peer_epoch (stamped (number_of s.taken) number s.own packet) fits peer_fits;
+  er = er_of-frame s.epoch s.peer_epoch (stamped (number_of s.taken) number s.own packet) fits peer_fits;
 }
 
 pub packets_say : (s : SessionEnd) (before : ℕ) (packets : List (List ℕ)) → s.epoch < 2 ^ 64 → s.peer_epoch < 2 ^ 64 → Each (SaysIn s) (packet_frames s before packets)
 packets_say s before [] fits peer_fits k o there = absurd (let wrong : ⊥ = cc in wrong)
-packets_say s before (packet ∷ packets) fits peer_fits zero o there = (let same : packet_frame s (before + 1) packet ≡ o = cc in subst (SaysIn s) same (packet_says s (before + 1) packet fits peer_fits))
+packets_say s before (packet ∷ packets) fits peer_fits zero o there = (let same : packet_frame s (number_of (before + 1)) packet ≡ o = cc in subst (SaysIn s) same (packet_says s (number_of (before + 1)) packet fits peer_fits))
 packets_say s before (packet ∷ packets) fits peer_fits (suc k) o there = packets_say s (before + 1) packets fits peer_fits k o there
 
 pub flush_says : (s : SessionEnd) → s.epoch < 2 ^ 64 → s.peer_epoch < 2 ^ 64 → Each (SaysIn s) (flush_frames s)
 unfolding flush_frames
 flush_says s fits peer_fits = packets_say s s.sending.numbered (take (room s.sending) s.sending.waiting) fits peer_fits
 
+-- the frames of packets that are sent again
+kept_say : (s : SessionEnd) (kept : List Kept) → s.epoch < 2 ^ 64 → s.peer_epoch < 2 ^ 64 → Each (SaysIn s) (map (λ k. packet_frame s k.number k.packet) kept)
+kept_say s [] fits peer_fits k o there = absurd (let wrong : ⊥ = cc in wrong)
+kept_say s (first ∷ others) fits peer_fits zero o there = (let same : packet_frame s first.number first.packet ≡ o = cc in subst (SaysIn s) same (packet_says s first.number first.packet fits peer_fits))
+kept_say s (first ∷ others) fits peer_fits (suc k) o there = kept_say s others fits peer_fits k o there
+
+repeats_say : (s : SessionEnd) (acknowledgement missed : ℕ) → s.epoch < 2 ^ 64 → s.peer_epoch < 2 ^ 64 → Each (SaysIn s) (repeat_frames s acknowledgement missed)
+unfolding repeat_frames
+repeats_say s acknowledgement missed fits peer_fits = kept_say s (repeated s acknowledgement missed) fits peer_fits
+
 -- a session as it goes on
-pub heard_alike : (s : SessionEnd) (acknowledgement : ℕ) (c : Content) → Alike s (heard s acknowledgement c)
-heard_alike s acknowledgement Nothing = alike-same s
-heard_alike s acknowledgement (Shows next) = record { own = refl; peer = refl; bearer = refl; epoch = refl; peer_epoch = refl }
-heard_alike s acknowledgement (Carries number packet) =
-    let after = released s acknowledgement in
-    elim (number == wanted s) as (λ b. Alike s (if b then took after else after)) [
-      | true ↦ record { own = refl; peer = refl; bearer = refl; epoch = refl; peer_epoch = refl }
-      | false ↦ record { own = refl; peer = refl; bearer = refl; epoch = refl; peer_epoch = refl }
-    ]
+spoken_alike : (s : SessionEnd) (again : List Kept) (next : ℕ) (probe : Bool) → Alike s (noted (spoke s again) next probe)
+spoken_alike s [] next probe = record { own = refl; peer = refl; bearer = refl; epoch = refl; peer_epoch = refl }
+spoken_alike s (k ∷ again) next probe = record { own = refl; peer = refl; bearer = refl; epoch = refl; peer_epoch = refl }
+
+pub heard_alike : (s : SessionEnd) (by acknowledgement : ℕ) (c : Content) → Alike s (heard s by acknowledgement c)
+heard_alike s by acknowledgement Nothing = alike-same s
+heard_alike s by acknowledgement (Shows next missed probe) =
+    let r = released s acknowledgement in
+    let h = spoken_alike r (repeated r acknowledgement missed) next probe in
+    record { own = h.own; peer = h.peer; bearer = h.bearer; epoch = h.epoch; peer_epoch = h.peer_epoch }
+heard_alike s by acknowledgement (Carries number packet) = record { own = refl; peer = refl; bearer = refl; epoch = refl; peer_epoch = refl }
 
 pub flushed_alike : (s t : SessionEnd) → Alike s t → Alike s (flushed t)
 unfolding flushed
 flushed_alike s t h = record { own = h.own; peer = h.peer; bearer = h.bearer; epoch = h.epoch; peer_epoch = h.peer_epoch }
 
-pub arrived_alike : (s : SessionEnd) (acknowledgement : ℕ) (c : Content) → Alike s (arrived s acknowledgement c)
-arrived_alike s acknowledgement Nothing = alike-same s
-arrived_alike s acknowledgement (Shows next) = flushed_alike s (heard s acknowledgement (Shows next)) (heard_alike s acknowledgement (Shows next))
-arrived_alike s acknowledgement (Carries number packet) = flushed_alike s (heard s acknowledgement (Carries number packet)) (heard_alike s acknowledgement (Carries number packet))
+pub arrived_alike : (s : SessionEnd) (by acknowledgement : ℕ) (c : Content) → Alike s (arrived s by acknowledgement c)
+arrived_alike s by acknowledgement Nothing = alike-same s
+arrived_alike s by acknowledgement (Shows next missed probe) = flushed_alike s (heard s by acknowledgement (Shows next missed probe)) (heard_alike s by acknowledgement (Shows next missed probe))
+arrived_alike s by acknowledgement (Carries number packet) = flushed_alike s (heard s by acknowledgement (Carries number packet)) (heard_alike s by acknowledgement (Carries number packet))
 
 pub says_alike : (s t : SessionEnd) (frames : List Outgoing) → Alike s t → Each (SaysIn t) frames → Each (SaysIn s) frames
 says_alike s t frames alike each k o there = (let says = each k o there in record { es = says.es ∙ alike.epoch; er = says.er ∙ alike.peer_epoch })
@@ -205,10 +217,12 @@ pub flush_says_of : (s t : SessionEnd) → Alike s t → s.epoch < 2 ^ 64 → s.
 flush_says_of s t alike fits peer_fits =
     says_alike s t (flush_frames t) alike (flush_says t (subst (λ n. n < 2 ^ 64) (sym alike.epoch) fits) (subst (λ n. n < 2 ^ 64) (sym alike.peer_epoch) peer_fits))
 
-pub heard_says : (s : SessionEnd) (acknowledgement : ℕ) (c : Content) → s.epoch < 2 ^ 64 → s.peer_epoch < 2 ^ 64 → Each (SaysIn s) (arrival_frames s acknowledgement c)
-heard_says s acknowledgement Nothing fits peer_fits = each_none (SaysIn s)
-heard_says s acknowledgement (Shows next) fits peer_fits = flush_says_of s (heard s acknowledgement (Shows next)) (heard_alike s acknowledgement (Shows next)) fits peer_fits
-heard_says s acknowledgement (Carries number packet) fits peer_fits = flush_says_of s (heard s acknowledgement (Carries number packet)) (heard_alike s acknowledgement (Carries number packet)) fits peer_fits
+pub heard_says : (s : SessionEnd) (by acknowledgement : ℕ) (c : Content) → s.epoch < 2 ^ 64 → s.peer_epoch < 2 ^ 64 → Each (SaysIn s) (arrival_frames s by acknowledgement c)
+heard_says s by acknowledgement Nothing fits peer_fits = each_none (SaysIn s)
+heard_says s by acknowledgement (Shows next missed probe) fits peer_fits =
+    let again : Each (SaysIn s) (repeat_frames (released s acknowledgement) acknowledgement missed) = λ k o there. (let says = repeats_say (released s acknowledgement) acknowledgement missed fits peer_fits k o there in record { es = says.es; er = says.er }) in
+    Each-append (SaysIn s) _ _ again (flush_says_of s (heard s by acknowledgement (Shows next missed probe)) (heard_alike s by acknowledgement (Shows next missed probe)) fits peer_fits)
+heard_says s by acknowledgement (Carries number packet) fits peer_fits = flush_says_of s (heard s by acknowledgement (Carries number packet)) (heard_alike s by acknowledgement (Carries number packet)) fits peer_fits
 
 pub answer_says : (s : SessionEnd) (shown : BroadcastState) → s.epoch < 2 ^ 64 → s.peer_epoch < 2 ^ 64 → Each (SaysIn s) (answer_frames s shown)
 answer_says s shown fits peer_fits =

@@ -1,20 +1,19 @@
 -- What holds of the two nodes of a pair at every moment, whatever either does and whatever arrives.
-use Rattle.std.specs.Prelude.{◌≡◌, ◌≢◌, ◌<◌, ◌≤◌, ◌⊎◌, ℕ, ◌+◌, ◌^◌, true, false, List, [], ◌∷◌, Some, None, length, take, slice_get}
+use Rattle.std.specs.Prelude.{◌≡◌, ◌≢◌, ◌<◌, ◌≤◌, ◌⊎◌, ℕ, ◌+◌, ◌^◌, true, false, List, [], Some, None, length, take, slice_get}
 use Rattle.tipc_types.specs.Position.{number_of}
 use Rattle.tipc_types.specs.declared.link_words.BroadcastState.{BroadcastState}
 use Rattle.tipc_header.specs.declared.packet.Header.{Header}
 use Rattle.tipc_header.specs.declared.packet.Header.TheVariants as header
-use Rattle.tipc_header.specs.Frames.{frame_of, sent_as, unsent}
+use Rattle.tipc_header.specs.Frames.{frame_of, sent_as}
 use Rattle.tipc_header.specs.Grammar.{Fits}
 use Rattle.tipc_header.specs.Spelling.{Fields, spelling}
 use Rattle.tipc_link_fsm.specs.Table.{is_last, is_up}
 use Rattle.tipc_contact.specs.Peers.{ArePeers}
 use Rattle.tipc_contact.specs.Sides.{boot_of}
-use Rattle.tipc_link.specs.Direction.{IsCarried, IsDirection}
+use Rattle.tipc_link.specs.Direction.{IsCarried, IsDirection, IsReceiver}
 use Rattle.tipc_link.specs.Laws.{IsPrefixOf}
 use Rattle.tipc_link.specs.Links.{LinkEnd, is_traffic}
 use Rattle.tipc_link.specs.Sessions.{Carries, SessionEnd, content_of}
-use Rattle.tipc_pair.specs.Pairs.{Met, packets_of}
 use Rattle.tipc_pair.specs.Views.{Frame, View, epoch_of, er_of, es_of, own_of, said_by, seen_of, session_of, side_of}
 
 -- a packet that can be put on a link: sent under any number, it is a packet with that number
@@ -68,7 +67,7 @@ pub record IsOfSession (x y : View) (f : Frame) (es er : ℕ) (p : Fields) : Typ
   pub told_is : p.acknowledgement ≡ number_of told
   pub told_taken : told ≤ length (x.took f.contact f.peer_contact)
   pub told_recent : (f.peer_numbered ≤ told + 50) ⊎ (er < epoch_of y)
-  -- what it carries was put in its contact, and but for 50 packets the receiver had taken what was numbered
+  -- what it carries was numbered in its contact, and but for 50 packets the receiver had taken what was numbered
   pub carried : (number : ℕ) (bytes : List ℕ) → content_of p ≡ Carries number bytes → IsCarried (x.put f.contact f.peer_contact) f.numbered number bytes
   pub recent : f.numbered ≤ length (y.took f.peer_contact f.contact) + 50
 
@@ -113,14 +112,6 @@ pub record Comes (x y : View) (es er : ℕ) (p : Fields) : Type 0 where
   pub own_fresh : is_traffic p.header ≡ true → x.numbered er ≤ frame.peer_numbered + 30000
   pub peer_fresh : is_traffic p.header ≡ true → y.numbered es ≤ frame.numbered + 30000
 
--- an arrival brought the packet that arrived, in the contact in which the node was, and the link is up
-pub record IsBrought (e : LinkEnd) (p : Fields) (m : Met) : Type 0 where
-  pub packet : packets_of m.outcome ≡ spelling (unsent p) ∷ []
-  pub carried : content_of p ≡ Carries p.sequence (spelling (unsent p))
-  pub up : is_up m.after.fsm.state ≡ true
-  pub contact : m.after.contact ≡ e.contact
-  pub seen : m.after.peer_contact ≡ e.peer_contact
-
 -- ---- a node and its peer
 
 -- an epoch under which nothing was numbered yet
@@ -141,18 +132,21 @@ pub record IsHalf (x y : View) : Type 0 where
   -- the highest that was taken
   pub heard : (s : SessionEnd) → session_of x ≡ Some s → IsShown y.sent s.peer_epoch s.epoch
   pub named : (k : ℕ) (f : Frame) (e : LinkEnd) → slice_get x.sent k ≡ Some f → x.link ≡ Some e → es_of f.bytes ≡ e.fsm.own → er_of f.bytes ≤ e.fsm.highest
-  -- what was put can be sent
+  -- what was numbered and what waits can be sent
   pub packets : (own theirs k : ℕ) (bytes : List ℕ) → slice_get (x.put own theirs) k ≡ Some bytes → IsPacket bytes
-  -- the session against what the peer took in the contact, and against what the node took itself
-  pub sends : (s : SessionEnd) → session_of x ≡ Some s → IsDirection s.sending (length (y.took (seen_of x) (own_of x))) (x.put (own_of x) (seen_of x)) (take (length (y.took (seen_of x) (own_of x))) (x.put (own_of x) (seen_of x)))
+  pub waiting : (s : SessionEnd) (k : ℕ) (bytes : List ℕ) → session_of x ≡ Some s → slice_get s.sending.waiting k ≡ Some bytes → IsPacket bytes
+  -- the session against what the peer took in the contact, and against what the node took and holds itself of what was
+  -- numbered under the peer's epoch
+  pub sends : (s : SessionEnd) → session_of x ≡ Some s → IsDirection s.sending (length (y.took (seen_of x) (own_of x))) (x.put (own_of x) (seen_of x))
   pub takes : (s : SessionEnd) → session_of x ≡ Some s → length (x.took (own_of x) (seen_of x)) ≡ s.taken
+  pub holds : (s : SessionEnd) → session_of x ≡ Some s → IsReceiver s.held s.taken (take (y.numbered s.peer_epoch) (y.put (seen_of x) (own_of x)))
   pub bounded : (s : SessionEnd) → session_of x ≡ Some s → length (x.took (own_of x) (seen_of x)) ≤ y.numbered s.peer_epoch
   -- how much was numbered: in the present session or the last one, and under an epoch of none yet
   pub counts : (e : LinkEnd) (s : SessionEnd) → x.link ≡ Some e → e.session ≡ Some s → x.numbered s.epoch ≡ s.sending.numbered
   pub unborn : (epoch : ℕ) → IsUnborn x epoch → x.numbered epoch ≡ 0
-  -- in a contact that hasn't begun nothing was put or taken
+  -- in a contact that hasn't begun nothing was numbered or taken
   pub ahead : (own theirs : ℕ) → IsAhead x own theirs → (x.put own theirs ≡ []) × (x.took own theirs ≡ [])
-  -- in each contact, what was taken is a prefix of what the peer put
+  -- in each contact, what was taken is a prefix of what the peer numbered
   pub prefix : (own theirs : ℕ) → IsPrefixOf (x.took own theirs) (y.put theirs own)
   pub frames : (k : ℕ) (f : Frame) → slice_get x.sent k ≡ Some f → IsFrame x y f
 

@@ -1,6 +1,7 @@
 -- A pair as one of its two nodes keeps it: the link end to the peer, which shows the contact numbers. What each call makes of it.
 use Rattle.std.specs.Prelude.{Bool, ◌≡◌, ◌<◌, ◌≤◌, ℕ, ◌+◌, ◌^◌, true, false, List, [], ◌++◌, Option, Some, None, is_some, map, nat_lt, ◌==◌, if◌then◌else◌}
 use Rattle.tipc_types.specs.declared.link_words.BroadcastState.{BroadcastState}
+use Rattle.tipc_types.specs.declared.packet_lists.Taken.{Taken}
 use Rattle.tipc_types.specs.declared.link_words.Cause.{Cause}
 use Rattle.tipc_types.specs.declared.link_words.Cause.TheVariants as cause
 use Rattle.tipc_types.specs.declared.link_words.Why.{Why}
@@ -13,8 +14,8 @@ use Rattle.tipc_link_fsm.specs.declared.changes.Change.{Change}
 use Rattle.tipc_link_fsm.specs.declared.changes.Change.TheVariants.{Up, Down}
 use Rattle.tipc_link_fsm.specs.Table.{Fsm, Outcome, is_last, is_up, on_cut, on_reset, on_tick, forget_peer}
 use Rattle.tipc_contact.specs.Sides.{first_number}
-use Rattle.tipc_link.specs.declared.outcomes.LinkOutcome.{LinkOutcome}
-use Rattle.tipc_link.specs.Links.{LinkEnd, after, arrival_end, change_outcome, cut_end, ended_end, frames, is_down, known, link_frames, link_outcome, made, outcome_of, reset_frames, with_fsm}
+use Rattle.tipc_recv_window.specs.declared.outcomes.LinkOutcome.{LinkOutcome}
+use Rattle.tipc_link.specs.Links.{LinkEnd, after, arrival_end, change_outcome, cut_end, ended_end, frames, is_down, known, link_frames, link_moving, link_outcome, made, outcome_of, reset_frames, with_fsm}
 use Rattle.tipc_pair.specs.declared.changes.PairChange.{PairChange}
 use Rattle.tipc_pair.specs.declared.changes.PairChange.TheVariants.{Stay, Began, Ended}
 
@@ -79,27 +80,40 @@ pub record Met : Type 0 where
   pub frames : List Outgoing
   pub change : PairChange
   pub outcome : LinkOutcome
+  -- the packets that were numbered then
+  pub moved : List (List ℕ)
+
+-- the bytes of packets that were taken
+abbrev pub packets_in : List Taken → List (List ℕ)
+packets_in taken = map (λ t. t.packet) taken
 
 -- the packets that an arrival brought
 abbrev pub packets_of : LinkOutcome → List (List ℕ)
-packets_of (LinkOutcome.Took taken) = map (λ t. t.packet) taken
+packets_of (LinkOutcome.Took taken) = packets_in taken
+packets_of LinkOutcome.Deferred = []
 packets_of (LinkOutcome.Ignored reason) = []
+
+-- what a RESET or an ACTIVATE brings: nothing is taken, and where it is ignored there is a reason
+abbrev pub noticed : Option Why → LinkOutcome
+noticed None = LinkOutcome.Took []
+noticed (Some reason) = LinkOutcome.Ignored reason
 
 -- nothing was done
 abbrev pub passed_over : LinkEnd → Why → Met
-passed_over e reason = record { after = e; frames = []; change = Stay; outcome = LinkOutcome.Ignored reason }
+passed_over e reason = record { after = e; frames = []; change = Stay; outcome = LinkOutcome.Ignored reason; moved = [] }
 
 -- the link makes of a packet what it does
 abbrev pub link_met : LinkEnd → Outcome → Fields → ℕ → BroadcastState → Met
-link_met e o p by shown = record { after = arrival_end e o p; frames = link_frames e o p shown; change = change_of e o 0; outcome = link_outcome e o p by }
+link_met e o p by shown =
+    record { after = arrival_end e o p by; frames = link_frames e o p by shown; change = change_of e o 0; outcome = link_outcome e o p by; moved = link_moving e o p by }
 
 -- a RESET is given to an end that is down
 abbrev pub reset_down : LinkEnd → Outcome → BroadcastState → Met
-reset_down e o shown = record { after = after e o; frames = frames e o shown; change = Stay; outcome = change_outcome o.change }
+reset_down e o shown = record { after = after e o; frames = frames e o shown; change = Stay; outcome = change_outcome o.change; moved = [] }
 
 -- frames and a change of before
 abbrev pub behind : List Outgoing → PairChange → Met → Met
-behind frames change m = record { after = m.after; frames = frames ++ m.frames; change = change; outcome = m.outcome }
+behind frames change m = record { after = m.after; frames = frames ++ m.frames; change = change; outcome = m.outcome; moved = m.moved }
 
 -- a RESET takes the link down, and with it the contact: then the same RESET is given to the end again
 abbrev pub reset_up : LinkEnd → Outcome → ℕ → BroadcastState → Met
@@ -126,7 +140,7 @@ risen_reset e number es shown = behind (risen_frames e number) (risen_change e n
 abbrev pub risen_activate : LinkEnd → ℕ → ℕ → ℕ → Fields → ℕ → BroadcastState → Met
 risen_activate e number es er p by shown =
     if is_up e.fsm.state
-    then record { after = risen e number; frames = risen_frames e number; change = risen_change e number; outcome = LinkOutcome.Took [] }
+    then record { after = risen e number; frames = risen_frames e number; change = risen_change e number; outcome = LinkOutcome.Took []; moved = [] }
     else link_met (risen e number) (outcome_of (risen e number).fsm p.header es er false) p by shown
 
 -- by the contact number that a RESET or an ACTIVATE shows: below the highest seen it is ignored

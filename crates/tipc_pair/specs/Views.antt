@@ -29,7 +29,8 @@ pub record View : Type 0 where
   pub peer : ℕ
   pub boot : ℕ
   pub link : Option LinkEnd
-  -- the packets that were put on the link and those that were taken from it, by contact: the node's own number, then the peer's
+  -- the packets that were numbered on the link and those that were taken from it, by contact: the node's own number, then the
+  -- peer's
   pub put : ℕ → ℕ → List (List ℕ)
   pub took : ℕ → ℕ → List (List ℕ)
   -- how many packets were numbered under an epoch of this node
@@ -102,7 +103,7 @@ framed x y o = record {
 abbrev pub come : View → List (List ℕ) → ℕ → ℕ → List (List ℕ)
 come x more own theirs = if (own == own_of x) && (theirs == seen_of x) then more else []
 
--- The link of x became e. Packets were put on it and taken from it in the contact of before. The first of these frames, or all
+-- The link of x became e. Packets were numbered on it and taken from it in the contact of before. The first of these frames, or all
 -- of them, were sent to y.
 pub record Goes (x x' y : View) (e : LinkEnd) (frames : List Outgoing) (put took : List (List ℕ)) : Type 0 where
   pub own : x'.own ≡ x.own

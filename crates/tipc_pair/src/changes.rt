@@ -1,5 +1,5 @@
-use tipc_link::LinkOutcome;
-use tipc_types::Cause;
+use tipc_reassembly::OpenedList;
+use tipc_types::{Cause, Why};
 
 /// What a call did to the link and the contact of a pair. A contact is two contact numbers: the node's own, then the peer's.
 /// (This project's profile.)
@@ -29,11 +29,22 @@ pub enum PairChange {
     },
 }
 
-/// What an arrival did to a pair, and what it brought.
+/// What an arrival gave. (This project's profile.)
+#[derive(Clone, Debug, Drop, PartialEq)]
+pub enum PairOutcome {
+    /// What came of the packets that were taken, in order.
+    Took(OpenedList),
+    /// The packet waits until those before it were taken.
+    Deferred,
+    /// Nothing was taken, and why.
+    Ignored(Why),
+}
+
+/// What a RESET or an ACTIVATE did to a pair, and what it gave.
 #[derive(Clone, Debug, Drop, PartialEq)]
 pub struct PairArrival {
     /// What became of the link and the contact.
     pub change: PairChange,
-    /// What was taken.
-    pub outcome: LinkOutcome,
+    /// What was given.
+    pub outcome: PairOutcome,
 }

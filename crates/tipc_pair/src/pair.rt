@@ -1,98 +1,132 @@
-ghost use Rattle.std.specs.Prelude.{◌≡◌, ℕ, ◌<◌, ◌≤◌, ◌==◌, [], if◌then◌else◌, true, false, Some, None, Err, nat_lt, length, All, IfOk, OnErr, OnOk};
+ghost use Rattle.std.specs.Prelude.{◌≡◌, ℕ, ◌<◌, ◌≤◌, [], true, false, Some, None, Err, length, All, IfOk, OnErr, OnOk};
 ghost use Rattle.tipc_header.specs.Grammar.{Fits};
 ghost use Rattle.tipc_header.specs.Spelling.{Fields, view};
 ghost use Rattle.tipc_outside.specs.Frames.{Adds};
-ghost use Rattle.tipc_link_fsm.specs.Table.{is_up, next_epoch, on_activate, on_cut, on_reset, on_tick};
-ghost use Rattle.tipc_link.specs.Links.{after, answered_end, answered_frames, change_outcome, frames, is_down, mend_frames, mended_end, numbered_in, outcome_of, reset_frames, with_session};
-ghost use Rattle.tipc_link.specs.Sessions.{SessionEnd, flush_frames, flushed, put};
+ghost use Rattle.tipc_fragments.specs.Joining.{Joining, fresh};
+ghost use Rattle.tipc_link_fsm.specs.Table.{Fsm, is_up, on_cut, on_tick};
+ghost use Rattle.tipc_link.specs.Links.{LinkEnd, answered_end, answered_frames, mend_frames, mended_end, numbered_in, with_session};
+ghost use Rattle.tipc_link.specs.Sessions.{SessionEnd, IsPut, IsWaiting, flush_frames, flushed};
+ghost use Rattle.tipc_pair.specs.Pairs.{arrival, change_of, contact_of, cut_pair, link_met, lonely, noticed, shows_contact, tick_frames, tick_pair, told_of};
+ghost use Rattle.tipc_pair.specs.Partners.{IsPairArriving, OpensTo, begun_after, pair_state};
 
-use crate::changes::{PairArrival, PairChange};
+use crate::changes::{PairArrival, PairChange, PairOutcome};
+use crate::end::End;
 use std::alloc::Global;
 use std::marker::Model;
-use tipc_contact::{Contact, Standing};
-use tipc_header::{Header, Packet, Reset};
-use tipc_link::{Link, LinkOutcome, is_down};
+use tipc_header::{Header, Packet};
+use tipc_link::Arriving;
 use tipc_link_fsm::Change;
 use tipc_outside::Outbox;
+use tipc_reassembly::{OpenedList, Reassembly};
+use tipc_recv_window::LinkOutcome;
 use tipc_send_window::OfferFault;
-use tipc_types::{Addr, BroadcastState, Cause, LinkState, NoMemory, Pieces, TakenList, Why};
+use tipc_types::{Addr, BroadcastState, LinkState, NoMemory, Pieces, Why};
 
-/// What a node keeps of a peer: the link end on bearer 0, and the contact numbers of the two.
+/// What a packet that shows no contact number will make of a pair: [`Pair::prepare`] tells it, and [`Pair::commit`] does it.
+#[derive(Drop)]
+pub struct PairArriving {
+    arriving: Arriving,
+    reassembly: Reassembly,
+    outcome: PairOutcome,
+}
+
+impl Model for PairArriving {
+    ghost use Rattle.tipc_pair.specs.Partners.{PairArrivingState};
+
+    ghost Value = { PairArrivingState };
+
+    ghost view = { λ a. record { link = a.arriving; begun = a.reassembly; outcome = a.outcome } };
+}
+
+impl PairArriving {
+    /// What is given.
+    pub fn outcome(&self) -> &PairOutcome
+        ensures { result.now ≡ self.now.outcome }
+    {
+        &self.outcome
+    }
+}
+
+/// What a node keeps of a peer: the link end on bearer 0, the contact numbers of the two, and the message that is begun of the
+/// fragments that were taken.
 ///
 /// The node is in contact with the peer exactly while the link is up. When the contact ends, the node takes the next contact
-/// number, the end the next epoch, and the peer's epoch is forgotten. (This project's profile.)
+/// number, the end the next epoch, and the peer's epoch is forgotten. A begun message is dropped when a contact begins or ends.
+/// (This project's profile.)
 #[derive(Drop)]
 pub struct Pair {
-    link: Link,
-    numbers: Contact,
+    end: End,
+    reassembly: Reassembly,
 }
 
 impl Model for Pair {
-    ghost use Rattle.std.specs.Prelude.{◌≡◌};
-    ghost use Rattle.tipc_link.specs.Links.{LinkEnd};
-    ghost use Rattle.tipc_pair.specs.Pairs.{IsKept};
+    ghost use Rattle.tipc_pair.specs.Partners.{PairState};
 
-    ghost Value = { LinkEnd };
+    ghost Value = { PairState };
 
-    ghost view = { λ p. p.link };
-
-    ghost invariant = { λ p. (p.numbers.own ≡ p.link.contact) × (p.numbers.seen ≡ p.link.peer_contact) × IsKept p.link };
+    ghost view = { λ p. record { link = p.end; begun = p.reassembly } };
 }
 
 impl Pair {
-    ghost use Rattle.tipc_pair.specs.Pairs.{arrival, change_of, contact_of, cut_pair, link_met, lonely, parted, reset_met, risen, risen_change, risen_frames, shows_contact, told_of, tick_frames, tick_pair};
-
     /// The pair of a node that has just begun this boot, on a bearer that counts as cut.
-    pub fn new(own: Addr, peer: Addr, boot: u32) -> Pair
-        ensures { result ≡ lonely own.word peer.word boot }
+    pub fn new(alloc: Global, own: Addr, peer: Addr, boot: u32) -> Pair
+        ensures { result ≡ pair_state (lonely own.word peer.word boot) fresh }
     {
-        let numbers = Contact::new(boot);
         Pair {
-            link: Link::new(own, peer, 0, numbers.own),
-            numbers,
+            end: End::new(own, peer, boot),
+            reassembly: Reassembly::new(alloc),
         }
     }
 
     /// The contact: the node's own contact number, and the peer's. None exactly where the node isn't in contact with the peer.
     pub fn contact(&self) -> Option<(u64, u64)>
-        ensures { result ≡ contact_of self.now }
+        ensures { result ≡ contact_of self.now.link }
     {
-        if self.link.is_up() {
-            Some((self.numbers.own, self.numbers.seen))
-        } else {
-            None
-        }
+        self.end.contact()
     }
 
-    /// The bearer is mended: as [`Link::mend`].
+    /// The bearer is mended: as [`tipc_link::Link::mend`].
     pub fn mend(&mut self, alloc: Global, out: &mut Outbox)
-        ensures after { self.new ≡ mended_end self.old }
-        ensures frames { Adds out.old out.new (mend_frames self.old) }
+        ensures after { self.new ≡ pair_state (mended_end self.old.link) self.old.begun }
+        ensures frames { Adds out.old out.new (mend_frames self.old.link) }
     {
-        self.link.mend(alloc, out);
+        self.end.mend(alloc, out);
+    }
+
+    /// Drops the begun message where a contact began or ended.
+    fn renew(&mut self, alloc: Global, change: PairChange)
+        ensures { self.new ≡ pair_state self.old.link (begun_after change self.old.begun) }
+    {
+        match change {
+            PairChange::Stay => {}
+            PairChange::Began { .. } => self.reassembly = Reassembly::new(alloc),
+            PairChange::Ended { .. } => self.reassembly = Reassembly::new(alloc),
+        }
     }
 
     /// The bearer is cut: a link that is up goes down, and the contact ends. Nothing is sent.
     pub fn cut(&mut self, alloc: Global, out: &mut Outbox) -> PairChange
-        ensures after { self.new ≡ cut_pair self.old }
-        ensures change { result ≡ change_of self.old (on_cut self.old.fsm false) 0 }
+        ensures after { self.new ≡ pair_state (cut_pair self.old.link) (begun_after result self.old.begun) }
+        ensures change { result ≡ change_of self.old.link (on_cut self.old.link.fsm false) 0 }
         ensures frames { Adds out.old out.new [] }
     {
-        let change = self.link.cut(false);
-        self.settle(alloc, change, 0, out)
+        let change = self.end.cut(alloc, out);
+        self.renew(alloc, change);
+        change
     }
 
-    /// A tick: as [`Link::tick`]. With a link that goes down the contact ends.
+    /// A tick: as [`tipc_link::Link::tick`]. With a link that goes down the contact ends.
     pub fn tick(&mut self, alloc: Global, shown: BroadcastState, out: &mut Outbox) -> PairChange
-        ensures after { self.new ≡ tick_pair self.old }
-        ensures change { result ≡ change_of self.old (on_tick self.old.fsm false) 0 }
-        ensures frames { Adds out.old out.new (tick_frames self.old shown) }
+        ensures after { self.new ≡ pair_state (tick_pair self.old.link) (begun_after result self.old.begun) }
+        ensures change { result ≡ change_of self.old.link (on_tick self.old.link.fsm false) 0 }
+        ensures frames { Adds out.old out.new (tick_frames self.old.link shown) }
     {
-        let change = self.link.tick(alloc, false, shown, out);
-        self.settle(alloc, change, 0, out)
+        let change = self.end.tick(alloc, shown, out);
+        self.renew(alloc, change);
+        change
     }
 
-    /// Puts packets on the link, and sends those that the window of 50 has room for: as [`Link::send`]. It needs a contact.
+    /// Puts packets on the link, and sends those that the window of 50 has room for: as [`tipc_link::Link::send`]. It needs a contact.
     ///
     /// # Errors
     ///
@@ -104,364 +138,232 @@ impl Pair {
         limit: u32,
         out: &mut Outbox,
     ) -> Result<(), OfferFault>
-        requires up { is_up self.old.fsm.state ≡ true }
-        requires pieces { All (λ q. 16 ≤ length q) pieces }
-        ensures ok { (s : SessionEnd) → self.old.session ≡ Some s →
-            OnOk result ((length s.sending.waiting < limit) × (self.new ≡ with_session self.old (flushed (put s pieces))) × Adds out.old out.new (flush_frames (put s pieces))) }
-        ensures congested { (s : SessionEnd) → self.old.session ≡ Some s → limit ≤ length s.sending.waiting →
+        requires up { is_up self.old.link.fsm.state ≡ true }
+        requires pieces { All IsWaiting pieces }
+        ensures ok { (s : SessionEnd) → self.old.link.session ≡ Some s →
+            OnOk result ((length s.sending.waiting < limit) × ((put : SessionEnd) × IsPut s pieces put × (self.new ≡ pair_state (with_session self.old.link (flushed put)) self.old.begun) × Adds out.old out.new (flush_frames put))) }
+        ensures congested { (s : SessionEnd) → self.old.link.session ≡ Some s → limit ≤ length s.sending.waiting →
             result ≡ Err (OfferFault.Congested (length s.sending.unacked) (length s.sending.waiting)) }
-        ensures congested_only { (s : SessionEnd) (in_flight waiting : ℕ) → self.old.session ≡ Some s → result ≡ Err (OfferFault.Congested in_flight waiting) → limit ≤ length s.sending.waiting }
+        ensures congested_only { (s : SessionEnd) (in_flight waiting : ℕ) → self.old.link.session ≡ Some s → result ≡ Err (OfferFault.Congested in_flight waiting) → limit ≤ length s.sending.waiting }
         ensures err { OnErr result ((self.new ≡ self.old) × (out.new ≡ out.old)) }
     {
-        self.link.send(alloc, pieces, limit, out)
+        self.end.send(alloc, pieces, limit, out)
     }
 
-    /// Takes a packet that arrived under an envelope of these two epochs: `es` is the sender's, `er` this end's as the sender
-    /// knows it. `by` is the arrival's number at this node, and `shown` fills the broadcast fields of a STATE that is sent.
+    /// Takes a RESET or an ACTIVATE that arrived under an envelope of these two epochs: `es` is the sender's, `er` this end's as
+    /// the sender knows it. `shown` fills the broadcast fields of a STATE that is sent. No call of it fails.
     ///
-    /// A RESET or an ACTIVATE shows the peer's contact number. Below the highest seen it is ignored. Above, the highest is
-    /// raised: a contact ends, and without contact the peer's epoch is forgotten. Then a RESET goes on, and an ACTIVATE where no
-    /// contact ended. A RESET that takes the link down ends the contact, and is given to the end again.
+    /// It shows the peer's contact number. Below the highest seen it is ignored. Above, the highest is raised: a contact ends, and
+    /// without contact the peer's epoch is forgotten. Then a RESET goes on, and an ACTIVATE where no contact ended. A RESET
+    /// that takes the link down ends the contact, and is given to the end again.
+    pub fn notice(
+        &mut self,
+        alloc: Global,
+        es: u64,
+        er: u64,
+        header: Header,
+        shown: BroadcastState,
+        out: &mut Outbox,
+    ) -> PairArrival
+        requires { shows_contact header ≡ true }
+        ensures after { (p : Fields) (by : ℕ) → p.header ≡ header → self.new.link ≡ (arrival self.old.link es er p by shown).after }
+        ensures frames { (p : Fields) (by : ℕ) → p.header ≡ header → Adds out.old out.new (arrival self.old.link es er p by shown).frames }
+        ensures change { (p : Fields) (by : ℕ) → p.header ≡ header → result.change ≡ (arrival self.old.link es er p by shown).change }
+        ensures opens { (p : Fields) (by : ℕ) → p.header ≡ header → OpensTo (begun_after result.change self.old.begun) (arrival self.old.link es er p by shown).outcome result.outcome self.new.begun }
+    {
+        let noticed = self.end.notice(alloc, es, er, header, shown, out);
+        self.renew(alloc, noticed.change);
+        PairArrival {
+            change: noticed.change,
+            outcome: given(alloc, noticed.ignored),
+        }
+    }
+
+    /// What is begun when the packets are opened that an arrival with this change brought.
+    fn next(&self, alloc: Global, change: Change) -> Result<Reassembly, NoMemory>
+        ensures { (e : LinkEnd) (fsm : Fsm) (es : ℕ) → IfOk result (λ r. r ≡ begun_after (told_of e fsm change es) self.now.begun) }
+    {
+        match change {
+            Change::Up => Ok(Reassembly::new(alloc)),
+            Change::Down(_) => Ok(Reassembly::new(alloc)),
+            Change::Stay => self.reassembly.copy(),
+            Change::Answer(_) => self.reassembly.copy(),
+            Change::Ignore(_) => self.reassembly.copy(),
+        }
+    }
+
+    /// What a packet that arrived under an envelope of these two epochs makes of the pair, where it shows no contact number: `es` is
+    /// the sender's, `er` this end's as the sender knows it, and `by` is the arrival's number at this node. Nothing is changed yet:
+    /// [`Pair::commit`] does it.
     ///
     /// # Errors
     ///
-    /// At NoMemory nothing is changed. A RESET or an ACTIVATE doesn't answer it.
-    pub fn arrive(
-        &mut self,
+    /// Where memory runs out.
+    pub fn prepare(
+        &self,
         alloc: Global,
         es: u64,
         er: u64,
         packet: &Packet<'_>,
         by: u64,
+    ) -> Result<PairArriving, NoMemory>
+        requires { Fits (view packet.now) }
+        ensures { IfOk result (λ a. IsPairArriving self.now es er (view packet.now) by a) }
+    {
+        let arriving = self.end.prepare(alloc, es, er, packet, by)?;
+        let mut reassembly = self.next(alloc, arriving.change())?;
+        let outcome = opened(alloc, &mut reassembly, arriving.outcome())?;
+        Ok(PairArriving {
+            arriving,
+            reassembly,
+            outcome,
+        })
+    }
+
+    /// Takes a packet that shows no contact number, as [`Pair::prepare`] told of it when the pair was as it is. `shown` fills the
+    /// broadcast fields of a STATE that is sent.
+    pub fn commit(
+        &mut self,
+        alloc: Global,
+        arriving: PairArriving,
+        packet: &Packet<'_>,
         shown: BroadcastState,
         out: &mut Outbox,
-    ) -> Result<PairArrival, NoMemory>
-        requires { Fits (view packet.now) }
-        ensures after { OnOk result (self.new ≡ (arrival self.old es er (view packet.now) by shown).after) }
-        ensures frames { OnOk result (Adds out.old out.new (arrival self.old es er (view packet.now) by shown).frames) }
-        ensures change { IfOk result (λ a. a.change ≡ (arrival self.old es er (view packet.now) by shown).change) }
-        ensures outcome { IfOk result (λ a. a.outcome ≡ (arrival self.old es er (view packet.now) by shown).outcome) }
-        ensures memory { OnErr result (shows_contact packet.now.header ≡ false) }
-        ensures err { OnErr result ((self.new ≡ self.old) × (out.new ≡ out.old)) }
+    ) -> PairChange
+        requires { (es : ℕ) × (er : ℕ) × (by : ℕ) × IsPairArriving self.old es er (view packet.now) by arriving }
+        ensures after { self.new ≡ pair_state (link_met self.old.link arriving.link.states (view packet.now) arriving.link.hearing.by shown).after arriving.begun }
+        ensures frames { Adds out.old out.new (link_met self.old.link arriving.link.states (view packet.now) arriving.link.hearing.by shown).frames }
+        ensures change { result ≡ (link_met self.old.link arriving.link.states (view packet.now) arriving.link.hearing.by shown).change }
     {
-        match packet.header {
-            Header::Reset(said) => Ok(self.reset(alloc, es, said, shown, out)),
-            Header::Activate(said) => Ok(self.activate(alloc, es, er, said, shown, out)),
-            Header::Discovery(_)
-            | Header::State(_)
-            | Header::Payload(_)
-            | Header::Bundler(_)
-            | Header::Changeover(_)
-            | Header::NameDistributor(_)
-            | Header::Fragmenter(_) => self.hear(alloc, es, er, packet, by, shown, out),
-        }
+        self.reassembly = arriving.reassembly;
+        self.end
+            .commit(alloc, arriving.arriving, packet, shown, out)
     }
 
     /// Sends the STATE that is due once 16 packets were taken since the last frame on the link. Nothing is sent without contact.
     pub fn answer(&mut self, alloc: Global, shown: BroadcastState, out: &mut Outbox)
-        ensures after { self.new ≡ answered_end self.old }
-        ensures frames { Adds out.old out.new (answered_frames self.old shown) }
+        ensures after { self.new ≡ pair_state (answered_end self.old.link) self.old.begun }
+        ensures frames { Adds out.old out.new (answered_frames self.old.link shown) }
     {
-        self.link.answer(alloc, shown, out);
+        self.end.answer(alloc, shown, out);
     }
 
     /// Whether the link is up.
     pub fn is_up(&self) -> bool
-        ensures { result ≡ is_up self.now.fsm.state }
+        ensures { result ≡ is_up self.now.link.fsm.state }
     {
-        self.link.is_up()
+        self.end.is_up()
     }
 
     /// The state of the link.
     pub fn state(&self) -> LinkState
-        ensures { result ≡ self.now.fsm.state }
+        ensures { result ≡ self.now.link.fsm.state }
     {
-        self.link.state()
+        self.end.state()
     }
 
     /// The link's own epoch.
     pub fn own_epoch(&self) -> u64
-        ensures { result ≡ self.now.fsm.own }
+        ensures { result ≡ self.now.link.fsm.own }
     {
-        self.link.own_epoch()
+        self.end.own_epoch()
     }
 
     /// The peer's epoch, where it is known.
     pub fn peer_epoch(&self) -> Option<u64>
-        ensures { result ≡ self.now.fsm.peer }
+        ensures { result ≡ self.now.link.fsm.peer }
     {
-        self.link.peer_epoch()
+        self.end.peer_epoch()
     }
 
     /// The node's own contact number for the peer: of the present contact, or the next one.
     pub fn own_contact(&self) -> u64
-        ensures { result ≡ self.now.contact }
+        ensures { result ≡ self.now.link.contact }
     {
-        self.numbers.own
+        self.end.own_contact()
     }
 
     /// The highest contact number that the peer has shown, 0 where it has shown none.
     pub fn peer_contact(&self) -> u64
-        ensures { result ≡ self.now.peer_contact }
+        ensures { result ≡ self.now.link.peer_contact }
     {
-        self.numbers.seen
+        self.end.peer_contact()
     }
 
-    /// As [`Link::numbered`].
+    /// As [`tipc_link::Link::numbered`].
     pub fn numbered(&self) -> Option<(u64, u64)>
-        ensures some { (s : SessionEnd) → self.now.session ≡ Some s → result ≡ Some (s.sending.numbered, s.taken) }
-        ensures none { self.now.session ≡ None → result ≡ None }
+        ensures some { (s : SessionEnd) → self.now.link.session ≡ Some s → result ≡ Some (s.sending.numbered, s.taken) }
+        ensures none { self.now.link.session ≡ None → result ≡ None }
     {
-        self.link.numbered()
+        self.end.numbered()
     }
 
-    /// As [`Link::load`].
+    /// As [`tipc_link::Link::load`].
     pub fn load(&self) -> Option<(u32, u32)>
-        ensures some { (s : SessionEnd) → self.now.session ≡ Some s → result ≡ Some (length s.sending.unacked, length s.sending.waiting) }
-        ensures none { self.now.session ≡ None → result ≡ None }
+        ensures some { (s : SessionEnd) → self.now.link.session ≡ Some s → result ≡ Some (length s.sending.unacked, length s.sending.waiting) }
+        ensures none { self.now.link.session ≡ None → result ≡ None }
     {
-        self.link.load()
+        self.end.load()
     }
 
     /// How many packets were numbered in the present session, or the last one, where this is its own epoch. None exactly where
     /// it isn't.
     pub fn session_count(&self, epoch: u64) -> Option<u64>
-        ensures { result ≡ numbered_in self.now.session epoch }
+        ensures { result ≡ numbered_in self.now.link.session epoch }
     {
-        self.link.numbered_in(epoch)
+        self.end.session_count(epoch)
     }
 
-    /// As [`Link::last_count`].
+    /// As [`tipc_link::Link::last_count`].
     pub fn last_count(&self) -> Option<(u64, u64)>
-        ensures some { (s : SessionEnd) → self.now.session ≡ Some s → result ≡ Some (s.epoch, s.sending.numbered) }
-        ensures none { self.now.session ≡ None → result ≡ None }
+        ensures some { (s : SessionEnd) → self.now.link.session ≡ Some s → result ≡ Some (s.epoch, s.sending.numbered) }
+        ensures none { self.now.link.session ≡ None → result ≡ None }
     {
-        self.link.last_count()
-    }
-
-    /// What is told of a change of the link, where the arrival showed the epoch `es`.
-    fn told(&self, change: Change, es: u64) -> PairChange
-        ensures { result ≡ told_of self.now self.now.fsm change es }
-    {
-        let contact = (self.numbers.own, self.numbers.seen);
-        match change {
-            Change::Up => PairChange::Began {
-                own_epoch: self.link.own_epoch(),
-                peer_epoch: self.link.peer_epoch().unwrap_or(0),
-                contact,
-            },
-            Change::Down(cause) => PairChange::Ended {
-                cause,
-                shown_epoch: if cause == Cause::PeerReset { es } else { 0 },
-                contact,
-                shown_contact: 0,
-            },
-            Change::Stay => PairChange::Stay,
-            Change::Answer(_) => PairChange::Stay,
-            Change::Ignore(_) => PairChange::Stay,
-        }
-    }
-
-    /// Ends the contact, where the end's next epoch leaves room for the next contact number.
-    fn part(&mut self, alloc: Global, out: &mut Outbox)
-        requires { self.old.contact < next_epoch self.old.fsm.own }
-        ensures after { self.new ≡ parted self.old }
-        ensures frames { Adds out.old out.new (reset_frames (parted self.old)) }
-    {
-        self.numbers.end();
-        self.link.show_contact(self.numbers.own, self.numbers.seen);
-        self.link.contact_ended(alloc, out);
-    }
-
-    /// Ends the contact where a change took the link down, and tells what became of the pair.
-    fn settle(&mut self, alloc: Global, change: Change, es: u64, out: &mut Outbox) -> PairChange
-        requires { is_down change ≡ true → self.old.contact < next_epoch self.old.fsm.own }
-        ensures after { self.new ≡ (if is_down change then parted self.old else self.old) }
-        ensures change { result ≡ told_of self.old self.old.fsm change es }
-        ensures frames { Adds out.old out.new (if is_down change then reset_frames (parted self.old) else []) }
-    {
-        let told = self.told(change, es);
-        if is_down(change) {
-            self.part(alloc, out);
-        }
-        told
-    }
-
-    /// How a contact number that the peer shows stands to the highest seen.
-    fn standing(&self, number: u64) -> Standing
-        ensures { result ≡ (if nat_lt number self.now.peer_contact then Standing.Lower else (if number == self.now.peer_contact then Standing.Same else Standing.Higher)) }
-    {
-        let mut numbers = self.numbers;
-        numbers.show(number)
-    }
-
-    /// The peer shows a contact number above the highest seen: the contact ends, and without contact the peer's epoch is
-    /// forgotten.
-    fn rise(&mut self, alloc: Global, number: u64, out: &mut Outbox) -> PairChange
-        requires { self.old.peer_contact < number }
-        ensures after { self.new ≡ risen self.old number }
-        ensures frames { Adds out.old out.new (risen_frames self.old number) }
-        ensures change { result ≡ risen_change self.old number }
-    {
-        let contact = (self.numbers.own, self.numbers.seen);
-        self.numbers.show(number);
-        self.link.show_contact(self.numbers.own, self.numbers.seen);
-        if self.link.is_up() {
-            self.part(alloc, out);
-            return PairChange::Ended {
-                cause: Cause::ContactEnded,
-                shown_epoch: 0,
-                contact,
-                shown_contact: number,
-            };
-        }
-        self.link.forget_peer(alloc, out);
-        PairChange::Stay
-    }
-
-    /// A RESET under this epoch, which says this.
-    fn reset(
-        &mut self,
-        alloc: Global,
-        es: u64,
-        said: Reset,
-        shown: BroadcastState,
-        out: &mut Outbox,
-    ) -> PairArrival
-        ensures after { (p : Fields) (er by : ℕ) → p.header ≡ Header.Reset said → self.new ≡ (arrival self.old es er p by shown).after }
-        ensures frames { (p : Fields) (er by : ℕ) → p.header ≡ Header.Reset said → Adds out.old out.new (arrival self.old es er p by shown).frames }
-        ensures change { (p : Fields) (er by : ℕ) → p.header ≡ Header.Reset said → result.change ≡ (arrival self.old es er p by shown).change }
-        ensures outcome { (p : Fields) (er by : ℕ) → p.header ≡ Header.Reset said → result.outcome ≡ (arrival self.old es er p by shown).outcome }
-    {
-        match self.standing(said.contact) {
-            Standing::Lower => passed_over(Why::Contact),
-            Standing::Same => self.take_reset(alloc, es, shown, out),
-            Standing::Higher => {
-                let change = self.rise(alloc, said.contact, out);
-                let taken = self.take_reset(alloc, es, shown, out);
-                PairArrival {
-                    change,
-                    outcome: taken.outcome,
-                }
-            }
-        }
-    }
-
-    /// A RESET under this epoch, which shows the highest contact number.
-    fn take_reset(
-        &mut self,
-        alloc: Global,
-        es: u64,
-        shown: BroadcastState,
-        out: &mut Outbox,
-    ) -> PairArrival
-        ensures after { self.new ≡ (reset_met self.old (on_reset self.old.fsm es false) es shown).after }
-        ensures frames { Adds out.old out.new (reset_met self.old (on_reset self.old.fsm es false) es shown).frames }
-        ensures change { result.change ≡ (reset_met self.old (on_reset self.old.fsm es false) es shown).change }
-        ensures outcome { result.outcome ≡ (reset_met self.old (on_reset self.old.fsm es false) es shown).outcome }
-    {
-        let first = self.link.reset(alloc, es, false, shown, out);
-        if !is_down(first.change) {
-            return PairArrival {
-                change: PairChange::Stay,
-                outcome: first.outcome,
-            };
-        }
-        let change = self.settle(alloc, first.change, es, out);
-        let again = self.link.reset(alloc, es, false, shown, out);
-        PairArrival {
-            change,
-            outcome: again.outcome,
-        }
-    }
-
-    /// An ACTIVATE under these epochs, which says this.
-    fn activate(
-        &mut self,
-        alloc: Global,
-        es: u64,
-        er: u64,
-        said: Reset,
-        shown: BroadcastState,
-        out: &mut Outbox,
-    ) -> PairArrival
-        ensures after { (p : Fields) (by : ℕ) → p.header ≡ Header.Activate said → self.new ≡ (arrival self.old es er p by shown).after }
-        ensures frames { (p : Fields) (by : ℕ) → p.header ≡ Header.Activate said → Adds out.old out.new (arrival self.old es er p by shown).frames }
-        ensures change { (p : Fields) (by : ℕ) → p.header ≡ Header.Activate said → result.change ≡ (arrival self.old es er p by shown).change }
-        ensures outcome { (p : Fields) (by : ℕ) → p.header ≡ Header.Activate said → result.outcome ≡ (arrival self.old es er p by shown).outcome }
-    {
-        match self.standing(said.contact) {
-            Standing::Lower => passed_over(Why::Contact),
-            Standing::Same => self.take_activate(alloc, es, er, shown, out),
-            Standing::Higher => {
-                let was_up = self.link.is_up();
-                let change = self.rise(alloc, said.contact, out);
-                if was_up {
-                    return PairArrival {
-                        change,
-                        outcome: LinkOutcome::Took(TakenList::new(alloc)),
-                    };
-                }
-                self.take_activate(alloc, es, er, shown, out)
-            }
-        }
-    }
-
-    /// An ACTIVATE under these epochs, which shows the highest contact number.
-    fn take_activate(
-        &mut self,
-        alloc: Global,
-        es: u64,
-        er: u64,
-        shown: BroadcastState,
-        out: &mut Outbox,
-    ) -> PairArrival
-        ensures after { self.new ≡ after self.old (on_activate self.old.fsm es er) }
-        ensures frames { Adds out.old out.new (frames self.old (on_activate self.old.fsm es er) shown) }
-        ensures change { result.change ≡ change_of self.old (on_activate self.old.fsm es er) 0 }
-        ensures outcome { result.outcome ≡ change_outcome (on_activate self.old.fsm es er).change }
-    {
-        let taken = self.link.activate(alloc, es, er, shown, out);
-        PairArrival {
-            change: self.told(taken.change, 0),
-            outcome: taken.outcome,
-        }
-    }
-
-    /// A packet that shows no contact number.
-    fn hear(
-        &mut self,
-        alloc: Global,
-        es: u64,
-        er: u64,
-        packet: &Packet<'_>,
-        by: u64,
-        shown: BroadcastState,
-        out: &mut Outbox,
-    ) -> Result<PairArrival, NoMemory>
-        requires fits { Fits (view packet.now) }
-        ensures after { OnOk result (self.new ≡ (link_met self.old (outcome_of self.old.fsm packet.now.header es er false) (view packet.now) by shown).after) }
-        ensures frames { OnOk result (Adds out.old out.new (link_met self.old (outcome_of self.old.fsm packet.now.header es er false) (view packet.now) by shown).frames) }
-        ensures change { IfOk result (λ a. a.change ≡ (link_met self.old (outcome_of self.old.fsm packet.now.header es er false) (view packet.now) by shown).change) }
-        ensures outcome { IfOk result (λ a. a.outcome ≡ (link_met self.old (outcome_of self.old.fsm packet.now.header es er false) (view packet.now) by shown).outcome) }
-        ensures err { OnErr result ((self.new ≡ self.old) × (out.new ≡ out.old)) }
-    {
-        let arrival = self
-            .link
-            .arrive(alloc, es, er, packet, false, by, shown, out)?;
-        Ok(PairArrival {
-            change: self.told(arrival.change, 0),
-            outcome: arrival.outcome,
-        })
+        self.end.last_count()
     }
 }
 
-/// Nothing was done, and why.
-fn passed_over(why: Why) -> PairArrival
-    ensures { (result.change ≡ PairChange.Stay) × (result.outcome ≡ LinkOutcome.Ignored why) }
+/// What a RESET or an ACTIVATE gives.
+fn given(alloc: Global, ignored: Option<Why>) -> PairOutcome
+    ensures { (s : Joining) → OpensTo s (noticed ignored) result s }
 {
-    PairArrival {
-        change: PairChange::Stay,
-        outcome: LinkOutcome::Ignored(why),
+    match ignored {
+        Some(why) => PairOutcome::Ignored(why),
+        None => PairOutcome::Took(OpenedList::new(alloc)),
+    }
+}
+
+/// Opens what a link made of an arrival.
+fn opened(
+    alloc: Global,
+    reassembly: &mut Reassembly,
+    outcome: &LinkOutcome,
+) -> Result<PairOutcome, NoMemory>
+    ensures { IfOk result (λ given. OpensTo reassembly.old outcome.now given reassembly.new) }
+{
+    match outcome {
+        LinkOutcome::Took(taken) => {
+            let opened = reassembly.open(alloc, taken.as_slice())?;
+            Ok(PairOutcome::Took(opened))
+        }
+        LinkOutcome::Deferred => Ok(PairOutcome::Deferred),
+        LinkOutcome::Ignored(why) => Ok(PairOutcome::Ignored(*why)),
+    }
+}
+
+/// Whether a packet shows a contact number: a RESET or an ACTIVATE.
+pub fn shows_contact(header: &Header) -> bool
+    ensures { result ≡ shows_contact header.now }
+{
+    match header {
+        Header::Reset(_) => true,
+        Header::Activate(_) => true,
+        Header::Discovery(_) => false,
+        Header::State(_) => false,
+        Header::Payload(_) => false,
+        Header::Bundler(_) => false,
+        Header::Changeover(_) => false,
+        Header::NameDistributor(_) => false,
+        Header::Fragmenter(_) => false,
     }
 }

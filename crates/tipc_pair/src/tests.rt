@@ -1,11 +1,11 @@
-use super::{Pair, PairArrival, PairChange};
+use super::{Pair, PairArrival, PairChange, PairOutcome, shows_contact};
 use std::alloc::Global;
 use std::process::Abort;
 use std::test::Fail;
 use tipc_header::{decode, open_frame};
-use tipc_link::LinkOutcome;
 use tipc_outside::Outbox;
-use tipc_types::{Addr, BroadcastState, Cause, LinkState, TakenList, Why};
+use tipc_reassembly::OpenedList;
+use tipc_types::{Addr, BroadcastState, Cause, LinkState, Why};
 
 /// The first contact number of boot 1, which is the first epoch too.
 const FIRST: u64 = 0x1_0000_0001;
@@ -32,8 +32,8 @@ impl Nodes {
     fn new(alloc: Global) -> Nodes {
         let (one, two) = (Addr::node(1), Addr::node(2));
         let mut nodes = Nodes {
-            left: Pair::new(one, two, 1),
-            right: Pair::new(two, one, 1),
+            left: Pair::new(alloc, one, two, 1),
+            right: Pair::new(alloc, two, one, 1),
             sent: Outbox::new(alloc),
             answers: Outbox::new(alloc),
         };
@@ -98,15 +98,14 @@ fn arrive(
 ) -> Result<PairArrival, Fail> {
     let frame = open_frame(frame).ok_or("no frame")?;
     let packet = decode(frame.packet).ok().ok_or("no packet")?;
-    Ok(pair.arrive(
-        alloc,
-        frame.first,
-        frame.second,
-        &packet,
-        40,
-        NO_BROADCAST,
-        out,
-    )?)
+    let (first, second) = (frame.first, frame.second);
+    if shows_contact(&packet.header) {
+        return Ok(pair.notice(alloc, first, second, packet.header, NO_BROADCAST, out));
+    }
+    let arriving = pair.prepare(alloc, first, second, &packet, 40)?;
+    let outcome = arriving.outcome().clone()?;
+    let change = pair.commit(alloc, arriving, &packet, NO_BROADCAST, out);
+    Ok(PairArrival { change, outcome })
 }
 
 /// The contact of these two numbers began under these two epochs.
@@ -128,11 +127,11 @@ fn ended(cause: Cause, shown_epoch: u64, shown_contact: u64) -> PairChange {
     }
 }
 
-/// An arrival that did this and brought no packet.
+/// An arrival that did this and gave nothing.
 fn took_none(alloc: Global, change: PairChange) -> PairArrival {
     PairArrival {
         change,
-        outcome: LinkOutcome::Took(TakenList::new(alloc)),
+        outcome: PairOutcome::Took(OpenedList::new(alloc)),
     }
 }
 
@@ -151,7 +150,7 @@ fn a_contact_begins_ends_and_begins_again(rt: HostRuntime) -> Result<(), Fail> {
     assert_eq!(rt; nodes.answers.frames().len(), 5);
     let old = PairArrival {
         change: PairChange::Stay,
-        outcome: LinkOutcome::Ignored(Why::Contact),
+        outcome: PairOutcome::Ignored(Why::Contact),
     };
     assert_eq!(rt; nodes.to_right(alloc, 0)?, old);
     let again = began(FIRST + 2, FIRST + 1, FIRST + 1, FIRST + 1);

@@ -80,6 +80,22 @@ peer_text links = decimal (links.peer.word % 4096) ++ (58 ∷ (end_letter links.
 abbrev pub links_text : List PeerLinks → List ℕ
 links_text peers = codes "links" ++ flat_map (λ peer. 32 ∷ peer_text peer) peers
 
+-- an answer that refuses a call
+abbrev pub IsRefusal : Answer → Type 0
+IsRefusal answer.NoSocket = Unit {0}
+IsRefusal (answer.TooLong length) = Unit {0}
+IsRefusal answer.BadRange = Unit {0}
+IsRefusal answer.BadFilter = Unit {0}
+IsRefusal answer.NoName = Unit {0}
+IsRefusal answer.NoNode = Unit {0}
+IsRefusal (answer.Congested in_flight waiting) = Unit {0}
+IsRefusal (answer.NamesCongested peer waiting) = Unit {0}
+IsRefusal answer.Reserved = Unit {0}
+IsRefusal (answer.Duplicate key) = Unit {0}
+IsRefusal (answer.Full limit) = Unit {0}
+IsRefusal answer.Unknown = Unit {0}
+IsRefusal other = ⊥
+
 -- The text of an answer. No line of a script is answered Got, BadFilter, or with received items.
 abbrev pub text_of : Answer → List ℕ
 text_of answer.Done = codes "ok"

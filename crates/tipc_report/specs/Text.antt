@@ -1,23 +1,19 @@
 -- The lines of a report.
-use Rattle.std.specs.Prelude.{ℕ, List, [], ◌∷◌, ◌++◌, codes}
+use Rattle.std.specs.Prelude.{ℕ, List, [], ◌∷◌, ◌++◌}
 use Rattle.std.specs.Fmt.{decimal}
-use Rattle.tipc_types.specs.declared.node_calls.Answer.{Answer}
 use Rattle.tipc_script.specs.declared.faults.LineWhy.{LineWhy}
 use Rattle.tipc_report.specs.declared.limits.Which.{Which}
+use Rattle.tipc_report.specs.declared.told.Told.{Told}
 use Rattle.tipc_report.specs.Closing.{bad_text, limit_text}
-use Rattle.tipc_report.specs.Answering.{text_of}
+use Rattle.tipc_report.specs.Telling.{told_text}
 
 -- a line: the number of the script's line, a space, a text and a newline
 abbrev pub line_of : ℕ → List ℕ → List ℕ
 line_of number text = decimal number ++ (32 ∷ text) ++ (10 ∷ [])
 
--- the line of an answer
-unfoldable pub answer_line : ℕ → Answer → List ℕ
-answer_line number answer = line_of number (text_of answer)
-
--- the line of a script's line that asks for nothing
-unfoldable pub nothing_line : ℕ → List ℕ
-nothing_line number = line_of number (codes "-")
+-- the line of what is told of a script's line
+unfoldable pub told_line : ℕ → Told → List ℕ
+told_line number told = line_of number (told_text told)
 
 -- the last line, where the script's line is refused
 unfoldable pub bad_line : ℕ → ℕ → LineWhy → List ℕ

@@ -1,5 +1,5 @@
 ghost use Rattle.std.specs.Prelude.{◌≡◌, IfOk};
-ghost use Rattle.tipc_report.specs.Answering.{text_of, what_word, event_text, arrival_text};
+ghost use Rattle.tipc_report.specs.Answering.{IsRefusal, text_of, what_word, event_text, arrival_text};
 
 use crate::bodies::message_text;
 use crate::links::links_text;
@@ -62,6 +62,38 @@ fn arrival_text(alloc: Global, arrival: Arrival) -> Result<Vec<u8>, NoMemory>
     }
 }
 
+/// The text of a refusal.
+fn refusal_text(alloc: Global, answer: &Answer) -> Result<Vec<u8>, NoMemory>
+    requires { IsRefusal answer.now }
+    ensures { IfOk result (λ text. text.items ≡ text_of answer.now) }
+{
+    match answer {
+        Answer::NoSocket => word(alloc, "no-socket"),
+        Answer::TooLong(length) => numbered(alloc, "too-long", *length),
+        Answer::BadRange => word(alloc, "bad-range"),
+        Answer::BadFilter => word(alloc, "bad-filter"),
+        Answer::NoName => word(alloc, "no-name"),
+        Answer::NoNode => word(alloc, "no-node"),
+        Answer::Congested { in_flight, waiting } => numbered_twice(
+            alloc,
+            "congested",
+            u64::from(*in_flight),
+            u64::from(*waiting),
+        ),
+        Answer::NamesCongested { peer, waiting } => numbered_twice(
+            alloc,
+            "names-congested",
+            u64::from(*peer),
+            u64::from(*waiting),
+        ),
+        Answer::Reserved => word(alloc, "reserved"),
+        Answer::Duplicate(key) => numbered(alloc, "duplicate", u64::from(*key)),
+        Answer::Full(limit) => numbered(alloc, "full", u64::from(*limit)),
+        Answer::Unknown => word(alloc, "unknown"),
+        _ => unreachable!(),
+    }
+}
+
 /// The text of an answer.
 pub fn answer_text(alloc: Global, answer: &Answer) -> Result<Vec<u8>, NoMemory>
     ensures { IfOk result (λ text. text.items ≡ text_of answer.now) }
@@ -99,27 +131,6 @@ pub fn answer_text(alloc: Global, answer: &Answer) -> Result<Vec<u8>, NoMemory>
         ),
         Answer::Air(count) => numbered(alloc, "air", *count),
         Answer::Links(peers) => links_text(alloc, peers.as_slice()),
-        Answer::NoSocket => word(alloc, "no-socket"),
-        Answer::TooLong(length) => numbered(alloc, "too-long", *length),
-        Answer::BadRange => word(alloc, "bad-range"),
-        Answer::BadFilter => word(alloc, "bad-filter"),
-        Answer::NoName => word(alloc, "no-name"),
-        Answer::NoNode => word(alloc, "no-node"),
-        Answer::Congested { in_flight, waiting } => numbered_twice(
-            alloc,
-            "congested",
-            u64::from(*in_flight),
-            u64::from(*waiting),
-        ),
-        Answer::NamesCongested { peer, waiting } => numbered_twice(
-            alloc,
-            "names-congested",
-            u64::from(*peer),
-            u64::from(*waiting),
-        ),
-        Answer::Reserved => word(alloc, "reserved"),
-        Answer::Duplicate(key) => numbered(alloc, "duplicate", u64::from(*key)),
-        Answer::Full(limit) => numbered(alloc, "full", u64::from(*limit)),
-        Answer::Unknown => word(alloc, "unknown"),
+        refusal => refusal_text(alloc, refusal),
     }
 }

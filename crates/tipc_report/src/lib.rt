@@ -6,10 +6,12 @@ mod bodies;
 mod limits;
 mod links;
 mod printing;
+mod told;
 mod words;
 
 pub use limits::Which;
-pub use printing::{print, print_bad, print_limit, print_nothing};
+pub use printing::{print, print_bad, print_limit};
+pub use told::Told;
 
 #[cfg(test)]
 mod tests;

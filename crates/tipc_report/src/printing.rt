@@ -1,12 +1,12 @@
 ghost use Rattle.std.specs.Prelude.{◌≡◌, ◌++◌, OnOk, OnErr, IfOk};
 ghost use Rattle.tipc_report.specs.Closing.{bad_text, limit_text, why_word};
-ghost use Rattle.tipc_report.specs.Text.{line_of, answer_line, nothing_line, bad_line, limit_line};
+ghost use Rattle.tipc_report.specs.Text.{line_of, told_line, bad_line, limit_line};
 
-use crate::answers::answer_text;
 use crate::limits::Which;
+use crate::told::{Told, told_text};
 use std::alloc::Global;
 use tipc_script::LineWhy;
-use tipc_types::{Answer, NoMemory};
+use tipc_types::NoMemory;
 
 /// Appends a line with this text, or nothing.
 fn print_text(line: u32, text: &[u8], into: &mut Vec<u8>) -> Result<(), NoMemory>
@@ -52,29 +52,19 @@ fn limit_text(alloc: Global, which: Which) -> Result<Vec<u8>, NoMemory>
     Ok(format!(in alloc; "limit {word} {number}")?.into_bytes())
 }
 
-/// Appends the line of an answer: the number of the script's line, a space, the answer's text and a
-/// newline. (This project's profile.) Where memory runs out, nothing is appended.
+/// Appends the line of what is told of a script's line: the number of the script's line, a space, the text and a newline.
+/// (This project's profile.) Where memory runs out, nothing is appended.
 ///
 /// No line of a script is answered `Got`, `BadFilter` or with received items; they have texts so that
 /// nothing is asked of the caller.
-#[tactic(auto, unfolding(crate::specs::Text::answer_line))]
-pub fn print(line: u32, answer: &Answer, into: &mut Vec<u8>) -> Result<(), NoMemory>
-    ensures ok { OnOk result (into.new.items ≡ into.old.items ++ answer_line line answer.now) }
+#[tactic(auto, unfolding(crate::specs::Text::told_line))]
+pub fn print(line: u32, told: &Told, into: &mut Vec<u8>) -> Result<(), NoMemory>
+    ensures ok { OnOk result (into.new.items ≡ into.old.items ++ told_line line told.now) }
     ensures err { OnErr result (into.new.items ≡ into.old.items) }
 {
     let alloc = *into.allocator();
-    let text = answer_text(alloc, answer)?;
+    let text = told_text(alloc, told)?;
     print_text(line, text.as_slice(), into)
-}
-
-/// Appends the line of a script's line that asks for nothing: its number, a space, `-` and a newline.
-/// Where memory runs out, nothing is appended.
-#[tactic(auto, unfolding(crate::specs::Text::nothing_line))]
-pub fn print_nothing(line: u32, into: &mut Vec<u8>) -> Result<(), NoMemory>
-    ensures ok { OnOk result (into.new.items ≡ into.old.items ++ nothing_line line) }
-    ensures err { OnErr result (into.new.items ≡ into.old.items) }
-{
-    print_text(line, b"-", into)
 }
 
 /// Appends the line that ends a report where the script's line is refused: its number, ` bad `, the byte

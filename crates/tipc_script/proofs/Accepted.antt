@@ -1,22 +1,21 @@
 -- A line of the grammar has no fault, and asks for what it is spelled from.
-use Rattle.std.proofs.Common.{◌≡◌, ℕ, ◌+◌, true, false, not, ◌&&◌, Some, None, List, [], ◌∷◌, length, refl, sym, ap, subst, ◌∙◌, arith, eqb}
-use Rattle.std.specs.Prelude.{codes}
+use Rattle.std.proofs.Common.{◌≡◌, ℕ, ◌+◌, true, false, not, ◌&&◌, Some, None, List, [], ◌∷◌, drop, length, refl, sym, ap, subst, ◌∙◌, arith, eqb}
 use Rattle.std.specs.List.{list_all}
 use Rattle.std.specs.Fmt.{decimal}
 use Rattle.std.proofs.lemmas.Bool.{and_from, not_from_false, ne_eqb}
 use Rattle.tipc_types.specs.declared.identity.PortId.{PortId}
 use Rattle.tipc_types.specs.declared.message_forms.Importance.{Importance}
-use Rattle.tipc_types.specs.declared.message_forms.Importance.TheVariants.{Low}
 use Rattle.tipc_types.specs.Address.{node_word}
 use Rattle.tipc_script.specs.declared.lines.Line.{Line}
-use Rattle.tipc_script.specs.declared.lines.Line.TheVariants.{Nothing, Node, Mend, Cut, Tick, Restart, Link, Mark, Socket, Send, Arrive, Receive, Pump, Settle, Links, Flow}
+use Rattle.tipc_script.specs.declared.lines.Line.TheVariants.{Nothing, Node, Mend, Cut, Tick, Restart, Link, Mark, Socket, Send, Repeat, Arrive, Receive, Drain, Pump, Burst, Settle, Air, Show, Links, Flow}
 use Rattle.tipc_script.specs.Splitting.{Left, tokens_of}
-use Rattle.tipc_script.specs.Kinds.{is_number, number_of, is_remark}
-use Rattle.tipc_script.specs.Grammar.{Row, row_of, asked, node_row, mend_row, cut_row, tick_row, restart_row, link_row, mark_row, socket_row, send_row, arrive_row, receive_row, pump_row, settle_row, links_row, flow_row}
-use Rattle.tipc_script.specs.Spelling.{Asks, IsMessage, spaced, node_number, spelling_of}
+use Rattle.tipc_script.specs.Kinds.{is_body, is_number, number_of, is_remark}
+use Rattle.tipc_script.specs.Grammar.{Row, row_of, asked, node_row, mend_row, cut_row, tick_row, restart_row, link_row, mark_row, socket_row, send_row, repeat_row, arrive_row, receive_row, drain_row, burst_row, pump_row, settle_row, air_row, show_row, links_row, flow_row}
+use Rattle.tipc_script.specs.Spelling.{Asks, IsMessage, node_number, port_at, send_words, spaced}
 use Rattle.tipc_script.specs.Faults.{row_fault, fault_of, first_fault, end_fault}
 use Rattle.tipc_script.proofs.Numerals.{is_number-decimal, number_of-decimal}
 use Rattle.tipc_script.proofs.Bodies.{is_body-text, all_visible}
+use Rattle.tipc_script.proofs.Importances.{importance_of-word, is_importance-word, no_space-importance}
 use Rattle.tipc_script.proofs.Spaces.{has_no_space, tokens_of-spaced, no_space-decimal, no_space_visible}
 
 -- a text has no fault and asks for this
@@ -103,28 +102,83 @@ socket_accepted text n h =
 port_is : (to : PortId) (word : ℕ) → word ≡ to.node.word → (let same : PortId = record { node = record { word = word }; port = to.port } in same ≡ to)
 port_is to word e = ap (λ (w : ℕ). let same : PortId = record { node = record { word = w }; port = to.port } in same) e
 
-send_low : (text : List ℕ) (n p : ℕ) (to : PortId) (body : List ℕ) → IsMessage n p to Low body → text ≡ spelling_of (Send n p to Low body) → IsAccepted text (Send n p to Low body)
-unfolding row_of row_fault first_fault end_fault
-send_low text n p to body h e =
+-- what holds of the tokens of a message
+record IsSpelled (n p m q : ℕ) (body : List ℕ) : Type 0 where
+  node : is_number 1 32 (decimal n) ≡ true
+  port : is_number 0 4294967295 (decimal p) ≡ true
+  other : (is_number 1 32 (decimal m) && not (eqb (number_of (decimal m)) (number_of (decimal n)))) ≡ true
+  at : is_number 0 4294967295 (decimal q) ≡ true
+  text : is_body (61 ∷ body) ≡ true
+  node_is : number_of (decimal n) ≡ n
+  port_is : number_of (decimal p) ≡ p
+  other_is : number_of (decimal m) ≡ m
+  at_is : number_of (decimal q) ≡ q
+  node_whole : has_no_space (decimal n) ≡ true
+  port_whole : has_no_space (decimal p) ≡ true
+  other_whole : has_no_space (decimal m) ≡ true
+  at_whole : has_no_space (decimal q) ≡ true
+  text_whole : has_no_space body ≡ true
+
+message_spelled : (n p : ℕ) (to : PortId) (body : List ℕ) → IsMessage n p to body → IsSpelled n p (node_number to) to.port body
+message_spelled n p to body h =
     let m = node_number to in
     let from = h.from_node in
     let word = h.to_node in
     let ne : m ≡ n → ⊥ = λ same. h.other (omega arith) in
     let m-of = number_of-decimal m (omega arith) in
     let n-of = number_of-decimal n (omega arith) in
-    let other : (is_number 1 32 (decimal m) && not (eqb (number_of (decimal m)) (number_of (decimal n)))) ≡ true =
-    and_from _ _ (is_number-decimal 1 32 m (omega arith) (omega arith) (omega arith)) (not_from_false _ (ne_eqb _ _ (λ same. ne (sym m-of ∙ same ∙ n-of)))) in
-    let text-is = is_body-text body h.some h.short h.visible in
-    spelled text send_row (decimal n ∷ decimal p ∷ codes "port" ∷ decimal m ∷ decimal to.port ∷ codes "low" ∷ (61 ∷ body) ∷ []) (Send n p to Low body) e refl
-    (rw (no_space-decimal n (omega arith), no_space-decimal p (omega (arith, h.from_port)), no_space-decimal m (omega arith), no_space-decimal to.port (omega (arith, h.to_port)), no_space_visible body ((all_visible body).1 h.visible)) refl) refl
-    (rw (is_number-decimal 1 32 n from.0 from.1 (omega arith), is_number-decimal 0 4294967295 p (omega arith) (omega arith) (omega arith), other, is_number-decimal 0 4294967295 to.port (omega arith) (omega arith) (omega arith), text-is) refl)
-    (rw (n-of, m-of, number_of-decimal p (omega arith), number_of-decimal to.port (omega arith)) (ap (λ t. Send n p t Low body) (port_is to (node_word m) (omega arith))))
+    record {
+      node = is_number-decimal 1 32 n from.0 from.1 (omega arith);
+      port = is_number-decimal 0 4294967295 p (omega arith) (omega (arith, h.from_port)) (omega (arith, h.from_port));
+      other = and_from _ _ (is_number-decimal 1 32 m (omega arith) (omega arith) (omega arith)) (not_from_false _ (ne_eqb _ _ (λ same. ne (sym m-of ∙ same ∙ n-of))));
+      at = is_number-decimal 0 4294967295 to.port (omega arith) (omega (arith, h.to_port)) (omega (arith, h.to_port));
+      text = is_body-text body h.some h.short h.visible;
+      node_is = n-of;
+      port_is = number_of-decimal p (omega (arith, h.from_port));
+      other_is = m-of;
+      at_is = number_of-decimal to.port (omega (arith, h.to_port));
+      node_whole = no_space-decimal n (omega arith);
+      port_whole = no_space-decimal p (omega (arith, h.from_port));
+      other_whole = no_space-decimal m (omega arith);
+      at_whole = no_space-decimal to.port (omega (arith, h.to_port));
+      text_whole = no_space_visible body ((all_visible body).1 h.visible);
+    }
 
 send_accepted : (text : List ℕ) (n p : ℕ) (to : PortId) (importance : Importance) (body : List ℕ) → Asks text (Send n p to importance body) → IsAccepted text (Send n p to importance body)
+unfolding row_of row_fault first_fault end_fault
 send_accepted text n p to importance body h =
-    let low = h.0.low in
-    subst (λ i. IsAccepted text (Send n p to i body)) (sym low)
-    (send_low text n p to body (subst (λ i. IsMessage n p to i body) low h.0) (h.1 ∙ ap (λ i. spelling_of (Send n p to i body)) low))
+    let m = node_number to in
+    let s = message_spelled n p to body h.0 in
+    let word = h.0.to_node in
+    let i-is = importance_of-word importance in
+    spelled text send_row (drop 1 (send_words n p to importance body)) (Send n p to importance body) h.1 refl
+    (rw (s.node_whole, s.port_whole, s.other_whole, s.at_whole, no_space-importance importance, s.text_whole) refl) refl
+    (rw (s.node, s.port, s.other, s.at, is_importance-word importance, s.text) refl)
+    (rw (s.node_is, s.other_is, s.port_is, s.at_is, i-is) (ap (λ t. Send n p t importance body) (port_is to (node_word m) (omega arith))))
+
+repeat_accepted : (text : List ℕ) (c n p : ℕ) (to : PortId) (importance : Importance) (body : List ℕ) → Asks text (Repeat c n p to importance body) → IsAccepted text (Repeat c n p to importance body)
+unfolding row_of row_fault first_fault end_fault
+repeat_accepted text c n p to importance body h =
+    let m = node_number to in
+    let s = message_spelled n p to body h.0.1 in
+    let times = h.0.0 in
+    let word = h.0.1.to_node in
+    let i-is = importance_of-word importance in
+    spelled text repeat_row (decimal c ∷ send_words n p to importance body) (Repeat c n p to importance body) h.1 refl
+    (rw (no_space-decimal c (omega arith), s.node_whole, s.port_whole, s.other_whole, s.at_whole, no_space-importance importance, s.text_whole) refl) refl
+    (rw (is_number-decimal 1 1000000 c times.0 times.1 (omega arith), s.node, s.port, s.other, s.at, is_importance-word importance, s.text) refl)
+    (rw (number_of-decimal c (omega arith), s.node_is, s.other_is, s.port_is, s.at_is, i-is) (ap (λ t. Repeat c n p t importance body) (port_is to (node_word m) (omega arith))))
+
+burst_accepted : (text : List ℕ) (n p m q c : ℕ) (body : List ℕ) → Asks text (Burst n p m q c body) → IsAccepted text (Burst n p m q c body)
+unfolding row_of row_fault first_fault end_fault
+burst_accepted text n p m q c body h =
+    let back : node_number (port_at m q) ≡ m = omega arith in
+    let s = subst (λ k. IsSpelled n p k q body) back (message_spelled n p (port_at m q) body h.0.0) in
+    let times = h.0.2 in
+    spelled text burst_row (decimal n ∷ decimal p ∷ decimal m ∷ decimal q ∷ decimal c ∷ (61 ∷ body) ∷ []) (Burst n p m q c body) h.1 refl
+    (rw (no_space-decimal c (omega arith), s.node_whole, s.port_whole, s.other_whole, s.at_whole, s.text_whole) refl) refl
+    (rw (is_number-decimal 1 1000000 c times.0 times.1 (omega arith), s.node, s.port, s.other, s.at, s.text) refl)
+    (rw (number_of-decimal c (omega arith), s.node_is, s.other_is, s.port_is, s.at_is) refl)
 
 arrive_accepted : (text : List ℕ) (n x k : ℕ) → Asks text (Arrive n x k) → IsAccepted text (Arrive n x k)
 unfolding row_of row_fault first_fault end_fault
@@ -147,6 +201,16 @@ receive_accepted text n p h =
     (rw (is_number-decimal 1 32 n node.0 node.1 (omega arith), is_number-decimal 0 4294967295 p (omega arith) (omega arith) (omega arith)) refl)
     (rw (number_of-decimal n (omega arith), number_of-decimal p (omega arith)) refl)
 
+drain_accepted : (text : List ℕ) (n p : ℕ) → Asks text (Drain n p) → IsAccepted text (Drain n p)
+unfolding row_of row_fault first_fault end_fault
+drain_accepted text n p h =
+    let node = h.0.0 in
+    let port = h.0.1 in
+    spelled text drain_row (decimal n ∷ decimal p ∷ []) (Drain n p) h.1 refl
+    (rw (no_space-decimal n (omega arith), no_space-decimal p (omega arith)) refl) refl
+    (rw (is_number-decimal 1 32 n node.0 node.1 (omega arith), is_number-decimal 0 4294967295 p (omega arith) (omega arith) (omega arith)) refl)
+    (rw (number_of-decimal n (omega arith), number_of-decimal p (omega arith)) refl)
+
 pump_accepted : (text : List ℕ) (x : ℕ) → Asks text (Pump x) → IsAccepted text (Pump x)
 unfolding row_of row_fault first_fault end_fault
 pump_accepted text x h =
@@ -160,6 +224,23 @@ settle_accepted text r h =
     let rounds = h.0 in
     spelled text settle_row (decimal r ∷ []) (Settle r) h.1 refl (rw (no_space-decimal r (omega arith)) refl) refl
     (rw (is_number-decimal 0 1000000 r (omega arith) rounds (omega arith)) refl) (rw (number_of-decimal r (omega arith)) refl)
+
+air_accepted : (text : List ℕ) (x : ℕ) → Asks text (Air x) → IsAccepted text (Air x)
+unfolding row_of row_fault first_fault end_fault
+air_accepted text x h =
+    let bearer = h.0 in
+    spelled text air_row (decimal x ∷ []) (Air x) h.1 refl (rw (no_space-decimal x (omega arith)) refl) refl
+    (rw (is_number-decimal 0 0 x (omega arith) (omega arith) (omega arith)) refl) (rw (number_of-decimal x (omega arith)) refl)
+
+show_accepted : (text : List ℕ) (x k : ℕ) → Asks text (Show x k) → IsAccepted text (Show x k)
+unfolding row_of row_fault first_fault end_fault
+show_accepted text x k h =
+    let bearer = h.0.0 in
+    let frame = h.0.1 in
+    spelled text show_row (decimal x ∷ decimal k ∷ []) (Show x k) h.1 refl
+    (rw (no_space-decimal x (omega arith), no_space-decimal k (omega arith)) refl) refl
+    (rw (is_number-decimal 0 0 x (omega arith) (omega arith) (omega arith), is_number-decimal 0 1000000 k (omega arith) frame (omega arith)) refl)
+    (rw (number_of-decimal x (omega arith), number_of-decimal k (omega arith)) refl)
 
 links_accepted : (text : List ℕ) (n : ℕ) → Asks text (Links n) → IsAccepted text (Links n)
 unfolding row_of row_fault first_fault end_fault
@@ -192,9 +273,14 @@ asks_accepted text (Link a b x) h = link_accepted text a b x h
 asks_accepted text Mark h = mark_accepted text h
 asks_accepted text (Socket n) h = socket_accepted text n h
 asks_accepted text (Send n p to importance body) h = send_accepted text n p to importance body h
+asks_accepted text (Repeat c n p to importance body) h = repeat_accepted text c n p to importance body h
 asks_accepted text (Arrive n x k) h = arrive_accepted text n x k h
 asks_accepted text (Receive n p) h = receive_accepted text n p h
+asks_accepted text (Drain n p) h = drain_accepted text n p h
+asks_accepted text (Burst n p m q c body) h = burst_accepted text n p m q c body h
 asks_accepted text (Pump x) h = pump_accepted text x h
 asks_accepted text (Settle r) h = settle_accepted text r h
+asks_accepted text (Air x) h = air_accepted text x h
+asks_accepted text (Show x k) h = show_accepted text x k h
 asks_accepted text (Links n) h = links_accepted text n h
 asks_accepted text (Flow a b) h = flow_accepted text a b h

@@ -4,5 +4,6 @@ pub mod Answering
 pub mod Bodies
 pub mod Cutting
 pub mod Found
+pub mod Importances
 pub mod Reading
 pub mod Spaces

@@ -8,8 +8,8 @@ use Rattle.tipc_script.specs.declared.faults.LineFault.TheVariants as faults
 use Rattle.tipc_script.specs.declared.lines.Line.{Line}
 use Rattle.tipc_script.specs.declared.lines.Command.{Command}
 use Rattle.tipc_script.specs.Splitting.{Left, whole, first_token, behind}
-use Rattle.tipc_script.specs.Kinds.{Kind, NewNode, OldNode, OtherNode, BearerNumber, PortNumber, FrameNumber, RoundsNumber, FormWord, ImportanceWord, BodyText, takes, is_remark}
-use Rattle.tipc_script.specs.Grammar.{Row, row_of, first_number}
+use Rattle.tipc_script.specs.Kinds.{Kind, NewNode, OldNode, OtherNode, OtherOldNode, BearerNumber, PortNumber, FrameNumber, RoundsNumber, TimesNumber, SendWord, FormWord, ImportanceWord, BodyText, takes, is_remark}
+use Rattle.tipc_script.specs.Grammar.{Row, row_of, last_node}
 
 abbrev pub Fault : Type 0
 Fault = ℕ × LineWhy
@@ -19,10 +19,13 @@ abbrev pub why_not : Kind → LineWhy
 why_not NewNode = why.Number
 why_not OldNode = why.Number
 why_not OtherNode = why.Number
+why_not OtherOldNode = why.Number
 why_not BearerNumber = why.Number
 why_not PortNumber = why.Number
 why_not FrameNumber = why.Number
 why_not RoundsNumber = why.Number
+why_not TimesNumber = why.Number
+why_not SendWord = why.Command
 why_not FormWord = why.Word
 why_not ImportanceWord = why.Word
 why_not BodyText = why.Body
@@ -47,14 +50,14 @@ more_fault (token ∷ tokens) place = Some (place, why.End)
 unfoldable pub end_fault : Left → Option Fault
 end_fault left = more_fault left.tokens left.place
 
--- the first fault of the tokens that are left, which have to be of these kinds and no more
+-- the first fault of the tokens that are left, which have to be of these kinds and no more, where the node before them has the number own
 abbrev pub fault_in : ℕ → List Kind → Left → Option Fault
 fault_in own [] left = end_fault left
-fault_in own (kind ∷ kinds) left = option_or (first_fault (takes own kind) (why_not kind) left) (fault_in own kinds (behind left))
+fault_in own (kind ∷ kinds) left = option_or (first_fault (takes own kind) (why_not kind) left) (fault_in (last_node own kind left) kinds (behind left))
 
 -- the same behind the first word of a row
 unfoldable pub row_fault : Row → Left → Option Fault
-row_fault row left = fault_in (first_number left) row.kinds left
+row_fault row left = fault_in 0 row.kinds left
 
 abbrev pub fault_by : Option Row → Left → Option Fault
 fault_by None left = Some (1, why.Command)

@@ -2,14 +2,12 @@
 -- to be, and what the line asks for.
 use Rattle.std.specs.Prelude.{ℕ, List, [], ◌∷◌, ◌++◌, Option, Some, None, codes, drop, true, false, if◌then◌else◌}
 use Rattle.std.specs.Str.{bytes_eq}
-use Rattle.tipc_types.specs.declared.identity.PortId.{PortId}
-use Rattle.tipc_types.specs.declared.message_forms.Importance.TheVariants.{Low}
-use Rattle.tipc_types.specs.Address.{node_word}
 use Rattle.tipc_script.specs.declared.lines.Line.{Line}
 use Rattle.tipc_script.specs.declared.lines.Line.TheVariants as line
 use Rattle.tipc_script.specs.declared.lines.NodeToken.{NodeToken}
 use Rattle.tipc_script.specs.Splitting.{Left, whole, first_token, behind}
-use Rattle.tipc_script.specs.Kinds.{Kind, NewNode, OldNode, OtherNode, BearerNumber, PortNumber, FrameNumber, RoundsNumber, FormWord, ImportanceWord, BodyText, number_of, is_remark}
+use Rattle.tipc_script.specs.Kinds.{Kind, NewNode, OldNode, OtherNode, OtherOldNode, BearerNumber, PortNumber, FrameNumber, RoundsNumber, TimesNumber, SendWord, FormWord, ImportanceWord, BodyText, importance_of, number_of, is_remark}
+use Rattle.tipc_script.specs.Spelling.{port_at}
 
 pub record Row : Type 0 where
   pub word : List ℕ
@@ -48,17 +46,23 @@ mark_row = record { word = codes "mark"; kinds = []; asks = λ left. line.Mark }
 abbrev pub socket_row : Row
 socket_row = record { word = codes "socket"; kinds = OldNode ∷ []; asks = λ node. line.Socket (first_number node) }
 
--- a port of a node
-abbrev pub port_at : ℕ → ℕ → PortId
-port_at node port = record { node = record { word = node_word node }; port = port }
-
 abbrev pub send_row : Row
 send_row = record {
   word = codes "send";
   kinds = OldNode ∷ PortNumber ∷ FormWord ∷ OtherNode ∷ PortNumber ∷ ImportanceWord ∷ BodyText ∷ [];
   asks = λ node.
       let port = behind node in let form = behind port in let to = behind form in let at = behind to in let importance = behind at in let body = behind importance in
-      line.Send (first_number node) (first_number port) (port_at (first_number to) (first_number at)) Low (drop 1 (first_token body));
+      line.Send (first_number node) (first_number port) (port_at (first_number to) (first_number at)) (importance_of (first_token importance)) (drop 1 (first_token body));
+}
+
+abbrev pub repeat_row : Row
+repeat_row = record {
+  word = codes "repeat";
+  kinds = TimesNumber ∷ SendWord ∷ send_row.kinds;
+  asks = λ times.
+      let node = behind (behind times) in
+      let port = behind node in let form = behind port in let to = behind form in let at = behind to in let importance = behind at in let body = behind importance in
+      line.Repeat (first_number times) (first_number node) (first_number port) (port_at (first_number to) (first_number at)) (importance_of (first_token importance)) (drop 1 (first_token body));
 }
 
 abbrev pub arrive_row : Row
@@ -71,11 +75,29 @@ arrive_row = record {
 abbrev pub receive_row : Row
 receive_row = record { word = codes "receive"; kinds = OldNode ∷ PortNumber ∷ []; asks = λ node. line.Receive (first_number node) (first_number (behind node)) }
 
+abbrev pub drain_row : Row
+drain_row = record { word = codes "drain"; kinds = OldNode ∷ PortNumber ∷ []; asks = λ node. line.Drain (first_number node) (first_number (behind node)) }
+
+abbrev pub burst_row : Row
+burst_row = record {
+  word = codes "burst";
+  kinds = OldNode ∷ PortNumber ∷ OtherOldNode ∷ PortNumber ∷ TimesNumber ∷ BodyText ∷ [];
+  asks = λ node.
+      let port = behind node in let to = behind port in let at = behind to in let times = behind at in let body = behind times in
+      line.Burst (first_number node) (first_number port) (first_number to) (first_number at) (first_number times) (drop 1 (first_token body));
+}
+
 abbrev pub pump_row : Row
 pump_row = record { word = codes "pump"; kinds = BearerNumber ∷ []; asks = λ bearer. line.Pump (first_number bearer) }
 
 abbrev pub settle_row : Row
 settle_row = record { word = codes "settle"; kinds = RoundsNumber ∷ []; asks = λ rounds. line.Settle (first_number rounds) }
+
+abbrev pub air_row : Row
+air_row = record { word = codes "air"; kinds = BearerNumber ∷ []; asks = λ bearer. line.Air (first_number bearer) }
+
+abbrev pub show_row : Row
+show_row = record { word = codes "show"; kinds = BearerNumber ∷ FrameNumber ∷ []; asks = λ bearer. line.Show (first_number bearer) (first_number (behind bearer)) }
 
 abbrev pub links_row : Row
 links_row = record { word = codes "links"; kinds = OldNode ∷ []; asks = λ node. line.Links (first_number node) }
@@ -83,9 +105,13 @@ links_row = record { word = codes "links"; kinds = OldNode ∷ []; asks = λ nod
 abbrev pub flow_row : Row
 flow_row = record { word = codes "flow"; kinds = OldNode ∷ OldNode ∷ []; asks = λ from. line.Flow (first_number from) (first_number (behind from)) }
 
--- the rows of lines about messages, frames and links that are there
+-- the rows of lines about frames and links
+abbrev pub frame_rows : List Row
+frame_rows = arrive_row ∷ pump_row ∷ settle_row ∷ air_row ∷ show_row ∷ links_row ∷ flow_row ∷ []
+
+-- the rows of lines about messages, frames and links
 abbrev pub traffic_rows : List Row
-traffic_rows = send_row ∷ arrive_row ∷ receive_row ∷ pump_row ∷ settle_row ∷ links_row ∷ flow_row ∷ []
+traffic_rows = send_row ∷ repeat_row ∷ receive_row ∷ drain_row ∷ burst_row ∷ frame_rows
 
 abbrev pub rows : List Row
 rows = node_row ∷ mend_row ∷ cut_row ∷ tick_row ∷ restart_row ∷ link_row ∷ mark_row ∷ socket_row ∷ traffic_rows
@@ -106,15 +132,23 @@ asked_by (Some row) left = row.asks left
 unfoldable pub asked : List ℕ → Line
 asked text = if is_remark text then line.Nothing else asked_by (row_of (first_token (whole text))) (behind (whole text))
 
+-- the number of the last node that was named and is asked for, behind a token of this kind
+abbrev pub last_node : ℕ → Kind → Left → ℕ
+last_node own OldNode left = first_number left
+last_node own other left = own
+
 -- the node that a token names, where something is asked of it
 abbrev pub node_in : Kind → Left → List NodeToken
 node_in NewNode left = record { place = left.place; node = first_number left; there = false } ∷ []
 node_in OldNode left = record { place = left.place; node = first_number left; there = true } ∷ []
 node_in OtherNode left = []
+node_in OtherOldNode left = record { place = left.place; node = first_number left; there = true } ∷ []
 node_in BearerNumber left = []
 node_in PortNumber left = []
 node_in FrameNumber left = []
 node_in RoundsNumber left = []
+node_in TimesNumber left = []
+node_in SendWord left = []
 node_in FormWord left = []
 node_in ImportanceWord left = []
 node_in BodyText left = []

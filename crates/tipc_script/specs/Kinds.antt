@@ -1,19 +1,24 @@
 -- What a token of a line may have to be, and which tokens are so.
-use Rattle.std.specs.Prelude.{ℕ, ◌==◌, nat_le, Bool, true, false, not, ◌&&◌, List, [], ◌∷◌, length, codes}
+use Rattle.std.specs.Prelude.{ℕ, ◌==◌, nat_le, Bool, true, false, not, ◌&&◌, if◌then◌else◌, List, [], ◌∷◌, length, codes, Option, Some, None, is_some, unwrap_or}
 use Rattle.std.specs.List.{list_all}
 use Rattle.std.specs.Str.{bytes_eq}
 use Rattle.std.specs.Str.Parse.{digits_value}
 use Rattle.std.specs.Fmt.{decimal}
+use Rattle.tipc_types.specs.declared.message_forms.Importance.{Importance}
+use Rattle.tipc_types.specs.declared.message_forms.Importance.TheVariants.{Low, Medium, High, Critical}
 
 -- what a token may have to be
 pub data Kind : Type 0 where
   NewNode : Kind  -- the number of a node that isn't there yet
   OldNode : Kind  -- the number of a node that is there
-  OtherNode : Kind  -- the number of another node than the first one of the line
+  OtherNode : Kind  -- the number of another node than the one before it in the line
+  OtherOldNode : Kind  -- the number of another node than the one before it in the line, which is there
   BearerNumber : Kind
   PortNumber : Kind
   FrameNumber : Kind
   RoundsNumber : Kind
+  TimesNumber : Kind
+  SendWord : Kind
   FormWord : Kind
   ImportanceWord : Kind
   BodyText : Kind
@@ -35,17 +40,33 @@ unfoldable pub is_body : List ℕ → Bool
 is_body [] = false
 is_body (sign ∷ text) = sign == 61 && nat_le 1 (length text) && nat_le (length text) 64 && list_all is_visible text
 
--- whether a token is of a kind, in a line whose first node has the number own
+-- the importance that a token is
+unfoldable pub importance_in : List ℕ → Option Importance
+importance_in token =
+    if bytes_eq token (codes "low") then Some Low
+    else (if bytes_eq token (codes "medium") then Some Medium else (if bytes_eq token (codes "high") then Some High else (if bytes_eq token (codes "critical") then Some Critical else None)))
+
+abbrev pub is_importance : List ℕ → Bool
+is_importance token = is_some (importance_in token)
+
+-- the importance that a token stands for
+abbrev pub importance_of : List ℕ → Importance
+importance_of token = unwrap_or (importance_in token) Low
+
+-- whether a token is of a kind, in a line in which the node before it has the number own
 abbrev pub takes : ℕ → Kind → List ℕ → Bool
 takes own NewNode token = is_number 1 32 token
 takes own OldNode token = is_number 1 32 token
 takes own OtherNode token = is_number 1 32 token && not (number_of token == own)
+takes own OtherOldNode token = is_number 1 32 token && not (number_of token == own)
 takes own BearerNumber token = is_number 0 0 token
 takes own PortNumber token = is_number 0 4294967295 token
 takes own FrameNumber token = is_number 0 1000000 token
 takes own RoundsNumber token = is_number 0 1000000 token
+takes own TimesNumber token = is_number 1 1000000 token
+takes own SendWord token = bytes_eq token (codes "send")
 takes own FormWord token = bytes_eq token (codes "port")
-takes own ImportanceWord token = bytes_eq token (codes "low")
+takes own ImportanceWord token = is_importance token
 takes own BodyText token = is_body token
 
 -- an empty line and a line that begins with `#` are done as nothing

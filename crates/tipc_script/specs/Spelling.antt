@@ -7,7 +7,7 @@ use Rattle.tipc_types.specs.declared.message_forms.Importance.{Importance}
 use Rattle.tipc_types.specs.declared.message_forms.Importance.TheVariants.{Low, Medium, High, Critical}
 use Rattle.tipc_types.specs.Address.{node_word, IsNodeWord}
 use Rattle.tipc_script.specs.declared.lines.Line.{Line}
-use Rattle.tipc_script.specs.declared.lines.Line.TheVariants.{Nothing, Node, Mend, Cut, Tick, Restart, Link, Mark, Socket, Send, Arrive, Receive, Pump, Settle, Links, Flow}
+use Rattle.tipc_script.specs.declared.lines.Line.TheVariants.{Nothing, Node, Mend, Cut, Tick, Restart, Link, Mark, Socket, Send, Repeat, Arrive, Receive, Drain, Pump, Burst, Settle, Air, Show, Links, Flow}
 use Rattle.tipc_script.specs.Kinds.{is_remark}
 
 -- words with single spaces between them
@@ -20,9 +20,18 @@ importance_word Medium = codes "medium"
 importance_word High = codes "high"
 importance_word Critical = codes "critical"
 
+-- a port of a node
+abbrev pub port_at : ℕ → ℕ → PortId
+port_at node port = record { node = record { word = node_word node }; port = port }
+
 -- the number of the node of a port
 abbrev pub node_number : PortId → ℕ
 node_number port = port.node.word - node_word 0
+
+-- the words of a line that sends
+abbrev pub send_words : ℕ → ℕ → PortId → Importance → List ℕ → List (List ℕ)
+send_words node port to importance body =
+    codes "send" ∷ decimal node ∷ decimal port ∷ codes "port" ∷ decimal (node_number to) ∷ decimal to.port ∷ importance_word importance ∷ (61 ∷ body) ∷ []
 
 -- the words of a line
 abbrev pub words_of : Line → List (List ℕ)
@@ -35,12 +44,17 @@ words_of (Restart node) = codes "restart" ∷ decimal node ∷ []
 words_of (Link first second bearer) = codes "link" ∷ decimal first ∷ decimal second ∷ decimal bearer ∷ []
 words_of Mark = codes "mark" ∷ []
 words_of (Socket node) = codes "socket" ∷ decimal node ∷ []
-words_of (Send node port to importance body) =
-    codes "send" ∷ decimal node ∷ decimal port ∷ codes "port" ∷ decimal (node_number to) ∷ decimal to.port ∷ importance_word importance ∷ (61 ∷ body) ∷ []
+words_of (Send node port to importance body) = send_words node port to importance body
+words_of (Repeat times node port to importance body) = codes "repeat" ∷ decimal times ∷ send_words node port to importance body
 words_of (Arrive node bearer frame) = codes "arrive" ∷ decimal node ∷ decimal bearer ∷ decimal frame ∷ []
 words_of (Receive node port) = codes "receive" ∷ decimal node ∷ decimal port ∷ []
+words_of (Drain node port) = codes "drain" ∷ decimal node ∷ decimal port ∷ []
+words_of (Burst node port to_node to_port times body) =
+    codes "burst" ∷ decimal node ∷ decimal port ∷ decimal to_node ∷ decimal to_port ∷ decimal times ∷ (61 ∷ body) ∷ []
 words_of (Pump bearer) = codes "pump" ∷ decimal bearer ∷ []
 words_of (Settle rounds) = codes "settle" ∷ decimal rounds ∷ []
+words_of (Air bearer) = codes "air" ∷ decimal bearer ∷ []
+words_of (Show bearer frame) = codes "show" ∷ decimal bearer ∷ decimal frame ∷ []
 words_of (Links node) = codes "links" ∷ decimal node ∷ []
 words_of (Flow from to) = codes "flow" ∷ decimal from ∷ decimal to ∷ []
 
@@ -50,14 +64,17 @@ spelling_of line = spaced (words_of line)
 abbrev pub IsNode : ℕ → Type 0
 IsNode n = (1 ≤ n) × (n ≤ 32)
 
+-- how many times something is done again
+abbrev pub IsTimes : ℕ → Type 0
+IsTimes times = (1 ≤ times) × (times ≤ 1000000)
+
 -- a message as a line may ask for it
-pub record IsMessage (node port : ℕ) (to : PortId) (importance : Importance) (body : List ℕ) : Type 0 where
+pub record IsMessage (node port : ℕ) (to : PortId) (body : List ℕ) : Type 0 where
   pub from_node : IsNode node
   pub from_port : port < 2 ^ 32
   pub to_node : IsNodeWord to.node.word
   pub other : to.node.word ≢ node_word node
   pub to_port : to.port < 2 ^ 32
-  pub low : importance ≡ Low
   pub some : 1 ≤ length body
   pub short : length body ≤ 64
   pub visible : All (λ byte. (33 ≤ byte) × (byte ≤ 126)) body
@@ -73,11 +90,16 @@ Fits (Restart node) = IsNode node
 Fits (Link first second bearer) = IsNode first × IsNode second × (bearer ≡ 0)
 Fits Mark = Unit {0}
 Fits (Socket node) = IsNode node
-Fits (Send node port to importance body) = IsMessage node port to importance body
+Fits (Send node port to importance body) = IsMessage node port to body
+Fits (Repeat times node port to importance body) = IsTimes times × IsMessage node port to body
 Fits (Arrive node bearer frame) = IsNode node × (bearer ≡ 0) × (frame ≤ 1000000)
 Fits (Receive node port) = IsNode node × (port < 2 ^ 32)
+Fits (Drain node port) = IsNode node × (port < 2 ^ 32)
+Fits (Burst node port to_node to_port times body) = IsMessage node port (port_at to_node to_port) body × IsNode to_node × IsTimes times
 Fits (Pump bearer) = bearer ≡ 0
 Fits (Settle rounds) = rounds ≤ 1000000
+Fits (Air bearer) = bearer ≡ 0
+Fits (Show bearer frame) = (bearer ≡ 0) × (frame ≤ 1000000)
 Fits (Links node) = IsNode node
 Fits (Flow from to) = IsNode from × IsNode to
 
@@ -93,9 +115,14 @@ Asks text (Link first second bearer) = Fits (Link first second bearer) × (text 
 Asks text Mark = text ≡ spelling_of Mark
 Asks text (Socket node) = Fits (Socket node) × (text ≡ spelling_of (Socket node))
 Asks text (Send node port to importance body) = Fits (Send node port to importance body) × (text ≡ spelling_of (Send node port to importance body))
+Asks text (Repeat times node port to importance body) = Fits (Repeat times node port to importance body) × (text ≡ spelling_of (Repeat times node port to importance body))
 Asks text (Arrive node bearer frame) = Fits (Arrive node bearer frame) × (text ≡ spelling_of (Arrive node bearer frame))
 Asks text (Receive node port) = Fits (Receive node port) × (text ≡ spelling_of (Receive node port))
+Asks text (Drain node port) = Fits (Drain node port) × (text ≡ spelling_of (Drain node port))
+Asks text (Burst node port to_node to_port times body) = Fits (Burst node port to_node to_port times body) × (text ≡ spelling_of (Burst node port to_node to_port times body))
 Asks text (Pump bearer) = Fits (Pump bearer) × (text ≡ spelling_of (Pump bearer))
 Asks text (Settle rounds) = Fits (Settle rounds) × (text ≡ spelling_of (Settle rounds))
+Asks text (Air bearer) = Fits (Air bearer) × (text ≡ spelling_of (Air bearer))
+Asks text (Show bearer frame) = Fits (Show bearer frame) × (text ≡ spelling_of (Show bearer frame))
 Asks text (Links node) = Fits (Links node) × (text ≡ spelling_of (Links node))
 Asks text (Flow from to) = Fits (Flow from to) × (text ≡ spelling_of (Flow from to))

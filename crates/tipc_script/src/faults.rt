@@ -4,7 +4,7 @@ ghost use Rattle.tipc_script.specs.declared.faults.LineFault.TheVariants as faul
 /// Why a line is refused. (This project's profile.)
 #[derive(Clone, Copy, Debug, PartialEq, Eq)]
 pub enum LineWhy {
-    /// There is no such first word.
+    /// There is no such first word, or it can't be repeated.
     Command,
     /// The token is no number, or is out of range.
     Number,

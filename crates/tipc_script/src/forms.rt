@@ -1,18 +1,21 @@
 ghost use Rattle.std.specs.Prelude.{◌≡◌, ◌+◌, ◌<◌, ◌^◌, IfOk, length, ℕ, MatchOption, Some, None};
-ghost use Rattle.tipc_script.specs.Grammar.{node_row, mend_row, cut_row, tick_row, restart_row, link_row, mark_row, socket_row, send_row, arrive_row, receive_row, pump_row, settle_row, links_row, flow_row, row_of, nodes_in, asked, nodes_of};
+ghost use Rattle.tipc_script.specs.Grammar.{node_row, mend_row, cut_row, tick_row, restart_row, link_row, mark_row, socket_row, send_row, repeat_row, arrive_row, receive_row, drain_row, burst_row, pump_row, settle_row, air_row, show_row, links_row, flow_row, row_of, nodes_in, asked, nodes_of};
 ghost use Rattle.tipc_script.specs.Faults.{Tells, row_fault, fault_of};
 
-use crate::faults::LineFault;
+use crate::faults::{LineFault, LineWhy};
 use crate::lines::{Command, Line};
 use crate::tokens::Tokens;
 use std::alloc::Global;
-use tipc_types::{Addr, Bytes, Importance, PortId, Sequence};
+use tipc_types::{Addr, Bytes, PortId, Sequence};
 
 /// The highest number of a port.
 const HIGHEST_PORT: u32 = u32::MAX;
 
 /// The highest number of a frame.
 const HIGHEST_FRAME: u32 = 1_000_000;
+
+/// The most times that something is done again.
+const MOST_TIMES: u32 = 1_000_000;
 
 /// The most rounds that are waited for.
 const MOST_ROUNDS: u32 = 1_000_000;
@@ -162,14 +165,14 @@ pub fn send_line(alloc: Global, tokens: &mut Tokens<'_>) -> Result<Command, Line
 {
     let node = tokens.node(true)?;
     let port = tokens.number(0, HIGHEST_PORT)?;
-    tokens.word(b"port")?;
+    tokens.word(b"port", LineWhy::Word)?;
     let to_node = tokens.other_node(node.node)?;
     let to_port = tokens.number(0, HIGHEST_PORT)?;
-    tokens.word(b"low")?;
+    let importance = tokens.importance()?;
     let body = tokens.body()?;
     tokens.finish()?;
     let to = PortId {
-        node: Addr::node(to_node),
+        node: Addr::node(to_node.node),
         port: to_port,
     };
     Ok(Command {
@@ -177,10 +180,43 @@ pub fn send_line(alloc: Global, tokens: &mut Tokens<'_>) -> Result<Command, Line
             node: node.node,
             port,
             to,
-            importance: Importance::Low,
+            importance,
             body: Bytes::from_slice(alloc, body)?,
         },
         nodes: Sequence::from_slice(alloc, [node].as_slice())?,
+    })
+}
+
+/// What follows `repeat`: how many times, and a line that sends.
+#[tactic(auto, unfolding(crate::specs::Faults::row_fault))]
+pub fn repeat_line(alloc: Global, tokens: &mut Tokens<'_>) -> Result<Command, LineFault>
+    ensures fault { Tells result (row_fault repeat_row tokens.old) }
+    ensures line { IfOk result (λ c. c.line ≡ repeat_row.asks tokens.old) }
+    ensures nodes { IfOk result (λ c. c.nodes ≡ nodes_in repeat_row.kinds tokens.old) }
+{
+    let times = tokens.number(1, MOST_TIMES)?;
+    tokens.word(b"send", LineWhy::Command)?;
+    let Command { line, nodes } = send_line(alloc, tokens)?;
+    let Line::Send {
+        node,
+        port,
+        to,
+        importance,
+        body,
+    } = line
+    else {
+        unreachable!();
+    };
+    Ok(Command {
+        line: Line::Repeat {
+            times,
+            node,
+            port,
+            to,
+            importance,
+            body,
+        },
+        nodes,
     })
 }
 
@@ -224,6 +260,52 @@ pub fn receive_line(alloc: Global, tokens: &mut Tokens<'_>) -> Result<Command, L
     })
 }
 
+/// What follows `drain`.
+#[tactic(auto, unfolding(crate::specs::Faults::row_fault))]
+pub fn drain_line(alloc: Global, tokens: &mut Tokens<'_>) -> Result<Command, LineFault>
+    ensures fault { Tells result (row_fault drain_row tokens.old) }
+    ensures line { IfOk result (λ c. c.line ≡ drain_row.asks tokens.old) }
+    ensures nodes { IfOk result (λ c. c.nodes ≡ nodes_in drain_row.kinds tokens.old) }
+{
+    let node = tokens.node(true)?;
+    let port = tokens.number(0, HIGHEST_PORT)?;
+    tokens.finish()?;
+    Ok(Command {
+        line: Line::Drain {
+            node: node.node,
+            port,
+        },
+        nodes: Sequence::from_slice(alloc, [node].as_slice())?,
+    })
+}
+
+/// What follows `burst`.
+#[tactic(auto, unfolding(crate::specs::Faults::row_fault))]
+pub fn burst_line(alloc: Global, tokens: &mut Tokens<'_>) -> Result<Command, LineFault>
+    ensures fault { Tells result (row_fault burst_row tokens.old) }
+    ensures line { IfOk result (λ c. c.line ≡ burst_row.asks tokens.old) }
+    ensures nodes { IfOk result (λ c. c.nodes ≡ nodes_in burst_row.kinds tokens.old) }
+{
+    let node = tokens.node(true)?;
+    let port = tokens.number(0, HIGHEST_PORT)?;
+    let to_node = tokens.other_node(node.node)?;
+    let to_port = tokens.number(0, HIGHEST_PORT)?;
+    let times = tokens.number(1, MOST_TIMES)?;
+    let body = tokens.body()?;
+    tokens.finish()?;
+    Ok(Command {
+        line: Line::Burst {
+            node: node.node,
+            port,
+            to_node: to_node.node,
+            to_port,
+            times,
+            body: Bytes::from_slice(alloc, body)?,
+        },
+        nodes: Sequence::from_slice(alloc, [node, to_node].as_slice())?,
+    })
+}
+
 /// What follows `pump`.
 #[tactic(auto, unfolding(crate::specs::Faults::row_fault))]
 pub fn pump_line(alloc: Global, tokens: &mut Tokens<'_>) -> Result<Command, LineFault>
@@ -252,6 +334,42 @@ pub fn settle_line(alloc: Global, tokens: &mut Tokens<'_>) -> Result<Command, Li
     tokens.finish()?;
     Ok(Command {
         line: Line::Settle { rounds },
+        nodes: Sequence::new(alloc),
+    })
+}
+
+/// What follows `air`.
+#[tactic(auto, unfolding(crate::specs::Faults::row_fault))]
+pub fn air_line(alloc: Global, tokens: &mut Tokens<'_>) -> Result<Command, LineFault>
+    ensures fault { Tells result (row_fault air_row tokens.old) }
+    ensures line { IfOk result (λ c. c.line ≡ air_row.asks tokens.old) }
+    ensures nodes { IfOk result (λ c. c.nodes ≡ nodes_in air_row.kinds tokens.old) }
+{
+    let bearer = tokens.number(0, HIGHEST_BEARER)?;
+    tokens.finish()?;
+    Ok(Command {
+        line: Line::Air {
+            bearer: bearer as u8,
+        },
+        nodes: Sequence::new(alloc),
+    })
+}
+
+/// What follows `show`.
+#[tactic(auto, unfolding(crate::specs::Faults::row_fault))]
+pub fn show_line(alloc: Global, tokens: &mut Tokens<'_>) -> Result<Command, LineFault>
+    ensures fault { Tells result (row_fault show_row tokens.old) }
+    ensures line { IfOk result (λ c. c.line ≡ show_row.asks tokens.old) }
+    ensures nodes { IfOk result (λ c. c.nodes ≡ nodes_in show_row.kinds tokens.old) }
+{
+    let bearer = tokens.number(0, HIGHEST_BEARER)?;
+    let frame = tokens.number(0, HIGHEST_FRAME)?;
+    tokens.finish()?;
+    Ok(Command {
+        line: Line::Show {
+            bearer: bearer as u8,
+            frame: u64::from(frame),
+        },
         nodes: Sequence::new(alloc),
     })
 }

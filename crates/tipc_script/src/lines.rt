@@ -64,6 +64,21 @@ pub enum Line {
         /// The user's bytes.
         body: Bytes,
     },
+    /// A message to a port, again and again until one isn't sent.
+    Repeat {
+        /// How many times at most, from 1 to 1,000,000.
+        times: u32,
+        /// The sending node.
+        node: u8,
+        /// The sending port.
+        port: u32,
+        /// The port that it is for, at another node.
+        to: PortId,
+        /// How important it is.
+        importance: Importance,
+        /// The user's bytes.
+        body: Bytes,
+    },
     /// A frame arrives.
     Arrive {
         /// The node that it arrives at.
@@ -80,15 +95,49 @@ pub enum Line {
         /// The socket's port.
         port: u32,
     },
+    /// Messages are taken from a socket until none is left.
+    Drain {
+        /// The node.
+        node: u8,
+        /// The socket's port.
+        port: u32,
+    },
     /// The frames of a bearer arrive until none is left.
     Pump {
         /// The bearer.
         bearer: u8,
     },
+    /// A message of low importance is sent, frames are pumped and a message is taken, again and again until no message came.
+    Burst {
+        /// The sending node.
+        node: u8,
+        /// The sending port.
+        port: u32,
+        /// The node that it is for, which is another one.
+        to_node: u8,
+        /// The port that it is for.
+        to_port: u32,
+        /// How many times at most, from 1 to 1,000,000.
+        times: u32,
+        /// The user's bytes.
+        body: Bytes,
+    },
     /// The nodes go on until no packet is under way, for so many rounds at most.
     Settle {
         /// How many rounds, from 0 to 1,000,000.
         rounds: u32,
+    },
+    /// The frames of a bearer since the last mark are counted.
+    Air {
+        /// The bearer.
+        bearer: u8,
+    },
+    /// A frame is shown.
+    Show {
+        /// The bearer.
+        bearer: u8,
+        /// The frame's number since the last mark, from 0 to 1,000,000.
+        frame: u64,
     },
     /// The link ends of a node are shown.
     Links {

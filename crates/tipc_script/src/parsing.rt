@@ -1,7 +1,6 @@
 ghost use Rattle.std.specs.Prelude.{◌≡◌, ◌+◌, ◌<◌, ◌^◌, IfOk, length, MatchOption, Some, None, List, ℕ};
-ghost use Rattle.std.specs.Str.{bytes_eq};
 ghost use Rattle.tipc_script.specs.Kinds.{is_remark};
-ghost use Rattle.tipc_script.specs.Grammar.{traffic_rows, row_among, row_of, asked_by, nodes_by, asked, nodes_of};
+ghost use Rattle.tipc_script.specs.Grammar.{frame_rows, traffic_rows, row_among, row_of, asked_by, nodes_by, asked, nodes_of};
 ghost use Rattle.tipc_script.specs.Faults.{Tells, Reads, fault_by, fault_of};
 ghost use Rattle.tipc_script.specs.declared.lines.Line.{Line};
 ghost use Rattle.tipc_script.specs.Spelling.{Asks};
@@ -11,7 +10,7 @@ ghost use Rattle.tipc_script.specs.Splitting.{whole, first_token, behind};
 use crate::faults::{LineFault, LineWhy};
 use crate::forms;
 use crate::lines::{Command, Line};
-use crate::tokens::Tokens;
+use crate::tokens::{Tokens, is_word};
 use std::alloc::Global;
 use tipc_types::Sequence;
 
@@ -33,19 +32,17 @@ enum FirstWord {
     Mark,
     Socket,
     Send,
-    Arrive,
+    Repeat,
     Receive,
+    Drain,
+    Burst,
+    Arrive,
     Pump,
     Settle,
+    Air,
+    Show,
     Links,
     Flow,
-}
-
-/// Whether a token is a word.
-fn is_word(token: &[u8], word: &[u8]) -> bool
-    ensures { result ≡ bytes_eq token.now word.now }
-{
-    token == word
 }
 
 /// The first word that a token is, if any.
@@ -80,24 +77,46 @@ fn first_word(token: &[u8]) -> Option<FirstWord>
     traffic_word(token)
 }
 
-/// The first word of a line about messages, frames and links that are there, if the token is one.
+/// The first word of a line about messages, frames and links, if the token is one.
 fn traffic_word(token: &[u8]) -> Option<FirstWord>
     ensures { MatchOption result (row_among traffic_rows token.now ≡ None) (λ word. row_among traffic_rows token.now ≡ Some (row_for word)) }
 {
     if is_word(token, b"send") {
         return Some(FirstWord::Send);
     }
-    if is_word(token, b"arrive") {
-        return Some(FirstWord::Arrive);
+    if is_word(token, b"repeat") {
+        return Some(FirstWord::Repeat);
     }
     if is_word(token, b"receive") {
         return Some(FirstWord::Receive);
+    }
+    if is_word(token, b"drain") {
+        return Some(FirstWord::Drain);
+    }
+    if is_word(token, b"burst") {
+        return Some(FirstWord::Burst);
+    }
+    frame_word(token)
+}
+
+/// The first word of a line about frames and links, if the token is one.
+fn frame_word(token: &[u8]) -> Option<FirstWord>
+    ensures { MatchOption result (row_among frame_rows token.now ≡ None) (λ word. row_among frame_rows token.now ≡ Some (row_for word)) }
+{
+    if is_word(token, b"arrive") {
+        return Some(FirstWord::Arrive);
     }
     if is_word(token, b"pump") {
         return Some(FirstWord::Pump);
     }
     if is_word(token, b"settle") {
         return Some(FirstWord::Settle);
+    }
+    if is_word(token, b"air") {
+        return Some(FirstWord::Air);
+    }
+    if is_word(token, b"show") {
+        return Some(FirstWord::Show);
     }
     if is_word(token, b"links") {
         return Some(FirstWord::Links);
@@ -128,10 +147,15 @@ fn line_behind(
         FirstWord::Mark => forms::mark_line(alloc, tokens),
         FirstWord::Socket => forms::socket_line(alloc, tokens),
         FirstWord::Send => forms::send_line(alloc, tokens),
-        FirstWord::Arrive => forms::arrive_line(alloc, tokens),
+        FirstWord::Repeat => forms::repeat_line(alloc, tokens),
         FirstWord::Receive => forms::receive_line(alloc, tokens),
+        FirstWord::Drain => forms::drain_line(alloc, tokens),
+        FirstWord::Burst => forms::burst_line(alloc, tokens),
+        FirstWord::Arrive => forms::arrive_line(alloc, tokens),
         FirstWord::Pump => forms::pump_line(alloc, tokens),
         FirstWord::Settle => forms::settle_line(alloc, tokens),
+        FirstWord::Air => forms::air_line(alloc, tokens),
+        FirstWord::Show => forms::show_line(alloc, tokens),
         FirstWord::Links => forms::links_line(alloc, tokens),
         FirstWord::Flow => forms::flow_line(alloc, tokens),
     }

@@ -2,10 +2,10 @@ use crate::{Command, Line, LineFault, LineWhy, NodeToken, parse_line};
 use std::alloc::Global;
 use std::process::Abort;
 use std::test::Fail;
-use tipc_types::{Addr, Importance, PortId};
+use tipc_types::{Addr, Bytes, Importance, PortId};
 
-/// The lines that are refused, each with the place and the reason that the rules give.
-const BAD_LINES: [(&[u8], u32, LineWhy); 89] = [
+/// Lines of nodes, links and sockets that are refused, each with the place and the reason that the rules give.
+const BAD_LINES_OF_NODES: [(&[u8], u32, LineWhy); 47] = [
     (b" ", 1, LineWhy::Command),
     (b"nod 1", 1, LineWhy::Command),
     (b" node 1", 1, LineWhy::Command),
@@ -53,6 +53,10 @@ const BAD_LINES: [(&[u8], u32, LineWhy); 89] = [
     (b"socket", 7, LineWhy::End),
     (b"socket x", 8, LineWhy::Number),
     (b"socket 1 1", 10, LineWhy::End),
+];
+
+/// Lines of messages that are refused, each with the place and the reason that the rules give.
+const BAD_LINES_OF_MESSAGES: [(&[u8], u32, LineWhy); 46] = [
     (b"send  1 1 port 2 1 low =a", 6, LineWhy::Number),
     (b"send 1 4294967296 port 2 1 low =a", 8, LineWhy::Number),
     (b"send 1 1", 9, LineWhy::End),
@@ -62,7 +66,10 @@ const BAD_LINES: [(&[u8], u32, LineWhy); 89] = [
     (b"send 1 1 port 1 1 low =a", 15, LineWhy::Number),
     (b"send 1 1 port 33 1 low =a", 15, LineWhy::Number),
     (b"send 1 1 port 2 4294967296 low =a", 17, LineWhy::Number),
-    (b"send 1 1 port 2 1 medium =a", 19, LineWhy::Word),
+    (b"send 1 1 port 2 1 LOW =a", 19, LineWhy::Word),
+    (b"send 1 1 port 2 1 lowest =a", 19, LineWhy::Word),
+    (b"send 1 1 port 2 1 medium", 25, LineWhy::End),
+    (b"send 1 1 port 2 1 critical a", 28, LineWhy::Body),
     (b"send 1 1 port 2 1 low", 22, LineWhy::End),
     (b"send 1 1 port 2 1 low a", 23, LineWhy::Body),
     (b"send 1 1 port 2 1 low =", 23, LineWhy::Body),
@@ -76,13 +83,47 @@ const BAD_LINES: [(&[u8], u32, LineWhy); 89] = [
     ),
     (b"send 1 1 port 2 1 low =a b", 26, LineWhy::End),
     (b"send 1 1 port 2 1 low =a ", 26, LineWhy::End),
+    (b"repeat", 7, LineWhy::End),
+    (b"repeat 0 send 1 1 port 2 1 low =a", 8, LineWhy::Number),
+    (
+        b"repeat 1000001 send 1 1 port 2 1 low =a",
+        8,
+        LineWhy::Number,
+    ),
+    (b"repeat 5", 9, LineWhy::End),
+    (b"repeat 5 receive 1 1", 10, LineWhy::Command),
+    (b"repeat 5 repeat 5", 10, LineWhy::Command),
+    (b"repeat 5 ", 10, LineWhy::Command),
+    (b"repeat 5 send", 14, LineWhy::End),
+    (b"repeat 5 send 33 1 port 2 1 low =a", 15, LineWhy::Number),
+    (b"repeat 5 send 2 1 port 2 1 low =a", 24, LineWhy::Number),
+    (b"repeat 5 send 1 1 port 2 1 low =a 5", 35, LineWhy::End),
+    (b"drain 1", 8, LineWhy::End),
+    (b"drain 1 4294967296", 9, LineWhy::Number),
+    (b"drain 1 1 1", 11, LineWhy::End),
+    (b"burst 1 1 1 1 5 =a", 11, LineWhy::Number),
+    (b"burst 1 1 33 1 5 =a", 11, LineWhy::Number),
+    (b"burst 1 1 2 1 0 =a", 15, LineWhy::Number),
+    (b"burst 1 1 2 1 1000001 =a", 15, LineWhy::Number),
+    (b"burst 1 1 2 1 5", 16, LineWhy::End),
+    (b"burst 1 1 2 1 5 low", 17, LineWhy::Body),
+    (b"burst 1 1 2 1 5 =a =a", 20, LineWhy::End),
+    (b"receive 1", 10, LineWhy::End),
+    (b"receive 1 99999999999", 11, LineWhy::Number),
+    (b"receive 1 1 x", 13, LineWhy::End),
+];
+
+/// Lines of frames and readers that are refused, each with the place and the reason that the rules give.
+const BAD_LINES_OF_FRAMES: [(&[u8], u32, LineWhy); 25] = [
+    (b"air", 4, LineWhy::End),
+    (b"air 1", 5, LineWhy::Number),
+    (b"air 0 0", 7, LineWhy::End),
+    (b"show 0", 7, LineWhy::End),
+    (b"show 0 1000001", 8, LineWhy::Number),
     (b"arrive 1 1 0", 10, LineWhy::Number),
     (b"arrive 1 0", 11, LineWhy::End),
     (b"arrive 1 0 1000001", 12, LineWhy::Number),
     (b"arrive 1 0 0 0", 14, LineWhy::End),
-    (b"receive 1", 10, LineWhy::End),
-    (b"receive 1 99999999999", 11, LineWhy::Number),
-    (b"receive 1 1 x", 13, LineWhy::End),
     (b"pump", 5, LineWhy::End),
     (b"pump 1", 6, LineWhy::Number),
     (b"pump 00", 6, LineWhy::Number),
@@ -108,8 +149,34 @@ fn read(rt: &impl Abort, alloc: Global, line: &[u8]) -> Result<Command, LineFaul
 }
 
 #[test]
-fn bad_lines_are_refused_at_their_place(rt: HostRuntime) -> Result<(), Fail> {
-    for (line, place, why) in BAD_LINES {
+fn bad_lines_of_nodes_are_refused_at_their_place(rt: HostRuntime) -> Result<(), Fail> {
+    for (line, place, why) in BAD_LINES_OF_NODES {
+        let fault = read(&rt, rt.alloc(), line).err();
+        assert_eq!(rt;
+            fault,
+            Some(LineFault::BadLine { place, why }),
+            "in {line:?}"
+        );
+    }
+    Ok(())
+}
+
+#[test]
+fn bad_lines_of_messages_are_refused_at_their_place(rt: HostRuntime) -> Result<(), Fail> {
+    for (line, place, why) in BAD_LINES_OF_MESSAGES {
+        let fault = read(&rt, rt.alloc(), line).err();
+        assert_eq!(rt;
+            fault,
+            Some(LineFault::BadLine { place, why }),
+            "in {line:?}"
+        );
+    }
+    Ok(())
+}
+
+#[test]
+fn bad_lines_of_frames_are_refused_at_their_place(rt: HostRuntime) -> Result<(), Fail> {
+    for (line, place, why) in BAD_LINES_OF_FRAMES {
         let fault = read(&rt, rt.alloc(), line).err();
         assert_eq!(rt;
             fault,
@@ -220,6 +287,87 @@ fn lines_of_no_node_are_read(rt: HostRuntime) -> Result<(), Fail> {
     let most = read(&rt, rt.alloc(), b"settle 1000000").ok().ok_or("most")?;
     assert_eq!(rt; most.line, Line::Settle { rounds: 1_000_000 });
     assert!(rt; most.nodes.is_empty());
+    Ok(())
+}
+
+#[test]
+fn lines_of_frames_are_read(rt: HostRuntime) -> Result<(), Fail> {
+    let air = read(&rt, rt.alloc(), b"air 0").ok().ok_or("air")?;
+    assert_eq!(rt; air.line, Line::Air { bearer: 0 });
+    assert!(rt; air.nodes.is_empty());
+    let show = read(&rt, rt.alloc(), b"show 0 1000000").ok().ok_or("show")?;
+    assert_eq!(rt;
+        show.line,
+        Line::Show {
+            bearer: 0,
+            frame: 1_000_000
+        }
+    );
+    assert!(rt; show.nodes.is_empty());
+    Ok(())
+}
+
+#[test]
+fn lines_of_many_messages_are_read(rt: HostRuntime) -> Result<(), Fail> {
+    let drain = read(&rt, rt.alloc(), b"drain 3 0").ok().ok_or("drain")?;
+    assert_eq!(rt; drain.line, Line::Drain { node: 3, port: 0 });
+    assert_eq!(rt; drain.nodes.as_slice(), [old_node(7, 3)].as_slice());
+    let burst = read(&rt, rt.alloc(), b"burst 1 7 2 9 1000000 =a")
+        .ok()
+        .ok_or("burst")?;
+    assert_eq!(rt;
+        burst.line,
+        Line::Burst {
+            node: 1,
+            port: 7,
+            to_node: 2,
+            to_port: 9,
+            times: 1_000_000,
+            body: Bytes::from_slice(rt.alloc(), b"a")?
+        }
+    );
+    assert_eq!(rt;
+        burst.nodes.as_slice(),
+        [old_node(7, 1), old_node(11, 2)].as_slice()
+    );
+    let repeat = read(&rt, rt.alloc(), b"repeat 2 send 1 7 port 2 9 high =a")
+        .ok()
+        .ok_or("repeat")?;
+    assert_eq!(rt;
+        repeat.line,
+        Line::Repeat {
+            times: 2,
+            node: 1,
+            port: 7,
+            to: PortId {
+                node: Addr::node(2),
+                port: 9
+            },
+            importance: Importance::High,
+            body: Bytes::from_slice(rt.alloc(), b"a")?
+        }
+    );
+    assert_eq!(rt; repeat.nodes.as_slice(), [old_node(15, 1)].as_slice());
+    Ok(())
+}
+
+/// The lines that send with each importance.
+const IMPORTANCES: [(&[u8], Importance); 4] = [
+    (b"send 1 1 port 2 1 low =a", Importance::Low),
+    (b"send 1 1 port 2 1 medium =a", Importance::Medium),
+    (b"send 1 1 port 2 1 high =a", Importance::High),
+    (b"send 1 1 port 2 1 critical =a", Importance::Critical),
+];
+
+#[test]
+fn each_importance_is_read(rt: HostRuntime) -> Result<(), Fail> {
+    for (text, wanted) in IMPORTANCES {
+        let command = read(&rt, rt.alloc(), text).ok().ok_or("refused")?;
+        let Line::Send { importance, .. } = command.line else {
+            return Err(Fail::from("another line"));
+        };
+        assert_eq!(rt; importance, wanted);
+    }
     Ok(())
 }
 

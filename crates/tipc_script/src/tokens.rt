@@ -3,13 +3,14 @@ ghost use Rattle.std.specs.Option.{option_copied};
 ghost use Rattle.std.specs.Str.{bytes_eq};
 ghost use Rattle.std.specs.List.{list_all};
 ghost use Rattle.tipc_script.specs.Splitting.{whole, first_token, behind, tokens_of, pieces, is_space};
-ghost use Rattle.tipc_script.specs.Kinds.{is_number, is_body, is_visible, number_of};
+ghost use Rattle.tipc_script.specs.Kinds.{is_number, is_body, is_visible, importance_in, importance_of, is_importance, number_of};
 ghost use Rattle.tipc_script.specs.Faults.{Tells, first_fault, missing_fault, end_fault};
 
 use crate::faults::{LineFault, LineWhy};
 use crate::lines::NodeToken;
 use crate::numbers::number_in;
 use std::marker::Model;
+use tipc_types::Importance;
 
 /// The most characters of a body.
 const LONGEST_BODY: usize = 64;
@@ -121,10 +122,10 @@ impl<'a> Tokens<'a> {
         })
     }
 
-    /// The next token as the number of another node than `own`.
+    /// The next token as the number of another node than `own`, which is to be there where that is asked.
     #[tactic(auto, unfolding(crate::specs::Faults::first_fault, crate::specs::Faults::missing_fault))]
-    pub fn other_node(&mut self, own: u8) -> Result<u8, LineFault>
-        ensures ok { IfOk result (λ node. (self.new ≡ behind self.old) × (node ≡ number_of (first_token self.old)) × (1 ≤ node) × (node ≤ 32)) }
+    pub fn other_node(&mut self, own: u8) -> Result<NodeToken, LineFault>
+        ensures ok { IfOk result (λ token. (self.new ≡ behind self.old) × (token ≡ record { place = self.old.place; node = number_of (first_token self.old); there = true }) × (1 ≤ token.node) × (token.node ≤ 32)) }
         ensures fault { Tells result (first_fault (λ token. is_number 1 32 token && not (number_of token == own)) LineWhy.Number self.old) }
     {
         let place = self.place();
@@ -141,24 +142,42 @@ impl<'a> Tokens<'a> {
                 why: LineWhy::Number,
             });
         }
-        Ok(node as u8)
+        Ok(NodeToken {
+            place,
+            node: node as u8,
+            there: true,
+        })
     }
 
-    /// The next token, which is to be this word.
+    /// The next token, which is to be this word; else the fault has this reason.
     #[tactic(auto, unfolding(crate::specs::Faults::first_fault, crate::specs::Faults::missing_fault))]
-    pub fn word(&mut self, word: &[u8]) -> Result<(), LineFault>
+    pub fn word(&mut self, word: &[u8], why: LineWhy) -> Result<(), LineFault>
         ensures ok { OnOk result (self.new ≡ behind self.old) }
-        ensures fault { Tells result (first_fault (λ token. bytes_eq token word.now) LineWhy.Word self.old) }
+        ensures fault { Tells result (first_fault (λ token. bytes_eq token word.now) why self.old) }
     {
         let place = self.place();
         let token = self.token()?;
         if token != word {
+            return Err(LineFault::BadLine { place, why });
+        }
+        Ok(())
+    }
+
+    /// The next token as an importance.
+    #[tactic(auto, unfolding(crate::specs::Faults::first_fault, crate::specs::Faults::missing_fault))]
+    pub fn importance(&mut self) -> Result<Importance, LineFault>
+        ensures ok { IfOk result (λ importance. (self.new ≡ behind self.old) × (importance ≡ importance_of (first_token self.old))) }
+        ensures fault { Tells result (first_fault is_importance LineWhy.Word self.old) }
+    {
+        let place = self.place();
+        let token = self.token()?;
+        let Some(importance) = importance_in(token) else {
             return Err(LineFault::BadLine {
                 place,
                 why: LineWhy::Word,
             });
-        }
-        Ok(())
+        };
+        Ok(importance)
     }
 
     /// The bytes that the next token stands for as a body.
@@ -192,6 +211,33 @@ impl<'a> Tokens<'a> {
             why: LineWhy::End,
         })
     }
+}
+
+/// Whether a token is a word.
+pub fn is_word(token: &[u8], word: &[u8]) -> bool
+    ensures { result ≡ bytes_eq token.now word.now }
+{
+    token == word
+}
+
+/// The importance that a token is.
+#[tactic(auto, unfolding(crate::specs::Kinds::importance_in))]
+fn importance_in(token: &[u8]) -> Option<Importance>
+    ensures { result ≡ importance_in token.now }
+{
+    if is_word(token, b"low") {
+        return Some(Importance::Low);
+    }
+    if is_word(token, b"medium") {
+        return Some(Importance::Medium);
+    }
+    if is_word(token, b"high") {
+        return Some(Importance::High);
+    }
+    if is_word(token, b"critical") {
+        return Some(Importance::Critical);
+    }
+    None
 }
 
 /// The text of a body: what stands behind `=`, where it is 1 to 64 characters from 33 to 126.

@@ -6,3 +6,4 @@ pub mod OutputLaws
 pub mod ReportLaws
 pub mod RunLaws
 pub mod WorldLaws
+pub mod MessageLaws

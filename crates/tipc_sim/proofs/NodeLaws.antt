@@ -6,7 +6,7 @@ use Rattle.tipc_script.specs.declared.lines.NodeToken.{NodeToken}
 use Rattle.tipc_script.specs.declared.faults.LineWhy.TheVariants as why
 use Rattle.tipc_script.specs.Splitting.{Left, whole, first_token, behind}
 use Rattle.tipc_script.specs.Kinds.{Kind, OldNode, BearerNumber, is_remark}
-use Rattle.tipc_script.specs.Grammar.{Row, rows, traffic_rows, row_of, asked, asked_by, nodes_of, nodes_by, nodes_in, first_number, node_row, mend_row, cut_row, tick_row, restart_row, link_row, mark_row, socket_row, send_row, arrive_row, receive_row, pump_row, settle_row, links_row, flow_row}
+use Rattle.tipc_script.specs.Grammar.{Row, rows, frame_rows, traffic_rows, row_of, asked, asked_by, nodes_of, nodes_by, nodes_in, first_number, node_row, mend_row, cut_row, tick_row, restart_row, link_row, mark_row, socket_row, send_row, repeat_row, arrive_row, receive_row, drain_row, burst_row, pump_row, settle_row, air_row, show_row, links_row, flow_row}
 use Rattle.tipc_script.specs.Spelling.{Asks, IsMessage, node_number}
 use Rattle.tipc_types.specs.declared.identity.PortId.{PortId}
 use Rattle.tipc_types.specs.declared.message_forms.Importance.{Importance}
@@ -14,8 +14,9 @@ use Rattle.tipc_types.specs.Address.{node_word}
 use Rattle.tipc_script.proofs.Reading.{OfRows, row_found}
 use Rattle.tipc_script.proofs.Found.{asks_found}
 use Rattle.tipc_script.specs.declared.lines.Line.{Line}
-use Rattle.tipc_script.specs.declared.lines.Line.TheVariants.{Nothing, Node, Mend, Cut, Tick, Restart, Link, Mark, Socket, Send, Arrive, Receive, Pump, Settle, Links, Flow}
+use Rattle.tipc_script.specs.declared.lines.Line.TheVariants.{Nothing, Node, Mend, Cut, Tick, Restart, Link, Mark, Socket, Send, Repeat, Arrive, Receive, Drain, Pump, Burst, Settle, Air, Show, Links, Flow}
 use Rattle.tipc_world.specs.declared.events.WorldEvent.{WorldEvent}
+use Rattle.tipc_world.specs.declared.events.WorldEvent.TheVariants as event
 use Rattle.tipc_world.specs.Calls.{CanHappen}
 use Rattle.tipc_world.specs.States.{WorldState, is_there}
 use Rattle.tipc_sim.specs.Happenings.{event_of}
@@ -74,17 +75,35 @@ socket_can there text left asks e = (old_in_place there [] left e).0
 send_can : CanDo send_row
 send_can there text left asks e = ((old_in_place there (drop 1 send_row.kinds) left e).0, asks.0)
 
+repeat_can : CanDo repeat_row
+repeat_can there text left asks e = ((old_in_place there (drop 1 send_row.kinds) (behind (behind left)) e).0, asks.0.1)
+
 arrive_can : CanDo arrive_row
 arrive_can there text left asks e = ((old_in_place there (drop 1 arrive_row.kinds) left e).0, asks.0.1)
 
 receive_can : CanDo receive_row
 receive_can there text left asks e = (old_in_place there (drop 1 receive_row.kinds) left e).0
 
+drain_can : CanDo drain_row
+drain_can there text left asks e = (old_in_place there (drop 1 drain_row.kinds) left e).0
+
+burst_can : CanDo burst_row
+burst_can there text left asks e =
+    let first = old_in_place there (drop 1 burst_row.kinds) left e in
+    let second = old_in_place there (drop 3 burst_row.kinds) (behind (behind left)) first.1 in
+    (first.0, second.0, asks.0.0, asks.0.1)
+
 pump_can : CanDo pump_row
 pump_can there text left asks e = tt
 
 settle_can : CanDo settle_row
 settle_can there text left asks e = tt
+
+air_can : CanDo air_row
+air_can there text left asks e = tt
+
+show_can : CanDo show_row
+show_can there text left asks e = tt
 
 links_can : CanDo links_row
 links_can there text left asks e = ((old_in_place there [] left e).0, asks.0)
@@ -95,8 +114,11 @@ flow_can there text left asks e =
     let to = old_in_place there [] (behind left) from.1 in
     (from.0, to.0, asks.0.0, asks.0.1)
 
+frames_can : OfRows CanDo frame_rows
+frames_can = (arrive_can, (pump_can, (settle_can, (air_can, (show_can, (links_can, (flow_can, tt)))))))
+
 traffic_can : OfRows CanDo traffic_rows
-traffic_can = (send_can, (arrive_can, (receive_can, (pump_can, (settle_can, (links_can, (flow_can, tt)))))))
+traffic_can = (send_can, (repeat_can, (receive_can, (drain_can, (burst_can, frames_can)))))
 
 all_can : OfRows CanDo rows
 all_can = (node_can, (mend_can, (cut_can, (tick_can, (restart_can, (link_can, (mark_can, (socket_can, traffic_can))))))))
@@ -128,12 +150,17 @@ sound_can_be_done there text e =
     can_be_done there text (asks_found text none.0) none.1
 
 -- a message of a line goes to another of the 32 nodes
-pub reaches : {node port : ℕ} {to : PortId} {importance : Importance} {body : List ℕ} → IsMessage node port to importance body
+pub reaches : {node port : ℕ} {to : PortId} {body : List ℕ} → IsMessage node port to body
     → (m : ℕ) × (1 ≤ m) × (m ≤ 32) × (m ≢ node) × (to.node.word ≡ node_word m)
-reaches {node} {port} {to} message =
+reaches {node} {port} {to} {body} message =
     let place = message.to_node in
     let other = message.other in
     (node_number to, omega arith, omega arith, λ same. other (omega arith), omega arith)
+
+-- a message of a line can be sent
+pub message_can : (w : WorldState) (node port : ℕ) (to : PortId) (importance : Importance) (body : List ℕ) → is_there w node ≡ true → IsMessage node port to body
+    → CanHappen w (event.SendPort node port to importance body)
+message_can w node port to importance body there message = (there, reaches message)
 
 inside : {A : Type 0} {x y : A} → Some x ≡ Some y → x ≡ y
 inside e = cc
@@ -145,8 +172,7 @@ can_happen w notes (Tick node) event can e = subst (CanHappen w) (inside e) can
 can_happen w notes (Restart node) event can e = subst (CanHappen w) (inside e) can
 can_happen w notes (Socket node) event can e = subst (CanHappen w) (inside e) can
 can_happen w notes (Send node port to importance body) event can e =
-    let message = can.1 in
-    subst (CanHappen w) (inside e) (can.0, reaches can.1, (let short = message.short in omega arith))
+    subst (CanHappen w) (inside e) (message_can w node port to importance body can.0 can.1)
 can_happen w notes (Arrive node bearer frame) event can e = subst (CanHappen w) (inside e) (can.0, omega (arith, can.1))
 can_happen w notes (Receive node port) event can e = subst (CanHappen w) (inside e) can
 can_happen w notes Nothing event can e = absurd cc
@@ -154,6 +180,11 @@ can_happen w notes (Node node) event can e = absurd cc
 can_happen w notes (Mend node bearer) event can e = absurd cc
 can_happen w notes (Link first second bearer) event can e = absurd cc
 can_happen w notes Mark event can e = absurd cc
+can_happen w notes (Repeat times node port to importance body) event can e = absurd cc
+can_happen w notes (Drain node port) event can e = absurd cc
+can_happen w notes (Burst node port to_node to_port times body) event can e = absurd cc
+can_happen w notes (Air bearer) event can e = absurd cc
+can_happen w notes (Show bearer frame) event can e = absurd cc
 can_happen w notes (Pump bearer) event can e = absurd cc
 can_happen w notes (Settle rounds) event can e = absurd cc
 can_happen w notes (Links node) event can e = absurd cc

@@ -5,11 +5,12 @@ use Rattle.std.specs.Io.KnownBytes.{Appends}
 use Rattle.std.proofs.KnownBytes.{Appends-trans, Appends-nil}
 use Rattle.std.proofs.lemmas.List.{length-drop, length-take, take_all}
 use Rattle.std.proofs.Math.Seq.{take-append-add}
+use Rattle.tipc_report.specs.Text.{told_line}
 use Rattle.tipc_script.specs.Grammar.{asked}
 use Rattle.tipc_world.specs.States.{WorldState, is_there}
 use Rattle.tipc_sim.specs.declared.status.Status.{Status}
 use Rattle.tipc_sim.specs.declared.status.Status.TheVariants as status
-use Rattle.tipc_sim.specs.Happenings.{Runs, Scene, begin, go_on, answer_text, scene}
+use Rattle.tipc_sim.specs.Happenings.{Runs, Scene, begin, go_on, scene}
 use Rattle.tipc_sim.specs.Lines.{lines_of, IsWithin}
 use Rattle.tipc_sim.specs.Nodes.{AreSound, IsFirstBad, fault_where, made_by, makes}
 use Rattle.tipc_sim.specs.Noted.{no_notes}
@@ -61,15 +62,15 @@ one_more script rest line behind text number start old new before between u next
     let plus = add-one number in
     let front : take number lines ++ line ∷ [] ≡ take (number + 1) lines = sym (ap (λ k. take k lines) plus ∙ h.front) in
     let count : length (take number lines) + 1 ≡ number + 1 = omega (arith, length-take number lines, u.few) in
-    let spelled : answer_text (length (take number lines) + 1) answered.answer ≡ text = ap (λ k. answer_text k answered.answer) count ∙ sym answered.spelled in
+    let spelled : told_line (length (take number lines) + 1) answered.given ≡ text = ap (λ k. told_line k answered.given) count ∙ sym answered.spelled in
     record {
       few = omega (arith, h.within);
       left = sym (ap (λ k. drop k lines) plus ∙ h.behind);
       sound = subst AreSound front (sound_more (take number lines) line u.sound none);
       nodes = λ n. answered.happened.nodes n ∙ ap (λ b. makes (asked line) n || b) (u.nodes n) ∙ sym (made_by_more (take number lines) line n) ∙ ap (λ ls. made_by ls n) front;
       runs = subst (λ t. Runs start (take (number + 1) lines) new (u.report ++ t)) spelled
-          (subst (λ ls. Runs start ls new (u.report ++ answer_text (length (take number lines) + 1) answered.answer)) front
-          (go_on (take number lines) old u.report line new answered.answer u.runs answered.happened));
+          (subst (λ ls. Runs start ls new (u.report ++ told_line (length (take number lines) + 1) answered.given)) front
+          (go_on (take number lines) old u.report line new answered.given u.runs answered.happened));
     }
 
 -- one line more was done

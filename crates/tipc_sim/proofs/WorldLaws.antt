@@ -5,9 +5,13 @@ use Rattle.tipc_types.specs.declared.node_calls.Answer.{Answer}
 use Rattle.tipc_world.specs.declared.events.WorldEvent.{WorldEvent}
 use Rattle.tipc_world.specs.declared.events.WorldEvent.TheVariants as event
 use Rattle.tipc_world.specs.Due.{unarrived}
+use Rattle.tipc_world.specs.Good.{IsGood}
 use Rattle.tipc_world.specs.Growth.{Grows}
 use Rattle.tipc_world.specs.Limits.{IsAnswered}
-use Rattle.tipc_world.specs.States.{WorldState, history_at}
+use Rattle.tipc_world.specs.States.{WorldState, history_at, no_nodes}
+use Rattle.tipc_world.proofs.KeptWorlds.{start_watched}
+use Rattle.tipc_world.proofs.Promise.{is_good}
+use Rattle.tipc_world.proofs.SoundWorlds.{start_sound}
 use Rattle.tipc_sim.specs.Courses.{Continues}
 
 -- xs is a prefix of ys
@@ -23,6 +27,10 @@ prefix_more xs ys zs p q = (p.0 ++ q.0, q.1 ∙ ap (λ ws. ws ++ q.0) p.1 ∙ ap
 -- a world is as long as it was, at least
 prefix_longer : {A : Type 0} (xs ys : List A) → IsPrefixOf xs ys → length xs ≤ length ys
 prefix_longer xs ys p = omega (arith, ap length p.1, length-append xs p.0)
+
+-- a world without nodes is good
+pub empty_good : (w : WorldState) → w ≡ no_nodes → IsGood w
+empty_good w none = subst IsGood (sym none) (is_good no_nodes start_sound start_watched)
 
 pub grows_same : (w : WorldState) → Grows w w
 grows_same w = record { air = prefix_same w.air; histories = λ n. prefix_same (history_at w.members n) }

@@ -1,13 +1,16 @@
 -- What the lines of a script do to a world, and the report of that.
-use Rattle.std.specs.Prelude.{◌≡◌, ℕ, ◌+◌, false, ◌||◌, List, [], ◌∷◌, ◌++◌, Option, Some, None, Ok, Err, length}
+use Rattle.std.specs.Prelude.{◌≡◌, ℕ, ◌+◌, ◌-◌, false, ◌||◌, List, [], ◌∷◌, ◌++◌, Option, Some, None, Result, Ok, Err, length, slice_get}
 use Rattle.tipc_types.specs.declared.node_calls.Answer.{Answer}
 use Rattle.tipc_types.specs.declared.node_calls.Answer.TheVariants as answer
 use Rattle.tipc_script.specs.declared.lines.Line.{Line}
-use Rattle.tipc_script.specs.declared.lines.Line.TheVariants.{Node, Mend, Cut, Tick, Restart, Link, Mark, Socket, Send, Arrive, Receive, Pump, Settle, Links, Flow}
+use Rattle.tipc_script.specs.declared.lines.Line.TheVariants.{Node, Mend, Cut, Tick, Restart, Link, Mark, Socket, Send, Repeat, Arrive, Receive, Drain, Pump, Burst, Settle, Air, Show, Links, Flow}
 use Rattle.tipc_script.specs.Grammar.{asked}
-use Rattle.tipc_report.specs.Text.{answer_line, nothing_line}
+use Rattle.tipc_report.specs.Text.{told_line}
+use Rattle.tipc_report.specs.declared.told.Told.{Told}
+use Rattle.tipc_report.specs.declared.told.Told.TheVariants as told
 use Rattle.tipc_report.specs.declared.limits.Which.{Which}
 use Rattle.tipc_report.specs.declared.limits.Which.TheVariants as which
+use Rattle.tipc_world.specs.declared.air.Sent.{Sent}
 use Rattle.tipc_world.specs.declared.events.Limit.{Limit}
 use Rattle.tipc_world.specs.declared.events.Limit.TheVariants as limit
 use Rattle.tipc_world.specs.declared.events.WorldEvent.{WorldEvent}
@@ -18,6 +21,7 @@ use Rattle.tipc_world.specs.States.{WorldState, counted, flow_of, is_there}
 use Rattle.tipc_world.specs.Steps.{IsJoined}
 use Rattle.tipc_sim.specs.Courses.{Course, Once}
 use Rattle.tipc_sim.specs.Meanings.{Mends, Links as LinksUp, Pumps, Settles}
+use Rattle.tipc_sim.specs.Messages.{low_message, Bursts, ReceivesAll, SendsAgain}
 use Rattle.tipc_sim.specs.Nodes.{makes}
 use Rattle.tipc_sim.specs.Noted.{NotesState, marked, naming, pumped, with_named}
 
@@ -40,57 +44,95 @@ event_of (Arrive node bearer frame) notes = Some (event.Arrive node bearer (coun
 event_of (Receive node port) notes = Some (event.Receive node port)
 event_of other notes = None
 
--- the course's answer is the answer to a line
-abbrev pub Answered : Course Answer → Course (Option Answer)
-Answered comes start (Ok None) now = ⊥
-Answered comes start (Ok (Some told)) now = comes start (Ok told) now
-Answered comes start (Err stop) now = comes start (Err stop) now
+-- what is told of a line, and what is kept beside the world then
+abbrev pub Outcome : Type 0
+Outcome = Told × NotesState
 
--- what is told of a world that stays as it is
-abbrev pub Tells : Option Answer → Course (Option Answer)
-Tells told start (Ok given) now = (now ≡ start) × (given ≡ told)
-Tells told start (Err stop) now = ⊥
+-- what is told is the answer of a course
+abbrev pub IsTold : Course Answer → Told → WorldState → WorldState → Type 0
+IsTold comes (told.Answer answer) start now = comes start (Ok answer) now
+IsTold comes other start now = ⊥
+
+-- a course's answer is told, and this is noted
+abbrev pub Answered : Course Answer → NotesState → Course Outcome
+Answered comes noted start (Ok given) now = IsTold comes given.0 start now × (given.1 ≡ noted)
+Answered comes noted start (Err stop) now = comes start (Err stop) now
+
+-- what is told is how many messages were sent, and the last answer
+abbrev pub IsToldTimes : Course (ℕ × Answer) → Told → WorldState → WorldState → Type 0
+IsToldTimes comes (told.Times count last) start now = comes start (Ok (count, last)) now
+IsToldTimes comes other start now = ⊥
+
+abbrev pub Repeated : Course (ℕ × Answer) → NotesState → Course Outcome
+Repeated comes noted start (Ok given) now = IsToldTimes comes given.0 start now × (given.1 ≡ noted)
+Repeated comes noted start (Err stop) now = comes start (Err stop) now
+
+-- it is told how many messages were moved, and noted how far frames are pumped
+abbrev pub Moves : Course (ℕ × ℕ) → NotesState → Course Outcome
+Moves comes notes start (Ok given) now = (count : ℕ) × (place : ℕ) × comes start (Ok (count, place)) now × (given ≡ (told.Answer (answer.Moved count), pumped notes place))
+Moves comes notes start (Err stop) now = comes start (Err stop) now
+
+-- what is told of a world that stays as it is, and what is noted
+abbrev pub Stays : Told → NotesState → Course Outcome
+Stays told noted start (Ok given) now = (now ≡ start) × (given ≡ (told, noted))
+Stays told noted start (Err stop) now = ⊥
 
 -- a node comes in
-abbrev pub ComesIn : ℕ → Course (Option Answer)
-ComesIn node start (Ok given) now = IsJoined start now node × (given ≡ Some answer.Done)
-ComesIn node start (Err stop) now = ⊥
+abbrev pub ComesIn : ℕ → NotesState → Course Outcome
+ComesIn node notes start (Ok given) now = IsJoined start now node × (given ≡ (told.Answer answer.Done, notes))
+ComesIn node notes start (Err stop) now = ⊥
+
+-- a frame of the air, where there is one
+abbrev pub shown : Option Sent → Told
+shown None = told.Answer answer.NoFrame
+shown (Some f) = told.Frame f.from f.to f.frame
+
+-- what is told of a line that leaves everything as it is: a line that asks for nothing is one
+abbrev pub told_of : Line → NotesState → WorldState → Told
+told_of (Air bearer) notes w = told.Answer (answer.Air (length w.air - notes.base))
+told_of (Show bearer frame) notes w = shown (slice_get w.air (counted (notes.base + frame)))
+told_of (Links node) notes w = told.Answer (answer.Links (links_of w.members node))
+told_of (Flow from to) notes w = told.Answer (flow_of w.members from to)
+told_of other notes w = told.Nothing
+
+-- what becomes of a world by a line that sends and receives messages again and again, or leaves everything as it is
+abbrev pub Conversed : Line → NotesState → Course Outcome
+Conversed (Repeat times node port to importance body) notes start came now = Repeated (SendsAgain times (event.SendPort node port to importance body)) notes start came now
+Conversed (Drain node port) notes start came now = Answered (ReceivesAll node port) notes start came now
+Conversed (Burst node port to_node to_port times body) notes start came now =
+    Moves (Bursts times (low_message node port to_node to_port body) (event.Receive to_node to_port) notes.place) notes start came now
+Conversed other notes start came now = Stays (told_of other notes start) notes start came now
 
 -- what becomes of a world by a line that isn't one event
-abbrev pub Composed : Line → NotesState → Course (Option Answer)
-Composed (Node node) notes start came now = ComesIn node start came now
-Composed (Mend node bearer) notes start came now = Answered (Mends notes.named node bearer) start came now
-Composed (Link first second bearer) notes start came now = Answered (LinksUp (naming notes.named first second) first second) start came now
-Composed Mark notes start came now = Tells (Some answer.Done) start came now
-Composed (Pump bearer) notes start came now = Answered (Pumps notes.place) start came now
-Composed (Settle rounds) notes start came now = Answered (Settles rounds) start came now
-Composed (Links node) notes start came now = Tells (Some (answer.Links (links_of start.members node))) start came now
-Composed (Flow from to) notes start came now = Tells (Some (flow_of start.members from to)) start came now
-Composed other notes start came now = Tells None start came now
+abbrev pub Composed : Line → NotesState → Course Outcome
+Composed (Node node) notes start came now = ComesIn node notes start came now
+Composed (Mend node bearer) notes start came now = Answered (Mends notes.named node bearer) notes start came now
+Composed (Link first second bearer) notes start came now =
+    Answered (LinksUp (naming notes.named first second) first second) (with_named notes (naming notes.named first second)) start came now
+Composed Mark notes start came now = Stays (told.Answer answer.Done) (marked notes (length now.air)) start came now
+Composed (Pump bearer) notes start came now = Answered (Pumps notes.place) (pumped notes (length now.air)) start came now
+Composed (Settle rounds) notes start came now = Answered (Settles rounds) notes start came now
+Composed other notes start came now = Conversed other notes start came now
 
-abbrev pub AnswersBy : Option WorldEvent → Line → NotesState → Course (Option Answer)
-AnswersBy (Some event) line notes start came now = Answered (Once event) start came now
+abbrev pub AnswersBy : Option WorldEvent → Line → NotesState → Course Outcome
+AnswersBy (Some event) line notes start came now = Answered (Once event) notes start came now
 AnswersBy None line notes start came now = Composed line notes start came now
 
--- What becomes of a world by a line, and what is answered: None stands for the answer to a line that asks for nothing.
-abbrev pub Answers : Line → NotesState → Course (Option Answer)
+-- What becomes of a world by a line where these are the notes, what is told, and what is noted then.
+abbrev pub Answers : Line → NotesState → Course Outcome
 Answers line notes start came now = AnswersBy (event_of line notes) line notes start came now
 
--- what is noted of a line that was done and left this world
-abbrev pub noted : Line → NotesState → WorldState → NotesState
-noted (Link first second bearer) notes now = with_named notes (naming notes.named first second)
-noted Mark notes now = marked notes (length now.air)
-noted (Pump bearer) notes now = pumped notes (length now.air)
-noted other notes now = notes
+-- a value, and these notes beside it
+abbrev pub beside : {A F : Type 0} → Result A F → NotesState → Result (A × NotesState) F
+beside (Ok value) notes = Ok (value, notes)
+beside (Err fault) notes = Err fault
 
--- a line was done: it makes the node that it names and no other, the world only grew, no frame was lost, and this is its
--- answer
-pub record Happens (line : Line) (before after : Scene) (given : Option Answer) : Type 0 where
+-- a line was done: it makes the node that it names and no other, the world only grew, no frame was lost, and this is told of it
+pub record Happens (line : Line) (before after : Scene) (given : Told) : Type 0 where
   pub nodes : (n : ℕ) → is_there after.world n ≡ (makes line n || is_there before.world n)
   pub grown : Grows before.world after.world
   pub kept : after.world.lost ≡ false
-  pub answered : Answers line before.notes before.world (Ok given) after.world
-  pub noted_is : after.notes ≡ noted line before.notes after.world
+  pub answered : Answers line before.notes before.world (Ok (given, after.notes)) after.world
 
 -- a line was begun, and a limit stopped one of its events; the world only grew, and no frame was lost
 pub record IsLimited (line : Line) (before : Scene) (stop : Limit) (now : WorldState) : Type 0 where
@@ -104,14 +146,9 @@ which_of limit.Events = which.Events
 which_of limit.Frames = which.Frames
 which_of limit.Journal = which.Journal
 
--- the printed line of an answer
-abbrev pub answer_text : ℕ → Option Answer → List ℕ
-answer_text number None = nothing_line number
-answer_text number (Some given) = answer_line number given
-
 -- lines were done one after the other, each on what the line before left, and this is their report: a printed line for each,
 -- numbered from 1
 pub data Runs (start : Scene) : List (List ℕ) → Scene → List ℕ → Type 0 where
   begin : Runs start [] start []
-  go_on : (lines : List (List ℕ)) (before : Scene) (report line : List ℕ) (after : Scene) (given : Option Answer) → Runs start lines before report
-      → Happens (asked line) before after given → Runs start (lines ++ line ∷ []) after (report ++ answer_text (length lines + 1) given)
+  go_on : (lines : List (List ℕ)) (before : Scene) (report line : List ℕ) (after : Scene) (given : Told) → Runs start lines before report
+      → Happens (asked line) before after given → Runs start (lines ++ line ∷ []) after (report ++ told_line (length lines + 1) given)

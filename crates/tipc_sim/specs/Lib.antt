@@ -2,6 +2,7 @@ pub mod Courses
 pub mod Happenings
 pub mod Lines
 pub mod Meanings
+pub mod Messages
 pub mod Nodes
 pub mod Noted
 pub mod Output

@@ -4,11 +4,11 @@ use Rattle.std.specs.List.{list_any}
 use Rattle.std.specs.Option.{option_or, option_map}
 use Rattle.tipc_script.specs.declared.faults.LineWhy.TheVariants as why
 use Rattle.tipc_script.specs.declared.lines.Line.{Line}
-use Rattle.tipc_script.specs.declared.lines.Line.TheVariants.{Nothing, Node, Mend, Cut, Tick, Restart, Link, Mark, Socket, Send, Arrive, Receive, Pump, Settle, Links, Flow}
+use Rattle.tipc_script.specs.declared.lines.Line.TheVariants.{Nothing, Node, Mend, Cut, Tick, Restart, Link, Mark, Socket, Send, Repeat, Arrive, Receive, Drain, Pump, Burst, Settle, Air, Show, Links, Flow}
 use Rattle.tipc_script.specs.declared.lines.NodeToken.{NodeToken}
 use Rattle.tipc_script.specs.Grammar.{asked, nodes_of}
 use Rattle.tipc_script.specs.Faults.{Fault, fault_of}
-use Rattle.tipc_script.specs.Spelling.{IsNode, IsMessage}
+use Rattle.tipc_script.specs.Spelling.{IsNode, IsMessage, port_at}
 
 -- whether a line makes a node
 abbrev pub makes : Line → ℕ → Bool
@@ -53,10 +53,15 @@ CanBeDone there (Restart node) = there node ≡ true
 CanBeDone there (Link first second bearer) = (there first ≡ true) × (there second ≡ true)
 CanBeDone there Mark = Unit {0}
 CanBeDone there (Socket node) = there node ≡ true
-CanBeDone there (Send node port to importance body) = (there node ≡ true) × IsMessage node port to importance body
+CanBeDone there (Send node port to importance body) = (there node ≡ true) × IsMessage node port to body
+CanBeDone there (Repeat times node port to importance body) = (there node ≡ true) × IsMessage node port to body
 CanBeDone there (Arrive node bearer frame) = (there node ≡ true) × (bearer ≡ 0)
 CanBeDone there (Receive node port) = there node ≡ true
+CanBeDone there (Drain node port) = there node ≡ true
+CanBeDone there (Burst node port to_node to_port times body) = (there node ≡ true) × (there to_node ≡ true) × IsMessage node port (port_at to_node to_port) body × IsNode to_node
 CanBeDone there (Pump bearer) = Unit {0}
 CanBeDone there (Settle rounds) = Unit {0}
+CanBeDone there (Air bearer) = Unit {0}
+CanBeDone there (Show bearer frame) = Unit {0}
 CanBeDone there (Links node) = (there node ≡ true) × IsNode node
 CanBeDone there (Flow from to) = (there from ≡ true) × (there to ≡ true) × IsNode from × IsNode to

@@ -1,26 +1,26 @@
 -- What one line of a script comes to, and the lines up to one.
 use Rattle.std.specs.Prelude.{◌≡◌, ◌⊎◌, ℕ, ◌≤◌, List, [], Option, Some, None, Result, Ok, Err, length, take, drop}
 use Rattle.std.specs.Io.KnownBytes.{Appends}
-use Rattle.tipc_types.specs.declared.node_calls.Answer.{Answer}
 use Rattle.tipc_script.specs.declared.lines.Line.{Line}
 use Rattle.tipc_script.specs.Grammar.{asked}
 use Rattle.tipc_script.specs.Faults.{Fault}
-use Rattle.tipc_report.specs.Text.{bad_line, limit_line}
+use Rattle.tipc_report.specs.Text.{bad_line, limit_line, told_line}
+use Rattle.tipc_report.specs.declared.told.Told.{Told}
 use Rattle.tipc_world.specs.declared.events.Limit.{Limit}
 use Rattle.tipc_world.specs.Growth.{Grows}
 use Rattle.tipc_world.specs.States.{is_there}
 use Rattle.tipc_sim.specs.declared.status.Status.{Status}
 use Rattle.tipc_sim.specs.declared.status.Status.TheVariants as status
-use Rattle.tipc_sim.specs.Happenings.{Happens, IsLimited, Runs, Scene, answer_text, which_of}
+use Rattle.tipc_sim.specs.Happenings.{Happens, IsLimited, Runs, Scene, which_of}
 use Rattle.tipc_sim.specs.Lines.{lines_of}
 use Rattle.tipc_sim.specs.Nodes.{AreSound, fault_where, made_by}
 use Rattle.tipc_sim.specs.Output.{AppendsFront}
 
--- a line was done, and a text is the printed line of its answer
+-- a line was done, and a text is the printed line of what is told of it
 pub record IsAnswered (number : ℕ) (line : Line) (old new : Scene) (text : List ℕ) : Type 0 where
-  pub answer : Option Answer
-  pub happened : Happens line old new answer
-  pub spelled : text ≡ answer_text number answer
+  pub given : Told
+  pub happened : Happens line old new given
+  pub spelled : text ≡ told_line number given
 
 -- a line without fault was done, and a text is its printed line
 abbrev pub TellsAnswer : ℕ → List ℕ → Scene → Scene → List ℕ → Type 0

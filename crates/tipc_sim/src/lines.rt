@@ -1,25 +1,29 @@
-ghost use Rattle.std.specs.Prelude.{◌≡◌, ◌<◌, ◌^◌, ◌==◌, ◌||◌, ℕ, true, false, length, IfErr, IfOk, OnOk, find};
-ghost use Rattle.tipc_world.specs.States.{is_there};
+ghost use Rattle.std.specs.Prelude.{◌≡◌, ◌+◌, ◌<◌, ◌≤◌, ◌^◌, ◌==◌, ◌||◌, ℕ, true, false, length, slice_get, IfErr, IfOk, OnOk, find};
+ghost use Rattle.tipc_report.specs.Text.{told_line};
+ghost use Rattle.tipc_world.specs.Calls.{CanHappen};
+ghost use Rattle.tipc_world.specs.States.{counted, is_there};
 ghost use Rattle.tipc_world.specs.Good.{IsGood};
 ghost use Rattle.tipc_world.specs.Growth.{Grows};
 ghost use Rattle.tipc_script.specs.Grammar.{asked};
 ghost use Rattle.tipc_script.specs.Faults.{Tells};
 ghost use Rattle.tipc_sim.specs.Nodes.{is_misplaced, fault_where, makes, CanBeDone};
 ghost use Rattle.tipc_sim.specs.Courses.{Comes, Continues};
-ghost use Rattle.tipc_sim.specs.Happenings.{answer_text, event_of, noted, scene, Answers, Composed, IsLimited};
+ghost use Rattle.tipc_sim.specs.Happenings.{beside, event_of, scene, shown, told_of, Answers, Composed, Conversed, IsLimited, Moves};
 ghost use Rattle.tipc_sim.specs.Meanings.{Links, Pumps};
+ghost use Rattle.tipc_sim.specs.Messages.{is_send, low_message, Bursts};
 ghost use Rattle.tipc_sim.specs.Noted.{naming, pumped, with_named};
 ghost use Rattle.tipc_world.specs.declared.events.Limit.{Limit};
 ghost use Rattle.tipc_sim.specs.Steps.{IsAnswered};
 
 use crate::frames::{make, pump};
 use crate::linking::{link, mend};
+use crate::messages::{Socket, burst, receive_all, repeat};
 use crate::notes::Notes;
 use crate::settling::settle;
 use std::alloc::Global;
-use tipc_report::{print, print_nothing};
+use tipc_report::{Told, print};
 use tipc_script::{Line, LineFault, LineWhy, NodeToken, parse_line};
-use tipc_types::{Answer, NoMemory};
+use tipc_types::{Addr, Answer, Bytes, Importance, NoMemory, PortId};
 use tipc_world::{World, WorldEvent, WorldFault};
 
 /// Whether a node that has to be there isn't, or one that mustn't be there is.
@@ -126,21 +130,137 @@ fn pump_on(alloc: Global, world: &mut World, notes: &mut Notes) -> Result<Answer
     Ok(answer)
 }
 
-/// Does what a line asks for that isn't one event. None is the answer to a line that asks for nothing.
+/// Sends, pumps and receives so many times at most, where pumping goes on from the frames that aren't pumped yet.
+fn burst_on(
+    alloc: Global,
+    times: u32,
+    message: &WorldEvent,
+    at: Socket,
+    world: &mut World,
+    notes: &mut Notes,
+) -> Result<Told, WorldFault>
+    requires can { CanHappen world.old message.now }
+    requires sends { is_send message.now ≡ true }
+    requires there { is_there world.old at.node ≡ true }
+    ensures comes { Comes (Moves (Bursts times message.now (WorldEvent.Receive at.node at.port) notes.old.place) notes.old world.old) (beside result notes.new) world.new }
+    ensures continues { Continues world.old world.new }
+{
+    let (moved, place) = burst(alloc, times, message, at, notes.place(), world)?;
+    notes.pump_to(place);
+    Ok(Told::Answer(Answer::Moved(moved)))
+}
+
+/// A message of low importance from a port of a node to a socket of another.
+fn low_message(node: u8, port: u32, at: Socket, body: Bytes) -> WorldEvent
+    requires { (1 ≤ at.node) × (at.node ≤ 32) }
+    ensures { result ≡ low_message node port at.node at.port body }
+{
+    let to = PortId {
+        node: Addr::node(at.node),
+        port: at.port,
+    };
+    WorldEvent::SendPort {
+        node,
+        port,
+        to,
+        importance: Importance::Low,
+        body,
+    }
+}
+
+/// The frame of that number since the last mark, where there is one.
+fn shown(frame: u64, world: &World, notes: &Notes) -> Result<Told, NoMemory>
+    ensures { IfOk result (λ told. told ≡ shown (slice_get world.now.air (counted (notes.now.base + frame)))) }
+{
+    let Some(sent) = world.frame(notes.base().saturating_add(frame)) else {
+        return Ok(Told::Answer(Answer::NoFrame));
+    };
+    Ok(Told::Frame {
+        from: sent.from,
+        to: sent.to,
+        bytes: sent.frame.clone()?,
+    })
+}
+
+/// What is told of a line that leaves everything as it is.
+fn tell(alloc: Global, line: &Line, world: &World, notes: &Notes) -> Result<Told, NoMemory>
+    requires { CanBeDone (is_there world.now) line.now }
+    ensures { IfOk result (λ told. told ≡ told_of line.now notes.now world.now) }
+{
+    Ok(match line {
+        Line::Air { bearer: _ } => {
+            Told::Answer(Answer::Air(world.air_len().saturating_sub(notes.base())))
+        }
+        Line::Show { bearer: _, frame } => shown(*frame, world, notes)?,
+        Line::Links { node } => Told::Answer(Answer::Links(world.links(alloc, *node)?)),
+        Line::Flow { from, to } => Told::Answer(world.flow(*from, *to)),
+        _ => Told::Nothing,
+    })
+}
+
+/// Does what a line asks for that sends and receives messages again and again, or leaves everything as it is.
+fn converse(
+    alloc: Global,
+    line: Line,
+    world: &mut World,
+    notes: &mut Notes,
+) -> Result<Told, WorldFault>
+    requires can { CanBeDone (is_there world.old) line }
+    ensures comes { Comes (Conversed line notes.old world.old) (beside result notes.new) world.new }
+    ensures continues { Continues world.old world.new }
+{
+    match line {
+        Line::Repeat {
+            times,
+            node,
+            port,
+            to,
+            importance,
+            body,
+        } => {
+            let message = WorldEvent::SendPort {
+                node,
+                port,
+                to,
+                importance,
+                body,
+            };
+            let (count, last) = repeat(alloc, times, &message, world)?;
+            Ok(Told::Times { count, last })
+        }
+        Line::Drain { node, port } => {
+            let answer = receive_all(alloc, Socket::new(node, port), world)?;
+            Ok(Told::Answer(answer))
+        }
+        Line::Burst {
+            node,
+            port,
+            to_node,
+            to_port,
+            times,
+            body,
+        } => {
+            let at = Socket::new(to_node, to_port);
+            let message = low_message(node, port, at, body);
+            burst_on(alloc, times, &message, at, world, notes)
+        }
+        other => Ok(tell(alloc, &other, world, notes)?),
+    }
+}
+
+/// Does what a line asks for that isn't one event.
 fn compose(
     alloc: Global,
     line: Line,
     world: &mut World,
     notes: &mut Notes,
-) -> Result<Option<Answer>, WorldFault>
+) -> Result<Told, WorldFault>
     requires can { CanBeDone (is_there world.old) line }
-    requires several { event_of line notes.old ≡ None }
     requires good { IsGood world.old }
     ensures good { IsGood world.new }
     ensures nodes { OnOk result ((n : ℕ) → is_there world.new n ≡ (makes line n || is_there world.old n)) }
     ensures grows { Grows world.old world.new }
-    ensures comes { Comes (Composed line notes.old world.old) result world.new }
-    ensures noted { OnOk result (notes.new ≡ noted line notes.old world.new) }
+    ensures comes { Comes (Composed line notes.old world.old) (beside result notes.new) world.new }
 {
     let answer = match line {
         Line::Node { node } => {
@@ -159,48 +279,42 @@ fn compose(
         }
         Line::Pump { bearer: _ } => pump_on(alloc, world, notes)?,
         Line::Settle { rounds } => settle(alloc, rounds, world)?,
-        Line::Links { node } => Answer::Links(world.links(alloc, node)?),
-        Line::Flow { from, to } => world.flow(from, to),
-        _ => return Ok(None),
+        other => return converse(alloc, other, world, notes),
     };
-    Ok(Some(answer))
+    Ok(Told::Answer(answer))
 }
 
-/// Does what a line asks for. None is the answer to a line that asks for nothing.
+/// Does what a line asks for.
 pub fn answer_of(
     alloc: Global,
     line: Line,
     world: &mut World,
     notes: &mut Notes,
-) -> Result<Option<Answer>, WorldFault>
+) -> Result<Told, WorldFault>
     requires can { CanBeDone (is_there world.old) line }
     requires good { IsGood world.old }
     ensures good { IsGood world.new }
     ensures nodes { OnOk result ((n : ℕ) → is_there world.new n ≡ (makes line n || is_there world.old n)) }
     ensures grows { Grows world.old world.new }
-    ensures comes { Comes (Answers line notes.old world.old) result world.new }
-    ensures noted { OnOk result (notes.new ≡ noted line notes.old world.new) }
+    ensures comes { Comes (Answers line notes.old world.old) (beside result notes.new) world.new }
 {
     match event_of(line, notes) {
-        Ok(event) => Ok(Some(make(alloc, event, world)?)),
+        Ok(event) => Ok(Told::Answer(make(alloc, event, world)?)),
         Err(other) => compose(alloc, other, world, notes),
     }
 }
 
-/// The printed line of an answer.
-fn answer_text(alloc: Global, number: u32, answer: Option<Answer>) -> Result<Vec<u8>, NoMemory>
-    ensures { IfOk result (λ text. text.items ≡ answer_text number answer) }
+/// The printed line of what is told.
+fn told_text(alloc: Global, number: u32, told: &Told) -> Result<Vec<u8>, NoMemory>
+    ensures { IfOk result (λ text. text.items ≡ told_line number told.now) }
 {
     let mut text = Vec::new(alloc);
-    match answer {
-        Some(answer) => print(number, &answer, &mut text)?,
-        None => print_nothing(number, &mut text)?,
-    }
+    print(number, told, &mut text)?;
     Ok(text)
 }
 
-/// Does what a line asks for, and answers the printed line of its answer. Where a frame was lost for want of
-/// memory the answer isn't printed, nor is a limit told that was reached.
+/// Does what a line asks for, and answers the printed line of what is told of it. Where a frame was lost for want of
+/// memory nothing is printed, nor is a limit told that was reached.
 pub fn do_line(
     alloc: Global,
     number: u32,
@@ -219,5 +333,5 @@ pub fn do_line(
     if world.lost() {
         return Err(WorldFault::NoMemory);
     }
-    Ok(answer_text(alloc, number, came?)?)
+    Ok(told_text(alloc, number, &came?)?)
 }

@@ -5,6 +5,7 @@
 mod frames;
 mod lines;
 mod linking;
+mod messages;
 mod notes;
 mod reading;
 mod running;

@@ -204,6 +204,7 @@ fn is_form(words: &[String]) -> bool
 ///
 /// The form is the word `run` alone. The source is read to its end first. Then each line is read, done and
 /// answered by a printed line before the next one. (This project's profile.)
+#[tactic(auto, using(crate::proofs::WorldLaws::empty_good))]
 pub fn run<S: Source, K: Sink>(
     alloc: Global,
     words: &[String],
@@ -211,8 +212,7 @@ pub fn run<S: Source, K: Sink>(
     sink: &mut K,
     world: &mut World,
 ) -> Status
-    requires empty { world.old ≡ no_nodes }
-    requires good { IsGood world.old }
+    requires { world.old ≡ no_nodes }
 
     // Whatever the status, the messages delivered are a front of those accepted.
     ensures good { IsGood world.new }

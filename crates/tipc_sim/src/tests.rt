@@ -14,6 +14,10 @@ const ONE_SIDE_DOWN: &[u8] =
 const SILENT: &[u8] =
     b"node 1\nnode 2\nlink 1 2 0\nmark\ntick 1\ntick 1\ntick 1\ntick 1\nlinks 1\ntick 1\nlinks 1\n";
 
+/// Messages that are sent, shown, counted and received many at a time.
+const MANY_MESSAGES: &[u8] =
+    b"node 1\nnode 2\nlink 1 2 0\nmark\nsocket 1\nsocket 2\nsend 1 1 port 2 1 critical =hello\nshow 0 0\nrepeat 2 send 1 1 port 2 1 high =a\nair 0\npump 0\ndrain 2 1\ndrain 2 1\ndrain 2 9\nburst 1 1 2 1 4 =b\nair 0\nburst 1 1 2 9 4 =b\nburst 1 9 2 1 4 =b\nrepeat 2 send 1 9 port 2 1 medium =a\nshow 0 8\nmark\nair 0\npump 0\n";
+
 /// The status of a run over memory, and what it wrote. Reads and writes of these numbers fail.
 fn run_over(
     rt: &HostRuntime,
@@ -68,7 +72,12 @@ fn words_and_faults_of_the_outside(rt: HostRuntime) -> Result<(), Fail> {
 
 #[test]
 fn reports(rt: HostRuntime) -> Result<(), Fail> {
-    let rows: [(&[u8], Status, &[u8]); 5] = [
+    let rows: [(&[u8], Status, &[u8]); 6] = [
+        (
+            MANY_MESSAGES,
+            Status::Ok,
+            b"1 ok\n2 ok\n3 up\n4 ok\n5 socket 1\n6 socket 1\n7 sent\n8 1 2 00000001000000010000000100000001470000256000000000000001010010010000000100000001010010010100100268656c6c6f\n9 times 2 sent\n10 air 3\n11 pumped 3\n12 drained 3\n13 drained 0\n14 no-socket\n15 moved 4\n16 air 7\n17 moved 0\n18 moved 0\n19 times 0 no-socket\n20 no-frame\n21 ok\n22 air 0\n23 pumped 0\n",
+        ),
         (
             FIRST_MESSAGE,
             Status::Ok,
@@ -101,7 +110,17 @@ fn reports(rt: HostRuntime) -> Result<(), Fail> {
 
 #[test]
 fn bad_lines(rt: HostRuntime) -> Result<(), Fail> {
-    let rows: [(&[u8], Status, &[u8]); 7] = [
+    let rows: [(&[u8], Status, &[u8]); 9] = [
+        (
+            b"node 1\nburst 1 1 2 1 5 =a\n",
+            Status::BadLine,
+            b"1 ok\n2 bad 11 node\n",
+        ),
+        (
+            b"node 1\nrepeat 2 send 3 1 port 2 1 low =a\n",
+            Status::BadLine,
+            b"1 ok\n2 bad 15 node\n",
+        ),
         (
             b"node 1\nnode x\nnode 2\n",
             Status::BadLine,

@@ -1,9 +1,10 @@
 -- Each frame that a link end sends is for its peer.
 use Rattle.std.proofs.Common.{◌≡◌, ℕ, ◌+◌, Bool, true, false, List, [], ◌∷◌, ◌++◌, Option, Some, None, option_map, if◌then◌else◌, refl, sym, ap, ◌∙◌}
-use Rattle.std.specs.Prelude.{nat_lt, ◌==◌}
+use Rattle.std.specs.Prelude.{map, nat_lt, ◌==◌}
 use Rattle.tipc_types.specs.declared.identity.To.TheVariants as to
 use Rattle.tipc_types.specs.declared.link_words.BroadcastState.{BroadcastState}
 use Rattle.tipc_types.specs.declared.link_words.Reply.TheVariants as reply
+use Rattle.tipc_types.specs.declared.packet_lists.Kept.{Kept}
 use Rattle.tipc_outside.specs.declared.outgoing.Outgoing.{Outgoing}
 use Rattle.tipc_header.specs.declared.packet.Header.{Header}
 use Rattle.tipc_header.specs.declared.packet.Header.TheVariants as header
@@ -12,7 +13,7 @@ use Rattle.tipc_link_fsm.specs.declared.changes.Change.{Change}
 use Rattle.tipc_link_fsm.specs.declared.changes.Change.TheVariants.{Up, Answer}
 use Rattle.tipc_link_fsm.specs.Table.{Fsm, Outcome, is_up, on_reset, on_tick, forget_peer}
 use Rattle.tipc_link.specs.Links.{LinkEnd, after, answered_frames, followed, follow_frames, frames, heard_by, heard_frames, is_down, is_heard, is_reset_unknown, mend_frames, mended_end, outcome_of, reset_frames, session_answer, state_frames, with_fsm}
-use Rattle.tipc_link.specs.Sessions.{Content, Shows, Carries, Nothing, SessionEnd, arrival_frames, arrived, content_of, flush_frames, flushed, heard, is_due, packet_frames, told, wanted}
+use Rattle.tipc_link.specs.Sessions.{Content, Shows, Carries, Nothing, SessionEnd, arrival_frames, arrived, content_of, flush_frames, flushed, heard, is_due, packet_frame, packet_frames, released, repeat_frames, repeated, spoke, told}
 use Rattle.tipc_pair.specs.Pairs.{Met, arrival, arrival_of, by_number, link_met, lonely, parted, reset_down, reset_met, reset_up, risen, risen_activate, risen_frames, risen_reset, settled, settled_frames, tick_frames}
 
 -- each of these frames is for the node with that address word
@@ -49,24 +50,38 @@ pub flush_for : (word : ℕ) (s : SessionEnd) → s.peer ≡ word → AreFor wor
 unfolding flush_frames
 flush_for word s is = packets_for word s _ _ is
 
-heard_peer : (s : SessionEnd) (acknowledgement : ℕ) (c : Content) → (heard s acknowledgement c).peer ≡ s.peer
-heard_peer s acknowledgement (Shows next) = refl
-heard_peer s acknowledgement (Carries number packet) = either (λ (t : SessionEnd). t.peer ≡ s.peer) (number == wanted s) _ _ refl refl
-heard_peer s acknowledgement Nothing = refl
+spoke_peer : {A : Type 0} (s : SessionEnd) (xs : List A) → (spoke s xs).peer ≡ s.peer
+spoke_peer s [] = refl
+spoke_peer s (x ∷ xs) = refl
+
+heard_peer : (s : SessionEnd) (by acknowledgement : ℕ) (c : Content) → (heard s by acknowledgement c).peer ≡ s.peer
+heard_peer s by acknowledgement (Shows next gap probe) = spoke_peer (released s acknowledgement) (repeated (released s acknowledgement) acknowledgement gap)
+heard_peer s by acknowledgement (Carries number packet) = refl
+heard_peer s by acknowledgement Nothing = refl
 
 flushed_peer : (s : SessionEnd) → (flushed s).peer ≡ s.peer
 unfolding flushed
 flushed_peer s = refl
 
-arrived_peer : (s : SessionEnd) (acknowledgement : ℕ) (c : Content) → (arrived s acknowledgement c).peer ≡ s.peer
-arrived_peer s acknowledgement (Shows next) = flushed_peer _
-arrived_peer s acknowledgement (Carries number packet) = flushed_peer _ ∙ heard_peer s acknowledgement (Carries number packet)
-arrived_peer s acknowledgement Nothing = refl
+arrived_peer : (s : SessionEnd) (by acknowledgement : ℕ) (c : Content) → (arrived s by acknowledgement c).peer ≡ s.peer
+arrived_peer s by acknowledgement (Shows next gap probe) = flushed_peer _ ∙ heard_peer s by acknowledgement (Shows next gap probe)
+arrived_peer s by acknowledgement (Carries number packet) = flushed_peer _ ∙ heard_peer s by acknowledgement (Carries number packet)
+arrived_peer s by acknowledgement Nothing = refl
 
-arrival_for : (word : ℕ) (s : SessionEnd) (acknowledgement : ℕ) (c : Content) → s.peer ≡ word → AreFor word (arrival_frames s acknowledgement c)
-arrival_for word s acknowledgement (Shows next) is = flush_for word _ is
-arrival_for word s acknowledgement (Carries number packet) is = flush_for word _ (heard_peer s acknowledgement (Carries number packet) ∙ is)
-arrival_for word s acknowledgement Nothing is = tt
+again_for : (word : ℕ) (s : SessionEnd) (ks : List Kept) → s.peer ≡ word → AreFor word (map (λ k. packet_frame s k.number k.packet) ks)
+again_for word s [] is = tt
+again_for word s (k ∷ ks) is = (to_same word s.peer is, again_for word s ks is)
+
+repeat_for : (word : ℕ) (s : SessionEnd) (acknowledgement gap : ℕ) → s.peer ≡ word → AreFor word (repeat_frames s acknowledgement gap)
+unfolding repeat_frames
+repeat_for word s acknowledgement gap is = again_for word s (repeated s acknowledgement gap) is
+
+arrival_for : (word : ℕ) (s : SessionEnd) (by acknowledgement : ℕ) (c : Content) → s.peer ≡ word → AreFor word (arrival_frames s by acknowledgement c)
+arrival_for word s by acknowledgement (Shows next gap probe) is =
+    for_both word (repeat_frames (released s acknowledgement) acknowledgement gap) _ (repeat_for word (released s acknowledgement) acknowledgement gap is)
+    (flush_for word _ (heard_peer s by acknowledgement (Shows next gap probe) ∙ is))
+arrival_for word s by acknowledgement (Carries number packet) is = flush_for word _ (heard_peer s by acknowledgement (Carries number packet) ∙ is)
+arrival_for word s by acknowledgement Nothing is = tt
 
 -- ---- a link end
 
@@ -138,20 +153,20 @@ record MetNames (word : ℕ) (m : Met) : Type 0 where
   pub after : Names word m.after
   pub frames : AreFor word m.frames
 
-heard_for : (word : ℕ) (session : Option SessionEnd) (acknowledgement : ℕ) (c : Content) → ((s : SessionEnd) → session ≡ Some s → s.peer ≡ word) → AreFor word (heard_by session acknowledgement c)
-heard_for word None acknowledgement c is = tt
-heard_for word (Some s) acknowledgement c is = arrival_for word s acknowledgement c (is s refl)
+heard_for : (word : ℕ) (session : Option SessionEnd) (by acknowledgement : ℕ) (c : Content) → ((s : SessionEnd) → session ≡ Some s → s.peer ≡ word) → AreFor word (heard_by session by acknowledgement c)
+heard_for word None by acknowledgement c is = tt
+heard_for word (Some s) by acknowledgement c is = arrival_for word s by acknowledgement c (is s refl)
 
-hears_for : (word : ℕ) (e : LinkEnd) (change : Change) (acknowledgement : ℕ) (c : Content) → Names word e → AreFor word (heard_frames e change acknowledgement c)
-hears_for word e Up acknowledgement c n = tt
-hears_for word e other acknowledgement c n = heard_for word e.session acknowledgement c n.session
+hears_for : (word : ℕ) (e : LinkEnd) (change : Change) (by acknowledgement : ℕ) (c : Content) → Names word e → AreFor word (heard_frames e change by acknowledgement c)
+hears_for word e Up by acknowledgement c n = tt
+hears_for word e other by acknowledgement c n = heard_for word e.session by acknowledgement c n.session
 
 link_names : (word : ℕ) (e : LinkEnd) (o : Outcome) (p : Fields) (by : ℕ) (shown : BroadcastState) → Names word e → MetNames word (link_met e o p by shown)
 link_names word e o p by shown n =
     let then_ = names_after word e o n in record {
-      after = either (Names word) (is_heard p.header o.change) _ _ (names_mapped word (after e o) (λ s. arrived s p.acknowledgement (content_of p)) then_ (λ s. arrived_peer s p.acknowledgement (content_of p))) then_;
+      after = either (Names word) (is_heard p.header o.change) _ _ (names_mapped word (after e o) (λ s. arrived s by p.acknowledgement (content_of p)) then_ (λ s. arrived_peer s by p.acknowledgement (content_of p))) then_;
       frames = either (AreFor word) (is_heard p.header o.change) _ _
-          (for_both word (frames e o shown) _ (frames_for word e o shown n) (hears_for word (after e o) o.change p.acknowledgement (content_of p) then_)) (frames_for word e o shown n);
+          (for_both word (frames e o shown) _ (frames_for word e o shown n) (hears_for word (after e o) o.change by p.acknowledgement (content_of p) then_)) (frames_for word e o shown n);
     }
 
 down_names : (word : ℕ) (e : LinkEnd) (o : Outcome) (shown : BroadcastState) → Names word e → MetNames word (reset_down e o shown)

@@ -32,9 +32,9 @@ stays : (m m' : MemberState) → m'.node.boot ≡ m.node.boot → IsNext m m'
 stays m m' same = omega (arith, same)
 
 sends_boot : (stamp port peer : ℕ) (to : PortId) (importance : Importance) (body : List ℕ) (m m' : MemberState) (frames : List Outgoing) (answered : Answer) → Sends stamp port peer to importance body m m' frames answered → IsNext m m'
-sends_boot stamp port peer to importance body m m' frames answered h = by (refusal m.node port peer (limit_of importance)) refl
+sends_boot stamp port peer to importance body m m' frames answered h = by (refusal m.node port peer (limit_of importance) body) refl
   where
-    by : (r : Option Answer) → refusal m.node port peer (limit_of importance) ≡ r → IsNext m m'
+    by : (r : Option Answer) → refusal m.node port peer (limit_of importance) body ≡ r → IsNext m m'
     by None free = stays m m' (ap (λ (x : MemberState). x.node.boot) (h.sent free).after)
     by (Some why) stops = stays m m' (ap (λ (x : MemberState). x.node.boot) (h.refused why stops).0)
 

@@ -16,8 +16,8 @@ use Rattle.tipc_header.specs.Spelling.{Fields}
 use Rattle.tipc_link_fsm.specs.declared.changes.Change.{Change}
 use Rattle.tipc_link_fsm.specs.declared.changes.Change.TheVariants as change
 use Rattle.tipc_link_fsm.specs.Table.{Fsm, Outcome, forget_peer, gives, heard, is_held, is_in_reset, is_last, is_peer, is_reset_reset, is_session, is_up, lowered, on_activate, on_reset, on_traffic, told}
-use Rattle.tipc_link.specs.declared.outcomes.LinkOutcome.{LinkOutcome}
-use Rattle.tipc_link.specs.declared.outcomes.LinkOutcome.TheVariants.{Took, Ignored}
+use Rattle.tipc_recv_window.specs.declared.outcomes.LinkOutcome.{LinkOutcome}
+use Rattle.tipc_recv_window.specs.declared.outcomes.LinkOutcome.TheVariants.{Took, Ignored}
 use Rattle.tipc_link.specs.Links.{LinkEnd, after, arrival_end, followed, heard_outcome, is_down, is_heard, is_traffic, known, link_outcome, outcome_of, with_fsm}
 use Rattle.tipc_link.specs.Sessions.{content_of}
 use Rattle.tipc_pair.specs.declared.changes.PairChange.{PairChange}
@@ -39,7 +39,7 @@ IsTakenDown e es h (Ended because shown numbers number) =
 pub record IsMet (e : LinkEnd) (es : ℕ) (h : Header) (m : Met) : Type 0 where
   pub tells : Tells e m.after m.change
   pub silence : silence_of m.after ≤ silence_of e
-  pub taken : (ts : List Taken) → m.outcome ≡ Took ts → silence_of m.after ≡ 0
+  pub taken : ((reason : Why) → m.outcome ≡ Ignored reason → ⊥) → silence_of m.after ≡ 0
   pub brought : (t : Taken) (ts : List Taken) → m.outcome ≡ Took (t ∷ ts) → is_up m.after.fsm.state ≡ true
   pub abreast : IsAbreast m.after
   pub caused : IsTakenDown e es h m.change
@@ -47,7 +47,7 @@ pub record IsMet (e : LinkEnd) (es : ℕ) (h : Header) (m : Met) : Type 0 where
 -- ---- nothing happens
 
 passes_met : (e : LinkEnd) (es : ℕ) (h : Header) (reason : Why) → IsAbreast e → IsMet e es h (passed_over e reason)
-passes_met e es h reason abreast = record { tells = (refl, refl); silence = omega arith; taken = λ ts is. absurd cc; brought = λ t ts is. absurd cc; abreast = abreast; caused = tt }
+passes_met e es h reason abreast = record { tells = (refl, refl); silence = omega arith; taken = λ other. absurd (other reason refl); brought = λ t ts is. absurd cc; abreast = abreast; caused = tt }
 
 -- ---- a packet goes to the link
 
@@ -104,8 +104,8 @@ followed_as e f change.Up = record { fsm = refl; contact = refl; seen = refl }
 followed_as e f (change.Answer (reply.State probe)) = record { fsm = refl; contact = refl; seen = refl }
 followed_as e f other = record { fsm = refl; contact = refl; seen = refl }
 
-arrival_as : (e : LinkEnd) (o : Outcome) (p : Fields) → IsAs e (arrival_end e o p) o.after
-arrival_as e o p =
+arrival_as : (e : LinkEnd) (o : Outcome) (p : Fields) (by : ℕ) → IsAs e (arrival_end e o p by) o.after
+arrival_as e o p by =
     let a = followed_as e o.after o.change in
     tested (λ (x : LinkEnd). IsAs e x o.after) (is_heard p.header o.change) _ _ (λ _. record { fsm = a.fsm; contact = a.contact; seen = a.seen }) (λ _. a)
 
@@ -125,7 +125,7 @@ up_met e0 e es h m f a up silent peer tells caused =
     record {
       tells = tells;
       silence = omega (arith, none);
-      taken = λ ts _. none;
+      taken = λ _. none;
       brought = λ t ts _. up';
       abreast = record { peer_is = λ _. ap (λ (x : Fsm). x.peer) a.fsm ∙ peer ∙ ap (λ (x : Fsm). Some x.highest) (sym a.fsm) };
       caused = caused;
@@ -134,8 +134,8 @@ up_met e0 e es h m f a up silent peer tells caused =
 link_by : (e0 e : LinkEnd) (es : ℕ) (h : Header) (f : Fsm) (c : Change) (p : Fields) (by : ℕ) (shown : BroadcastState) → GoesOn e0 e → IsAbreast e → Works e.fsm f c → IsMet e0 es h (link_met e (gives f c) p by shown)
 link_by e0 e es h f (change.Ignore reason) p by shown on abreast same =
     let o = gives f (change.Ignore reason) in
-    let e' = arrival_end e o p in
-    let a = arrival_as e o p in
+    let e' = arrival_end e o p by in
+    let a = arrival_as e o p by in
     let fsm : e'.fsm ≡ e.fsm = a.fsm ∙ same in
     let contact : contact_of e' ≡ contact_of e = ap (λ (x : Fsm). if is_up x.state then Some (e'.contact, e'.peer_contact) else None) fsm
     ∙ ap (λ n. if is_up e.fsm.state then Some (n, e'.peer_contact) else None) a.contact ∙ ap (λ n. if is_up e.fsm.state then Some (e.contact, n) else None) a.seen in
@@ -146,15 +146,15 @@ link_by e0 e es h f (change.Ignore reason) p by shown on abreast same =
     record {
       tells = (contact ∙ on.alike.contact_is, epochs ∙ on.alike.epochs_are);
       silence = omega (arith, silent, before);
-      taken = λ ts is. (let wrong : Ignored reason ≡ Took ts = sym outcome ∙ is in absurd cc);
+      taken = λ other. absurd (other reason outcome);
       brought = λ t ts is. (let wrong : Ignored reason ≡ Took (t ∷ ts) = sym outcome ∙ is in absurd cc);
       abreast = record { peer_is = λ is. ap (λ (x : Fsm). x.peer) fsm ∙ abreast.peer_is (ap (λ (x : Fsm). is_up x.state || is_reset_reset x.state) (sym fsm) ∙ is) ∙ ap (λ (x : Fsm). Some x.highest) (sym fsm) };
       caused = tt;
     }
 link_by e0 e es h f change.Up p by shown on abreast works =
     let o = gives f change.Up in
-    let e' = arrival_end e o p in
-    let a = arrival_as e o p in
+    let e' = arrival_end e o p by in
+    let a = arrival_as e o p by in
     let up' : is_up e'.fsm.state ≡ true = ap (λ (x : Fsm). is_up x.state) a.fsm ∙ works.0 in
     let contact : contact_of e' ≡ Some (e.contact, e.peer_contact) = up_contact e' up' ∙ ap (λ n. Some (n, e'.peer_contact)) a.contact ∙ ap (λ n. Some (e.contact, n)) a.seen in
     let epochs : epochs_of e' ≡ Some (f.own, known f.peer) = up_epochs_are e' up' ∙ ap (λ (x : Fsm). Some (x.own, known x.peer)) a.fsm in
@@ -162,8 +162,8 @@ link_by e0 e es h f change.Up p by shown on abreast works =
     up_met e0 e es h (link_met e o p by shown) f a works.0 works.1 works.2 (contact, epochs, none) tt
 link_by e0 e es h f change.Stay p by shown on abreast works =
     let o = gives f change.Stay in
-    let e' = arrival_end e o p in
-    let a = arrival_as e o p in
+    let e' = arrival_end e o p by in
+    let a = arrival_as e o p by in
     let fsm : e'.fsm ≡ heard e.fsm = a.fsm ∙ works.1 in
     let same = both_up e e' works.0 (ap (λ (x : Fsm). is_up x.state) fsm) a.contact a.seen (ap (λ (x : Fsm). x.own) fsm) (ap (λ (x : Fsm). x.peer) fsm) in
     let whole = alike_then e0 e e' on.alike same in
@@ -192,7 +192,7 @@ record StaysDown (m : Met) : Type 0 where
 down_met : (e0 : LinkEnd) (es : ℕ) (h : Header) (m : Met) → StaysDown m → Tells e0 m.after m.change → IsTakenDown e0 es h m.change → IsMet e0 es h m
 down_met e0 es h m d tells caused =
     let none = down_silence m.after d.down in
-    record { tells = tells; silence = omega (arith, none); taken = λ ts _. none; brought = λ t ts is. absurd (d.none t ts is); abreast = d.abreast; caused = caused }
+    record { tells = tells; silence = omega (arith, none); taken = λ _. none; brought = λ t ts is. absurd (d.none t ts is); abreast = d.abreast; caused = caused }
 
 -- a RESET is given to an end that is down
 abbrev ResetsDown : LinkEnd → ℕ → BroadcastState → Outcome → Type 0
@@ -248,7 +248,7 @@ reset_here e es h shown abreast is =
     down_met e es h (reset_down e o shown) (record { down = refl; abreast = record { peer_is = λ _. refl }; none = λ t ts is. absurd cc }) (alike.contact_is, alike.epochs_are) tt)))
   where
     same : (reason : Why) → ResetMet e es h shown (gives e.fsm (change.Ignore reason))
-    same reason = record { tells = (refl, refl); silence = omega arith; taken = λ ts is. absurd cc; brought = λ t ts is. absurd cc; abreast = abreast; caused = tt }
+    same reason = record { tells = (refl, refl); silence = omega arith; taken = λ other. absurd (other reason refl); brought = λ t ts is. absurd cc; abreast = abreast; caused = tt }
 
 -- ---- the peer shows a higher contact number
 
@@ -277,7 +277,7 @@ activate_risen e number es er h p by shown shows higher other =
     let unknown = unknown_abreast (risen e number) (risen_unknown e number) in
     tested (IsMet e es h) (is_up e.fsm.state) _ _
     (λ up.
-    let m : Met = record { after = risen e number; frames = risen_frames e number; change = risen_change e number; outcome = LinkOutcome.Took [] } in
+    let m : Met = record { after = risen e number; frames = risen_frames e number; change = risen_change e number; outcome = LinkOutcome.Took []; moved = [] } in
     down_met e es h m (record { down = risen_down e number; abreast = unknown; none = λ t ts is. absurd cc }) (risen_tells e (risen e number) number (risen_down e number)) (risen_caused e es h number shows higher))
     (λ down.
     let none = down_silence (risen e number) (risen_down e number) in

@@ -9,18 +9,19 @@ use Rattle.tipc_types.specs.declared.message_forms.Flow.{Flow}
 use Rattle.tipc_types.specs.declared.message_forms.Flow.TheVariants.{Zero, One, Broadcast}
 use Rattle.tipc_types.specs.declared.message_forms.Message.{Message}
 use Rattle.tipc_journal.specs.declared.entries.Entry.{Entry}
+use Rattle.tipc_journal.specs.declared.entries.Entry.TheVariants as entry
 use Rattle.tipc_journal.specs.Steps.{NodeStep, step_entries}
 use Rattle.tipc_journal.specs.Streams.{Stream, accepted, delivered, flow_eq, stream_eq}
 use Rattle.tipc_journal.proofs.StreamLaws.{accepted_append, accepted_step, delivered_append, delivered_step}
-use Rattle.tipc_link.specs.declared.outcomes.LinkOutcome.{LinkOutcome}
-use Rattle.tipc_link.specs.declared.outcomes.LinkOutcome.TheVariants.{Took, Ignored}
+use Rattle.tipc_reassembly.specs.declared.opening.Opened.{Opened}
+use Rattle.tipc_reassembly.specs.declared.opening.Opened.TheVariants.{Whole, Passed}
 use Rattle.tipc_link.specs.Links.{LinkEnd}
 use Rattle.tipc_pair.specs.declared.changes.PairChange.{PairChange}
 use Rattle.tipc_pair.specs.declared.changes.PairChange.TheVariants.{Stay, Began, Ended}
 use Rattle.tipc_node.specs.declared.neighbours.Deed.{Deed}
 use Rattle.tipc_node.specs.declared.neighbours.Neighbour.{Neighbour}
 use Rattle.tipc_node.specs.Neighbours.{done}
-use Rattle.tipc_node.specs.Nodes.{accepted_entry, change_entries, delivered_by, entries_all, entries_one, taken_entries}
+use Rattle.tipc_node.specs.Nodes.{accepted_entry, change_entries, delivered_by, deliveries_of, delivery_of, entries_all, entries_in, entries_one, message_in, shown_contact}
 use Rattle.tipc_world.specs.Members.{IsRestarted}
 use Rattle.tipc_world.specs.States.{MemberState, history, stream_of}
 
@@ -177,17 +178,42 @@ delivered_holds peer e None by = record {
   delivered_is = λ b own theirs flow. sym (come_none peer e.contact e.peer_contact b own theirs flow);
 }
 
--- the message of the packet that was taken, where one was and it carries one
-abbrev pub messages_taken : LinkOutcome → Option Message → List Message
-messages_taken (Took []) m = []
-messages_taken (Took (packet ∷ packets)) m = option_to_list m
-messages_taken (Ignored why) m = []
+come_both : (t : Bool) (ms ns : List Message) → (if t then ms else []) ++ (if t then ns else []) ≡ (if t then ms ++ ns else [])
+come_both true ms ns = refl
+come_both false ms ns = refl
 
--- the entries of what was taken
-pub taken_holds : (outcome : LinkOutcome) (peer : ℕ) (e : LinkEnd) (m : Option Message) (by : ℕ) → Holds (taken_entries outcome peer e m by) peer e.contact e.peer_contact [] (messages_taken outcome m)
-taken_holds (Took []) peer e m by = quiet_holds [] peer e.contact e.peer_contact quiet_none
-taken_holds (Took (packet ∷ packets)) peer e m by = delivered_holds peer e m (by ∷ [])
-taken_holds (Ignored why) peer e m by = quiet_holds [] peer e.contact e.peer_contact quiet_none
+holds_both : (xs ys : List Entry) (peer own theirs : ℕ) (accepts accepts' delivers delivers' : List Message) → Holds xs peer own theirs accepts delivers → Holds ys peer own theirs accepts' delivers'
+    → Holds (xs ++ ys) peer own theirs (accepts ++ accepts') (delivers ++ delivers')
+holds_both xs ys peer own theirs accepts accepts' delivers delivers' h k = record {
+  accepted_is = λ b own' theirs' flow. let s = stream_of b own' theirs' flow in accepted_append xs ys s ∙ ap (λ ms. ms ++ accepted ys s) (h.accepted_is b own' theirs' flow)
+      ∙ ap (λ ms. come_to peer own theirs accepts b own' theirs' flow ++ ms) (k.accepted_is b own' theirs' flow) ∙ come_both ((b == peer) && (flow_eq flow Zero && ((own' == own) && (theirs' == theirs)))) accepts accepts';
+  delivered_is = λ b own' theirs' flow. let s = stream_of b own' theirs' flow in delivered_append xs ys s ∙ ap (λ ms. ms ++ delivered ys s) (h.delivered_is b own' theirs' flow)
+      ∙ ap (λ ms. come_to peer own theirs delivers b own' theirs' flow ++ ms) (k.delivered_is b own' theirs' flow) ∙ come_both ((b == peer) && (flow_eq flow Zero && ((own' == own) && (theirs' == theirs)))) delivers delivers';
+}
+
+dropped_quiet : (place : ℕ) → IsQuiet (entry.Dropped place ∷ [])
+unfolding accepted delivered
+dropped_quiet place = record { accepted_none = λ s. refl; delivered_none = λ s. refl }
+
+-- the messages of what was given
+abbrev pub message_given : Opened → Option Message
+message_given (Whole packet by) = message_in packet
+message_given (Passed place) = None
+
+abbrev pub messages_given : List Opened → List Message
+messages_given [] = []
+messages_given (o ∷ os) = option_to_list (message_given o) ++ messages_given os
+
+one_given : (o : Opened) (peer : ℕ) (e : LinkEnd) → Holds ((delivery_of peer (shown_contact e) o).entry ∷ []) peer e.contact e.peer_contact [] (option_to_list (message_given o))
+one_given (Whole packet by) peer e = delivered_holds peer e (message_in packet) by
+one_given (Passed place) peer e = quiet_holds (entry.Dropped place ∷ []) peer e.contact e.peer_contact (dropped_quiet place)
+
+-- the entries of what was given
+pub given_holds : (opened : List Opened) (peer : ℕ) (e : LinkEnd) → Holds (entries_in (deliveries_of peer (shown_contact e) opened)) peer e.contact e.peer_contact [] (messages_given opened)
+given_holds [] peer e = quiet_holds [] peer e.contact e.peer_contact quiet_none
+given_holds (o ∷ os) peer e =
+    holds_both ((delivery_of peer (shown_contact e) o).entry ∷ []) (entries_in (deliveries_of peer (shown_contact e) os)) peer e.contact e.peer_contact [] [] (option_to_list (message_given o)) (messages_given os)
+    (one_given o peer e) (given_holds os peer e)
 
 -- ---- a recorded call
 

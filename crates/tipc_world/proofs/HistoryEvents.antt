@@ -13,16 +13,16 @@ use Rattle.tipc_outside.specs.declared.outgoing.Outgoing.{Outgoing}
 use Rattle.tipc_journal.specs.declared.entries.Entry.{Entry}
 use Rattle.tipc_journal.specs.Prefixes.{IsPrefixOf}
 use Rattle.tipc_journal.specs.Steps.{NodeStep, step_entries}
-use Rattle.tipc_message.specs.Wire.{message_of}
+use Rattle.tipc_pair.specs.Partners.{opened_in}
 use Rattle.tipc_node.specs.declared.neighbours.Deed.{Deed}
 use Rattle.tipc_node.specs.declared.neighbours.Deed.TheVariants as deed
-use Rattle.tipc_node.specs.Nodes.{accepted_entry, change_entries, deed_note, direct, entries_all, heard_answer, kept_answer, limit_of, receive_answer, refusal, socket_answer, step_of, stop_of, taken_entries}
+use Rattle.tipc_node.specs.Nodes.{accepted_entry, arrival_answer, arrival_deliveries, change_entries, deed_note, direct, entries_all, entries_in, kept_answer, limit_of, receive_answer, refusal, socket_answer, step_of, stop_of}
 use Rattle.tipc_world.specs.declared.events.WorldEvent.{WorldEvent}
 use Rattle.tipc_world.specs.declared.events.WorldEvent.TheVariants.{Know, Mend, Cut, Tick, Restart, Socket, SendPort, Receive, Arrive}
 use Rattle.tipc_world.specs.Deeds.{Arrives, Does, Hears, Puts, Sends}
 use Rattle.tipc_world.specs.Members.{by_in, deed_member, known_member, receive_member, refused_member, socket_member, stopped_member, IsRestarted}
 use Rattle.tipc_world.specs.States.{MemberState, history}
-use Rattle.tipc_world.proofs.Histories.{Grew, KeepsStreams, accepted_holds, all_quiet, call_grew, change_quiet, history_longer, history_restarted, history_same, holds_behind, messages_taken, quiet_call, quiet_none, same_streams, taken_holds}
+use Rattle.tipc_world.proofs.Histories.{Grew, KeepsStreams, accepted_holds, all_quiet, call_grew, change_quiet, history_longer, history_restarted, history_same, given_holds, holds_behind, messages_given, quiet_call, quiet_none, same_streams}
 
 -- ---- the steps
 
@@ -65,7 +65,7 @@ stopped_history stamp m m' bearer place why is = history_longer m m' (step_entri
 
 -- a message was put on a link
 abbrev pub puts_step : (stamp : ℕ) (event : EventNote) (peer : ℕ) (message : Message) (m m' : MemberState) (frames : List Outgoing) (answered : Answer) → Puts stamp event peer message m m' frames answered → NodeStep
-puts_step stamp event peer message m m' frames answered h = step_of (by_in stamp m) event (accepted_entry peer h.neighbour.pair message ∷ []) answer.Sent
+puts_step stamp event peer message m m' frames answered h = step_of (by_in stamp m) event (accepted_entry peer h.neighbour.pair.link message ∷ []) answer.Sent
 
 pub puts_history : (stamp : ℕ) (event : EventNote) (peer : ℕ) (message : Message) (m m' : MemberState) (frames : List Outgoing) (answered : Answer) (h : Puts stamp event peer message m m' frames answered)
     → history m' ≡ history m ++ step_entries (puts_step stamp event peer message m m' frames answered h)
@@ -75,8 +75,8 @@ puts_history stamp event peer message m m' frames answered h =
 -- a frame brought a packet to a link
 abbrev pub hears_step : (stamp place : ℕ) (bytes : List ℕ) (m m' : MemberState) (frames : List Outgoing) (answered : Answer) → Hears stamp place bytes m m' frames answered → NodeStep
 hears_step stamp place bytes m m' frames answered h =
-    step_of (by_in stamp m) (note.Arrive 0 (length m.arrivals)) (change_entries h.peer h.met.change ++ taken_entries h.met.outcome h.peer h.met.after (message_of h.packet) (length m.arrivals))
-    (answer.Arrived (heard_answer h.met.outcome (message_of h.packet)))
+    step_of (by_in stamp m) (note.Arrive 0 (length m.arrivals)) (change_entries h.peer h.met.change ++ entries_in (arrival_deliveries h.peer h.met.after h.out))
+    (answer.Arrived (arrival_answer h.out (arrival_deliveries h.peer h.met.after h.out)))
 
 pub hears_history : (stamp place : ℕ) (bytes : List ℕ) (m m' : MemberState) (frames : List Outgoing) (answered : Answer) (h : Hears stamp place bytes m m' frames answered)
     → history m' ≡ history m ++ step_entries (hears_step stamp place bytes m m' frames answered h)
@@ -109,19 +109,19 @@ stopped_streams stamp m m' bearer place why is = quiet_call (history m) (history
 
 -- the message was accepted
 pub puts_grew : (stamp : ℕ) (event : EventNote) (peer : ℕ) (message : Message) (m m' : MemberState) (frames : List Outgoing) (answered : Answer) (h : Puts stamp event peer message m m' frames answered)
-    → Grew (history m) (history m') peer h.neighbour.pair.contact h.neighbour.pair.peer_contact (message ∷ []) []
+    → Grew (history m) (history m') peer h.neighbour.pair.link.contact h.neighbour.pair.link.peer_contact (message ∷ []) []
 puts_grew stamp event peer message m m' frames answered h =
-    call_grew (history m) (history m') (puts_step stamp event peer message m m' frames answered h) peer h.neighbour.pair.contact h.neighbour.pair.peer_contact (message ∷ []) []
-    (puts_history stamp event peer message m m' frames answered h) (accepted_holds peer h.neighbour.pair message)
+    call_grew (history m) (history m') (puts_step stamp event peer message m m' frames answered h) peer h.neighbour.pair.link.contact h.neighbour.pair.link.peer_contact (message ∷ []) []
+    (puts_history stamp event peer message m m' frames answered h) (accepted_holds peer h.neighbour.pair.link message)
 
--- the message of what was taken was delivered, in the contact of after
+-- the messages of what was given were delivered, in the contact of after
 pub hears_grew : (stamp place : ℕ) (bytes : List ℕ) (m m' : MemberState) (frames : List Outgoing) (answered : Answer) (h : Hears stamp place bytes m m' frames answered)
-    → Grew (history m) (history m') h.peer h.met.after.contact h.met.after.peer_contact [] (messages_taken h.met.outcome (message_of h.packet))
+    → Grew (history m) (history m') h.peer h.met.after.contact h.met.after.peer_contact [] (messages_given (opened_in h.out))
 hears_grew stamp place bytes m m' frames answered h =
-    call_grew (history m) (history m') (hears_step stamp place bytes m m' frames answered h) h.peer h.met.after.contact h.met.after.peer_contact [] (messages_taken h.met.outcome (message_of h.packet))
+    call_grew (history m) (history m') (hears_step stamp place bytes m m' frames answered h) h.peer h.met.after.contact h.met.after.peer_contact [] (messages_given (opened_in h.out))
     (hears_history stamp place bytes m m' frames answered h)
-    (holds_behind (change_entries h.peer h.met.change) (taken_entries h.met.outcome h.peer h.met.after (message_of h.packet) (length m.arrivals)) h.peer h.met.after.contact h.met.after.peer_contact [] (messages_taken h.met.outcome (message_of h.packet))
-    (change_quiet h.peer h.met.change) (taken_holds h.met.outcome h.peer h.met.after (message_of h.packet) (length m.arrivals)))
+    (holds_behind (change_entries h.peer h.met.change) (entries_in (arrival_deliveries h.peer h.met.after h.out)) h.peer h.met.after.contact h.met.after.peer_contact [] (messages_given (opened_in h.out))
+    (change_quiet h.peer h.met.change) (given_holds (opened_in h.out) h.peer h.met.after))
 
 -- ---- a history only grows
 
@@ -132,9 +132,9 @@ grows_none : (old new : List Entry) → new ≡ old → IsPrefixOf old new
 grows_none old new is = ([], is ∙ sym (append-nil old))
 
 sends_grow : (stamp port peer : ℕ) (to : PortId) (importance : Importance) (body : List ℕ) (m m' : MemberState) (frames : List Outgoing) (answered : Answer) → Sends stamp port peer to importance body m m' frames answered → IsPrefixOf (history m) (history m')
-sends_grow stamp port peer to importance body m m' frames answered h = case (refusal m.node port peer (limit_of importance)) refl
+sends_grow stamp port peer to importance body m m' frames answered h = case (refusal m.node port peer (limit_of importance) body) refl
   where
-    case : (r : Option Answer) → refusal m.node port peer (limit_of importance) ≡ r → IsPrefixOf (history m) (history m')
+    case : (r : Option Answer) → refusal m.node port peer (limit_of importance) body ≡ r → IsPrefixOf (history m) (history m')
     case None free = grows_by (history m) (history m') _ (puts_history stamp (note.SendPort port to importance body) peer (direct m.node.own port to importance body) m m' frames answered (h.sent free))
     case (Some why) stops = grows_by (history m) (history m') _ (refused_history stamp m m' port to importance body why (h.refused why stops).0)
 

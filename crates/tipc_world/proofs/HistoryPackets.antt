@@ -1,5 +1,5 @@
 -- What an event adds to the packets that were put on the links of its node and taken from them.
-use Rattle.std.proofs.Common.{◌≡◌, ◌≢◌, ◌⊎◌, ◌==◌, ◌&&◌, ℕ, Bool, true, false, if◌then◌else◌, List, [], ◌∷◌, ◌++◌, Option, Some, None, inl, inr, map, slice_get, refl, sym, ap, subst, ◌∙◌, append-nil, eq-eqb, arith}
+use Rattle.std.proofs.Common.{◌≡◌, ◌≢◌, ◌⊎◌, ◌==◌, ◌&&◌, ℕ, suc, Bool, true, false, if◌then◌else◌, List, [], ◌∷◌, ◌++◌, Option, Some, None, inl, inr, map, slice_get, refl, sym, ap, subst, ◌∙◌, append-nil, eq-eqb, arith}
 use Rattle.std.specs.Prelude.{option_map}
 use Rattle.std.proofs.Math.Path.{fun_ext}
 use Rattle.std.proofs.lemmas.Bool.Decides.{nat_tests}
@@ -13,15 +13,21 @@ use Rattle.tipc_types.specs.declared.node_calls.EventNote.{EventNote}
 use Rattle.tipc_outside.specs.declared.outgoing.Outgoing.{Outgoing}
 use Rattle.tipc_journal.specs.declared.entries.Entry.{Entry}
 use Rattle.tipc_journal.specs.Streams.{accepted, delivered, flow_eq}
-use Rattle.tipc_header.specs.Frames.{unsent}
-use Rattle.tipc_header.specs.Spelling.{Fields, spelling}
+use Rattle.std.specs.Prelude.{All}
+use Rattle.std.proofs.lemmas.List.Elements.{All-head, All-tail}
+use Rattle.tipc_header.specs.Reading.{fields_at}
+use Rattle.tipc_header.specs.Spelling.{spelling}
+use Rattle.tipc_header.proofs.Again.{again}
 use Rattle.tipc_message.specs.Wire.{message_of}
-use Rattle.tipc_link.specs.declared.outcomes.LinkOutcome.{LinkOutcome}
-use Rattle.tipc_link.specs.declared.outcomes.LinkOutcome.TheVariants.{Took, Ignored}
+use Rattle.tipc_message.proofs.WireLaws.{message_of-packet_of}
+use Rattle.tipc_reassembly.specs.declared.opening.Opened.{Opened}
+use Rattle.tipc_reassembly.specs.declared.opening.Opened.TheVariants.{Whole, Passed}
+use Rattle.tipc_reassembly.specs.Slots.{IsWholePacket, packets_in}
+use Rattle.tipc_node.specs.Nodes.{message_in}
 use Rattle.tipc_link.specs.Links.{LinkEnd}
-use Rattle.tipc_link.proofs.LinkLaw.{Each, Each-none, Each-one}
-use Rattle.tipc_pair.specs.Paired.{IsBrought}
-use Rattle.tipc_pair.specs.Pairs.{Met, packets_of}
+use Rattle.tipc_link.proofs.LinkLaw.{Each, Each-append, Each-none, Each-one}
+use Rattle.tipc_pair.specs.Pairs.{Met}
+use Rattle.tipc_pair.specs.Partners.{IsInContact, opened_in}
 use Rattle.tipc_pair.specs.Views.{View, come, own_of, seen_of}
 use Rattle.tipc_world.specs.declared.air.Sent.{Sent}
 use Rattle.tipc_world.specs.Deeds.{Hears, Puts}
@@ -29,8 +35,9 @@ use Rattle.tipc_world.specs.Members.{bytes_of}
 use Rattle.tipc_world.specs.Sound.{IsSendable}
 use Rattle.tipc_world.specs.States.{MemberState, history, link_at, stream_of}
 use Rattle.tipc_world.specs.Views.{put_in, took_in, view_at}
-use Rattle.tipc_world.proofs.Messages.{message_is}
-use Rattle.tipc_world.proofs.Histories.{Grew, KeepsStreams, come_none, come_to, keeps_grew, messages_taken}
+use Rattle.std.specs.Prelude.{option_to_list}
+use Rattle.tipc_world.proofs.Messages.{bytes_are}
+use Rattle.tipc_world.proofs.Histories.{Grew, KeepsStreams, come_none, come_to, keeps_grew, messages_given}
 use Rattle.tipc_world.proofs.HistoryEvents.{hears_grew, puts_grew}
 
 -- ---- the contact that a view shows
@@ -109,47 +116,65 @@ packets_kept old new peer x k = packets_grew old new peer (own_of x) (seen_of x)
 -- ---- a message is put
 
 pub puts_packets : (stamp : ℕ) (event : EventNote) (peer : ℕ) (message : Message) (m m' : MemberState) (frames : List Outgoing) (answered : Answer) (h : Puts stamp event peer message m m' frames answered) (x : View)
-    → own_of x ≡ h.neighbour.pair.contact → seen_of x ≡ h.neighbour.pair.peer_contact → PacketsGrew (history m) (history m') peer x (bytes_of message ∷ []) []
+    → own_of x ≡ h.neighbour.pair.link.contact → seen_of x ≡ h.neighbour.pair.link.peer_contact → PacketsGrew (history m) (history m') peer x (bytes_of message ∷ []) []
 puts_packets stamp event peer message m m' frames answered h x own_is seen_is =
-    packets_grew (history m) (history m') peer h.neighbour.pair.contact h.neighbour.pair.peer_contact (message ∷ []) [] x (puts_grew stamp event peer message m m' frames answered h) own_is seen_is
+    packets_grew (history m) (history m') peer h.neighbour.pair.link.contact h.neighbour.pair.link.peer_contact (message ∷ []) [] x (puts_grew stamp event peer message m m' frames answered h) own_is seen_is
 
--- ---- a packet is taken
+-- ---- packets are given
 
 -- a packet is that of a message which can be sent
-pub record IsOfMessage (p : Fields) : Type 0 where
-  pub message : Message
-  pub sendable : IsSendable message
-  pub bytes : bytes_of message ≡ spelling (unsent p)
+abbrev pub IsOfMessage : List ℕ → Type 0
+IsOfMessage packet = (m : Message) × IsSendable m × (bytes_of m ≡ packet)
 
 -- each packet that was put is
-pub put_message : (ms : List Message) (k : ℕ) (p : Fields) → Each IsSendable ms → slice_get (map bytes_of ms) k ≡ Some (spelling (unsent p)) → IsOfMessage p
-put_message ms k p h there = case (slice_get ms k) refl
+pub put_message : (ms : List Message) (k : ℕ) (packet : List ℕ) → Each IsSendable ms → slice_get (map bytes_of ms) k ≡ Some packet → IsOfMessage packet
+put_message ms k packet h there = case (slice_get ms k) refl
   where
-    case : (o : Option Message) → slice_get ms k ≡ o → IsOfMessage p
-    case None none = let is : option_map bytes_of None ≡ Some (spelling (unsent p)) = ap (option_map bytes_of) (sym none) ∙ sym (slice_get-map bytes_of ms k) ∙ there in absurd cc
-    case (Some m) some = let is : Some (bytes_of m) ≡ Some (spelling (unsent p)) = ap (option_map bytes_of) (sym some) ∙ sym (slice_get-map bytes_of ms k) ∙ there in
-        record { message = m; sendable = h k m some; bytes = cc }
+    case : (o : Option Message) → slice_get ms k ≡ o → IsOfMessage packet
+    case None none = let is : option_map bytes_of None ≡ Some packet = ap (option_map bytes_of) (sym none) ∙ sym (slice_get-map bytes_of ms k) ∙ there in absurd cc
+    case (Some m) some = let is : Some (bytes_of m) ≡ Some packet = ap (option_map bytes_of) (sym some) ∙ sym (slice_get-map bytes_of ms k) ∙ there in
+        (m, h k m some, cc)
 
--- an arrival brought nothing, or the packet of a message in the contact of before
-abbrev pub Brings : LinkEnd → Fields → Met → Type 0
-Brings e p met = (packets_of met.outcome ≡ []) ⊎ (IsBrought e p met × IsOfMessage p)
+-- an arrival gave nothing, or whole packets of messages in the contact of before
+pub record Brings (e : LinkEnd) (met : Met) (opened : List Opened) : Type 0 where
+  pub whole : All IsWholePacket opened
+  pub known : Each IsOfMessage (packets_in opened)
+  pub contact : (opened ≡ []) ⊎ IsInContact e met
 
 -- The messages that an arrival delivered in the contact of before, and their packets.
-pub record Delivers (old new : List Entry) (peer : ℕ) (e : LinkEnd) (met : Met) : Type 0 where
+pub record Delivers (old new : List Entry) (peer : ℕ) (e : LinkEnd) (opened : List Opened) : Type 0 where
   pub messages : List Message
   pub grew : Grew old new peer e.contact e.peer_contact [] messages
   pub sendable : Each IsSendable messages
-  pub packets : map bytes_of messages ≡ packets_of met.outcome
+  pub packets : map bytes_of messages ≡ packets_in opened
 
-none_taken : (outcome : LinkOutcome) (m : Option Message) → packets_of outcome ≡ [] → messages_taken outcome m ≡ []
-none_taken (Took []) m none = refl
-none_taken (Took (packet ∷ packets)) m none = absurd cc
-none_taken (Ignored why) m none = refl
+-- the messages of whole packets
+record AreGiven (opened : List Opened) : Type 0 where
+  messages : List Message
+  are : messages_given opened ≡ messages
+  sendable : Each IsSendable messages
+  packets : map bytes_of messages ≡ packets_in opened
 
-one_taken : (outcome : LinkOutcome) (m : Message) (packet : List ℕ) → packets_of outcome ≡ packet ∷ [] → messages_taken outcome (Some m) ≡ m ∷ []
-one_taken (Took []) m packet one = absurd cc
-one_taken (Took (taken ∷ more)) m packet one = refl
-one_taken (Ignored why) m packet one = absurd cc
+pub message_is_in : (m : Message) (packet : List ℕ) → IsSendable m → bytes_of m ≡ packet → message_in packet ≡ Some m
+message_is_in m packet h is =
+    let bytes : packet ≡ spelling h.packet = sym is ∙ bytes_are m h.packet h.packet_is in
+    ap (λ (b : List ℕ). message_of (fields_at b)) bytes ∙ ap message_of (again h.packet h.fits) ∙ message_of-packet_of m h.packet h.payload h.packet_is
+
+one_more : (m : Message) (ms : List Message) → IsSendable m → Each IsSendable ms → Each IsSendable (m ∷ ms)
+one_more m ms h hs = Each-append IsSendable (m ∷ []) ms (Each-one IsSendable m h) hs
+
+given_messages : (opened : List Opened) → All IsWholePacket opened → Each IsOfMessage (packets_in opened) → AreGiven opened
+given_messages [] whole known = record { messages = []; are = refl; sendable = Each-none IsSendable; packets = refl }
+given_messages (Whole packet by ∷ os) whole known =
+    let first = known 0 packet refl in
+    let rest = given_messages os (All-tail IsWholePacket (Whole packet by) os whole) (λ k p is. known (suc k) p is) in
+    record {
+      messages = first.0 ∷ rest.messages;
+      are = ap (λ o. option_to_list o ++ messages_given os) (message_is_in first.0 packet first.1 first.2) ∙ ap (λ ms. first.0 ∷ ms) rest.are;
+      sendable = one_more first.0 rest.messages first.1 rest.sendable;
+      packets = ap (λ ps. bytes_of first.0 ∷ ps) rest.packets ∙ ap (λ p. p ∷ packets_in os) first.2;
+    }
+given_messages (Passed place ∷ os) whole known = absurd (All-head IsWholePacket (Passed place) os whole)
 
 -- by no messages a history grew in each contact
 grew_anywhere : (old new : List Entry) (peer own theirs own' theirs' : ℕ) → Grew old new peer own theirs [] [] → Grew old new peer own' theirs' [] []
@@ -158,39 +183,30 @@ grew_anywhere old new peer own theirs own' theirs' g = record {
   delivered_is = λ b c d flow. g.delivered_is b c d flow ∙ ap (λ ms. delivered old (stream_of b c d flow) ++ ms) (come_none peer own theirs b c d flow ∙ sym (come_none peer own' theirs' b c d flow));
 }
 
-delivers_none : (old new : List Entry) (peer : ℕ) (e : LinkEnd) (p : Fields) (met : Met) → Grew old new peer met.after.contact met.after.peer_contact [] (messages_taken met.outcome (message_of p))
-    → packets_of met.outcome ≡ [] → Delivers old new peer e met
-delivers_none old new peer e p met g none =
-    let nothing = none_taken met.outcome (message_of p) none in
-    let here = subst (λ ms. Grew old new peer met.after.contact met.after.peer_contact [] ms) nothing g in
-    record { messages = []; grew = grew_anywhere old new peer met.after.contact met.after.peer_contact e.contact e.peer_contact here; sendable = Each-none IsSendable; packets = sym none }
-
-delivers_one : (old new : List Entry) (peer : ℕ) (e : LinkEnd) (p : Fields) (met : Met) → Grew old new peer met.after.contact met.after.peer_contact [] (messages_taken met.outcome (message_of p))
-    → IsBrought e p met → (message : Message) → IsSendable message → bytes_of message ≡ spelling (unsent p) → message_of p ≡ Some message → Delivers old new peer e met
-delivers_one old new peer e p met g brought message sendable bytes is =
-    let one : messages_taken met.outcome (message_of p) ≡ message ∷ [] = ap (messages_taken met.outcome) is ∙ one_taken met.outcome message (spelling (unsent p)) brought.packet in
-    let after = subst (λ ms. Grew old new peer met.after.contact met.after.peer_contact [] ms) one g in
-    let own = subst (λ n. Grew old new peer n met.after.peer_contact [] (message ∷ [])) brought.contact after in
-    record {
-      messages = message ∷ [];
-      grew = subst (λ n. Grew old new peer e.contact n [] (message ∷ [])) brought.seen own;
-      sendable = Each-one IsSendable message sendable;
-      packets = ap (λ bs. bs ∷ []) bytes ∙ sym brought.packet;
-    }
+grew_before : (old new : List Entry) (peer : ℕ) (e : LinkEnd) (met : Met) (opened : List Opened) → (opened ≡ []) ⊎ IsInContact e met → Grew old new peer met.after.contact met.after.peer_contact [] (messages_given opened)
+    → Grew old new peer e.contact e.peer_contact [] (messages_given opened)
+grew_before old new peer e met opened (inl none) g =
+    let nothing = subst (λ os. Grew old new peer met.after.contact met.after.peer_contact [] (messages_given os)) none g in
+    subst (λ os. Grew old new peer e.contact e.peer_contact [] (messages_given os)) (sym none) (grew_anywhere old new peer met.after.contact met.after.peer_contact e.contact e.peer_contact nothing)
+grew_before old new peer e met opened (inr same) g =
+    subst (λ n. Grew old new peer e.contact n [] (messages_given opened)) same.seen (subst (λ n. Grew old new peer n met.after.peer_contact [] (messages_given opened)) same.contact g)
 
 pub hears_delivers : (stamp place : ℕ) (bytes : List ℕ) (m m' : MemberState) (frames : List Outgoing) (answered : Answer) (h : Hears stamp place bytes m m' frames answered)
-    → Brings h.neighbour.pair h.packet h.met → Delivers (history m) (history m') h.peer h.neighbour.pair h.met
-hears_delivers stamp place bytes m m' frames answered h (inl none) =
-    delivers_none (history m) (history m') h.peer h.neighbour.pair h.packet h.met (hears_grew stamp place bytes m m' frames answered h) none
-hears_delivers stamp place bytes m m' frames answered h (inr some) =
-    let put = some.1 in
-    delivers_one (history m) (history m') h.peer h.neighbour.pair h.packet h.met (hears_grew stamp place bytes m m' frames answered h) some.0 put.message put.sendable put.bytes
-    (message_is h.packet put.message h.due.fits put.sendable put.bytes)
+    → Brings h.neighbour.pair.link h.met (opened_in h.out) → Delivers (history m) (history m') h.peer h.neighbour.pair.link (opened_in h.out)
+hears_delivers stamp place bytes m m' frames answered h brings =
+    let given = given_messages (opened_in h.out) brings.whole brings.known in
+    let grew = grew_before (history m) (history m') h.peer h.neighbour.pair.link h.met (opened_in h.out) brings.contact (hears_grew stamp place bytes m m' frames answered h) in
+    record {
+      messages = given.messages;
+      grew = subst (λ ms. Grew (history m) (history m') h.peer h.neighbour.pair.link.contact h.neighbour.pair.link.peer_contact [] ms) given.are grew;
+      sendable = given.sendable;
+      packets = given.packets;
+    }
 
 pub hears_packets : (stamp place : ℕ) (bytes : List ℕ) (m m' : MemberState) (frames : List Outgoing) (answered : Answer) (h : Hears stamp place bytes m m' frames answered) (x : View)
-    → own_of x ≡ h.neighbour.pair.contact → seen_of x ≡ h.neighbour.pair.peer_contact → Brings h.neighbour.pair h.packet h.met
-    → PacketsGrew (history m) (history m') h.peer x [] (packets_of h.met.outcome)
+    → own_of x ≡ h.neighbour.pair.link.contact → seen_of x ≡ h.neighbour.pair.link.peer_contact → Brings h.neighbour.pair.link h.met (opened_in h.out)
+    → PacketsGrew (history m) (history m') h.peer x [] (packets_in (opened_in h.out))
 hears_packets stamp place bytes m m' frames answered h x own_is seen_is brings =
     let d = hears_delivers stamp place bytes m m' frames answered h brings in
     subst (λ ps. PacketsGrew (history m) (history m') h.peer x [] ps) d.packets
-    (packets_grew (history m) (history m') h.peer h.neighbour.pair.contact h.neighbour.pair.peer_contact [] d.messages x d.grew own_is seen_is)
+    (packets_grew (history m) (history m') h.peer h.neighbour.pair.link.contact h.neighbour.pair.link.peer_contact [] d.messages x d.grew own_is seen_is)

@@ -27,7 +27,7 @@ use Rattle.tipc_world.specs.declared.air.Sent.{Sent}
 use Rattle.tipc_world.specs.Causes.{tick_of, BringsUp, HasTicked, IsTakenFrom, Seen}
 use Rattle.tipc_world.specs.Lawful.{IsLawful, IsLawfulEntry}
 use Rattle.tipc_world.specs.States.{MemberState, link_in}
-use Rattle.tipc_world.specs.Watched.{addr_of, epochs_of, silence_in, silence_of, IsAbreast, Mirrors, IsWatched}
+use Rattle.tipc_world.specs.Watched.{addr_of, epochs_of, silence_in, silence_of, AreTraced, IsAbreast, Mirrors, IsWatched}
 use Rattle.tipc_world.proofs.Moves.{IsDoneBy, done_moves}
 use Rattle.tipc_world.proofs.Shares.{after_at}
 use Rattle.tipc_world.proofs.Stepping.{Arrives, Widens, lawful_more, lawful_wider, one_more, ticked_more, told_wider}
@@ -55,10 +55,11 @@ kept_of air m w = record {
   told = w.told;
 }
 
-pub watched_of : (air : List Sent) (m : MemberState) → IsKept (seen_by air m) m.past m.node.journal (link_in m.node) → IsWatched air m
-watched_of air m h = record {
+pub watched_of : (air : List Sent) (m : MemberState) → IsKept (seen_by air m) m.past m.node.journal (link_in m.node) → AreTraced (seen_by air m) m.node.neighbours → IsWatched air m
+watched_of air m h traced = record {
   lawful = λ k j there. one_more m.past m.node.journal j k (IsLawful (seen_by air m) j) there (λ old below. h.past_lawful k j old) (λ at same. subst (IsLawful (seen_by air m)) same h.lawful);
   told = h.told;
+  traced = traced;
 }
 
 -- the air and the arrivals grow
@@ -158,7 +159,7 @@ never_up d e q (Ended because shown numbers number) h (suc zero) x there = let s
 never_up d e q (Ended because shown numbers number) h (suc (suc k)) x there = absurd cc
 
 abbrev pub links_of : List (Option Neighbour) → ℕ → Option LinkEnd
-links_of xs p = option_map (λ (x : Neighbour). x.pair) (slice_index_or xs p None)
+links_of xs p = option_map (λ (x : Neighbour). x.pair.link) (slice_index_or xs p None)
 
 -- the cause of what happens
 done_reason : (seen : Seen) (journal : List Entry) (s : NodeStep) (d : Deed) (q : ℕ) (e : LinkEnd) (c : PairChange) → s.event ≡ deed_note d → HasTicked seen (steps journal) (addr_of q) (silence_of e) → IsDoneBy d e c
@@ -176,17 +177,17 @@ abbrev deed_step : By → Deed → List (Option Neighbour) → NodeStep
 deed_step by d xs = step_of by (deed_note d) (entries_all d 0 xs) answer.Done
 
 deed_told : (seen : Seen) (past : List (List Entry)) (journal : List Entry) (by : By) (d : Deed) (xs : List (Option Neighbour)) → IsKept seen past journal (links_of xs) → (p : ℕ) (o : Option Neighbour) → slice_index_or xs p None ≡ o
-    → Mirrors seen (journal ++ step_entries (deed_step by d xs)) p (option_map (λ (x : Neighbour). x.pair) (after_one d o))
+    → Mirrors seen (journal ++ step_entries (deed_step by d xs)) p (option_map (λ (x : Neighbour). x.pair.link) (after_one d o))
 deed_told seen past journal by d xs h p None is =
-    let t = subst (λ o. Mirrors seen journal p (option_map (λ (x : Neighbour). x.pair) o)) is (h.told p) in
+    let t = subst (λ o. Mirrors seen journal p (option_map (λ (x : Neighbour). x.pair.link) o)) is (h.told p) in
     told_step seen journal (deed_step by d xs) p None None h.lawful.whole (all_inner d 0 xs) t
     (all_told p (contact_after (addr_of p)) contact_by d None xs (contact_goes p) ∙ ap (one_by contact_by d None) is) (all_told p (epochs_after (addr_of p) 0) epochs_by d None xs (epochs_go p) ∙ ap (one_by epochs_by d None) is)
     (λ heard. refl) (omega arith) (λ e none. absurd cc)
 deed_told seen past journal by d xs h p (Some x) is =
-    let t = subst (λ o. Mirrors seen journal p (option_map (λ (y : Neighbour). y.pair) o)) is (h.told p) in
-    let moves = done_moves d x (t.abreast x.pair refl) in
-    let e = x.pair in
-    let e' = (done d x).after.pair in
+    let t = subst (λ o. Mirrors seen journal p (option_map (λ (y : Neighbour). y.pair.link) o)) is (h.told p) in
+    let moves = done_moves d x (t.abreast x.pair.link refl) in
+    let e = x.pair.link in
+    let e' = (done d x).after.pair.link in
     told_step seen journal (deed_step by d xs) p (Some e) (Some e') h.lawful.whole (all_inner d 0 xs) t
     (all_told p (contact_after (addr_of p)) contact_by d (contact_of e) xs (contact_goes p) ∙ ap (one_by contact_by d (contact_of e)) is ∙ told_contact e e' (done d x).change moves.0.tells)
     (all_told p (epochs_after (addr_of p) 0) epochs_by d (epochs_of e) xs (epochs_go p) ∙ ap (one_by epochs_by d (epochs_of e)) is ∙ told_epochs e e' (done d x).change moves.0.tells)
@@ -196,11 +197,11 @@ deed_told seen past journal by d xs h p (Some x) is =
     some_end same = cc
 
     no_ups : Each IsNoUp (entries_all d 0 xs)
-    no_ups = all_lawful IsNoUp d 0 xs (λ k y at. never_up d y.pair (0 + k) (done d y).change (done_moves d y ((subst (λ o. Mirrors seen journal k (option_map (λ (z : Neighbour). z.pair) o)) at (h.told k)).abreast y.pair refl)).1)
+    no_ups = all_lawful IsNoUp d 0 xs (λ k y at. never_up d y.pair.link (0 + k) (done d y).change (done_moves d y ((subst (λ o. Mirrors seen journal k (option_map (λ (z : Neighbour). z.pair.link) o)) at (h.told k)).abreast y.pair.link refl)).1)
 
-    nothing : BringsUp (deed_step by d xs) (addr_of p) ⊎ IsTakenFrom seen (deed_step by d xs) (addr_of p) → silence_in (Some (done d x).after.pair) ≡ 0
+    nothing : BringsUp (deed_step by d xs) (addr_of p) ⊎ IsTakenFrom seen (deed_step by d xs) (addr_of p) → silence_in (Some (done d x).after.pair.link) ≡ 0
     nothing (inl up) = absurd (no_ups up.place (entry.LinkUp (addr_of p) 0 up.own up.theirs) up.entry_is)
-    nothing (inr taken) = absurd (let is_ = taken.took in cc)
+    nothing (inr taken) = absurd (let is_ = taken.answer_is in cc)
 
 pub deed_kept : (seen : Seen) (past : List (List Entry)) (journal : List Entry) (by : By) (d : Deed) (xs : List (Option Neighbour)) → IsKept seen past journal (links_of xs)
     → IsKept seen past (journal ++ step_entries (deed_step by d xs)) (links_of (after_all d xs))
@@ -208,14 +209,14 @@ deed_kept seen past journal by d xs h =
     let s = deed_step by d xs in
     let placed : PlacedStep = record { before = journal; step = s } in
     let told : (p : ℕ) → Mirrors seen (journal ++ step_entries s) p (links_of (after_all d xs) p) = λ p.
-    subst (λ o. Mirrors seen (journal ++ step_entries s) p (option_map (λ (x : Neighbour). x.pair) o)) (sym (after_at d xs p)) (deed_told seen past journal by d xs h p (slice_index_or xs p None) refl) in
+    subst (λ o. Mirrors seen (journal ++ step_entries s) p (option_map (λ (x : Neighbour). x.pair.link) o)) (sym (after_at d xs p)) (deed_told seen past journal by d xs h p (slice_index_or xs p None) refl) in
     kept_step seen past journal (links_of xs) (links_of (after_all d xs)) s h (all_inner d 0 xs) (λ bearer number is. absurd (no_arrival d bearer number is)) told
     (all_lawful (IsLawfulEntry seen (steps journal) placed) d 0 xs (λ k x is.
-    let t = subst (λ o. Mirrors seen journal k (option_map (λ (y : Neighbour). y.pair) o)) is (h.told k) in
-    let moves = done_moves d x (t.abreast x.pair refl) in
+    let t = subst (λ o. Mirrors seen journal k (option_map (λ (y : Neighbour). y.pair.link) o)) is (h.told k) in
+    let moves = done_moves d x (t.abreast x.pair.link refl) in
     subst (λ n. Each (IsLawfulEntry seen (steps journal) placed) (change_entries n (done d x).change)) (omega arith)
-    (change_lawful seen (steps journal) placed k x.pair (done d x).after.pair (done d x).change t.contact_is t.epochs_are (deed_told seen past journal by d xs h k (Some x) is).epochs_are moves.0.tells
-    (done_reason seen journal s d k x.pair (done d x).change refl t.ticked moves.1))))
+    (change_lawful seen (steps journal) placed k x.pair.link (done d x).after.pair.link (done d x).change t.contact_is t.epochs_are (deed_told seen past journal by d xs h k (Some x) is).epochs_are moves.0.tells
+    (done_reason seen journal s d k x.pair.link (done d x).change refl t.ticked moves.1))))
   where
     no_arrival : (d : Deed) (bearer number : ℕ) → deed_note d ≡ event.Arrive bearer number → ⊥
     no_arrival deed.Mend bearer number is = cc

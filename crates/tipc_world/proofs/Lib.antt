@@ -22,6 +22,7 @@ pub mod Within
 pub mod Stepping
 pub mod Telling
 pub mod Kept
+pub mod Traced
 pub mod KeptLinks
 pub mod Entered
 pub mod Promise

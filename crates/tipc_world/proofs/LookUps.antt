@@ -7,7 +7,8 @@ use Rattle.std.proofs.lemmas.List.{get_or_past}
 use Rattle.indexmap.specs.IndexMap.{insert_entry}
 use Rattle.tipc_link.specs.Sessions.{SessionEnd}
 use Rattle.tipc_world.specs.Members.{noted_session}
-use Rattle.tipc_world.specs.States.{MemberState, boot_at, count_at, count_in, history, history_at, link_at, link_in, member_at, same_session}
+use Rattle.tipc_fragments.specs.Joining.{fresh}
+use Rattle.tipc_world.specs.States.{MemberState, begun_at, begun_in, boot_at, count_at, count_in, history, history_at, link_at, link_in, member_at, same_session}
 
 -- ---- a table of which one place was written
 
@@ -42,6 +43,10 @@ pub link_at-is : (members : List (Option MemberState)) (a b : ℕ) (m : MemberSt
 unfolding link_at
 link_at-is members a b m is = ap (λ o. option_and_then (λ (n : MemberState). link_in n.node b) o) is
 
+pub begun_at-is : (members : List (Option MemberState)) (a b : ℕ) (m : MemberState) → member_at members a ≡ Some m → begun_at members a b ≡ begun_in m.node b
+unfolding begun_at
+begun_at-is members a b m is = ap (λ o. unwrap_or (option_map (λ (n : MemberState). begun_in n.node b) o) fresh) is
+
 pub history_at-is : (members : List (Option MemberState)) (a : ℕ) (m : MemberState) → member_at members a ≡ Some m → history_at members a ≡ history m
 unfolding history_at
 history_at-is members a m is = ap (λ o. unwrap_or (option_map history o) []) is
@@ -57,6 +62,10 @@ boot_at-same members members' a is = ap (λ o. unwrap_or (option_map (λ (n : Me
 pub link_at-same : (members members' : List (Option MemberState)) (a b : ℕ) → member_at members' a ≡ member_at members a → link_at members' a b ≡ link_at members a b
 unfolding link_at
 link_at-same members members' a b is = ap (λ o. option_and_then (λ (n : MemberState). link_in n.node b) o) is
+
+pub begun_at-same : (members members' : List (Option MemberState)) (a b : ℕ) → member_at members' a ≡ member_at members a → begun_at members' a b ≡ begun_at members a b
+unfolding begun_at
+begun_at-same members members' a b is = ap (λ o. unwrap_or (option_map (λ (n : MemberState). begun_in n.node b) o) fresh) is
 
 pub history_at-same : (members members' : List (Option MemberState)) (a : ℕ) → member_at members' a ≡ member_at members a → history_at members' a ≡ history_at members a
 unfolding history_at

@@ -158,7 +158,7 @@ IsDoneBy deed.Mend e change = change ≡ Stay
 IsDoneBy deed.Cut e change = IsCutOff change
 IsDoneBy deed.Tick e change = IsSilenced e change
 
-pub done_moves : (d : Deed) (x : Neighbour) → IsAbreast x.pair → IsMove x.pair (done d x).after.pair (done d x).change (tick_of (deed_note d)) × IsDoneBy d x.pair (done d x).change
+pub done_moves : (d : Deed) (x : Neighbour) → IsAbreast x.pair.link → IsMove x.pair.link (done d x).after.pair.link (done d x).change (tick_of (deed_note d)) × IsDoneBy d x.pair.link (done d x).change
 done_moves deed.Mend x abreast = (record { tells = (refl, refl); silence = omega arith; abreast = record { peer_is = abreast.peer_is } }, refl)
-done_moves deed.Cut x abreast = cut_moves x.pair abreast
-done_moves deed.Tick x abreast = tick_moves x.pair abreast
+done_moves deed.Cut x abreast = cut_moves x.pair.link abreast
+done_moves deed.Tick x abreast = tick_moves x.pair.link abreast

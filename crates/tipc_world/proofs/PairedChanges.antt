@@ -3,19 +3,21 @@ use Rattle.std.proofs.Common.{◌≡◌, ◌≢◌, ℕ, Bool, List, [], Some, N
 use Rattle.std.proofs.lemmas.Bool.{cases_eq}
 use Rattle.tipc_types.specs.Address.{node_word}
 use Rattle.tipc_outside.specs.declared.outgoing.Outgoing.{Outgoing}
-use Rattle.tipc_pair.specs.Paired.{ArePaired}
+use Rattle.std.specs.Prelude.{unwrap_or}
+use Rattle.tipc_fragments.specs.Joining.{fresh}
+use Rattle.tipc_pair.specs.Partners.{ArePartners}
 use Rattle.tipc_pair.specs.Views.{Goes}
 use Rattle.tipc_node.specs.declared.neighbours.Neighbour.{Neighbour}
 use Rattle.tipc_node.specs.Nodes.{neighbour_of}
 use Rattle.tipc_world.specs.Members.{noted_link, noted_session}
 use Rattle.tipc_world.specs.Sound.{IsNumber}
-use Rattle.tipc_world.specs.States.{MemberState, count_in, link_in}
+use Rattle.tipc_world.specs.States.{MemberState, begun_in, count_in, link_in}
 use Rattle.tipc_world.specs.Steps.{Stage, Turns}
 use Rattle.tipc_world.proofs.Addressing.{AreFor}
 use Rattle.tipc_world.proofs.Emissions.{frames_to}
 use Rattle.tipc_world.proofs.LookUps.{count_in-epoch, count_in-noted, count_in-peer, place_within}
 use Rattle.tipc_world.proofs.Shares.{frames_to-other, frames_to-own}
-use Rattle.tipc_world.proofs.Turning.{AllPaired, IsChanged, IsIdle, Records, all_paired, goes, idle_pair, view_in}
+use Rattle.tipc_world.proofs.Turning.{AllPaired, IsChanged, IsIdle, PartnersIn, Records, all_paired, begun_now, begun_of, begun_was, goes, idle_pair, view_in}
 
 -- ---- no neighbour
 
@@ -29,7 +31,8 @@ pub record IsQuiet (before after : MemberState) (frames : List Outgoing) : Type 
 pub quiet_idle : (before after : MemberState) (frames : List Outgoing) (b : ℕ) → IsQuiet before after frames → IsIdle before after frames b
 quiet_idle before after frames b q = record {
   boot = q.boot;
-  link = ap (λ xs. option_map (λ (y : Neighbour). y.pair) (slice_index_or xs b None)) q.neighbours;
+  link = ap (λ xs. option_map (λ (y : Neighbour). y.pair.link) (slice_index_or xs b None)) q.neighbours;
+  begun = ap (λ xs. unwrap_or (option_map (λ (y : Neighbour). y.pair.begun) (slice_index_or xs b None)) fresh) q.neighbours;
   frames_are = ap (frames_to b) q.none;
   numbered = λ epoch. ap (λ cs. count_in cs b epoch) q.counts;
 }
@@ -49,38 +52,46 @@ pub record IsOne (before after : MemberState) (frames : List Outgoing) (peer : �
   pub counts : after.counts ≡ noted_link before.counts peer (link_in after.node peer)
   pub all_for : AreFor (node_word peer) frames
 
-one_link : (before after : MemberState) (frames : List Outgoing) (peer : ℕ) (x y : Neighbour) → IsOne before after frames peer x y → link_in after.node peer ≡ Some y.pair
+one_link : (before after : MemberState) (frames : List Outgoing) (peer : ℕ) (x y : Neighbour) → IsOne before after frames peer x y → link_in after.node peer ≡ Some y.pair.link
 one_link before after frames peer x y o =
-    ap (λ xs. option_map (λ (z : Neighbour). z.pair) (slice_index_or xs peer None)) o.neighbours
-    ∙ ap (λ z. option_map (λ (z : Neighbour). z.pair) z) (get_or-set_same before.node.neighbours peer (Some y) None (place_within before.node.neighbours peer x o.was))
+    ap (λ xs. option_map (λ (z : Neighbour). z.pair.link) (slice_index_or xs peer None)) o.neighbours
+    ∙ ap (λ z. option_map (λ (z : Neighbour). z.pair.link) z) (get_or-set_same before.node.neighbours peer (Some y) None (place_within before.node.neighbours peer x o.was))
 
-one_counts : (before after : MemberState) (frames : List Outgoing) (peer : ℕ) (x y : Neighbour) → IsOne before after frames peer x y → after.counts ≡ noted_session before.counts peer y.pair.session
+pub one_begun : (before after : MemberState) (frames : List Outgoing) (peer : ℕ) (x y : Neighbour) → IsOne before after frames peer x y → begun_in after.node peer ≡ y.pair.begun
+one_begun before after frames peer x y o =
+    ap (λ xs. unwrap_or (option_map (λ (z : Neighbour). z.pair.begun) (slice_index_or xs peer None)) fresh) o.neighbours
+    ∙ ap (λ z. unwrap_or (option_map (λ (z : Neighbour). z.pair.begun) z) fresh) (get_or-set_same before.node.neighbours peer (Some y) None (place_within before.node.neighbours peer x o.was))
+
+one_counts : (before after : MemberState) (frames : List Outgoing) (peer : ℕ) (x y : Neighbour) → IsOne before after frames peer x y → after.counts ≡ noted_session before.counts peer y.pair.link.session
 one_counts before after frames peer x y o = o.counts ∙ ap (noted_link before.counts peer) (one_link before after frames peer x y o)
 
-pub one_changed : (before after : MemberState) (frames : List Outgoing) (peer : ℕ) (x y : Neighbour) → IsOne before after frames peer x y → IsChanged before after frames peer y.pair frames
+pub one_changed : (before after : MemberState) (frames : List Outgoing) (peer : ℕ) (x y : Neighbour) → IsOne before after frames peer x y → IsChanged before after frames peer y.pair.link frames
 one_changed before after frames peer x y o =
     let counts = one_counts before after frames peer x y o in record {
       boot = o.boot;
       link = one_link before after frames peer x y o;
       frames_are = frames_to-own peer frames o.all_for;
       numbered_now = λ s has. ap (λ cs. count_in cs peer s.epoch) (counts ∙ ap (noted_session before.counts peer) has) ∙ count_in-noted before.counts peer s;
-      numbered_else = λ epoch apart. ap (λ cs. count_in cs peer epoch) counts ∙ count_in-epoch before.counts peer epoch y.pair.session apart;
+      numbered_else = λ epoch apart. ap (λ cs. count_in cs peer epoch) counts ∙ count_in-epoch before.counts peer epoch y.pair.link.session apart;
     }
 
 pub one_idle : (before after : MemberState) (frames : List Outgoing) (peer b : ℕ) (x y : Neighbour) → b ≢ peer → IsOne before after frames peer x y → IsIdle before after frames b
 one_idle before after frames peer b x y apart o = record {
   boot = o.boot;
-  link = ap (λ xs. option_map (λ (z : Neighbour). z.pair) (slice_index_or xs b None)) o.neighbours
-      ∙ ap (λ z. option_map (λ (z : Neighbour). z.pair) z) (get_or-set_other before.node.neighbours peer b (Some y) None apart);
+  link = ap (λ xs. option_map (λ (z : Neighbour). z.pair.link) (slice_index_or xs b None)) o.neighbours
+      ∙ ap (λ z. option_map (λ (z : Neighbour). z.pair.link) z) (get_or-set_other before.node.neighbours peer b (Some y) None apart);
+  begun = ap (λ xs. unwrap_or (option_map (λ (z : Neighbour). z.pair.begun) (slice_index_or xs b None)) fresh) o.neighbours
+      ∙ ap (λ z. unwrap_or (option_map (λ (z : Neighbour). z.pair.begun) z) fresh) (get_or-set_other before.node.neighbours peer b (Some y) None apart);
   frames_are = frames_to-other b peer frames (λ e. apart (sym e)) o.all_for;
-  numbered = λ epoch. ap (λ cs. count_in cs b epoch) (one_counts before after frames peer x y o) ∙ count_in-peer before.counts peer b epoch y.pair.session apart;
+  numbered = λ epoch. ap (λ cs. count_in cs b epoch) (one_counts before after frames peer x y o) ∙ count_in-peer before.counts peer b epoch y.pair.link.session apart;
 }
 
 -- what happened at the one neighbour leaves it paired
 pub one_pairs : (old new : Stage) (a : ℕ) (before after : MemberState) (frames : List Outgoing) (lost : Bool) (peer : ℕ) (x y : Neighbour) (put took : List (List ℕ)) → AllPaired old
     → Turns old new a before after frames lost → IsOne before after frames peer x y
     → (IsNumber peer → peer ≢ a → Records (view_in old a peer) before after peer put took) → ((b : ℕ) → IsNumber b → b ≢ a → b ≢ peer → Records (view_in old a b) before after b [] [])
-    → (IsNumber peer → peer ≢ a → ArePaired (view_in old a peer) (view_in old peer a) → Goes (view_in old a peer) (view_in new a peer) (view_in old peer a) y.pair frames put took → ArePaired (view_in new a peer) (view_in old peer a))
+    → (IsNumber peer → peer ≢ a → ArePartners (view_in old a peer) x.pair.begun (view_in old peer a) (begun_of old peer a) → Goes (view_in old a peer) (view_in new a peer) (view_in old peer a) y.pair.link frames put took
+    → ArePartners (view_in new a peer) y.pair.begun (view_in old peer a) (begun_of old peer a))
     → AllPaired new
 one_pairs old new a before after frames lost peer x y put took paired t o here others happens =
     all_paired old new a before after frames lost paired t (λ b a_is b_is apart h.
@@ -88,8 +99,12 @@ one_pairs old new a before after frames lost peer x y put took paired t o here o
       | inl same ↦
           let peer_is : IsNumber peer = subst IsNumber same b_is in
           let peer_apart : peer ≢ a = λ e. apart (same ∙ e) in
-          let h' : ArePaired (view_in old a peer) (view_in old peer a) = subst (λ k. ArePaired (view_in old a k) (view_in old k a)) same h in
-          let g = goes old new a before after frames lost peer y.pair frames put took t peer_apart (one_changed before after frames peer x y o) (here peer_is peer_apart) in
-          subst (λ k. ArePaired (view_in new a k) (view_in old k a)) (sym same) (happens peer_is peer_apart h' g)
+          let h' : PartnersIn old old a peer = subst (λ k. PartnersIn old old a k) same h in
+          let was : begun_of old a peer ≡ x.pair.begun = begun_was old new a before after frames lost t peer ∙ ap (λ z. unwrap_or (option_map (λ (z : Neighbour). z.pair.begun) z) fresh) o.was in
+          let now : begun_of new a peer ≡ y.pair.begun = begun_now old new a before after frames lost t peer ∙ one_begun before after frames peer x y o in
+          let here_was = subst (λ j. ArePartners (view_in old a peer) j (view_in old peer a) (begun_of old peer a)) was h' in
+          let g = goes old new a before after frames lost peer y.pair.link frames put took t peer_apart (one_changed before after frames peer x y o) (here peer_is peer_apart) in
+          subst (λ k. PartnersIn new old a k) (sym same)
+          (subst (λ j. ArePartners (view_in new a peer) j (view_in old peer a) (begun_of old peer a)) (sym now) (happens peer_is peer_apart here_was g))
       | inr other ↦ idle_pair old new a before after frames lost b t (one_idle before after frames peer b x y other o) (others b b_is apart other) h
     ])

@@ -12,10 +12,13 @@ use Rattle.tipc_link_fsm.specs.declared.changes.Change.TheVariants.{Up, Answer a
 use Rattle.tipc_link_fsm.specs.Table.{Fsm, Outcome, on_cut, on_tick, tick_in, up_tick}
 use Rattle.tipc_link.specs.Links.{LinkEnd, followed, is_down, with_fsm}
 use Rattle.tipc_link.specs.Sessions.{SessionEnd, told}
-use Rattle.tipc_pair.specs.Paired.{ArePaired, IsShowable}
+use Rattle.std.specs.Prelude.{unwrap_or}
+use Rattle.tipc_fragments.specs.Joining.{Joining, fresh}
+use Rattle.tipc_pair.specs.Paired.{IsShowable}
+use Rattle.tipc_pair.specs.Partners.{ArePartners}
 use Rattle.tipc_pair.specs.Pairs.{settled}
 use Rattle.tipc_pair.specs.Views.{Goes, View}
-use Rattle.tipc_pair.proofs.Calls.{cuts, mends, ticks}
+use Rattle.tipc_pair.proofs.PartnersCalls.{cuts, mends, ticks}
 use Rattle.tipc_node.specs.declared.neighbours.Deed.{Deed}
 use Rattle.tipc_node.specs.declared.neighbours.Deed.TheVariants as deed
 use Rattle.tipc_node.specs.declared.neighbours.Neighbour.{Neighbour}
@@ -24,13 +27,13 @@ use Rattle.tipc_node.specs.Nodes.{after_one, frames_all, frames_one, neighbour_o
 use Rattle.tipc_world.specs.Deeds.{TakesPart}
 use Rattle.tipc_world.specs.Members.{deed_member}
 use Rattle.tipc_world.specs.Sound.{IsNumber}
-use Rattle.tipc_world.specs.States.{MemberState, count_in, link_in}
+use Rattle.tipc_world.specs.States.{MemberState, begun_in, count_in, link_in}
 use Rattle.tipc_world.specs.Steps.{Stage, Turns}
 use Rattle.tipc_world.proofs.Addressing.{AreFor, Names, either, mend_for, tick_for}
 use Rattle.tipc_world.proofs.Emissions.{frames_to}
 use Rattle.tipc_world.proofs.Shares.{after_at, shares}
 use Rattle.tipc_world.proofs.Standing.{IsAcquainted, all_names, view_counts, view_link}
-use Rattle.tipc_world.proofs.Turning.{AllPaired, IsChanged, IsIdle, Records, all_paired, goes, idle_pair, view_in, was_there}
+use Rattle.tipc_world.proofs.Turning.{AllPaired, IsChanged, IsIdle, PartnersIn, Records, all_paired, begun_now, begun_of, begun_was, goes, idle_pair, view_in, was_there}
 
 -- ---- what a session has numbered stays
 
@@ -69,37 +72,41 @@ ticks_down : (f : Fsm) → (on_tick f false).change ≡ Up → ⊥
 unfolding on_tick
 ticks_down f e = no_tick_up f.state f e
 
-keeps_done : (d : Deed) (x : Neighbour) → KeepsCounts x.pair (done d x).after.pair
-keeps_done deed.Mend x = keeps_same x.pair _ refl
-keeps_done deed.Cut x = either (KeepsCounts x.pair) (is_down (on_cut x.pair.fsm false).change) _ _ (keeps_same x.pair _ refl) (keeps_same x.pair _ refl)
-keeps_done deed.Tick x = keeps_settled x.pair (on_tick x.pair.fsm false) (ticks_down x.pair.fsm)
+keeps_done : (d : Deed) (x : Neighbour) → KeepsCounts x.pair.link (done d x).after.pair.link
+keeps_done deed.Mend x = keeps_same x.pair.link _ refl
+keeps_done deed.Cut x = either (KeepsCounts x.pair.link) (is_down (on_cut x.pair.link.fsm false).change) _ _ (keeps_same x.pair.link _ refl) (keeps_same x.pair.link _ refl)
+keeps_done deed.Tick x = keeps_settled x.pair.link (on_tick x.pair.link.fsm false) (ticks_down x.pair.link.fsm)
 
 -- ---- a neighbour
 
-pub done_for : (d : Deed) (x : Neighbour) (word : ℕ) → Names word x.pair → AreFor word (done d x).frames
-done_for deed.Mend x word n = mend_for word x.pair n
+pub done_for : (d : Deed) (x : Neighbour) (word : ℕ) → Names word x.pair.link → AreFor word (done d x).frames
+done_for deed.Mend x word n = mend_for word x.pair.link n
 done_for deed.Cut x word n = tt
-done_for deed.Tick x word n = tick_for word x.pair (no_broadcast x.in_step) n
+done_for deed.Tick x word n = tick_for word x.pair.link (no_broadcast x.in_step) n
 
 pub shows_none : (in_step : Bool) → IsShowable (no_broadcast in_step)
 shows_none in_step = record { acknowledged = omega arith; next = omega arith; start = omega arith; gap = omega arith }
 
-pair_done : (d : Deed) (x : Neighbour) (v v' y : View) → ArePaired v y → v.link ≡ Some x.pair → Goes v v' y (done d x).after.pair (done d x).frames [] [] → ArePaired v' y
-pair_done deed.Mend x v v' y h is g = mends v v' y x.pair h is g
-pair_done deed.Cut x v v' y h is g = cuts v v' y x.pair h is g
-pair_done deed.Tick x v v' y h is g = ticks v v' y x.pair (no_broadcast x.in_step) h is (shows_none x.in_step) g
+pair_done : (d : Deed) (x : Neighbour) (v v' y : View) (y_begun : Joining) → ArePartners v x.pair.begun y y_begun → v.link ≡ Some x.pair.link → Goes v v' y (done d x).after.pair.link (done d x).frames [] []
+    → ArePartners v' (done d x).after.pair.begun y y_begun
+pair_done deed.Mend x v v' y y_begun h is g = mends v v' y x.pair.begun y_begun x.pair.link h is g
+pair_done deed.Cut x v v' y y_begun h is g = cuts v v' y x.pair.begun _ y_begun x.pair.link h is g
+pair_done deed.Tick x v v' y y_begun h is g = ticks v v' y x.pair.begun y_begun x.pair.link (no_broadcast x.in_step) h is (shows_none x.in_step) g
 
 -- ---- a node
 
-link_after : (stamp : ℕ) (d : Deed) (m : MemberState) (b : ℕ) → link_in (deed_member stamp m d).node b ≡ option_map (λ x. x.pair) (after_one d (neighbour_of m.node b))
-link_after stamp d m b = ap (λ o. option_map (λ (x : Neighbour). x.pair) o) (after_at d m.node.neighbours b)
+link_after : (stamp : ℕ) (d : Deed) (m : MemberState) (b : ℕ) → link_in (deed_member stamp m d).node b ≡ option_map (λ x. x.pair.link) (after_one d (neighbour_of m.node b))
+link_after stamp d m b = ap (λ o. option_map (λ (x : Neighbour). x.pair.link) o) (after_at d m.node.neighbours b)
+
+begun_after_deed : (stamp : ℕ) (d : Deed) (m : MemberState) (b : ℕ) → begun_in (deed_member stamp m d).node b ≡ unwrap_or (option_map (λ x. x.pair.begun) (after_one d (neighbour_of m.node b))) fresh
+begun_after_deed stamp d m b = ap (λ o. unwrap_or (option_map (λ (x : Neighbour). x.pair.begun) o) fresh) (after_at d m.node.neighbours b)
 
 changed : (stamp : ℕ) (d : Deed) (m : MemberState) (b : ℕ) (x : Neighbour) → neighbour_of m.node b ≡ Some x → frames_to b (frames_all d m.node.neighbours) ≡ frames_one d (neighbour_of m.node b)
-    → ((t : SessionEnd) → x.pair.session ≡ Some t → count_in m.counts b t.epoch ≡ t.sending.numbered)
-    → IsChanged m (deed_member stamp m d) (frames_all d m.node.neighbours) b (done d x).after.pair (done d x).frames
+    → ((t : SessionEnd) → x.pair.link.session ≡ Some t → count_in m.counts b t.epoch ≡ t.sending.numbered)
+    → IsChanged m (deed_member stamp m d) (frames_all d m.node.neighbours) b (done d x).after.pair.link (done d x).frames
 changed stamp d m b x is share counts = record {
   boot = refl;
-  link = link_after stamp d m b ∙ ap (λ o. option_map (λ (y : Neighbour). y.pair) (after_one d o)) is;
+  link = link_after stamp d m b ∙ ap (λ o. option_map (λ (y : Neighbour). y.pair.link) (after_one d o)) is;
   frames_are = share ∙ ap (frames_one d) is;
   numbered_now = λ t has.
       let back = (keeps_done d x).back t has in
@@ -111,7 +118,9 @@ idle : (stamp : ℕ) (d : Deed) (m : MemberState) (b : ℕ) → neighbour_of m.n
     → IsIdle m (deed_member stamp m d) (frames_all d m.node.neighbours) b
 idle stamp d m b is share = record {
   boot = refl;
-  link = link_after stamp d m b ∙ ap (λ o. option_map (λ (y : Neighbour). y.pair) (after_one d o)) is ∙ sym (ap (λ o. option_map (λ (y : Neighbour). y.pair) o) is);
+  link = link_after stamp d m b ∙ ap (λ o. option_map (λ (y : Neighbour). y.pair.link) (after_one d o)) is ∙ sym (ap (λ o. option_map (λ (y : Neighbour). y.pair.link) o) is);
+  begun = begun_after_deed stamp d m b ∙ ap (λ o. unwrap_or (option_map (λ (y : Neighbour). y.pair.begun) (after_one d o)) fresh) is
+      ∙ sym (ap (λ o. unwrap_or (option_map (λ (y : Neighbour). y.pair.begun) o) fresh) is);
   frames_are = share ∙ ap (frames_one d) is;
   numbered = λ epoch. refl;
 }
@@ -119,17 +128,21 @@ idle stamp d m b is share = record {
 -- what a deed makes of the node towards b
 turned_by : (old new : Stage) (a stamp : ℕ) (d : Deed) (before after : MemberState) (frames : List Outgoing) (lost : Bool) (b : ℕ) (o : Option Neighbour) → neighbour_of before.node b ≡ o
     → Turns old new a before after frames lost → after ≡ deed_member stamp before d → frames ≡ frames_all d before.node.neighbours → frames_to b (frames_all d before.node.neighbours) ≡ frames_one d (neighbour_of before.node b)
-    → b ≢ a → Records (view_in old a b) before after b [] [] → ArePaired (view_in old a b) (view_in old b a) → ArePaired (view_in new a b) (view_in old b a)
+    → b ≢ a → Records (view_in old a b) before after b [] [] → PartnersIn old old a b → PartnersIn new old a b
 turned_by old new a stamp d before after frames lost b None is t then_ frames_are share apart r h =
     let c = idle stamp d before b is share in
     idle_pair old new a before after frames lost b t (subst (λ m. IsIdle before m frames b) (sym then_) (subst (λ fs. IsIdle before (deed_member stamp before d) fs b) (sym frames_are) c)) r h
 turned_by old new a stamp d before after frames lost b (Some x) is t then_ frames_are share apart r h =
     let was = was_there old new a before after frames lost t in
-    let c = changed stamp d before b x is share (view_counts old a b before x (view_in old b a) was is h) in
-    let c' = subst (λ m. IsChanged before m frames b (done d x).after.pair (done d x).frames) (sym then_)
-    (subst (λ fs. IsChanged before (deed_member stamp before d) fs b (done d x).after.pair (done d x).frames) (sym frames_are) c) in
-    pair_done d x (view_in old a b) (view_in new a b) (view_in old b a) h (view_link old a b before x was is)
-    (goes old new a before after frames lost b (done d x).after.pair (done d x).frames [] [] t apart c' r)
+    let c = changed stamp d before b x is share (view_counts old a b before x _ (view_in old b a) _ was is h) in
+    let c' = subst (λ m. IsChanged before m frames b (done d x).after.pair.link (done d x).frames) (sym then_)
+    (subst (λ fs. IsChanged before (deed_member stamp before d) fs b (done d x).after.pair.link (done d x).frames) (sym frames_are) c) in
+    let at = begun_was old new a before after frames lost t b ∙ ap (λ o. unwrap_or (option_map (λ (y : Neighbour). y.pair.begun) o) fresh) is in
+    let then_at : begun_of new a b ≡ (done d x).after.pair.begun =
+    begun_now old new a before after frames lost t b ∙ ap (λ (m : MemberState). begun_in m.node b) then_ ∙ begun_after_deed stamp d before b ∙ ap (λ o. unwrap_or (option_map (λ (y : Neighbour). y.pair.begun) (after_one d o)) fresh) is in
+    subst (λ j. ArePartners (view_in new a b) j (view_in old b a) (begun_of old b a)) (sym then_at)
+    (pair_done d x (view_in old a b) (view_in new a b) (view_in old b a) (begun_of old b a) (subst (λ j. ArePartners (view_in old a b) j (view_in old b a) (begun_of old b a)) at h) (view_link old a b before x was is)
+    (goes old new a before after frames lost b (done d x).after.pair.link (done d x).frames [] [] t apart c' r))
 
 -- something happens to all neighbours alike
 pub deed_pairs : (old new : Stage) (a stamp : ℕ) (d : Deed) (before after : MemberState) (frames : List Outgoing) (answered : Answer) (lost : Bool) → AllPaired old → IsAcquainted old.members a

@@ -7,7 +7,8 @@ use Rattle.tipc_types.specs.declared.message_forms.Importance.{Importance}
 use Rattle.tipc_types.specs.declared.node_calls.Answer.{Answer}
 use Rattle.tipc_types.specs.declared.node_calls.EventNote.TheVariants as note
 use Rattle.tipc_outside.specs.declared.outgoing.Outgoing.{Outgoing}
-use Rattle.tipc_pair.specs.Pairs.{packets_of}
+use Rattle.tipc_reassembly.specs.Slots.{packets_in}
+use Rattle.tipc_pair.specs.Partners.{opened_in}
 use Rattle.tipc_pair.specs.Views.{View, own_of, seen_of}
 use Rattle.tipc_node.specs.declared.neighbours.Deed.TheVariants as deed
 use Rattle.tipc_node.specs.declared.neighbours.Neighbour.{Neighbour}
@@ -27,7 +28,7 @@ use Rattle.tipc_world.proofs.Histories.{KeepsStreams}
 use Rattle.tipc_world.proofs.HistoryEvents.{deed_streams, know_streams, receive_streams, refused_streams, restart_streams, socket_streams, stopped_streams}
 use Rattle.tipc_world.proofs.HistoryPackets.{Brings, PacketsGrew, hears_packets, nothing_more, own_of-view, packets_kept, puts_packets, seen_of-view}
 use Rattle.tipc_world.proofs.LookUps.{link_at-is}
-use Rattle.tipc_world.proofs.Messages.{direct_sendable, packet_bytes_are}
+use Rattle.tipc_world.proofs.Messages.{direct_sendable, message_is}
 use Rattle.tipc_world.proofs.PairedArrivals.{heard_pairs}
 use Rattle.tipc_world.proofs.PairedChanges.{IsQuiet, quiet_pairs}
 use Rattle.tipc_world.proofs.PairedDeeds.{deed_pairs}
@@ -35,7 +36,7 @@ use Rattle.tipc_world.proofs.PairedSends.{put_pairs}
 use Rattle.tipc_world.proofs.PairedStarts.{know_pairs, restart_pairs}
 use Rattle.tipc_world.proofs.Reaching.{IsReached, comes, placed}
 use Rattle.tipc_world.proofs.Standing.{IsAcquainted}
-use Rattle.tipc_world.proofs.StreamsEvents.{hears_apart, hears_link}
+use Rattle.tipc_world.proofs.StreamsEvents.{hears_apart, hears_begun, hears_link}
 use Rattle.tipc_world.proofs.Turning.{AllPaired, Records, view_in, was_there}
 
 -- ---- what a sound world has
@@ -55,11 +56,11 @@ other_records : (before after : MemberState) (peer b : ℕ) (x y : View) (put to
 other_records before after peer b x y put took g apart = record { put_is = nothing_more y _ _ (g.put_else b apart); took_is = nothing_more y _ _ (g.took_else b apart) }
 
 -- the contact of a link, as the pair has it
-contact_own : (s : Stage) (a b : ℕ) (m : MemberState) (x : Neighbour) → member_at s.members a ≡ Some m → neighbour_of m.node b ≡ Some x → own_of (view_in s a b) ≡ x.pair.contact
-contact_own s a b m x was is = own_of-view s.members s.air a b x.pair (link_at-is s.members a b m was ∙ ap (λ o. option_map (λ (y : Neighbour). y.pair) o) is)
+contact_own : (s : Stage) (a b : ℕ) (m : MemberState) (x : Neighbour) → member_at s.members a ≡ Some m → neighbour_of m.node b ≡ Some x → own_of (view_in s a b) ≡ x.pair.link.contact
+contact_own s a b m x was is = own_of-view s.members s.air a b x.pair.link (link_at-is s.members a b m was ∙ ap (λ o. option_map (λ (y : Neighbour). y.pair.link) o) is)
 
-contact_seen : (s : Stage) (a b : ℕ) (m : MemberState) (x : Neighbour) → member_at s.members a ≡ Some m → neighbour_of m.node b ≡ Some x → seen_of (view_in s a b) ≡ x.pair.peer_contact
-contact_seen s a b m x was is = seen_of-view s.members s.air a b x.pair (link_at-is s.members a b m was ∙ ap (λ o. option_map (λ (y : Neighbour). y.pair) o) is)
+contact_seen : (s : Stage) (a b : ℕ) (m : MemberState) (x : Neighbour) → member_at s.members a ≡ Some m → neighbour_of m.node b ≡ Some x → seen_of (view_in s a b) ≡ x.pair.link.peer_contact
+contact_seen s a b m x was is = seen_of-view s.members s.air a b x.pair.link (link_at-is s.members a b m was ∙ ap (λ o. option_map (λ (y : Neighbour). y.pair.link) o) is)
 
 -- ---- the events
 
@@ -77,14 +78,14 @@ put_event old new a stamp port peer to importance body before after frames answe
     let x = view_in old a peer in
     let g = puts_packets stamp (note.SendPort port to importance body) peer message before after frames answered p x (contact_own old a peer before p.neighbour was p.neighbour_is) (contact_seen old a peer before p.neighbour was p.neighbour_is) in
     put_pairs old new a stamp (note.SendPort port to importance body) peer message before after frames answered lost sound.pairs (acquainted old.members old.air a before sound t.was) t p
-    (packet_bytes_are message (direct_sendable before.node.own port to importance body p.packet p.packet_is p.fits))
+    (message_is message (direct_sendable before.node.own port to importance body p.packet p.packet_is p.fits))
     (λ peer_is apart. grown_records before after peer x (bytes_of message ∷ []) [] g) (λ b b_is apart other. other_records before after peer b x (view_in old a b) (bytes_of message ∷ []) [] g other)
 
 send_event : (old new : Stage) (a stamp port peer : ℕ) (to : PortId) (importance : Importance) (body : List ℕ) (before after : MemberState) (frames : List Outgoing) (answered : Answer) (lost : Bool)
     → IsSound old.members old.air → Turns old new a before after frames lost → Sends stamp port peer to importance body before after frames answered → AllPaired new
-send_event old new a stamp port peer to importance body before after frames answered lost sound t s = case (refusal before.node port peer (limit_of importance)) refl
+send_event old new a stamp port peer to importance body before after frames answered lost sound t s = case (refusal before.node port peer (limit_of importance) body) refl
   where
-    case : (o : Option Answer) → refusal before.node port peer (limit_of importance) ≡ o → AllPaired new
+    case : (o : Option Answer) → refusal before.node port peer (limit_of importance) body ≡ o → AllPaired new
     case None free = put_event old new a stamp port peer to importance body before after frames answered lost sound t (s.sent free)
     case (Some why) stops =
         let r = s.refused why stops in
@@ -94,11 +95,12 @@ send_event old new a stamp port peer to importance body before after frames answ
 -- what a packet brings is of a message that the peer put
 pub reached_brings : (s : Stage) (a stamp bearer place place' : ℕ) (f : Sent) (m m' : MemberState) (frames : List Outgoing) (answered : Answer) → IsSound s.members s.air → slice_index_or s.members a None ≡ Some m
     → frame_for s.air a bearer place ≡ Some f → unarrived s.members s.air a bearer place ≡ None → stop_of m.node bearer f.frame ≡ None
-    → (h : Hears stamp place' f.frame m m' frames answered) → Brings h.neighbour.pair h.packet h.met
+    → (h : Hears stamp place' f.frame m m' frames answered) → Brings h.neighbour.pair.link h.met (opened_in h.out)
 reached_brings s a stamp bearer place place' f m m' frames answered sound was there free clear h =
     let reached : IsReached s a bearer place f m h.peer h.first h.second h.packet = record { there = there; free = free; clear = clear; due = h.due; airborne = sound.frames place f (placed s.air a bearer place f there).0 } in
     hears_brings s.members s.air a stamp place' f.frame m m' frames answered h sound (sound.numbered a m was).0
     (hears_apart s.members s.air a stamp place' f.frame m m' frames answered h sound was) (hears_link s.members a stamp place' f.frame m m' frames answered h was)
+    (hears_begun s.members a stamp place' f.frame m m' frames answered h was)
     (comes s a bearer place f m h.peer h.first h.second h.packet sound.pairs reached)
 
 heard_event : (old new : Stage) (a stamp bearer place : ℕ) (f : Sent) (before after : MemberState) (frames : List Outgoing) (answered : Answer) (lost : Bool) → IsSound old.members old.air → Turns old new a before after frames lost
@@ -110,7 +112,7 @@ heard_event old new a stamp bearer place f before after frames answered lost sou
     let g = hears_packets stamp place f.frame before after frames answered h x (contact_own old a h.peer before h.neighbour was h.neighbour_is) (contact_seen old a h.peer before h.neighbour was h.neighbour_is) brings in
     heard_pairs old new a stamp bearer place f before after frames answered lost sound.pairs (acquainted old.members old.air a before sound t.was) t h
     (record { there = there; free = free; clear = clear; due = h.due; airborne = sound.frames place f (placed old.air a bearer place f there).0 })
-    (λ peer_is apart. grown_records before after h.peer x [] (packets_of h.met.outcome) g) (λ b b_is apart other. other_records before after h.peer b x (view_in old a b) [] (packets_of h.met.outcome) g other)
+    (λ peer_is apart. grown_records before after h.peer x [] (packets_in (opened_in h.out)) g) (λ b b_is apart other. other_records before after h.peer b x (view_in old a b) [] (packets_in (opened_in h.out)) g other)
 
 arrive_event : (old new : Stage) (a stamp bearer place : ℕ) (f : Sent) (before after : MemberState) (frames : List Outgoing) (answered : Answer) (lost : Bool) → IsSound old.members old.air → Turns old new a before after frames lost
     → frame_for old.air a bearer place ≡ Some f → unarrived old.members old.air a bearer place ≡ None → Arrives stamp bearer place f.frame before after frames answered → AllPaired new
@@ -127,7 +129,7 @@ arrive_event old new a stamp bearer place f before after frames answered lost so
 pub unknown : (s : Stage) (a peer : ℕ) (m : MemberState) → member_at s.members a ≡ Some m → knows s.members a peer ≡ false → neighbour_of m.node peer ≡ None
 unknown s a peer m was not_known = case (neighbour_of m.node peer) (ap is_some (sym (link_at-is s.members a peer m was)) ∙ not_known)
   where
-    case : (o : Option Neighbour) → is_some (option_map (λ (x : Neighbour). x.pair) o) ≡ false → o ≡ None
+    case : (o : Option Neighbour) → is_some (option_map (λ (x : Neighbour). x.pair.link) o) ≡ false → o ≡ None
     case None none = refl
     case (Some x) none = absurd cc
 

@@ -5,10 +5,13 @@ use Rattle.tipc_types.specs.Address.{node_word}
 use Rattle.tipc_outside.specs.declared.outgoing.Outgoing.{Outgoing}
 use Rattle.tipc_link.specs.Links.{LinkEnd, mend_frames, mended_end}
 use Rattle.tipc_link.specs.Sessions.{SessionEnd}
-use Rattle.tipc_pair.specs.Paired.{ArePaired}
+use Rattle.std.specs.Prelude.{unwrap_or}
+use Rattle.tipc_fragments.specs.Joining.{Joining, fresh}
+use Rattle.tipc_pair.specs.Partners.{ArePartners}
 use Rattle.tipc_pair.specs.Pairs.{lonely}
 use Rattle.tipc_pair.specs.Views.{Goes, Restarts, View}
-use Rattle.tipc_pair.proofs.CallsStart.{knows, restarts}
+use Rattle.tipc_pair.proofs.PartnersArrives.{restarted as restarts}
+use Rattle.tipc_pair.proofs.PartnersCalls.{knows}
 use Rattle.tipc_node.specs.declared.neighbours.Neighbour.{Neighbour}
 use Rattle.tipc_node.specs.Nodes.{known_frames, neighbour_of}
 use Rattle.tipc_world.specs.Members.{IsRestarted, known_member}
@@ -21,7 +24,7 @@ use Rattle.tipc_world.proofs.Emissions.{frames_to}
 use Rattle.tipc_world.proofs.LookUps.{boot_at-is, link_at-is}
 use Rattle.tipc_world.proofs.Shares.{frames_to-other, frames_to-own}
 use Rattle.tipc_world.proofs.Standing.{view_no_link}
-use Rattle.tipc_world.proofs.Turning.{AllPaired, IsChanged, IsIdle, Records, all_paired, goes, idle_pair, is_there, same_numbered, same_put, same_sent, same_took, view_in, was_there}
+use Rattle.tipc_world.proofs.Turning.{AllPaired, IsChanged, IsIdle, PartnersIn, Records, all_paired, begun_of, goes, idle_pair, is_there, same_numbered, same_put, same_sent, same_took, view_in, was_there}
 
 -- ---- a restart
 
@@ -34,7 +37,7 @@ restarted old new a before after frames lost b t s none r =
       own = refl;
       peer = refl;
       boot = boot_at-is new.members a after is ∙ s.node.boot_is ∙ ap (λ n. n + 1) (sym (boot_at-is old.members a before was));
-      link = link_at-is new.members a b after is ∙ ap (λ o. option_map (λ (y : Neighbour). y.pair) o) (s.node.alone b);
+      link = link_at-is new.members a b after is ∙ ap (λ o. option_map (λ (y : Neighbour). y.pair.link) o) (s.node.alone b);
       put_is = same_put old new a before after frames lost b t r;
       took_is = same_took old new a before after frames lost b t r;
       numbered_is = same_numbered old new a before after frames lost b t (λ epoch. ap (λ cs. count_in cs b epoch) s.counts);
@@ -50,7 +53,7 @@ pub restart_pairs : (old new : Stage) (a : ℕ) (before after : MemberState) (fr
     → before.node.boot + 1 < 2 ^ 32 → ((b : ℕ) → IsNumber b → b ≢ a → Records (view_in old a b) before after b [] []) → AllPaired new
 restart_pairs old new a before after frames lost paired t s none fits records =
     all_paired old new a before after frames lost paired t (λ b a_is b_is apart h.
-    restarts (view_in old a b) (view_in new a b) (view_in old b a) h (restarted old new a before after frames lost b t s none (records b b_is apart))
+    restarts (view_in old a b) (view_in new a b) (view_in old b a) (begun_of old a b) (begun_of new a b) (begun_of old b a) h (restarted old new a before after frames lost b t s none (records b b_is apart))
     (subst (λ n. n + 1 < 2 ^ 32) (sym (boot_is old a b before (was_there old new a before after frames lost t))) fits))
 
 -- ---- a node comes to know a peer
@@ -75,7 +78,7 @@ pub known_for : (m : MemberState) (peer : ℕ) → AreFor (node_word peer) (know
 known_for m peer = frames_for_it m.node.own (node_word peer) m.node.boot m.node.mended
 
 link_set : (m : MemberState) (peer : ℕ) → peer < length m.node.neighbours → link_in (known_member m peer).node peer ≡ Some (known_pair m.node.own (node_word peer) m.node.boot m.node.mended)
-link_set m peer within = ap (λ o. option_map (λ (y : Neighbour). y.pair) o) (get_or-set_same m.node.neighbours peer _ None within)
+link_set m peer within = ap (λ o. option_map (λ (y : Neighbour). y.pair.link) o) (get_or-set_same m.node.neighbours peer _ None within)
 
 changed : (m : MemberState) (peer : ℕ) → peer < length m.node.neighbours
     → IsChanged m (known_member m peer) (known_frames m.node peer) peer (known_pair m.node.own (node_word peer) m.node.boot m.node.mended) (pair_frames m.node.own (node_word peer) m.node.boot m.node.mended)
@@ -90,17 +93,18 @@ changed m peer within = record {
 idle : (m : MemberState) (peer b : ℕ) → b ≢ peer → IsIdle m (known_member m peer) (known_frames m.node peer) b
 idle m peer b apart = record {
   boot = refl;
-  link = ap (λ o. option_map (λ (y : Neighbour). y.pair) o) (get_or-set_other m.node.neighbours peer b _ None apart);
+  link = ap (λ o. option_map (λ (y : Neighbour). y.pair.link) o) (get_or-set_other m.node.neighbours peer b _ None apart);
+  begun = ap (λ o. unwrap_or (option_map (λ (y : Neighbour). y.pair.begun) o) fresh) (get_or-set_other m.node.neighbours peer b _ None apart);
   frames_are = frames_to-other b peer _ (λ e. apart (sym e)) (frames_for_it m.node.own (node_word peer) m.node.boot m.node.mended);
   numbered = λ epoch. refl;
 }
 
 -- the new end, as the pair of nodes has it
-known_as : (old new : Stage) (a peer boot own : ℕ) (mended : Bool) (y : View) → boot ≡ (view_in old a peer).boot → own ≡ node_word a → ArePaired (view_in old a peer) y → (view_in old a peer).link ≡ None
-    → Goes (view_in old a peer) (view_in new a peer) y (known_pair own (node_word peer) boot mended) (pair_frames own (node_word peer) boot mended) [] [] → ArePaired (view_in new a peer) y
+known_as : (old new : Stage) (a peer boot own : ℕ) (mended : Bool) (was now : Joining) (y : View) (y_begun : Joining) → boot ≡ (view_in old a peer).boot → own ≡ node_word a → ArePartners (view_in old a peer) was y y_begun → (view_in old a peer).link ≡ None
+    → Goes (view_in old a peer) (view_in new a peer) y (known_pair own (node_word peer) boot mended) (pair_frames own (node_word peer) boot mended) [] [] → ArePartners (view_in new a peer) now y y_begun
 unfolding view_at
-known_as old new a peer boot own mended y boot_same own_same h none g =
-    knows (view_in old a peer) (view_in new a peer) y mended h none
+known_as old new a peer boot own mended was now y y_begun boot_same own_same h none g =
+    knows (view_in old a peer) (view_in new a peer) y was now y_begun mended h none
     (subst (λ n. Goes (view_in old a peer) (view_in new a peer) y (known_pair n (node_word peer) (boot_at old.members a) mended) (pair_frames n (node_word peer) (boot_at old.members a) mended) [] []) own_same
     (subst (λ n. Goes (view_in old a peer) (view_in new a peer) y (known_pair own (node_word peer) n mended) (pair_frames own (node_word peer) n mended) [] []) boot_same g))
 
@@ -120,9 +124,9 @@ know_pairs old new a peer before after frames lost paired t then_ frames_are own
       | inl same ↦
           let peer_apart : peer ≢ a = λ e. apart (same ∙ e) in
           let peer_is : IsNumber peer = subst IsNumber same b_is in
-          let h' : ArePaired (view_in old a peer) (view_in old peer a) = subst (λ k. ArePaired (view_in old a k) (view_in old k a)) same h in
-          subst (λ k. ArePaired (view_in new a k) (view_in old k a)) (sym same)
-          (known_as old new a peer before.node.boot before.node.own before.node.mended (view_in old peer a) (sym (boot_is old a peer before was)) own h' (view_no_link old a peer before was none)
+          let h' : PartnersIn old old a peer = subst (λ k. PartnersIn old old a k) same h in
+          subst (λ k. PartnersIn new old a k) (sym same)
+          (known_as old new a peer before.node.boot before.node.own before.node.mended (begun_of old a peer) (begun_of new a peer) (view_in old peer a) (begun_of old peer a) (sym (boot_is old a peer before was)) own h' (view_no_link old a peer before was none)
           (goes old new a before after frames lost peer e fs [] [] t peer_apart c (records peer peer_is peer_apart)))
       | inr other ↦ idle_pair old new a before after frames lost b t (still b other) (records b b_is apart) h
     ])

@@ -19,7 +19,7 @@ use Rattle.tipc_header.specs.Spelling.{Fields, spelling}
 use Rattle.tipc_header.proofs.Again.{again}
 use Rattle.tipc_header.proofs.FrameWords.{length-envelope}
 use Rattle.tipc_link.specs.Links.{is_traffic}
-use Rattle.tipc_pair.specs.Paired.{ArePaired, Comes}
+use Rattle.tipc_pair.specs.Paired.{Comes}
 use Rattle.tipc_pair.specs.Views.{Frame, er_of, es_of}
 use Rattle.tipc_pair.proofs.SessionsHeard.{same_packet}
 use Rattle.tipc_pair.proofs.Spoken.{er_of-frame, es_of-frame}
@@ -33,7 +33,7 @@ use Rattle.tipc_world.specs.Sound.{IsAirborne, IsNumber}
 use Rattle.tipc_world.specs.States.{MemberState, count_at}
 use Rattle.tipc_world.specs.Steps.{Stage}
 use Rattle.tipc_world.specs.Views.{view_at}
-use Rattle.tipc_world.proofs.Turning.{AllPaired, view_in}
+use Rattle.tipc_world.proofs.Turning.{AllPaired, PartnersIn, view_in}
 
 -- ---- the frame among those that its sender sent
 
@@ -149,11 +149,11 @@ pub record IsFromPeer (s : Stage) (a : ℕ) (f : Sent) (peer : ℕ) : Type 0 whe
   pub place : ℕ
   pub there : slice_get (sent_between s.air peer a) place ≡ Some (as_frame f)
 
-spoken_by : (s : Stage) (from a : ℕ) (f : Frame) (place first second : ℕ) (p : Fields) → ArePaired (view_in s from a) (view_in s a from) → slice_get (sent_between s.air from a) place ≡ Some f
+spoken_by : (s : Stage) (from a : ℕ) (f : Frame) (place first second : ℕ) (p : Fields) → PartnersIn s s from a → slice_get (sent_between s.air from a) place ≡ Some f
     → Fits p → f.bytes ≡ frame_of first second (spelling p) → p.previous ≡ node_word from
 unfolding view_at
 spoken_by s from a f place first second p h there fits bytes =
-    let spoken = (h.here.frames place f there).spoken in
+    let spoken = (h.paired.here.frames place f there).spoken in
     let same : spoken.packet ≡ p = same_packet spoken.es spoken.er first second spoken.packet p spoken.fits fits (sym spoken.bytes ∙ bytes) in
     ap (λ (q : Fields). q.previous) (sym same) ∙ spoken.previous
 

@@ -1,5 +1,5 @@
 -- Every event keeps a world sound.
-use Rattle.std.proofs.Common.{◌≡◌, ◌≢◌, ℕ, Bool, true, List, [], ◌∷◌, Option, Some, None, length, option_map, slice_index_or, slice_set, refl, sym, ap, ◌∙◌, subst, inl, inr, get_or-set_same, get_or-set_other}
+use Rattle.std.proofs.Common.{◌≡◌, ◌≢◌, ℕ, Bool, true, List, [], Option, Some, None, length, option_map, slice_index_or, slice_set, refl, sym, ap, ◌∙◌, subst, inl, inr, get_or-set_same, get_or-set_other}
 use Rattle.std.specs.Prelude.{is_some}
 use Rattle.std.proofs.lemmas.Bool.{cases_eq}
 use Rattle.tipc_types.specs.Address.{node_word}
@@ -10,17 +10,17 @@ use Rattle.tipc_types.specs.declared.message_forms.Message.{Message}
 use Rattle.tipc_types.specs.declared.node_calls.Answer.{Answer}
 use Rattle.tipc_types.specs.declared.node_calls.EventNote.{EventNote}
 use Rattle.tipc_outside.specs.declared.outgoing.Outgoing.{Outgoing}
-use Rattle.tipc_link.specs.Sessions.{put}
 use Rattle.tipc_node.specs.declared.neighbours.Deed.{Deed}
 use Rattle.tipc_node.specs.declared.neighbours.Neighbour.{Neighbour}
 use Rattle.tipc_node.specs.Neighbours.{heard_frames, in_step_after, met_by, no_broadcast}
 use Rattle.tipc_node.specs.Nodes.{after_one, direct, known_frames, limit_of, neighbour_of, refusal, stop_of}
+use Rattle.tipc_pair.specs.Partners.{opened_in}
 use Rattle.tipc_world.specs.declared.air.Sent.{Sent}
 use Rattle.tipc_world.specs.declared.events.WorldEvent.{WorldEvent}
 use Rattle.tipc_world.specs.declared.events.WorldEvent.TheVariants.{Know, Mend, Cut, Tick, Restart, Socket, SendPort, Receive, Arrive}
 use Rattle.tipc_world.specs.Calls.{node_of}
 use Rattle.tipc_world.specs.Deeds.{Arrives, Does, Hears, Puts, Sends, TakesPart}
-use Rattle.tipc_world.specs.Members.{IsRestarted, bytes_of, heard_member, known_member, receive_member, refused_member, sent_member, socket_member, stopped_member}
+use Rattle.tipc_world.specs.Members.{IsRestarted, heard_member, known_member, receive_member, refused_member, sent_member, socket_member, stopped_member}
 use Rattle.tipc_world.specs.Sound.{IsNumber, IsSound}
 use Rattle.tipc_world.specs.States.{MemberState, link_at, link_in, member_at}
 use Rattle.tipc_world.specs.Steps.{Happens, Stage, Turns}
@@ -29,7 +29,7 @@ use Rattle.tipc_world.proofs.HistoryPackets.{Brings}
 use Rattle.tipc_world.proofs.LookUps.{link_at-is, link_at-same, place_within}
 use Rattle.tipc_world.proofs.PairedDeeds.{done_for}
 use Rattle.tipc_world.proofs.PairedEvents.{IsReady, acquainted, happens_pairs, reached_brings}
-use Rattle.tipc_world.proofs.PairedSends.{session_there}
+use Rattle.tipc_world.proofs.PairedSends.{put_peer, session_there}
 use Rattle.tipc_world.proofs.PairedStarts.{known_for}
 use Rattle.tipc_world.proofs.Routes.{AreRouted, air_flies, routed_all, routed_for}
 use Rattle.tipc_world.proofs.Shares.{after_at}
@@ -53,17 +53,17 @@ pub record KeepsNode (a : ℕ) (known : Option ℕ) (before after : MemberState)
   pub routed : AreRouted a frames
 
 -- a node without a neighbour has no link to it
-no_neighbour : (xs : List (Option Neighbour)) (b : ℕ) → option_map (λ (x : Neighbour). x.pair) (slice_index_or xs b None) ≡ None → slice_index_or xs b None ≡ None
+no_neighbour : (xs : List (Option Neighbour)) (b : ℕ) → option_map (λ (x : Neighbour). x.pair.link) (slice_index_or xs b None) ≡ None → slice_index_or xs b None ≡ None
 no_neighbour xs b none = case (slice_index_or xs b None) none
   where
-    case : (o : Option Neighbour) → option_map (λ (x : Neighbour). x.pair) o ≡ None → o ≡ None
+    case : (o : Option Neighbour) → option_map (λ (x : Neighbour). x.pair.link) o ≡ None → o ≡ None
     case None none = refl
     case (Some x) none = absurd cc
 
 keeps_quiet : (a : ℕ) (before after then_ : MemberState) (frames : List Outgoing) → after ≡ then_ → then_.node.own ≡ before.node.own → then_.node.neighbours ≡ before.node.neighbours → frames ≡ [] → KeepsNode a None before after frames
 keeps_quiet a before after then_ frames is own same none = record {
   own = ap (λ (m : MemberState). m.node.own) is ∙ own;
-  none = λ b _ was. ap (λ (m : MemberState). link_in m.node b) is ∙ ap (λ xs. option_map (λ (y : Neighbour). y.pair) (slice_index_or xs b None)) same ∙ was;
+  none = λ b _ was. ap (λ (m : MemberState). link_in m.node b) is ∙ ap (λ xs. option_map (λ (y : Neighbour). y.pair.link) (slice_index_or xs b None)) same ∙ was;
   routed = subst (AreRouted a) (sym none) tt;
 }
 
@@ -72,7 +72,7 @@ keeps_deed : (s : Stage) (a stamp : ℕ) (d : Deed) (before after : MemberState)
 keeps_deed s a stamp d before after frames answered sound there was h =
     let knows = acquainted s.members s.air a before sound there in record {
       own = ap (λ (m : MemberState). m.node.own) h.0;
-      none = λ b _ none. ap (λ (m : MemberState). link_in m.node b) h.0 ∙ ap (λ o. option_map (λ (x : Neighbour). x.pair) o) (after_at d before.node.neighbours b ∙ ap (after_one d) (no_neighbour before.node.neighbours b none));
+      none = λ b _ none. ap (λ (m : MemberState). link_in m.node b) h.0 ∙ ap (λ o. option_map (λ (x : Neighbour). x.pair.link) o) (after_at d before.node.neighbours b ∙ ap (after_one d) (no_neighbour before.node.neighbours b none));
       routed = subst (AreRouted a) (sym h.1) (routed_all d a before.node.neighbours (λ k x is.
           let other = neighbour_apart s a before knows was k x is in
           routed_for a k _ other.0 other.1 (done_for d x (node_word k) (all_names s a before knows sound.pairs was k x is))));
@@ -87,8 +87,8 @@ keeps_one s a peer before after then_ frames x y sound there was has is own same
       own = ap (λ (m : MemberState). m.node.own) is ∙ own;
       none = λ b _ none.
           let apart : b ≢ peer = λ e. let here : link_in before.node peer ≡ None = ap (link_in before.node) (sym e) ∙ none in let wrong : Some x ≡ None = sym has ∙ no_neighbour before.node.neighbours peer here in absurd cc in
-          ap (λ (m : MemberState). link_in m.node b) is ∙ ap (λ xs. option_map (λ (y : Neighbour). y.pair) (slice_index_or xs b None)) same
-          ∙ ap (λ o. option_map (λ (y : Neighbour). y.pair) o) (get_or-set_other before.node.neighbours peer b (Some y) None apart) ∙ none;
+          ap (λ (m : MemberState). link_in m.node b) is ∙ ap (λ xs. option_map (λ (y : Neighbour). y.pair.link) (slice_index_or xs b None)) same
+          ∙ ap (λ o. option_map (λ (y : Neighbour). y.pair.link) o) (get_or-set_other before.node.neighbours peer b (Some y) None apart) ∙ none;
       routed = routed_for a peer frames other.0 other.1 all;
     }
 
@@ -98,8 +98,8 @@ keeps_put s a stamp event peer message before after frames answered sound there 
     let x = p.neighbour in
     let t = p.session in
     let names = all_names s a before (acquainted s.members s.air a before sound there) sound.pairs was peer x p.neighbour_is in
-    keeps_one s a peer before after (sent_member stamp before event peer x t message) frames x _ sound there was p.neighbour_is p.after refl refl
-    (subst (AreFor (node_word peer)) (sym p.frames_are) (flush_for (node_word peer) (put t (bytes_of message ∷ [])) (names.session t (session_there x t p.session_is))))
+    keeps_one s a peer before after (sent_member stamp before event peer x p.put message) frames x _ sound there was p.neighbour_is p.after refl refl
+    (subst (AreFor (node_word peer)) (sym p.frames_are) (flush_for (node_word peer) p.put (subst (λ w. w ≡ node_word peer) (sym (put_peer t _ p.put p.put_is)) (names.session t (session_there x t p.session_is)))))
 
 keeps_heard : (s : Stage) (a stamp place : ℕ) (bytes : List ℕ) (before after : MemberState) (frames : List Outgoing) (answered : Answer) → IsSound s.members s.air → slice_index_or s.members a None ≡ Some before
     → member_at s.members a ≡ Some before → Hears stamp place bytes before after frames answered → KeepsNode a None before after frames
@@ -109,14 +109,14 @@ keeps_heard s a stamp place bytes before after frames answered sound there was h
     let m = met_by x h.first h.second p (length before.arrivals) in
     let names = all_names s a before (acquainted s.members s.air a before sound there) sound.pairs was h.peer x h.neighbour_is in
     let frames_are : frames ≡ heard_frames x p m = h.frames_are ∙ ap (heard_frames x p) h.met_is in
-    keeps_one s a h.peer before after (heard_member stamp before place h.peer x p h.met) frames x _ sound there was h.neighbour_is h.after refl refl
-    (subst (AreFor (node_word h.peer)) (sym frames_are) (heard_all_for (node_word h.peer) x.pair h.first h.second p (length before.arrivals) (no_broadcast x.in_step) (no_broadcast (in_step_after x p m)) names))
+    keeps_one s a h.peer before after (heard_member stamp before place h.peer x p h.met h.out h.last) frames x _ sound there was h.neighbour_is h.after refl refl
+    (subst (AreFor (node_word h.peer)) (sym frames_are) (heard_all_for (node_word h.peer) x.pair.link h.first h.second p (length before.arrivals) (no_broadcast x.in_step) (no_broadcast (in_step_after x p m)) names))
 
 keeps_send : (s : Stage) (a stamp port peer : ℕ) (to : PortId) (importance : Importance) (body : List ℕ) (before after : MemberState) (frames : List Outgoing) (answered : Answer) → IsSound s.members s.air
     → slice_index_or s.members a None ≡ Some before → member_at s.members a ≡ Some before → Sends stamp port peer to importance body before after frames answered → KeepsNode a None before after frames
-keeps_send s a stamp port peer to importance body before after frames answered sound there was h = case (refusal before.node port peer (limit_of importance)) refl
+keeps_send s a stamp port peer to importance body before after frames answered sound there was h = case (refusal before.node port peer (limit_of importance) body) refl
   where
-    case : (o : Option Answer) → refusal before.node port peer (limit_of importance) ≡ o → KeepsNode a None before after frames
+    case : (o : Option Answer) → refusal before.node port peer (limit_of importance) body ≡ o → KeepsNode a None before after frames
     case None free = keeps_put s a stamp (note.SendPort port to importance body) peer (direct before.node.own port to importance body) before after frames answered sound there was (h.sent free)
     case (Some why) stops = let r = h.refused why stops in keeps_quiet a before after (refused_member stamp before port to importance body why) frames r.0 refl refl r.1
 
@@ -131,7 +131,7 @@ keeps_arrival s a stamp bearer place bytes before after frames answered sound th
 keeps_restart : (a : ℕ) (before after : MemberState) (frames : List Outgoing) → IsRestarted before after → frames ≡ [] → KeepsNode a None before after frames
 keeps_restart a before after frames r none = record {
   own = r.node.own_is;
-  none = λ b _ was. ap (λ o. option_map (λ (y : Neighbour). y.pair) o) (r.node.alone b);
+  none = λ b _ was. ap (λ o. option_map (λ (y : Neighbour). y.pair.link) o) (r.node.alone b);
   routed = subst (AreRouted a) (sym none) tt;
 }
 
@@ -140,7 +140,7 @@ keeps_know a peer before after frames number apart is frames_are = record {
   own = ap (λ (m : MemberState). m.node.own) is;
   none = λ b other was.
       let b_apart : b ≢ peer = λ e. other (ap Some (sym e)) in
-      ap (λ (m : MemberState). link_in m.node b) is ∙ ap (λ o. option_map (λ (y : Neighbour). y.pair) o) (get_or-set_other before.node.neighbours peer b _ None b_apart) ∙ was;
+      ap (λ (m : MemberState). link_in m.node b) is ∙ ap (λ o. option_map (λ (y : Neighbour). y.pair.link) o) (get_or-set_other before.node.neighbours peer b _ None b_apart) ∙ was;
   routed = subst (AreRouted a) (sym frames_are) (routed_for a peer _ number apart (known_for before peer));
 }
 
@@ -226,7 +226,7 @@ brings s stamp (Socket a) bytes before after frames answered sound there ready =
 brings s stamp (SendPort a port to importance body) bytes before after frames answered sound there ready = tt
 brings s stamp (Receive a port) bytes before after frames answered sound there ready = tt
 brings s stamp (Arrive a bearer place) bytes before after frames answered sound there ready =
-    subst (λ bs. stop_of before.node bearer bs ≡ None → (h : Hears stamp place bs before after frames answered) → Brings h.neighbour.pair h.packet h.met) (sym ready.3)
+    subst (λ bs. stop_of before.node bearer bs ≡ None → (h : Hears stamp place bs before after frames answered) → Brings h.neighbour.pair.link h.met (opened_in h.out)) (sym ready.3)
     (λ clear h. reached_brings s a stamp bearer place place ready.0 before after frames answered sound there ready.1 ready.2 clear h)
 
 -- after every event a sound world is sound

@@ -8,8 +8,10 @@ use Rattle.tipc_types.specs.Address.{node_word}
 use Rattle.tipc_types.specs.declared.message_forms.Flow.TheVariants.{Zero}
 use Rattle.tipc_types.specs.declared.node_calls.Answer.{Answer}
 use Rattle.tipc_journal.proofs.StreamLaws.{accepted_nil, delivered_nil}
-use Rattle.tipc_pair.specs.Paired.{ArePaired, IsNew}
-use Rattle.tipc_pair.proofs.CallsStart.{starts}
+use Rattle.tipc_fragments.specs.Joining.{fresh}
+use Rattle.tipc_pair.specs.Paired.{IsNew}
+use Rattle.tipc_pair.specs.Partners.{ArePartners}
+use Rattle.tipc_pair.proofs.PartnersArrives.{starts}
 use Rattle.tipc_node.specs.declared.neighbours.Neighbour.{Neighbour}
 use Rattle.tipc_world.specs.declared.air.Sent.{Sent}
 use Rattle.tipc_world.specs.declared.events.WorldEvent.{WorldEvent}
@@ -19,10 +21,10 @@ use Rattle.tipc_world.specs.Calls.{CanHappenAt}
 use Rattle.tipc_world.specs.Due.{unarrived}
 use Rattle.tipc_world.specs.Members.{IsNewcomer, bytes_of}
 use Rattle.tipc_world.specs.Sound.{IsAirborne, IsNumber, IsSound}
-use Rattle.tipc_world.specs.States.{MemberState, WorldState, boot_at, count_at, count_in, history, history_at, link_at, link_in, member_at, same_session, stream_of}
+use Rattle.tipc_world.specs.States.{MemberState, WorldState, boot_at, count_at, count_in, history, history_at, link_at, link_in, member_at, same_session, stream_of, begun_at, begun_in}
 use Rattle.tipc_world.specs.Steps.{Becomes, IsArrival, IsJoined, IsStep, Stage, stage}
 use Rattle.tipc_world.specs.Views.{put_in, took_in, view_at, view_from}
-use Rattle.tipc_world.proofs.LookUps.{boot_at-is, boot_at-same, count_at-is, count_at-same, history_at-is, history_at-same, link_at-is, link_at-same, member_at-is}
+use Rattle.tipc_world.proofs.LookUps.{begun_at-is, begun_at-same, boot_at-is, boot_at-same, count_at-is, count_at-same, history_at-is, history_at-same, link_at-is, link_at-same, member_at-is}
 use Rattle.tipc_world.proofs.SoundEvents.{happens_sound}
 use Rattle.tipc_world.proofs.StreamsEvents.{joined_keeps_streams, streams_start}
 use Rattle.tipc_world.proofs.StreamsKept.{streams_of}
@@ -73,6 +75,10 @@ absent_link : (members : List (Option MemberState)) (n b : ℕ) → slice_index_
 unfolding link_at member_at
 absent_link members n b none = ap (λ o. option_and_then (λ (m : MemberState). link_in m.node b) o) none
 
+absent_begun : (members : List (Option MemberState)) (n b : ℕ) → slice_index_or members n None ≡ None → begun_at members n b ≡ fresh
+unfolding begun_at member_at
+absent_begun members n b none = ap (λ o. unwrap_or (option_map (λ (m : MemberState). begun_in m.node b) o) fresh) none
+
 absent_count : (members : List (Option MemberState)) (n b epoch : ℕ) → slice_index_or members n None ≡ None → count_at members n b epoch ≡ 0
 unfolding count_at member_at
 absent_count members n b epoch none = ap (λ o. unwrap_or (option_map (λ (m : MemberState). count_in m.counts b epoch) o) 0) none
@@ -89,6 +95,7 @@ new_count m n b epoch c = ap (λ cs. unwrap_or (lookup (same_session (b, epoch))
 record IsSame (members members' : List (Option MemberState)) (a : ℕ) : Type 0 where
   pub boot : boot_at members' a ≡ boot_at members a
   pub link : (b : ℕ) → link_at members' a b ≡ link_at members a b
+  pub begun : (b : ℕ) → begun_at members' a b ≡ begun_at members a b
   pub entries : history_at members' a ≡ history_at members a
   pub numbered : (b epoch : ℕ) → count_at members' a b epoch ≡ count_at members a b epoch
 
@@ -97,7 +104,8 @@ newcomer_same : (members members' : List (Option MemberState)) (n : ℕ) (m : Me
 newcomer_same members members' n m none there c =
     let is = member_at-is members' n m there in record {
       boot = boot_at-is members' n m is ∙ c.node.boot_is ∙ sym (absent_boot members n none);
-      link = λ b. link_at-is members' n b m is ∙ ap (λ o. option_map (λ (x : Neighbour). x.pair) o) (c.node.alone b) ∙ sym (absent_link members n b none);
+      link = λ b. link_at-is members' n b m is ∙ ap (λ o. option_map (λ (x : Neighbour). x.pair.link) o) (c.node.alone b) ∙ sym (absent_link members n b none);
+      begun = λ b. begun_at-is members' n b m is ∙ ap (λ o. unwrap_or (option_map (λ (x : Neighbour). x.pair.begun) o) fresh) (c.node.alone b) ∙ sym (absent_begun members n b none);
       entries = history_at-is members' n m is ∙ new_history m n c ∙ sym (absent_history members n none);
       numbered = λ b epoch. count_at-is members' n b epoch m is ∙ new_count m n b epoch c ∙ sym (absent_count members n b epoch none);
     }
@@ -113,6 +121,7 @@ all_same old new n none j a = elim (cases_eq a n) [
       let is = member_alike old.members new.members a (j.others a other) in record {
         boot = boot_at-same old.members new.members a is;
         link = λ b. link_at-same old.members new.members a b is;
+        begun = λ b. begun_at-same old.members new.members a b is;
         entries = history_at-same old.members new.members a is;
         numbered = λ b epoch. count_at-same old.members new.members a b epoch is;
       }
@@ -153,7 +162,11 @@ joined_sound old new n number none sound j =
       numbered = joined_numbers old new n number sound j;
       apart = λ a. (same a).link a ∙ sound.apart a;
       known = λ a b absent. (same a).link b ∙ sound.known a b (λ is. joined_absent old new n b j (absent is));
-      pairs = λ a b a_is b_is apart. subst (λ x. ArePaired x (view_at new.members new.air b a)) (sym (view a b)) (subst (λ y. ArePaired (view_at old.members old.air a b) y) (sym (view b a)) (sound.pairs a b a_is b_is apart));
+      pairs = λ a b a_is b_is apart.
+          subst (λ x. ArePartners x (begun_at new.members a b) (view_at new.members new.air b a) (begun_at new.members b a)) (sym (view a b))
+          (subst (λ y. ArePartners (view_at old.members old.air a b) (begun_at new.members a b) y (begun_at new.members b a)) (sym (view b a))
+          (subst (λ j. ArePartners (view_at old.members old.air a b) j (view_at old.members old.air b a) (begun_at new.members b a)) (sym ((same a).begun b))
+          (subst (λ j. ArePartners (view_at old.members old.air a b) (begun_at old.members a b) (view_at old.members old.air b a) j) (sym ((same b).begun a)) (sound.pairs a b a_is b_is apart))));
       one_flow = streams.one_flow;
       accepted = streams.accepted;
       delivered = streams.delivered;
@@ -189,7 +202,9 @@ start_sound = record {
   numbered = λ n m there. absurd cc;
   apart = λ a. absent_link [] a a (nothing_there a);
   known = λ a b _. absent_link [] a b (nothing_there a);
-  pairs = λ a b a_is b_is apart. starts (view_at [] [] a b) (view_at [] [] b a) (new_view a b a_is b_is) (new_view b a b_is a_is);
+  pairs = λ a b a_is b_is apart.
+      subst (λ j. ArePartners (view_at [] [] a b) j (view_at [] [] b a) (begun_at [] b a)) (sym (absent_begun [] a b (nothing_there a)))
+      (subst (λ j. ArePartners (view_at [] [] a b) fresh (view_at [] [] b a) j) (sym (absent_begun [] b a (nothing_there b))) (starts (view_at [] [] a b) (view_at [] [] b a) (new_view a b a_is b_is) (new_view b a b_is a_is)));
   one_flow = streams_start.one_flow;
   accepted = streams_start.accepted;
   delivered = streams_start.delivered;

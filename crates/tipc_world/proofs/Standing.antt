@@ -3,7 +3,8 @@ use Rattle.std.proofs.Common.{◌⊎◌, ◌≡◌, ◌≢◌, ℕ, List, Option
 use Rattle.std.proofs.lemmas.Bool.{cases_lt}
 use Rattle.tipc_types.specs.Address.{node_word}
 use Rattle.tipc_link.specs.Sessions.{SessionEnd}
-use Rattle.tipc_pair.specs.Paired.{ArePaired}
+use Rattle.tipc_fragments.specs.Joining.{Joining}
+use Rattle.tipc_pair.specs.Partners.{ArePartners}
 use Rattle.tipc_pair.specs.Views.{View}
 use Rattle.tipc_node.specs.declared.neighbours.Neighbour.{Neighbour}
 use Rattle.tipc_node.specs.Nodes.{neighbour_of}
@@ -27,26 +28,26 @@ number_cases n = elim (cases_lt n 1) [
 
 -- ---- a link
 
-pub view_link : (s : Stage) (a b : ℕ) (m : MemberState) (x : Neighbour) → member_at s.members a ≡ Some m → neighbour_of m.node b ≡ Some x → (view_in s a b).link ≡ Some x.pair
+pub view_link : (s : Stage) (a b : ℕ) (m : MemberState) (x : Neighbour) → member_at s.members a ≡ Some m → neighbour_of m.node b ≡ Some x → (view_in s a b).link ≡ Some x.pair.link
 unfolding view_at
-view_link s a b m x was is = link_at-is s.members a b m was ∙ ap (λ o. option_map (λ (y : Neighbour). y.pair) o) is
+view_link s a b m x was is = link_at-is s.members a b m was ∙ ap (λ o. option_map (λ (y : Neighbour). y.pair.link) o) is
 
 pub view_no_link : (s : Stage) (a b : ℕ) (m : MemberState) → member_at s.members a ≡ Some m → neighbour_of m.node b ≡ None → (view_in s a b).link ≡ None
 unfolding view_at
-view_no_link s a b m was is = link_at-is s.members a b m was ∙ ap (λ o. option_map (λ (y : Neighbour). y.pair) o) is
+view_no_link s a b m was is = link_at-is s.members a b m was ∙ ap (λ o. option_map (λ (y : Neighbour). y.pair.link) o) is
 
 -- its frames are for the peer
-pub view_names : (s : Stage) (a b : ℕ) (m : MemberState) (x : Neighbour) (y : View) → member_at s.members a ≡ Some m → neighbour_of m.node b ≡ Some x → ArePaired (view_in s a b) y → Names (node_word b) x.pair
+pub view_names : (s : Stage) (a b : ℕ) (m : MemberState) (x : Neighbour) (begun : Joining) (y : View) (y_begun : Joining) → member_at s.members a ≡ Some m → neighbour_of m.node b ≡ Some x → ArePartners (view_in s a b) begun y y_begun → Names (node_word b) x.pair.link
 unfolding view_at
-view_names s a b m x y was is h =
-    let end = h.here.end x.pair (view_link s a b m x was is) in
+view_names s a b m x begun y y_begun was is h =
+    let end = h.paired.here.end x.pair.link (view_link s a b m x was is) in
     record { peer = end.peer; session = λ t has. (end.session t has).1 ∙ end.peer }
 
 -- how many packets its session has numbered
-pub view_counts : (s : Stage) (a b : ℕ) (m : MemberState) (x : Neighbour) (y : View) → member_at s.members a ≡ Some m → neighbour_of m.node b ≡ Some x → ArePaired (view_in s a b) y
-    → (t : SessionEnd) → x.pair.session ≡ Some t → count_in m.counts b t.epoch ≡ t.sending.numbered
+pub view_counts : (s : Stage) (a b : ℕ) (m : MemberState) (x : Neighbour) (begun : Joining) (y : View) (y_begun : Joining) → member_at s.members a ≡ Some m → neighbour_of m.node b ≡ Some x → ArePartners (view_in s a b) begun y y_begun
+    → (t : SessionEnd) → x.pair.link.session ≡ Some t → count_in m.counts b t.epoch ≡ t.sending.numbered
 unfolding view_at
-view_counts s a b m x y was is h t has = sym (count_at-is s.members a b t.epoch m was) ∙ h.here.counts x.pair t (view_link s a b m x was is) has
+view_counts s a b m x begun y y_begun was is h t has = sym (count_at-is s.members a b t.epoch m was) ∙ h.paired.here.counts x.pair.link t (view_link s a b m x was is) has
 
 -- ---- all links of a node
 
@@ -59,14 +60,14 @@ pub record IsAcquainted (members : List (Option MemberState)) (a : ℕ) : Type 0
 -- each neighbour of a node is another one
 pub neighbour_apart : (s : Stage) (a : ℕ) (m : MemberState) → IsAcquainted s.members a → member_at s.members a ≡ Some m → (k : ℕ) (x : Neighbour) → neighbour_of m.node k ≡ Some x → IsNumber k × (k ≢ a)
 neighbour_apart s a m knows was k x is =
-    let link : link_at s.members a k ≡ Some x.pair = link_at-is s.members a k m was ∙ ap (λ o. option_map (λ (y : Neighbour). y.pair) o) is in
+    let link : link_at s.members a k ≡ Some x.pair.link = link_at-is s.members a k m was ∙ ap (λ o. option_map (λ (y : Neighbour). y.pair.link) o) is in
     elim (number_cases k) [
       | inl number ↦ (number, λ same. let none : link_at s.members a k ≡ None = ap (link_at s.members a) same ∙ knows.apart in let wrong : ⊥ = cc in wrong)
       | inr other ↦ absurd (let none = knows.only k other in let wrong : ⊥ = cc in wrong)
     ]
 
 -- the frames of each neighbour are for it
-pub all_names : (s : Stage) (a : ℕ) (m : MemberState) → IsAcquainted s.members a → AllPaired s → member_at s.members a ≡ Some m → (k : ℕ) (x : Neighbour) → neighbour_of m.node k ≡ Some x → Names (node_word k) x.pair
+pub all_names : (s : Stage) (a : ℕ) (m : MemberState) → IsAcquainted s.members a → AllPaired s → member_at s.members a ≡ Some m → (k : ℕ) (x : Neighbour) → neighbour_of m.node k ≡ Some x → Names (node_word k) x.pair.link
 all_names s a m knows paired was k x is =
     let other = neighbour_apart s a m knows was k x is in
-    view_names s a k m x (view_in s k a) was is (paired a k knows.number other.0 (λ e. other.1 (sym e)))
+    view_names s a k m x _ (view_in s k a) _ was is (paired a k knows.number other.0 (λ e. other.1 (sym e)))

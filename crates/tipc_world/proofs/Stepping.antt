@@ -7,7 +7,9 @@ use Rattle.std.proofs.Math.Seq.{take-append_seam}
 use Rattle.tipc_types.specs.declared.identity.Addr.{Addr}
 use Rattle.tipc_types.specs.declared.link_words.Cause.{Cause}
 use Rattle.tipc_types.specs.declared.link_words.Cause.TheVariants as cause
+use Rattle.tipc_types.specs.declared.message_forms.Message.{Message}
 use Rattle.tipc_types.specs.declared.node_calls.EventNote.TheVariants as event
+use Rattle.tipc_reassembly.proofs.TraceLaws.{traced_weaker}
 use Rattle.tipc_journal.specs.declared.entries.Entry.{Entry}
 use Rattle.tipc_journal.specs.declared.entries.Entry.TheVariants as entry
 use Rattle.tipc_journal.specs.Prefixes.{IsPrefixOf}
@@ -17,6 +19,8 @@ use Rattle.tipc_world.specs.declared.air.Arrived.{Arrived}
 use Rattle.tipc_world.specs.declared.air.Sent.{Sent}
 use Rattle.tipc_world.specs.Causes.{arrived_frame, tick_of, ticks, BringsUp, HasTicked, IsArrivalOf, IsCaused, IsNumberOf, IsResetOf, IsTakenFrom, Seen}
 use Rattle.tipc_world.specs.Lawful.{IsLawful, IsLawfulEntry, IsLawfulStep}
+use Rattle.tipc_world.specs.Members.{bytes_of}
+use Rattle.tipc_world.specs.Spelled.{HasBrought, IsBy, IsSpelled}
 use Rattle.tipc_world.proofs.Within.{get_longer, within_more}
 
 -- ---- lists
@@ -73,7 +77,7 @@ arrival_back old new s f peer w found a =
 ticked_wider : (old new : Seen) (made : List PlacedStep) (peer : Addr) (least : ℕ) → Widens old new → AllArrive old made → HasTicked old made peer least → HasTicked new made peer least
 ticked_wider old new made peer least w found h k s there (inl up) = h k s there (inl up)
 ticked_wider old new made peer least w found h k s there (inr taken) =
-    h k s there (inr (record { frame = taken.frame; arrives = arrival_back old new s.step taken.frame peer w (found k s there) taken.arrives; messages = taken.messages; took = taken.took }))
+    h k s there (inr (record { frame = taken.frame; arrives = arrival_back old new s.step taken.frame peer w (found k s there) taken.arrives; answered = taken.answered; answer_is = taken.answer_is; taken = taken.taken }))
 
 number_wider : (old new : Seen) (s : NodeStep) (peer : Addr) (number : ℕ) → Widens old new → IsNumberOf old s peer number → IsNumberOf new s peer number
 number_wider old new s peer number w n = record {
@@ -107,6 +111,23 @@ caused_wider old new earlier s peer theirs cause.PeerReset shown w found h = (re
 caused_wider old new earlier s peer theirs cause.PeerTunnel shown w found h = h
 caused_wider old new earlier s peer theirs cause.ContactEnded shown w found h = (h.0, h.1, h.2, h.3, h.4, number_wider old new s.step peer h.3 w h.5, h.6)
 
+pub brought_wider : (old new : Seen) (peer : Addr) (by : ℕ) (bytes : List ℕ) → Widens old new → HasBrought old peer by bytes → HasBrought new peer by bytes
+brought_wider old new peer by bytes w b = record {
+  frame = b.frame;
+  arrived = arrived_longer old new by b.frame w b.arrived;
+  from = b.from;
+  es = b.es;
+  er = b.er;
+  packet = b.packet;
+  fits = b.fits;
+  frame_is = b.frame_is;
+  bytes_is = b.bytes_is;
+}
+
+spelled_wider : (old new : Seen) (s : NodeStep) (peer : Addr) (message : Message) (by : List ℕ) → Widens old new → IsSpelled old s peer message by → IsSpelled new s peer message by
+spelled_wider old new s peer message by w h =
+    traced_weaker (λ n b. HasBrought old peer n b × IsBy s n) (λ n b. HasBrought new peer n b × IsBy s n) (λ n b both. (brought_wider old new peer n b w both.0, both.1)) (bytes_of message) by h
+
 entry_wider : (old new : Seen) (earlier : List PlacedStep) (s : PlacedStep) (e : Entry) → Widens old new → AllArrive old earlier → IsLawfulEntry old earlier s e → IsLawfulEntry new earlier s e
 entry_wider old new earlier s (entry.LinkUp peer bearer own theirs) w found h = h
 entry_wider old new earlier s (entry.LinkDown peer bearer because shown) w found h = (h.0, (h.1.0, h.1.1, h.1.2, caused_wider old new earlier s peer h.1.1 because shown w found h.1.3))
@@ -116,7 +137,7 @@ entry_wider old new earlier s (entry.ContactDown peer numbers states number) w f
     by (inl none) = inl none
     by (inr n) = inr (number_wider old new s.step peer number w n.0, n.1)
 entry_wider old new earlier s (entry.Accepted peer numbers flow message) w found h = h
-entry_wider old new earlier s (entry.Delivered peer numbers flow message by) w found h = h
+entry_wider old new earlier s (entry.Delivered peer numbers flow message by) w found h = (h.0, spelled_wider old new s.step peer message by w h.1)
 entry_wider old new earlier s other w found h = tt
 
 pub step_wider : (old new : Seen) (earlier : List PlacedStep) (s : PlacedStep) → Widens old new → AllArrive old earlier → IsLawfulStep old earlier s → IsLawfulStep new earlier s

@@ -22,10 +22,13 @@ use Rattle.tipc_world.specs.declared.events.WorldEvent.TheVariants.{Know, Mend, 
 use Rattle.tipc_world.specs.Deeds.{Arrives, Does, Hears, Puts, Sends}
 use Rattle.tipc_world.specs.Members.{IsNewcomer}
 use Rattle.tipc_world.specs.Sound.{IsNumber, IsSendable, IsSound}
-use Rattle.tipc_world.specs.States.{MemberState, WorldState, accepted_at, delivered_at, history, history_at, link_at, member_at, stream_of}
+use Rattle.std.specs.Prelude.{unwrap_or}
+use Rattle.tipc_fragments.specs.Joining.{fresh}
+use Rattle.tipc_pair.specs.Partners.{opened_in}
+use Rattle.tipc_world.specs.States.{MemberState, WorldState, accepted_at, begun_at, delivered_at, history, history_at, link_at, member_at, stream_of}
 use Rattle.tipc_world.specs.Steps.{Happens, IsJoined, Stage}
 use Rattle.tipc_world.specs.Calls.{node_of}
-use Rattle.tipc_world.proofs.LookUps.{history_at-is, history_at-same, link_at-is, member_at-is}
+use Rattle.tipc_world.proofs.LookUps.{begun_at-is, history_at-is, history_at-same, link_at-is, member_at-is}
 use Rattle.tipc_world.proofs.Messages.{direct_sendable}
 use Rattle.tipc_world.proofs.HistoryEvents.{deed_streams, know_streams, puts_grew, receive_streams, refused_streams, restart_streams, socket_streams, stopped_streams}
 use Rattle.tipc_world.proofs.HistoryPackets.{Brings, hears_delivers}
@@ -35,16 +38,21 @@ use Rattle.tipc_world.proofs.StreamsKept.{StreamsSound, accepted_by, delivered_b
 
 -- the node knows the peer
 pub hears_link : (members : List (Option MemberState)) (a stamp place : ℕ) (bytes : List ℕ) (m m' : MemberState) (frames : List Outgoing) (answered : Answer) (h : Hears stamp place bytes m m' frames answered)
-    → slice_index_or members a None ≡ Some m → link_at members a h.peer ≡ Some h.neighbour.pair
+    → slice_index_or members a None ≡ Some m → link_at members a h.peer ≡ Some h.neighbour.pair.link
 hears_link members a stamp place bytes m m' frames answered h was =
-    link_at-is members a h.peer m (member_at-is members a m was) ∙ ap (λ o. option_map (λ x. x.pair) o) h.neighbour_is
+    link_at-is members a h.peer m (member_at-is members a m was) ∙ ap (λ o. option_map (λ x. x.pair.link) o) h.neighbour_is
+
+pub hears_begun : (members : List (Option MemberState)) (a stamp place : ℕ) (bytes : List ℕ) (m m' : MemberState) (frames : List Outgoing) (answered : Answer) (h : Hears stamp place bytes m m' frames answered)
+    → slice_index_or members a None ≡ Some m → begun_at members a h.peer ≡ h.neighbour.pair.begun
+hears_begun members a stamp place bytes m m' frames answered h was =
+    begun_at-is members a h.peer m (member_at-is members a m was) ∙ ap (λ o. unwrap_or (option_map (λ x. x.pair.begun) o) fresh) h.neighbour_is
 
 -- and is another node
 pub hears_apart : (members : List (Option MemberState)) (air : List Sent) (a stamp place : ℕ) (bytes : List ℕ) (m m' : MemberState) (frames : List Outgoing) (answered : Answer) (h : Hears stamp place bytes m m' frames answered)
     → IsSound members air → slice_index_or members a None ≡ Some m → a ≢ h.peer
 hears_apart members air a stamp place bytes m m' frames answered h sound was same =
     let link = hears_link members a stamp place bytes m m' frames answered h was in
-    let own : link_at members a a ≡ Some h.neighbour.pair = ap (λ b. link_at members a b) same ∙ link in
+    let own : link_at members a a ≡ Some h.neighbour.pair.link = ap (λ b. link_at members a b) same ∙ link in
     let none = sound.apart a in
     (let wrong : ⊥ = cc in wrong)
 
@@ -55,28 +63,28 @@ puts_stay : (members members' : List (Option MemberState)) (a stamp port peer : 
     → Puts stamp (note.SendPort port to importance body) peer (direct m.node.own port to importance body) m m' frames answered → StreamsSound members'
 puts_stay members members' a stamp port peer to importance body m m' frames answered streams was is h =
     let message = direct m.node.own port to importance body in
-    streams_stay members members' a m m' peer h.neighbour.pair.contact h.neighbour.pair.peer_contact (message ∷ []) [] streams was is
+    streams_stay members members' a m m' peer h.neighbour.pair.link.contact h.neighbour.pair.link.peer_contact (message ∷ []) [] streams was is
     (puts_grew stamp (note.SendPort port to importance body) peer message m m' frames answered h)
     (Each-one IsSendable message (direct_sendable m.node.own port to importance body h.packet h.packet_is h.fits)) (Each-none IsSendable) (λ some. absurd (some refl))
 
 sends_stay : (members members' : List (Option MemberState)) (a stamp port peer : ℕ) (to : PortId) (importance : Importance) (body : List ℕ) (m m' : MemberState) (frames : List Outgoing) (answered : Answer)
     → StreamsSound members → slice_index_or members a None ≡ Some m → members' ≡ slice_set members a (Some m') → Sends stamp port peer to importance body m m' frames answered → StreamsSound members'
-sends_stay members members' a stamp port peer to importance body m m' frames answered streams was is h = case (refusal m.node port peer (limit_of importance)) refl
+sends_stay members members' a stamp port peer to importance body m m' frames answered streams was is h = case (refusal m.node port peer (limit_of importance) body) refl
   where
-    case : (r : Option Answer) → refusal m.node port peer (limit_of importance) ≡ r → StreamsSound members'
+    case : (r : Option Answer) → refusal m.node port peer (limit_of importance) body ≡ r → StreamsSound members'
     case None free = puts_stay members members' a stamp port peer to importance body m m' frames answered streams was is (h.sent free)
     case (Some why) stops = streams_same members members' a m m' streams was is (refused_streams stamp m m' port to importance body why (h.refused why stops).0)
 
 hears_stay : (members members' : List (Option MemberState)) (air : List Sent) (a stamp place : ℕ) (bytes : List ℕ) (m m' : MemberState) (frames : List Outgoing) (answered : Answer)
-    → IsSound members air → slice_index_or members a None ≡ Some m → members' ≡ slice_set members a (Some m') → (h : Hears stamp place bytes m m' frames answered) → Brings h.neighbour.pair h.packet h.met → StreamsSound members'
+    → IsSound members air → slice_index_or members a None ≡ Some m → members' ≡ slice_set members a (Some m') → (h : Hears stamp place bytes m m' frames answered) → Brings h.neighbour.pair.link h.met (opened_in h.out) → StreamsSound members'
 hears_stay members members' air a stamp place bytes m m' frames answered sound was is h brings =
     let d = hears_delivers stamp place bytes m m' frames answered h brings in
-    streams_stay members members' a m m' h.peer h.neighbour.pair.contact h.neighbour.pair.peer_contact [] d.messages (streams_of members air sound) was is d.grew (Each-none IsSendable) d.sendable
+    streams_stay members members' a m m' h.peer h.neighbour.pair.link.contact h.neighbour.pair.link.peer_contact [] d.messages (streams_of members air sound) was is d.grew (Each-none IsSendable) d.sendable
     (λ some. ((sound.numbered a m was).0, h.due.range, hears_apart members air a stamp place bytes m m' frames answered h sound was))
 
 arrives_stay : (members members' : List (Option MemberState)) (air : List Sent) (a stamp bearer place : ℕ) (bytes : List ℕ) (m m' : MemberState) (frames : List Outgoing) (answered : Answer)
     → IsSound members air → slice_index_or members a None ≡ Some m → members' ≡ slice_set members a (Some m')
-    → (stop_of m.node bearer bytes ≡ None → (h : Hears stamp place bytes m m' frames answered) → Brings h.neighbour.pair h.packet h.met) → Arrives stamp bearer place bytes m m' frames answered → StreamsSound members'
+    → (stop_of m.node bearer bytes ≡ None → (h : Hears stamp place bytes m m' frames answered) → Brings h.neighbour.pair.link h.met (opened_in h.out)) → Arrives stamp bearer place bytes m m' frames answered → StreamsSound members'
 arrives_stay members members' air a stamp bearer place bytes m m' frames answered sound was is brings h = case (stop_of m.node bearer bytes) refl
   where
     case : (r : Option Why) → stop_of m.node bearer bytes ≡ r → StreamsSound members'
@@ -86,7 +94,7 @@ arrives_stay members members' air a stamp bearer place bytes m m' frames answere
 -- What an arrival that reaches a link brought is the packet of a message that the peer put.
 abbrev pub BringsMessages : ℕ → WorldEvent → List ℕ → MemberState → MemberState → List Outgoing → Answer → Type 0
 BringsMessages stamp (Arrive node bearer place) bytes m m' frames answered =
-    stop_of m.node bearer bytes ≡ None → (h : Hears stamp place bytes m m' frames answered) → Brings h.neighbour.pair h.packet h.met
+    stop_of m.node bearer bytes ≡ None → (h : Hears stamp place bytes m m' frames answered) → Brings h.neighbour.pair.link h.met (opened_in h.out)
 BringsMessages stamp other bytes m m' frames answered = Unit {0}
 
 pub does_keep_streams : (members members' : List (Option MemberState)) (air : List Sent) (a stamp : ℕ) (event : WorldEvent) (bytes : List ℕ) (m m' : MemberState) (frames : List Outgoing) (answered : Answer)

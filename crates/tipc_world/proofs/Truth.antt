@@ -1,73 +1,132 @@
 -- Every frame in the air of a sound world is true.
-use Rattle.std.proofs.Common.{◌≡◌, eqb-true, ◌≤◌, ◌+◌, ◌-◌, ℕ, zero, suc, true, List, [], ◌∷◌, Option, Some, map, refl, ap, ◌∙◌, arith}
+use Rattle.std.proofs.Common.{length, sym, ◌≡◌, eqb-true, ◌≤◌, ◌+◌, ◌-◌, ℕ, zero, suc, true, List, [], ◌∷◌, Option, Some, refl, ap, ◌∙◌, arith}
 use Rattle.std.specs.Prelude.{slice_get}
-use Rattle.std.proofs.lemmas.List.{length-map}
 use Rattle.tipc_types.specs.Address.{node_word}
 use Rattle.tipc_types.specs.Position.{number_of}
 use Rattle.tipc_types.specs.declared.identity.To.{To}
 use Rattle.tipc_types.specs.declared.identity.To.TheVariants as to
-use Rattle.tipc_types.specs.declared.message_forms.Flow.TheVariants.{Zero}
-use Rattle.tipc_types.specs.declared.message_forms.Message.{Message}
-use Rattle.tipc_header.specs.Spelling.{Fields}
-use Rattle.tipc_pair.specs.Paired.{ArePaired, IsOfSession}
+use Rattle.std.specs.Prelude.{All, option_map, ◌*◌}
+use Rattle.std.proofs.Common.{length-append, subst}
+use Rattle.std.proofs.lemmas.List.Elements.{All-head, All-tail}
+use Rattle.tipc_header.specs.declared.packet.Header.{Header}
+use Rattle.tipc_header.specs.declared.packet.Header.TheVariants as header
+use Rattle.tipc_header.specs.Frames.{envelope, frame_of, unsent}
+use Rattle.tipc_header.specs.Grammar.{Fits, RestFits}
+use Rattle.tipc_header.specs.Spelling.{Fields, numbers_size, spelling}
+use Rattle.tipc_header.specs.Users.{header_size}
+use Rattle.tipc_header.proofs.Again.{length-spelling}
+use Rattle.tipc_header.proofs.FrameWords.{length-envelope}
+use Rattle.tipc_fragments.specs.Cutting.{packet_of}
+use Rattle.tipc_link.specs.Links.{is_traffic}
+use Rattle.tipc_link.specs.Sessions.{Carries, content_by, content_of}
+use Rattle.std.proofs.lemmas.Option.{slice_get-map}
+use Rattle.tipc_fragments.specs.Joining.{Joining}
+use Rattle.tipc_reassembly.specs.Slots.{Fragment, Group, IsSlot, Slot, slot_bytes}
+use Rattle.tipc_pair.specs.Paired.{IsOfSession}
+use Rattle.tipc_pair.specs.Partners.{ArePartners, crossing}
 use Rattle.tipc_pair.specs.Views.{Frame}
 use Rattle.tipc_world.specs.declared.air.Sent.{Sent}
 use Rattle.tipc_world.specs.Air.{as_frame, is_to, sent_between}
 use Rattle.tipc_world.specs.Good.{IsTold, IsTrue}
-use Rattle.tipc_world.specs.Members.{bytes_of}
 use Rattle.tipc_world.specs.Sound.{IsSound}
 use Rattle.tipc_world.specs.States.{MemberState, accepted_at, delivered_at}
 use Rattle.tipc_world.specs.Views.{view_at}
+use Rattle.tipc_world.proofs.Bringing.{in_front}
 use Rattle.tipc_world.proofs.Reaching.{goes_there, sent_at}
-
--- the message whose packet stands at a place
-message_at : (ms : List Message) (k : ℕ) (bytes : List ℕ) → slice_get (map bytes_of ms) k ≡ Some bytes → (m : Message) × (slice_get ms k ≡ Some m) × (bytes_of m ≡ bytes)
-message_at [] k bytes there = absurd cc
-message_at (m ∷ ms) zero bytes there = (m, refl, (let same : bytes_of m ≡ bytes = cc in same))
-message_at (m ∷ ms) (suc k) bytes there = message_at ms k bytes there
 
 to_is : (b : ℕ) (t : To) → is_to b t ≡ true → t ≡ to.Node (record { word = node_word b })
 to_is b (to.Node address) is = ap (λ w. to.Node (record { word = w })) (eqb-true _ _ is)
 to_is b to.All is = absurd cc
 
+-- ---- the size of a frame
+
+slot_size : (slot : Slot) → IsSlot slot → length (slot_bytes slot) ≤ 1452
+slot_size (Group packets) h = h.within
+slot_size (Fragment piece) h = let size = length-spelling (packet_of piece) in let most = h.most in omega (arith, size, most)
+
+slot_at : (slots : List Slot) (k : ℕ) (bytes : List ℕ) → All IsSlot slots → option_map slot_bytes (slice_get slots k) ≡ Some bytes → length bytes ≤ 1452
+slot_at [] k bytes h there = absurd cc
+slot_at (slot ∷ slots) zero bytes h there = let same : slot_bytes slot ≡ bytes = cc in subst (λ b. length b ≤ 1452) same (slot_size slot (All-head IsSlot slot slots h))
+slot_at (slot ∷ slots) (suc k) bytes h there = slot_at slots k bytes (All-tail IsSlot slot slots h) there
+
+-- what isn't numbered has a short packet, and what is numbered was put into a slot
+packet_size : (h : Header) (n sequence : ℕ) (bytes : List ℕ) → RestFits h n → length bytes ≡ 4 * header_size h + numbers_size h + n
+    → (is_traffic h ≡ true → (number : ℕ) (b : List ℕ) → content_by h sequence bytes ≡ Carries number b → length b ≤ 1452) → length bytes ≤ 1452
+packet_size (header.State s) n sequence bytes rest size carried = omega (arith, size, rest)
+packet_size (header.Reset r) n sequence bytes rest size carried = omega (arith, size, rest)
+packet_size (header.Activate a) n sequence bytes rest size carried = omega (arith, size, rest)
+packet_size (header.Discovery d) n sequence bytes rest size carried = omega (arith, size, rest)
+packet_size other n sequence bytes rest size carried = carried refl sequence bytes refl
+
+frame_size : (members : List (Option MemberState)) (a b own theirs es er : ℕ) (p : Fields) (frame : List ℕ) → Fits p → frame ≡ frame_of es er (spelling p) → (is_traffic p.header ≡ true → IsTold members a b own theirs p) → length frame ≤ 1516
+unfolding content_of
+frame_size members a b own theirs es er p frame fits is told =
+    let unsent_size = length-spelling (unsent p) in
+    let size = length-spelling p in
+    let short : length (spelling (unsent p)) ≤ 1452 = packet_size p.header (length p.rest) p.sequence (spelling (unsent p)) fits.rest unsent_size
+    (λ traffic number bytes carries. let c = ((told traffic).carried number bytes carries).2 in slot_at c.slots _ bytes c.are.sound c.there) in
+    let whole : length frame ≡ length (envelope es er) + length (spelling p) = ap length is ∙ length-append (envelope es er) (spelling p) in
+    let head = length-envelope es er in
+    omega (arith, unsent_size, size, short, whole, head)
+
 position_is : (position : ℕ) → 1 ≤ position → position ≡ position - 1 + 1
 position_is position positive = omega (arith, positive)
 
-told_by : (members : List (Option MemberState)) (air : List Sent) (a b es er : ℕ) (f : Frame) (p : Fields) → IsOfSession (view_at members air a b) (view_at members air b a) f es er p → IsTold members a b f.contact f.peer_contact p
+told_by : (members : List (Option MemberState)) (air : List Sent) (a b es er : ℕ) (x_begun y_begun : Joining) (f : Frame) (p : Fields) → (h : ArePartners (view_at members air a b) x_begun (view_at members air b a) y_begun)
+    → IsOfSession (crossing (view_at members air a b) h.here) (crossing (view_at members air b a) h.there) f es er p → IsTold members a b f.contact f.peer_contact p
 unfolding view_at accepted_at delivered_at
-told_by members air a b es er f p h =
-    let size = length-map (delivered_at members a b f.contact f.peer_contact Zero) bytes_of in
-    let taken = h.told_taken in
+told_by members air a b es er x_begun y_begun f p h s =
+    let taken = length (h.here.got f.contact f.peer_contact) in
+    let given = h.receives.given f.peer_contact f.contact in
+    let slots = h.sends.slots f.contact f.peer_contact in
     record {
-      told = h.told;
-      told_is = h.told_is;
-      told_taken = omega (arith, size, taken);
-      carried = λ number bytes carries. let c = h.carried number bytes carries in let m = message_at (accepted_at members a b f.contact f.peer_contact Zero) (c.position - 1) bytes c.packet_is in
-          (c.position - 1, m.0, c.number_is ∙ ap number_of (position_is c.position c.positive), m.1, m.2);
+      told = s.told;
+      told_is = s.told_is;
+      taken = taken;
+      told_taken = s.told_taken;
+      taken_is = record {
+        slots = h.receives.slots f.peer_contact f.contact;
+        are = record { sound = h.receives.sound f.peer_contact f.contact; front = h.receives.front f.peer_contact f.contact };
+        begun = given.last;
+        gave = given.opened;
+      };
+      carried = λ number bytes carries.
+          let c = s.carried number bytes carries in
+          let there = in_front (h.here.line f.contact f.peer_contact) _ (c.position - 1) bytes c.packet_is in (
+            c.position - 1,
+            c.number_is ∙ ap number_of (position_is c.position c.positive),
+            record {
+              slots = slots;
+              are = record { sound = h.sends.sound f.contact f.peer_contact; front = h.sends.front f.contact f.peer_contact };
+              there = sym (slice_get-map slot_bytes slots (c.position - 1)) ∙ ap (λ ps. slice_get ps (c.position - 1)) (h.sends.bytes f.contact f.peer_contact) ∙ there;
+            },
+          );
     }
 
-true_by : (members : List (Option MemberState)) (air : List Sent) (a b place : ℕ) (f : Sent) → f.from.word ≡ node_word a → is_to b f.to ≡ true → ArePaired (view_at members air a b) (view_at members air b a)
-    → slice_get (sent_between air a b) place ≡ Some (as_frame f) → IsTrue members f
+true_by : (members : List (Option MemberState)) (air : List Sent) (a b place : ℕ) (x_begun y_begun : Joining) (f : Sent) → f.from.word ≡ node_word a → is_to b f.to ≡ true
+    → ArePartners (view_at members air a b) x_begun (view_at members air b a) y_begun → slice_get (sent_between air a b) place ≡ Some (as_frame f) → IsTrue members f
 unfolding view_at
-true_by members air a b place f from to h there =
-    let said = h.here.frames place (as_frame f) there in
+true_by members air a b place x_begun y_begun f from to h there =
+    let said = h.paired.here.frames place (as_frame f) there in
     let spoken = said.spoken in
+    let told : is_traffic spoken.packet.header ≡ true → IsTold members a b f.contact.0 f.contact.1 spoken.packet = λ traffic. told_by members air a b spoken.es spoken.er x_begun y_begun (as_frame f) spoken.packet h (said.session traffic) in
     record {
       a = a;
       b = b;
       from_is = from;
       to_is = to_is b f.to to;
+      size = frame_size members a b f.contact.0 f.contact.1 spoken.es spoken.er spoken.packet f.frame spoken.fits spoken.bytes told;
       es = spoken.es;
       er = spoken.er;
       packet = spoken.packet;
       fits = spoken.fits;
       frame_is = spoken.bytes;
       previous = spoken.previous;
-      told = λ traffic. told_by members air a b spoken.es spoken.er (as_frame f) spoken.packet (said.session traffic);
+      told = told;
     }
 
 pub frame_is_true : (members : List (Option MemberState)) (air : List Sent) → IsSound members air → (k : ℕ) (f : Sent) → slice_get air k ≡ Some f → IsTrue members f
 frame_is_true members air sound k f there =
     let flies = sound.frames k f there in
     let sent = sent_at air flies.from flies.receiver k f there (goes_there flies.from flies.receiver f flies.from_is flies.to_is) in
-    true_by members air flies.from flies.receiver sent.0 f flies.from_is flies.to_is (sound.pairs flies.from flies.receiver flies.from_number flies.receiver_number flies.apart) sent.1
+    true_by members air flies.from flies.receiver sent.0 _ _ f flies.from_is flies.to_is (sound.pairs flies.from flies.receiver flies.from_number flies.receiver_number flies.apart) sent.1

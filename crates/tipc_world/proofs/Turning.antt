@@ -5,21 +5,30 @@ use Rattle.tipc_types.specs.Address.{node_word}
 use Rattle.tipc_outside.specs.declared.outgoing.Outgoing.{Outgoing}
 use Rattle.tipc_link.specs.Links.{LinkEnd}
 use Rattle.tipc_link.specs.Sessions.{SessionEnd}
-use Rattle.tipc_pair.specs.Paired.{ArePaired}
+use Rattle.tipc_fragments.specs.Joining.{Joining}
+use Rattle.tipc_pair.specs.Partners.{ArePartners}
 use Rattle.tipc_pair.specs.Views.{Goes, View, come, framed, own_of, seen_of}
-use Rattle.tipc_pair.proofs.CallsStart.{turned}
+use Rattle.tipc_pair.proofs.PartnersArrives.{turned}
 use Rattle.tipc_world.specs.declared.air.Sent.{Sent}
 use Rattle.tipc_world.specs.Sound.{IsNumber}
-use Rattle.tipc_world.specs.States.{MemberState, count_at, count_in, history, history_at, link_in, member_at}
+use Rattle.tipc_world.specs.States.{MemberState, begun_at, begun_in, count_at, count_in, history, history_at, link_in, member_at}
 use Rattle.tipc_world.specs.Steps.{Stage, Turns}
 use Rattle.tipc_world.specs.Views.{put_in, took_in, view_at, view_from}
 use Rattle.tipc_world.specs.Air.{sent_between}
 use Rattle.tipc_world.proofs.Emissions.{frames_to, sent_adds, sent_same}
-use Rattle.tipc_world.proofs.LookUps.{boot_at-is, boot_at-same, count_at-is, count_at-same, history_at-is, history_at-same, link_at-is, link_at-same, member_at-changed, member_at-is, member_at-other}
+use Rattle.tipc_world.proofs.LookUps.{begun_at-is, begun_at-same, boot_at-is, boot_at-same, count_at-is, count_at-same, history_at-is, history_at-same, link_at-is, link_at-same, member_at-changed, member_at-is, member_at-other}
 
 -- two nodes of a stage as a pair
 abbrev pub view_in : Stage → ℕ → ℕ → View
 view_in s a b = view_at s.members s.air a b
+
+-- the message that is begun at one of them of the other's fragments
+abbrev pub begun_of : Stage → ℕ → ℕ → Joining
+begun_of s a b = begun_at s.members a b
+
+-- two nodes, each in a stage of its own, are partners
+abbrev pub PartnersIn : Stage → Stage → ℕ → ℕ → Type 0
+PartnersIn s t a b = ArePartners (view_in s a b) (begun_of s a b) (view_in t b a) (begun_of t b a)
 
 -- ---- the node that changed, and the others
 
@@ -44,6 +53,27 @@ views_apart old new a before after frames lost t c d apart =
     let sent = sent_same new.members old.air new.air a c d frames lost t.leaves apart in
     λ i. view_from c d (boot i) (link i) (entries i) (λ epoch. numbered epoch i) (sent i)
 
+begun_apart : (old new : Stage) (a : ℕ) (before after : MemberState) (frames : List Outgoing) (lost : Bool) → Turns old new a before after frames lost → (c d : ℕ) → c ≢ a → begun_of new c d ≡ begun_of old c d
+begun_apart old new a before after frames lost t c d apart = begun_at-same old.members new.members c d (others_stay old new a before after frames lost t c apart)
+
+-- so its partner keeps it
+stays : (old new : Stage) (a : ℕ) (before after : MemberState) (frames : List Outgoing) (lost : Bool) → Turns old new a before after frames lost → (c d : ℕ) → c ≢ a → (y : View) (begun : Joining)
+    → ArePartners (view_in old c d) (begun_of old c d) y begun → ArePartners (view_in new c d) (begun_of new c d) y begun
+stays old new a before after frames lost t c d apart y begun h =
+    subst (λ j. ArePartners (view_in new c d) j y begun) (sym (begun_apart old new a before after frames lost t c d apart))
+    (subst (λ x. ArePartners x (begun_of old c d) y begun) (sym (views_apart old new a before after frames lost t c d apart)) h)
+
+there_stays : (old new : Stage) (a : ℕ) (before after : MemberState) (frames : List Outgoing) (lost : Bool) → Turns old new a before after frames lost → (d : ℕ) → d ≢ a → PartnersIn new old a d → PartnersIn new new a d
+there_stays old new a before after frames lost t d apart h = turned _ _ _ _ (stays old new a before after frames lost t d a apart _ _ (turned _ _ _ _ h))
+
+-- ---- the message that is begun
+
+pub begun_was : (old new : Stage) (a : ℕ) (before after : MemberState) (frames : List Outgoing) (lost : Bool) → Turns old new a before after frames lost → (b : ℕ) → begun_of old a b ≡ begun_in before.node b
+begun_was old new a before after frames lost t b = begun_at-is old.members a b before (was_there old new a before after frames lost t)
+
+pub begun_now : (old new : Stage) (a : ℕ) (before after : MemberState) (frames : List Outgoing) (lost : Bool) → Turns old new a before after frames lost → (b : ℕ) → begun_of new a b ≡ begun_in after.node b
+begun_now old new a before after frames lost t b = begun_at-is new.members a b after (is_there old new a before after frames lost t)
+
 -- ---- the node towards another
 
 -- what is recorded of messages for node b and from it: these packets were put and taken in the contact of before
@@ -63,6 +93,7 @@ pub record IsChanged (before after : MemberState) (frames : List Outgoing) (b : 
 pub record IsIdle (before after : MemberState) (frames : List Outgoing) (b : ℕ) : Type 0 where
   pub boot : after.node.boot ≡ before.node.boot
   pub link : link_in after.node b ≡ link_in before.node b
+  pub begun : begun_in after.node b ≡ begun_in before.node b
   pub frames_are : frames_to b frames ≡ []
   pub numbered : (epoch : ℕ) → count_in after.counts b epoch ≡ count_in before.counts b epoch
 
@@ -148,34 +179,35 @@ view_idle old new a before after frames lost b t c r =
 
 -- ---- all pairs
 
--- each two nodes are paired
+-- each two nodes are partners
 abbrev pub AllPaired : Stage → Type 0
-AllPaired s = (a b : ℕ) → IsNumber a → IsNumber b → a ≢ b → ArePaired (view_in s a b) (view_in s b a)
+AllPaired s = (a b : ℕ) → IsNumber a → IsNumber b → a ≢ b → PartnersIn s s a b
 
--- after an event at node a each two nodes are paired, where a is with each other
+-- after an event at node a each two nodes are partners, where a is with each other
 pub all_paired : (old new : Stage) (a : ℕ) (before after : MemberState) (frames : List Outgoing) (lost : Bool) → AllPaired old → Turns old new a before after frames lost
-    → ((b : ℕ) → IsNumber a → IsNumber b → b ≢ a → ArePaired (view_in old a b) (view_in old b a) → ArePaired (view_in new a b) (view_in old b a)) → AllPaired new
+    → ((b : ℕ) → IsNumber a → IsNumber b → b ≢ a → PartnersIn old old a b → PartnersIn new old a b) → AllPaired new
 all_paired old new a before after frames lost paired t here c d c_is d_is apart =
     elim (cases_eq c a) [
       | inl at_c ↦
           let d_apart : d ≢ a = λ e. apart (at_c ∙ sym e) in
           let a_is : IsNumber a = subst IsNumber at_c c_is in
-          subst (λ k. ArePaired (view_in new k d) (view_in new d k)) (sym at_c)
-          (subst (λ y. ArePaired (view_in new a d) y) (sym (views_apart old new a before after frames lost t d a d_apart)) (here d a_is d_is d_apart (paired a d a_is d_is (λ e. d_apart (sym e)))))
+          subst (λ k. PartnersIn new new k d) (sym at_c)
+          (there_stays old new a before after frames lost t d d_apart (here d a_is d_is d_apart (paired a d a_is d_is (λ e. d_apart (sym e)))))
       | inr c_apart ↦ elim (cases_eq d a) [
         | inl at_d ↦
             let a_is : IsNumber a = subst IsNumber at_d d_is in
-            subst (λ k. ArePaired (view_in new c k) (view_in new k c)) (sym at_d)
-            (subst (λ y. ArePaired y (view_in new a c)) (sym (views_apart old new a before after frames lost t c a c_apart))
-            (turned _ _ (here c a_is c_is c_apart (paired a c a_is c_is (λ e. c_apart (sym e))))))
+            subst (λ k. PartnersIn new new c k) (sym at_d)
+            (turned _ _ _ _ (there_stays old new a before after frames lost t c c_apart (here c a_is c_is c_apart (paired a c a_is c_is (λ e. c_apart (sym e))))))
         | inr d_apart ↦
-            subst (λ x. ArePaired x (view_in new d c)) (sym (views_apart old new a before after frames lost t c d c_apart))
-            (subst (λ y. ArePaired (view_in old c d) y) (sym (views_apart old new a before after frames lost t d c d_apart)) (paired c d c_is d_is apart))
+            turned _ _ _ _ (stays old new a before after frames lost t d c d_apart _ _ (turned _ _ _ _ (stays old new a before after frames lost t c d c_apart _ _ (paired c d c_is d_is apart))))
       ]
     ]
 
 -- where nothing concerned b
 pub idle_pair : (old new : Stage) (a : ℕ) (before after : MemberState) (frames : List Outgoing) (lost : Bool) (b : ℕ)
     → Turns old new a before after frames lost → IsIdle before after frames b → Records (view_in old a b) before after b [] []
-    → ArePaired (view_in old a b) (view_in old b a) → ArePaired (view_in new a b) (view_in old b a)
-idle_pair old new a before after frames lost b t c r h = subst (λ x. ArePaired x (view_in old b a)) (sym (view_idle old new a before after frames lost b t c r)) h
+    → PartnersIn old old a b → PartnersIn new old a b
+idle_pair old new a before after frames lost b t c r h =
+    let same : begun_of new a b ≡ begun_of old a b = begun_now old new a before after frames lost t b ∙ c.begun ∙ sym (begun_was old new a before after frames lost t b) in
+    subst (λ j. ArePartners (view_in new a b) j (view_in old b a) (begun_of old b a)) (sym same)
+    (subst (λ x. ArePartners x (begun_of old a b) (view_in old b a) (begun_of old b a)) (sym (view_idle old new a before after frames lost b t c r)) h)

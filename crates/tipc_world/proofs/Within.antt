@@ -76,7 +76,7 @@ within_longer xs ys other h = tt
 -- an entry of a lawful step
 lawful_within : (seen : Seen) (earlier : List PlacedStep) (s : PlacedStep) (e : Entry) → IsLawfulEntry seen earlier s e → IsWithin (after s) e
 lawful_within seen earlier s (entry.Accepted peer numbers flow message) h = has_begun (after s) peer numbers h
-lawful_within seen earlier s (entry.Delivered peer numbers flow message by) h = has_begun (after s) peer numbers h
+lawful_within seen earlier s (entry.Delivered peer numbers flow message by) h = has_begun (after s) peer numbers h.0
 lawful_within seen earlier s other h = tt
 
 -- an entry of a step is its first or last one, or is inside

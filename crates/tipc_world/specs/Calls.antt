@@ -1,5 +1,5 @@
 -- What an event needs, and what it counts for.
-use Rattle.std.specs.Prelude.{◌≡◌, ◌≢◌, ◌≤◌, ℕ, Bool, true, false, ◌&&◌, List, Option, None, is_none, is_some, length, slice_index_or}
+use Rattle.std.specs.Prelude.{◌≡◌, ◌≢◌, ◌≤◌, ℕ, Bool, true, false, ◌&&◌, List, Option, None, is_none, is_some, slice_index_or}
 use Rattle.tipc_types.specs.Address.{node_word}
 use Rattle.tipc_node.specs.declared.recording.NodeFault.{NodeFault}
 use Rattle.tipc_node.specs.declared.recording.NodeFault.TheVariants.{JournalFull, NoMemory}
@@ -25,7 +25,7 @@ node_of (Receive node port) = node
 node_of (Arrive node bearer frame) = node
 
 -- The node that a node comes to know is another one that is there and that it doesn't know yet. What is mended or cut is bearer 0. A
--- message goes to another of the 32 nodes and fits one packet.
+-- message goes to another of the 32 nodes.
 abbrev pub CanHappenAt : List (Option MemberState) → WorldEvent → Type 0
 CanHappenAt members (Know node peer) =
     (is_some (slice_index_or members node None) ≡ true) × (is_some (slice_index_or members peer None) ≡ true) × (peer ≢ node) × (knows members node peer ≡ false)
@@ -35,7 +35,7 @@ CanHappenAt members (Tick node) = is_some (slice_index_or members node None) ≡
 CanHappenAt members (Restart node) = is_some (slice_index_or members node None) ≡ true
 CanHappenAt members (Socket node) = is_some (slice_index_or members node None) ≡ true
 CanHappenAt members (SendPort node port to importance body) =
-    (is_some (slice_index_or members node None) ≡ true) × ((m : ℕ) × (1 ≤ m) × (m ≤ 32) × (m ≢ node) × (to.node.word ≡ node_word m)) × (length body ≤ 1420)
+    (is_some (slice_index_or members node None) ≡ true) × ((m : ℕ) × (1 ≤ m) × (m ≤ 32) × (m ≢ node) × (to.node.word ≡ node_word m))
 CanHappenAt members (Receive node port) = is_some (slice_index_or members node None) ≡ true
 CanHappenAt members (Arrive node bearer frame) = (is_some (slice_index_or members node None) ≡ true) × (bearer ≤ 1)
 
@@ -50,7 +50,7 @@ CanDo (Cut node bearer) = Unit {0}
 CanDo (Tick node) = Unit {0}
 CanDo (Restart node) = Unit {0}
 CanDo (Socket node) = Unit {0}
-CanDo (SendPort node port to importance body) = ((m : ℕ) × (1 ≤ m) × (m ≤ 32) × (to.node.word ≡ node_word m)) × (length body ≤ 1420)
+CanDo (SendPort node port to importance body) = (m : ℕ) × (1 ≤ m) × (m ≤ 32) × (to.node.word ≡ node_word m)
 CanDo (Receive node port) = Unit {0}
 CanDo (Arrive node bearer frame) = ⊥
 

@@ -5,6 +5,7 @@ use Rattle.tipc_types.specs.declared.link_words.Cause.{Cause}
 use Rattle.tipc_types.specs.declared.link_words.Cause.TheVariants as cause
 use Rattle.tipc_types.specs.declared.link_words.LinkState.{LinkState}
 use Rattle.tipc_types.specs.declared.node_calls.Answer.TheVariants as answer
+use Rattle.tipc_types.specs.declared.node_calls.Arrival.{Arrival}
 use Rattle.tipc_types.specs.declared.node_calls.Arrival.TheVariants as arrival
 use Rattle.tipc_types.specs.declared.node_calls.EventNote.{EventNote}
 use Rattle.tipc_types.specs.declared.node_calls.EventNote.TheVariants as event
@@ -86,12 +87,19 @@ pub record BringsUp (s : NodeStep) (peer : Addr) : Type 0 where
   pub theirs : ℕ
   pub entry_is : slice_get s.inside place ≡ Some (entry.LinkUp peer 0 own theirs)
 
+-- what an arrival answers that is of the link's session: its packet was taken, or waits until those before it were taken
+abbrev pub IsTakenIn : Arrival → Type 0
+IsTakenIn (arrival.Took messages) = Unit {0}
+IsTakenIn arrival.Deferred = Unit {0}
+IsTakenIn (arrival.Ignored reason) = ⊥
+
 -- a step is the arrival of a frame of the peer that the link took
 pub record IsTakenFrom (seen : Seen) (s : NodeStep) (peer : Addr) : Type 0 where
   pub frame : Sent
   pub arrives : IsArrivalOf seen s frame peer
-  pub messages : ℕ
-  pub took : s.answer ≡ answer.Arrived (arrival.Took messages)
+  pub answered : Arrival
+  pub answer_is : s.answer ≡ answer.Arrived answered
+  pub taken : IsTakenIn answered
 
 -- At least so many ticks stand after each of these steps in which the link to the peer went up or took a frame of it.
 abbrev pub HasTicked : Seen → List PlacedStep → Addr → ℕ → Type 0

@@ -1,5 +1,5 @@
 -- What an event makes of the node at which it happens: the node after it, the frames that leave, and the answer.
-use Rattle.std.specs.Prelude.{◌≡◌, ◌<◌, ℕ, List, [], ◌∷◌, None, Some, length}
+use Rattle.std.specs.Prelude.{◌≡◌, ◌<◌, ℕ, List, [], None, Some, length}
 use Rattle.tipc_types.specs.Address.{node_word}
 use Rattle.tipc_types.specs.declared.identity.PortId.{PortId}
 use Rattle.tipc_types.specs.declared.link_words.Why.{Why}
@@ -14,15 +14,18 @@ use Rattle.tipc_outside.specs.declared.outgoing.Outgoing.{Outgoing}
 use Rattle.tipc_outside.specs.Frames.{Adds, Out}
 use Rattle.tipc_header.specs.Spelling.{Fields}
 use Rattle.tipc_header.specs.Grammar.{Fits}
-use Rattle.tipc_message.specs.Wire.{message_of, packet_of}
-use Rattle.tipc_link.specs.Sessions.{SessionEnd, flush_frames, put}
+use Rattle.tipc_message.specs.Wire.{packet_of}
+use Rattle.tipc_link.specs.Sessions.{SessionEnd, IsPut, flush_frames}
+use Rattle.tipc_fragments.specs.Joining.{Joining}
+use Rattle.tipc_pair.specs.declared.changes.PairOutcome.{PairOutcome}
 use Rattle.tipc_pair.specs.Pairs.{Met}
+use Rattle.tipc_pair.specs.Partners.{OpensTo, begun_after, pieces_for}
 use Rattle.tipc_node.specs.declared.neighbours.Deed.{Deed}
 use Rattle.tipc_node.specs.declared.neighbours.Deed.TheVariants as deed
 use Rattle.tipc_node.specs.declared.neighbours.Neighbour.{Neighbour}
 use Rattle.tipc_node.specs.Calls.{IsDue}
 use Rattle.tipc_node.specs.Neighbours.{heard_frames, met_by}
-use Rattle.tipc_node.specs.Nodes.{direct, frames_all, heard_answer, known_frames, limit_of, neighbour_of, receive_answer, refusal, session_with, socket_answer, stop_of}
+use Rattle.tipc_node.specs.Nodes.{arrival_answer, arrival_deliveries, direct, frames_all, known_frames, limit_of, neighbour_of, receive_answer, refusal, session_with, socket_answer, stop_of}
 use Rattle.tipc_world.specs.declared.events.WorldEvent.{WorldEvent}
 use Rattle.tipc_world.specs.declared.events.WorldEvent.TheVariants.{Know, Mend, Cut, Tick, Restart, Socket, SendPort, Receive, Arrive}
 use Rattle.tipc_world.specs.Members.{bytes_of, deed_member, heard_member, known_member, receive_member, refused_member, sent_member, socket_member, stopped_member, IsRestarted}
@@ -41,16 +44,18 @@ pub record Puts (stamp : ℕ) (event : EventNote) (peer : ℕ) (message : Messag
   pub packet : Fields
   pub packet_is : packet_of message ≡ Some packet
   pub fits : Fits packet
-  pub after : m' ≡ sent_member stamp m event peer neighbour session message
-  pub frames_are : frames ≡ flush_frames (put session (bytes_of message ∷ []))
+  pub put : SessionEnd
+  pub put_is : IsPut session (pieces_for (bytes_of message)) put
+  pub after : m' ≡ sent_member stamp m event peer neighbour put message
+  pub frames_are : frames ≡ flush_frames put
   pub answer_is : answered ≡ answer.Sent
 
 -- a message to a port of a peer is to be sent
 pub record Sends (stamp port peer : ℕ) (to : PortId) (importance : Importance) (body : List ℕ) (m m' : MemberState) (frames : List Outgoing) (answered : Answer) : Type 0 where
   pub named : to.node.word ≡ node_word peer
-  pub refused : (why : Answer) → refusal m.node port peer (limit_of importance) ≡ Some why →
+  pub refused : (why : Answer) → refusal m.node port peer (limit_of importance) body ≡ Some why →
       (m' ≡ refused_member stamp m port to importance body why) × (frames ≡ []) × (answered ≡ why)
-  pub sent : refusal m.node port peer (limit_of importance) ≡ None →
+  pub sent : refusal m.node port peer (limit_of importance) body ≡ None →
       Puts stamp (note.SendPort port to importance body) peer (direct m.node.own port to importance body) m m' frames answered
 
 -- a frame brings a packet that is due at the link to a peer
@@ -64,9 +69,12 @@ pub record Hears (stamp place : ℕ) (bytes : List ℕ) (m m' : MemberState) (fr
   pub neighbour_is : neighbour_of m.node peer ≡ Some neighbour
   pub met : Met
   pub met_is : met ≡ met_by neighbour first second packet (length m.arrivals)
-  pub after : m' ≡ heard_member stamp m place peer neighbour packet met
+  pub out : PairOutcome
+  pub last : Joining
+  pub opens : OpensTo (begun_after met.change neighbour.pair.begun) met.outcome out last
+  pub after : m' ≡ heard_member stamp m place peer neighbour packet met out last
   pub frames_are : frames ≡ heard_frames neighbour packet met
-  pub answer_is : answered ≡ answer.Arrived (heard_answer met.outcome (message_of packet))
+  pub answer_is : answered ≡ answer.Arrived (arrival_answer out (arrival_deliveries peer met.after out))
 
 -- a frame arrives on a bearer: it reaches no link, or it brings a packet
 pub record Arrives (stamp bearer place : ℕ) (bytes : List ℕ) (m m' : MemberState) (frames : List Outgoing) (answered : Answer) : Type 0 where
@@ -97,6 +105,15 @@ pub record SendsInto (stamp port peer : ℕ) (to : PortId) (importance : Importa
   pub frames : List Outgoing
   pub sends : Sends stamp port peer to importance body m m' frames answered
   pub adds : Adds box box' frames
+
+-- a frame brought a packet of a peer, which is neighbour x of the node, and what left is in the box
+pub record HearsInto (stamp place peer first second : ℕ) (x : Neighbour) (p : Fields) (m m' : MemberState) (box box' : Out) (answered : Answer) : Type 0 where
+  pub out : PairOutcome
+  pub last : Joining
+  pub opens : OpensTo (begun_after (met_by x first second p (length m.arrivals)).change x.pair.begun) (met_by x first second p (length m.arrivals)).outcome out last
+  pub after : m' ≡ heard_member stamp m place peer x p (met_by x first second p (length m.arrivals)) out last
+  pub adds : Adds box box' (heard_frames x p (met_by x first second p (length m.arrivals)))
+  pub answer_is : answered ≡ answer.Arrived (arrival_answer out (arrival_deliveries peer (met_by x first second p (length m.arrivals)).after out))
 
 -- a frame arrived, and what left is in the box
 pub record ArrivesInto (stamp bearer place : ℕ) (bytes : List ℕ) (m m' : MemberState) (box box' : Out) (answered : Answer) : Type 0 where

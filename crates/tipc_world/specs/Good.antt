@@ -1,39 +1,73 @@
 -- What is promised of every world.
-use Rattle.std.specs.Prelude.{◌≡◌, ◌≢◌, ◌≤◌, ◌+◌, ℕ, true, List, [], Option, Some, None, length, slice_get, slice_index_or}
+use Rattle.std.specs.Prelude.{◌≡◌, ◌≢◌, ◌≤◌, ◌+◌, ℕ, true, All, List, [], Option, Some, None, length, map, option_map, slice_get, slice_index_or, take}
+use Rattle.std.specs.List.{flat_map}
 use Rattle.tipc_types.specs.Address.{node_word}
 use Rattle.tipc_types.specs.Position.{number_of}
 use Rattle.tipc_types.specs.declared.identity.To.TheVariants as to
 use Rattle.tipc_types.specs.declared.message_forms.Flow.{Flow}
 use Rattle.tipc_types.specs.declared.message_forms.Flow.TheVariants.{Zero}
-use Rattle.tipc_types.specs.declared.message_forms.Message.{Message}
 use Rattle.tipc_header.specs.Frames.{frame_of}
 use Rattle.tipc_header.specs.Grammar.{Fits}
 use Rattle.tipc_header.specs.Spelling.{Fields, spelling}
 use Rattle.tipc_journal.specs.Prefixes.{IsPrefixOf}
+use Rattle.tipc_fragments.specs.Joining.{Joining}
+use Rattle.tipc_fragments.specs.Laws.{IsFrontOf}
+use Rattle.tipc_fragments.specs.Streams.{items_of}
+use Rattle.tipc_reassembly.specs.Slots.{HasOpened, IsSlot, Slot, slot_bytes, slot_items}
 use Rattle.tipc_link.specs.Links.{is_traffic}
 use Rattle.tipc_link.specs.Sessions.{Carries, content_of}
 use Rattle.tipc_world.specs.declared.air.Sent.{Sent}
 use Rattle.tipc_world.specs.Lawful.{AreLawful, HasBegun}
 use Rattle.tipc_world.specs.Members.{bytes_of}
+use Rattle.tipc_world.specs.Spelled.{AreSpelled}
 use Rattle.tipc_world.specs.States.{MemberState, WorldState, accepted_at, delivered_at, history_at}
 
+-- the packets of the messages that node a accepted for node b in a contact, a's number first, and of those that were delivered at a
+abbrev pub accepted_packets : List (Option MemberState) → ℕ → ℕ → ℕ → ℕ → List (List ℕ)
+accepted_packets members a b own theirs = map bytes_of (accepted_at members a b own theirs Zero)
+
+abbrev pub delivered_packets : List (Option MemberState) → ℕ → ℕ → ℕ → ℕ → List (List ℕ)
+delivered_packets members a b own theirs = map bytes_of (delivered_at members a b own theirs Zero)
+
+-- What node a put into numbered packets for node b in a contact, one slot for each: whole messages, bundles and fragments. It is a
+-- beginning of what is sent of the messages that a accepted for b, one after the other.
+pub record AreSlots (members : List (Option MemberState)) (a b own theirs : ℕ) (slots : List Slot) : Type 0 where
+  pub sound : All IsSlot slots
+  pub front : IsFrontOf (flat_map slot_items slots) (flat_map items_of (accepted_packets members a b own theirs))
+
+-- What node a put into its packet at a position in a contact, from 0.
+pub record IsNumbered (members : List (Option MemberState)) (a b own theirs position : ℕ) (bytes : List ℕ) : Type 0 where
+  pub slots : List Slot
+  pub are : AreSlots members a b own theirs slots
+  pub there : option_map slot_bytes (slice_get slots position) ≡ Some bytes
+
+-- Node a took so many packets of node b in a contact: they gave what was delivered there.
+pub record HasTaken (members : List (Option MemberState)) (a b own theirs taken : ℕ) : Type 0 where
+  pub slots : List Slot
+  pub are : AreSlots members b a theirs own slots
+  pub begun : Joining
+  pub gave : HasOpened (flat_map slot_items (take taken slots)) (delivered_packets members a b own theirs) begun
+
 -- A STATE or a numbered packet from node a to node b speaks the truth of their contact, node a's number first: what it acknowledges, the
--- packet at position `told` and those before it, was delivered at a; and what it carries was accepted by a for b, at the position of its
--- number.
+-- packet at position `told` and those before it, was taken at a; and what it carries was put into a packet by a for b, at the position of
+-- its number.
 pub record IsTold (members : List (Option MemberState)) (a b own theirs : ℕ) (p : Fields) : Type 0 where
   pub told : ℕ
   pub told_is : p.acknowledgement ≡ number_of told
-  pub told_taken : told ≤ length (delivered_at members a b own theirs Zero)
+  pub taken : ℕ
+  pub told_taken : told ≤ taken
+  pub taken_is : HasTaken members a b own theirs taken
   pub carried : (number : ℕ) (bytes : List ℕ) → content_of p ≡ Carries number bytes
-      → (position : ℕ) × (m : Message) × (number ≡ number_of (position + 1)) × (slice_get (accepted_at members a b own theirs Zero) position ≡ Some m) × (bytes_of m ≡ bytes)
+      → (position : ℕ) × (number ≡ number_of (position + 1)) × IsNumbered members a b own theirs position bytes
 
--- A frame is true: node a sent it to node b, it is a packet of a under an envelope, and what it says of the contact whose numbers stand
--- beside it is so.
+-- A frame is true: node a sent it to node b, it has at most 1,516 bytes, it is a packet of a under an envelope, and what it says of the
+-- contact whose numbers stand beside it is so.
 pub record IsTrue (members : List (Option MemberState)) (f : Sent) : Type 0 where
   pub a : ℕ
   pub b : ℕ
   pub from_is : f.from.word ≡ node_word a
   pub to_is : f.to ≡ to.Node (record { word = node_word b })
+  pub size : length f.frame ≤ 1516
   pub es : ℕ
   pub er : ℕ
   pub packet : Fields
@@ -49,6 +83,9 @@ pub record IsGood (w : WorldState) : Type 0 where
   -- Where anything was delivered in a contact, both nodes entered it: a contact that only one side entered has nothing delivered.
   pub entered : (a b a_number b_number : ℕ) (flow : Flow) → delivered_at w.members b a b_number a_number flow ≢ [] →
       HasBegun (history_at w.members a) (record { word = node_word b }) (a_number, b_number) × HasBegun (history_at w.members b) (record { word = node_word a }) (b_number, a_number)
+  -- For each node, in all its boots: each message that was delivered is spelled by frames that arrived there in that step or before, and
+  -- that the peer sent.
+  pub spelled : (n : ℕ) (m : MemberState) → slice_index_or w.members n None ≡ Some m → AreSpelled w.air m
   -- Every frame in the air is true.
   pub truth : (k : ℕ) (f : Sent) → slice_get w.air k ≡ Some f → IsTrue w.members f
   -- For each node and each of its boots: each link that went down shows its cause, each contact that ended stands where no link is up, and

@@ -11,6 +11,7 @@ use Rattle.tipc_journal.specs.Steps.{steps, step_entries, IsWhole, PlacedStep}
 use Rattle.tipc_world.specs.declared.air.Sent.{Sent}
 use Rattle.tipc_world.specs.States.{MemberState}
 use Rattle.tipc_world.specs.Causes.{arrived_frame, IsCaused, IsNumberOf, Seen}
+use Rattle.tipc_world.specs.Spelled.{IsSpelled}
 
 -- the journal after a step
 abbrev pub after : PlacedStep → List Entry
@@ -18,7 +19,7 @@ after s = s.before ++ step_entries s.step
 
 -- Bearer 0 is the only one. A link that goes down was up, and has a cause. A contact that ends was that contact, and no link is up then;
 -- where it shows a number, the step is the arrival of a frame that shows it, and it is above the peer's number of the contact. A message
--- is accepted or delivered in the contact in which the node is after the step.
+-- is accepted or delivered in the contact in which the node is after the step, and one that is delivered is spelled by its arrivals.
 abbrev pub IsLawfulEntry : Seen → List PlacedStep → PlacedStep → Entry → Type 0
 IsLawfulEntry seen earlier s (entry.LinkUp peer bearer own theirs) = bearer ≡ 0
 IsLawfulEntry seen earlier s (entry.LinkDown peer bearer cause shown) =
@@ -26,7 +27,7 @@ IsLawfulEntry seen earlier s (entry.LinkDown peer bearer cause shown) =
 IsLawfulEntry seen earlier s (entry.ContactDown peer numbers states number) =
     (contact s.before peer ≡ Some numbers) × (up_epochs (after s) peer 0 ≡ None) × ((number ≡ 0) ⊎ (IsNumberOf seen s.step peer number × (numbers.1 < number)))
 IsLawfulEntry seen earlier s (entry.Accepted peer numbers flow message) = contact (after s) peer ≡ Some numbers
-IsLawfulEntry seen earlier s (entry.Delivered peer numbers flow message by) = contact (after s) peer ≡ Some numbers
+IsLawfulEntry seen earlier s (entry.Delivered peer numbers flow message by) = (contact (after s) peer ≡ Some numbers) × IsSpelled seen s.step peer message by
 IsLawfulEntry seen earlier s other = Unit {0}
 
 -- one step of a journal, after those earlier ones

@@ -9,6 +9,7 @@ pub mod Growth
 pub mod Limits
 pub mod Events
 pub mod Causes
+pub mod Spelled
 pub mod Lawful
 pub mod Good
 pub mod Views

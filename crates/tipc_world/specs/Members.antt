@@ -14,6 +14,8 @@ use Rattle.tipc_header.specs.Spelling.{Fields, spelling}
 use Rattle.tipc_message.specs.Wire.{packet_of}
 use Rattle.tipc_link.specs.Links.{LinkEnd}
 use Rattle.tipc_link.specs.Sessions.{SessionEnd}
+use Rattle.tipc_fragments.specs.Joining.{Joining}
+use Rattle.tipc_pair.specs.declared.changes.PairOutcome.{PairOutcome}
 use Rattle.tipc_pair.specs.Pairs.{Met}
 use Rattle.tipc_node.specs.declared.neighbours.Deed.{Deed}
 use Rattle.tipc_node.specs.declared.neighbours.Neighbour.{Neighbour}
@@ -65,9 +67,9 @@ spelled None = []
 unfoldable pub bytes_of : Message → List ℕ
 bytes_of message = spelled (packet_of message)
 
--- a message was put on the link to a peer
+-- a message was put on the link to a peer, whose session is this one then but for the packets that move up
 abbrev pub sent_member : ℕ → MemberState → EventNote → ℕ → Neighbour → SessionEnd → Message → MemberState
-sent_member stamp m note peer x s message = noted (called m (sent_node m.node (by_in stamp m) note peer x s (bytes_of message) message)) peer
+sent_member stamp m note peer x put message = noted (called m (sent_node m.node (by_in stamp m) note peer x put message)) peer
 
 -- a frame arrived
 abbrev pub with_arrival : MemberState → ℕ → ℕ → MemberState
@@ -77,9 +79,10 @@ with_arrival m bearer frame = record { node = m.node; past = m.past; calls = m.c
 abbrev pub stopped_member : ℕ → MemberState → ℕ → ℕ → Why → MemberState
 stopped_member stamp m bearer frame why = with_arrival (called m (stopped_node m.node (by_in stamp m) bearer (length m.arrivals) why)) bearer frame
 
--- it brought a packet of a peer
-abbrev pub heard_member : ℕ → MemberState → ℕ → ℕ → Neighbour → Fields → Met → MemberState
-heard_member stamp m frame peer x p met = noted (with_arrival (called m (heard_node m.node (by_in stamp m) (length m.arrivals) peer x p met)) 0 frame) peer
+-- it brought a packet of a peer: this was given, and this message is begun then
+abbrev pub heard_member : ℕ → MemberState → ℕ → ℕ → Neighbour → Fields → Met → PairOutcome → Joining → MemberState
+heard_member stamp m frame peer x p met out last =
+    noted (with_arrival (called m (heard_node m.node (by_in stamp m) (length m.arrivals) peer x p met out last)) 0 frame) peer
 
 abbrev pub known_member : MemberState → ℕ → MemberState
 known_member m peer = record { node = known_node m.node peer; past = m.past; calls = m.calls; arrivals = m.arrivals; counts = m.counts }

@@ -7,10 +7,10 @@ use Rattle.tipc_types.specs.declared.message_forms.Message.{Message}
 use Rattle.tipc_header.specs.Grammar.{Fits}
 use Rattle.tipc_header.specs.Spelling.{Fields}
 use Rattle.tipc_message.specs.Wire.{packet_of, IsPayload}
-use Rattle.tipc_pair.specs.Paired.{ArePaired}
+use Rattle.tipc_pair.specs.Partners.{ArePartners}
 use Rattle.tipc_world.specs.declared.air.Sent.{Sent}
 use Rattle.tipc_world.specs.Air.{is_to}
-use Rattle.tipc_world.specs.States.{MemberState, accepted_at, delivered_at, link_at}
+use Rattle.tipc_world.specs.States.{MemberState, accepted_at, begun_at, delivered_at, link_at}
 use Rattle.tipc_world.specs.Views.{view_at}
 
 -- the numbers of nodes are from 1 to 32
@@ -40,8 +40,8 @@ pub record IsSound (members : List (Option MemberState)) (air : List Sent) : Typ
   -- a node knows other nodes that are there
   pub apart : (a : ℕ) → link_at members a a ≡ None
   pub known : (a b : ℕ) → (IsNumber b → slice_index_or members b None ≡ None) → link_at members a b ≡ None
-  -- each two nodes are paired
-  pub pairs : (a b : ℕ) → IsNumber a → IsNumber b → a ≢ b → ArePaired (view_at members air a b) (view_at members air b a)
+  -- each two nodes are partners
+  pub pairs : (a b : ℕ) → IsNumber a → IsNumber b → a ≢ b → ArePartners (view_at members air a b) (begun_at members a b) (view_at members air b a) (begun_at members b a)
   -- messages are accepted and delivered in flow Zero alone, and each can be sent
   pub one_flow : (a b own theirs : ℕ) (flow : Flow) → flow ≢ Zero → (accepted_at members a b own theirs flow ≡ []) × (delivered_at members a b own theirs flow ≡ [])
   pub accepted : (a b own theirs k : ℕ) (m : Message) → slice_get (accepted_at members a b own theirs Zero) k ≡ Some m → IsSendable m

@@ -11,6 +11,7 @@ use Rattle.tipc_types.specs.declared.node_calls.Answer.TheVariants as answer
 use Rattle.tipc_journal.specs.declared.entries.Entry.{Entry}
 use Rattle.tipc_journal.specs.Room.{JournalState}
 use Rattle.tipc_journal.specs.Streams.{Stream, accepted, delivered}
+use Rattle.tipc_fragments.specs.Joining.{Joining, fresh}
 use Rattle.tipc_link.specs.Links.{LinkEnd}
 use Rattle.tipc_link_fsm.specs.Table.{is_up}
 use Rattle.tipc_pair.specs.Pairs.{contact_of}
@@ -58,7 +59,11 @@ stream_of n own theirs flow = record { peer = record { word = node_word n }; con
 
 -- the link end to a peer
 abbrev pub link_in : NodeState → ℕ → Option LinkEnd
-link_in n peer = option_map (λ x. x.pair) (neighbour_of n peer)
+link_in n peer = option_map (λ x. x.pair.link) (neighbour_of n peer)
+
+-- the message that is begun of the fragments of a peer
+abbrev pub begun_in : NodeState → ℕ → Joining
+begun_in n peer = unwrap_or (option_map (λ x. x.pair.begun) (neighbour_of n peer)) fresh
 
 -- a session is named by the number of the peer and the node's own epoch
 abbrev pub same_session : ℕ × ℕ → ℕ × ℕ → Bool
@@ -79,6 +84,9 @@ boot_at members n = unwrap_or (option_map (λ m. m.node.boot) (member_at members
 
 unfoldable pub link_at : List (Option MemberState) → ℕ → ℕ → Option LinkEnd
 link_at members a b = option_and_then (λ m. link_in m.node b) (member_at members a)
+
+unfoldable pub begun_at : List (Option MemberState) → ℕ → ℕ → Joining
+begun_at members a b = unwrap_or (option_map (λ m. begun_in m.node b) (member_at members a)) fresh
 
 unfoldable pub history_at : List (Option MemberState) → ℕ → List Entry
 history_at members n = unwrap_or (option_map history (member_at members n)) []

@@ -8,9 +8,12 @@ use Rattle.tipc_journal.specs.Steps.{steps}
 use Rattle.tipc_link.specs.Links.{LinkEnd, known}
 use Rattle.tipc_link_fsm.specs.Table.{is_reset_reset, is_up}
 use Rattle.tipc_pair.specs.Pairs.{contact_of}
+use Rattle.tipc_pair.specs.Held.{KeepsBy}
+use Rattle.tipc_node.specs.declared.neighbours.Neighbour.{Neighbour}
 use Rattle.tipc_world.specs.declared.air.Sent.{Sent}
 use Rattle.tipc_world.specs.Causes.{HasTicked, Seen}
 use Rattle.tipc_world.specs.Lawful.{AreLawful}
+use Rattle.tipc_world.specs.Spelled.{HasBrought}
 use Rattle.tipc_world.specs.States.{MemberState, link_in}
 
 abbrev pub addr_of : ℕ → Addr
@@ -39,9 +42,14 @@ pub record Mirrors (seen : Seen) (journal : List Entry) (p : ℕ) (link : Option
   pub ticked : HasTicked seen (steps journal) (addr_of p) (silence_in link)
   pub abreast : (e : LinkEnd) → link ≡ Some e → IsAbreast e
 
+-- what a node has of its peers and hasn't delivered yet was brought by frames that they sent
+abbrev pub AreTraced : Seen → List (Option Neighbour) → Type 0
+AreTraced seen xs = (p : ℕ) (x : Neighbour) → slice_index_or xs p None ≡ Some x → KeepsBy (HasBrought seen (addr_of p)) x.pair
+
 pub record IsWatched (air : List Sent) (m : MemberState) : Type 0 where
   pub lawful : AreLawful air m
   pub told : (p : ℕ) → Mirrors (record { air = air; arrivals = m.arrivals }) m.node.journal p (link_in m.node p)
+  pub traced : AreTraced (record { air = air; arrivals = m.arrivals }) m.node.neighbours
 
 abbrev pub AreWatched : List (Option MemberState) → List Sent → Type 0
 AreWatched members air = (n : ℕ) (m : MemberState) → slice_index_or members n None ≡ Some m → IsWatched air m

@@ -2,21 +2,18 @@ ghost use Rattle.std.specs.Prelude.{◌≡◌, ◌≢◌, ◌+◌, ◌-◌, ◌<
 ghost use Rattle.indexmap.specs.IndexMap.{spare};
 ghost use Rattle.tipc_types.specs.Address.{node_word};
 ghost use Rattle.tipc_outside.specs.Frames.{Adds};
-ghost use Rattle.tipc_link.specs.Sessions.{SessionEnd, flush_frames, put};
 ghost use Rattle.tipc_header.specs.Grammar.{Fits};
 ghost use Rattle.tipc_header.specs.Spelling.{view};
 ghost use Rattle.tipc_journal.specs.Streams.{accepted, delivered};
 ghost use Rattle.tipc_pair.specs.Pairs.{contact_of};
 ghost use Rattle.tipc_pair.specs.Views.{own_in, seen_in};
-ghost use Rattle.tipc_message.specs.Wire.{message_of};
 ghost use Rattle.tipc_node.specs.Calls.{IsDue};
 ghost use Rattle.tipc_node.specs.declared.neighbours.Neighbour.{Neighbour};
-ghost use Rattle.tipc_node.specs.Neighbours.{heard_frames, met_by};
-ghost use Rattle.tipc_node.specs.Nodes.{direct, frames_all, has_room, heard_answer, known_frames, limit_of, load_of, neighbour_of, receive_answer, refusal, session_with, socket_answer, stop_of};
+ghost use Rattle.tipc_node.specs.Nodes.{direct, frames_all, has_room, known_frames, limit_of, load_of, neighbour_of, receive_answer, refusal, session_with, socket_answer, stop_of};
 ghost use Rattle.tipc_world.specs.Calls.{is_recorded, CallStops, CanDo, RecordStops};
-ghost use Rattle.tipc_world.specs.Deeds.{ArrivesInto, Did, SendsInto};
+ghost use Rattle.tipc_world.specs.Deeds.{ArrivesInto, Did, HearsInto, SendsInto};
 ghost use Rattle.tipc_world.specs.Events.{IsSettledAt};
-ghost use Rattle.tipc_world.specs.Members.{by_in, bytes_of, deed_member, heard_member, known_member, noted_link, receive_member, refused_member, sent_member, socket_member, stopped_member, IsNewcomer, IsRestarted};
+ghost use Rattle.tipc_world.specs.Members.{by_in, deed_member, known_member, noted_link, receive_member, socket_member, stopped_member, IsNewcomer, IsRestarted};
 ghost use Rattle.tipc_world.specs.States.{count_in, counted, history, joined, link_in, stream_of};
 
 use crate::air::Arrived;
@@ -319,7 +316,6 @@ impl Member {
     ) -> Result<Answer, WorldFault>
         requires peer { (1 ≤ peer) × (peer ≤ 32) }
         requires named { to.node.word ≡ node_word peer }
-        requires body { length body ≤ 1420 }
         ensures sends { IfOk result (λ a. SendsInto stamp port peer to importance body self.old self.new out.old out.new a) }
         ensures room { OnOk result (has_room self.old.node.journal ≡ true) }
         ensures full { IfErr result (λ fault. RecordStops (has_room self.old.node.journal) fault) }
@@ -334,6 +330,13 @@ impl Member {
         note_sent(&mut self.counts, &self.node, peer, &answer);
         self.calls = calls;
         Ok(answer)
+    }
+
+    /// How many frames arrived at it.
+    fn arrived(&self) -> u64
+        ensures { result ≡ length self.now.arrivals }
+    {
+        self.arrivals.len() as u64
     }
 
     /// A frame arrives that reaches no link, and why.
@@ -351,7 +354,7 @@ impl Member {
     {
         let calls = self.begin()?;
         let by = self.by(stamp);
-        let number = self.arrivals.len() as u64;
+        let number = self.arrived();
         self.arrivals.reserve(1)?;
         let arrival = self.node.ignore(alloc, by, bearer, number, why)?;
         self.arrivals.push_reserved(Arrived {
@@ -375,16 +378,14 @@ impl Member {
         requires fits { Fits (view due.packet) }
         requires there { is_some (neighbour_of self.old.node due.peer) ≡ true }
         ensures heard { (x : Neighbour) → neighbour_of self.old.node due.entry.peer ≡ Some x →
-            IfOk result (λ a. (self.new ≡ heard_member stamp self.old place due.entry.peer x (view due.entry.packet) (met_by x due.entry.first due.entry.second (view due.entry.packet) (length self.old.arrivals)))
-            × Adds out.old out.new (heard_frames x (view due.entry.packet) (met_by x due.entry.first due.entry.second (view due.entry.packet) (length self.old.arrivals)))
-            × (a ≡ Answer.Arrived (heard_answer (met_by x due.entry.first due.entry.second (view due.entry.packet) (length self.old.arrivals)).outcome (message_of (view due.entry.packet))))) }
+            IfOk result (λ a. HearsInto stamp place due.entry.peer due.entry.first due.entry.second x (view due.entry.packet) self.old self.new out.old out.new a) }
         ensures room { OnOk result (has_room self.old.node.journal ≡ true) }
         ensures full { IfErr result (λ fault. RecordStops (has_room self.old.node.journal) fault) }
         ensures err { OnErr result ((self.new ≡ self.old) × (out.new ≡ out.old)) }
     {
         let calls = self.begin()?;
         let by = self.by(stamp);
-        let number = self.arrivals.len() as u64;
+        let number = self.arrived();
         self.arrivals.reserve(1)?;
         self.counts.reserve(1)?;
         let arrival = self.node.hear(alloc, by, number, due, out)?;

@@ -1,6 +1,7 @@
 //! What is told of a world. None of these takes memory but `links`.
 
-ghost use Rattle.std.specs.Prelude.{◌≡◌, ◌≤◌, ◌+◌, ◌++◌, [], ℕ, Some, None, length, is_some, slice_index_or, option_map, IfOk, IfSome, OnErr, OnOk};
+ghost use Rattle.std.specs.Prelude.{◌≡◌, ◌≤◌, ◌+◌, ◌++◌, [], ℕ, Some, None, length, is_some, slice_get, slice_index_or, option_map, IfOk, IfSome, OnErr, OnOk};
+ghost use Rattle.std.specs.Option.{option_copied};
 ghost use Rattle.tipc_link_fsm.specs.Table.{is_up};
 ghost use Rattle.tipc_types.specs.declared.message_forms.Flow.TheVariants.{Zero};
 ghost use Rattle.tipc_world.specs.Readers.{link_shown, links_of, load_of, node_number, receiver_at, receiver_number, sender_at, unacked_in, waiting_in};
@@ -264,6 +265,13 @@ impl World {
         ensures range { IfSome result (λ n. (1 ≤ n) × (n ≤ 32)) }
     {
         sender_at(&self.air, place)
+    }
+
+    /// The frame of that place on bearer 0, from 0 on: None exactly where there is no such frame.
+    pub fn frame(&self, place: u64) -> Option<&Sent>
+        ensures { option_copied result ≡ slice_get self.now.air place }
+    {
+        self.air.get(place as usize)
     }
 
     /// The numbers of packets unacknowledged and waiting at all nodes. Each stops at the last number of 64 bits.

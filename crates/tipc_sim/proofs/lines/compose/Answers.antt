@@ -1,5 +1,5 @@
 use Rattle.tipc_sim.proofs.WorldLaws.{grows_same}
-use Rattle.tipc_sim.proofs.lines.compose.Goals.{in-Node+in_ok-add_node-in-Node, in-Mend+in_ok-answer-in-Mend, in-Link+in_ok-answer-in-Link, in-Mark, in-Pump+in_ok-answer-in-Pump, in-Settle+in_ok-answer-in-Settle, in-Links+in_ok-links-in-Links, in-Flow}
+use Rattle.tipc_sim.proofs.lines.compose.Goals.{in-Node+in_ok-add_node-in-Node, in-Mend+in_ok-answer-in-Mend, in-Link+in_ok-answer-in-Link, in-Mark, in-Pump+in_ok-answer-in-Pump, in-Settle+in_ok-answer-in-Settle}
 use Rattle.tipc_sim.proofs.lines.compose.Goals as goal
 
 pub returns-clause-good : goal.returns-clause-good
@@ -11,8 +11,6 @@ returns-clause-good c =
       | in-Mark w ↦ rw w.world-is c.requires.good
       | in-Pump+in_ok-answer-in-Pump w ↦ rw w.world-is (w.pump_on.ensures.continues.good c.requires.good)
       | in-Settle+in_ok-answer-in-Settle w ↦ rw w.world-is (w.settle.ensures.continues.good c.requires.good)
-      | in-Links+in_ok-links-in-Links w ↦ rw w.world-is c.requires.good
-      | in-Flow w ↦ rw w.world-is c.requires.good
     ]
 
 pub returns-clause-grows : goal.returns-clause-grows
@@ -24,6 +22,4 @@ returns-clause-grows c =
       | in-Mark w ↦ rw w.world-is (grows_same c.args.world.now)
       | in-Pump+in_ok-answer-in-Pump w ↦ rw w.world-is w.pump_on.ensures.continues.grown
       | in-Settle+in_ok-answer-in-Settle w ↦ rw w.world-is w.settle.ensures.continues.grown
-      | in-Links+in_ok-links-in-Links w ↦ rw w.world-is (grows_same c.args.world.now)
-      | in-Flow w ↦ rw w.world-is (grows_same c.args.world.now)
     ]

@@ -8,7 +8,7 @@ use Rattle.tipc_sim.proofs.RunLaws.{unread, unused, unwritten, too_long, known, 
 use Rattle.tipc_sim.proofs.running.run.Goals as goal
 
 pub run_lines-requires-clause-empty : goal.run_lines-requires-clause-empty
-run_lines-requires-clause-empty g c = λ n. ap (λ w. is_there w n) c.requires.empty
+run_lines-requires-clause-empty g c = λ n. ap (λ w. is_there w n) c.requires
 
 pub returns-then-not-is_form-clause-report : goal.returns-then-not-is_form-clause-report
 returns-then-not-is_form-clause-report g c =

@@ -8,7 +8,7 @@ pub record-requires-clause-few : goal.record-requires-clause-few
 record-requires-clause-few c =
     let i = c.self.invariant in
     let few = all_few c.args.deed c.self.inside.neighbours.items i.3 i.0 in
-    subst (λ es. length es ≤ 64) (sym c.take_part_all.ensures.entries) few
+    subst (λ es. length es ≤ 65534) (sym c.take_part_all.ensures.entries) (omega (arith, few))
 
 pub record-requires-clause-spare : goal.record-requires-clause-spare
 record-requires-clause-spare c =

@@ -1,10 +1,6 @@
-use Rattle.std.proofs.Common.{◌≡◌, true, sym, subst}
-use Rattle.tipc_link_fsm.specs.Table.{is_up}
-use Rattle.tipc_link.specs.Sessions.{flushed, put}
-use Rattle.tipc_pair.proofs.Keeping.{holds_sent}
+use Rattle.tipc_pair.specs.Partners.{pair_state}
+use Rattle.tipc_pair.proofs.Keeping.{pair_sent}
 use Rattle.tipc_pair.proofs.pair.Pair.send.Goals as goal
 
-pub invariant_of-self : goal.invariant_of-self
-invariant_of-self c =
-    let up : is_up c.self.inside.link.fsm.state ≡ true = subst (λ v. is_up v.fsm.state ≡ true) (sym c.self.view_is) c.requires.up in
-    holds_sent _ _ _ _ _ c.self.inside.link c.send.new.self (λ s. flushed (put s c.args.pieces)) c.send.result c.self.invariant up c.send.ensures.ok c.send.ensures.err
+pub returns-clause-ok : goal.returns-clause-ok
+returns-clause-ok c = pair_sent _ _ _ (pair_state c.self.inside.end c.self.inside.reassembly) c.args.self.now c.send.new.self c.send.result c.self.view_is c.send.ensures.ok

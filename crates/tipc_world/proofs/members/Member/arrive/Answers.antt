@@ -18,4 +18,4 @@ returns-in-Ok-clause-arrives c =
     let due = subst (λ (m : MemberState). IsDue m.node c.args.frame.now d.peer d.first d.second (view d.packet)) c.self.view_is c.in-Ok.ensures.due in
     let clear = subst (λ (m : MemberState). stop_of m.node c.args.bearer c.args.frame.now ≡ None) c.self.view_is c.in-Ok.ensures.clear in
     let x = the_some _ due.there in
-    if_ok c.hear.result (λ a ok. arrives_at _ _ _ _ _ _ _ _ a _ _ _ _ x.0 due clear x.1 ok.0 ok.1 ok.2) (c.hear.ensures.heard x.0 x.1)
+    if_ok c.hear.result (λ a ok. arrives_at _ _ _ _ _ _ _ _ a _ _ _ _ x.0 due clear x.1 ok) (c.hear.ensures.heard x.0 x.1)

@@ -1,0 +1,106 @@
+-- A packet that joins the last one that waits.
+use Rattle.std.proofs.Common.{◌≡◌, ℕ, ◌-◌, ◌<◌, ◌≤◌, List, [], ◌∷◌, ◌++◌, Option, Some, None, Result, Ok, Err, length, slice_get, inl, inr, refl, sym, ap, subst, ◌∙◌, arith}
+use Rattle.std.specs.Prelude.{IfNone, OnOk}
+use Rattle.std.proofs.lemmas.Option.{get_or_from_slice_get, slice_get_within}
+use Rattle.tipc_header.specs.declared.packet.Bundle.{Bundle}
+use Rattle.tipc_header.specs.declared.packet.Header.TheVariants as header
+use Rattle.tipc_header.specs.Spelling.{Fields, spelling}
+use Rattle.tipc_header.specs.Grammar.{Fits}
+use Rattle.tipc_header.proofs.RoundTrip.{one_packet, spelling-least}
+use Rattle.tipc_bundle.specs.Bundles.{Carries as Waits, IsInner, bundle_of, joined}
+use Rattle.tipc_bundle.specs.Splitting.{IsBundle}
+use Rattle.tipc_bundle.proofs.Bundling.{carries_itself, length-bundle, one_or_several}
+use Rattle.tipc_bundle.proofs.InnerLaws.{inner-least}
+use Rattle.tipc_link.specs.Sessions.{SessionEnd, IsPut, IsWaiting, MayJoin, joins, last_of, put, waits, with_last}
+use Rattle.tipc_link.specs.Hearings.{IsJoined}
+
+-- what waits for others is payload, name items or a bundle
+pub other_waits_for_none : (last : List ℕ) (packets : List (List ℕ)) → (IsInner last → ⊥) → (IsBundle last → ⊥) → Waits last packets → ⊥
+other_waits_for_none last packets not_inner not_bundle h = elim (one_or_several last packets h) [
+  | inl one ↦ not_inner one.0
+  | inr several ↦ not_bundle (record {
+    packet = bundle_of packets;
+    bundle = record { broadcast_acknowledgement = 0; count = length packets };
+    fits = several.1;
+    spelled = several.2;
+    user = refl;
+  })
+]
+
+pub joins_last : (e : SessionEnd) (pieces : List (List ℕ)) (packet last bundle : List ℕ) (packets : List (List ℕ))
+    → pieces ≡ packet ∷ [] → slice_get e.sending.waiting (length e.sending.waiting - 1) ≡ Some last → Waits last packets → IsInner packet → Waits bundle (packets ++ packet ∷ []) → length bundle ≤ 1452
+    → IsJoined e pieces bundle
+joins_last e pieces packet last bundle packets alone there carried inner made fits =
+    let within = slice_get_within e.sending.waiting (length e.sending.waiting - 1) last there in
+    let same : last_of e ≡ last = get_or_from_slice_get e.sending.waiting (length e.sending.waiting - 1) last [] there in
+    record {
+      packets = packets;
+      packet = packet;
+      alone = alone;
+      may_join = record {
+        waits = omega (arith, within);
+        last = subst (λ q. Waits q packets) (sym same) carried;
+        inner = inner;
+        fits = subst (λ q. length q ≤ 1452) made.joined fits;
+      };
+      joined = made;
+    }
+
+pub joins_none : (e : SessionEnd) (pieces : List (List ℕ)) (packet last : List ℕ)
+    → pieces ≡ packet ∷ [] → slice_get e.sending.waiting (length e.sending.waiting - 1) ≡ Some last
+    → ((packets : List (List ℕ)) → Waits last packets → 1452 < length (joined (packets ++ packet ∷ [])))
+    → (packets : List (List ℕ)) (other : List ℕ) → pieces ≡ other ∷ [] → MayJoin e packets other → ⊥
+joins_none e pieces packet last alone there full packets other is may =
+    let same : last_of e ≡ last = get_or_from_slice_get e.sending.waiting (length e.sending.waiting - 1) last [] there in
+    let one : packet ≡ other = cc in
+    let long = full packets (subst (λ q. Waits q packets) same may.last) in
+    let fits = subst (λ q. length (joined (packets ++ q ∷ [])) ≤ 1452) (sym one) may.fits in
+    omega (arith, long, fits)
+
+pub joined_is_put : (e : SessionEnd) (pieces : List (List ℕ)) (bundle : List ℕ) → IsJoined e pieces bundle → IsPut e pieces (with_last e bundle)
+joined_is_put e pieces bundle h =
+    let all = h.packets ++ h.packet ∷ [] in
+    subst (λ ps. IsPut e ps (with_last e bundle)) (sym h.alone) (subst (λ q. IsPut e (h.packet ∷ []) (with_last e q)) (sym h.joined.joined) (joins h.packets h.packet h.may_join))
+
+-- packets that may not join wait behind the others
+pub waiting_is_put : {F : Type 0} (r : Result (Unit {0}) F) (e after : SessionEnd) (pieces : List (List ℕ)) (limit : ℕ)
+    → ((packets : List (List ℕ)) (packet : List ℕ) → pieces ≡ packet ∷ [] → MayJoin e packets packet → ⊥)
+    → OnOk r ((length e.sending.waiting < limit) × (after ≡ put e pieces)) → OnOk r ((length e.sending.waiting < limit) × IsPut e pieces after)
+waiting_is_put (Ok done) e after pieces limit none ok = (ok.0, subst (IsPut e pieces) (sym ok.1) (waits pieces none))
+waiting_is_put (Err fault) e after pieces limit none ok = ok
+
+-- and at the limit no packet waits
+pub waits_for_nothing : {F : Type 0} (r : Result (Unit {0}) F) (e after : SessionEnd) (pieces : List (List ℕ)) (limit : ℕ) → limit ≤ length e.sending.waiting
+    → OnOk r ((length e.sending.waiting < limit) × (after ≡ put e pieces)) → OnOk r ((length e.sending.waiting < limit) × IsPut e pieces after)
+waits_for_nothing (Ok done) e after pieces limit full ok = absurd (omega (arith, full, ok.0))
+waits_for_nothing (Err fault) e after pieces limit full ok = ok
+
+pub none_given : (o : Option (List ℕ)) (P : Type 0) → ((x : List ℕ) → o ≡ Some x → ⊥) → IfNone o P → P
+none_given None P none h = h
+none_given (Some x) P none h = absurd (none x refl)
+
+-- ---- what may wait
+
+-- payload and name items
+pub inner_waits : (packet : List ℕ) → IsInner packet → IsWaiting packet
+inner_waits packet h = record { long = omega (arith, inner-least packet h); made = λ _. (packet ∷ [], carries_itself packet h) }
+
+-- a bundle that was made of packets
+pub carried_waits : (bundle : List ℕ) (packets : List (List ℕ)) → Waits bundle packets → IsWaiting bundle
+carried_waits bundle packets h = elim (one_or_several bundle packets h) [
+  | inl one ↦ inner_waits bundle one.0
+  | inr several ↦ record { long = omega (arith, ap length several.2, length-bundle packets); made = λ _. (packets, h) }
+]
+
+-- and so may the bundle that a packet joins
+pub joined_waits : (e : SessionEnd) (pieces : List (List ℕ)) (bundle : List ℕ) → IsJoined e pieces bundle → IsWaiting bundle
+joined_waits e pieces bundle h = carried_waits bundle (h.packets ++ h.packet ∷ []) h.joined
+
+-- any other packet
+pub other_waits : (p : Fields) → Fits p → ((b : Bundle) → p.header ≡ header.Bundler b → ⊥) → IsWaiting (spelling p)
+other_waits p fits none = record {
+  long = omega (arith, spelling-least p);
+  made = λ h.
+      let same : p ≡ h.packet = one_packet p h.packet fits h.fits h.spelled in
+      absurd (none h.bundle (ap (λ (q : Fields). q.header) same ∙ h.user));
+}

@@ -1,0 +1,102 @@
+//! What a packet will make of a session, before anything of it is changed.
+
+ghost use Rattle.std.specs.Prelude.{◌≡◌, ◌==◌, ◌&&◌, false, None, IfOk};
+ghost use Rattle.tipc_recv_window.specs.Receiving.{deferred_count};
+ghost use Rattle.tipc_header.specs.Spelling.{spelling, view};
+ghost use Rattle.tipc_header.specs.Frames.{unsent};
+ghost use Rattle.tipc_header.specs.Grammar.{Fits};
+ghost use Rattle.tipc_link.specs.Sessions.{is_deferred, placed};
+
+use std::alloc::Global;
+use std::marker::Model;
+use tipc_header::{Packet, encode};
+use tipc_recv_window::{LinkOutcome, Place, RecvWindow};
+use tipc_types::{Bytes, NoMemory, TakenList, Why};
+
+/// What a packet will make of a session.
+#[derive(Drop)]
+pub(crate) struct Hearing {
+    /// The arrival's number at the node.
+    pub(crate) by: u64,
+    /// For a packet with a number, the receive window after it, from which what was due is taken.
+    pub(crate) window: Option<RecvWindow>,
+    /// Whether a packet with a number asks for a STATE.
+    pub(crate) owes: bool,
+    /// What the packet brings.
+    pub(crate) outcome: LinkOutcome,
+}
+
+impl Model for Hearing {
+    ghost use Rattle.tipc_link.specs.Hearings.{HearingState};
+
+    ghost Value = { HearingState };
+
+    ghost view = { λ h. record { by = h.by; window = h.window; owes = h.owes; outcome = h.outcome } };
+}
+
+impl Hearing {
+    /// A packet that leaves the receive window as it is.
+    pub fn without_window(by: u64, outcome: LinkOutcome) -> Hearing
+        ensures { result ≡ record { by = by; window = None; owes = false; outcome = outcome } }
+    {
+        Hearing {
+            by,
+            window: None,
+            owes: false,
+            outcome,
+        }
+    }
+
+    /// What the packet brings.
+    pub fn outcome(&self) -> &LinkOutcome
+        ensures { result.now ≡ self.now.outcome }
+    {
+        &self.outcome
+    }
+
+    /// What the packet brings.
+    pub fn into_outcome(self) -> LinkOutcome
+        ensures { result ≡ self.outcome }
+    {
+        self.outcome
+    }
+}
+
+/// The bytes of a packet as it waited to be sent.
+pub(crate) fn unsent_bytes(alloc: Global, packet: &Packet<'_>) -> Result<Bytes, NoMemory>
+    requires { Fits (view packet.now) }
+    ensures { IfOk result (λ bytes. bytes ≡ spelling (unsent (view packet.now))) }
+{
+    let unsent = Packet {
+        acknowledgement: 0,
+        sequence: 0,
+        previous: 0,
+        header: packet.header,
+        rest: packet.rest,
+    };
+    let mut bytes = Vec::new(alloc);
+    encode(&unsent, &mut bytes)?;
+    Ok(Bytes::from_vec(bytes))
+}
+
+/// Whether a packet at this place is early, and the only one that is held.
+pub(crate) fn is_only_deferred(place: Place, window: &RecvWindow) -> bool
+    ensures { result ≡ (is_deferred place && (deferred_count window.now == 1)) }
+{
+    match place {
+        Place::Deferred => window.deferred() == 1,
+        Place::InOrder => false,
+        Place::Old => false,
+    }
+}
+
+/// What a packet at this place brings, where these packets are due.
+pub(crate) fn outcome_at(place: Place, due: TakenList) -> LinkOutcome
+    ensures { result ≡ placed place due }
+{
+    match place {
+        Place::InOrder => LinkOutcome::Took(due),
+        Place::Deferred => LinkOutcome::Deferred,
+        Place::Old => LinkOutcome::Ignored(Why::Old),
+    }
+}

@@ -1,0 +1,97 @@
+-- The packets in which a user's message is sent.
+use Rattle.std.proofs.Common.{◌≡◌, ◌<◌, ◌≤◌, ◌+◌, ◌*◌, ℕ, true, false, List, [], ◌∷◌, Some, Result, Ok, Err, length, nat_le, refl, sym, ap, ◌∙◌, subst, arith}
+use Rattle.std.specs.Prelude.{All, IfOk, slice_index_or}
+use Rattle.std.proofs.lemmas.Bool.Decides.{nat_tests}
+use Rattle.std.proofs.lemmas.List.Elements.{All-map}
+use Rattle.tipc_types.specs.declared.message_forms.Form.TheVariants as form
+use Rattle.tipc_types.specs.declared.message_forms.Message.{Message}
+use Rattle.tipc_types.specs.declared.message_forms.Message.TheVariants as message
+use Rattle.tipc_header.specs.Grammar.{Fits}
+use Rattle.tipc_header.specs.Spelling.{Fields, size_of, spelling}
+use Rattle.tipc_header.specs.Users.{header_size}
+use Rattle.tipc_header.proofs.Again.{length-spelling}
+use Rattle.tipc_header.proofs.FrameWords.{length-spelling as spelling-long}
+use Rattle.tipc_message.specs.Wire.{packet_of, payload_of, payload_packet}
+use Rattle.tipc_bundle.specs.Bundles.{IsInner, may_stand_inside}
+use Rattle.tipc_fragments.specs.Cutting.{Piece, packet_of as piece_packet, packets_of, pieces_of}
+use Rattle.tipc_reassembly.specs.Slots.{IsCut}
+use Rattle.tipc_reassembly.proofs.OnePacket.{bundle_no_fragment, inner_no_bundle}
+use Rattle.tipc_reassembly.proofs.SlotLaws.{cut_is_fragment}
+use Rattle.tipc_link.specs.Sessions.{IsWaiting}
+use Rattle.tipc_pair.specs.Partners.{pieces_for}
+use Rattle.tipc_pair.proofs.PartnersPackets.{All-one, pieces_cut}
+
+-- these bytes spell the packet of a message
+abbrev pub IsSpelled : Message → List ℕ → Type 0
+IsSpelled m bytes = (p : Fields) × (packet_of m ≡ Some p) × Fits p × (bytes ≡ spelling p)
+
+abbrev IsUsers : Fields → Type 0
+IsUsers p = (may_stand_inside p.header ≡ true) × (4 * header_size p.header ≤ 44) × (size_of p ≡ 4 * header_size p.header + length p.rest) × (length p.rest ≤ 66000)
+
+users_with : (m : Message) (p : Fields) → packet_of m ≡ Some p → Fits p → IsUsers p
+unfolding packet_of
+users_with (message.Payload importance form.Connected from to kind lower upper code droppable body) p is fits =
+    let same : payload_packet (payload_of importance form.Connected from to kind lower upper code droppable) body ≡ p = cc in
+    subst (λ q. Fits q → IsUsers q) same (λ f. (refl, omega arith, refl, f.rest)) fits
+users_with (message.Payload importance form.Multicast from to kind lower upper code droppable body) p is fits =
+    let same : payload_packet (payload_of importance form.Multicast from to kind lower upper code droppable) body ≡ p = cc in
+    subst (λ q. Fits q → IsUsers q) same (λ f. (refl, omega arith, refl, f.rest)) fits
+users_with (message.Payload importance form.Named from to kind lower upper code droppable body) p is fits =
+    let same : payload_packet (payload_of importance form.Named from to kind lower upper code droppable) body ≡ p = cc in
+    subst (λ q. Fits q → IsUsers q) same (λ f. (refl, omega arith, refl, f.rest)) fits
+users_with (message.Payload importance form.Direct from to kind lower upper code droppable body) p is fits =
+    let same : payload_packet (payload_of importance form.Direct from to kind lower upper code droppable) body ≡ p = cc in
+    subst (λ q. Fits q → IsUsers q) same (λ f. (refl, omega arith, refl, f.rest)) fits
+users_with (message.Items withdrawal items) p is fits = absurd cc
+
+-- they are 66,044 at most
+pub spelled_most : (m : Message) (bytes given : List ℕ) → IsSpelled m bytes → given ≡ bytes → length given ≤ 66044
+spelled_most m bytes given s same =
+    let u = users_with m s.0 s.1 s.2 in
+    let header = u.1 in
+    let size = u.2 in
+    let rest = u.3 in
+    let long : length given ≡ size_of s.0 = ap length (same ∙ s.3) ∙ length-spelling s.0 in
+    omega (arith, header, size, rest, long)
+
+-- and may wait
+spelled_waits : (m : Message) (bytes : List ℕ) → IsSpelled m bytes → IsWaiting bytes
+spelled_waits m bytes s =
+    let inner : IsInner bytes = record { packet = s.0; fits = s.2; spelled = s.3; inside = (users_with m s.0 s.1 s.2).0 } in
+    record { long = subst (λ b. 16 ≤ length b) (sym s.3) (spelling-long s.0); made = λ bundled. absurd (inner_no_bundle bytes inner bundled) }
+
+cut_waits : (piece : Piece) → IsCut piece → IsWaiting (spelling (piece_packet piece))
+cut_waits piece cut =
+    record { long = spelling-long (piece_packet piece); made = λ bundled. absurd (bundle_no_fragment (spelling (piece_packet piece)) piece bundled (cut_is_fragment piece cut)) }
+
+-- so may their fragments
+packets_wait : (m : List ℕ) → length m ≤ 66044 → All IsWaiting (packets_of m)
+packets_wait m short =
+    let cuts = pieces_cut m (omega (arith, short)) in
+    All-map IsWaiting (λ p. spelling (piece_packet p)) (pieces_of m) (λ k d within. cut_waits (slice_index_or (pieces_of m) k d) (cuts k d within))
+
+alone : (bytes : List ℕ) → length bytes < 1453 → pieces_for bytes ≡ bytes ∷ []
+unfolding pieces_for
+alone bytes short = let is : nat_le (length bytes) 1452 ≡ true = grind (arith, nat_tests, short) in rw is refl
+
+in_fragments : (bytes : List ℕ) → 1453 ≤ length bytes → pieces_for bytes ≡ packets_of bytes
+unfolding pieces_for
+in_fragments bytes long = let is : nat_le (length bytes) 1452 ≡ false = grind (arith, nat_tests, long) in rw is refl
+
+-- the pieces are those of the message
+abbrev pub ArePieces : Message → List (List ℕ) → Type 0
+ArePieces m pieces = (p : Fields) × (packet_of m ≡ Some p) × Fits p × (pieces ≡ pieces_for (spelling p))
+
+pub one_piece : (m : Message) (bytes : List ℕ) (pieces : List (List ℕ)) → IsSpelled m bytes → length bytes < 1453 → pieces ≡ bytes ∷ [] → ArePieces m pieces
+one_piece m bytes pieces s short is = (s.0, s.1, s.2, is ∙ sym (alone bytes short) ∙ ap pieces_for s.3)
+
+pub one_waits : (m : Message) (bytes : List ℕ) (pieces : List (List ℕ)) → IsSpelled m bytes → pieces ≡ bytes ∷ [] → All IsWaiting pieces
+one_waits m bytes pieces s is = subst (All IsWaiting) (sym is) (All-one IsWaiting bytes (spelled_waits m bytes s))
+
+pub many_pieces : {E : Type 0} (m : Message) (bytes given : List ℕ) (r : Result (List (List ℕ)) E) → IsSpelled m bytes → given ≡ bytes → 1453 ≤ length bytes → IfOk r (λ packets. packets ≡ packets_of given) → IfOk r (ArePieces m)
+many_pieces m bytes given (Ok packets) s same long is = (s.0, s.1, s.2, is ∙ ap packets_of same ∙ sym (in_fragments bytes long) ∙ ap pieces_for s.3)
+many_pieces m bytes given (Err e) s same long is = tt
+
+pub many_wait : {E : Type 0} (m : Message) (bytes given : List ℕ) (r : Result (List (List ℕ)) E) → IsSpelled m bytes → given ≡ bytes → IfOk r (λ packets. packets ≡ packets_of given) → IfOk r (All IsWaiting)
+many_wait m bytes given (Ok packets) s same is = subst (All IsWaiting) (sym is) (packets_wait given (spelled_most m bytes given s same))
+many_wait m bytes given (Err e) s same is = tt

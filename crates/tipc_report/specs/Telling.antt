@@ -1,0 +1,33 @@
+-- The text of what is told of a line.
+use Rattle.std.specs.Prelude.{ℕ, ◌+◌, ◌/◌, ◌%◌, nat_lt, if◌then◌else◌, List, [], ◌∷◌, codes}
+use Rattle.std.specs.List.{flat_map}
+use Rattle.std.specs.Fmt.{decimal}
+use Rattle.tipc_types.specs.declared.identity.To.{To}
+use Rattle.tipc_types.specs.declared.identity.To.TheVariants as to
+use Rattle.tipc_report.specs.declared.told.Told.{Told}
+use Rattle.tipc_report.specs.declared.told.Told.TheVariants as told
+use Rattle.tipc_report.specs.Answering.{text_of}
+use Rattle.tipc_report.specs.Closing.{spaced}
+
+-- a hexadecimal digit: `0` to `9`, and then `a` to `f`
+abbrev pub hex_digit : ℕ → ℕ
+hex_digit n = if nat_lt n 10 then 48 + n else 87 + n
+
+-- a byte as two digits, the higher first
+abbrev pub byte_text : ℕ → List ℕ
+byte_text byte = hex_digit (byte / 16) ∷ hex_digit (byte % 16) ∷ []
+
+abbrev pub hex_text : List ℕ → List ℕ
+hex_text bytes = flat_map byte_text bytes
+
+-- whom a frame is for: a node's number, or `all`. An address has the node's number in its low 12 bits.
+abbrev pub to_text : To → List ℕ
+to_text (to.Node address) = decimal (address.word % 4096)
+to_text to.All = codes "all"
+
+-- the text of what is told of a line
+abbrev pub told_text : Told → List ℕ
+told_text told.Nothing = codes "-"
+told_text (told.Answer answer) = text_of answer
+told_text (told.Times count last) = spaced (codes "times" ∷ decimal count ∷ text_of last ∷ [])
+told_text (told.Frame from to bytes) = spaced (decimal (from.word % 4096) ∷ to_text to ∷ hex_text bytes ∷ [])

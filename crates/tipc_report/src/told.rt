@@ -1,0 +1,118 @@
+ghost use Rattle.std.specs.Prelude.{◌≡◌, ◌<◌, ◌%◌, ◌++◌, ◌∷◌, [], IfOk, OnOk, codes};
+ghost use Rattle.std.specs.Fmt.{decimal};
+ghost use Rattle.tipc_report.specs.Closing.{spaced};
+ghost use Rattle.tipc_report.specs.Answering.{text_of};
+ghost use Rattle.tipc_report.specs.Telling.{byte_text, hex_digit, hex_text, to_text, told_text};
+
+use crate::answers::answer_text;
+use crate::words::{numbered, word};
+use std::alloc::Global;
+use tipc_types::{Addr, Answer, Bytes, NoMemory, To};
+
+/// What is told of a line of a script. (This project's profile.)
+#[derive(Debug, Drop)]
+pub enum Told {
+    /// The line asks for nothing.
+    Nothing,
+    /// What an event answered, or what was asked.
+    Answer(Answer),
+    /// Messages were sent, one after the other.
+    Times {
+        /// How many were sent.
+        count: u64,
+        /// The last answer.
+        last: Answer,
+    },
+    /// A frame that was sent.
+    Frame {
+        /// The node that sent it.
+        from: Addr,
+        /// Whom it is for.
+        to: To,
+        /// Its bytes.
+        bytes: Bytes,
+    },
+}
+
+/// The text of messages that were sent, one after the other.
+#[tactic(auto, using(crate::proofs::Spacing::two_and_one))]
+fn times_text(alloc: Global, count: u64, last: &Answer) -> Result<Vec<u8>, NoMemory>
+    ensures { IfOk result (λ text. text.items ≡ spaced (codes "times" ∷ decimal count ∷ text_of last.now ∷ [])) }
+{
+    let mut text = numbered(alloc, "times", count)?;
+    let answer = answer_text(alloc, last)?;
+    text.push(b' ')?;
+    text.extend_from_slice(answer.as_slice())?;
+    Ok(text)
+}
+
+/// A hexadecimal digit, in lower case.
+fn hex_digit(value: u8) -> u8
+    requires { value < 16 }
+    ensures { result ≡ hex_digit value }
+{
+    if value < 10 {
+        b'0' + value
+    } else {
+        b'a' + (value - 10)
+    }
+}
+
+/// Appends the two hexadecimal digits of a byte.
+fn push_byte(text: &mut Vec<u8>, byte: u8) -> Result<(), NoMemory>
+    ensures { OnOk result (text.new.items ≡ text.old.items ++ byte_text byte) }
+{
+    let digits = [hex_digit(byte / 16), hex_digit(byte % 16)];
+    text.extend_from_slice(digits.as_slice())?;
+    Ok(())
+}
+
+/// Bytes in hexadecimal.
+fn hex_text(alloc: Global, bytes: &[u8]) -> Result<Vec<u8>, NoMemory>
+    ensures { IfOk result (λ text. text.items ≡ hex_text bytes.now) }
+{
+    let mut text = Vec::new(alloc);
+    for byte in bytes {
+        push_byte(&mut text, *byte)?;
+    }
+    Ok(text)
+}
+
+/// The nodes of a frame: its sender, a space, and whom it is for.
+fn nodes_text(alloc: Global, from: Addr, to: To) -> Result<Vec<u8>, NoMemory>
+    ensures { IfOk result (λ text. text.items ≡ spaced (decimal (from.word % 4096) ∷ to_text to ∷ [])) }
+{
+    let sender = from.word % 4096;
+    let text = match to {
+        To::Node(address) => {
+            let receiver = address.word % 4096;
+            format!(in alloc; "{sender} {receiver}")?
+        }
+        To::All => format!(in alloc; "{sender} all")?,
+    };
+    Ok(text.into_bytes())
+}
+
+/// The text of a frame.
+#[tactic(auto, using(crate::proofs::Spacing::two_and_one))]
+fn frame_text(alloc: Global, from: Addr, to: To, bytes: &[u8]) -> Result<Vec<u8>, NoMemory>
+    ensures { IfOk result (λ text. text.items ≡ spaced (decimal (from.word % 4096) ∷ to_text to ∷ hex_text bytes.now ∷ [])) }
+{
+    let mut text = nodes_text(alloc, from, to)?;
+    let digits = hex_text(alloc, bytes)?;
+    text.push(b' ')?;
+    text.extend_from_slice(digits.as_slice())?;
+    Ok(text)
+}
+
+/// The text of what is told of a line.
+pub fn told_text(alloc: Global, told: &Told) -> Result<Vec<u8>, NoMemory>
+    ensures { IfOk result (λ text. text.items ≡ told_text told.now) }
+{
+    match told {
+        Told::Nothing => word(alloc, "-"),
+        Told::Answer(answer) => answer_text(alloc, answer),
+        Told::Times { count, last } => times_text(alloc, *count, last),
+        Told::Frame { from, to, bytes } => frame_text(alloc, *from, *to, bytes.as_slice()),
+    }
+}

@@ -1,0 +1,75 @@
+-- Messages that are sent and received again and again, step by step.
+use Rattle.std.proofs.Common.{◌≡◌, ℕ, ◌+◌, ◌<◌, Bool, true, List, Result, Ok, Err, refl, sym, ap, subst, ◌∙◌, inr}
+use Rattle.tipc_types.specs.declared.identity.PortId.{PortId}
+use Rattle.tipc_types.specs.declared.message_forms.Importance.{Importance}
+use Rattle.tipc_types.specs.declared.node_calls.Answer.{Answer}
+use Rattle.tipc_script.specs.declared.lines.Line.{Line}
+use Rattle.tipc_script.specs.declared.lines.Line.TheVariants.{Burst, Drain, Repeat}
+use Rattle.tipc_report.specs.declared.told.Told.{Told}
+use Rattle.tipc_world.specs.declared.events.WorldEvent.{WorldEvent}
+use Rattle.tipc_world.specs.declared.events.WorldEvent.TheVariants as event
+use Rattle.tipc_world.specs.declared.events.WorldFault.{WorldFault}
+use Rattle.tipc_world.specs.declared.events.WorldFault.TheVariants as fault
+use Rattle.tipc_world.specs.Calls.{CanHappen}
+use Rattle.tipc_world.specs.States.{WorldState}
+use Rattle.tipc_sim.specs.Courses.{Comes, Continues, Once}
+use Rattle.tipc_sim.specs.Happenings.{told_of, Conversed}
+use Rattle.tipc_sim.specs.Meanings.{Pumps}
+use Rattle.tipc_sim.specs.Messages.{is_message, is_send, is_sent, Bursts, Follows, PumpsAndReceives, ReceivesAll, Repeats, SendsAgain, Turn, Turns}
+use Rattle.tipc_sim.specs.Noted.{NotesState}
+
+-- a message that can be sent can be sent later
+pub send_can : (old new : WorldState) (send : WorldEvent) → Continues old new → is_send send ≡ true → CanHappen old send → CanHappen new send
+send_can old new (event.SendPort node port to importance body) continues e can = (continues.nodes node ∙ can.0, can.1)
+send_can old new (event.Know node peer) continues e can = absurd cc
+send_can old new (event.Mend node bearer) continues e can = absurd cc
+send_can old new (event.Cut node bearer) continues e can = absurd cc
+send_can old new (event.Tick node) continues e can = absurd cc
+send_can old new (event.Restart node) continues e can = absurd cc
+send_can old new (event.Socket node) continues e can = absurd cc
+send_can old new (event.Receive node port) continues e can = absurd cc
+send_can old new (event.Arrive node bearer place) continues e can = absurd cc
+
+-- the next message was stopped
+pub send_halts : (times : ℕ) (send : WorldEvent) (start : WorldState) (count : ℕ) (before now : WorldState) (f : WorldFault) → count < times → Repeats send is_sent start count before → Comes (Once send before) (Err f) now
+    → Comes (SendsAgain times send start) (Err f) now
+send_halts times send start count before now (fault.Limit stop) fewer passed stopped = (record { count = count; before = before; passed = passed; stopped = stopped }, fewer)
+send_halts times send start count before now fault.NoMemory fewer passed stopped = tt
+
+-- the next receive was stopped
+pub receive_halts : (node port : ℕ) (start : WorldState) (count : ℕ) (before now : WorldState) (f : WorldFault) → Repeats (event.Receive node port) is_message start count before
+    → Comes (Once (event.Receive node port) before) (Err f) now → Comes (ReceivesAll node port start) (Err f) now
+receive_halts node port start count before now (fault.Limit stop) passed stopped = record { count = count; before = before; passed = passed; stopped = stopped }
+receive_halts node port start count before now fault.NoMemory passed stopped = tt
+
+-- how many events a receive leaves
+pub receive_counts : (old : WorldState) (node port : ℕ) (new : WorldState) (answer : Answer) → Once (event.Receive node port) old (Ok answer) new → (old.events < 300000) × (new.events ≡ old.events + 1)
+receive_counts old node port new answer answered = (answered.free.below refl, answered.step.events)
+
+-- frames were pumped, and the receive was stopped
+pub last_halts : (place : ℕ) (receive : WorldEvent) (start between now : WorldState) (pumped : Answer) (f : WorldFault) → Pumps place start (Ok pumped) between → Comes (Once receive between) (Err f) now
+    → Comes (PumpsAndReceives place receive start) (Err f) now
+last_halts place receive start between now pumped (fault.Limit stop) came stopped = inr (between, pumped, came, stopped)
+last_halts place receive start between now pumped fault.NoMemory came stopped = tt
+
+-- a message was sent, and then frames are pumped and a message is received
+pub turn_goes_on : (send receive : WorldEvent) (place : ℕ) (start between now : WorldState) (answer : Answer) (came : Result (Bool × ℕ) WorldFault) → Once send start (Ok answer) between → is_sent answer ≡ true
+    → Comes (PumpsAndReceives place receive between) came now → Comes (Turn send receive place start) came now
+turn_goes_on send receive place start between now answer (Ok value) once sent came = (between, answer, once, subst (λ b. Follows b place receive between (Ok value) now) (sym sent) came)
+turn_goes_on send receive place start between now answer (Err (fault.Limit stop)) once sent came = inr (between, answer, once, subst (λ b. Follows b place receive between (Err stop) now) (sym sent) came)
+turn_goes_on send receive place start between now answer (Err fault.NoMemory) once sent came = tt
+
+-- an event of the next turn was stopped
+pub turn_halts : (times : ℕ) (send receive : WorldEvent) (first : ℕ) (start : WorldState) (count place : ℕ) (before now : WorldState) (f : WorldFault) → count < times → Turns send receive first start count place before
+    → Comes (Turn send receive place before) (Err f) now → Comes (Bursts times send receive first start) (Err f) now
+turn_halts times send receive first start count place before now (fault.Limit stop) fewer made stopped = record { count = count; fewer = fewer; place = place; before = before; made = made; stopped = stopped }
+turn_halts times send receive first start count place before now fault.NoMemory fewer made stopped = tt
+
+-- a line of another kind than these three leaves everything as it is
+pub stays : (line : Line) (notes : NotesState) (w : WorldState) (given : Told)
+    → ((times node port : ℕ) (to : PortId) (importance : Importance) (body : List ℕ) → line ≡ Repeat times node port to importance body → ⊥) → ((node port : ℕ) → line ≡ Drain node port → ⊥)
+    → ((node port to_node to_port times : ℕ) (body : List ℕ) → line ≡ Burst node port to_node to_port times body → ⊥) → given ≡ told_of line notes w → Conversed line notes w (Ok (given, notes)) w
+stays (Repeat times node port to importance body) notes w given repeat drain burst e = absurd (repeat times node port to importance body refl)
+stays (Drain node port) notes w given repeat drain burst e = absurd (drain node port refl)
+stays (Burst node port to_node to_port times body) notes w given repeat drain burst e = absurd (burst node port to_node to_port times body refl)
+stays other notes w given repeat drain burst e = (refl, ap (λ told. (told, notes)) e)

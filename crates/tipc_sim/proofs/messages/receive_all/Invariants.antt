@@ -1,0 +1,15 @@
+use Rattle.std.proofs.Common.{◌≤◌, ◌-◌}
+use Rattle.tipc_world.specs.declared.events.WorldEvent.TheVariants as event
+use Rattle.tipc_sim.specs.Courses.{Continues}
+use Rattle.tipc_sim.specs.Messages.{is_message, Repeats}
+use Rattle.tipc_sim.proofs.messages.receive_all.Given as goal
+
+abbrev pub decreases-loop-answer : goal.decreases-loop-answer
+decreases-loop-answer l = 300000 - l.world.events
+
+abbrev pub invariant-loop-answer : goal.invariant-loop-answer
+invariant-loop-answer l = record {
+  passed : Repeats (event.Receive l.at.node l.at.port) is_message l.fn.world l.count l.world;
+  continues : Continues l.fn.world l.world;
+  fewer : l.count ≤ l.world.events;
+}

@@ -1,0 +1,126 @@
+-- What the lines of a script ask for that send and receive messages again and again.
+use Rattle.std.specs.Prelude.{◌≡◌, ◌⊎◌, ℕ, ◌+◌, ◌<◌, Bool, true, false, List, Ok, Err, length}
+use Rattle.tipc_types.specs.declared.message_forms.Importance.TheVariants.{Low}
+use Rattle.tipc_types.specs.declared.node_calls.Answer.{Answer}
+use Rattle.tipc_types.specs.declared.node_calls.Answer.TheVariants.{Drained, NoSocket, Received, Sent}
+use Rattle.tipc_script.specs.Spelling.{port_at}
+use Rattle.tipc_world.specs.declared.events.Limit.{Limit}
+use Rattle.tipc_world.specs.declared.events.WorldEvent.{WorldEvent}
+use Rattle.tipc_world.specs.declared.events.WorldEvent.TheVariants as event
+use Rattle.tipc_world.specs.States.{WorldState}
+use Rattle.tipc_sim.specs.Courses.{Course, Once}
+use Rattle.tipc_sim.specs.Meanings.{Pumps}
+
+-- the answer says that a message was sent
+abbrev pub is_sent : Answer → Bool
+is_sent Sent = true
+is_sent other = false
+
+-- the answer is a message
+abbrev pub is_message : Answer → Bool
+is_message (Received message) = true
+is_message other = false
+
+-- the event sends a message to a port
+abbrev pub is_send : WorldEvent → Bool
+is_send (event.SendPort node port to importance body) = true
+is_send other = false
+
+-- ---- one event again and again
+
+-- an event happened so many times, one after the other, and each of its answers passed
+pub data Repeats (event : WorldEvent) (passes : Answer → Bool) (start : WorldState) : ℕ → WorldState → Type 0 where
+  begin : Repeats event passes start 0 start
+  go_on : (count : ℕ) (before : WorldState) (answer : Answer) (now : WorldState) → Repeats event passes start count before → Once event before (Ok answer) now → passes answer ≡ true
+      → Repeats event passes start (count + 1) now
+
+-- likewise, and then it happened once more, and that last answer didn't pass
+pub record RepeatsUntil (event : WorldEvent) (passes : Answer → Bool) (start : WorldState) (count : ℕ) (last : Answer) (now : WorldState) : Type 0 where
+  pub before : WorldState
+  pub passed : Repeats event passes start count before
+  pub once : Once event before (Ok last) now
+  pub fails : passes last ≡ false
+
+-- likewise, and a limit stopped the next one
+pub record RepeatHalts (event : WorldEvent) (passes : Answer → Bool) (start : WorldState) (limit : Limit) (now : WorldState) : Type 0 where
+  pub count : ℕ
+  pub before : WorldState
+  pub passed : Repeats event passes start count before
+  pub stopped : Once event before (Err limit) now
+
+-- ---- messages that are sent
+
+-- A message is sent so many times at most, until it isn't. The value is how many times it was, and the last answer.
+abbrev pub SendsAgain : ℕ → WorldEvent → Course (ℕ × Answer)
+SendsAgain times send start (Ok value) now =
+    (Repeats send is_sent start times now × (value ≡ (times, Sent))) ⊎ (RepeatsUntil send is_sent start value.0 value.1 now × (value.0 < times))
+SendsAgain times send start (Err limit) now = (halts : RepeatHalts send is_sent start limit now) × (halts.count < times)
+
+-- ---- messages that are received
+
+-- how many were received, or that there is no such socket
+abbrev pub drained_answer : ℕ → Answer → Answer
+drained_answer count NoSocket = NoSocket
+drained_answer count other = Drained count
+
+-- messages are received at a port until there is none
+abbrev pub ReceivesAll : ℕ → ℕ → Course Answer
+ReceivesAll node port start (Ok answer) now =
+    (count : ℕ) × (last : Answer) × RepeatsUntil (event.Receive node port) is_message start count last now × (answer ≡ drained_answer count last)
+ReceivesAll node port start (Err limit) now = RepeatHalts (event.Receive node port) is_message start limit now
+
+-- ---- messages that are sent, pumped and received
+
+-- a message of low importance to a port of another node
+abbrev pub low_message : ℕ → ℕ → ℕ → ℕ → List ℕ → WorldEvent
+low_message node port to_node to_port body = event.SendPort node port (port_at to_node to_port) Low body
+
+-- The frames from a place on are pumped, and then a message is received. The value is whether there was one, and up to which place frames are
+-- pumped then.
+abbrev pub PumpsAndReceives : ℕ → WorldEvent → Course (Bool × ℕ)
+PumpsAndReceives place receive start (Ok value) now =
+    (between : WorldState) × (pumped : Answer) × (last : Answer) × Pumps place start (Ok pumped) between × Once receive between (Ok last) now × (value ≡ (is_message last, length between.air))
+PumpsAndReceives place receive start (Err limit) now =
+    Pumps place start (Err limit) now ⊎ ((between : WorldState) × (pumped : Answer) × Pumps place start (Ok pumped) between × Once receive between (Err limit) now)
+
+-- the same where the message was sent, and else nothing
+abbrev pub Follows : Bool → ℕ → WorldEvent → Course (Bool × ℕ)
+Follows true place receive start came now = PumpsAndReceives place receive start came now
+Follows false place receive start (Ok value) now = (now ≡ start) × (value ≡ (false, place))
+Follows false place receive start (Err limit) now = ⊥
+
+-- A message is sent, and where it was, frames are pumped and a message is received. The value is whether one was, and up to which place frames
+-- are pumped then.
+abbrev pub Turn : WorldEvent → WorldEvent → ℕ → Course (Bool × ℕ)
+Turn send receive place start (Ok value) now = (between : WorldState) × (answer : Answer) × Once send start (Ok answer) between × Follows (is_sent answer) place receive between (Ok value) now
+Turn send receive place start (Err limit) now =
+    Once send start (Err limit) now ⊎ ((between : WorldState) × (answer : Answer) × Once send start (Ok answer) between × Follows (is_sent answer) place receive between (Err limit) now)
+
+-- So many turns were made, one after the other, and a message was received in each. The frames before that place are pumped.
+pub data Turns (send receive : WorldEvent) (first : ℕ) (start : WorldState) : ℕ → ℕ → WorldState → Type 0 where
+  begin : Turns send receive first start 0 first start
+  go_on : (count place : ℕ) (before : WorldState) (next : ℕ) (now : WorldState) → Turns send receive first start count place before → Turn send receive place before (Ok (true, next)) now
+      → Turns send receive first start (count + 1) next now
+
+-- likewise, and then one in which none was
+pub record TurnsUntil (send receive : WorldEvent) (first : ℕ) (start : WorldState) (count end : ℕ) (now : WorldState) : Type 0 where
+  pub place : ℕ
+  pub before : WorldState
+  pub made : Turns send receive first start count place before
+  pub fails : Turn send receive place before (Ok (false, end)) now
+
+-- likewise, and a limit stopped an event of the next one
+pub record TurnHalts (send receive : WorldEvent) (times first : ℕ) (start : WorldState) (limit : Limit) (now : WorldState) : Type 0 where
+  pub count : ℕ
+  pub fewer : count < times
+  pub place : ℕ
+  pub before : WorldState
+  pub made : Turns send receive first start count place before
+  pub stopped : Turn send receive place before (Err limit) now
+
+-- So many turns are made at most, until no message is received. The value is in how many one was, and up to which place frames are pumped
+-- then.
+abbrev pub Bursts : ℕ → WorldEvent → WorldEvent → ℕ → Course (ℕ × ℕ)
+Bursts times send receive first start (Ok value) now =
+    (Turns send receive first start times value.1 now × (value.0 ≡ times)) ⊎ (TurnsUntil send receive first start value.0 value.1 now × (value.0 < times))
+Bursts times send receive first start (Err limit) now = TurnHalts send receive times first start limit now

@@ -1,0 +1,181 @@
+ghost use Rattle.std.specs.Prelude.{◌≡◌, true};
+ghost use Rattle.tipc_world.specs.Calls.{CanHappen};
+ghost use Rattle.tipc_world.specs.States.{is_there};
+ghost use Rattle.tipc_sim.specs.Courses.{Comes, Continues, Once};
+ghost use Rattle.tipc_sim.specs.Messages.{drained_answer, is_message, is_send, is_sent, Bursts, PumpsAndReceives, ReceivesAll, SendsAgain, Turn};
+
+use crate::frames::{make, pump};
+use std::alloc::Global;
+use tipc_types::Answer;
+use tipc_world::{World, WorldEvent, WorldFault};
+
+/// A socket of a node.
+#[derive(Clone, Copy, Debug, PartialEq, Eq)]
+pub struct Socket {
+    /// The node's number.
+    pub node: u8,
+    /// The socket's port.
+    pub port: u32,
+}
+
+impl Socket {
+    /// The socket of that node and port.
+    pub fn new(node: u8, port: u32) -> Socket
+        ensures { result ≡ record { node = node; port = port } }
+    {
+        Socket { node, port }
+    }
+}
+
+/// Whether an answer says that a message was sent.
+fn is_sent(answer: &Answer) -> bool
+    ensures { result ≡ is_sent answer.now }
+{
+    matches!(answer, Answer::Sent)
+}
+
+/// Whether an answer is a message.
+fn is_message(answer: &Answer) -> bool
+    ensures { result ≡ is_message answer.now }
+{
+    matches!(answer, Answer::Received(_))
+}
+
+/// Lets a message be sent.
+fn send(alloc: Global, message: &WorldEvent, world: &mut World) -> Result<Answer, WorldFault>
+    requires { CanHappen world.old message.now }
+    ensures comes { Comes (Once message.now world.old) result world.new }
+    ensures continues { Continues world.old world.new }
+{
+    make(alloc, message.clone()?, world)
+}
+
+/// Lets a message be received.
+fn receive(alloc: Global, at: Socket, world: &mut World) -> Result<Answer, WorldFault>
+    requires { is_there world.old at.node ≡ true }
+    ensures comes { Comes (Once (WorldEvent.Receive at.node at.port) world.old) result world.new }
+    ensures continues { Continues world.old world.new }
+{
+    let event = WorldEvent::Receive {
+        node: at.node,
+        port: at.port,
+    };
+    make(alloc, event, world)
+}
+
+/// Lets a message be sent so many times at most, until it isn't. It answers how many times it was, and the last answer.
+pub fn repeat(
+    alloc: Global,
+    times: u32,
+    message: &WorldEvent,
+    world: &mut World,
+) -> Result<(u64, Answer), WorldFault>
+    requires can { CanHappen world.old message.now }
+    requires sends { is_send message.now ≡ true }
+    ensures comes { Comes (SendsAgain times message.now world.old) result world.new }
+    ensures continues { Continues world.old world.new }
+{
+    let mut sent = 0;
+    for _ in 0..times {
+        let answer = send(alloc, message, world)?;
+        if !is_sent(&answer) {
+            return Ok((sent, answer));
+        }
+        sent += 1;
+    }
+    Ok((sent, Answer::Sent))
+}
+
+/// How many messages were received before this answer, or that there is no such socket.
+fn drained_answer(count: u64, last: &Answer) -> Answer
+    ensures { result ≡ drained_answer count last.now }
+{
+    match last {
+        Answer::NoSocket => Answer::NoSocket,
+        _ => Answer::Drained(count),
+    }
+}
+
+/// Lets messages be received at a socket until there is none.
+pub fn receive_all(alloc: Global, at: Socket, world: &mut World) -> Result<Answer, WorldFault>
+    requires { is_there world.old at.node ≡ true }
+    ensures comes { Comes (ReceivesAll at.node at.port world.old) result world.new }
+    ensures continues { Continues world.old world.new }
+{
+    let mut count = 0;
+    loop {
+        let answer = receive(alloc, at, world)?;
+        if !is_message(&answer) {
+            return Ok(drained_answer(count, &answer));
+        }
+        count += 1;
+    }
+}
+
+/// Pumps the frames from a place on, and lets a message be received. It answers whether there was one, and up to which place
+/// frames are pumped then.
+fn pump_and_receive(
+    alloc: Global,
+    at: Socket,
+    place: u64,
+    world: &mut World,
+) -> Result<(bool, u64), WorldFault>
+    requires { is_there world.old at.node ≡ true }
+    ensures comes { Comes (PumpsAndReceives place (WorldEvent.Receive at.node at.port) world.old) result world.new }
+    ensures continues { Continues world.old world.new }
+{
+    pump(alloc, place, world)?;
+    let end = world.air_len();
+    let answer = receive(alloc, at, world)?;
+    Ok((is_message(&answer), end))
+}
+
+/// Lets a message be sent, and where it was, pumps frames and lets a message be received. It answers whether there was one, and
+/// up to which place frames are pumped then.
+fn turn(
+    alloc: Global,
+    message: &WorldEvent,
+    at: Socket,
+    place: u64,
+    world: &mut World,
+) -> Result<(bool, u64), WorldFault>
+    requires can { CanHappen world.old message.now }
+    requires there { is_there world.old at.node ≡ true }
+    ensures comes { Comes (Turn message.now (WorldEvent.Receive at.node at.port) place world.old) result world.new }
+    ensures continues { Continues world.old world.new }
+{
+    let answer = send(alloc, message, world)?;
+    if !is_sent(&answer) {
+        return Ok((false, place));
+    }
+    pump_and_receive(alloc, at, place, world)
+}
+
+/// Makes so many turns at most, until no message is received. It answers in how many one was, and up to which place frames are
+/// pumped then.
+pub fn burst(
+    alloc: Global,
+    times: u32,
+    message: &WorldEvent,
+    at: Socket,
+    first: u64,
+    world: &mut World,
+) -> Result<(u64, u64), WorldFault>
+    requires can { CanHappen world.old message.now }
+    requires sends { is_send message.now ≡ true }
+    requires there { is_there world.old at.node ≡ true }
+    ensures comes { Comes (Bursts times message.now (WorldEvent.Receive at.node at.port) first world.old) result world.new }
+    ensures continues { Continues world.old world.new }
+{
+    let mut place = first;
+    let mut moved = 0;
+    for _ in 0..times {
+        let (came, next) = turn(alloc, message, at, place, world)?;
+        place = next;
+        if !came {
+            return Ok((moved, place));
+        }
+        moved += 1;
+    }
+    Ok((moved, place))
+}
