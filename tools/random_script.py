@@ -3,8 +3,8 @@
 
 random_script.py SEED LINES: a script of so many lines behind the ones that make its nodes. The same
 seed gives the same script. Links are asked for, cut, mended and left to fall silent, nodes are restarted,
-messages are sent between all ports that were ever made, one or many at a time, and frames arrive late, again
-and in any order.
+messages of any length are sent between all ports that were ever made, one or many at a time, and frames arrive
+late, again and in any order.
 """
 
 import random
@@ -51,6 +51,9 @@ class Cluster:
         return f"restart {n}"
 
     def body(self) -> str:
+        """Mostly a short text; sometimes so many bytes of the pattern, as long as a fragment or two and at the limit."""
+        if self.draw.random() < 0.2:
+            return f"*{self.draw.choice((0, 1, 251, 1_000, 1_420, 1_421, 5_000, 66_000, 66_001))}"
         return "=" + "".join(self.draw.choice("abcxyz=#") for _ in range(self.draw.randint(1, 8)))
 
     def send(self) -> str:

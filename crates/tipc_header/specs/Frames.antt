@@ -17,7 +17,3 @@ stamped acknowledgement sequence previous packet =
 -- the packet as it is sent: acknowledging so much, under this number, by this node
 abbrev pub sent_as : ℕ → ℕ → ℕ → Fields → Fields
 sent_as acknowledgement sequence previous p = record { acknowledgement = acknowledgement; sequence = sequence; previous = previous; header = p.header; rest = p.rest }
-
--- the packet as it waits to be sent: words 2 and 3 are zero
-abbrev pub unsent : Fields → Fields
-unsent p = sent_as 0 0 0 p

@@ -1,4 +1,4 @@
--- One end of a link in one session, and what each call makes of it. Packets are bytes as they wait to be sent, words 2 and 3 zero.
+-- One end of a link in one session, and what each call makes of it. Packets are bytes as they wait to be sent, word 2 zero.
 use Rattle.std.specs.Prelude.{◌≡◌, ℕ, ◌+◌, ◌-◌, ◌<◌, ◌≤◌, Bool, true, false, ◌||◌, List, [], ◌∷◌, ◌++◌, Option, length, take, drop, filter, map, max, min, nat_le, nat_lt, slice_index_or, ◌==◌, ◌&&◌, if◌then◌else◌}
 use Rattle.tipc_types.specs.Position.{number_of, distance_of}
 use Rattle.tipc_types.specs.declared.identity.To.TheVariants as to
@@ -10,7 +10,7 @@ use Rattle.tipc_outside.specs.declared.outgoing.Outgoing.{Outgoing}
 use Rattle.tipc_header.specs.declared.packet.Header.{Header}
 use Rattle.tipc_header.specs.declared.packet.Header.TheVariants as header
 use Rattle.tipc_header.specs.Spelling.{Fields, spelling}
-use Rattle.tipc_header.specs.Frames.{frame_of, stamped, unsent}
+use Rattle.tipc_header.specs.Frames.{frame_of, sent_as, stamped}
 use Rattle.tipc_send_window.specs.Sending.{Sending, fresh, offered, acknowledged, kept_of, swapped}
 use Rattle.tipc_recv_window.specs.declared.outcomes.LinkOutcome.{LinkOutcome}
 use Rattle.tipc_recv_window.specs.declared.outcomes.Place.{Place}
@@ -90,8 +90,20 @@ content_by (header.Activate activate) sequence packet = Nothing
 content_by (header.Discovery discovery) sequence packet = Nothing
 content_by _ sequence packet = Carries sequence packet
 
+-- the previous node that a packet shows while it waits: a message names its node from the start, and what a link makes of other
+-- packets (a bundle, a tunnel packet, a fragment) names none before it is sent
+abbrev pub previous_waiting : Header → ℕ → ℕ
+previous_waiting (header.Bundler bundle) previous = 0
+previous_waiting (header.Changeover changeover) previous = 0
+previous_waiting (header.Fragmenter fragment) previous = 0
+previous_waiting _ previous = previous
+
+-- a packet as it waited to be sent: it acknowledged nothing and had no number
+abbrev pub as_waiting : Fields → Fields
+as_waiting p = sent_as 0 0 (previous_waiting p.header p.previous) p
+
 unfoldable pub content_of : Fields → Content
-content_of p = content_by p.header p.sequence (spelling (unsent p))
+content_of p = content_by p.header p.sequence (spelling (as_waiting p))
 
 abbrev pub released : SessionEnd → ℕ → SessionEnd
 released e acknowledgement = record e { sending = acknowledged e.sending acknowledgement }

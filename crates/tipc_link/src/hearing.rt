@@ -3,13 +3,12 @@
 ghost use Rattle.std.specs.Prelude.{◌≡◌, ◌==◌, ◌&&◌, false, None, IfOk};
 ghost use Rattle.tipc_recv_window.specs.Receiving.{deferred_count};
 ghost use Rattle.tipc_header.specs.Spelling.{spelling, view};
-ghost use Rattle.tipc_header.specs.Frames.{unsent};
 ghost use Rattle.tipc_header.specs.Grammar.{Fits};
-ghost use Rattle.tipc_link.specs.Sessions.{is_deferred, placed};
+ghost use Rattle.tipc_link.specs.Sessions.{as_waiting, is_deferred, placed, previous_waiting};
 
 use std::alloc::Global;
 use std::marker::Model;
-use tipc_header::{Packet, encode};
+use tipc_header::{Header, Packet, encode};
 use tipc_recv_window::{LinkOutcome, Place, RecvWindow};
 use tipc_types::{Bytes, NoMemory, TakenList, Why};
 
@@ -62,20 +61,35 @@ impl Hearing {
     }
 }
 
-/// The bytes of a packet as it waited to be sent.
-pub(crate) fn unsent_bytes(alloc: Global, packet: &Packet<'_>) -> Result<Bytes, NoMemory>
-    requires { Fits (view packet.now) }
-    ensures { IfOk result (λ bytes. bytes ≡ spelling (unsent (view packet.now))) }
+/// The previous node that a packet showed while it waited to be sent.
+fn previous_waiting(packet: &Packet<'_>) -> u32
+    ensures { result ≡ previous_waiting packet.now.header packet.now.previous }
 {
-    let unsent = Packet {
+    match packet.header {
+        Header::Bundler(_) | Header::Changeover(_) | Header::Fragmenter(_) => 0,
+        Header::Payload(_)
+        | Header::State(_)
+        | Header::Reset(_)
+        | Header::Activate(_)
+        | Header::NameDistributor(_)
+        | Header::Discovery(_) => packet.previous,
+    }
+}
+
+/// The bytes of a packet as it waited to be sent.
+pub(crate) fn waiting_bytes(alloc: Global, packet: &Packet<'_>) -> Result<Bytes, NoMemory>
+    requires { Fits (view packet.now) }
+    ensures { IfOk result (λ bytes. bytes ≡ spelling (as_waiting (view packet.now))) }
+{
+    let waiting = Packet {
         acknowledgement: 0,
         sequence: 0,
-        previous: 0,
+        previous: previous_waiting(packet),
         header: packet.header,
         rest: packet.rest,
     };
     let mut bytes = Vec::new(alloc);
-    encode(&unsent, &mut bytes)?;
+    encode(&waiting, &mut bytes)?;
     Ok(Bytes::from_vec(bytes))
 }
 

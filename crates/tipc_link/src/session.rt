@@ -1,14 +1,13 @@
 ghost use Rattle.std.specs.Prelude.{◌≡◌, ◌+◌, ◌-◌, ◌<◌, ◌≤◌, [], ◌∷◌, ◌==◌, if◌then◌else◌, List, ℕ, None, Err, length, take, slice_get, All, IfNone, IfOk, IfSome, OnErr, OnOk, Some};
 ghost use Rattle.tipc_types.specs.Position.{number_of};
 ghost use Rattle.tipc_header.specs.Spelling.{spelling, view};
-ghost use Rattle.tipc_header.specs.Frames.{unsent};
 ghost use Rattle.tipc_header.specs.Grammar.{Fits};
 ghost use Rattle.tipc_outside.specs.Frames.{Adds};
 ghost use Rattle.tipc_types.specs.declared.packet_lists.Taken.{Taken};
 ghost use Rattle.tipc_send_window.specs.Sending.{kept_of};
 ghost use Rattle.tipc_link.specs.Sessions.{is_behind};
 
-use crate::hearing::{Hearing, is_only_deferred, outcome_at, unsent_bytes};
+use crate::hearing::{Hearing, is_only_deferred, outcome_at, waiting_bytes};
 use crate::joining::{joined_with, may_be_joined};
 use std::alloc::{AllocError, Global};
 use std::marker::Model;
@@ -71,7 +70,7 @@ impl Model for Session {
 }
 
 impl Session {
-    ghost use Rattle.tipc_link.specs.Sessions.{ahead, answer_frames, answered, arrival_frames, arrived, begun, brought, content_of, flush_frames, flushed, gap, highest, missing, noted, outcome, packet_frame, past, put, priority_of, receiving, released, repeat_frames, repeated, room, sent, shows_more, is_only_deferred, spoke, state_fields, state_frame, told, took, wanted, with_last, Content, IsPut, IsWaiting, MayJoin, SessionEnd};
+    ghost use Rattle.tipc_link.specs.Sessions.{ahead, answer_frames, answered, arrival_frames, arrived, as_waiting, begun, brought, content_of, flush_frames, flushed, gap, highest, missing, noted, outcome, packet_frame, past, put, priority_of, receiving, released, repeat_frames, repeated, room, sent, shows_more, is_only_deferred, spoke, state_fields, state_frame, told, took, wanted, with_last, Content, IsPut, IsWaiting, MayJoin, SessionEnd};
     ghost use Rattle.tipc_link.specs.Hearings.{IsHearing, IsJoined, numbered_hearing};
 
     /// An end that is up, in the session of these two epochs, over a bearer 0 or 1.
@@ -143,7 +142,7 @@ impl Session {
 
     /// Puts packets on the link, and sends those that the window of 50 has room for. A packet that is alone, and is payload or name
     /// items, joins the last packet that waits, where that is a bundle or such a packet and the bundle has at most 1,452 bytes.
-    /// Words 2 and 3 of the pieces are written when they are sent. (TIPC 2.0 draft; the limits: this project's profile.)
+    /// Words 2 and 3 of a packet are written when it is sent; a message names its node in word 3 from the start, also in a bundle. (TIPC 2.0 draft; the limits: this project's profile.)
     ///
     /// # Errors
     ///
@@ -407,10 +406,10 @@ impl Session {
         by: u64,
     ) -> Result<Hearing, NoMemory>
         requires { Fits (view packet.now) }
-        ensures { IfOk result (λ h. h ≡ numbered_hearing self.now (brought packet.now.sequence (spelling (unsent (view packet.now))) by)) }
+        ensures { IfOk result (λ h. h ≡ numbered_hearing self.now (brought packet.now.sequence (spelling (as_waiting (view packet.now))) by)) }
     {
         let mut window = self.receive_window().copy()?;
-        let place = window.arrive(packet.sequence, unsent_bytes(alloc, packet)?, by)?;
+        let place = window.arrive(packet.sequence, waiting_bytes(alloc, packet)?, by)?;
         let owes = is_only_deferred(place, &window);
         let due = window.take_run(alloc)?;
         Ok(Hearing {

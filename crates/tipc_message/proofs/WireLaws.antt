@@ -17,7 +17,7 @@ importance-again High = refl
 importance-again Critical = refl
 
 -- the packet of a payload message, read again
-payload-again : (i : Importance) (f : Form) (from to : PortId) (kind lower upper code : ℕ) (droppable : Bool) (body : List ℕ) → IsPayload (Payload i f from to kind lower upper code droppable body) → message_of (payload_packet (payload_of i f from to kind lower upper code droppable) body) ≡ Some (Payload i f from to kind lower upper code droppable body)
+payload-again : (i : Importance) (f : Form) (from to : PortId) (kind lower upper code : ℕ) (droppable : Bool) (body : List ℕ) → IsPayload (Payload i f from to kind lower upper code droppable body) → message_of (payload_packet from.node.word (payload_of i f from to kind lower upper code droppable) body) ≡ Some (Payload i f from to kind lower upper code droppable body)
 unfolding message_of
 payload-again i form.Connected from to kind lower upper code droppable body h =
     let f = h.0 in
@@ -39,6 +39,6 @@ payload-again i form.Direct from to kind lower upper code droppable body h =
 pub message_of-packet_of : (m : Message) (p : Fields) → IsPayload m → packet_of m ≡ Some p → message_of p ≡ Some m
 unfolding packet_of
 message_of-packet_of (Payload i f from to kind lower upper code droppable body) p h is =
-    let same : payload_packet (payload_of i f from to kind lower upper code droppable) body ≡ p = cc in
+    let same : payload_packet from.node.word (payload_of i f from to kind lower upper code droppable) body ≡ p = cc in
     ap message_of (sym same) ∙ payload-again i f from to kind lower upper code droppable body h
 message_of-packet_of (Items withdrawal items) p h is = absurd h

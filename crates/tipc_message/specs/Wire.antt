@@ -52,14 +52,14 @@ payload_of importance form from to kind lower upper code droppable = record {
   addressing = addressing_of form from.node.word to.node.word kind lower upper;
 }
 
--- the packet of a user's message, as it waits to be sent
-abbrev pub payload_packet : Payload → List ℕ → Fields
-payload_packet p body = record { acknowledgement = 0; sequence = 0; previous = 0; header = header.Payload p; rest = body }
+-- the packet of a user's message of this node, as it waits to be sent
+abbrev pub payload_packet : ℕ → Payload → List ℕ → Fields
+payload_packet own p body = record { acknowledgement = 0; sequence = 0; previous = own; header = header.Payload p; rest = body }
 
--- the packet of a message as it waits to be sent, where the message is a user's
+-- the packet of a message as it waits to be sent, where the message is a user's: the previous node is its origin
 unfoldable pub packet_of : Message → Option Fields
 packet_of (message.Payload importance form from to kind lower upper code droppable body) =
-    Some (payload_packet (payload_of importance form from to kind lower upper code droppable) body)
+    Some (payload_packet from.node.word (payload_of importance form from to kind lower upper code droppable) body)
 packet_of (message.Items withdrawal items) = None
 
 abbrev pub port_at : ℕ → ℕ → PortId

@@ -83,7 +83,7 @@ fn port_number(at: &PortId) -> u32
     at.port
 }
 
-/// The bytes of a user's message as they wait to be sent, words 2 and 3 zero.
+/// The bytes of a user's message as they wait to be sent: word 2 is zero, and word 3 is its origin's address.
 #[tactic(auto, unfolding(crate::specs::Wire::packet_of))]
 pub fn packet_bytes(alloc: Global, message: &Message) -> Result<Bytes, NoMemory>
     requires { IsPayload message.now }
@@ -124,20 +124,20 @@ pub fn packet_bytes(alloc: Global, message: &Message) -> Result<Bytes, NoMemory>
             *upper,
         ),
     };
-    spelled(alloc, header, body.as_slice())
+    spelled(alloc, from.node.word, header, body.as_slice())
 }
 
-/// The bytes of the packet with this header and body.
-fn spelled(alloc: Global, header: Payload, body: &[u8]) -> Result<Bytes, NoMemory>
+/// The bytes of the packet of this node with this header and body.
+fn spelled(alloc: Global, own: u32, header: Payload, body: &[u8]) -> Result<Bytes, NoMemory>
     requires header { PayloadFits header }
     requires body { length body.now ≤ 66000 }
-    ensures spelled { IfOk result (λ bytes. Fits (payload_packet header body.now) × (bytes ≡ spelling (payload_packet header body.now))) }
+    ensures spelled { IfOk result (λ bytes. Fits (payload_packet own header body.now) × (bytes ≡ spelling (payload_packet own header body.now))) }
     ensures long { IfOk result (λ bytes. 24 ≤ length bytes) }
 {
     let packet = Packet {
         acknowledgement: 0,
         sequence: 0,
-        previous: 0,
+        previous: own,
         header: Header::Payload(header),
         rest: body,
     };

@@ -31,16 +31,16 @@ IsUsers p = (may_stand_inside p.header ≡ true) × (4 * header_size p.header �
 users_with : (m : Message) (p : Fields) → packet_of m ≡ Some p → Fits p → IsUsers p
 unfolding packet_of
 users_with (message.Payload importance form.Connected from to kind lower upper code droppable body) p is fits =
-    let same : payload_packet (payload_of importance form.Connected from to kind lower upper code droppable) body ≡ p = cc in
+    let same : payload_packet from.node.word (payload_of importance form.Connected from to kind lower upper code droppable) body ≡ p = cc in
     subst (λ q. Fits q → IsUsers q) same (λ f. (refl, omega arith, refl, f.rest)) fits
 users_with (message.Payload importance form.Multicast from to kind lower upper code droppable body) p is fits =
-    let same : payload_packet (payload_of importance form.Multicast from to kind lower upper code droppable) body ≡ p = cc in
+    let same : payload_packet from.node.word (payload_of importance form.Multicast from to kind lower upper code droppable) body ≡ p = cc in
     subst (λ q. Fits q → IsUsers q) same (λ f. (refl, omega arith, refl, f.rest)) fits
 users_with (message.Payload importance form.Named from to kind lower upper code droppable body) p is fits =
-    let same : payload_packet (payload_of importance form.Named from to kind lower upper code droppable) body ≡ p = cc in
+    let same : payload_packet from.node.word (payload_of importance form.Named from to kind lower upper code droppable) body ≡ p = cc in
     subst (λ q. Fits q → IsUsers q) same (λ f. (refl, omega arith, refl, f.rest)) fits
 users_with (message.Payload importance form.Direct from to kind lower upper code droppable body) p is fits =
-    let same : payload_packet (payload_of importance form.Direct from to kind lower upper code droppable) body ≡ p = cc in
+    let same : payload_packet from.node.word (payload_of importance form.Direct from to kind lower upper code droppable) body ≡ p = cc in
     subst (λ q. Fits q → IsUsers q) same (λ f. (refl, omega arith, refl, f.rest)) fits
 users_with (message.Items withdrawal items) p is fits = absurd cc
 

@@ -85,7 +85,7 @@ cuts x x' y e h is g = is_down_then x x' y e (cut_pair e) [] h is g (cut_course 
 
 -- ---- packets are put
 
-pub puts : (x x' y : View) (e : LinkEnd) (s s' : SessionEnd) (pieces : List (List ℕ)) → ArePaired x y → x.link ≡ Some e → session_of x ≡ Some s → IsPut s pieces s' → Each IsPacket s'.sending.waiting
+pub puts : (x x' y : View) (e : LinkEnd) (s s' : SessionEnd) (pieces : List (List ℕ)) → ArePaired x y → x.link ≡ Some e → session_of x ≡ Some s → IsPut s pieces s' → Each (IsPacket x.own) s'.sending.waiting
     → Goes x x' y (with_session e (flushed s')) (flush_frames s') (moving s') [] → ArePaired x' y
 puts x x' y e s s' pieces h is has put packets g =
     let here = session_here x s has in

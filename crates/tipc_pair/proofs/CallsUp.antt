@@ -21,7 +21,7 @@ use Rattle.tipc_pair.proofs.SessionsHeard.{Follows, answered_follows}
 -- ---- the link was up
 
 pub goes_on : (x x' y : View) (e e' : LinkEnd) (frames : List Outgoing) (put took : List (List ℕ)) (s s' : SessionEnd) → ArePaired x y → x.link ≡ Some e → Goes x x' y e' frames put took → Course x y.sent e e' frames
-    → is_up e.fsm.state ≡ true → is_up e'.fsm.state ≡ true → e.session ≡ Some s → e'.session ≡ Some s' → Each IsPacket put
+    → is_up e.fsm.state ≡ true → is_up e'.fsm.state ≡ true → e.session ≡ Some s → e'.session ≡ Some s' → Each (IsPacket x.own) put
     → (Stands x y s (x.put (own_of x) (seen_of x)) (x.took (own_of x) (seen_of x)) → Follows x y s' (x.put (own_of x) (seen_of x) ++ put) (x.took (own_of x) (seen_of x) ++ took) frames)
     → ArePaired x' y
 goes_on x x' y e e' frames put took s s' h is g c up up' has has' packets follows =

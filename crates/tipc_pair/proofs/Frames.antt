@@ -12,14 +12,14 @@ use Rattle.tipc_header.specs.declared.packet.Header.{Header}
 use Rattle.tipc_header.specs.declared.packet.Header.TheVariants as header
 use Rattle.tipc_header.specs.Spelling.{Fields, spelling, two_words}
 use Rattle.tipc_header.specs.Grammar.{Fits}
-use Rattle.tipc_header.specs.Frames.{envelope, frame_of, stamped, sent_as, unsent}
+use Rattle.tipc_header.specs.Frames.{envelope, frame_of, stamped, sent_as}
 use Rattle.tipc_header.proofs.FrameWords.{stamped-spelling}
 use Rattle.tipc_header.proofs.Words.{AreWords, word_at-words}
 use Rattle.tipc_send_window.specs.Sending.{acked_of, kept_after, kept_of}
 use Rattle.tipc_recv_window.specs.Receiving.{gap_of}
 use Rattle.tipc_link.specs.Direction.{IsCarried, IsDirection}
 use Rattle.tipc_link.specs.Links.{is_traffic}
-use Rattle.tipc_link.specs.Sessions.{SessionEnd, Shows, Carries, answer_frames, content_by, content_of, flush_frames, gap, is_behind, is_due, missing, moving, packet_frame, packet_frames, receiving, repeat_frames, repeated, room, state_fields, state_frame}
+use Rattle.tipc_link.specs.Sessions.{as_waiting, SessionEnd, Shows, Carries, answer_frames, content_by, content_of, flush_frames, gap, is_behind, is_due, missing, moving, packet_frame, packet_frames, receiving, repeat_frames, repeated, room, state_fields, state_frame}
 use Rattle.tipc_types.specs.declared.packet_lists.Kept.{Kept}
 use Rattle.tipc_link.proofs.Directions.{IsCarried-sent}
 use Rattle.tipc_link.proofs.LinkLaw.{Each, Each-one, Each-none}
@@ -161,7 +161,7 @@ content_by_traffic (header.Fragmenter f) sequence number packet carries is = ref
 
 content_traffic : (p : Fields) (number : ℕ) (carries : List ℕ) → content_of p ≡ Carries number carries → is_traffic p.header ≡ true
 unfolding content_of
-content_traffic p number carries is = content_by_traffic p.header p.sequence number (spelling (unsent p)) carries is
+content_traffic p number carries is = content_by_traffic p.header p.sequence number (spelling (as_waiting p)) carries is
 
 pub packet_frames-at : (s : SessionEnd) (before : ℕ) (qs : List (List ℕ)) (k : ℕ) (o : Outgoing) → slice_get (packet_frames s before qs) k ≡ Some o → (q : List ℕ) × (slice_get qs k ≡ Some q) × (o ≡ packet_frame s (number_of (before + k + 1)) q)
 packet_frames-at s before [] k o is = absurd (let none : ⊥ = cc in none)
@@ -173,17 +173,19 @@ packet_frames-at s before (x ∷ qs) (suc k) o is =
     (h.0, h.1, h.2 ∙ ap (λ i. packet_frame s (number_of i) h.0) (omega arith))
 
 -- the frame of a packet that was numbered
-pub packet_said : (own numbered num : ℕ) (s : SessionEnd) (line : List (List ℕ)) (q : List ℕ) → IsWorded own s → IsPacket q → IsCarried line numbered num q → IsSaid own s.epoch s.peer_epoch s.taken numbered line (packet_frame s num q).frame
+pub packet_said : (own numbered num : ℕ) (s : SessionEnd) (line : List (List ℕ)) (q : List ℕ) → IsWorded own s → IsPacket own q → IsCarried line numbered num q → IsSaid own s.epoch s.peer_epoch s.taken numbered line (packet_frame s num q).frame
 packet_said own numbered num s line q words h carried =
     let ack = number_of s.taken in
-    let content = h.carried ack num s.own in
+    let content = h.carried ack num in
     let small : num < 2 ^ 16 = subst (λ n. n < 2 ^ 16) (sym carried.number_is) (number_of-below carried.position) in
     record {
-      packet = sent_as ack num s.own h.packet;
-      fits = h.fits ack num s.own (number_of-below s.taken) small words.own_fits;
-      frame = ap (λ xs. frame_of s.epoch s.peer_epoch (stamped ack num s.own xs)) h.spelled ∙ ap (frame_of s.epoch s.peer_epoch) (stamped-spelling h.packet ack num s.own);
-      previous = words.own;
-      traffic = content_traffic (sent_as ack num s.own h.packet) num q content;
+      packet = sent_as ack num own h.packet;
+      fits = h.fits ack num (number_of-below s.taken) small (subst (λ n. n < 2 ^ 32) words.own words.own_fits);
+      frame =
+          ap (λ n. frame_of s.epoch s.peer_epoch (stamped ack num n q)) words.own ∙ ap (λ xs. frame_of s.epoch s.peer_epoch (stamped ack num own xs)) h.spelled
+          ∙ ap (frame_of s.epoch s.peer_epoch) (stamped-spelling h.packet ack num own);
+      previous = refl;
+      traffic = content_traffic (sent_as ack num own h.packet) num q content;
       told_is = refl;
       carried = λ number carries is.
           let same : Carries num q ≡ Carries number carries = sym content ∙ is in
@@ -193,7 +195,7 @@ packet_said own numbered num s line q words h carried =
     }
 
 -- the frames that leave when waiting packets move up
-pub flush_said : (own taken : ℕ) (s : SessionEnd) (line : List (List ℕ)) → IsWorded own s → IsDirection s.sending taken line → Each IsPacket s.sending.waiting
+pub flush_said : (own taken : ℕ) (s : SessionEnd) (line : List (List ℕ)) → IsWorded own s → IsDirection s.sending taken line → Each (IsPacket own) s.sending.waiting
     → Each (λ o. IsSaid own s.epoch s.peer_epoch s.taken (s.sending.numbered + room s.sending) (line ++ moving s) o.frame) (flush_frames s)
 unfolding flush_frames
 flush_said own taken s line words d packets k o is =
@@ -263,7 +265,7 @@ repeated_carried s taken acknowledgement missed numbered line k t d more few is 
       packet_is = ap (λ i. slice_get line i) last ∙ slice_get-get_or line (acked_of s.sending + j) t.packet (omega arith) ∙ ap Some found;
     }
 
-pub repeats_said : (own taken acknowledgement missed numbered : ℕ) (s : SessionEnd) (line : List (List ℕ)) → IsWorded own s → IsDirection s.sending taken line → Each IsPacket line → s.sending.numbered ≤ numbered → numbered ≤ acked_of s.sending + 50
+pub repeats_said : (own taken acknowledgement missed numbered : ℕ) (s : SessionEnd) (line : List (List ℕ)) → IsWorded own s → IsDirection s.sending taken line → Each (IsPacket own) line → s.sending.numbered ≤ numbered → numbered ≤ acked_of s.sending + 50
     → Each (λ o. IsSaid own s.epoch s.peer_epoch s.taken numbered line o.frame) (repeat_frames s acknowledgement missed)
 unfolding repeat_frames
 repeats_said own taken acknowledgement missed numbered s line words d packets more few k o is =

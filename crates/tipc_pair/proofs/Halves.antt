@@ -104,8 +104,8 @@ pub record IsCore (x y : View) : Type 0 where
   pub own_fits : x.own < 2 ^ 32
   pub peer_fits : x.peer < 2 ^ 32
   pub boot_fits : x.boot < 2 ^ 32
-  pub packets : (own theirs k : ℕ) (bytes : List ℕ) → slice_get (x.put own theirs) k ≡ Some bytes → IsPacket bytes
-  pub waiting : (s : SessionEnd) (k : ℕ) (bytes : List ℕ) → session_of x ≡ Some s → slice_get s.sending.waiting k ≡ Some bytes → IsPacket bytes
+  pub packets : (own theirs k : ℕ) (bytes : List ℕ) → slice_get (x.put own theirs) k ≡ Some bytes → IsPacket x.own bytes
+  pub waiting : (s : SessionEnd) (k : ℕ) (bytes : List ℕ) → session_of x ≡ Some s → slice_get s.sending.waiting k ≡ Some bytes → IsPacket x.own bytes
   pub sends : (s : SessionEnd) → session_of x ≡ Some s → IsDirection s.sending (length (y.took (seen_of x) (own_of x))) (x.put (own_of x) (seen_of x))
   pub takes : (s : SessionEnd) → session_of x ≡ Some s → length (x.took (own_of x) (seen_of x)) ≡ s.taken
   pub holds : (s : SessionEnd) → session_of x ≡ Some s → IsReceiver s.held s.taken (take (y.numbered s.peer_epoch) (y.put (seen_of x) (own_of x)))

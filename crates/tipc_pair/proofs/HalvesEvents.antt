@@ -48,7 +48,7 @@ still_heard x x' y s s' h was now epoch peer_epoch t is =
     subst (λ (k : SessionEnd). IsShown y.sent k.peer_epoch k.epoch) same (subst (λ n. IsShown y.sent n s'.epoch) (sym peer_epoch) (subst (λ n. IsShown y.sent s.peer_epoch n) (sym epoch) (h.here.heard s was)))
 
 -- The link is up, and its session goes on by any steps.
-pub works : (x x' y : View) (e : LinkEnd) (frames : List Outgoing) (put took : List (List ℕ)) (s s' : SessionEnd) → ArePaired x y → Goes x x' y e frames put took → StaysUp x x' y e s s' → Meets x y → Each IsPacket put
+pub works : (x x' y : View) (e : LinkEnd) (frames : List Outgoing) (put took : List (List ℕ)) (s s' : SessionEnd) → ArePaired x y → Goes x x' y e frames put took → StaysUp x x' y e s s' → Meets x y → Each (IsPacket x.own) put
     → (Stands x y s (x.put (own_of x) (seen_of x)) (x.took (own_of x) (seen_of x)) → Follows x y s' (x.put (own_of x) (seen_of x) ++ put) (x.took (own_of x) (seen_of x) ++ took) frames)
     → ArePaired x' y
 works x x' y e frames put took s s' h g up meets packets follows =

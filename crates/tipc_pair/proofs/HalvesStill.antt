@@ -6,7 +6,7 @@ use Rattle.tipc_outside.specs.declared.outgoing.Outgoing.{Outgoing}
 use Rattle.tipc_link.specs.Links.{LinkEnd}
 use Rattle.tipc_link.specs.Sessions.{SessionEnd}
 use Rattle.tipc_link.proofs.LinkLaw.{Each, Each-append}
-use Rattle.tipc_pair.specs.Paired.{ArePaired, IsAhead, IsEnd, IsFrame, IsUnborn}
+use Rattle.tipc_pair.specs.Paired.{IsPacket, ArePaired, IsAhead, IsEnd, IsFrame, IsUnborn}
 use Rattle.tipc_pair.specs.Views.{Frame, Goes, Restarts, View, come, epoch_of, framed, own_of, said_by, seen_of, session_of, side_of}
 use Rattle.tipc_pair.proofs.SpokenNotices.{IsNotice, notice_frame}
 use Rattle.tipc_pair.proofs.Halves.{Grows, IsCore, IsHeard, IsNamed, core_of, frames_here, longer_same, no_session, none_some, paired, same_some, session_going, there_same}
@@ -79,7 +79,7 @@ stills_here x x' y core h = record {
   own_fits = subst (λ n. n < 2 ^ 32) (sym h.own) core.own_fits;
   peer_fits = subst (λ n. n < 2 ^ 32) (sym h.peer) core.peer_fits;
   boot_fits = h.boot_fits;
-  packets = λ own theirs k bytes is. core.packets own theirs k bytes (subst (λ ps. slice_get ps k ≡ Some bytes) (h.put_is own theirs) is);
+  packets = λ own theirs k bytes is. subst (λ n. IsPacket n bytes) (sym h.own) (core.packets own theirs k bytes (subst (λ ps. slice_get ps k ≡ Some bytes) (h.put_is own theirs) is));
   waiting = λ s k bytes is there. absurd (none_some s (session_of x') h.down is);
   sends = λ s is. absurd (none_some s (session_of x') h.down is);
   takes = λ s is. absurd (none_some s (session_of x') h.down is);

@@ -58,7 +58,7 @@ pub record Works (x x' y : View) (e : LinkEnd) (s : SessionEnd) (put took : List
   pub own : own_of x' ≡ own_of x
   pub seen : seen_of x' ≡ seen_of x
   pub epoch : epoch_of x' ≡ epoch_of x
-  pub packets : Each IsPacket put
+  pub packets : Each (IsPacket x.own) put
   pub follows : Follows x y s (x.put (own_of x) (seen_of x) ++ put) (x.took (own_of x) (seen_of x) ++ took) frames
 
 -- the session of its link
@@ -148,12 +148,12 @@ frame_told x x' y e s put took frames o w t =
 
 -- ---- the two nodes
 
-works_packets : (x x' y : View) (e : LinkEnd) (s : SessionEnd) (put took : List (List ℕ)) (frames : List Outgoing) (own theirs : ℕ) → IsCore x y → Works x x' y e s put took frames → Each IsPacket (x'.put own theirs)
+works_packets : (x x' y : View) (e : LinkEnd) (s : SessionEnd) (put took : List (List ℕ)) (frames : List Outgoing) (own theirs : ℕ) → IsCore x y → Works x x' y e s put took frames → Each (IsPacket x.own) (x'.put own theirs)
 works_packets x x' y e s put took frames own theirs core w =
     let is = w.goes.put_is own theirs in
     elim (contact_cases x own theirs) [
-      | inl here ↦ subst (λ ps. Each IsPacket ps) (sym (came_here x _ _ put own theirs is here.0 here.1)) (Each-append IsPacket _ put (core.packets own theirs) w.packets)
-      | inr other ↦ subst (λ ps. Each IsPacket ps) (sym (came_else x _ _ put own theirs is other)) (core.packets own theirs)
+      | inl here ↦ subst (λ ps. Each (IsPacket x.own) ps) (sym (came_here x _ _ put own theirs is here.0 here.1)) (Each-append (IsPacket x.own) _ put (core.packets own theirs) w.packets)
+      | inr other ↦ subst (λ ps. Each (IsPacket x.own) ps) (sym (came_else x _ _ put own theirs is other)) (core.packets own theirs)
     ]
 
 works_prefix : (x x' y : View) (e : LinkEnd) (s : SessionEnd) (put took : List (List ℕ)) (frames : List Outgoing) (own theirs : ℕ) → IsCore x y → Works x x' y e s put took frames → IsPrefixOf (x'.took own theirs) (y.put theirs own)
@@ -209,8 +209,8 @@ works_sends x x' y e s t put took frames w is =
     (subst (λ n. IsDirection t.sending (length (y.took n (own_of x))) puts) (sym w.seen)
     (subst (λ (k : SessionEnd). IsDirection k.sending (length (y.took (seen_of x) (own_of x))) puts) same w.follows.stands.direction)))
 
-works_waits : (x x' y : View) (e : LinkEnd) (s t : SessionEnd) (put took : List (List ℕ)) (frames : List Outgoing) → Works x x' y e s put took frames → session_of x' ≡ Some t → Each IsPacket t.sending.waiting
-works_waits x x' y e s t put took frames w is = subst (λ (k : SessionEnd). Each IsPacket k.sending.waiting) (same_some s t (session_of x') w.session is) w.follows.stands.waiting
+works_waits : (x x' y : View) (e : LinkEnd) (s t : SessionEnd) (put took : List (List ℕ)) (frames : List Outgoing) → Works x x' y e s put took frames → session_of x' ≡ Some t → Each (IsPacket x.own) t.sending.waiting
+works_waits x x' y e s t put took frames w is = subst (λ (k : SessionEnd). Each (IsPacket x.own) k.sending.waiting) (same_some s t (session_of x') w.session is) w.follows.stands.waiting
 
 works_holds : (x x' y : View) (e : LinkEnd) (s t : SessionEnd) (put took : List (List ℕ)) (frames : List Outgoing) → Works x x' y e s put took frames → session_of x' ≡ Some t
     → IsReceiver t.held t.taken (take (y.numbered t.peer_epoch) (y.put (seen_of x') (own_of x')))
@@ -233,8 +233,8 @@ works_here x x' y e s put took frames core w = record {
   own_fits = subst (λ n. n < 2 ^ 32) (sym w.goes.own) core.own_fits;
   peer_fits = subst (λ n. n < 2 ^ 32) (sym w.goes.peer) core.peer_fits;
   boot_fits = subst (λ n. n < 2 ^ 32) (sym w.goes.boot) core.boot_fits;
-  packets = λ own theirs. works_packets x x' y e s put took frames own theirs core w;
-  waiting = λ t k bytes is there. works_waits x x' y e s t put took frames w is k bytes there;
+  packets = λ own theirs. subst (λ n. Each (IsPacket n) (x'.put own theirs)) (sym w.goes.own) (works_packets x x' y e s put took frames own theirs core w);
+  waiting = λ t k bytes is there. subst (λ n. IsPacket n bytes) (sym w.goes.own) (works_waits x x' y e s t put took frames w is k bytes there);
   sends = λ t is. works_sends x x' y e s t put took frames w is;
   holds = λ t is. works_holds x x' y e s t put took frames w is;
   takes = λ t is. (works_takes x x' y e s t put took frames w is).0;

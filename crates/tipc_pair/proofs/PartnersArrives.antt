@@ -20,6 +20,7 @@ use Rattle.tipc_pair.proofs.HalvesStill.{nothing_came}
 use Rattle.tipc_pair.proofs.PeeringBoots.{restart_rises}
 use Rattle.tipc_pair.proofs.PartnersCalls.{still_low, within}
 use Rattle.tipc_pair.proofs.PartnersGives.{flow_still}
+use Rattle.tipc_pair.proofs.PartnersPackets.{message_inner}
 use Rattle.tipc_pair.proofs.PartnersPuts.{flow_puts, more_packets}
 use Rattle.tipc_pair.proofs.PartnersSends.{flow_turns, goes_crossing, low, onward}
 
@@ -98,7 +99,7 @@ restarted x x' y x_begun x_begun' y_begun h r fits =
 
 -- ---- a message is put
 
-pub puts : (x x' y : View) (x_begun y_begun : Joining) (e : LinkEnd) (s s' : SessionEnd) (m : List ℕ) → ArePartners x x_begun y y_begun → x.link ≡ Some e → session_of x ≡ Some s → IsPut s (pieces_for m) s' → IsMessage m
+pub puts : (x x' y : View) (x_begun y_begun : Joining) (e : LinkEnd) (s s' : SessionEnd) (m : List ℕ) → ArePartners x x_begun y y_begun → x.link ≡ Some e → session_of x ≡ Some s → IsPut s (pieces_for m) s' → IsMessage x.own m
     → Goes x x' y (with_session e (flushed s')) (flush_frames s') (m ∷ []) [] → ArePartners x' x_begun y y_begun
 puts x x' y x_begun y_begun e s s' m h is has put message g =
     let z = crossing x h.here in
@@ -110,12 +111,12 @@ puts x x' y x_begun y_begun e s s' m h is has put message g =
     let own : own_of x' ≡ own_of x = own_is x' (with_session e (flushed s')) g.link ∙ sym (own_is x e is) in
     let seen : seen_of x' ≡ seen_of x = seen_is x' (with_session e (flushed s')) g.link ∙ sym (seen_is x e is) in
     let now : session_of x' ≡ Some (flushed s') = session_is x' (with_session e (flushed s')) (flushed s') g.link up refl in
-    let waiting = more_packets m s s' (pieces_for m) refl put (λ k bytes there. h.paired.here.waiting s k bytes has_z there) message in
+    let waiting = more_packets x.own m s s' (pieces_for m) refl put (λ k bytes there. h.paired.here.waiting s k bytes has_z there) message in
     record {
       here = onward x h.here (moving s') [];
       there = h.there;
       paired = puts_link z (crossing x' (onward x h.here (moving s') [])) (crossing y h.there) e s s' (pieces_for m) h.paired is has_z put waiting (goes_crossing x x' y _ _ (m ∷ []) [] (moving s') [] h.here h.there g);
-      sends = flow_puts x x' h.here.line y h.there.got y_begun s s' m h.sends has put message (record { now = now; own = own; seen = seen; puts = g.put_is }) (within x y h.here h.there h.paired);
+      sends = flow_puts x x' h.here.line y h.there.got y_begun s s' m h.sends has put (message_inner x.own m message) (record { now = now; own = own; seen = seen; puts = g.put_is }) (within x y h.here h.there h.paired);
       receives = flow_still y h.there.line x x' h.here.got _ x_begun x_begun h.receives
           (λ own_ theirs p. inl (record { session = s; session_is = has; own_is = p.own_is ∙ own; theirs_is = p.theirs_is ∙ seen }, refl))
           (λ own_ theirs. nothing_came x _ _ own_ theirs (g.took_is own_ theirs))

@@ -19,9 +19,8 @@ use Rattle.tipc_reassembly.proofs.FrontLaws.{opened_front, opened_more}
 use Rattle.tipc_link.specs.Laws.{IsPrefixOf}
 use Rattle.tipc_link.proofs.LinkLaw.{Each}
 use Rattle.tipc_pair.specs.Pairs.{packets_in}
-use Rattle.tipc_pair.specs.Partners.{IsFlow, IsGiven, IsMessage, IsPresent, waiting_on}
+use Rattle.tipc_pair.specs.Partners.{IsFlow, IsGiven, IsPresent, waiting_on}
 use Rattle.tipc_pair.specs.Views.{View, come, own_of, seen_of, session_of}
-use Rattle.tipc_pair.proofs.PartnersPackets.{message_inner}
 use Rattle.tipc_pair.proofs.PartnersPuts.{by_contact, come_else, come_here}
 use Rattle.tipc_pair.proofs.PartnersSends.{front_items}
 
@@ -93,8 +92,8 @@ from_here x x' got slots begun from t h =
           opened_fresh (x.took (own_of x) (seen_of x)) h.last (subst (λ is. HasOpened is (x.took (own_of x) (seen_of x)) h.last) none h.opened) ∙ sym new.1
     ]
 
-all_inner : (ms : List (List ℕ)) → Each IsMessage ms → All IsInner ms
-all_inner ms h k d within = message_inner _ (h k _ (slice_get-get_or ms k d within))
+all_inner : (ms : List (List ℕ)) → Each IsInner ms → All IsInner ms
+all_inner ms h k d within = h k _ (slice_get-get_or ms k d within)
 
 -- what was given before and is given now of the messages that were put
 takes_here : (y : View) (line : ℕ → ℕ → List (List ℕ)) (x x' : View) (got : ℕ → ℕ → List (List ℕ)) (begun from last : Joining) (taken : List Taken) (opened : List Opened) → (h : IsFlow y line x got begun) → TakesIn x x' got begun from

@@ -27,7 +27,7 @@ use Rattle.tipc_pair.specs.Views.{View, come, own_of, seen_of, session_of}
 use Rattle.tipc_pair.proofs.Halves.{none_some}
 use Rattle.tipc_pair.proofs.HalvesBegun.{come_same}
 use Rattle.tipc_pair.proofs.HalvesWorks.{IsElsewhere, both_equal, contact_cases, not_both}
-use Rattle.tipc_pair.proofs.PartnersPackets.{All-one, joined_packet, message_inner, pieces_packets, slots_for, slots_for-bytes, slots_for-items, slots_for-sound}
+use Rattle.tipc_pair.proofs.PartnersPackets.{All-one, joined_packet, pieces_packets, slots_for, slots_for-bytes, slots_for-items, slots_for-sound}
 use Rattle.tipc_pair.proofs.Sessions.{each_front}
 
 -- ---- a message that is one packet
@@ -100,7 +100,7 @@ All-last : {A : Type 0} (P : A → Type 0) (xs : List A) (x : A) → All P (xs +
 All-last P [] x h = (λ k d within. absurd (omega arith), All-head P x [] h)
 All-last P (y ∷ xs) x h = let rest = All-last P xs x (All-tail P y (xs ++ x ∷ []) h) in (All-cons P y xs (All-head P y (xs ++ x ∷ []) h) rest.0, rest.1)
 
-join_more : (slots : List Slot) (m : List ℕ) (line : List (List ℕ)) (s : SessionEnd) (packets : List (List ℕ)) → All IsSlot slots → map slot_bytes slots ≡ line ++ s.sending.waiting → IsMessage m → items_of m ≡ Single m ∷ [] → MayJoin s packets m
+join_more : (slots : List Slot) (m : List ℕ) (line : List (List ℕ)) (s : SessionEnd) (packets : List (List ℕ)) → All IsSlot slots → map slot_bytes slots ≡ line ++ s.sending.waiting → IsInner m → items_of m ≡ Single m ∷ [] → MayJoin s packets m
     → (more : List Slot) × IsMore slots more m line (take (length s.sending.waiting - 1) s.sending.waiting ++ joined (packets ++ m ∷ []) ∷ [])
 join_more slots m line s packets sound bytes message items may =
     let w = s.sending.waiting in
@@ -110,7 +110,7 @@ join_more slots m line s packets sound bytes message items may =
     let parts = All-last IsSlot h.before h.last (subst (All IsSlot) h.is sound) in
     let last = last_group h.last (last_of s) packets parts.1 h.last_is may.last in
     let new = Group (packets ++ m ∷ []) in
-    let is_new : IsSlot new = record { some = omega (arith, length-append packets (m ∷ [])); inner = All-append IsInner packets (m ∷ []) may.last.inner (All-one IsInner m (message_inner m message)); within = may.fits } in
+    let is_new : IsSlot new = record { some = omega (arith, length-append packets (m ∷ [])); inner = All-append IsInner packets (m ∷ []) may.last.inner (All-one IsInner m (message)); within = may.fits } in
     let long : length (line ++ w0) ≡ length h.before = ap (λ (xs : List (List ℕ)). length xs) (sym h.before_is) ∙ length-map h.before slot_bytes in (
       h.before ++ new ∷ [],
       record {
@@ -131,7 +131,7 @@ join_more slots m line s packets sound bytes message items may =
       },
     )
 
-behind_more : (slots : List Slot) (m : List ℕ) (line waiting : List (List ℕ)) → All IsSlot slots → map slot_bytes slots ≡ line ++ waiting → IsMessage m → IsMore slots (slots ++ slots_for m) m line (waiting ++ pieces_for m)
+behind_more : (slots : List Slot) (m : List ℕ) (line waiting : List (List ℕ)) → All IsSlot slots → map slot_bytes slots ≡ line ++ waiting → IsInner m → IsMore slots (slots ++ slots_for m) m line (waiting ++ pieces_for m)
 behind_more slots m line waiting sound bytes message = record {
   sound = All-append IsSlot slots (slots_for m) sound (slots_for-sound m message);
   bytes = map-append slot_bytes slots (slots_for m) ∙ ap (λ xs. xs ++ map slot_bytes (slots_for m)) bytes ∙ ap (λ xs. (line ++ waiting) ++ xs) (slots_for-bytes m) ∙ append_assoc line waiting (pieces_for m);
@@ -142,7 +142,7 @@ behind_more slots m line waiting sound bytes message = record {
 }
 
 -- the slots after a message was put, by what then waits
-pub more_slots : (slots : List Slot) (m : List ℕ) (line : List (List ℕ)) (s s' : SessionEnd) (pieces : List (List ℕ)) → pieces ≡ pieces_for m → IsPut s pieces s' → All IsSlot slots → map slot_bytes slots ≡ line ++ s.sending.waiting → IsMessage m
+pub more_slots : (slots : List Slot) (m : List ℕ) (line : List (List ℕ)) (s s' : SessionEnd) (pieces : List (List ℕ)) → pieces ≡ pieces_for m → IsPut s pieces s' → All IsSlot slots → map slot_bytes slots ≡ line ++ s.sending.waiting → IsInner m
     → (more : List Slot) × IsMore slots more m line s'.sending.waiting
 more_slots slots m line s _ _ is (joins packets packet may) sound bytes message =
     let one = one_piece m packet (sym is) in
@@ -153,13 +153,13 @@ more_slots slots m line s _ _ is (waits pieces apart) sound bytes message =
     (slots ++ slots_for m, subst (λ ps. IsMore slots (slots ++ slots_for m) m line (s.sending.waiting ++ ps)) (sym is) (behind_more slots m line s.sending.waiting sound bytes message))
 
 -- what waits then can be sent
-pub more_packets : (m : List ℕ) (s s' : SessionEnd) (pieces : List (List ℕ)) → pieces ≡ pieces_for m → IsPut s pieces s' → Each IsPacket s.sending.waiting → IsMessage m → Each IsPacket s'.sending.waiting
-more_packets m s _ _ is (joins packets packet may) before message =
+pub more_packets : (own : ℕ) (m : List ℕ) (s s' : SessionEnd) (pieces : List (List ℕ)) → pieces ≡ pieces_for m → IsPut s pieces s' → Each (IsPacket own) s.sending.waiting → IsMessage own m → Each (IsPacket own) s'.sending.waiting
+more_packets own m s _ _ is (joins packets packet may) before message =
     let one = one_piece m packet (sym is) in
-    Each-append IsPacket (take (length s.sending.waiting - 1) s.sending.waiting) (joined (packets ++ packet ∷ []) ∷ []) (each_front (length s.sending.waiting - 1) s.sending.waiting before)
-    (Each-one IsPacket (joined (packets ++ packet ∷ [])) (subst (λ p. IsPacket (joined (packets ++ p ∷ []))) one.0 (joined_packet packets m may.last.some may.last.inner message (subst (λ p. length (joined (packets ++ p ∷ [])) ≤ 1452) (sym one.0) may.fits))))
-more_packets m s _ _ is (waits pieces apart) before message =
-    Each-append IsPacket s.sending.waiting pieces before (subst (Each IsPacket) (sym is) (pieces_packets m message))
+    Each-append (IsPacket own) (take (length s.sending.waiting - 1) s.sending.waiting) (joined (packets ++ packet ∷ []) ∷ []) (each_front (length s.sending.waiting - 1) s.sending.waiting before)
+    (Each-one (IsPacket own) (joined (packets ++ packet ∷ [])) (subst (λ p. IsPacket own (joined (packets ++ p ∷ []))) one.0 (joined_packet own packets m may.last.some may.last.inner message (subst (λ p. length (joined (packets ++ p ∷ [])) ≤ 1452) (sym one.0) may.fits))))
+more_packets own m s _ _ is (waits pieces apart) before message =
+    Each-append (IsPacket own) s.sending.waiting pieces before (subst (Each (IsPacket own)) (sym is) (pieces_packets own m message))
 
 -- ---- the messages of the node
 
@@ -243,7 +243,7 @@ ahead_before x x' s s' m own theirs was p a =
       | inr here ↦ inr (here.0 ∙ p.own, elim here.1 [ inl none ↦ absurd (none_some (flushed s') (session_of x') none p.now) | inr other ↦ inr (λ is. other (is ∙ sym p.seen)) ])
     ]
 
-pub flow_puts : (x x' : View) (line : ℕ → ℕ → List (List ℕ)) (y : View) (got : ℕ → ℕ → List (List ℕ)) (begun : Joining) (s s' : SessionEnd) (m : List ℕ) → IsFlow x line y got begun → session_of x ≡ Some s → IsPut s (pieces_for m) s' → IsMessage m
+pub flow_puts : (x x' : View) (line : ℕ → ℕ → List (List ℕ)) (y : View) (got : ℕ → ℕ → List (List ℕ)) (begun : Joining) (s s' : SessionEnd) (m : List ℕ) → IsFlow x line y got begun → session_of x ≡ Some s → IsPut s (pieces_for m) s' → IsInner m
     → PutsOne x x' s' m → ((own theirs : ℕ) → length (got theirs own) ≤ length (line own theirs)) → IsFlow x' (λ own theirs. line own theirs ++ come x (moving s') own theirs) y got begun
 flow_puts x x' line y got begun s s' m h was put message p within =
     let slots = h.slots (own_of x) (seen_of x) in
@@ -258,9 +258,9 @@ flow_puts x x' line y got begun s s' m h was put message p within =
     ∙ ap (λ xs. flat_map items_of (x.put (own_of x) (seen_of x)) ++ xs) (sym (append-nil (items_of m))) ∙ sym (flat_map-append items_of (x.put (own_of x) (seen_of x)) (m ∷ []))
     ∙ ap (λ (ms : List (List ℕ)). flat_map items_of ms) (sym (put_here x x' s' m p)) in
     record {
-      messages = by_contact x (λ own theirs. Each IsMessage (x'.put own theirs))
-          (subst (Each IsMessage) (sym (put_here x x' s' m p)) (each_more IsMessage (x.put (own_of x) (seen_of x)) m (h.messages (own_of x) (seen_of x)) message))
-          (λ own theirs other. subst (Each IsMessage) (sym (put_else x x' s' m own theirs p other)) (h.messages own theirs));
+      messages = by_contact x (λ own theirs. Each IsInner (x'.put own theirs))
+          (subst (Each IsInner) (sym (put_here x x' s' m p)) (each_more IsInner (x.put (own_of x) (seen_of x)) m (h.messages (own_of x) (seen_of x)) message))
+          (λ own theirs other. subst (Each IsInner) (sym (put_else x x' s' m own theirs p other)) (h.messages own theirs));
       ahead = λ own theirs a. put_else x x' s' m own theirs p (ahead_else x x' s' m own theirs p a) ∙ h.ahead own theirs (ahead_before x x' s s' m own theirs was p a);
       slots = slots';
       sound = by_contact x (λ own theirs. All IsSlot (slots' own theirs)) (subst (All IsSlot) (sym at_here) more.1.sound) (λ own theirs other. subst (All IsSlot) (sym (else_is x more.0 h.slots own theirs other)) (h.sound own theirs));

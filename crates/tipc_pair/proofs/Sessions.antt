@@ -38,8 +38,8 @@ pub record Stands (x y : View) (s : SessionEnd) (puts tooks : List (List ℕ)) :
   pub peer_epoch : s.peer_epoch ≡ was.peer_epoch
   pub numbered : was.sending.numbered ≤ s.sending.numbered
   -- what it sends, against what the peer took
-  pub packets : Each IsPacket puts
-  pub waiting : Each IsPacket s.sending.waiting
+  pub packets : Each (IsPacket x.own) puts
+  pub waiting : Each (IsPacket x.own) s.sending.waiting
   pub direction : IsDirection s.sending (length (y.took (seen_of x) (own_of x))) puts
   -- what it took and holds, against what the peer numbered
   pub takes : length tooks ≡ s.taken
@@ -111,7 +111,7 @@ stands x y s here there meets is =
 with_sending : SessionEnd → Sending → SessionEnd
 with_sending s sending = record s { sending = sending }
 
-sending_stands : (x y : View) (s : SessionEnd) (sending : Sending) (puts puts' tooks : List (List ℕ)) → Stands x y s puts tooks → s.sending.numbered ≤ sending.numbered → Each IsPacket puts' → Each IsPacket sending.waiting
+sending_stands : (x y : View) (s : SessionEnd) (sending : Sending) (puts puts' tooks : List (List ℕ)) → Stands x y s puts tooks → s.sending.numbered ≤ sending.numbered → Each (IsPacket x.own) puts' → Each (IsPacket x.own) sending.waiting
     → IsDirection sending (length (y.took (seen_of x) (own_of x))) puts' → Stands x y (with_sending s sending) puts' tooks
 unfolding with_sending
 sending_stands x y s sending puts puts' tooks h more packets waiting direction =
@@ -161,7 +161,7 @@ noted_stands x y s shown unanswered owes puts tooks h = record {
 }
 
 -- other packets wait
-pub put_stands : (x y : View) (s : SessionEnd) (waiting : List (List ℕ)) (puts tooks : List (List ℕ)) → Stands x y s puts tooks → Each IsPacket waiting
+pub put_stands : (x y : View) (s : SessionEnd) (waiting : List (List ℕ)) (puts tooks : List (List ℕ)) → Stands x y s puts tooks → Each (IsPacket x.own) waiting
     → Stands x y (record s { sending = record s.sending { waiting = waiting } }) puts tooks
 unfolding with_sending
 put_stands x y s waiting puts tooks h packets =
@@ -170,7 +170,7 @@ put_stands x y s waiting puts tooks h packets =
     (record { window = d.window; below = d.below; count = d.count; kept = d.kept; acked_taken = d.acked_taken; taken_numbered = d.taken_numbered })
 
 -- of packets that can be sent, those that move up and those that don't can be sent
-pub each_front : (n : ℕ) (xs : List (List ℕ)) → Each IsPacket xs → Each IsPacket (take n xs)
+pub each_front : {own : ℕ} (n : ℕ) (xs : List (List ℕ)) → Each (IsPacket own) xs → Each (IsPacket own) (take n xs)
 each_front n xs h k bytes is =
     let within = slice_get_within (take n xs) k bytes is in
     let most = length-take-most n xs in
@@ -178,7 +178,7 @@ each_front n xs h k bytes is =
     let value : get_or xs k bytes ≡ bytes = sym (get_or-take n xs k bytes (omega arith)) ∙ get_or_from_slice_get (take n xs) k bytes bytes is in
     h k bytes (slice_get-get_or xs k bytes (omega arith) ∙ ap Some value)
 
-each_behind : (n : ℕ) (xs : List (List ℕ)) → Each IsPacket xs → Each IsPacket (drop n xs)
+each_behind : {own : ℕ} (n : ℕ) (xs : List (List ℕ)) → Each (IsPacket own) xs → Each (IsPacket own) (drop n xs)
 each_behind zero xs h = h
 each_behind (suc n) [] h = h
 each_behind (suc n) (x ∷ xs) h = each_behind n xs (λ k bytes is. h (suc k) bytes is)
@@ -189,7 +189,7 @@ unfolding with_sending flushed
 flushed_stands x y s puts tooks h =
     let n = room s.sending in
     noted_stands x y (with_sending s _) s.shown _ s.owes (puts ++ moving s) tooks
-    (sending_stands x y s _ puts (puts ++ moving s) tooks h (omega arith) (Each-append IsPacket puts (moving s) h.packets (each_front n s.sending.waiting h.waiting)) (each_behind n s.sending.waiting h.waiting) (moves_up s.sending _ puts h.direction))
+    (sending_stands x y s _ puts (puts ++ moving s) tooks h (omega arith) (Each-append (IsPacket x.own) puts (moving s) h.packets (each_front n s.sending.waiting h.waiting)) (each_behind n s.sending.waiting h.waiting) (moves_up s.sending _ puts h.direction))
 
 -- an acknowledgement is read: of packets that the peer took, and that isn't too old
 pub released_stands : (x y : View) (s : SessionEnd) (puts tooks : List (List ℕ)) (told : ℕ) → Stands x y s puts tooks → told ≤ length (y.took (seen_of x) (own_of x)) → s.sending.numbered ≤ told + 30050 → Stands x y (released s (number_of told)) puts tooks

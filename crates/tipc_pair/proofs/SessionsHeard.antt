@@ -175,7 +175,7 @@ state_follows x y s puts tooks shown probe h showable = record {
 }
 
 -- packets are put, and move up
-pub put_follows : (x y : View) (s s' : SessionEnd) (puts tooks pieces : List (List ℕ)) → Stands x y s puts tooks → IsPut s pieces s' → Each IsPacket s'.sending.waiting → Follows x y (flushed s') (puts ++ moving s') tooks (flush_frames s')
+pub put_follows : (x y : View) (s s' : SessionEnd) (puts tooks pieces : List (List ℕ)) → Stands x y s puts tooks → IsPut s pieces s' → Each (IsPacket x.own) s'.sending.waiting → Follows x y (flushed s') (puts ++ moving s') tooks (flush_frames s')
 put_follows x y s _ puts tooks _ h (joins packets packet may) waiting = flush_follows x y _ puts tooks (put_stands x y s _ puts tooks h waiting)
 put_follows x y s _ puts tooks _ h (waits pieces apart) waiting = flush_follows x y _ puts tooks (put_stands x y s _ puts tooks h waiting)
 
@@ -221,12 +221,12 @@ spoken_waiting : (r : SessionEnd) (again : List Kept) (next : ℕ) (probe : Bool
 spoken_waiting r [] next probe = refl
 spoken_waiting r (k ∷ again) next probe = refl
 
-pub moving_packets : (s : SessionEnd) (by acknowledgement : ℕ) (c : Content) → Each IsPacket s.sending.waiting → Each IsPacket (arrival_moving s by acknowledgement c)
+pub moving_packets : {own : ℕ} (s : SessionEnd) (by acknowledgement : ℕ) (c : Content) → Each (IsPacket own) s.sending.waiting → Each (IsPacket own) (arrival_moving s by acknowledgement c)
 moving_packets s by acknowledgement Nothing h = Each-none _
-moving_packets s by acknowledgement (Shows next missed probe) h =
+moving_packets {own} s by acknowledgement (Shows next missed probe) h =
     let r = released s acknowledgement in
     let e = noted (spoke r (repeated r acknowledgement missed)) next probe in
-    each_front (room e.sending) e.sending.waiting (subst (λ (k : Sending). Each IsPacket k.waiting) (sym (spoken_waiting r (repeated r acknowledgement missed) next probe)) h)
+    each_front (room e.sending) e.sending.waiting (subst (λ (k : Sending). Each (IsPacket own) k.waiting) (sym (spoken_waiting r (repeated r acknowledgement missed) next probe)) h)
 moving_packets s by acknowledgement (Carries number packet) h = each_front _ s.sending.waiting h
 
 -- nothing moves up where nothing waits

@@ -16,12 +16,12 @@ use Rattle.tipc_link.specs.Links.{LinkEnd, is_traffic}
 use Rattle.tipc_link.specs.Sessions.{Carries, SessionEnd, content_of}
 use Rattle.tipc_pair.specs.Views.{Frame, View, epoch_of, er_of, es_of, own_of, said_by, seen_of, session_of, side_of}
 
--- a packet that can be put on a link: sent under any number, it is a packet with that number
-pub record IsPacket (bytes : List ℕ) : Type 0 where
+-- a packet that this node can put on a link: sent by it under any number, it is a packet with that number
+pub record IsPacket (own : ℕ) (bytes : List ℕ) : Type 0 where
   pub packet : Fields
   pub spelled : bytes ≡ spelling packet
-  pub fits : (acknowledgement number previous : ℕ) → acknowledgement < 2 ^ 16 → number < 2 ^ 16 → previous < 2 ^ 32 → Fits (sent_as acknowledgement number previous packet)
-  pub carried : (acknowledgement number previous : ℕ) → content_of (sent_as acknowledgement number previous packet) ≡ Carries number bytes
+  pub fits : (acknowledgement number : ℕ) → acknowledgement < 2 ^ 16 → number < 2 ^ 16 → own < 2 ^ 32 → Fits (sent_as acknowledgement number own packet)
+  pub carried : (acknowledgement number : ℕ) → content_of (sent_as acknowledgement number own packet) ≡ Carries number bytes
 
 -- ---- a link end
 
@@ -133,8 +133,8 @@ pub record IsHalf (x y : View) : Type 0 where
   pub heard : (s : SessionEnd) → session_of x ≡ Some s → IsShown y.sent s.peer_epoch s.epoch
   pub named : (k : ℕ) (f : Frame) (e : LinkEnd) → slice_get x.sent k ≡ Some f → x.link ≡ Some e → es_of f.bytes ≡ e.fsm.own → er_of f.bytes ≤ e.fsm.highest
   -- what was numbered and what waits can be sent
-  pub packets : (own theirs k : ℕ) (bytes : List ℕ) → slice_get (x.put own theirs) k ≡ Some bytes → IsPacket bytes
-  pub waiting : (s : SessionEnd) (k : ℕ) (bytes : List ℕ) → session_of x ≡ Some s → slice_get s.sending.waiting k ≡ Some bytes → IsPacket bytes
+  pub packets : (own theirs k : ℕ) (bytes : List ℕ) → slice_get (x.put own theirs) k ≡ Some bytes → IsPacket x.own bytes
+  pub waiting : (s : SessionEnd) (k : ℕ) (bytes : List ℕ) → session_of x ≡ Some s → slice_get s.sending.waiting k ≡ Some bytes → IsPacket x.own bytes
   -- the session against what the peer took in the contact, and against what the node took and holds itself of what was
   -- numbered under the peer's epoch
   pub sends : (s : SessionEnd) → session_of x ≡ Some s → IsDirection s.sending (length (y.took (seen_of x) (own_of x))) (x.put (own_of x) (seen_of x))

@@ -4,10 +4,10 @@ use Rattle.std.specs.Prelude.{◌≡◌, ◌⊎◌, ℕ, true, false, All, List,
 use Rattle.std.specs.List.{flat_map}
 use Rattle.tipc_types.specs.declared.link_words.Why.{Why}
 use Rattle.tipc_types.specs.declared.packet_lists.Taken.{Taken}
-use Rattle.tipc_header.specs.Frames.{unsent}
+use Rattle.tipc_header.specs.Frames.{sent_as}
 use Rattle.tipc_header.specs.Grammar.{Fits}
 use Rattle.tipc_header.specs.Spelling.{Fields, spelling}
-use Rattle.tipc_bundle.specs.Bundles.{may_stand_inside}
+use Rattle.tipc_bundle.specs.Bundles.{IsInner, may_stand_inside}
 use Rattle.tipc_fragments.specs.Cutting.{packets_of}
 use Rattle.tipc_fragments.specs.Joining.{Joining, fresh}
 use Rattle.tipc_fragments.specs.Laws.{IsFrontOf}
@@ -83,12 +83,12 @@ pub record GivesFront (x : View) (e : LinkEnd) (m : Met) (y : View) (opened : Li
 
 -- ---- messages
 
--- a message's packet as it waits to be sent: payload, or name items
-pub record IsMessage (bytes : List ℕ) : Type 0 where
+-- a message's packet as it waits to be sent by this node: payload, or name items
+pub record IsMessage (own : ℕ) (bytes : List ℕ) : Type 0 where
   pub packet : Fields
   pub spelled : bytes ≡ spelling packet
   pub fits : Fits packet
-  pub waits : packet ≡ unsent packet
+  pub waits : packet ≡ sent_as 0 0 own packet
   pub inside : may_stand_inside packet.header ≡ true
 
 -- the packets in which a message is sent: its own, or its fragments
@@ -128,7 +128,7 @@ pub record IsGiven (x : View) (own theirs : ℕ) (slots : List Slot) (begun : Jo
 
 -- The messages from x to y: each was put on the link of x, and what crossed it gave y a front of them.
 pub record IsFlow (x : View) (line : ℕ → ℕ → List (List ℕ)) (y : View) (got : ℕ → ℕ → List (List ℕ)) (begun : Joining) : Type 0 where
-  pub messages : (own theirs k : ℕ) (m : List ℕ) → slice_get (x.put own theirs) k ≡ Some m → IsMessage m
+  pub messages : (own theirs k : ℕ) (m : List ℕ) → slice_get (x.put own theirs) k ≡ Some m → IsInner m
   pub ahead : (own theirs : ℕ) → IsAhead x own theirs → x.put own theirs ≡ []
   -- what is put into each packet that was numbered, and into each that waits
   pub slots : ℕ → ℕ → List Slot

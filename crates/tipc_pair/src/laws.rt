@@ -30,7 +30,7 @@ pub fn two_nodes_stay_paired()
     ensures cuts { (x x' y : View) (e : LinkEnd) → ArePaired x y → x.link ≡ Some e → Goes x x' y (cut_pair e) [] [] [] → ArePaired x' y }
     ensures ticks { (x x' y : View) (e : LinkEnd) (shown : BroadcastState) → ArePaired x y → x.link ≡ Some e → IsShowable shown → Goes x x' y (tick_pair e) (tick_frames e shown) [] [] → ArePaired x' y }
     ensures puts { (x x' y : View) (e : LinkEnd) (s s' : SessionEnd) (pieces : List (List ℕ)) → ArePaired x y → x.link ≡ Some e → session_of x ≡ Some s → IsPut s pieces s' →
-        ((k : ℕ) (bytes : List ℕ) → slice_get s'.sending.waiting k ≡ Some bytes → IsPacket bytes) →
+        ((k : ℕ) (bytes : List ℕ) → slice_get s'.sending.waiting k ≡ Some bytes → IsPacket x.own bytes) →
         Goes x x' y (with_session e (flushed s')) (flush_frames s') (moving s') [] → ArePaired x' y }
     ensures arrives { (x x' y : View) (e : LinkEnd) (es er : ℕ) (p : Fields) (by : ℕ) (shown shown' : BroadcastState) → ArePaired x y → x.link ≡ Some e → Comes x y es er p → IsShowable shown → IsShowable shown' →
         Goes x x' y (answered_end (arrival e es er p by shown).after) ((arrival e es er p by shown).frames ++ answered_frames (arrival e es er p by shown).after shown') (arrival e es er p by shown).moved (packets_of (arrival e es er p by shown).outcome) →
@@ -55,7 +55,7 @@ pub fn two_nodes_stay_partners()
     ensures cuts { (x x' y : View) (x_begun x_begun' y_begun : Joining) (e : LinkEnd) → ArePartners x x_begun y y_begun → x.link ≡ Some e → Goes x x' y (cut_pair e) [] [] [] → ArePartners x' x_begun' y y_begun }
     ensures ticks { (x x' y : View) (x_begun y_begun : Joining) (e : LinkEnd) (shown : BroadcastState) → ArePartners x x_begun y y_begun → x.link ≡ Some e → IsShowable shown → Goes x x' y (tick_pair e) (tick_frames e shown) [] [] →
         ArePartners x' (begun_after (change_of e (on_tick e.fsm false) 0) x_begun) y y_begun }
-    ensures puts { (x x' y : View) (x_begun y_begun : Joining) (e : LinkEnd) (s s' : SessionEnd) (m : List ℕ) → ArePartners x x_begun y y_begun → x.link ≡ Some e → session_of x ≡ Some s → IsPut s (pieces_for m) s' → IsMessage m →
+    ensures puts { (x x' y : View) (x_begun y_begun : Joining) (e : LinkEnd) (s s' : SessionEnd) (m : List ℕ) → ArePartners x x_begun y y_begun → x.link ≡ Some e → session_of x ≡ Some s → IsPut s (pieces_for m) s' → IsMessage x.own m →
         Goes x x' y (with_session e (flushed s')) (flush_frames s') (m ∷ []) [] → ArePartners x' x_begun y y_begun }
     ensures arrives { (x x' y : View) (x_begun y_begun last : Joining) (e : LinkEnd) (es er : ℕ) (p : Fields) (by : ℕ) (shown shown' : BroadcastState) (out : PairOutcome) → ArePartners x x_begun y y_begun → x.link ≡ Some e → Comes x y es er p → IsShowable shown → IsShowable shown' →
         OpensTo (begun_after (arrival e es er p by shown).change x_begun) (arrival e es er p by shown).outcome out last →

@@ -9,14 +9,14 @@ use Rattle.tipc_types.specs.Address.{node_word}
 use Rattle.tipc_script.specs.declared.lines.Line.{Line}
 use Rattle.tipc_script.specs.declared.lines.Line.TheVariants.{Nothing, Node, Mend, Cut, Tick, Restart, Link, Mark, Socket, Send, Repeat, Arrive, Receive, Drain, Pump, Burst, Settle, Air, Show, Links, Flow}
 use Rattle.tipc_script.specs.Splitting.{Left, tokens_of}
-use Rattle.tipc_script.specs.Kinds.{is_body, is_number, number_of, is_remark}
+use Rattle.tipc_script.specs.Kinds.{is_body, body_of, is_number, number_of, is_remark}
 use Rattle.tipc_script.specs.Grammar.{Row, row_of, asked, node_row, mend_row, cut_row, tick_row, restart_row, link_row, mark_row, socket_row, send_row, repeat_row, arrive_row, receive_row, drain_row, burst_row, pump_row, settle_row, air_row, show_row, links_row, flow_row}
-use Rattle.tipc_script.specs.Spelling.{Asks, IsMessage, node_number, port_at, send_words, spaced}
+use Rattle.tipc_script.specs.Spelling.{Asks, IsMessage, node_number, port_at, send_words, body_word, spaced}
 use Rattle.tipc_script.specs.Faults.{row_fault, fault_of, first_fault, end_fault}
 use Rattle.tipc_script.proofs.Numerals.{is_number-decimal, number_of-decimal}
-use Rattle.tipc_script.proofs.Bodies.{is_body-text, all_visible}
+use Rattle.tipc_script.proofs.Bodies.{is_word}
 use Rattle.tipc_script.proofs.Importances.{importance_of-word, is_importance-word, no_space-importance}
-use Rattle.tipc_script.proofs.Spaces.{has_no_space, tokens_of-spaced, no_space-decimal, no_space_visible}
+use Rattle.tipc_script.proofs.Spaces.{has_no_space, tokens_of-spaced, no_space-decimal}
 
 -- a text has no fault and asks for this
 pub record IsAccepted (text : List ℕ) (line : Line) : Type 0 where
@@ -108,7 +108,7 @@ record IsSpelled (n p m q : ℕ) (body : List ℕ) : Type 0 where
   port : is_number 0 4294967295 (decimal p) ≡ true
   other : (is_number 1 32 (decimal m) && not (eqb (number_of (decimal m)) (number_of (decimal n)))) ≡ true
   at : is_number 0 4294967295 (decimal q) ≡ true
-  text : is_body (61 ∷ body) ≡ true
+  text : is_body (body_word body) ≡ true
   node_is : number_of (decimal n) ≡ n
   port_is : number_of (decimal p) ≡ p
   other_is : number_of (decimal m) ≡ m
@@ -117,11 +117,13 @@ record IsSpelled (n p m q : ℕ) (body : List ℕ) : Type 0 where
   port_whole : has_no_space (decimal p) ≡ true
   other_whole : has_no_space (decimal m) ≡ true
   at_whole : has_no_space (decimal q) ≡ true
-  text_whole : has_no_space body ≡ true
+  text_whole : has_no_space (body_word body) ≡ true
+  text_is : body_of (body_word body) ≡ body
 
 message_spelled : (n p : ℕ) (to : PortId) (body : List ℕ) → IsMessage n p to body → IsSpelled n p (node_number to) to.port body
 message_spelled n p to body h =
     let m = node_number to in
+    let written = is_word body h.told in
     let from = h.from_node in
     let word = h.to_node in
     let ne : m ≡ n → ⊥ = λ same. h.other (omega arith) in
@@ -132,7 +134,7 @@ message_spelled n p to body h =
       port = is_number-decimal 0 4294967295 p (omega arith) (omega (arith, h.from_port)) (omega (arith, h.from_port));
       other = and_from _ _ (is_number-decimal 1 32 m (omega arith) (omega arith) (omega arith)) (not_from_false _ (ne_eqb _ _ (λ same. ne (sym m-of ∙ same ∙ n-of))));
       at = is_number-decimal 0 4294967295 to.port (omega arith) (omega (arith, h.to_port)) (omega (arith, h.to_port));
-      text = is_body-text body h.some h.short h.visible;
+      text = written.is;
       node_is = n-of;
       port_is = number_of-decimal p (omega (arith, h.from_port));
       other_is = m-of;
@@ -141,7 +143,8 @@ message_spelled n p to body h =
       port_whole = no_space-decimal p (omega (arith, h.from_port));
       other_whole = no_space-decimal m (omega arith);
       at_whole = no_space-decimal to.port (omega (arith, h.to_port));
-      text_whole = no_space_visible body ((all_visible body).1 h.visible);
+      text_whole = written.whole;
+      text_is = written.bytes;
     }
 
 send_accepted : (text : List ℕ) (n p : ℕ) (to : PortId) (importance : Importance) (body : List ℕ) → Asks text (Send n p to importance body) → IsAccepted text (Send n p to importance body)
@@ -154,7 +157,7 @@ send_accepted text n p to importance body h =
     spelled text send_row (drop 1 (send_words n p to importance body)) (Send n p to importance body) h.1 refl
     (rw (s.node_whole, s.port_whole, s.other_whole, s.at_whole, no_space-importance importance, s.text_whole) refl) refl
     (rw (s.node, s.port, s.other, s.at, is_importance-word importance, s.text) refl)
-    (rw (s.node_is, s.other_is, s.port_is, s.at_is, i-is) (ap (λ t. Send n p t importance body) (port_is to (node_word m) (omega arith))))
+    (rw (s.node_is, s.other_is, s.port_is, s.at_is, i-is, s.text_is) (ap (λ t. Send n p t importance body) (port_is to (node_word m) (omega arith))))
 
 repeat_accepted : (text : List ℕ) (c n p : ℕ) (to : PortId) (importance : Importance) (body : List ℕ) → Asks text (Repeat c n p to importance body) → IsAccepted text (Repeat c n p to importance body)
 unfolding row_of row_fault first_fault end_fault
@@ -167,7 +170,7 @@ repeat_accepted text c n p to importance body h =
     spelled text repeat_row (decimal c ∷ send_words n p to importance body) (Repeat c n p to importance body) h.1 refl
     (rw (no_space-decimal c (omega arith), s.node_whole, s.port_whole, s.other_whole, s.at_whole, no_space-importance importance, s.text_whole) refl) refl
     (rw (is_number-decimal 1 1000000 c times.0 times.1 (omega arith), s.node, s.port, s.other, s.at, is_importance-word importance, s.text) refl)
-    (rw (number_of-decimal c (omega arith), s.node_is, s.other_is, s.port_is, s.at_is, i-is) (ap (λ t. Repeat c n p t importance body) (port_is to (node_word m) (omega arith))))
+    (rw (number_of-decimal c (omega arith), s.node_is, s.other_is, s.port_is, s.at_is, i-is, s.text_is) (ap (λ t. Repeat c n p t importance body) (port_is to (node_word m) (omega arith))))
 
 burst_accepted : (text : List ℕ) (n p m q c : ℕ) (body : List ℕ) → Asks text (Burst n p m q c body) → IsAccepted text (Burst n p m q c body)
 unfolding row_of row_fault first_fault end_fault
@@ -175,10 +178,10 @@ burst_accepted text n p m q c body h =
     let back : node_number (port_at m q) ≡ m = omega arith in
     let s = subst (λ k. IsSpelled n p k q body) back (message_spelled n p (port_at m q) body h.0.0) in
     let times = h.0.2 in
-    spelled text burst_row (decimal n ∷ decimal p ∷ decimal m ∷ decimal q ∷ decimal c ∷ (61 ∷ body) ∷ []) (Burst n p m q c body) h.1 refl
+    spelled text burst_row (decimal n ∷ decimal p ∷ decimal m ∷ decimal q ∷ decimal c ∷ body_word body ∷ []) (Burst n p m q c body) h.1 refl
     (rw (no_space-decimal c (omega arith), s.node_whole, s.port_whole, s.other_whole, s.at_whole, s.text_whole) refl) refl
     (rw (is_number-decimal 1 1000000 c times.0 times.1 (omega arith), s.node, s.port, s.other, s.at, s.text) refl)
-    (rw (number_of-decimal c (omega arith), s.node_is, s.other_is, s.port_is, s.at_is) refl)
+    (rw (number_of-decimal c (omega arith), s.node_is, s.other_is, s.port_is, s.at_is, s.text_is) refl)
 
 arrive_accepted : (text : List ℕ) (n x k : ℕ) → Asks text (Arrive n x k) → IsAccepted text (Arrive n x k)
 unfolding row_of row_fault first_fault end_fault

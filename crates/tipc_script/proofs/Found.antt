@@ -9,12 +9,12 @@ use Rattle.std.proofs.lemmas.List.Splits.{join_with_byte-slice_split, length-sli
 use Rattle.tipc_types.specs.declared.identity.PortId.{PortId}
 use Rattle.tipc_types.specs.declared.message_forms.Importance.{Importance}
 use Rattle.tipc_script.specs.Splitting.{Left, whole, first_token, behind, is_space, tokens_of}
-use Rattle.tipc_script.specs.Kinds.{is_number, number_of, is_body, is_importance, is_remark, importance_of}
+use Rattle.tipc_script.specs.Kinds.{is_number, number_of, is_body, body_of, is_importance, is_remark, importance_of}
 use Rattle.tipc_script.specs.Grammar.{Row, rows, frame_rows, traffic_rows, row_of, asked, asked_by, first_number, node_row, mend_row, cut_row, tick_row, restart_row, link_row, mark_row, socket_row, send_row, repeat_row, arrive_row, receive_row, drain_row, burst_row, pump_row, settle_row, air_row, show_row, links_row, flow_row}
-use Rattle.tipc_script.specs.Spelling.{Asks, IsMessage, importance_word, node_number, port_at, send_words, spaced}
+use Rattle.tipc_script.specs.Spelling.{Asks, IsMessage, IsBody, body_word, importance_word, node_number, port_at, send_words, spaced}
 use Rattle.tipc_script.specs.Faults.{row_fault, fault_of, fault_by}
 use Rattle.tipc_script.proofs.Numerals.{is_number_parts}
-use Rattle.tipc_script.proofs.Bodies.{is_body_parts, IsBodyToken}
+use Rattle.tipc_script.proofs.Bodies.{is_body_parts}
 use Rattle.tipc_script.proofs.Importances.{importance_spelled}
 use Rattle.tipc_script.proofs.Reading.{IsTaken, AreTaken, are_taken, OfRows, row_found}
 
@@ -99,10 +99,10 @@ other_taken own left h =
     (record { there = h.there; passes = parts.0 }, eqb-false (first_number left) own (not-true _ parts.1))
 
 -- a token that is a body, as it is spelled
-body_taken : (left : Left) → IsTaken is_body left → (left.tokens ≡ (61 ∷ drop 1 (first_token left)) ∷ (behind left).tokens) × IsBodyToken (first_token left)
+body_taken : (left : Left) → IsTaken is_body left → (left.tokens ≡ body_word (body_of (first_token left)) ∷ (behind left).tokens) × IsBody (body_of (first_token left))
 body_taken left h =
     let parts = is_body_parts (first_token left) h.passes in
-    (h.there ∙ ap (λ t. t ∷ (behind left).tokens) parts.spelled, parts)
+    (h.there ∙ ap (λ t. t ∷ (behind left).tokens) parts.spelled, parts.told)
 
 -- the address of a node is that of its number
 node_number_at : (node port : ℕ) → node_number (port_at node port) ≡ node
@@ -122,7 +122,7 @@ sent_taken : (left : Left) → AreTaken 0 send_row.kinds left → (
     let m = behind (behind p) in
     let q = behind m in
     let i = behind q in
-    IsSent left (first_number left) (first_number p) (port_at (first_number m) (first_number q)) (importance_of (first_token i)) (drop 1 (first_token (behind i)))
+    IsSent left (first_number left) (first_number p) (port_at (first_number m) (first_number q)) (importance_of (first_token i)) (body_of (first_token (behind i)))
     )
 sent_taken left h =
     let p = behind left in
@@ -148,9 +148,7 @@ sent_taken left h =
         to_node = (omega (arith, to.1), omega (arith, to.2));
         other = λ same. other.1 (omega (arith, same));
         to_port = omega (arith, at.2);
-        some = body.1.some;
-        short = body.1.short;
-        visible = body.1.visible;
+        told = body.1;
       };
       tokens = rw back cc;
     }
@@ -212,19 +210,17 @@ burst_found text left e h =
     let times = number_taken 1 1000000 c h.1.1.1.1.0 in
     let body = body_taken b h.1.1.1.1.1.0 in
     let last = h.1.1.1.1.1.1 in
-    let message : IsMessage (first_number left) (first_number p) (port_at (first_number m) (first_number q)) (drop 1 (first_token b)) = record {
+    let message : IsMessage (first_number left) (first_number p) (port_at (first_number m) (first_number q)) (body_of (first_token b)) = record {
       from_node = (node.1, node.2);
       from_port = omega (arith, port.2);
       to_node = (omega (arith, to.1), omega (arith, to.2));
       other = λ same. other.1 (omega (arith, same));
       to_port = omega (arith, at.2);
-      some = body.1.some;
-      short = body.1.short;
-      visible = body.1.visible;
+      told = body.1;
     } in (
       (message, (to.1, to.2), (times.1, times.2)),
       respelled text burst_row.word left.tokens
-          (decimal (first_number left) ∷ decimal (first_number p) ∷ decimal (first_number m) ∷ decimal (first_number q) ∷ decimal (first_number c) ∷ (61 ∷ drop 1 (first_token b)) ∷ [])
+          (decimal (first_number left) ∷ decimal (first_number p) ∷ decimal (first_number m) ∷ decimal (first_number q) ∷ decimal (first_number c) ∷ body_word (body_of (first_token b)) ∷ [])
           e cc,
     )
 

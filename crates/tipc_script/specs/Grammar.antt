@@ -1,12 +1,12 @@
 -- The grammar of a line: a row for each form, with its first word, what the tokens behind that word have
 -- to be, and what the line asks for.
-use Rattle.std.specs.Prelude.{ℕ, List, [], ◌∷◌, ◌++◌, Option, Some, None, codes, drop, true, false, if◌then◌else◌}
+use Rattle.std.specs.Prelude.{ℕ, List, [], ◌∷◌, ◌++◌, Option, Some, None, codes, true, false, if◌then◌else◌}
 use Rattle.std.specs.Str.{bytes_eq}
 use Rattle.tipc_script.specs.declared.lines.Line.{Line}
 use Rattle.tipc_script.specs.declared.lines.Line.TheVariants as line
 use Rattle.tipc_script.specs.declared.lines.NodeToken.{NodeToken}
 use Rattle.tipc_script.specs.Splitting.{Left, whole, first_token, behind}
-use Rattle.tipc_script.specs.Kinds.{Kind, NewNode, OldNode, OtherNode, OtherOldNode, BearerNumber, PortNumber, FrameNumber, RoundsNumber, TimesNumber, SendWord, FormWord, ImportanceWord, BodyText, importance_of, number_of, is_remark}
+use Rattle.tipc_script.specs.Kinds.{Kind, NewNode, OldNode, OtherNode, OtherOldNode, BearerNumber, PortNumber, FrameNumber, RoundsNumber, TimesNumber, SendWord, FormWord, ImportanceWord, BodyText, body_of, importance_of, number_of, is_remark}
 use Rattle.tipc_script.specs.Spelling.{port_at}
 
 pub record Row : Type 0 where
@@ -52,7 +52,7 @@ send_row = record {
   kinds = OldNode ∷ PortNumber ∷ FormWord ∷ OtherNode ∷ PortNumber ∷ ImportanceWord ∷ BodyText ∷ [];
   asks = λ node.
       let port = behind node in let form = behind port in let to = behind form in let at = behind to in let importance = behind at in let body = behind importance in
-      line.Send (first_number node) (first_number port) (port_at (first_number to) (first_number at)) (importance_of (first_token importance)) (drop 1 (first_token body));
+      line.Send (first_number node) (first_number port) (port_at (first_number to) (first_number at)) (importance_of (first_token importance)) (body_of (first_token body));
 }
 
 abbrev pub repeat_row : Row
@@ -62,7 +62,7 @@ repeat_row = record {
   asks = λ times.
       let node = behind (behind times) in
       let port = behind node in let form = behind port in let to = behind form in let at = behind to in let importance = behind at in let body = behind importance in
-      line.Repeat (first_number times) (first_number node) (first_number port) (port_at (first_number to) (first_number at)) (importance_of (first_token importance)) (drop 1 (first_token body));
+      line.Repeat (first_number times) (first_number node) (first_number port) (port_at (first_number to) (first_number at)) (importance_of (first_token importance)) (body_of (first_token body));
 }
 
 abbrev pub arrive_row : Row
@@ -84,7 +84,7 @@ burst_row = record {
   kinds = OldNode ∷ PortNumber ∷ OtherOldNode ∷ PortNumber ∷ TimesNumber ∷ BodyText ∷ [];
   asks = λ node.
       let port = behind node in let to = behind port in let at = behind to in let times = behind at in let body = behind times in
-      line.Burst (first_number node) (first_number port) (first_number to) (first_number at) (first_number times) (drop 1 (first_token body));
+      line.Burst (first_number node) (first_number port) (first_number to) (first_number at) (first_number times) (body_of (first_token body));
 }
 
 abbrev pub pump_row : Row

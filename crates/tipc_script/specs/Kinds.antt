@@ -1,6 +1,6 @@
 -- What a token of a line may have to be, and which tokens are so.
-use Rattle.std.specs.Prelude.{ℕ, ◌==◌, nat_le, Bool, true, false, not, ◌&&◌, if◌then◌else◌, List, [], ◌∷◌, length, codes, Option, Some, None, is_some, unwrap_or}
-use Rattle.std.specs.List.{list_all}
+use Rattle.std.specs.Prelude.{ℕ, ◌==◌, nat_le, Bool, true, false, not, ◌&&◌, ◌||◌, ◌%◌, if◌then◌else◌, List, [], ◌∷◌, length, drop, map, codes, Option, Some, None, is_some, unwrap_or}
+use Rattle.std.specs.List.{list_all, range_with_len}
 use Rattle.std.specs.Str.{bytes_eq}
 use Rattle.std.specs.Str.Parse.{digits_value}
 use Rattle.std.specs.Fmt.{decimal}
@@ -35,10 +35,26 @@ is_number low high token = bytes_eq token (decimal (number_of token)) && nat_le 
 abbrev pub is_visible : ℕ → Bool
 is_visible byte = nat_le 33 byte && nat_le byte 126
 
--- a body is `=` and 1 to 64 characters
-unfoldable pub is_body : List ℕ → Bool
-is_body [] = false
-is_body (sign ∷ text) = sign == 61 && nat_le 1 (length text) && nat_le (length text) 64 && list_all is_visible text
+-- a body that is written out: `=` and 1 to 64 characters
+unfoldable pub is_text : List ℕ → Bool
+is_text [] = false
+is_text (sign ∷ text) = sign == 61 && nat_le 1 (length text) && nat_le (length text) 64 && list_all is_visible text
+
+-- a body of the pattern: `*` and how many bytes it has
+unfoldable pub is_count : List ℕ → Bool
+is_count [] = false
+is_count (sign ∷ digits) = sign == 42 && is_number 0 70000 digits
+
+abbrev pub is_body : List ℕ → Bool
+is_body token = is_text token || is_count token
+
+-- the first bytes of the pattern: byte i, from 0, is i modulo 251
+unfoldable pub pattern : ℕ → List ℕ
+pattern count = map (λ i. i % 251) (range_with_len 0 count)
+
+-- the bytes that a body stands for
+unfoldable pub body_of : List ℕ → List ℕ
+body_of token = if is_count token then pattern (number_of (drop 1 token)) else drop 1 token
 
 -- the importance that a token is
 unfoldable pub importance_in : List ℕ → Option Importance

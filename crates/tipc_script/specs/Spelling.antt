@@ -1,5 +1,5 @@
 -- How a line is spelled: each line that asks for something has one spelling.
-use Rattle.std.specs.Prelude.{◌≡◌, ◌≢◌, ℕ, ◌-◌, ◌<◌, ◌≤◌, ◌^◌, true, List, [], ◌∷◌, length, codes}
+use Rattle.std.specs.Prelude.{◌≡◌, ◌≢◌, ℕ, ◌-◌, ◌<◌, ◌≤◌, ◌^◌, ◌⊎◌, if◌then◌else◌, true, List, [], ◌∷◌, length, codes}
 use Rattle.std.specs.List.{join_with_byte, All}
 use Rattle.std.specs.Fmt.{decimal}
 use Rattle.tipc_types.specs.declared.identity.PortId.{PortId}
@@ -8,7 +8,7 @@ use Rattle.tipc_types.specs.declared.message_forms.Importance.TheVariants.{Low, 
 use Rattle.tipc_types.specs.Address.{node_word, IsNodeWord}
 use Rattle.tipc_script.specs.declared.lines.Line.{Line}
 use Rattle.tipc_script.specs.declared.lines.Line.TheVariants.{Nothing, Node, Mend, Cut, Tick, Restart, Link, Mark, Socket, Send, Repeat, Arrive, Receive, Drain, Pump, Burst, Settle, Air, Show, Links, Flow}
-use Rattle.tipc_script.specs.Kinds.{is_remark}
+use Rattle.tipc_script.specs.Kinds.{is_remark, is_visible, pattern}
 
 -- words with single spaces between them
 abbrev pub spaced : List (List ℕ) → List ℕ
@@ -28,10 +28,15 @@ port_at node port = record { node = record { word = node_word node }; port = por
 abbrev pub node_number : PortId → ℕ
 node_number port = port.node.word - node_word 0
 
+-- a body as it is written: characters behind `=`, and the pattern, whose first byte is no character, by its length behind `*`
+abbrev pub body_word : List ℕ → List ℕ
+body_word [] = 42 ∷ decimal 0
+body_word (byte ∷ bytes) = if is_visible byte then 61 ∷ byte ∷ bytes else 42 ∷ decimal (length (byte ∷ bytes))
+
 -- the words of a line that sends
 abbrev pub send_words : ℕ → ℕ → PortId → Importance → List ℕ → List (List ℕ)
 send_words node port to importance body =
-    codes "send" ∷ decimal node ∷ decimal port ∷ codes "port" ∷ decimal (node_number to) ∷ decimal to.port ∷ importance_word importance ∷ (61 ∷ body) ∷ []
+    codes "send" ∷ decimal node ∷ decimal port ∷ codes "port" ∷ decimal (node_number to) ∷ decimal to.port ∷ importance_word importance ∷ body_word body ∷ []
 
 -- the words of a line
 abbrev pub words_of : Line → List (List ℕ)
@@ -50,7 +55,7 @@ words_of (Arrive node bearer frame) = codes "arrive" ∷ decimal node ∷ decima
 words_of (Receive node port) = codes "receive" ∷ decimal node ∷ decimal port ∷ []
 words_of (Drain node port) = codes "drain" ∷ decimal node ∷ decimal port ∷ []
 words_of (Burst node port to_node to_port times body) =
-    codes "burst" ∷ decimal node ∷ decimal port ∷ decimal to_node ∷ decimal to_port ∷ decimal times ∷ (61 ∷ body) ∷ []
+    codes "burst" ∷ decimal node ∷ decimal port ∷ decimal to_node ∷ decimal to_port ∷ decimal times ∷ body_word body ∷ []
 words_of (Pump bearer) = codes "pump" ∷ decimal bearer ∷ []
 words_of (Settle rounds) = codes "settle" ∷ decimal rounds ∷ []
 words_of (Air bearer) = codes "air" ∷ decimal bearer ∷ []
@@ -68,6 +73,17 @@ IsNode n = (1 ≤ n) × (n ≤ 32)
 abbrev pub IsTimes : ℕ → Type 0
 IsTimes times = (1 ≤ times) × (times ≤ 1000000)
 
+-- 1 to 64 characters
+abbrev pub IsText : List ℕ → Type 0
+IsText body = (1 ≤ length body) × (length body ≤ 64) × All (λ byte. (33 ≤ byte) × (byte ≤ 126)) body
+
+-- up to 70,000 bytes of the pattern
+abbrev pub IsPattern : List ℕ → Type 0
+IsPattern body = (length body ≤ 70000) × (body ≡ pattern (length body))
+
+abbrev pub IsBody : List ℕ → Type 0
+IsBody body = IsText body ⊎ IsPattern body
+
 -- a message as a line may ask for it
 pub record IsMessage (node port : ℕ) (to : PortId) (body : List ℕ) : Type 0 where
   pub from_node : IsNode node
@@ -75,9 +91,7 @@ pub record IsMessage (node port : ℕ) (to : PortId) (body : List ℕ) : Type 0 
   pub to_node : IsNodeWord to.node.word
   pub other : to.node.word ≢ node_word node
   pub to_port : to.port < 2 ^ 32
-  pub some : 1 ≤ length body
-  pub short : length body ≤ 64
-  pub visible : All (λ byte. (33 ≤ byte) × (byte ≤ 126)) body
+  pub told : IsBody body
 
 -- the values of a line are in their ranges
 abbrev pub Fits : Line → Type 0

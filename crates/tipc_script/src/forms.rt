@@ -6,7 +6,7 @@ use crate::faults::{LineFault, LineWhy};
 use crate::lines::{Command, Line};
 use crate::tokens::Tokens;
 use std::alloc::Global;
-use tipc_types::{Addr, Bytes, PortId, Sequence};
+use tipc_types::{Addr, PortId, Sequence};
 
 /// The highest number of a port.
 const HIGHEST_PORT: u32 = u32::MAX;
@@ -169,7 +169,7 @@ pub fn send_line(alloc: Global, tokens: &mut Tokens<'_>) -> Result<Command, Line
     let to_node = tokens.other_node(node.node)?;
     let to_port = tokens.number(0, HIGHEST_PORT)?;
     let importance = tokens.importance()?;
-    let body = tokens.body()?;
+    let body = tokens.body(alloc)?;
     tokens.finish()?;
     let to = PortId {
         node: Addr::node(to_node.node),
@@ -181,7 +181,7 @@ pub fn send_line(alloc: Global, tokens: &mut Tokens<'_>) -> Result<Command, Line
             port,
             to,
             importance,
-            body: Bytes::from_slice(alloc, body)?,
+            body,
         },
         nodes: Sequence::from_slice(alloc, [node].as_slice())?,
     })
@@ -291,7 +291,7 @@ pub fn burst_line(alloc: Global, tokens: &mut Tokens<'_>) -> Result<Command, Lin
     let to_node = tokens.other_node(node.node)?;
     let to_port = tokens.number(0, HIGHEST_PORT)?;
     let times = tokens.number(1, MOST_TIMES)?;
-    let body = tokens.body()?;
+    let body = tokens.body(alloc)?;
     tokens.finish()?;
     Ok(Command {
         line: Line::Burst {
@@ -300,7 +300,7 @@ pub fn burst_line(alloc: Global, tokens: &mut Tokens<'_>) -> Result<Command, Lin
             to_node: to_node.node,
             to_port,
             times,
-            body: Bytes::from_slice(alloc, body)?,
+            body,
         },
         nodes: Sequence::from_slice(alloc, [node, to_node].as_slice())?,
     })

@@ -1,6 +1,7 @@
 //! The lines of a script: their grammar, and the place and reason of a line that is not in it.
 #![tactic(auto)]
 
+mod body;
 mod faults;
 mod forms;
 mod lines;

@@ -56,7 +56,7 @@ const BAD_LINES_OF_NODES: [(&[u8], u32, LineWhy); 47] = [
 ];
 
 /// Lines of messages that are refused, each with the place and the reason that the rules give.
-const BAD_LINES_OF_MESSAGES: [(&[u8], u32, LineWhy); 46] = [
+const BAD_LINES_OF_MESSAGES: [(&[u8], u32, LineWhy); 49] = [
     (b"send  1 1 port 2 1 low =a", 6, LineWhy::Number),
     (b"send 1 4294967296 port 2 1 low =a", 8, LineWhy::Number),
     (b"send 1 1", 9, LineWhy::End),
@@ -73,7 +73,10 @@ const BAD_LINES_OF_MESSAGES: [(&[u8], u32, LineWhy); 46] = [
     (b"send 1 1 port 2 1 low", 22, LineWhy::End),
     (b"send 1 1 port 2 1 low a", 23, LineWhy::Body),
     (b"send 1 1 port 2 1 low =", 23, LineWhy::Body),
-    (b"send 1 1 port 2 1 low *5", 23, LineWhy::Body),
+    (b"send 1 1 port 2 1 low *", 23, LineWhy::Body),
+    (b"send 1 1 port 2 1 low *05", 23, LineWhy::Body),
+    (b"send 1 1 port 2 1 low *70001", 23, LineWhy::Body),
+    (b"send 1 1 port 2 1 low *5 5", 26, LineWhy::End),
     (b"send 1 1 port 2 1 low =\x7f", 23, LineWhy::Body),
     (b"send 1 1 port 2 1 low =\x80", 23, LineWhy::Body),
     (
@@ -187,57 +190,17 @@ fn bad_lines_of_frames_are_refused_at_their_place(rt: HostRuntime) -> Result<(),
     Ok(())
 }
 
-#[test]
-fn remarks_ask_for_nothing(rt: HostRuntime) -> Result<(), Fail> {
-    for line in [b"".as_slice(), b"#", b"# node 1"] {
-        let command = read(&rt, rt.alloc(), line).ok().ok_or("refused")?;
-        assert_eq!(rt; command.line, Line::Nothing);
-        assert!(rt; command.nodes.is_empty());
-    }
-    Ok(())
-}
-
-#[test]
-fn lines_are_read_with_their_values(rt: HostRuntime) -> Result<(), Fail> {
-    let node = read(&rt, rt.alloc(), b"node 32").ok().ok_or("node")?;
-    assert_eq!(rt; node.line, Line::Node { node: 32 });
-    let first = NodeToken {
-        place: 6,
-        node: 32,
-        there: false,
-    };
-    assert_eq!(rt; node.nodes.as_slice(), [first].as_slice());
-    let link = read(&rt, rt.alloc(), b"link 10 2 0").ok().ok_or("link")?;
-    assert_eq!(rt;
-        link.line,
-        Line::Link {
-            first: 10,
-            second: 2,
-            bearer: 0
-        }
-    );
-    let first = NodeToken {
-        place: 6,
-        node: 10,
-        there: true,
-    };
-    let second = NodeToken {
-        place: 9,
-        node: 2,
-        there: true,
-    };
-    assert_eq!(rt; link.nodes.as_slice(), [first, second].as_slice());
-    let arrive = read(&rt, rt.alloc(), b"arrive 2 0 1000000")
-        .ok()
-        .ok_or("arrive")?;
-    assert_eq!(rt;
-        arrive.line,
-        Line::Arrive {
-            node: 2,
-            bearer: 0,
-            frame: 1_000_000
-        }
-    );
+/// Reads a line, which is to be this one and to ask something of these nodes.
+fn is_read_as(
+    rt: &impl Abort,
+    alloc: Global,
+    text: &[u8],
+    line: Line,
+    nodes: &[NodeToken],
+) -> Result<(), Fail> {
+    let command = read(rt, alloc, text).ok().ok_or("refused")?;
+    assert_eq!(rt; command.line, line, "in {text:?}");
+    assert_eq!(rt; command.nodes.as_slice(), nodes, "in {text:?}");
     Ok(())
 }
 
@@ -251,104 +214,112 @@ fn old_node(place: u32, node: u8) -> NodeToken {
 }
 
 #[test]
-fn lines_of_one_node_are_read(rt: HostRuntime) -> Result<(), Fail> {
-    let mend = read(&rt, rt.alloc(), b"mend 32 0").ok().ok_or("mend")?;
-    assert_eq!(rt;
-        mend.line,
-        Line::Mend {
-            node: 32,
-            bearer: 0
-        }
-    );
-    assert_eq!(rt; mend.nodes.as_slice(), [old_node(6, 32)].as_slice());
-    let cut = read(&rt, rt.alloc(), b"cut 1 0").ok().ok_or("cut")?;
-    assert_eq!(rt; cut.line, Line::Cut { node: 1, bearer: 0 });
-    assert_eq!(rt; cut.nodes.as_slice(), [old_node(5, 1)].as_slice());
-    let tick = read(&rt, rt.alloc(), b"tick 7").ok().ok_or("tick")?;
-    assert_eq!(rt; tick.line, Line::Tick { node: 7 });
-    assert_eq!(rt; tick.nodes.as_slice(), [old_node(6, 7)].as_slice());
-    let restart = read(&rt, rt.alloc(), b"restart 10").ok().ok_or("restart")?;
-    assert_eq!(rt; restart.line, Line::Restart { node: 10 });
-    assert_eq!(rt; restart.nodes.as_slice(), [old_node(9, 10)].as_slice());
-    let links = read(&rt, rt.alloc(), b"links 2").ok().ok_or("links")?;
-    assert_eq!(rt; links.line, Line::Links { node: 2 });
-    assert_eq!(rt; links.nodes.as_slice(), [old_node(7, 2)].as_slice());
+fn remarks_ask_for_nothing(rt: HostRuntime) -> Result<(), Fail> {
+    for text in [b"".as_slice(), b"#", b"# node 1"] {
+        is_read_as(&rt, rt.alloc(), text, Line::Nothing, &[])?;
+    }
     Ok(())
 }
 
 #[test]
-fn lines_of_no_node_are_read(rt: HostRuntime) -> Result<(), Fail> {
-    let pump = read(&rt, rt.alloc(), b"pump 0").ok().ok_or("pump")?;
-    assert_eq!(rt; pump.line, Line::Pump { bearer: 0 });
-    assert!(rt; pump.nodes.is_empty());
-    let none = read(&rt, rt.alloc(), b"settle 0").ok().ok_or("none")?;
-    assert_eq!(rt; none.line, Line::Settle { rounds: 0 });
-    assert!(rt; none.nodes.is_empty());
-    let most = read(&rt, rt.alloc(), b"settle 1000000").ok().ok_or("most")?;
-    assert_eq!(rt; most.line, Line::Settle { rounds: 1_000_000 });
-    assert!(rt; most.nodes.is_empty());
-    Ok(())
+fn lines_of_nodes_are_read(rt: HostRuntime) -> Result<(), Fail> {
+    let new = NodeToken {
+        place: 6,
+        node: 32,
+        there: false,
+    };
+    let node = Line::Node { node: 32 };
+    is_read_as(&rt, rt.alloc(), b"node 32", node, &[new])?;
+    let tick = Line::Tick { node: 7 };
+    is_read_as(&rt, rt.alloc(), b"tick 7", tick, &[old_node(6, 7)])?;
+    let restart = Line::Restart { node: 10 };
+    is_read_as(&rt, rt.alloc(), b"restart 10", restart, &[old_node(9, 10)])?;
+    let links = Line::Links { node: 2 };
+    is_read_as(&rt, rt.alloc(), b"links 2", links, &[old_node(7, 2)])
+}
+
+#[test]
+fn lines_of_links_are_read(rt: HostRuntime) -> Result<(), Fail> {
+    let mend = Line::Mend {
+        node: 32,
+        bearer: 0,
+    };
+    is_read_as(&rt, rt.alloc(), b"mend 32 0", mend, &[old_node(6, 32)])?;
+    let cut = Line::Cut { node: 1, bearer: 0 };
+    is_read_as(&rt, rt.alloc(), b"cut 1 0", cut, &[old_node(5, 1)])?;
+    let link = Line::Link {
+        first: 10,
+        second: 2,
+        bearer: 0,
+    };
+    let nodes = [old_node(6, 10), old_node(9, 2)];
+    is_read_as(&rt, rt.alloc(), b"link 10 2 0", link, nodes.as_slice())
 }
 
 #[test]
 fn lines_of_frames_are_read(rt: HostRuntime) -> Result<(), Fail> {
-    let air = read(&rt, rt.alloc(), b"air 0").ok().ok_or("air")?;
-    assert_eq!(rt; air.line, Line::Air { bearer: 0 });
-    assert!(rt; air.nodes.is_empty());
-    let show = read(&rt, rt.alloc(), b"show 0 1000000").ok().ok_or("show")?;
-    assert_eq!(rt;
-        show.line,
-        Line::Show {
-            bearer: 0,
-            frame: 1_000_000
-        }
-    );
-    assert!(rt; show.nodes.is_empty());
+    let arrive = Line::Arrive {
+        node: 2,
+        bearer: 0,
+        frame: 1_000_000,
+    };
+    let nodes = [old_node(8, 2)];
+    is_read_as(
+        &rt,
+        rt.alloc(),
+        b"arrive 2 0 1000000",
+        arrive,
+        nodes.as_slice(),
+    )?;
+    let show = Line::Show {
+        bearer: 0,
+        frame: 1_000_000,
+    };
+    is_read_as(&rt, rt.alloc(), b"show 0 1000000", show, &[])?;
+    is_read_as(&rt, rt.alloc(), b"air 0", Line::Air { bearer: 0 }, &[])?;
+    is_read_as(&rt, rt.alloc(), b"pump 0", Line::Pump { bearer: 0 }, &[])
+}
+
+#[test]
+fn rounds_are_read(rt: HostRuntime) -> Result<(), Fail> {
+    for (text, rounds) in [(b"settle 0".as_slice(), 0), (b"settle 1000000", 1_000_000)] {
+        is_read_as(&rt, rt.alloc(), text, Line::Settle { rounds }, &[])?;
+    }
     Ok(())
 }
 
 #[test]
 fn lines_of_many_messages_are_read(rt: HostRuntime) -> Result<(), Fail> {
-    let drain = read(&rt, rt.alloc(), b"drain 3 0").ok().ok_or("drain")?;
-    assert_eq!(rt; drain.line, Line::Drain { node: 3, port: 0 });
-    assert_eq!(rt; drain.nodes.as_slice(), [old_node(7, 3)].as_slice());
-    let burst = read(&rt, rt.alloc(), b"burst 1 7 2 9 1000000 =a")
-        .ok()
-        .ok_or("burst")?;
-    assert_eq!(rt;
-        burst.line,
-        Line::Burst {
-            node: 1,
-            port: 7,
-            to_node: 2,
-            to_port: 9,
-            times: 1_000_000,
-            body: Bytes::from_slice(rt.alloc(), b"a")?
-        }
-    );
-    assert_eq!(rt;
-        burst.nodes.as_slice(),
-        [old_node(7, 1), old_node(11, 2)].as_slice()
-    );
-    let repeat = read(&rt, rt.alloc(), b"repeat 2 send 1 7 port 2 9 high =a")
-        .ok()
-        .ok_or("repeat")?;
-    assert_eq!(rt;
-        repeat.line,
-        Line::Repeat {
-            times: 2,
-            node: 1,
-            port: 7,
-            to: PortId {
-                node: Addr::node(2),
-                port: 9
-            },
-            importance: Importance::High,
-            body: Bytes::from_slice(rt.alloc(), b"a")?
-        }
-    );
-    assert_eq!(rt; repeat.nodes.as_slice(), [old_node(15, 1)].as_slice());
-    Ok(())
+    let drain = Line::Drain { node: 3, port: 0 };
+    is_read_as(&rt, rt.alloc(), b"drain 3 0", drain, &[old_node(7, 3)])?;
+    let burst = Line::Burst {
+        node: 1,
+        port: 7,
+        to_node: 2,
+        to_port: 9,
+        times: 1_000_000,
+        body: Bytes::from_slice(rt.alloc(), b"a")?,
+    };
+    let nodes = [old_node(7, 1), old_node(11, 2)];
+    let text = b"burst 1 7 2 9 1000000 =a";
+    is_read_as(&rt, rt.alloc(), text, burst, nodes.as_slice())
+}
+
+#[test]
+fn a_send_that_is_repeated_is_read(rt: HostRuntime) -> Result<(), Fail> {
+    let repeat = Line::Repeat {
+        times: 2,
+        node: 1,
+        port: 7,
+        to: PortId {
+            node: Addr::node(2),
+            port: 9,
+        },
+        importance: Importance::High,
+        body: Bytes::from_slice(rt.alloc(), b"a")?,
+    };
+    let text = b"repeat 2 send 1 7 port 2 9 high =a";
+    is_read_as(&rt, rt.alloc(), text, repeat, &[old_node(15, 1)])
 }
 
 /// The lines that send with each importance.
@@ -373,30 +344,42 @@ fn each_importance_is_read(rt: HostRuntime) -> Result<(), Fail> {
 
 #[test]
 fn a_send_is_read_with_its_body(rt: HostRuntime) -> Result<(), Fail> {
-    let Command { line, nodes } = read(&rt, rt.alloc(), b"send 1 4294967295 port 2 0 low =hello")
-        .ok()
-        .ok_or("send")?;
-    let Line::Send {
-        node,
-        port,
-        to,
-        importance,
-        body,
-    } = line
-    else {
+    let send = Line::Send {
+        node: 1,
+        port: u32::MAX,
+        to: PortId {
+            node: Addr::node(2),
+            port: 0,
+        },
+        importance: Importance::Low,
+        body: Bytes::from_slice(rt.alloc(), b"hello")?,
+    };
+    let text = b"send 1 4294967295 port 2 0 low =hello";
+    is_read_as(&rt, rt.alloc(), text, send, &[old_node(6, 1)])
+}
+
+/// The body of a line that asks for a burst.
+fn burst_body(rt: &impl Abort, alloc: Global, text: &[u8]) -> Result<Bytes, Fail> {
+    let Command { line, nodes } = read(rt, alloc, text).ok().ok_or("refused")?;
+    let Line::Burst { body, .. } = line else {
         return Err(Fail::from("another line"));
     };
-    assert_eq!(rt; nodes.len(), 1);
-    assert_eq!(rt; node, 1);
-    assert_eq!(rt; port, u32::MAX);
-    assert_eq!(rt; importance, Importance::Low);
-    assert_eq!(rt;
-        to,
-        PortId {
-            node: Addr::node(2),
-            port: 0
+    Ok(body)
+}
+
+#[test]
+fn a_body_of_the_pattern_is_read(rt: HostRuntime) -> Result<(), Fail> {
+    let lines = [
+        (b"burst 1 7 2 9 1 *0".as_slice(), 0_u32),
+        (b"burst 1 7 2 9 1 *253", 253),
+        (b"burst 1 7 2 9 1 *70000", 70_000),
+    ];
+    for (text, count) in lines {
+        let mut wanted = Bytes::new(rt.alloc());
+        for place in 0..count {
+            wanted.push((place % 251) as u8)?;
         }
-    );
-    assert_eq!(rt; body.as_slice(), b"hello".as_slice());
+        assert_eq!(rt; burst_body(&rt, rt.alloc(), text)?, wanted);
+    }
     Ok(())
 }

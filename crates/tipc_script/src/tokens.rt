@@ -1,19 +1,17 @@
 ghost use Rattle.std.specs.Prelude.{◌≡◌, ◌≢◌, ◌+◌, ◌-◌, ◌*◌, ◌<◌, ◌≤◌, ◌^◌, ◌&&◌, ◌==◌, ◌↔◌, not, true, length, IfSome, IfNone, IfOk, MatchOption, IsTrue, position, OnOk, Some, None, if◌then◌else◌, drop, [], ◌∷◌, codes, ℕ};
 ghost use Rattle.std.specs.Option.{option_copied};
 ghost use Rattle.std.specs.Str.{bytes_eq};
-ghost use Rattle.std.specs.List.{list_all};
 ghost use Rattle.tipc_script.specs.Splitting.{whole, first_token, behind, tokens_of, pieces, is_space};
-ghost use Rattle.tipc_script.specs.Kinds.{is_number, is_body, is_visible, importance_in, importance_of, is_importance, number_of};
+ghost use Rattle.tipc_script.specs.Kinds.{is_number, is_body, body_of, importance_in, importance_of, is_importance, number_of};
 ghost use Rattle.tipc_script.specs.Faults.{Tells, first_fault, missing_fault, end_fault};
 
+use crate::body::body_in;
 use crate::faults::{LineFault, LineWhy};
 use crate::lines::NodeToken;
 use crate::numbers::number_in;
+use std::alloc::Global;
 use std::marker::Model;
-use tipc_types::Importance;
-
-/// The most characters of a body.
-const LONGEST_BODY: usize = 64;
+use tipc_types::{Bytes, Importance};
 
 /// The tokens that are left of a line, from the left.
 #[derive(Drop)]
@@ -182,19 +180,19 @@ impl<'a> Tokens<'a> {
 
     /// The bytes that the next token stands for as a body.
     #[tactic(auto, unfolding(crate::specs::Faults::first_fault, crate::specs::Faults::missing_fault))]
-    pub fn body(&mut self) -> Result<&'a [u8], LineFault>
-        ensures ok { IfOk result (λ text. (self.new ≡ behind self.old) × (text.now ≡ drop 1 (first_token self.old))) }
+    pub fn body(&mut self, alloc: Global) -> Result<Bytes, LineFault>
+        ensures ok { IfOk result (λ body. (self.new ≡ behind self.old) × (body ≡ body_of (first_token self.old))) }
         ensures fault { Tells result (first_fault is_body LineWhy.Body self.old) }
     {
         let place = self.place();
         let token = self.token()?;
-        let Some(text) = body_in(token) else {
+        let Some(body) = body_in(alloc, token)? else {
             return Err(LineFault::BadLine {
                 place,
                 why: LineWhy::Body,
             });
         };
-        Ok(text)
+        Ok(body)
     }
 
     /// That no token is left.
@@ -238,27 +236,6 @@ fn importance_in(token: &[u8]) -> Option<Importance>
         return Some(Importance::Critical);
     }
     None
-}
-
-/// The text of a body: what stands behind `=`, where it is 1 to 64 characters from 33 to 126.
-#[tactic(auto, unfolding(crate::specs::Kinds::is_body))]
-fn body_in(token: &[u8]) -> Option<&[u8]>
-    ensures { option_copied result ≡ (if is_body token.now then Some (drop 1 token.now) else None) }
-{
-    let [b'=', text @ ..] = token else {
-        return None;
-    };
-    if text.is_empty() || text.len() > LONGEST_BODY || !is_visible(text) {
-        return None;
-    }
-    Some(text)
-}
-
-/// Whether each byte is a character from 33 to 126.
-fn is_visible(text: &[u8]) -> bool
-    ensures { result ≡ list_all is_visible text.now }
-{
-    text.iter().all(|byte| 33 <= *byte && *byte <= 126)
 }
 
 /// Where the first space stands, if there is one.

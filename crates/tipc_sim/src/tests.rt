@@ -108,6 +108,64 @@ fn reports(rt: HostRuntime) -> Result<(), Fail> {
     Ok(())
 }
 
+/// Two nodes with a link and a socket each.
+const TWO_NODES: &[u8] = b"node 1\nnode 2\nlink 1 2 0\nmark\nsocket 1\nsocket 2\n";
+
+/// What is reported of them.
+const TWO_NODES_REPORT: &[u8] = b"1 ok\n2 ok\n3 up\n4 ok\n5 socket 1\n6 socket 1\n";
+
+/// What goes on behind `TWO_NODES`, and what is reported of it: a frame is shown; frames out of order; two
+/// runs past the wrap of 16-bit numbers and past the age of frames; the longest message; a bundle, which is shown; congestion, and
+/// a message that is taken whole over the limit.
+const ONE_LINK: [(&[u8], &[u8]); 8] = [
+    (
+        b"send 1 1 port 2 1 low =hello\nshow 0 0\n",
+        b"7 sent\n8 1 2 00000001000000010000000100000001410000256000000000000001010010010000000100000001010010010100100268656c6c6f\n",
+    ),
+    (
+        b"repeat 3 send 1 1 port 2 1 low =x\narrive 2 0 2\nshow 0 3\narrive 2 0 0\narrive 2 0 1\narrive 1 0 3\narrive 2 0 4\nair 0\ndrain 2 1\n",
+        b"7 times 3 sent\n8 deferred\n9 2 1 000000010000000100000001000000014f500028000200000000000001001002000100010001000000000000010010010000002e00000000\n10 took 1\n11 took 2\n12 took 0\n13 ignored old\n14 air 6\n15 drained 3\n",
+    ),
+    (
+        b"burst 1 1 2 1 65540 =x\nair 0\narrive 2 0 69635\narrive 2 0 0\n",
+        b"7 moved 65540\n8 air 69636\n9 ignored old\n10 too-old 65539\n",
+    ),
+    (
+        b"send 1 1 port 2 1 low =x\npump 0\nreceive 2 1\nburst 1 1 2 1 30000 =x\narrive 2 0 0\nburst 1 1 2 1 1 =x\narrive 2 0 0\n",
+        b"7 sent\n8 pumped 1\n9 got 1:1 0 1 x\n10 moved 30000\n11 ignored old\n12 moved 1\n13 too-old 30001\n",
+    ),
+    (
+        b"send 1 1 port 2 1 low *66000\nair 0\nsend 1 1 port 2 1 low *66001\npump 0\nreceive 2 1\n",
+        b"7 sent\n8 air 47\n9 too-long 66001\n10 pumped 49\n11 got 1:1 0 66000 -\n",
+    ),
+    (
+        b"repeat 50 send 1 1 port 2 1 low =x\nsend 1 1 port 2 1 low =a\nsend 1 1 port 2 1 low =b\nsend 1 1 port 2 1 low =c\nair 0\npump 0\ndrain 2 1\nair 0\nshow 0 53\n",
+        b"7 times 50 sent\n8 sent\n9 sent\n10 sent\n11 air 50\n12 pumped 54\n13 drained 53\n14 air 54\n15 1 2 000000010000000100000001000000014d400094000000000000003301001001000300000000000000000000000000000000000000000000410000216000000000000000010010010000000100000001010010010100100261000000410000216000000000000000010010010000000100000001010010010100100262000000410000216000000000000000010010010000000100000001010010010100100263000000\n",
+    ),
+    (
+        b"repeat 101 send 1 1 port 2 1 low *1000\nsend 1 1 port 2 1 medium *1000\nsend 1 1 port 2 1 low *1000\n",
+        b"7 times 100 congested 50 50\n8 sent\n9 congested 50 51\n",
+    ),
+    (
+        b"repeat 99 send 1 1 port 2 1 low *1000\nsend 1 1 port 2 1 low *66000\nsend 1 1 port 2 1 low =x\n",
+        b"7 times 99 sent\n8 sent\n9 congested 50 96\n",
+    ),
+];
+
+#[test]
+fn one_link(rt: HostRuntime) -> Result<(), Fail> {
+    for (events, answers) in ONE_LINK {
+        let mut script = TWO_NODES.to_vec(rt.alloc())?;
+        script.extend_from_slice(events)?;
+        let mut report = TWO_NODES_REPORT.to_vec(rt.alloc())?;
+        report.extend_from_slice(answers)?;
+        let (ended, wrote) = run_over(&rt, &["run"], script.as_slice(), &[], &[])?;
+        assert_eq!(rt; ended, Status::Ok);
+        assert_eq!(rt; wrote.as_slice(), report.as_slice());
+    }
+    Ok(())
+}
+
 #[test]
 fn bad_lines(rt: HostRuntime) -> Result<(), Fail> {
     let rows: [(&[u8], Status, &[u8]); 9] = [

@@ -17,7 +17,7 @@ use Rattle.tipc_outside.specs.declared.outgoing.Outgoing.{Outgoing}
 use Rattle.tipc_journal.specs.declared.entries.Entry.{Entry}
 use Rattle.tipc_journal.specs.Prefixes.{IsPrefixOf}
 use Rattle.tipc_link.specs.Links.{LinkEnd, answered_end, mended_end}
-use Rattle.tipc_link.specs.Sessions.{SessionEnd}
+use Rattle.tipc_link.specs.Sessions.{as_waiting, SessionEnd}
 use Rattle.tipc_link_fsm.specs.Table.{is_up}
 use Rattle.tipc_node.specs.declared.neighbours.Deed.{Deed}
 use Rattle.tipc_node.specs.declared.neighbours.Deed.TheVariants as deed
@@ -50,7 +50,6 @@ use Rattle.tipc_world.proofs.Moves.{tested}
 use Rattle.tipc_world.proofs.PairedEvents.{IsReady, reached_brings, unknown}
 use Rattle.tipc_world.proofs.Reaching.{IsReached, from_peer, placed}
 use Rattle.tipc_world.proofs.SoundWorlds.{HaveNextBoots}
-use Rattle.tipc_header.specs.Frames.{unsent}
 use Rattle.tipc_header.specs.Spelling.{spelling}
 use Rattle.tipc_fragments.specs.Joining.{fresh}
 use Rattle.tipc_reassembly.proofs.TraceLaws.{begun_none}
@@ -251,7 +250,7 @@ hear_watched s air' a stamp bearer place f m m' frames answered sound longer was
     let P = HasBrought seen (addr_of h.peer) in
     let step = heard_step (by_in stamp m) (length m.arrivals) h.peer h.met h.out in
     let traced = traced_with s.air air' m 0 place longer w in
-    let brought : P (length m.arrivals) (spelling (unsent p)) = record {
+    let brought : P (length m.arrivals) (spelling (as_waiting p)) = record {
       frame = f;
       arrived = arrived.arrived;
       from = sender.from;

@@ -4,7 +4,6 @@ use Rattle.tipc_types.specs.declared.identity.PortId.{PortId}
 use Rattle.tipc_types.specs.declared.message_forms.Form.TheVariants as form
 use Rattle.tipc_types.specs.declared.message_forms.Importance.{Importance}
 use Rattle.tipc_types.specs.declared.message_forms.Message.{Message}
-use Rattle.tipc_types.specs.declared.message_forms.Message.TheVariants.{Payload, Items}
 use Rattle.tipc_header.specs.declared.packet.Payload.{Payload as Words}
 use Rattle.tipc_header.specs.Grammar.{Fits}
 use Rattle.tipc_header.specs.Spelling.{Fields, spelling}
@@ -30,24 +29,25 @@ same_bytes m m' h h' same =
     some_is m m' (sym (message_of-packet_of m h.packet h.payload h.packet_is) ∙ ap message_of packets ∙ message_of-packet_of m' h'.packet h'.payload h'.packet_is)
 
 -- the packet of a user's message is one
-words_message : (w : Words) (body : List ℕ) → Fits (payload_packet w body) → IsMessage (spelling (payload_packet w body))
-words_message w body f = record { packet = payload_packet w body; spelled = refl; fits = f; waits = refl; inside = refl }
+words_message : (own : ℕ) (w : Words) (body : List ℕ) → Fits (payload_packet own w body) → IsMessage own (spelling (payload_packet own w body))
+words_message own w body f = record { packet = payload_packet own w body; spelled = refl; fits = f; waits = refl; inside = refl }
 
-is_user_message : (m : Message) (p : Fields) → packet_of m ≡ Some p → Fits p → IsMessage (spelling p)
+direct_message : (own port : ℕ) (to : PortId) (importance : Importance) (body : List ℕ) (p : Fields) → packet_of (direct own port to importance body) ≡ Some p → Fits p → IsMessage own (spelling p)
 unfolding packet_of
-is_user_message (Payload i f from to kind lower upper code droppable body) p is fits =
-    let w = payload_of i f from to kind lower upper code droppable in
-    let same = some_is (payload_packet w body) p is in
-    subst (λ q. IsMessage (spelling q)) same (words_message w body (subst Fits (sym same) fits))
-is_user_message (Items withdrawal items) p is fits = absurd cc
+direct_message own port to importance body p is fits =
+    let w = payload_of importance form.Direct (record { node = record { word = own }; port = port }) to 0 0 0 0 false in
+    let same = some_is (payload_packet own w body) p is in
+    subst (λ q. IsMessage own (spelling q)) same (words_message own w body (subst Fits (sym same) fits))
 
-pub message_is : (m : Message) → IsSendable m → IsMessage (bytes_of m)
-message_is m h = subst IsMessage (sym (bytes_are m h.packet h.packet_is)) (is_user_message m h.packet h.packet_is h.fits)
+pub message_is : (own port : ℕ) (to : PortId) (importance : Importance) (body : List ℕ) → (let m = direct own port to importance body in IsSendable m → IsMessage own (bytes_of m))
+message_is own port to importance body h =
+    let m = direct own port to importance body in
+    subst (IsMessage own) (sym (bytes_are m h.packet h.packet_is)) (direct_message own port to importance body h.packet h.packet_is h.fits)
 
 -- a user's message to a port that fits a packet can be sent
 pub direct_sendable : (own port : ℕ) (to : PortId) (importance : Importance) (body : List ℕ) (p : Fields) → packet_of (direct own port to importance body) ≡ Some p → Fits p → IsSendable (direct own port to importance body)
 unfolding packet_of
 direct_sendable own port to importance body p is fits =
     let w = payload_of importance form.Direct (record { node = record { word = own }; port = port }) to 0 0 0 0 false in
-    let rest = (subst Fits (sym (some_is (payload_packet w body) p is)) fits).rest in
+    let rest = (subst Fits (sym (some_is (payload_packet own w body) p is)) fits).rest in
     record { packet = p; packet_is = is; fits = fits; payload = ((refl, refl, refl), omega arith, rest) }

@@ -1,6 +1,7 @@
 -- Every event leaves each two nodes paired.
 use Rattle.std.proofs.Common.{◌≡◌, ◌≢◌, ◌<◌, ◌+◌, ◌^◌, ℕ, Bool, true, false, List, [], ◌∷◌, Option, Some, None, option_map, slice_index_or, refl, sym, ap, ◌∙◌, subst}
 use Rattle.std.specs.Prelude.{is_some}
+use Rattle.tipc_types.specs.Address.{node_word}
 use Rattle.tipc_types.specs.declared.identity.PortId.{PortId}
 use Rattle.tipc_types.specs.declared.link_words.Why.{Why}
 use Rattle.tipc_types.specs.declared.message_forms.Importance.{Importance}
@@ -8,7 +9,7 @@ use Rattle.tipc_types.specs.declared.node_calls.Answer.{Answer}
 use Rattle.tipc_types.specs.declared.node_calls.EventNote.TheVariants as note
 use Rattle.tipc_outside.specs.declared.outgoing.Outgoing.{Outgoing}
 use Rattle.tipc_reassembly.specs.Slots.{packets_in}
-use Rattle.tipc_pair.specs.Partners.{opened_in}
+use Rattle.tipc_pair.specs.Partners.{IsMessage, opened_in}
 use Rattle.tipc_pair.specs.Views.{View, own_of, seen_of}
 use Rattle.tipc_node.specs.declared.neighbours.Deed.TheVariants as deed
 use Rattle.tipc_node.specs.declared.neighbours.Neighbour.{Neighbour}
@@ -21,6 +22,7 @@ use Rattle.tipc_world.specs.Deeds.{Arrives, Does, Hears, Puts, Sends}
 use Rattle.tipc_world.specs.Due.{frame_for, unarrived}
 use Rattle.tipc_world.specs.Members.{bytes_of, receive_member, refused_member, socket_member, stopped_member}
 use Rattle.tipc_world.specs.Sound.{IsSound}
+use Rattle.tipc_world.specs.Views.{view_at}
 use Rattle.tipc_world.specs.States.{knows, MemberState, history, member_at}
 use Rattle.tipc_world.specs.Steps.{Happens, Stage, Turns}
 use Rattle.tipc_world.proofs.Bringing.{hears_brings}
@@ -70,6 +72,10 @@ quiet_event : (old new : Stage) (a : ℕ) (before after then_ : MemberState) (fr
 quiet_event old new a before after then_ frames lost paired t is q k =
     quiet_pairs old new a before after frames lost paired t (subst (λ m. IsQuiet before m frames) (sym is) q) (λ b b_is apart. kept_records before after b (view_in old a b) k)
 
+view_own : (s : Stage) (a b : ℕ) → (view_in s a b).own ≡ node_word a
+unfolding view_at
+view_own s a b = refl
+
 put_event : (old new : Stage) (a stamp port peer : ℕ) (to : PortId) (importance : Importance) (body : List ℕ) (before after : MemberState) (frames : List Outgoing) (answered : Answer) (lost : Bool)
     → IsSound old.members old.air → Turns old new a before after frames lost → Puts stamp (note.SendPort port to importance body) peer (direct before.node.own port to importance body) before after frames answered → AllPaired new
 put_event old new a stamp port peer to importance body before after frames answered lost sound t p =
@@ -78,7 +84,7 @@ put_event old new a stamp port peer to importance body before after frames answe
     let x = view_in old a peer in
     let g = puts_packets stamp (note.SendPort port to importance body) peer message before after frames answered p x (contact_own old a peer before p.neighbour was p.neighbour_is) (contact_seen old a peer before p.neighbour was p.neighbour_is) in
     put_pairs old new a stamp (note.SendPort port to importance body) peer message before after frames answered lost sound.pairs (acquainted old.members old.air a before sound t.was) t p
-    (message_is message (direct_sendable before.node.own port to importance body p.packet p.packet_is p.fits))
+    (subst (λ n. IsMessage n (bytes_of message)) ((sound.numbered a before t.was).1 ∙ sym (view_own old a peer)) (message_is before.node.own port to importance body (direct_sendable before.node.own port to importance body p.packet p.packet_is p.fits)))
     (λ peer_is apart. grown_records before after peer x (bytes_of message ∷ []) [] g) (λ b b_is apart other. other_records before after peer b x (view_in old a b) (bytes_of message ∷ []) [] g other)
 
 send_event : (old new : Stage) (a stamp port peer : ℕ) (to : PortId) (importance : Importance) (body : List ℕ) (before after : MemberState) (frames : List Outgoing) (answered : Answer) (lost : Bool)

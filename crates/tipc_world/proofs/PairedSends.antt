@@ -44,7 +44,7 @@ abbrev put_neighbour : Neighbour → SessionEnd → Neighbour
 put_neighbour x put = neighbour (with_session x.pair.link (flushed put)) x.pair.begun x.in_step
 
 pub put_pairs : (old new : Stage) (a stamp : ℕ) (event : EventNote) (peer : ℕ) (message : Message) (before after : MemberState) (frames : List Outgoing) (answered : Answer) (lost : Bool)
-    → AllPaired old → IsAcquainted old.members a → Turns old new a before after frames lost → Puts stamp event peer message before after frames answered → IsMessage (bytes_of message)
+    → AllPaired old → IsAcquainted old.members a → Turns old new a before after frames lost → Puts stamp event peer message before after frames answered → IsMessage (view_in old a peer).own (bytes_of message)
     → (IsNumber peer → peer ≢ a → Records (view_in old a peer) before after peer (bytes_of message ∷ []) []) → ((b : ℕ) → IsNumber b → b ≢ a → b ≢ peer → Records (view_in old a b) before after b [] []) → AllPaired new
 put_pairs old new a stamp event peer message before after frames answered lost paired knows t p is_message here others =
     let x = p.neighbour in

@@ -12,7 +12,6 @@ use Rattle.tipc_types.specs.declared.packet_lists.Taken.{Taken}
 use Rattle.tipc_journal.specs.Steps.{NodeStep}
 use Rattle.tipc_header.specs.declared.packet.Header.{Header}
 use Rattle.tipc_header.specs.declared.packet.Header.TheVariants as header
-use Rattle.tipc_header.specs.Frames.{unsent}
 use Rattle.tipc_header.specs.Spelling.{Fields, spelling}
 use Rattle.tipc_fragments.specs.Joining.{Joining}
 use Rattle.tipc_reassembly.specs.declared.opening.Opened.{Opened}
@@ -23,7 +22,7 @@ use Rattle.tipc_reassembly.proofs.TraceLaws.{begun_more, begun_none, begun_weake
 use Rattle.tipc_recv_window.specs.declared.outcomes.LinkOutcome.{LinkOutcome}
 use Rattle.tipc_link_fsm.specs.Table.{on_cut, on_tick}
 use Rattle.tipc_link.specs.Links.{LinkEnd, is_down, with_session}
-use Rattle.tipc_link.specs.Sessions.{SessionEnd, IsPut, content_by, content_of, flushed, joins, waits}
+use Rattle.tipc_link.specs.Sessions.{as_waiting, SessionEnd, IsPut, content_by, content_of, flushed, joins, waits}
 use Rattle.tipc_link.proofs.LinkLaw.{Each}
 use Rattle.tipc_pair.specs.declared.changes.PairChange.{PairChange}
 use Rattle.tipc_pair.specs.declared.changes.PairChange.TheVariants.{Stay}
@@ -120,9 +119,9 @@ brings_content P (header.Activate a) by sequence bytes came = tt
 brings_content P (header.Discovery d) by sequence bytes came = tt
 brings_content P other by sequence bytes came = came
 
-pub brings_packet : (P : ℕ → List ℕ → Type 0) (p : Fields) (by : ℕ) → P by (spelling (unsent p)) → BringsBy P by (content_of p)
+pub brings_packet : (P : ℕ → List ℕ → Type 0) (p : Fields) (by : ℕ) → P by (spelling (as_waiting p)) → BringsBy P by (content_of p)
 unfolding content_of
-brings_packet P p by came = brings_content P p.header by p.sequence (spelling (unsent p)) came
+brings_packet P p by came = brings_content P p.header by p.sequence (spelling (as_waiting p)) came
 
 -- what is given is traced, and so is what is begun then
 record OpensBy (P : ℕ → List ℕ → Type 0) (out : PairOutcome) (last : Joining) : Type 0 where

@@ -10,7 +10,7 @@ use Rattle.std.proofs.Common.{length-append, subst}
 use Rattle.std.proofs.lemmas.List.Elements.{All-head, All-tail}
 use Rattle.tipc_header.specs.declared.packet.Header.{Header}
 use Rattle.tipc_header.specs.declared.packet.Header.TheVariants as header
-use Rattle.tipc_header.specs.Frames.{envelope, frame_of, unsent}
+use Rattle.tipc_header.specs.Frames.{envelope, frame_of}
 use Rattle.tipc_header.specs.Grammar.{Fits, RestFits}
 use Rattle.tipc_header.specs.Spelling.{Fields, numbers_size, spelling}
 use Rattle.tipc_header.specs.Users.{header_size}
@@ -18,7 +18,7 @@ use Rattle.tipc_header.proofs.Again.{length-spelling}
 use Rattle.tipc_header.proofs.FrameWords.{length-envelope}
 use Rattle.tipc_fragments.specs.Cutting.{packet_of}
 use Rattle.tipc_link.specs.Links.{is_traffic}
-use Rattle.tipc_link.specs.Sessions.{Carries, content_by, content_of}
+use Rattle.tipc_link.specs.Sessions.{as_waiting, Carries, content_by, content_of}
 use Rattle.std.proofs.lemmas.Option.{slice_get-map}
 use Rattle.tipc_fragments.specs.Joining.{Joining}
 use Rattle.tipc_reassembly.specs.Slots.{Fragment, Group, IsSlot, Slot, slot_bytes}
@@ -61,13 +61,13 @@ packet_size other n sequence bytes rest size carried = carried refl sequence byt
 frame_size : (members : List (Option MemberState)) (a b own theirs es er : ℕ) (p : Fields) (frame : List ℕ) → Fits p → frame ≡ frame_of es er (spelling p) → (is_traffic p.header ≡ true → IsTold members a b own theirs p) → length frame ≤ 1516
 unfolding content_of
 frame_size members a b own theirs es er p frame fits is told =
-    let unsent_size = length-spelling (unsent p) in
+    let waiting_size = length-spelling (as_waiting p) in
     let size = length-spelling p in
-    let short : length (spelling (unsent p)) ≤ 1452 = packet_size p.header (length p.rest) p.sequence (spelling (unsent p)) fits.rest unsent_size
+    let short : length (spelling (as_waiting p)) ≤ 1452 = packet_size p.header (length p.rest) p.sequence (spelling (as_waiting p)) fits.rest waiting_size
     (λ traffic number bytes carries. let c = ((told traffic).carried number bytes carries).2 in slot_at c.slots _ bytes c.are.sound c.there) in
     let whole : length frame ≡ length (envelope es er) + length (spelling p) = ap length is ∙ length-append (envelope es er) (spelling p) in
     let head = length-envelope es er in
-    omega (arith, unsent_size, size, short, whole, head)
+    omega (arith, waiting_size, size, short, whole, head)
 
 position_is : (position : ℕ) → 1 ≤ position → position ≡ position - 1 + 1
 position_is position positive = omega (arith, positive)

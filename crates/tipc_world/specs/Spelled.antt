@@ -7,17 +7,18 @@ use Rattle.tipc_types.specs.declared.node_calls.EventNote.TheVariants as event
 use Rattle.tipc_journal.specs.declared.entries.Entry.{Entry}
 use Rattle.tipc_journal.specs.declared.entries.Entry.TheVariants as entry
 use Rattle.tipc_journal.specs.Steps.{steps, NodeStep, PlacedStep}
-use Rattle.tipc_header.specs.Frames.{frame_of, unsent}
+use Rattle.tipc_header.specs.Frames.{frame_of}
 use Rattle.tipc_header.specs.Grammar.{Fits}
 use Rattle.tipc_header.specs.Spelling.{Fields, spelling}
+use Rattle.tipc_link.specs.Sessions.{as_waiting}
 use Rattle.tipc_reassembly.specs.Tracing.{IsTraced}
 use Rattle.tipc_world.specs.declared.air.Sent.{Sent}
 use Rattle.tipc_world.specs.Causes.{arrived_frame, Seen}
 use Rattle.tipc_world.specs.Members.{bytes_of}
 use Rattle.tipc_world.specs.States.{MemberState}
 
--- The arrival of that number at the node was of a frame that the peer sent, which brought this packet. Words 2 and 3 of the packet are
--- zero here, as they were before it was numbered.
+-- The arrival of that number at the node was of a frame that the peer sent, which brought this packet, as it waited before it was
+-- numbered.
 pub record HasBrought (seen : Seen) (peer : Addr) (by : ℕ) (bytes : List ℕ) : Type 0 where
   pub frame : Sent
   pub arrived : arrived_frame seen by ≡ Some frame
@@ -27,7 +28,7 @@ pub record HasBrought (seen : Seen) (peer : Addr) (by : ℕ) (bytes : List ℕ) 
   pub packet : Fields
   pub fits : Fits packet
   pub frame_is : frame.frame ≡ frame_of es er (spelling packet)
-  pub bytes_is : bytes ≡ spelling (unsent packet)
+  pub bytes_is : bytes ≡ spelling (as_waiting packet)
 
 -- the arrival of that number was in this step, or before it
 pub record IsBy (s : NodeStep) (by : ℕ) : Type 0 where

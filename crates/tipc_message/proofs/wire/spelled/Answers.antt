@@ -6,6 +6,6 @@ use Rattle.tipc_message.proofs.wire.spelled.Goals as goal
 
 pub returns-clause-long : goal.returns-clause-long
 returns-clause-long c =
-    let p = payload_packet c.args.header c.args.body.now in
+    let p = payload_packet c.args.own c.args.header c.args.body.now in
     let is : c.from_vec.result ≡ spelling p = c.from_vec.ensures ∙ c.in_ok-encode.ensures.ok ∙ ap (λ xs. xs ++ spelling p) c.new-bytes.ensures.items in
     subst (λ xs. 24 ≤ length xs) (sym is) (spelling-least p)
