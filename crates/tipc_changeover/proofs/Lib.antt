@@ -1,0 +1,14 @@
+pub mod Lists
+pub mod Numbers
+pub mod Records
+pub mod Receiving
+pub mod Runs
+pub mod Keeping
+pub mod Sending
+pub mod Numbering
+pub mod Uplinks
+pub mod Failing
+pub mod Staying
+pub mod Using
+pub mod Telling
+pub mod Weakening

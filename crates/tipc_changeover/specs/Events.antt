@@ -1,0 +1,143 @@
+-- What may happen in one direction between two nodes with two links, and what it changes. Each event is at the near link. Loss,
+-- repeats and late arrivals change nothing: only the packet at the next wanted place of a record is taken.
+use Rattle.std.specs.Prelude.{◌≡◌, ◌≢◌, ℕ, ◌+◌, ◌<◌, ◌≤◌, ◌==◌, nat_lt, if◌then◌else◌, Bool, true, false, List, [], ◌∷◌, ◌++◌, Some, length}
+use Rattle.tipc_changeover.specs.Slots.{at, duplicates, originals, plain_slots, Plain, Slot, Tunnel}
+use Rattle.tipc_changeover.specs.Links.{leads, seen, slots, Bearer, EndState, First, Held, Receiver, Reset, Sender, State, Up}
+
+-- What becomes of the packet inside a tunnel packet, against the record of the link of which it speaks.
+pub data Opening : Type 0 where
+  -- the record is of a later session
+  Late : Opening
+  -- the place was taken before, or the run is empty
+  Old : Opening
+  -- the place is the next one, and a placeholder stands for it
+  Passed : Opening
+  -- the place is the next one, and this plain packet is taken
+  Next : (index : ℕ) → Opening
+  -- a place before it is missing
+  Deferred : Opening
+
+pub data Event : Type 0 where
+  -- a plain packet is put
+  Put : Event
+  -- the first slot that waits gets a number, and these go on to wait
+  Number : (slot : Slot) (rest : List Slot) → Event
+  -- this many places are acknowledged
+  Acknowledge : (places : ℕ) → Event
+  -- the end is held no longer
+  Release : Event
+  -- the receiver begins a record of this session
+  Record : (session : ℕ) → Event
+  -- the plain packet at the next place is taken
+  TakePlain : (index : ℕ) → Event
+  -- the tunnel packet at the next place is taken, and opened
+  TakeTunnel : (session place : ℕ) (full : Bool) (opening : Opening) → Event
+  -- the link goes up, and takes nothing over
+  LinkUp : Event
+  -- the first bearer's link goes up while the second one's is up: it takes the flow, and duplicates what isn't acknowledged
+  Switch : Event
+  -- the link goes down while the other is up: what isn't acknowledged goes over the other, and the end is held
+  Failover : Event
+
+-- how many packets may be sent and not acknowledged
+abbrev pub window : ℕ
+window = 50
+
+-- ---- what an event changes
+
+-- one more slot in the line of a session
+unfoldable pub extended : (ℕ → List Slot) → ℕ → Slot → ℕ → List Slot
+extended line session slot e = if e == session then line e ++ slot ∷ [] else line e
+
+-- how many plain packets a slot holds
+abbrev pub plain_count : Slot → ℕ
+plain_count (Plain i) = 1
+plain_count (Tunnel f q full) = 0
+
+abbrev pub after_next : Receiver → Receiver
+after_next r = record { session = r.session; taken = r.taken + 1 }
+
+-- a tunnel packet tells of its session: a record of an earlier one is begun anew
+unfoldable pub told : Receiver → ℕ → Receiver
+told t session = if nat_lt t.session session then record { session = session; taken = 0 } else t
+
+abbrev pub opened : Receiver → Opening → Receiver
+opened t Late = t
+opened t Old = t
+opened t Passed = after_next t
+opened t (Next i) = after_next t
+opened t Deferred = t
+
+abbrev pub taken_out : Opening → List ℕ
+taken_out Late = []
+taken_out Old = []
+taken_out Passed = []
+taken_out (Next i) = i ∷ []
+taken_out Deferred = []
+
+abbrev pub with_ends : State → Sender → Sender → State
+with_ends s x y = record { near = x; near_record = s.near_record; far = y; far_record = s.far_record; put = s.put; numbered = s.numbered; delivered = s.delivered }
+
+abbrev pub with_records : State → Receiver → Receiver → List ℕ → State
+with_records s r t delivered = record { near = s.near; near_record = r; far = s.far; far_record = t; put = s.put; numbered = s.numbered; delivered = delivered }
+
+abbrev pub with_waiting : Sender → List Slot → Sender
+with_waiting x waiting = record { session = x.session; state = x.state; line = x.line; waiting = waiting; acked = x.acked }
+
+abbrev pub with_state : Sender → EndState → Sender
+with_state x state = record { session = x.session; state = state; line = x.line; waiting = x.waiting; acked = x.acked }
+
+abbrev pub with_acked : Sender → ℕ → Sender
+with_acked x acked = record { session = x.session; state = x.state; line = x.line; waiting = x.waiting; acked = acked }
+
+abbrev pub with_number : Sender → Slot → List Slot → Sender
+with_number x slot rest = record { session = x.session; state = x.state; line = extended x.line x.session slot; waiting = rest; acked = x.acked }
+
+abbrev pub gone_up : Sender → List Slot → Sender
+gone_up x waiting = record { session = x.session; state = Up; line = x.line; waiting = waiting; acked = x.acked }
+
+abbrev pub gone_down : Sender → Sender
+gone_down x = record { session = x.session + 1; state = Held; line = x.line; waiting = []; acked = 0 }
+
+abbrev pub acted : State → Event → State
+acted s Put = record { near = with_waiting s.near (s.near.waiting ++ Plain (s.put + 1) ∷ []); near_record = s.near_record; far = s.far; far_record = s.far_record; put = s.put + 1; numbered = s.numbered; delivered = s.delivered }
+acted s (Number slot rest) = record { near = with_number s.near slot rest; near_record = s.near_record; far = s.far; far_record = s.far_record; put = s.put; numbered = s.numbered + plain_count slot; delivered = s.delivered }
+acted s (Acknowledge places) = with_ends s (with_acked s.near places) s.far
+acted s Release = with_ends s (with_state s.near Reset) s.far
+acted s (Record session) = with_records s (record { session = session; taken = 0 }) s.far_record s.delivered
+acted s (TakePlain index) = with_records s (after_next s.near_record) s.far_record (s.delivered ++ index ∷ [])
+acted s (TakeTunnel session place full opening) = with_records s (after_next s.near_record) (opened (told s.far_record session) opening) (s.delivered ++ taken_out opening)
+acted s LinkUp = with_ends s (gone_up s.near s.near.waiting) s.far
+acted s Switch = with_ends s (gone_up s.near (duplicates s.far.session s.far.acked (s.far.line s.far.session) ++ s.far.waiting)) (with_waiting s.far [])
+acted s Failover = with_ends s (gone_down s.near) (with_waiting s.far (s.far.waiting ++ (originals s.near.session s.near.acked (s.near.line s.near.session) ++ plain_slots s.near.waiting)))
+
+-- ---- when it may happen
+
+-- the slot at the next place of the near record
+abbrev pub IsNext : State → Slot → Type 0
+IsNext s slot = at (s.near.line s.near_record.session) (s.near_record.taken + 1) ≡ Some slot
+
+-- what a tunnel packet for a place of a session meets in the record of that link
+abbrev pub MayOpen : (ℕ → List Slot) → Receiver → (session place : ℕ) → Bool → Opening → Type 0
+MayOpen line t session place full Late = session < t.session
+MayOpen line t session place full Old = (t.session ≤ session) × (place ≤ (told t session).taken)
+MayOpen line t session place full Passed = (t.session ≤ session) × (place ≡ (told t session).taken + 1) × (full ≡ false)
+MayOpen line t session place full (Next i) = (t.session ≤ session) × (place ≡ (told t session).taken + 1) × (full ≡ true) × (at (line session) place ≡ Some (Plain i))
+MayOpen line t session place full Deferred = (t.session ≤ session) × ((told t session).taken + 1 < place)
+
+-- what may happen at the near link, which is on this bearer
+abbrev pub MayAct : Bearer → State → Event → Type 0
+MayAct b s Put = leads b s.near.state s.far.state ≡ true
+MayAct b s (Number slot rest) = (s.near.state ≡ Up) × (s.near.waiting ≡ slot ∷ rest) × (length (s.near.line s.near.session) < s.near.acked + window)
+MayAct b s (Acknowledge places) = (s.near.state ≡ Up) × (s.near_record.session ≡ s.near.session) × (s.near.acked < places) × (places ≤ s.near_record.taken)
+MayAct b s Release = (s.near.state ≡ Held) × ((p f q : ℕ) (full : Bool) → at (slots s.far) p ≡ Some (Tunnel f q full) → p ≤ s.far.acked)
+MayAct b s (Record session) = (s.near_record.session < session) × (session ≤ s.near.session) × (s.near.state ≡ Held → session < s.near.session)
+MayAct b s (TakePlain index) = IsNext s (Plain index)
+MayAct b s (TakeTunnel session place full opening) = IsNext s (Tunnel session place full) × MayOpen s.far.line s.far_record session place full opening
+MayAct b s LinkUp = (s.near.state ≡ Reset) × (b ≡ First → s.far.state ≢ Up)
+MayAct b s Switch = (s.near.state ≡ Reset) × (b ≡ First) × (s.far.state ≡ Up)
+MayAct b s Failover = (s.near.state ≡ Up) × (s.far.state ≡ Up)
+
+-- what happens at the link of a bearer, where the state is seen from the first bearer's link
+abbrev pub happened : Bearer → State → Event → State
+happened b s event = seen b (acted (seen b s) event)
