@@ -21,20 +21,20 @@ up_reset e = cc
 -- ---- what the other link gets
 
 -- the run for what wasn't acknowledged, and the plain packets that waited
-abbrev lost : Sender → List Slot
+abbrev pub lost : Sender → List Slot
 lost x = originals x.session x.acked (x.line x.session) ++ plain_slots x.waiting
 
-abbrev lost_run : Sender → List Slot
+abbrev pub lost_run : Sender → List Slot
 lost_run x = originals x.session x.acked (x.line x.session)
 
-abbrev taking : Sender → Sender → Sender
+abbrev pub taking : Sender → Sender → Sender
 taking x y = with_waiting y (y.waiting ++ lost x)
 
 -- the slots of the other link, with what it gets behind them
-taken_slots : (x y : Sender) → slots y ++ lost x ≡ slots (taking x y)
+pub taken_slots : (x y : Sender) → slots y ++ lost x ≡ slots (taking x y)
 taken_slots x y = append_assoc (y.line y.session) y.waiting (lost x)
 
-plain_none : (is : Sender) → HasNone (plain_slots is.waiting)
+pub plain_none : (x : Sender) → HasNone (plain_slots x.waiting)
 plain_none x p f q full there = plain_slots-plain (plains x.waiting) p f q full there
 
 -- the plain packets of both, which wait on the link over which the flow went
@@ -49,7 +49,7 @@ taken_plains x y = plains-append y.waiting (lost x) ∙ ap (λ is. plains y.wait
     (plains-append (lost_run x) (plain_slots x.waiting) ∙ (ap (λ is. is ++ plains (plain_slots x.waiting)) (plains-run is_plain x.session x.acked (x.line x.session)) ∙ plains-plain_slots (plains x.waiting)))
 
 -- a place that isn't acknowledged is spoken of in the run
-spoken : (x : Sender) (q : ℕ) (z : Slot) → at (x.line x.session) q ≡ Some z → x.acked < q → at (lost_run x) (q - x.acked) ≡ Some (Tunnel x.session q (is_plain z))
+pub spoken : (x : Sender) (q : ℕ) (z : Slot) → at (x.line x.session) q ≡ Some z → x.acked < q → at (lost_run x) (q - x.acked) ≡ Some (Tunnel x.session q (is_plain z))
 spoken x q z there live = in_run is_plain x.session x.acked (x.line x.session) q z there live
 
 -- what stands in the run

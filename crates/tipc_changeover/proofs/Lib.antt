@@ -12,3 +12,6 @@ pub mod Staying
 pub mod Using
 pub mod Telling
 pub mod Weakening
+pub mod Distances
+pub mod DistancesFar
+pub mod Reaching

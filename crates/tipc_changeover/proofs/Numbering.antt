@@ -1,6 +1,6 @@
 -- The first slot that waits gets a number: the one event that makes a line longer.
 use Rattle.std.proofs.Common.{◌≡◌, ◌≢◌, ◌⊎◌, ℕ, ◌+◌, ◌-◌, ◌<◌, ◌≤◌, ◌==◌, Bool, true, false, List, [], ◌∷◌, ◌++◌, Some, length, refl, sym, ap, ◌∙◌, subst, inl, inr, arith, append_assoc}
-use Rattle.std.proofs.lemmas.Bool.{cases_eq, cases_lt, true≢false}
+use Rattle.std.proofs.lemmas.Bool.{cases_Bool, cases_eq, cases_lt, true≢false}
 use Rattle.std.proofs.lemmas.Bool.Decides.{nat_tests}
 use Rattle.std.proofs.lemmas.List.{append-nil, length_push}
 use Rattle.tipc_changeover.specs.Slots.{at, counted, leading, plains, Plain, Slot, Tunnel}
@@ -15,11 +15,11 @@ use Rattle.tipc_changeover.proofs.Keeping.{leads_one}
 
 -- ---- a longer line
 
-same_session : (line : ℕ → List Slot) (e : ℕ) (z : Slot) → extended line e z e ≡ line e ++ z ∷ []
+pub same_session : (line : ℕ → List Slot) (e : ℕ) (z : Slot) → extended line e z e ≡ line e ++ z ∷ []
 unfolding extended
 same_session line e z = let test : (e == e) ≡ true = grind (arith, nat_tests) in rw test refl
 
-other_session : (line : ℕ → List Slot) (e : ℕ) (z : Slot) (f : ℕ) → f ≢ e → extended line e z f ≡ line f
+pub other_session : (line : ℕ → List Slot) (e : ℕ) (z : Slot) (f : ℕ) → f ≢ e → extended line e z f ≡ line f
 unfolding extended
 other_session line e z f differ = let test : (f == e) ≡ false = grind (arith, nat_tests, differ) in rw test refl
 
@@ -64,7 +64,7 @@ no_shorter line e z f = elim (cases_eq f e) [
 ]
 
 -- the slots that have a number and those that wait are the same, taken together
-same_slots : (x : Sender) (z : Slot) (rest : List Slot) → x.waiting ≡ z ∷ rest → slots (with_number x z rest) ≡ slots x
+pub same_slots : (x : Sender) (z : Slot) (rest : List Slot) → x.waiting ≡ z ∷ rest → slots (with_number x z rest) ≡ slots x
 same_slots x z rest waits = ap (λ zs. zs ++ rest) (same_session x.line x.session z) ∙ (append_assoc (x.line x.session) (z ∷ []) rest ∙ ap (λ zs. x.line x.session ++ zs) (sym waits))
 
 -- ---- what the new slot is
@@ -82,13 +82,9 @@ record IsNumbered (b : Bearer) (x y : Sender) (z : Slot) (rest : List Slot) (m n
   other_waits : leads (other b) y.state x.state ≡ true → m' ≡ m
   more : (i : ℕ) → i ≤ m' → m < i → z ≡ Plain i
 
-leads_or : (a : Bool) → (a ≡ true) ⊎ (a ≡ false)
-leads_or true = inl refl
-leads_or false = inr refl
-
 number_is : (b : Bearer) (x y : Sender) (z : Slot) (rest : List Slot) (m n : ℕ) → Homes b x y m n → x.waiting ≡ z ∷ rest → m ≤ n → IsNumbered b x y z rest m n (m + plain_count z)
 number_is b x y (Plain j) rest m n h waits fits =
-    let has_flow : leads b x.state y.state ≡ true = elim (leads_or (leads b x.state y.state)) [
+    let has_flow : leads b x.state y.state ≡ true = elim (cases_Bool (leads b x.state y.state)) [
       | inl is ↦ is
       | inr not_leading ↦ absurd (
           let none : j ∷ plains rest ≡ [] = sym (plains-plain j rest) ∙ (ap plains (sym waits) ∙ h.none_waits not_leading) in
@@ -243,14 +239,10 @@ number_ready b x y r t z rest m n m' k h new = record {
   ];
 }
 
--- the slots of the present session, before those that wait
-line_of_slots : (x : Sender) (z : Slot) (rest : List Slot) → x.waiting ≡ z ∷ rest → extended x.line x.session z x.session ++ rest ≡ slots x
-line_of_slots x z rest waits = same_slots x z rest waits
-
 number_runs : (x : Sender) (t : Receiver) (z : Slot) (rest : List Slot) → Runs x t → x.waiting ≡ z ∷ rest → Runs (with_number x z rest) t
 number_runs x t z rest h waits = record {
   lines = λ e. elim (cases_eq e x.session) [
-    | inl same ↦ subst (λ n. RunsIn (extended x.line x.session z n) t) (sym same) (runs_front (extended x.line x.session z x.session) rest t (subst (λ zs. RunsIn zs t) (sym (line_of_slots x z rest waits)) h.now))
+    | inl same ↦ subst (λ n. RunsIn (extended x.line x.session z n) t) (sym same) (runs_front (extended x.line x.session z x.session) rest t (subst (λ zs. RunsIn zs t) (sym (same_slots x z rest waits)) h.now))
     | inr differ ↦ subst (λ zs. RunsIn zs t) (sym (other_session x.line x.session z e differ)) (h.lines e)
   ];
   now = subst (λ zs. RunsIn zs t) (sym (same_slots x z rest waits)) h.now;
@@ -259,7 +251,7 @@ number_runs x t z rest h waits = record {
 number_target : (x y : Sender) (z : Slot) (rest : List Slot) → Target x y → x.waiting ≡ z ∷ rest → Target (with_number x z rest) y
 number_target x y z rest h waits = record {
   lines = λ e. elim (cases_eq e x.session) [
-    | inl same ↦ subst (λ n. TargetIn (extended x.line x.session z n) y) (sym same) (target_front (extended x.line x.session z x.session) rest y (subst (λ zs. TargetIn zs y) (sym (line_of_slots x z rest waits)) h.now))
+    | inl same ↦ subst (λ n. TargetIn (extended x.line x.session z n) y) (sym same) (target_front (extended x.line x.session z x.session) rest y (subst (λ zs. TargetIn zs y) (sym (same_slots x z rest waits)) h.now))
     | inr differ ↦ subst (λ zs. TargetIn zs y) (sym (other_session x.line x.session z e differ)) (h.lines e)
   ];
   now = subst (λ zs. TargetIn zs y) (sym (same_slots x z rest waits)) h.now;
@@ -268,7 +260,7 @@ number_target x y z rest h waits = record {
 number_inner : (x : Sender) (line : ℕ → List Slot) (z : Slot) (rest : List Slot) → Inner x line → x.waiting ≡ z ∷ rest → Inner (with_number x z rest) line
 number_inner x line z rest h waits = record {
   lines = λ e. elim (cases_eq e x.session) [
-    | inl same ↦ subst (λ n. InnerIn (extended x.line x.session z n) n line) (sym same) (inner_front (extended x.line x.session z x.session) rest x.session line (subst (λ zs. InnerIn zs x.session line) (sym (line_of_slots x z rest waits)) h.now))
+    | inl same ↦ subst (λ n. InnerIn (extended x.line x.session z n) n line) (sym same) (inner_front (extended x.line x.session z x.session) rest x.session line (subst (λ zs. InnerIn zs x.session line) (sym (same_slots x z rest waits)) h.now))
     | inr differ ↦ subst (λ zs. InnerIn zs e line) (sym (other_session x.line x.session z e differ)) (h.lines e)
   ];
   now = subst (λ zs. InnerIn zs x.session line) (sym (same_slots x z rest waits)) h.now;

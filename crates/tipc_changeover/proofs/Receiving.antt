@@ -112,10 +112,10 @@ take_plain b s index h here =
 
 -- ---- a record is begun
 
-abbrev fresh : ℕ → Receiver
+abbrev pub fresh : ℕ → Receiver
 fresh e = record { session = e; taken = 0 }
 
-fresh_past : (r : Receiver) (e f q : ℕ) → r.session < e → Past r f q → Past (fresh e) f q
+pub fresh_past : (r : Receiver) (e f q : ℕ) → r.session < e → Past r f q → Past (fresh e) f q
 fresh_past r e f q less (inl later) = inl (omega arith)
 fresh_past r e f q less (inr here) = inl (let same = here.0 in omega arith)
 
@@ -162,7 +162,7 @@ pub told_none : (t : Receiver) (f : ℕ) → f ≤ t.session → told t f ≡ t
 unfolding told
 told_none t f low = let test : nat_lt t.session f ≡ false = grind (arith, nat_tests) in rw test refl
 
-told_fresh : (t : Receiver) (f : ℕ) → t.session < f → told t f ≡ fresh f
+pub told_fresh : (t : Receiver) (f : ℕ) → t.session < f → told t f ≡ fresh f
 unfolding told
 told_fresh t f less = let test : nat_lt t.session f ≡ true = grind (arith, nat_tests) in rw test refl
 

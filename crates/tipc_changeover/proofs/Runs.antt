@@ -69,7 +69,7 @@ in_run fullness e acked line q w there more =
 
 -- ---- lists put together
 
--- the tunnel packets of a list
+-- no slot of a list is a tunnel packet
 abbrev pub HasNone : List Slot → Type 0
 HasNone zs = (p f q : ℕ) (full : Bool) → at zs p ≡ Some (Tunnel f q full) → ⊥
 

@@ -17,11 +17,11 @@ one_plain : (i : ℕ) → HasNone (Plain i ∷ [])
 one_plain i p f q full there = let is = (at_only (Plain i) p (Tunnel f q full) there).1 in let wrong : ⊥ = cc in wrong
 
 -- the slots, with one that is put behind them
-put_slots : (x : Sender) (z : Slot) → slots x ++ z ∷ [] ≡ slots (with_waiting x (x.waiting ++ z ∷ []))
+pub put_slots : (x : Sender) (z : Slot) → slots x ++ z ∷ [] ≡ slots (with_waiting x (x.waiting ++ z ∷ []))
 put_slots x z = append_assoc (x.line x.session) x.waiting (z ∷ [])
 
 -- the tunnel packets are the ones there were
-put_tunnels : (x : Sender) (i p f q : ℕ) (full : Bool) → at (slots (with_waiting x (x.waiting ++ Plain i ∷ []))) p ≡ Some (Tunnel f q full) → at (slots x) p ≡ Some (Tunnel f q full)
+pub put_tunnels : (x : Sender) (i p f q : ℕ) (full : Bool) → at (slots (with_waiting x (x.waiting ++ Plain i ∷ []))) p ≡ Some (Tunnel f q full) → at (slots x) p ≡ Some (Tunnel f q full)
 put_tunnels x i p f q full there = elim (at_either (slots x) (Plain i ∷ []) p (Tunnel f q full) (ap (λ zs. at zs p) (put_slots x (Plain i)) ∙ there)) [
   | inl here ↦ here
   | inr behind ↦ absurd (one_plain i behind.place f q full behind.there)

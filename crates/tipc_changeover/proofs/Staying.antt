@@ -4,7 +4,7 @@ use Rattle.tipc_changeover.specs.Slots.{counted, Plain, Tunnel}
 use Rattle.tipc_changeover.specs.Links.{leads, seen, turned, Bearer, First, Reset, Second, State}
 use Rattle.tipc_changeover.specs.Events.{acted, happened, Acknowledge, Event, Failover, LinkUp, MayAct, Number, Put, Record, Release, Switch, TakePlain, TakeTunnel}
 use Rattle.tipc_changeover.specs.Sound.{Holds, Sound}
-use Rattle.tipc_changeover.specs.Laws.{after, at_begin, begun, no_record, unused, IsFront, IsReached}
+use Rattle.tipc_changeover.specs.Reached.{after, at_begin, begun, no_record, unused, IsFront, IsReached}
 use Rattle.tipc_changeover.proofs.Lists.{at_none, plains-nil}
 use Rattle.tipc_changeover.proofs.Numbers.{counted-append, counted-none}
 use Rattle.tipc_changeover.proofs.Records.{turn, turn_back}

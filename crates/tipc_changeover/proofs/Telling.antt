@@ -3,7 +3,7 @@ use Rattle.std.proofs.Common.{◌≡◌, true, false, List, [], ◌∷◌, refl,
 use Rattle.tipc_changeover.specs.Slots.{at, or_marker, plains, tunnelled, Plain, Tunnel}
 use Rattle.tipc_changeover.specs.Links.{slots, First, Held, Second, State, Up}
 use Rattle.tipc_changeover.specs.Events.{extended, happened, told}
-use Rattle.tipc_changeover.specs.Laws.{after, begun, IsReached}
+use Rattle.tipc_changeover.specs.Reached.{after, begun, IsReached}
 use Rattle.tipc_changeover.specs.Stories.{failover_story, told_from, MayTell, Step}
 
 pub reach : (s : State) (steps : List Step) → IsReached s → MayTell s steps → IsReached (told_from s steps)

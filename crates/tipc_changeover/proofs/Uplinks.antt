@@ -44,7 +44,7 @@ no_slots x r h down = ap (λ zs. zs ++ x.waiting) (h.down down).0 ∙ (h.down do
 reset_free : Reset ≢ Held
 reset_free e = cc
 
-reset_down : Reset ≢ Up
+pub reset_down : Reset ≢ Up
 reset_down e = cc
 
 pub up_free : Up ≢ Held

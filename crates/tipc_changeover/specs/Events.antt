@@ -76,13 +76,35 @@ taken_out (Next i) = i ∷ []
 taken_out Deferred = []
 
 abbrev pub with_ends : State → Sender → Sender → State
-with_ends s x y = record { near = x; near_record = s.near_record; far = y; far_record = s.far_record; put = s.put; numbered = s.numbered; delivered = s.delivered }
+with_ends s x y = record {
+  near = x;
+  near_record = s.near_record;
+  far = y;
+  far_record = s.far_record;
+  put = s.put;
+  numbered = s.numbered;
+  delivered = s.delivered;
+}
 
 abbrev pub with_records : State → Receiver → Receiver → List ℕ → State
-with_records s r t delivered = record { near = s.near; near_record = r; far = s.far; far_record = t; put = s.put; numbered = s.numbered; delivered = delivered }
+with_records s r t delivered = record {
+  near = s.near;
+  near_record = r;
+  far = s.far;
+  far_record = t;
+  put = s.put;
+  numbered = s.numbered;
+  delivered = delivered;
+}
 
 abbrev pub with_waiting : Sender → List Slot → Sender
-with_waiting x waiting = record { session = x.session; state = x.state; line = x.line; waiting = waiting; acked = x.acked }
+with_waiting x waiting = record {
+  session = x.session;
+  state = x.state;
+  line = x.line;
+  waiting = waiting;
+  acked = x.acked;
+}
 
 abbrev pub with_state : Sender → EndState → Sender
 with_state x state = record { session = x.session; state = state; line = x.line; waiting = x.waiting; acked = x.acked }
@@ -91,7 +113,13 @@ abbrev pub with_acked : Sender → ℕ → Sender
 with_acked x acked = record { session = x.session; state = x.state; line = x.line; waiting = x.waiting; acked = acked }
 
 abbrev pub with_number : Sender → Slot → List Slot → Sender
-with_number x slot rest = record { session = x.session; state = x.state; line = extended x.line x.session slot; waiting = rest; acked = x.acked }
+with_number x slot rest = record {
+  session = x.session;
+  state = x.state;
+  line = extended x.line x.session slot;
+  waiting = rest;
+  acked = x.acked;
+}
 
 abbrev pub gone_up : Sender → List Slot → Sender
 gone_up x waiting = record { session = x.session; state = Up; line = x.line; waiting = waiting; acked = x.acked }
@@ -100,16 +128,35 @@ abbrev pub gone_down : Sender → Sender
 gone_down x = record { session = x.session + 1; state = Held; line = x.line; waiting = []; acked = 0 }
 
 abbrev pub acted : State → Event → State
-acted s Put = record { near = with_waiting s.near (s.near.waiting ++ Plain (s.put + 1) ∷ []); near_record = s.near_record; far = s.far; far_record = s.far_record; put = s.put + 1; numbered = s.numbered; delivered = s.delivered }
-acted s (Number slot rest) = record { near = with_number s.near slot rest; near_record = s.near_record; far = s.far; far_record = s.far_record; put = s.put; numbered = s.numbered + plain_count slot; delivered = s.delivered }
+acted s Put = record {
+  near = with_waiting s.near (s.near.waiting ++ Plain (s.put + 1) ∷ []);
+  near_record = s.near_record;
+  far = s.far;
+  far_record = s.far_record;
+  put = s.put + 1;
+  numbered = s.numbered;
+  delivered = s.delivered;
+}
+acted s (Number slot rest) = record {
+  near = with_number s.near slot rest;
+  near_record = s.near_record;
+  far = s.far;
+  far_record = s.far_record;
+  put = s.put;
+  numbered = s.numbered + plain_count slot;
+  delivered = s.delivered;
+}
 acted s (Acknowledge places) = with_ends s (with_acked s.near places) s.far
 acted s Release = with_ends s (with_state s.near Reset) s.far
 acted s (Record session) = with_records s (record { session = session; taken = 0 }) s.far_record s.delivered
 acted s (TakePlain index) = with_records s (after_next s.near_record) s.far_record (s.delivered ++ index ∷ [])
-acted s (TakeTunnel session place full opening) = with_records s (after_next s.near_record) (opened (told s.far_record session) opening) (s.delivered ++ taken_out opening)
+acted s (TakeTunnel session place full opening) =
+    with_records s (after_next s.near_record) (opened (told s.far_record session) opening) (s.delivered ++ taken_out opening)
 acted s LinkUp = with_ends s (gone_up s.near s.near.waiting) s.far
-acted s Switch = with_ends s (gone_up s.near (duplicates s.far.session s.far.acked (s.far.line s.far.session) ++ s.far.waiting)) (with_waiting s.far [])
-acted s Failover = with_ends s (gone_down s.near) (with_waiting s.far (s.far.waiting ++ (originals s.near.session s.near.acked (s.near.line s.near.session) ++ plain_slots s.near.waiting)))
+acted s Switch =
+    with_ends s (gone_up s.near (duplicates s.far.session s.far.acked (s.far.line s.far.session) ++ s.far.waiting)) (with_waiting s.far [])
+acted s Failover =
+    with_ends s (gone_down s.near) (with_waiting s.far (s.far.waiting ++ (originals s.near.session s.near.acked (s.near.line s.near.session) ++ plain_slots s.near.waiting)))
 
 -- ---- when it may happen
 
@@ -122,18 +169,29 @@ abbrev pub MayOpen : (ℕ → List Slot) → Receiver → (session place : ℕ) 
 MayOpen line t session place full Late = session < t.session
 MayOpen line t session place full Old = (t.session ≤ session) × (place ≤ (told t session).taken)
 MayOpen line t session place full Passed = (t.session ≤ session) × (place ≡ (told t session).taken + 1) × (full ≡ false)
-MayOpen line t session place full (Next i) = (t.session ≤ session) × (place ≡ (told t session).taken + 1) × (full ≡ true) × (at (line session) place ≡ Some (Plain i))
+MayOpen line t session place full (Next i) =
+    (t.session ≤ session) × (place ≡ (told t session).taken + 1) × (full ≡ true) ×
+    (at (line session) place ≡ Some (Plain i))
 MayOpen line t session place full Deferred = (t.session ≤ session) × ((told t session).taken + 1 < place)
 
 -- what may happen at the near link, which is on this bearer
 abbrev pub MayAct : Bearer → State → Event → Type 0
 MayAct b s Put = leads b s.near.state s.far.state ≡ true
-MayAct b s (Number slot rest) = (s.near.state ≡ Up) × (s.near.waiting ≡ slot ∷ rest) × (length (s.near.line s.near.session) < s.near.acked + window)
-MayAct b s (Acknowledge places) = (s.near.state ≡ Up) × (s.near_record.session ≡ s.near.session) × (s.near.acked < places) × (places ≤ s.near_record.taken)
-MayAct b s Release = (s.near.state ≡ Held) × ((p f q : ℕ) (full : Bool) → at (slots s.far) p ≡ Some (Tunnel f q full) → p ≤ s.far.acked)
-MayAct b s (Record session) = (s.near_record.session < session) × (session ≤ s.near.session) × (s.near.state ≡ Held → session < s.near.session)
+MayAct b s (Number slot rest) =
+    (s.near.state ≡ Up) × (s.near.waiting ≡ slot ∷ rest) ×
+    (length (s.near.line s.near.session) < s.near.acked + window)
+MayAct b s (Acknowledge places) =
+    (s.near.state ≡ Up) × (s.near_record.session ≡ s.near.session) × (s.near.acked < places) ×
+    (places ≤ s.near_record.taken)
+MayAct b s Release =
+    (s.near.state ≡ Held) ×
+    ((p f q : ℕ) (full : Bool) → at (slots s.far) p ≡ Some (Tunnel f q full) → p ≤ s.far.acked)
+MayAct b s (Record session) =
+    (s.near_record.session < session) × (session ≤ s.near.session) ×
+    (s.near.state ≡ Held → session < s.near.session)
 MayAct b s (TakePlain index) = IsNext s (Plain index)
-MayAct b s (TakeTunnel session place full opening) = IsNext s (Tunnel session place full) × MayOpen s.far.line s.far_record session place full opening
+MayAct b s (TakeTunnel session place full opening) =
+    IsNext s (Tunnel session place full) × MayOpen s.far.line s.far_record session place full opening
 MayAct b s LinkUp = (s.near.state ≡ Reset) × (b ≡ First → s.far.state ≢ Up)
 MayAct b s Switch = (s.near.state ≡ Reset) × (b ≡ First) × (s.far.state ≡ Up)
 MayAct b s Failover = (s.near.state ≡ Up) × (s.far.state ≡ Up)

@@ -3,6 +3,8 @@ pub mod Links
 pub mod Events
 pub mod Parts
 pub mod Sound
+pub mod Distances
+pub mod Reached
 pub mod Laws
 pub mod Stories
 pub mod Weaker

@@ -47,7 +47,15 @@ pub record State : Type 0 where
 
 -- the same state, seen from the other link
 abbrev pub turned : State → State
-turned s = record { near = s.far; near_record = s.far_record; far = s.near; far_record = s.near_record; put = s.put; numbered = s.numbered; delivered = s.delivered }
+turned s = record {
+  near = s.far;
+  near_record = s.far_record;
+  far = s.near;
+  far_record = s.near_record;
+  put = s.put;
+  numbered = s.numbered;
+  delivered = s.delivered;
+}
 
 -- the state is kept as it is seen from the first bearer's link; this is how it is seen from a bearer's link, and back
 abbrev pub seen : Bearer → State → State

@@ -1,10 +1,12 @@
--- The parts of what always holds of two links and their tunnels. Each speaks of one link's end or lines, here x and r (its
--- record), and where it must of the other's, y and t; what holds of two links has each part both ways.
+-- The parts of what always holds of two links and their tunnels. Each speaks of one link, here by its bearer b, its end x (or
+-- its lines x) and its record r, and where it must of the other link, by its end y and its record t; what holds of two links
+-- has each part both ways. In all of them e and f are sessions, p and q are places, and i and j are plain packets.
 use Rattle.std.specs.Prelude.{◌≡◌, ◌≢◌, ℕ, ◌+◌, ◌-◌, ◌<◌, ◌≤◌, ◌⊎◌, Bool, true, false, List, [], Some, length}
 use Rattle.tipc_changeover.specs.Slots.{at, counted, plains, Plain, Slot, Tunnel}
 use Rattle.tipc_changeover.specs.Links.{front, leads, slots, Bearer, First, Held, Past, Receiver, Reset, Sender, Tunnels, TunnelsBefore, TunnelsLive, Up}
 
--- Ends: how a sender's end and its record stand.
+-- Ends: the record is of a session that has begun, and of an ended one where the end is held; just real places are taken, and
+-- just taken ones are acknowledged; an end that isn't up has nothing in its present session.
 pub record Ends (x : Sender) (r : Receiver) : Type 0 where
   pub session_begun : 1 ≤ x.session
   pub record_shown : r.session ≤ x.session
@@ -36,17 +38,23 @@ pub record Order (line : ℕ → List Slot) : Type 0 where
 
 -- Barrier: an earlier packet of another session was taken, or a tunnel packet for it stands before the later one.
 pub record Barrier (x y : ℕ → List Slot) (r t : Receiver) : Type 0 where
-  pub same_link : (e p f q i j : ℕ) → at (x e) p ≡ Some (Plain j) → at (x f) q ≡ Some (Plain i) → i < j → e ≢ f → Past r f q
-  pub other_link : (e p f q i j : ℕ) → at (x e) p ≡ Some (Plain j) → at (y f) q ≡ Some (Plain i) → i < j → Past t f q ⊎ TunnelsBefore (x e) p f q
+  pub same_link : (e p f q i j : ℕ) → at (x e) p ≡ Some (Plain j) → at (x f) q ≡ Some (Plain i) → i < j → e ≢ f →
+      Past r f q
+  pub other_link : (e p f q i j : ℕ) → at (x e) p ≡ Some (Plain j) → at (y f) q ≡ Some (Plain i) → i < j →
+      Past t f q ⊎ TunnelsBefore (x e) p f q
 
 -- Ready: the same for the packet that gets the next number, on the link over which the flow goes.
 pub record Ready (b : Bearer) (x y : Sender) (r t : Receiver) : Type 0 where
-  pub same_link : leads b x.state y.state ≡ true → (f q i : ℕ) → at (x.line f) q ≡ Some (Plain i) → x.session ≢ f → Past r f q
-  pub other_link : leads b x.state y.state ≡ true → (f q i : ℕ) → at (y.line f) q ≡ Some (Plain i) → Past t f q ⊎ Tunnels (front x) f q
+  pub same_link : leads b x.state y.state ≡ true → (f q i : ℕ) → at (x.line f) q ≡ Some (Plain i) → x.session ≢ f →
+      Past r f q
+  pub other_link : leads b x.state y.state ≡ true → (f q i : ℕ) → at (y.line f) q ≡ Some (Plain i) →
+      Past t f q ⊎ Tunnels (front x) f q
 
 -- Runs: each place before one that is tunnelled was taken, or is tunnelled earlier in the same list.
 abbrev pub RunsIn : List Slot → Receiver → Type 0
-RunsIn zs t = (p f q : ℕ) (full : Bool) (q' : ℕ) → at zs p ≡ Some (Tunnel f q full) → 1 ≤ q' → q' < q → Past t f q' ⊎ TunnelsBefore zs p f q'
+RunsIn zs t =
+    (p f q : ℕ) (full : Bool) (q' : ℕ) → at zs p ≡ Some (Tunnel f q full) → 1 ≤ q' → q' < q →
+    Past t f q' ⊎ TunnelsBefore zs p f q'
 
 pub record Runs (x : Sender) (t : Receiver) : Type 0 where
   pub lines : (e : ℕ) → RunsIn (x.line e) t
@@ -94,11 +102,13 @@ pub record Effect (line : ℕ → List Slot) (r t : Receiver) : Type 0 where
 -- present session, and stands on the first bearer.
 pub record Carrier (b : Bearer) (x y : Sender) : Type 0 where
   pub none : y.state ≡ Reset → (p f q : ℕ) (full : Bool) → at (slots x) p ≡ Some (Tunnel f q full) → p ≤ x.acked
-  pub present : y.state ≡ Up → (p f q : ℕ) (full : Bool) → at (slots x) p ≡ Some (Tunnel f q full) → x.acked < p → (f ≡ y.session) × (b ≡ First)
+  pub present : y.state ≡ Up → (p f q : ℕ) (full : Bool) → at (slots x) p ≡ Some (Tunnel f q full) → x.acked < p →
+      (f ≡ y.session) × (b ≡ First)
 
 -- Cover: each place of an ended session was taken, or the end is held, and an unacknowledged tunnel packet speaks of it.
 pub record Cover (x y : Sender) (r : Receiver) : Type 0 where
-  pub covered : (e q : ℕ) → e < x.session → 1 ≤ q → q ≤ length (x.line e) → Past r e q ⊎ ((x.session ≡ e + 1) × (x.state ≡ Held) × TunnelsLive y e q)
+  pub covered : (e q : ℕ) → e < x.session → 1 ≤ q → q ≤ length (x.line e) →
+      Past r e q ⊎ ((x.session ≡ e + 1) × (x.state ≡ Held) × TunnelsLive y e q)
 
 -- Delivered: of the plain packets with a number just the first so many were taken.
 pub record Delivered (line : ℕ → List Slot) (r : Receiver) (count : ℕ) : Type 0 where

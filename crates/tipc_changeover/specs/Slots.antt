@@ -46,7 +46,8 @@ counted before (suc count) = (before + 1) ∷ counted (before + 1) count
 -- tunnel packets for the slots that follow the first `after` places of a session
 unfoldable pub tunnelled : (fullness : Slot → Bool) (session after : ℕ) → List Slot → List Slot
 tunnelled fullness session after [] = []
-tunnelled fullness session after (z ∷ zs) = Tunnel session (after + 1) (fullness z) ∷ tunnelled fullness session (after + 1) zs
+tunnelled fullness session after (z ∷ zs) =
+    Tunnel session (after + 1) (fullness z) ∷ tunnelled fullness session (after + 1) zs
 
 -- an empty run has a marker, which tells the session alone
 unfoldable pub or_marker : (session : ℕ) → List Slot → List Slot

@@ -22,7 +22,8 @@ told_from s (step ∷ steps) = told_from (happened step.bearer s step.event) ste
 -- each may happen when it does
 abbrev pub MayTell : State → List Step → Type 0
 MayTell s [] = Unit {0}
-MayTell s (step ∷ steps) = MayAct step.bearer (seen step.bearer s) step.event × MayTell (happened step.bearer s step.event) steps
+MayTell s (step ∷ steps) =
+    MayAct step.bearer (seen step.bearer s) step.event × MayTell (happened step.bearer s step.event) steps
 
 -- Two packets go over the second link. The first one goes up, takes the flow, and duplicates both in tunnel packets; a third
 -- packet follows them there.

@@ -1,4 +1,4 @@
-use Rattle.tipc_changeover.specs.Laws.{at_begin, begun}
+use Rattle.tipc_changeover.specs.Reached.{at_begin, begun}
 use Rattle.tipc_changeover.specs.Stories.{failover_story}
 use Rattle.tipc_changeover.proofs.Telling.{failover_delivered, failover_may, failover_slots, reach}
 use Rattle.tipc_changeover.proofs.laws.a_failover_with_placeholders.Goals as goal
