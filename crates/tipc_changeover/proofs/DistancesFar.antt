@@ -4,7 +4,7 @@ use Rattle.std.proofs.lemmas.Bool.{cases_eq, cases_lt}
 use Rattle.std.proofs.lemmas.List.{length-append, length_push}
 use Rattle.tipc_changeover.specs.Slots.{at, is_plain, plain_slots, Plain, Slot, Tunnel}
 use Rattle.tipc_changeover.specs.Links.{leads, other, slots, turned, Bearer, EndState, First, Held, Past, Receiver, Reset, Second, Sender, State, Up}
-use Rattle.tipc_changeover.specs.Events.{acted, extended, gone_down, window, with_number, Failover, MayAct, Number}
+use Rattle.tipc_changeover.specs.Events.{acted, extended, lost_slots, gone_down, window, with_number, Failover, MayAct, Number}
 use Rattle.tipc_changeover.specs.Parts.{Ends}
 use Rattle.tipc_changeover.specs.Sound.{Sound}
 use Rattle.tipc_changeover.specs.Distances.{Bounded, HasPlaceholder}
@@ -13,7 +13,7 @@ use Rattle.tipc_changeover.proofs.Records.{other_other, turn}
 use Rattle.tipc_changeover.proofs.Runs.{marks, of_run, stands}
 use Rattle.tipc_changeover.proofs.Numbering.{other_session, same_session, same_slots}
 use Rattle.tipc_changeover.proofs.Uplinks.{ended_past, no_slots, not_held, up_free}
-use Rattle.tipc_changeover.proofs.Failing.{lost, lost_run, plain_none, spoken, taken_slots, taking}
+use Rattle.tipc_changeover.proofs.Failing.{lost_run, plain_none, spoken, taken_slots, taking}
 
 -- ---- nothing waits on the second link while both are up
 
@@ -139,7 +139,7 @@ new_placeholder b s p f q full h w may there low open_still is =
     record {
       where_it_stands = length (slots y) + (p - x.acked);
       there = ap (λ zs. at zs (length (slots y) + (p - x.acked))) (sym (taken_slots x y)) ∙
-          at_back (slots y) (lost x) (p - x.acked) (Tunnel x.session p false) (at_front (lost_run x) (plain_slots x.waiting) (p - x.acked) (Tunnel x.session p false) (spoken x p (Tunnel f q full) there live));
+          at_back (slots y) (lost_slots x) (p - x.acked) (Tunnel x.session p false) (at_front (lost_run x) (plain_slots x.waiting) (p - x.acked) (Tunnel x.session p false) (spoken x p (Tunnel f q full) there live));
       no_further = omega arith;
     }
 
@@ -172,7 +172,7 @@ failover_bounded b s h w may =
                 let stood = w.near.close.own_ended e p f q full (omega arith) there low open_still is in
                 record {
                   where_it_stands = stood.where_it_stands;
-                  there = ap (λ zs. at zs stood.where_it_stands) (sym (taken_slots x y)) ∙ at_front (slots y) (lost x) stood.where_it_stands (Tunnel e p false) stood.there;
+                  there = ap (λ zs. at zs stood.where_it_stands) (sym (taken_slots x y)) ∙ at_front (slots y) (lost_slots x) stood.where_it_stands (Tunnel e p false) stood.there;
                   no_further = stood.no_further;
                 })
           ];
@@ -186,7 +186,7 @@ failover_bounded b s h w may =
         window_kept = record { in_flight = w.far.window_kept.in_flight };
         near = record { recorded = w.far.near.recorded; unrecorded = w.far.near.unrecorded };
         close = record {
-          both_present = λ p f q full there low open_still is. absurd (elim (at_either (slots y) (lost x) p (Tunnel f q full) (ap (λ zs. at zs p) (taken_slots x y) ∙ there)) [
+          both_present = λ p f q full there low open_still is. absurd (elim (at_either (slots y) (lost_slots x) p (Tunnel f q full) (ap (λ zs. at zs p) (taken_slots x y) ∙ there)) [
             | inl here ↦ (let shown = (h.far.target.now p f q full here).shown in omega arith)
             | inr behind ↦ elim (at_either (lost_run x) (plain_slots x.waiting) behind.place (Tunnel f q full) behind.there) [
               | inl in_run ↦ elim (of_run is_plain x.session x.acked (x.line x.session) behind.place (Tunnel f q full) in_run) [
@@ -196,7 +196,7 @@ failover_bounded b s h w may =
               | inr plain ↦ plain_none x plain.place f q full plain.there
             ]
           ]);
-          target_ended = λ p f q full there low open_still ended. elim (at_either (slots y) (lost x) p (Tunnel f q full) (ap (λ zs. at zs p) (taken_slots x y) ∙ there)) [
+          target_ended = λ p f q full there low open_still ended. elim (at_either (slots y) (lost_slots x) p (Tunnel f q full) (ap (λ zs. at zs p) (taken_slots x y) ∙ there)) [
             | inl here ↦ elim (cases_eq f x.session) [
               | inl same ↦ (
                   let some = (at_within (slots y) p (Tunnel f q full) here).0 in

@@ -4,7 +4,7 @@ use Rattle.std.proofs.lemmas.Bool.{cases_eq, cases_lt, true≢false}
 use Rattle.std.proofs.lemmas.List.{append-nil, length-append}
 use Rattle.tipc_changeover.specs.Slots.{at, counted, is_plain, leading, originals, plain_slots, plains, Plain, Slot, Tunnel}
 use Rattle.tipc_changeover.specs.Links.{front, leads, other, slots, Bearer, First, Held, Past, Receiver, Reset, Second, Sender, State, Tunnels, Up}
-use Rattle.tipc_changeover.specs.Events.{acted, gone_down, with_waiting, Failover, MayAct}
+use Rattle.tipc_changeover.specs.Events.{lost_slots, acted, gone_down, with_waiting, Failover, MayAct}
 use Rattle.tipc_changeover.specs.Parts.{HoldsPlain, HoldsTunnel, Homes, InnerIn, IsTarget, RunsIn, TargetIn}
 use Rattle.tipc_changeover.specs.Sound.{Sound}
 use Rattle.tipc_changeover.proofs.Lists.{at_back, at_either, at_front, at_none, at_there, at_within, leading-more, leading-none, plain_slots-plain, plains-append, plains-nil, plains-plain_slots}
@@ -20,19 +20,16 @@ up_reset e = cc
 
 -- ---- what the other link gets
 
--- the run for what wasn't acknowledged, and the plain packets that waited
-abbrev pub lost : Sender → List Slot
-lost x = originals x.session x.acked (x.line x.session) ++ plain_slots x.waiting
-
+-- the run for what wasn't acknowledged
 abbrev pub lost_run : Sender → List Slot
 lost_run x = originals x.session x.acked (x.line x.session)
 
 abbrev pub taking : Sender → Sender → Sender
-taking x y = with_waiting y (y.waiting ++ lost x)
+taking x y = with_waiting y (y.waiting ++ lost_slots x)
 
 -- the slots of the other link, with what it gets behind them
-pub taken_slots : (x y : Sender) → slots y ++ lost x ≡ slots (taking x y)
-taken_slots x y = append_assoc (y.line y.session) y.waiting (lost x)
+pub taken_slots : (x y : Sender) → slots y ++ lost_slots x ≡ slots (taking x y)
+taken_slots x y = append_assoc (y.line y.session) y.waiting (lost_slots x)
 
 pub plain_none : (x : Sender) → HasNone (plain_slots x.waiting)
 plain_none x p f q full there = plain_slots-plain (plains x.waiting) p f q full there
@@ -44,8 +41,8 @@ waits_joined First x y m n x_up y_up h other_h =
 waits_joined Second x y m n x_up y_up h other_h =
     ap (λ is. plains y.waiting ++ is) (h.none_waits (ap (λ z. leads Second z y.state) x_up ∙ ap (λ z. leads Second Up z) y_up)) ∙ (append-nil (plains y.waiting) ∙ other_h.waits (ap (λ z. leads First z x.state) y_up))
 
-taken_plains : (x y : Sender) → plains (y.waiting ++ lost x) ≡ plains y.waiting ++ plains x.waiting
-taken_plains x y = plains-append y.waiting (lost x) ∙ ap (λ is. plains y.waiting ++ is)
+taken_plains : (x y : Sender) → plains (y.waiting ++ lost_slots x) ≡ plains y.waiting ++ plains x.waiting
+taken_plains x y = plains-append y.waiting (lost_slots x) ∙ ap (λ is. plains y.waiting ++ is)
     (plains-append (lost_run x) (plain_slots x.waiting) ∙ (ap (λ is. is ++ plains (plain_slots x.waiting)) (plains-run is_plain x.session x.acked (x.line x.session)) ∙ plains-plain_slots (plains x.waiting)))
 
 -- a place that isn't acknowledged is spoken of in the run
@@ -94,16 +91,16 @@ run_inner b s h may = record {
 -- what the other link's front gets
 front_lost : (x y : Sender) (p : ℕ) (z : Slot) → plains y.waiting ≡ [] → at (lost_run x) p ≡ Some z → at (front (taking x y)) (length (slots y) + p) ≡ Some z
 front_lost x y p z none there =
-    let ahead : leading (y.waiting ++ lost x) ≡ y.waiting ++ (lost_run x ++ leading (plain_slots x.waiting)) =
-    leading-none y.waiting (lost x) none ∙ ap (λ zs. y.waiting ++ zs) (leading-none (lost_run x) (plain_slots x.waiting) (plains-run is_plain x.session x.acked (x.line x.session))) in
+    let ahead : leading (y.waiting ++ lost_slots x) ≡ y.waiting ++ (lost_run x ++ leading (plain_slots x.waiting)) =
+    leading-none y.waiting (lost_slots x) none ∙ ap (λ zs. y.waiting ++ zs) (leading-none (lost_run x) (plain_slots x.waiting) (plains-run is_plain x.session x.acked (x.line x.session))) in
     let whole : slots y ++ (lost_run x ++ leading (plain_slots x.waiting)) ≡ front (taking x y) =
     append_assoc (y.line y.session) y.waiting (lost_run x ++ leading (plain_slots x.waiting)) ∙ ap (λ zs. y.line y.session ++ zs) (sym ahead) in
     ap (λ zs. at zs (length (slots y) + p)) (sym whole) ∙ at_back (slots y) (lost_run x ++ leading (plain_slots x.waiting)) p z (at_front (lost_run x) (leading (plain_slots x.waiting)) p z there)
 
 front_kept : (x y : Sender) (p : ℕ) (z : Slot) → at (front y) p ≡ Some z → at (front (taking x y)) p ≡ Some z
 front_kept x y p z there = elim (at_either (y.line y.session) (leading y.waiting) p z there) [
-  | inl here ↦ at_front (y.line y.session) (leading (y.waiting ++ lost x)) p z here
-  | inr behind ↦ ap (λ n. at (front (taking x y)) n) behind.is ∙ at_back (y.line y.session) (leading (y.waiting ++ lost x)) behind.place z (leading-more y.waiting (lost x) behind.place z behind.there)
+  | inl here ↦ at_front (y.line y.session) (leading (y.waiting ++ lost_slots x)) p z here
+  | inr behind ↦ ap (λ n. at (front (taking x y)) n) behind.is ∙ at_back (y.line y.session) (leading (y.waiting ++ lost_slots x)) behind.place z (leading-more y.waiting (lost_slots x) behind.place z behind.there)
 ]
 
 -- each plain packet of the link that went down is past, or the other link speaks of it before what waits there
@@ -134,7 +131,7 @@ down_target : (x y : Sender) (r : Receiver) (f q : ℕ) → IsTarget x f q → I
 down_target x y r f q w = record { begun = w.begun; shown = (let shown = w.shown in omega arith); up = λ same. absurd (let shown = w.shown in omega arith); numbered = w.numbered }
 
 -- the run and the plain packets behind it
-behind_lost : (b : Bearer) (s : State) → Sound b s → MayAct b s Failover → InnerBehind (length (slots s.far)) (lost s.near) s.far.session s.near.line
+behind_lost : (b : Bearer) (s : State) → Sound b s → MayAct b s Failover → InnerBehind (length (slots s.far)) (lost_slots s.near) s.far.session s.near.line
 behind_lost b s h may =
     let run_part = run_inner b s h may in
     record {
@@ -198,7 +195,7 @@ failover b s h may =
                     where_it_stands = length (slots y) + (q - x.acked);
                     full = is_plain slot.0;
                     there = ap (λ zs. at zs (length (slots y) + (q - x.acked))) (sym (taken_slots x y)) ∙
-                        (at_back (slots y) (lost x) (q - x.acked) (Tunnel x.session q (is_plain slot.0))
+                        (at_back (slots y) (lost_slots x) (q - x.acked) (Tunnel x.session q (is_plain slot.0))
                         (at_front (lost_run x) (plain_slots x.waiting) (q - x.acked) (Tunnel x.session q (is_plain slot.0)) (spoken x q slot.0 slot.1 live)) ∙
                         ap (λ n. Some (Tunnel n q (is_plain slot.0))) same);
                     unacknowledged = omega arith;
@@ -229,14 +226,14 @@ failover b s h may =
         same_link = λ _ f q i there differ. ended_past y x t f q (Plain i) h.far.cover (not_held y_up up_free) (is_ended y t f q (Plain i) h.far.ends differ there) there;
         other_link = λ _ f q i there. ready_for b s h may f q i there;
       };
-      runs = subst (λ zs. RunsIn zs r) (taken_slots x y) (runs_append (slots y) (lost x) r h.far.runs.now
+      runs = subst (λ zs. RunsIn zs r) (taken_slots x y) (runs_append (slots y) (lost_slots x) r h.far.runs.now
           (runs_append (lost_run x) (plain_slots x.waiting) r (runs_of_run is_plain x.session x.acked (x.line x.session) r h.near.ends.acked_past) (runs_of_none (plain_slots x.waiting) r (plain_none x))));
       target_lines = λ e. retarget (y.line e) x (gone_down x) (h.far.target.lines e) (down_target x y r);
-      target = subst (λ zs. TargetIn zs (gone_down x)) (taken_slots x y) (target_append (slots y) (lost x) (gone_down x) (retarget (slots y) x (gone_down x) h.far.target.now (down_target x y r))
+      target = subst (λ zs. TargetIn zs (gone_down x)) (taken_slots x y) (target_append (slots y) (lost_slots x) (gone_down x) (retarget (slots y) x (gone_down x) h.far.target.now (down_target x y r))
           (target_append (lost_run x) (plain_slots x.waiting) (gone_down x)
           (target_of_run is_plain x.session x.acked (x.line x.session) (gone_down x) (λ q within. record { begun = h.near.ends.session_begun; shown = omega arith; up = λ same. absurd (omega arith); numbered = within }))
           (target_of_none (plain_slots x.waiting) (gone_down x) (plain_none x))));
-      inner = subst (λ zs. InnerIn zs y.session x.line) (taken_slots x y) (inner_append (slots y) (lost x) y.session x.line h.far.inner.now (behind_lost b s h may));
+      inner = subst (λ zs. InnerIn zs y.session x.line) (taken_slots x y) (inner_append (slots y) (lost_slots x) y.session x.line h.far.inner.now (behind_lost b s h may));
       carrier = record {
         none = λ (is : Held ≡ Reset). absurd (let wrong : ⊥ = cc in wrong);
         present = λ up. absurd (held_down up);

@@ -1,5 +1,6 @@
--- What may happen in one direction between two nodes with two links, and what it changes. Each event is at the near link. Loss,
--- repeats and late arrivals change nothing: only the packet at the next wanted place of a record is taken.
+-- What may happen in one direction between two nodes with two links, and what it changes. Each event is at the near link.
+-- Loss, repeats and late arrivals change nothing: a frame may arrive at any time and any number of times, and only the one at
+-- the next place of its link's record is taken. A plain packet that comes early and is put by is taken when it is the next one.
 use Rattle.std.specs.Prelude.{◌≡◌, ◌≢◌, ℕ, ◌+◌, ◌<◌, ◌≤◌, ◌==◌, nat_lt, if◌then◌else◌, Bool, true, false, List, [], ◌∷◌, ◌++◌, Some, length}
 use Rattle.tipc_changeover.specs.Slots.{at, duplicates, originals, plain_slots, Plain, Slot, Tunnel}
 use Rattle.tipc_changeover.specs.Links.{leads, seen, slots, Bearer, EndState, First, Held, Receiver, Reset, Sender, State, Up}
@@ -127,6 +128,14 @@ gone_up x waiting = record { session = x.session; state = Up; line = x.line; wai
 abbrev pub gone_down : Sender → Sender
 gone_down x = record { session = x.session + 1; state = Held; line = x.line; waiting = []; acked = 0 }
 
+-- what takes the flow over sends of the other link: duplicates of what isn't acknowledged, then what waited
+abbrev pub switched_slots : Sender → List Slot
+switched_slots y = duplicates y.session y.acked (y.line y.session) ++ y.waiting
+
+-- what the other link sends of one that goes down: originals of what isn't acknowledged, then the plain packets that waited
+abbrev pub lost_slots : Sender → List Slot
+lost_slots x = originals x.session x.acked (x.line x.session) ++ plain_slots x.waiting
+
 abbrev pub acted : State → Event → State
 acted s Put = record {
   near = with_waiting s.near (s.near.waiting ++ Plain (s.put + 1) ∷ []);
@@ -153,10 +162,8 @@ acted s (TakePlain index) = with_records s (after_next s.near_record) s.far_reco
 acted s (TakeTunnel session place full opening) =
     with_records s (after_next s.near_record) (opened (told s.far_record session) opening) (s.delivered ++ taken_out opening)
 acted s LinkUp = with_ends s (gone_up s.near s.near.waiting) s.far
-acted s Switch =
-    with_ends s (gone_up s.near (duplicates s.far.session s.far.acked (s.far.line s.far.session) ++ s.far.waiting)) (with_waiting s.far [])
-acted s Failover =
-    with_ends s (gone_down s.near) (with_waiting s.far (s.far.waiting ++ (originals s.near.session s.near.acked (s.near.line s.near.session) ++ plain_slots s.near.waiting)))
+acted s Switch = with_ends s (gone_up s.near (switched_slots s.far)) (with_waiting s.far [])
+acted s Failover = with_ends s (gone_down s.near) (with_waiting s.far (s.far.waiting ++ lost_slots s.near))
 
 -- ---- when it may happen
 
