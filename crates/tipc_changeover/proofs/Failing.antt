@@ -15,9 +15,6 @@ use Rattle.tipc_changeover.proofs.Uplinks.{ended_past, is_ended, not_held, up_fr
 held_down : Held ≢ Up
 held_down e = cc
 
-up_reset : Up ≢ Reset
-up_reset e = cc
-
 -- ---- what the other link gets
 
 -- the run for what wasn't acknowledged

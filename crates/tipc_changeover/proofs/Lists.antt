@@ -162,10 +162,6 @@ leading-none [] ws none = refl
 leading-none (Plain j ∷ zs) ws none = absurd (let wrong : ⊥ = cc in wrong)
 leading-none (Tunnel f q full ∷ zs) ws none = ap (λ rest. Tunnel f q full ∷ rest) (leading-none zs ws none)
 
-pub leading-nil : leading [] ≡ []
-unfolding leading
-leading-nil = refl
-
 pub leading-tunnel : (f q : ℕ) (full : Bool) (zs : List Slot) → leading (Tunnel f q full ∷ zs) ≡ Tunnel f q full ∷ leading zs
 unfolding leading
 leading-tunnel f q full zs = refl

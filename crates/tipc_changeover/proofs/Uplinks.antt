@@ -41,7 +41,7 @@ down_is_ended x r f q z h down there = elim (cases_eq x.session f) [
 pub no_slots : (x : Sender) (r : Receiver) → Ends x r → x.state ≢ Up → slots x ≡ []
 no_slots x r h down = ap (λ zs. zs ++ x.waiting) (h.down down).0 ∙ (h.down down).1
 
-reset_free : Reset ≢ Held
+pub reset_free : Reset ≢ Held
 reset_free e = cc
 
 pub reset_down : Reset ≢ Up

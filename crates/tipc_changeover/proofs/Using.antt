@@ -9,7 +9,7 @@ use Rattle.tipc_changeover.specs.Events.{told, Deferred, IsNext, Late, MayOpen, 
 use Rattle.tipc_changeover.specs.Parts.{HoldsPlain, HoldsTunnel}
 use Rattle.tipc_changeover.specs.Sound.{Sound}
 use Rattle.tipc_changeover.proofs.Receiving.{never_deferred}
-use Rattle.tipc_changeover.proofs.Uplinks.{down_is_ended, ended_past, not_held}
+use Rattle.tipc_changeover.proofs.Uplinks.{down_is_ended, ended_past, not_held, reset_down, reset_free}
 
 -- ---- the packets that were taken
 
@@ -36,12 +36,6 @@ taken_is_delivered b s e p i h there past = subst (λ is. Contains is i) (sym h.
 
 pub ended_session_past : (b : Bearer) (s : State) (e p : ℕ) (z : Slot) → Sound b s → s.near.state ≢ Held → e < s.near.session → at (s.near.line e) p ≡ Some z → Past s.near_record e p
 ended_session_past b s e p z h free ended there = ended_past s.near s.far s.near_record e p z h.near.cover free ended there
-
-reset_down : Reset ≢ Up
-reset_down e = cc
-
-reset_free : Reset ≢ Held
-reset_free e = cc
 
 pub reset_delivered : (b : Bearer) (s : State) (e p i : ℕ) → Sound b s → s.near.state ≡ Reset → at (s.near.line e) p ≡ Some (Plain i) → Contains s.delivered i
 reset_delivered b s e p i h reset there =
