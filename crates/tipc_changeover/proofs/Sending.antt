@@ -1,4 +1,5 @@
--- What the sender does with its ends as they are: it puts a packet, hears an acknowledgement, and holds an end no longer.
+-- What the sender does with its ends as they are: it puts a packet, hears an acknowledgement, and holds an end no
+-- longer.
 use Rattle.std.proofs.Common.{◌≡◌, ◌≢◌, ℕ, ◌+◌, ◌-◌, ◌<◌, ◌≤◌, Bool, true, false, [], ◌∷◌, ◌++◌, Some, length, sym, ap, ◌∙◌, subst, inl, inr, arith, append_assoc}
 use Rattle.std.proofs.lemmas.Bool.{cases_lt, true≢false}
 use Rattle.tipc_changeover.specs.Slots.{at, counted, plains, Plain, Slot, Tunnel}

@@ -1,5 +1,5 @@
--- What users of the law need beside it: what a tunnel packet may hold and leave out, that it is never deferred, and that an end
--- that is reset has nothing left.
+-- What users of the law need beside it: what a tunnel packet may hold and leave out, that it is never deferred, and
+-- that an end that is reset has nothing left.
 use Rattle.std.proofs.Common.{◌≡◌, ◌≢◌, ℕ, zero, suc, ◌+◌, ◌-◌, ◌<◌, ◌≤◌, Bool, true, false, Some, length, get_or, refl, sym, ap, ◌∙◌, subst, inl, inr, arith}
 use Rattle.std.specs.List.{Contains}
 use Rattle.std.proofs.lemmas.Bool.{cases_lt}

@@ -1,6 +1,6 @@
--- How far apart places may lie: what lets links that send the lower 16 bits of a place tell which place is meant. Each part
--- speaks of one link's end x and its record r, and where it must of the other's end y; what holds of two links has each part
--- both ways.
+-- How far apart places may lie: what lets links that send the lower 16 bits of a place tell which place is meant.
+-- Each part speaks of one link's end x and its record r, and where it must of the other's end y; what holds of two
+-- links has each part both ways.
 use Rattle.std.specs.Prelude.{◌≡◌, ℕ, ◌+◌, ◌<◌, ◌≤◌, Bool, false, List, Some, length}
 use Rattle.tipc_changeover.specs.Slots.{at, Slot, Tunnel}
 use Rattle.tipc_changeover.specs.Links.{slots, Past, Receiver, Sender, State, Up}
@@ -21,9 +21,10 @@ pub record HasPlaceholder (zs : List Slot) (session place most : ℕ) : Type 0 w
   pub there : at zs where_it_stands ≡ Some (Tunnel session place false)
   pub no_further : where_it_stands ≤ most
 
--- Close: of a tunnel packet that isn't past, the place of which it speaks lies less than a window behind those that have a
--- number in that session. Where its session and the one of which it speaks are both present, it lies so by its own place; where
--- just the other is present, a placeholder for the tunnel packet stands there, no further than a window behind.
+-- Close: of a tunnel packet that isn't past, the place of which it speaks lies less than a window behind those that
+-- have a number in that session. Where its session and the one of which it speaks are both present, it lies so by its
+-- own place; where just the other is present, a placeholder for the tunnel packet stands there, no further than a
+-- window behind.
 pub record Close (x y : Sender) (r : Receiver) : Type 0 where
   pub both_present : (p f q : ℕ) (full : Bool) → at (slots x) p ≡ Some (Tunnel f q full) → 1 ≤ q →
       (Past r x.session p → ⊥) → f ≡ y.session → length (y.line f) + p ≤ q + window

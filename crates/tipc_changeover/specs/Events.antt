@@ -1,6 +1,7 @@
--- What may happen in one direction between two nodes with two links, and what it changes. Each event is at the near link.
--- Loss, repeats and late arrivals change nothing: a frame may arrive at any time and any number of times, and only the one at
--- the next place of its link's record is taken. A plain packet that comes early and is put by is taken when it is the next one.
+-- What may happen in one direction between two nodes with two links, and what it changes. Each event is at the near
+-- link. Loss, repeats and late arrivals change nothing: a frame may arrive at any time and any number of times, and
+-- only the one at the next place of its link's record is taken. A plain packet that comes early and is put by is
+-- taken when it is the next one.
 use Rattle.std.specs.Prelude.{◌≡◌, ◌≢◌, ℕ, ◌+◌, ◌<◌, ◌≤◌, ◌==◌, nat_lt, if◌then◌else◌, Bool, true, false, List, [], ◌∷◌, ◌++◌, Some, length}
 use Rattle.tipc_changeover.specs.Slots.{at, duplicates, originals, plain_slots, Plain, Slot, Tunnel}
 use Rattle.tipc_changeover.specs.Links.{leads, seen, slots, Bearer, EndState, First, Held, Receiver, Reset, Sender, State, Up}
@@ -35,7 +36,8 @@ pub data Event : Type 0 where
   TakeTunnel : (session place : ℕ) (full : Bool) (opening : Opening) → Event
   -- the link goes up, and takes nothing over
   LinkUp : Event
-  -- the first bearer's link goes up while the second one's is up: it takes the flow, and duplicates what isn't acknowledged
+  -- the first bearer's link goes up while the second one's is up: it takes the flow, and duplicates what isn't
+  -- acknowledged
   Switch : Event
   -- the link goes down while the other is up: what isn't acknowledged goes over the other, and the end is held
   Failover : Event
@@ -132,7 +134,8 @@ gone_down x = record { session = x.session + 1; state = Held; line = x.line; wai
 abbrev pub switched_slots : Sender → List Slot
 switched_slots y = duplicates y.session y.acked (y.line y.session) ++ y.waiting
 
--- what the other link sends of one that goes down: originals of what isn't acknowledged, then the plain packets that waited
+-- what the other link sends of one that goes down: originals of what isn't acknowledged, then the plain packets that
+-- waited
 abbrev pub lost_slots : Sender → List Slot
 lost_slots x = originals x.session x.acked (x.line x.session) ++ plain_slots x.waiting
 
@@ -175,7 +178,8 @@ IsNext s slot = at (s.near.line s.near_record.session) (s.near_record.taken + 1)
 abbrev pub MayOpen : (ℕ → List Slot) → Receiver → (session place : ℕ) → Bool → Opening → Type 0
 MayOpen line t session place full Late = session < t.session
 MayOpen line t session place full Old = (t.session ≤ session) × (place ≤ (told t session).taken)
-MayOpen line t session place full Passed = (t.session ≤ session) × (place ≡ (told t session).taken + 1) × (full ≡ false)
+MayOpen line t session place full Passed =
+    (t.session ≤ session) × (place ≡ (told t session).taken + 1) × (full ≡ false)
 MayOpen line t session place full (Next i) =
     (t.session ≤ session) × (place ≡ (told t session).taken + 1) × (full ≡ true) ×
     (at (line session) place ≡ Some (Plain i))

@@ -1,4 +1,5 @@
--- The laws of two links and their tunnels. Each is promised by a public function of the crate.
+-- The laws of two links and their tunnels. Each is promised by a public function of the crate. b is the bearer of the
+-- near link; e and f are sessions, p and q are places, and i is a plain packet.
 use Rattle.std.specs.Prelude.{◌≡◌, ◌≢◌, ℕ, ◌+◌, ◌<◌, ◌≤◌, Bool, true, false, Some, Contains}
 use Rattle.tipc_changeover.specs.Slots.{at, Plain, Slot, Tunnel}
 use Rattle.tipc_changeover.specs.Links.{seen, slots, Bearer, First, Held, Past, Reset, State}
@@ -97,7 +98,8 @@ FramesAreNear =
     (b : Bearer) (s : State) (p : ℕ) (z : Slot) → Bounded s → at (s.near.line s.near_record.session) p ≡ Some z →
     p ≤ s.near_record.taken + window
 
--- the place of which the tunnel packet at the next place speaks is less than a window behind what was taken of its session
+-- the place of which the tunnel packet at the next place speaks is less than a window behind what was taken of its
+-- session
 abbrev pub TunnelsAreNear : Type 0
 TunnelsAreNear =
     (b : Bearer) (s : State) (f q : ℕ) (full : Bool) → Sound b s → Bounded s → IsNext s (Tunnel f q full) → 1 ≤ q →

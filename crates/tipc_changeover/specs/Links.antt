@@ -10,8 +10,8 @@ abbrev pub other : Bearer → Bearer
 other First = Second
 other Second = First
 
--- The sender's end: it is reset and may go up, it is up, or it went down while the other link was up and may not go up before
--- the other link has brought what was lost.
+-- The sender's end: it is reset and may go up, it is up, or it went down while the other link was up and may not go
+-- up before the other link has brought what was lost.
 pub data EndState : Type 0 where
   Reset : EndState
   Up : EndState
@@ -34,8 +34,8 @@ pub record Receiver : Type 0 where
   pub session : ℕ
   pub taken : ℕ
 
--- Both links, seen from one of them, which is the near one; how many plain packets were put, how many of them have a number,
--- and which were taken, in the order of taking.
+-- Both links, seen from one of them, which is the near one; how many plain packets were put, how many of them have a
+-- number, and which were taken, in the order of taking.
 pub record State : Type 0 where
   pub near : Sender
   pub near_record : Receiver

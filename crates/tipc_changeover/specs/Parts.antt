@@ -1,12 +1,13 @@
--- The parts of what always holds of two links and their tunnels. Each speaks of one link, here by its bearer b, its end x (or
--- its lines x) and its record r, and where it must of the other link, by its end y and its record t; what holds of two links
--- has each part both ways. In all of them e and f are sessions, p and q are places, and i and j are plain packets.
+-- The parts of what always holds of two links and their tunnels. Each speaks of one link, here by its bearer b, its
+-- end x (or its lines x) and its record r, and where it must of the other link, by its end y and its record t; what
+-- holds of two links has each part both ways. In all of them e and f are sessions, p and q are places, and i and j
+-- are plain packets.
 use Rattle.std.specs.Prelude.{◌≡◌, ◌≢◌, ℕ, ◌+◌, ◌-◌, ◌<◌, ◌≤◌, ◌⊎◌, Bool, true, false, List, [], Some, length}
 use Rattle.tipc_changeover.specs.Slots.{at, counted, plains, Plain, Slot, Tunnel}
 use Rattle.tipc_changeover.specs.Links.{front, leads, slots, Bearer, First, Held, Past, Receiver, Reset, Sender, Tunnels, TunnelsBefore, TunnelsLive, Up}
 
--- Ends: the record is of a session that has begun, and of an ended one where the end is held; just real places are taken, and
--- just taken ones are acknowledged; an end that isn't up has nothing in its present session.
+-- Ends: the record is of a session that has begun, and of an ended one where the end is held; just real places are
+-- taken, and just taken ones are acknowledged; an end that isn't up has nothing in its present session.
 pub record Ends (x : Sender) (r : Receiver) : Type 0 where
   pub session_begun : 1 ≤ x.session
   pub record_shown : r.session ≤ x.session
@@ -17,8 +18,8 @@ pub record Ends (x : Sender) (r : Receiver) : Type 0 where
   pub acked : x.acked ≤ length (x.line x.session)
   pub acked_past : (p : ℕ) → 1 ≤ p → p ≤ x.acked → Past r x.session p
 
--- Homes, of the plain packets that have a number: each stands at one place, and those that wait follow them in order, on the
--- link over which the flow goes.
+-- Homes, of the plain packets that have a number: each stands at one place, and those that wait follow them in order,
+-- on the link over which the flow goes.
 pub record Homes (b : Bearer) (x y : Sender) (numbered put : ℕ) : Type 0 where
   pub within : (e p i : ℕ) → at (x.line e) p ≡ Some (Plain i) → (1 ≤ i) × (i ≤ numbered)
   pub once : (e p f q i : ℕ) → at (x.line e) p ≡ Some (Plain i) → at (x.line f) q ≡ Some (Plain i) → (e ≡ f) × (p ≡ q)
@@ -60,7 +61,8 @@ pub record Runs (x : Sender) (t : Receiver) : Type 0 where
   pub lines : (e : ℕ) → RunsIn (x.line e) t
   pub now : RunsIn (slots x) t
 
--- Target: a tunnel packet speaks of a place that has a number, of an ended session or of the present one of a link that is up.
+-- Target: a tunnel packet speaks of a place that has a number, of an ended session or of the present one of a link
+-- that is up.
 pub record IsTarget (y : Sender) (f q : ℕ) : Type 0 where
   pub begun : 1 ≤ f
   pub shown : f ≤ y.session
@@ -74,8 +76,8 @@ pub record Target (x y : Sender) : Type 0 where
   pub lines : (e : ℕ) → TargetIn (x.line e) y
   pub now : TargetIn (slots x) y
 
--- Inner: a full tunnel packet holds a plain packet, but for the marker of an empty run; where a placeholder stands for a place,
--- there is a tunnel packet, which speaks of an earlier place of the placeholder's own session.
+-- Inner: a full tunnel packet holds a plain packet, but for the marker of an empty run; where a placeholder stands
+-- for a place, there is a tunnel packet, which speaks of an earlier place of the placeholder's own session.
 pub record HoldsPlain (line : ℕ → List Slot) (f q : ℕ) : Type 0 where
   pub index : ℕ
   pub there : at (line f) q ≡ Some (Plain index)
@@ -98,14 +100,15 @@ pub record Inner (x : Sender) (line : ℕ → List Slot) : Type 0 where
 pub record Effect (line : ℕ → List Slot) (r t : Receiver) : Type 0 where
   pub done : (e p f q : ℕ) (full : Bool) → at (line e) p ≡ Some (Tunnel f q full) → 1 ≤ q → Past r e p → Past t f q
 
--- Carrier: while the other link is reset nothing unacknowledged is a tunnel packet; while it is up such a one speaks of its
--- present session, and stands on the first bearer.
+-- Carrier: while the other link is reset nothing unacknowledged is a tunnel packet; while it is up such a one speaks
+-- of its present session, and stands on the first bearer.
 pub record Carrier (b : Bearer) (x y : Sender) : Type 0 where
   pub none : y.state ≡ Reset → (p f q : ℕ) (full : Bool) → at (slots x) p ≡ Some (Tunnel f q full) → p ≤ x.acked
   pub present : y.state ≡ Up → (p f q : ℕ) (full : Bool) → at (slots x) p ≡ Some (Tunnel f q full) → x.acked < p →
       (f ≡ y.session) × (b ≡ First)
 
--- Cover: each place of an ended session was taken, or the end is held, and an unacknowledged tunnel packet speaks of it.
+-- Cover: each place of an ended session was taken, or the end is held, and an unacknowledged tunnel packet speaks of
+-- it.
 pub record Cover (x y : Sender) (r : Receiver) : Type 0 where
   pub covered : (e q : ℕ) → e < x.session → 1 ≤ q → q ≤ length (x.line e) →
       Past r e q ⊎ ((x.session ≡ e + 1) × (x.state ≡ Held) × TunnelsLive y e q)

@@ -1,10 +1,12 @@
--- Slots: what stands at the places of a link's sessions, and the runs of tunnel packets that one link makes for the other.
+-- Slots: what stands at the places of a link's sessions, and the runs of tunnel packets that one link makes for the
+-- other.
 use Rattle.std.specs.Prelude.{ℕ, ◌+◌, Bool, true, false, List, [], ◌∷◌, Option, Some, None, drop, map}
 use Prim.Native.Nat.{zero, suc}
 
--- A slot of a session: a plain packet, named by how many were put before it and itself; or a tunnel packet that speaks of a
--- place in a session of the other link. A full one holds the packet of that place; one that isn't full is a placeholder: at
--- that place stood a tunnel packet. Place 0 is no place: such a tunnel packet marks a run that is empty.
+-- A slot of a session: a plain packet, named by how many were put before it and itself; or a tunnel packet that
+-- speaks of a place in a session of the other link. A full one holds the packet of that place; one that isn't full is
+-- a placeholder: at that place stood a tunnel packet. Place 0 is no place: such a tunnel packet marks a run that is
+-- empty.
 pub data Slot : Type 0 where
   Plain : (index : ℕ) → Slot
   Tunnel : (session place : ℕ) (full : Bool) → Slot

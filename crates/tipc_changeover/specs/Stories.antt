@@ -25,23 +25,23 @@ MayTell s [] = Unit {0}
 MayTell s (step ∷ steps) =
     MayAct step.bearer (seen step.bearer s) step.event × MayTell (happened step.bearer s step.event) steps
 
--- Two packets go over the second link. The first one goes up, takes the flow, and duplicates both in tunnel packets; a third
--- packet follows them there.
+-- Two packets go over the second link. The first one goes up, takes the flow, and duplicates both in tunnel packets;
+-- a third packet follows them there.
 abbrev pub taken_over : List Step
 taken_over =
     second LinkUp ∷ second Put ∷ second (Number (Plain 1) []) ∷ second Put ∷ second (Number (Plain 2) []) ∷
     first Switch ∷ first (Number (Tunnel 1 1 true) (Tunnel 1 2 true ∷ [])) ∷ first (Number (Tunnel 1 2 true) []) ∷
     first Put ∷ first (Number (Plain 3) []) ∷ []
 
--- The first link goes down with all three unacknowledged: the second one gets placeholders for both tunnel packets, and the
--- third packet in a full tunnel packet.
+-- The first link goes down with all three unacknowledged: the second one gets placeholders for both tunnel packets,
+-- and the third packet in a full tunnel packet.
 abbrev pub given_back : List Step
 given_back =
     first Failover ∷ second (Number (Tunnel 1 1 false) (Tunnel 1 2 false ∷ Tunnel 1 3 true ∷ [])) ∷
     second (Number (Tunnel 1 2 false) (Tunnel 1 3 true ∷ [])) ∷ second (Number (Tunnel 1 3 true) []) ∷ []
 
--- Nothing of the first link arrived. What arrives on the second one gives all three packets in their order: the placeholders
--- only count up the first link's record.
+-- Nothing of the first link arrived. What arrives on the second one gives all three packets in their order: the
+-- placeholders only count up the first link's record.
 abbrev pub arrived : List Step
 arrived =
     second (Record 1) ∷ second (TakePlain 1) ∷ second (TakePlain 2) ∷ second (TakeTunnel 1 1 false Passed) ∷

@@ -1,5 +1,5 @@
--- Weaker rules, which don't do. Each makes a state after a story that may happen, and from there events that may happen lead to
--- packets that are taken out of order, or twice.
+-- Weaker rules, which don't do. Each makes a state after a story that may happen, and from there events that may
+-- happen lead to packets that are taken out of order, or twice.
 use Rattle.std.specs.Prelude.{true, List, [], ◌∷◌, ◌++◌}
 use Rattle.tipc_changeover.specs.Slots.{originals, plain_slots, Plain, Tunnel}
 use Rattle.tipc_changeover.specs.Links.{Second, State}
@@ -37,8 +37,8 @@ switched_without_run s = with_ends s (gone_up s.near s.far.waiting) (with_waitin
 abbrev pub recorded_anew : State → State
 recorded_anew s = with_records s (record { session = s.near_record.session; taken = 0 }) s.far_record s.delivered
 
--- the tunnel packet at the next place of the second link is taken, and the packet inside, of the first session of the first
--- link, is put off
+-- the tunnel packet at the next place of the second link is taken, and the packet inside, of the first session of the
+-- first link, is put off
 abbrev pub deferred : State → State
 deferred s = with_records s (told s.near_record 1) (after_next s.far_record) s.delivered
 
