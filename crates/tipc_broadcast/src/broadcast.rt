@@ -4,7 +4,7 @@ ghost use Rattle.tipc_types.specs.Position.{number_of};
 ghost use Rattle.tipc_header.specs.Grammar.{Fits};
 ghost use Rattle.tipc_header.specs.Spelling.{view};
 ghost use Rattle.tipc_outside.specs.Frames.{Adds};
-ghost use Rattle.tipc_send_window.specs.Sending.{kept_of};
+ghost use Rattle.tipc_send_window.specs.Sending.{kept_of, passed_over};
 ghost use Rattle.tipc_broadcast.specs.Casting.{is_behind};
 
 use crate::contacts::{Contact, acked_by_all, copies, member_set, place_of, unseen};
@@ -53,7 +53,7 @@ impl Model for Broadcast {
 
 impl Broadcast {
     ghost use Rattle.tipc_broadcast.specs.Frames.{cast, numbered_frame, on_bearer};
-    ghost use Rattle.tipc_broadcast.specs.Casting.{accepting, accepting_frames, answered, answered_frames, arriving, arriving_outcome, booted, credited, flush_frames, flushed, informed, joining, kept_for, left_frames, left_with, leaving, leaving_frames, next_start, repeat_frames, room, sent, settled, shown, stating, stating_frames, with_bearer, with_contacts, with_message};
+    ghost use Rattle.tipc_broadcast.specs.Casting.{accepting, accepting_frames, answered, answered_frames, arriving, arriving_outcome, booted, credited, flush_frames, flushed, informed, joining, kept_for, left_frames, left_with, leaving, leaving_frames, next_start, repeat_frames, room, sent, settled, shown, stating, stating_frames, with_bearer, with_contacts, with_message, with_sending};
     ghost use Rattle.tipc_broadcast.specs.Contacts.{contact_with, deferred_of, has_joined, shows_more_to, without};
 
     /// The broadcast link of a node that has just booted: both bearers are cut, and nobody is in contact.
@@ -277,12 +277,19 @@ impl Broadcast {
         self.window.offer(frames, limit)
     }
 
+    /// Gives up every packet, and passes over the numbers that the waiting ones would have had.
+    fn give_up(&mut self)
+        ensures { self.new ≡ with_sending self.old (passed_over self.old.sending) }
+    {
+        self.window.pass_over();
+    }
+
     /// Gives up every packet where nobody is in contact.
     fn keep_for_peers(&mut self)
         ensures { self.new ≡ kept_for self.old.contacts self.old }
     {
         if self.contacts.is_empty() {
-            self.window.pass_over();
+            self.give_up();
         }
     }
 
@@ -332,7 +339,7 @@ impl Broadcast {
         ensures frames { Adds out.old out.new (left_frames self.old.contacts self.old) }
     {
         if self.contacts.is_empty() {
-            self.window.pass_over();
+            self.give_up();
             return;
         }
         self.release();
