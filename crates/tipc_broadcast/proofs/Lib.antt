@@ -1,0 +1,3 @@
+pub mod Casts
+pub mod Finding
+pub mod Keeping

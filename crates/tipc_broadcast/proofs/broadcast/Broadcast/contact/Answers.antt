@@ -1,0 +1,13 @@
+use Rattle.std.proofs.Common.{◌≡◌, Some, None, subst}
+use Rattle.tipc_broadcast.specs.Contacts.{contact_with, is_with}
+use Rattle.tipc_broadcast.specs.Casting.{Casting}
+use Rattle.tipc_broadcast.proofs.Finding.{found_is, missing_is, not_placed}
+use Rattle.tipc_broadcast.proofs.broadcast.Broadcast.contact.Goals as goal
+
+pub returns-in-Some-clause-some : goal.returns-in-Some-clause-some
+returns-in-Some-clause-some c =
+    subst (λ (v : Casting). contact_with c.args.peer.word v.contacts ≡ Some c.index.result.now) c.self.view_is (found_is _ _ _ _ _ _ c.as_slice.ensures.value c.place_of.ensures c.in-Some.is c.index.ensures)
+
+pub returns-in-None-clause-none : goal.returns-in-None-clause-none
+returns-in-None-clause-none c =
+    subst (λ (v : Casting). contact_with c.args.peer.word v.contacts ≡ None) c.self.view_is (not_placed (is_with c.args.peer.word) c.self.inside.contacts.items (missing_is _ _ _ _ c.as_slice.ensures.value c.place_of.ensures c.in-None.is))

@@ -1,0 +1,12 @@
+//! The broadcast link of a node: one stream of packets, numbered once, to all peers in contact.
+#![tactic(auto)]
+
+mod broadcast;
+mod contacts;
+mod frames;
+mod receiving;
+
+pub use broadcast::Broadcast;
+
+#[cfg(test)]
+mod tests;

@@ -1,0 +1,4 @@
+pub mod CasterEvents
+pub mod Consequences
+pub mod MemberEvents
+pub mod Places

@@ -1,0 +1,51 @@
+-- What follows for callers.
+use Rattle.std.specs.Prelude.{◌≡◌, ℕ, ◌+◌, ◌<◌, ◌≤◌, List, ◌++◌, Option, Some, None}
+use Rattle.tipc_broadcast_law.specs.Groups.{accepted_for, Caster, Group, mark, Member, numbered_now, place, queue, window}
+use Rattle.tipc_broadcast_law.specs.Events.{Happens, IsBegin, Runs}
+use Rattle.tipc_broadcast_law.specs.Law.{IsGroup}
+
+abbrev pub IsFrontOf : List (List ℕ) → List (List ℕ) → Type 0
+IsFrontOf front xs = (rest : List (List ℕ)) × (xs ≡ front ++ rest)
+
+abbrev pub BeginsSound : Type 0
+BeginsSound = (g : Group) → IsBegin g → IsGroup g
+
+abbrev pub EventsKeep : Type 0
+EventsKeep = (g after : Group) → Happens g after → IsGroup g → IsGroup after
+
+abbrev pub RunsKeep : Type 0
+RunsKeep = (g after : Group) → Runs g after → IsGroup g → IsGroup after
+
+-- each member, in each of its contacts, past ones too
+abbrev pub TakesAPrefix : Type 0
+TakesAPrefix = (g after : Group) → IsBegin g → Runs g after → (m c : ℕ)
+    → IsFrontOf ((after.members m).out c) (accepted_for m c (after.caster.line ((after.members m).boots c)))
+
+-- a packet for the member in its present contact, which it acknowledged, was taken
+abbrev pub AcknowledgedIsTaken : Type 0
+AcknowledgedIsTaken = (g : Group) → IsGroup g → (m c x : ℕ) → (g.members m).joined ≡ Some c
+    → mark (g.caster.line g.caster.boot) m x ≡ Some c → x < (g.members m).acked → (w : ℕ) × ((g.members m).want c ≡ Some w) × (x < w)
+
+-- who has yet to acknowledge a packet: the members in contact that acknowledged less
+abbrev pub IsPending : Group → ℕ → ℕ → Type 0
+IsPending g m x = (c : ℕ) × ((g.members m).joined ≡ Some c) × ((g.members m).acked ≤ x)
+
+-- who has yet to acknowledge a packet has yet to acknowledge each later one, and each is for those who have yet to
+-- acknowledge it, in the contact in which they are: so packets are released in order
+pub record ReleasesInOrder (g : Group) : Type 0 where
+  pub nested : (m x y : ℕ) → x ≤ y → IsPending g m x → IsPending g m y
+  pub own : (m c x : ℕ) → (g.members m).joined ≡ Some c → (g.members m).acked ≤ x → x < numbered_now g.caster → mark (g.caster.line g.caster.boot) m x ≡ Some c
+
+abbrev pub AllReleaseInOrder : Type 0
+AllReleaseInOrder = (g : Group) → IsGroup g → ReleasesInOrder g
+
+abbrev pub WindowOf50 : Type 0
+WindowOf50 = (g : Group) → IsGroup g → (m c : ℕ) → (g.members m).joined ≡ Some c → numbered_now g.caster ≤ (g.members m).acked + window
+
+-- A packet for the member in its contact lies near the place that it wants, as long as at most 30,000 were numbered since
+-- the event that sent it, after which `stamp` were numbered: so 16 bits tell places.
+abbrev pub PacketsAreNear : Type 0
+PacketsAreNear = (g : Group) → IsGroup g → (m c s x stamp : ℕ) → (g.members m).begun c ≡ Some s
+    → mark (g.caster.line ((g.members m).boots c)) m x ≡ Some c
+    → stamp < x + 1 + window + queue → g.caster.numbered ((g.members m).boots c) ≤ stamp + 30000
+    → (x < place (g.members m) c + window + queue) × (place (g.members m) c ≤ x + 30542)

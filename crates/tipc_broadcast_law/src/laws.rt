@@ -1,0 +1,45 @@
+//! What is promised of a caster and its members. The functions do nothing: their contracts are the laws.
+ghost use Rattle.tipc_broadcast_law.specs.Promises.{AcknowledgedIsTaken, AllReleaseInOrder, BeginsSound, EventsKeep, PacketsAreNear, RunsKeep, TakesAPrefix, WindowOf50};
+
+/// A caster that accepted nothing and members that were in no contact meet the law.
+pub fn it_holds_at_the_begin()
+    ensures { BeginsSound }
+{}
+
+/// Every event keeps the law.
+pub fn every_event_keeps_it()
+    ensures { EventsKeep }
+{}
+
+/// Whatever happens one after the other keeps the law.
+pub fn it_always_holds()
+    ensures { RunsKeep }
+{}
+
+/// Each member takes, from its start in a contact on, a front of the packets that were accepted for it in that
+/// contact, once and in order.
+pub fn each_member_takes_a_prefix()
+    ensures { TakesAPrefix }
+{}
+
+/// A packet that a member acknowledged in the present contact was taken by it.
+pub fn acknowledged_is_taken()
+    ensures { AcknowledgedIsTaken }
+{}
+
+/// Packets that nobody in contact has yet to acknowledge are the first ones, and every member that has yet to
+/// acknowledge a numbered packet is one that it was accepted for, in the present contact.
+pub fn packets_are_released_in_order()
+    ensures { AllReleaseInOrder }
+{}
+
+/// At most 50 packets are numbered past the acknowledgement of any member in contact.
+pub fn at_most_50_are_in_flight()
+    ensures { WindowOf50 }
+{}
+
+/// A packet for a member lies less than 296 places past the one that it wants, and at most 30,542 before it where at
+/// most 30,000 were numbered since it was sent: numbers of 16 bits tell places.
+pub fn numbers_tell_places()
+    ensures { PacketsAreNear }
+{}

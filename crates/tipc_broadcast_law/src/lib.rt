@@ -1,0 +1,5 @@
+//! The law of broadcast: one caster over all its boots, and any number of members that join and leave, whatever is
+//! lost, repeated or out of order.
+#![tactic(auto)]
+
+pub mod laws;
