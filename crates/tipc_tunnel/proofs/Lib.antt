@@ -1,0 +1,3 @@
+pub mod InnerLaws
+pub mod TunnelLaws
+pub mod UnwrapLaws

@@ -1,0 +1,6 @@
+-- What was unwrapped, without where its bytes lie in memory.
+use Rattle.tipc_tunnel.specs.declared.unwrapping.Tunnel.{Tunnel}
+use Rattle.tipc_tunnel.specs.Tunnels.{Tunnelled}
+
+abbrev pub tunnelled : Tunnel → Tunnelled
+tunnelled t = record { kind = t.kind; old = t.old; count = t.count; number = t.number; inner = t.inner.now }
