@@ -1,8 +1,6 @@
 -- A frame that gets its number is the frame that is stamped with it.
 use Rattle.std.proofs.Common.{◌≡◌, ℕ, ◌+◌, ◌≤◌, List, [], ◌∷◌, ◌++◌, length, take, drop, refl, sym, ap, ◌∙◌, append_assoc, zero-add, length-append, arith}
-use Rattle.std.specs.List.{flat_map}
 use Rattle.std.proofs.lemmas.List.Concat.{flat_map-cons}
-use Rattle.std.specs.Int.{w32, to_be_bytes}
 use Rattle.std.proofs.lemmas.List.{drop_at, length-take-le, take_at}
 use Rattle.tipc_header.specs.Frames.{envelope, frame_of, stamped}
 use Rattle.tipc_header.specs.Spelling.{from_bit, word, words}

@@ -1,5 +1,5 @@
 -- The bits of a member set.
-use Rattle.std.proofs.Common.{◌≡◌, ℕ, ◌+◌, ◌-◌, ◌/◌, ◌%◌, ◌^◌, ◌<◌, ◌≤◌, ◌==◌, Bool, true, false, cond, if◌then◌else◌, List, [], ◌∷◌, max, fold, Option, Some, None, is_some, refl, sym, ap, ◌∙◌, subst, eqb-true, arith}
+use Rattle.std.proofs.Common.{◌≡◌, ℕ, ◌-◌, ◌==◌, Bool, true, false, cond, if◌then◌else◌, List, [], ◌∷◌, max, fold, Some, is_some, refl, sym, ap, ◌∙◌, eqb-true, arith}
 use Rattle.std.specs.Prelude.{All}
 use Rattle.std.specs.List.{find}
 use Rattle.std.specs.Int.{bit_at}
@@ -26,10 +26,10 @@ bit-of node peer here there =
           let low = here.0 in
           let from = there.0 in
           bit_at-pow_other (peer - 16781313) (node - 16781313) (λ i.
-              let same : peer ≡ node = omega arith in
-              let t : (peer == node) ≡ true = grind (arith, nat_tests) in
-              let clash : true ≡ false = sym t ∙ e in
-              cc)
+          let same : peer ≡ node = omega arith in
+          let t : (peer == node) ≡ true = grind (arith, nat_tests) in
+          let clash : true ≡ false = sym t ∙ e in
+          cc)
     ] refl
 
 bits_are : (node set : ℕ) (cs : List Contact) → IsNodeWord node → All (λ c. IsNodeWord c.peer.word) cs

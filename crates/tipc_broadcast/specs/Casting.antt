@@ -1,5 +1,5 @@
 -- The broadcast link of a node in one boot, and what each call makes of it.
-use Rattle.std.specs.Prelude.{◌≡◌, ℕ, ◌+◌, ◌-◌, ◌<◌, ◌≤◌, ◌&&◌, Bool, true, false, List, [], ◌∷◌, ◌++◌, All, length, take, drop, filter, map, min, nat_le, nat_lt, replicate, slice_set, Option, Some, None, if◌then◌else◌}
+use Rattle.std.specs.Prelude.{ℕ, ◌+◌, ◌-◌, ◌≤◌, ◌&&◌, Bool, false, List, [], ◌∷◌, ◌++◌, All, length, take, drop, filter, map, min, nat_le, nat_lt, replicate, slice_set, Option, Some, None, if◌then◌else◌}
 use Rattle.tipc_types.specs.Address.{IsNodeWord}
 use Rattle.tipc_types.specs.Position.{distance_of, number_of}
 use Rattle.tipc_types.specs.declared.link_words.BroadcastState.{BroadcastState}
