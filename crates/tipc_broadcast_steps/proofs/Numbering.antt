@@ -17,12 +17,12 @@ use Rattle.tipc_broadcast_law.proofs.Places.{put_same, same_or_not}
 use Rattle.tipc_broadcast_steps.specs.Steps.{Casts, IsSeen, Leads, TellsPlace}
 
 -- n more packets were numbered
-record Numbered (g : Group) (n : ℕ) : Type 0 where
-  after : Group
-  runs : Runs g after
-  count : numbered_now after.caster ≡ numbered_now g.caster + n
-  same : length_now after.caster ≡ length_now g.caster
-  members : (m : ℕ) → after.members m ≡ g.members m
+pub record Numbered (g : Group) (n : ℕ) : Type 0 where
+  pub after : Group
+  pub runs : Runs g after
+  pub count : numbered_now after.caster ≡ numbered_now g.caster + n
+  pub same : length_now after.caster ≡ length_now g.caster
+  pub members : (m : ℕ) → after.members m ≡ g.members m
 
 number_all : (n : ℕ) (g : Group) → numbered_now g.caster + n ≤ length_now g.caster → ((m c : ℕ) → (g.members m).joined ≡ Some c → numbered_now g.caster + n ≤ (g.members m).acked + window) → Numbered g n
 number_all zero g within near = record { after = g; runs = none; count = omega arith; same = refl; members = λ m. refl }
@@ -61,8 +61,8 @@ flush_runs g v h window is =
     let fifty = window.window in
     let begun = window.numbered in
     let all = number_all n g (omega (arith, h.numbered, h.accepted_all)) (λ m c joined.
-        let low = seen-acked (g.members m) (contact_with m v.contacts) (acked_of s) (accepted s) c (h.members m) (λ d e. find-All (IsContact (acked_of s) (accepted s)) m v.contacts d is.contacts e) joined in
-        omega (arith, h.numbered, low)) in
+    let low = seen-acked (g.members m) (contact_with m v.contacts) (acked_of s) (accepted s) c (h.members m) (λ d e. find-All (IsContact (acked_of s) (accepted s)) m v.contacts d is.contacts e) joined in
+    omega (arith, h.numbered, low)) in
     let count = all.count in
     let same = all.same in
     record {

@@ -1,10 +1,10 @@
 -- How the broadcast link of a caster stands in the law of broadcast: the calls make the law's events.
-use Rattle.std.specs.Prelude.{◌≡◌, ℕ, ◌+◌, ◌-◌, ◌<◌, ◌≤◌, List, Option, Some, None}
+use Rattle.std.specs.Prelude.{◌≡◌, ℕ, ◌+◌, ◌-◌, ◌<◌, ◌≤◌, All, List, length, Option, Some, None}
 use Rattle.tipc_types.specs.Position.{number_of}
 use Rattle.tipc_send_window.specs.Sending.{IsSending}
 use Rattle.tipc_broadcast.specs.declared.contacts.Contact.{Contact}
 use Rattle.tipc_broadcast.specs.Contacts.{acknowledged_to, contact_with}
-use Rattle.tipc_broadcast.specs.Casting.{accepted, Casting, flushed, IsCasting, settled}
+use Rattle.tipc_broadcast.specs.Casting.{accepted, accepting, Casting, flushed, IsCasting, joining, leaving, settled, with_message}
 use Rattle.tipc_broadcast_law.specs.Groups.{Group, length_now, Member, numbered_now}
 use Rattle.tipc_broadcast_law.specs.Events.{Runs}
 
@@ -42,3 +42,19 @@ pub record TellsPlace (numbered acked place : ℕ) : Type 0 where
 
 abbrev pub AcknowledgementsTellPlaces : Type 0
 AcknowledgementsTellPlaces = (numbered acked place : ℕ) → numbered ≤ acked + 50 → place ≤ numbered → acked ≤ place + 60000 → TellsPlace numbered acked place
+
+-- A peer that isn't in contact joins in a contact that is above each that the caster began with it, of the present boot, while
+-- the member isn't in an older one.
+abbrev pub JoinRuns : Type 0
+JoinRuns = (g : Group) (v : Casting) (peer boot c : ℕ) → Casts g v → contact_with peer v.contacts ≡ None
+    → ((d s : ℕ) → (g.members peer).begun d ≡ Some s → d < c) → (g.members peer).boots c ≡ g.caster.boot → ((d : ℕ) → (g.members peer).at ≡ Some d → c ≤ d)
+    → Leads g (joining v peer boot)
+
+-- a peer leaves: the end of its contact, and then what is given up is passed over, or what moves up is numbered
+abbrev pub LeaveRuns : Type 0
+LeaveRuns = (g : Group) (v : Casting) (peer : ℕ) → Casts g v → IsSending v.sending → IsCasting v.own v.sending v.contacts → Leads g (leaving v peer)
+
+-- a message is accepted packet by packet, with nothing between, and what moves up is numbered
+abbrev pub SendRuns : Type 0
+SendRuns = (g : Group) (v : Casting) (pieces : List (List ℕ)) → Casts g v → IsSending (with_message v pieces).sending → IsCasting v.own v.sending v.contacts
+    → All (λ piece. 16 ≤ length piece) pieces → length v.sending.waiting < 200 → length pieces ≤ 47 → Leads g (accepting v pieces)
