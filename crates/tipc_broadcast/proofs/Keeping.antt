@@ -1,7 +1,7 @@
 -- What every broadcast link keeps, after each change.
-use Rattle.std.proofs.Common.{◌≡◌, ℕ, ◌+◌, ◌-◌, ◌<◌, ◌≤◌, Bool, true, false, not, if◌then◌else◌, List, [], ◌∷◌, ◌++◌, Option, Some, None, Result, Ok, Err, length, take, drop, min, map, filter, get_or, refl, sym, ap, ◌∙◌, subst, length-append, length-drop, arith}
+use Rattle.std.proofs.Common.{◌≡◌, ℕ, ◌+◌, ◌-◌, ◌<◌, ◌≤◌, true, false, not, if◌then◌else◌, List, [], ◌∷◌, ◌++◌, Option, Some, None, Result, Ok, Err, length, take, drop, min, map, get_or, refl, sym, ap, ◌∙◌, subst, length-append, length-drop, arith}
 use Rattle.std.proofs.lemmas.Bool.Decides.{nat_tests}
-use Rattle.std.proofs.lemmas.List.{length-take-le}
+use Rattle.std.proofs.lemmas.List.{length-map, length-take-le}
 use Rattle.std.proofs.lemmas.List.Elements.{All-append, All-cons, All-drop, All-filter, All-get_or, All-head, All-map, All-nil, All-set, All-tail, All-weaker}
 use Rattle.std.specs.Prelude.{All, nat_le, slice_set, OnErr, OnOk}
 use Rattle.tipc_types.specs.Position.{distance_of, number_of}
@@ -69,6 +69,7 @@ release-keeps own s cs window h =
     let now : acked_of (released s (to_release s cs)) ≤ acked_by_all s.numbered cs = omega arith in
     record {
       node = h.node;
+      few = h.few;
       unacked = All-drop (λ frame. 32 ≤ length frame) (to_release s cs) s.unacked h.unacked;
       waiting = h.waiting;
       contacts = All-with (IsContact (acked_of s) (accepted s)) (λ c. acked_by_all s.numbered cs ≤ c.acked) (IsContact (acked_of (released s (to_release s cs))) (accepted s))
@@ -102,7 +103,7 @@ credit-keeps own s cs place numbered number old new h within value counted after
     let P = IsContact (acked_of s) (accepted s) in
     let was : P old = subst P (sym value) (All-get_or P cs place old within h.contacts) in
     let is : P new = subst P (sym (after ∙ ap (λ n. acknowledging n number old) counted)) (acknowledging-keeps s (acked_of s) number old was) in
-    record { node = h.node; unacked = h.unacked; waiting = h.waiting; contacts = All-set P cs place new is h.contacts }
+    record { node = h.node; few = h.few; unacked = h.unacked; waiting = h.waiting; contacts = All-set P cs place new is h.contacts }
 
 -- ---- a message
 
@@ -121,13 +122,14 @@ accepted_frame-long own boot members packet long =
       length-words ((from_bit 16 0 + 0) ∷ own ∷ []),
     )
 
-pub offer-keeps : (own boot members : ℕ) (s : Sending) (cs : List Contact) (pieces : List (List ℕ)) → All (λ piece. 16 ≤ length piece) pieces → IsCasting own s cs → IsCasting own (offered s (map (accepted_frame own boot members) pieces)) cs
-offer-keeps own boot members s cs pieces long h =
+pub offer-keeps : (own boot members : ℕ) (s : Sending) (cs : List Contact) (pieces : List (List ℕ)) → All (λ piece. 16 ≤ length piece) pieces → length s.waiting < 200 → length pieces ≤ 47 → IsCasting own s cs → IsCasting own (offered s (map (accepted_frame own boot members) pieces)) cs
+offer-keeps own boot members s cs pieces long few most h =
     let frames = map (accepted_frame own boot members) pieces in
     let P : List ℕ → Type 0 = λ frame. 32 ≤ length frame in
     let more : accepted s ≤ accepted (offered s frames) = omega (arith, length-append s.waiting frames) in
     record {
       node = h.node;
+      few = omega (arith, length-append s.waiting frames, length-map pieces (accepted_frame own boot members), few, most);
       unacked = h.unacked;
       waiting = All-append P s.waiting frames h.waiting (All-map P (accepted_frame own boot members) pieces (All-weaker (λ piece. 16 ≤ length piece) (λ piece. P (accepted_frame own boot members piece)) (λ piece l. accepted_frame-long own boot members piece l) pieces long));
       contacts = All-weaker (IsContact (acked_of s) (accepted s)) (IsContact (acked_of s) (accepted (offered s frames))) (λ c is. record { node = is.node; after_release = is.after_release; before_accepted = omega (arith, more, is.before_accepted); begun = is.begun }) cs h.contacts;
@@ -136,14 +138,15 @@ offer-keeps own boot members s cs pieces long h =
 -- ---- a departure
 
 pub leave-keeps : (own : ℕ) (s : Sending) (cs : List Contact) (peer : ℕ) → IsCasting own s cs → IsCasting own s (without peer cs)
-leave-keeps own s cs peer h = record { node = h.node; unacked = h.unacked; waiting = h.waiting; contacts = All-filter (λ c. not (is_with peer c)) (IsContact (acked_of s) (accepted s)) cs h.contacts }
+leave-keeps own s cs peer h = record { node = h.node; few = h.few; unacked = h.unacked; waiting = h.waiting; contacts = All-filter (λ c. not (is_with peer c)) (IsContact (acked_of s) (accepted s)) cs h.contacts }
 
 -- a message was accepted, or not
-pub offered_or_not : {F : Type 0} (r : Result (Unit {0}) F) (own boot members limit : ℕ) (s after : Sending) (cs : List Contact) (pieces frames : List (List ℕ)) → All (λ piece. 16 ≤ length piece) pieces → frames ≡ map (accepted_frame own boot members) pieces
+pub offered_or_not : {F : Type 0} (r : Result (Unit {0}) F) (own boot members limit : ℕ) (s after : Sending) (cs : List Contact) (pieces frames : List (List ℕ)) → All (λ piece. 16 ≤ length piece) pieces → limit ≤ 200 → length pieces ≤ 47 → frames ≡ map (accepted_frame own boot members) pieces
     → OnOk r ((length s.waiting < limit) × (after ≡ offered s frames)) → OnErr r (after ≡ s) → IsCasting own s cs → IsCasting own after cs
-offered_or_not (Ok done) own boot members limit s after cs pieces frames long is ok err h =
-    subst (λ t. IsCasting own t cs) (sym (ok.1 ∙ ap (offered s) is)) (offer-keeps own boot members s cs pieces long h)
-offered_or_not (Err fault) own boot members limit s after cs pieces frames long is ok err h = subst (λ t. IsCasting own t cs) (sym err) h
+offered_or_not (Ok done) own boot members limit s after cs pieces frames long low most is ok err h =
+    let less = ok.0 in
+    subst (λ t. IsCasting own t cs) (sym (ok.1 ∙ ap (offered s) is)) (offer-keeps own boot members s cs pieces long (omega arith) most h)
+offered_or_not (Err fault) own boot members limit s after cs pieces frames long low most is ok err h = subst (λ t. IsCasting own t cs) (sym err) h
 
 -- ---- an arrival
 
@@ -164,4 +167,4 @@ pub arrival-keeps : {T F : Type 0} (r : Result T F) (own : ℕ) (s : Sending) (c
 arrival-keeps r own s cs place t old new o h within value ok err =
     let P = IsContact (acked_of s) (accepted s) in
     let was : P old = subst P (sym value) (All-get_or P cs place old within h.contacts) in
-    record { node = h.node; unacked = h.unacked; waiting = h.waiting; contacts = All-set P cs place new (arrived_or_not r (acked_of s) (accepted s) t old new o ok err was) h.contacts }
+    record { node = h.node; few = h.few; unacked = h.unacked; waiting = h.waiting; contacts = All-set P cs place new (arrived_or_not r (acked_of s) (accepted s) t old new o ok err was) h.contacts }

@@ -1,3 +1,5 @@
 pub mod Casts
 pub mod Finding
+pub mod FrameLaws
 pub mod Keeping
+pub mod SetLaws

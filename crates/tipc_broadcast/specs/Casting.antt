@@ -1,5 +1,5 @@
 -- The broadcast link of a node in one boot, and what each call makes of it.
-use Rattle.std.specs.Prelude.{◌≡◌, ℕ, ◌+◌, ◌-◌, ◌<◌, ◌≤◌, ◌&&◌, Bool, true, false, List, [], ◌∷◌, ◌++◌, All, length, take, drop, filter, map, min, nat_le, nat_lt, replicate, slice_set, Option, Some, None, if◌then◌else◌}
+use Rattle.std.specs.Prelude.{ℕ, ◌+◌, ◌-◌, ◌≤◌, ◌&&◌, Bool, false, List, [], ◌∷◌, ◌++◌, All, length, take, drop, filter, map, min, nat_le, nat_lt, replicate, slice_set, Option, Some, None, if◌then◌else◌}
 use Rattle.tipc_types.specs.Address.{IsNodeWord}
 use Rattle.tipc_types.specs.Position.{distance_of, number_of}
 use Rattle.tipc_types.specs.declared.link_words.BroadcastState.{BroadcastState}
@@ -162,8 +162,10 @@ arriving_outcome v boot members p by = hearing_outcome v boot members (brought p
 
 -- ---- what is true of every broadcast link
 
+-- (246: fewer than 200 wait before a message, which has at most 47 packets)
 pub record IsCasting (own : ℕ) (sending : Sending) (peers : List Contact) : Type 0 where
   pub node : IsNodeWord own
+  pub few : length sending.waiting ≤ 246
   pub unacked : All (λ frame. 32 ≤ length frame) sending.unacked
   pub waiting : All (λ frame. 32 ≤ length frame) sending.waiting
   pub contacts : All (IsContact (acked_of sending) (accepted sending)) peers

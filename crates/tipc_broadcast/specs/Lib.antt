@@ -1,3 +1,4 @@
 pub mod Casting
 pub mod Contacts
 pub mod Frames
+pub mod Laws

@@ -1,4 +1,4 @@
-ghost use Rattle.std.specs.Prelude.{◌≡◌, ℕ, ◌+◌, ◌<◌, ◌≤◌, true, false, Err, Some, None, List, All, length, slice_get, IfNone, IfOk, IfSome, OnErr, OnOk};
+ghost use Rattle.std.specs.Prelude.{[], ◌≡◌, ℕ, ◌+◌, ◌<◌, ◌≤◌, true, false, Err, Some, None, List, All, length, slice_get, IfNone, IfOk, IfSome, OnErr, OnOk};
 ghost use Rattle.tipc_types.specs.Address.{IsNodeWord};
 ghost use Rattle.tipc_types.specs.Position.{number_of};
 ghost use Rattle.tipc_header.specs.Grammar.{Fits};
@@ -99,10 +99,12 @@ impl Broadcast {
         self.mended[bearer as usize] = false;
     }
 
-    /// The numbers of unacknowledged and of waiting packets.
+    /// The numbers of unacknowledged and of waiting packets: at most 50 and 246.
     pub fn load(&self) -> (u32, u32)
         ensures unacked { result.0 ≡ length self.now.sending.unacked }
         ensures waiting { result.1 ≡ length self.now.sending.waiting }
+        ensures within { result.0 ≤ 50 }
+        ensures few { result.1 ≤ 246 }
     {
         (self.window.unacked().len() as u32, self.window.waiting())
     }
@@ -260,7 +262,9 @@ impl Broadcast {
 
     /// Takes the packets of a message to wait, each for the peers that are in contact now.
     fn accept(&mut self, alloc: Global, pieces: &Pieces, limit: u32) -> Result<(), OfferFault>
-        requires { All (λ piece. 16 ≤ length piece) pieces.now }
+        requires packets { All (λ piece. 16 ≤ length piece) pieces.now }
+        requires limit { limit ≤ 200 }
+        requires message { length pieces.now ≤ 47 }
         ensures ok { OnOk result ((length self.old.sending.waiting < limit) × (self.new ≡ with_message self.old pieces.now)) }
         ensures congested { limit ≤ length self.old.sending.waiting →
             result ≡ Err (OfferFault.Congested (length self.old.sending.unacked) (length self.old.sending.waiting)) }
@@ -277,8 +281,9 @@ impl Broadcast {
         self.window.offer(frames, limit)
     }
 
-    /// Gives up every packet, and passes over the numbers that the waiting ones would have had.
+    /// Gives up every packet, with nobody in contact, and passes over the numbers that the waiting ones would have had.
     fn give_up(&mut self)
+        requires { self.old.contacts ≡ [] }
         ensures { self.new ≡ with_sending self.old (passed_over self.old.sending) }
     {
         self.window.pass_over();

@@ -4,6 +4,7 @@
 mod broadcast;
 mod contacts;
 mod frames;
+pub mod laws;
 mod receiving;
 
 pub use broadcast::Broadcast;

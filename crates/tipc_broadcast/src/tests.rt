@@ -23,11 +23,17 @@ fn node(alloc: Global, n: u8) -> Broadcast
     node
 }
 
-/// Sends one packet, and says whether it was accepted.
-fn send(alloc: Global, node: &mut Broadcast, out: &mut Outbox) -> Result<bool, Fail> {
+/// Sends one packet, which is accepted.
+fn send(
+    rt: &impl Abort,
+    alloc: Global,
+    node: &mut Broadcast,
+    out: &mut Outbox,
+) -> Result<(), Fail> {
     let mut pieces = Pieces::new(alloc);
     pieces.push(Bytes::from_slice(alloc, &CONNECTED)?)?;
-    Ok(node.send(alloc, pieces, 50, out).is_ok())
+    assert!(rt; node.send(alloc, pieces, 50, out).is_ok());
+    Ok(())
 }
 
 /// A peer joins, and its start is answered.
@@ -59,65 +65,97 @@ fn tell(alloc: Global, from: &Broadcast, m: u8, to: &mut Broadcast, n: u8, out: 
     }
 }
 
-/// The frame at a place arrives: how many packets are taken, or why it is ignored; None where it is deferred.
-fn arrive(
+/// The frame at a place arrives, and is answered by this.
+fn arrives(
+    rt: &impl Abort,
     alloc: Global,
     node: &mut Broadcast,
     out: &Outbox,
     place: usize,
-) -> Result<Option<Result<usize, Why>>, Fail> {
+    answer: Answer,
+) -> Result<(), Fail> {
     let sent = out.frames().get(place).ok_or("no frame")?;
     let frame = open_frame(sent.frame.as_slice()).ok_or("no envelope")?;
     let packet = decode(frame.packet).ok().ok_or("no packet")?;
     let outcome = node.arrive(alloc, frame.first as u32, frame.second as u32, &packet, 7)?;
-    Ok(match outcome {
-        LinkOutcome::Took(taken) => Some(Ok(taken.len())),
-        LinkOutcome::Deferred => None,
-        LinkOutcome::Ignored(why) => Some(Err(why)),
-    })
+    assert!(rt; answer == answer_of(&outcome));
+    Ok(())
+}
+
+/// What an arrival answers: how many packets are taken, or why it is ignored.
+#[derive(Clone, Copy, PartialEq, Eq)]
+enum Answer {
+    Took(usize),
+    Deferred,
+    Ignored(Why),
+}
+
+fn answer_of(outcome: &LinkOutcome) -> Answer {
+    match outcome {
+        LinkOutcome::Took(taken) => Answer::Took(taken.len()),
+        LinkOutcome::Deferred => Answer::Deferred,
+        LinkOutcome::Ignored(why) => Answer::Ignored(*why),
+    }
+}
+
+/// So many packets are unacknowledged and wait, and so many numbers were used.
+fn holds(rt: &impl Abort, node: &Broadcast, unacked: u32, waiting: u32, numbered: u64) {
+    assert_eq!(rt;
+        (node.load(), node.numbered()),
+        ((unacked, waiting), numbered)
+    );
+}
+
+/// Node 1 after a packet to node 2 and one to nodes 2 and 3.
+fn after_two_packets(rt: &impl Abort, alloc: Global, sent: &mut Outbox) -> Result<Broadcast, Fail> {
+    let mut one = node(alloc, 1);
+    join(rt, &mut one, 2, 1)?;
+    send(rt, alloc, &mut one, sent)?;
+    join(rt, &mut one, 3, 2)?;
+    send(rt, alloc, &mut one, sent)?;
+    Ok(one)
+}
+
+/// Node n, which is in step with the broadcast of node 1.
+fn listener(rt: &impl Abort, alloc: Global, one: &Broadcast, n: u8) -> Result<Broadcast, Fail>
+    requires { (1 ≤ n) × (n ≤ 32) }
+{
+    let mut other = node(alloc, n);
+    join(rt, &mut other, 1, 1)?;
+    tell(alloc, one, 1, &mut other, n, &mut Outbox::new(alloc));
+    Ok(other)
 }
 
 #[test]
 fn a_member_takes_from_its_start(rt: HostRuntime) -> Result<(), Fail> {
     let alloc = rt.alloc();
-    let (mut one, mut two) = (node(alloc, 1), node(alloc, 2));
-    let (mut sent, mut other) = (Outbox::new(alloc), Outbox::new(alloc));
-    join(&rt, &mut one, 2, 1)?;
-    assert!(rt; send(alloc, &mut one, &mut sent)?);
-    join(&rt, &mut one, 3, 2)?;
-    assert!(rt; send(alloc, &mut one, &mut sent)?);
-    join(&rt, &mut two, 1, 1)?;
-    assert!(rt; arrive(alloc, &mut two, &sent, 0)? == Some(Err(Why::OutOfStep)));
-    tell(alloc, &one, 1, &mut two, 2, &mut other);
-    assert!(rt; arrive(alloc, &mut two, &sent, 1)?.is_none());
-    assert!(rt; arrive(alloc, &mut two, &sent, 0)? == Some(Ok(2)));
-    assert!(rt; arrive(alloc, &mut two, &sent, 1)? == Some(Err(Why::Old)));
-    assert_eq!(rt; other.frames().len(), 0);
-    Ok(())
+    let mut sent = Outbox::new(alloc);
+    let one = after_two_packets(&rt, alloc, &mut sent)?;
+    let mut two = listener(&rt, alloc, &one, 2)?;
+    arrives(&rt, alloc, &mut two, &sent, 1, Answer::Deferred)?;
+    arrives(&rt, alloc, &mut two, &sent, 0, Answer::Took(2))?;
+    arrives(&rt, alloc, &mut two, &sent, 1, Answer::Ignored(Why::Old))
 }
 
 #[test]
 fn a_departed_member_holds_nothing_back(rt: HostRuntime) -> Result<(), Fail> {
     let alloc = rt.alloc();
-    let (mut one, mut two, mut three) = (node(alloc, 1), node(alloc, 2), node(alloc, 3));
-    let (mut sent, mut other) = (Outbox::new(alloc), Outbox::new(alloc));
-    join(&rt, &mut one, 2, 1)?;
-    assert!(rt; send(alloc, &mut one, &mut sent)?);
-    join(&rt, &mut one, 3, 2)?;
-    assert!(rt; send(alloc, &mut one, &mut sent)?);
-    join(&rt, &mut two, 1, 1)?;
-    join(&rt, &mut three, 1, 1)?;
-    tell(alloc, &one, 1, &mut two, 2, &mut other);
-    tell(alloc, &one, 1, &mut three, 3, &mut other);
-    assert!(rt; arrive(alloc, &mut three, &sent, 0)? == Some(Err(Why::NotMember)));
-    assert!(rt; arrive(alloc, &mut three, &sent, 1)? == Some(Ok(1)));
-    assert!(rt; arrive(alloc, &mut two, &sent, 0)? == Some(Ok(1)));
-    tell(alloc, &two, 2, &mut one, 1, &mut sent);
-    assert_eq!(rt; one.load(), (1, 0));
+    let mut sent = Outbox::new(alloc);
+    let mut one = after_two_packets(&rt, alloc, &mut sent)?;
+    let mut three = listener(&rt, alloc, &one, 3)?;
+    arrives(
+        &rt,
+        alloc,
+        &mut three,
+        &sent,
+        0,
+        Answer::Ignored(Why::NotMember),
+    )?;
+    arrives(&rt, alloc, &mut three, &sent, 1, Answer::Took(1))?;
     tell(alloc, &three, 3, &mut one, 1, &mut sent);
-    assert_eq!(rt; one.load(), (1, 0));
+    holds(&rt, &one, 2, 0, 2);
     leave(alloc, &mut one, 2, &mut sent);
-    assert_eq!(rt; (one.load(), one.numbered()), ((0, 0), 2));
+    holds(&rt, &one, 0, 0, 2);
     Ok(())
 }
 
@@ -128,19 +166,10 @@ fn numbers_are_passed_over_when_nobody_is_left(rt: HostRuntime) -> Result<(), Fa
     let mut sent = Outbox::new(alloc);
     join(&rt, &mut one, 2, 1)?;
     for _ in 0..51 {
-        assert!(rt; send(alloc, &mut one, &mut sent)?);
+        send(&rt, alloc, &mut one, &mut sent)?;
     }
-    assert_eq!(rt;
-        (one.load(), one.numbered(), sent.frames().len()),
-        ((50, 1), 50, 50)
-    );
-    let copy = one.copy(alloc)?;
+    holds(&rt, &one.copy(alloc)?, 50, 1, 50);
     leave(alloc, &mut one, 2, &mut sent);
-    assert_eq!(rt;
-        (one.load(), one.numbered(), sent.frames().len()),
-        ((0, 0), 51, 50)
-    );
-    join(&rt, &mut one, 2, 52)?;
-    assert_eq!(rt; (copy.load(), copy.numbered()), ((50, 1), 50));
-    Ok(())
+    holds(&rt, &one, 0, 0, 51);
+    join(&rt, &mut one, 2, 52)
 }

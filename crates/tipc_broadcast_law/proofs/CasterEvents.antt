@@ -1,14 +1,13 @@
 -- What happens at the caster keeps what is true of each member, and so does every event.
-use Rattle.std.proofs.Common.{◌≡◌, ℕ, ◌+◌, ◌-◌, ◌<◌, ◌≤◌, List, [], ◌∷◌, ◌++◌, length, Option, Some, None, unwrap_or, refl, sym, ap, ◌∙◌, subst, inl, inr, ◌⊎◌, length-append, arith}
+use Rattle.std.proofs.Common.{◌≡◌, ℕ, ◌+◌, ◌<◌, ◌≤◌, [], ◌∷◌, ◌++◌, length, Some, None, refl, sym, ap, ◌∙◌, subst, inl, inr, ◌⊎◌, length-append, arith}
 use Rattle.std.proofs.lemmas.Bool.{cases_lt}
-use Rattle.std.proofs.lemmas.Option.{same_Some}
 use Rattle.tipc_broadcast_law.specs.Groups.{Accepted, Caster, Group, length_now, mark, Member, numbered_now, packets, place, put, queue, window}
-use Rattle.tipc_broadcast_law.specs.Events.{acknowledged, booted_again, Changes, entered, in_step_from, joined_in, left, line_with, numbered_to, taking, without_contact, caster_begins, caster_ends, member_begins, member_ends, steps_in, takes, acknowledges}
+use Rattle.tipc_broadcast_law.specs.Events.{booted_again, line_with, numbered_to, without_contact}
 use Rattle.tipc_broadcast_law.specs.Law.{Keeps}
-use Rattle.tipc_broadcast_law.specs.Events.{accepting, accepts, changes, empties, go_on, Happens, IsAlone, IsBegin, IsNewMember, none, numbers, restarts, Runs}
+use Rattle.tipc_broadcast_law.specs.Events.{accepting, accepts, changes, empties, go_on, Happens, none, numbers, restarts, Runs}
 use Rattle.tipc_broadcast_law.specs.Law.{IsGroup}
 use Rattle.tipc_broadcast_law.proofs.MemberEvents.{changed_keeps, ends}
-use Rattle.tipc_broadcast_law.proofs.Places.{mark-cases, mark-kept, mark-new, mark-none, mark-old, mark-within, packets-more, packets-none, packets-old, put_cases, put_other, put_same, same_or_not}
+use Rattle.tipc_broadcast_law.proofs.Places.{mark-cases, mark-kept, mark-new, mark-none, packets-none, packets-old, put_other, put_same, same_or_not}
 
 -- ---- a packet is accepted
 
@@ -74,10 +73,10 @@ accepting_keeps a x m k members room counted h =
       want_last = h.want_last;
       at_boot = h.at_boot;
       at_last = h.at_last;
-      starts = λ c d s y lt e boots mk. elim (more-marks a x m (k.boots c) c y mk) [ | inl old ↦ h.starts c d s y lt e boots old | inr new ↦ let last = h.joined_last c d s (now c new.2) e in absurd (omega arith) ];
-      mark_boot = λ f c y e. elim (more-marks a x m f c y e) [ | inl old ↦ h.mark_boot f c y old | inr new ↦ h.joined_boot c (now c new.2) ∙ sym new.0 ];
-      mark_begun = λ f c y e. elim (more-marks a x m f c y e) [ | inl old ↦ h.mark_begun f c y old | inr new ↦ let b = h.joined_begun c (now c new.2) in let w = h.begun_within c b.0 b.1 in let in' : b.0 ≤ length_now a = subst (λ g. b.0 ≤ length (a.line g)) (h.joined_boot c (now c new.2)) w in let at = new.1 in (b.0, b.1, omega arith) ];
-      run = λ f c y z s e b low high. elim (more-marks a x m f c y e) [ | inl old ↦ marks-stay a x m f c z (h.run f c y z s old b low high) | inr new ↦ let at = new.1 in subst (λ g. mark (put a.boot (a.line a.boot ++ x ∷ []) a.line g) m z ≡ Some c) (sym new.0) (before_or_new c s z (now c new.2) b low (omega arith)) ];
+      starts = λ c d s y lt e boots mk. elim (more-marks a x m (k.boots c) c y mk) [ inl old ↦ h.starts c d s y lt e boots old | inr new ↦ let last = h.joined_last c d s (now c new.2) e in absurd (omega arith) ];
+      mark_boot = λ f c y e. elim (more-marks a x m f c y e) [ inl old ↦ h.mark_boot f c y old | inr new ↦ h.joined_boot c (now c new.2) ∙ sym new.0 ];
+      mark_begun = λ f c y e. elim (more-marks a x m f c y e) [ inl old ↦ h.mark_begun f c y old | inr new ↦ let b = h.joined_begun c (now c new.2) in let w = h.begun_within c b.0 b.1 in let in' : b.0 ≤ length_now a = subst (λ g. b.0 ≤ length (a.line g)) (h.joined_boot c (now c new.2)) w in let at = new.1 in (b.0, b.1, omega arith) ];
+      run = λ f c y z s e b low high. elim (more-marks a x m f c y e) [ inl old ↦ marks-stay a x m f c z (h.run f c y z s old b low high) | inr new ↦ let at = new.1 in subst (λ g. mark (put a.boot (a.line a.boot ++ x ∷ []) a.line g) m z ≡ Some c) (sym new.0) (before_or_new c s z (now c new.2) b low (omega arith)) ];
       all = λ c s y is b low high. before_or_new c s y is b low (omega (arith, high, length-now a x));
       young = h.young;
       want_from = h.want_from;
@@ -88,7 +87,7 @@ accepting_keeps a x m k members room counted h =
       acked_from = h.acked_from;
       acked_place = h.acked_place;
       numbered_near = h.numbered_near;
-      mark_near = λ c y e. elim (more-marks a x m (k.boots c) c y e) [ | inl old ↦ h.mark_near c y old | inr new ↦ let near = h.numbered_near c (now c new.2) in let to = h.acked_place c (now c new.2) in let at = new.1 in omega arith ];
+      mark_near = λ c y e. elim (more-marks a x m (k.boots c) c y e) [ inl old ↦ h.mark_near c y old | inr new ↦ let near = h.numbered_near c (now c new.2) in let to = h.acked_place c (now c new.2) in let at = new.1 in omega arith ];
       joined_near = h.joined_near;
       place_near = h.place_near;
     }

@@ -1,18 +1,17 @@
 -- What follows of what is always true.
-use Rattle.std.proofs.Common.{◌≡◌, ℕ, ◌+◌, ◌-◌, ◌<◌, ◌≤◌, ◌==◌, Bool, true, false, cond, List, [], ◌∷◌, ◌++◌, length, take, drop, map, filter, get_or, slice_get, Option, Some, None, refl, sym, ap, ◌∙◌, subst, append_assoc, length-drop, length-take, inl, inr, ◌⊎◌, eqb-true, arith}
+use Rattle.std.proofs.Common.{◌≡◌, ℕ, ◌+◌, ◌-◌, ◌<◌, ◌≤◌, ◌==◌, Bool, true, false, cond, List, [], ◌∷◌, ◌++◌, length, take, drop, map, filter, get_or, slice_get, Some, None, refl, sym, ap, ◌∙◌, subst, length-drop, length-take, eqb-true, arith}
 use Rattle.std.specs.Prelude.{All}
-use Rattle.std.proofs.lemmas.Bool.{cases_lt}
 use Rattle.std.proofs.lemmas.Bool.Decides.{nat_tests}
-use Rattle.std.proofs.lemmas.List.{drop-drop, get_or-drop, get_or-take, map-append, take-append-drop}
+use Rattle.std.proofs.lemmas.List.{get_or-drop, get_or-take, map-append, take-append-drop}
 use Rattle.std.proofs.lemmas.List.Elements.{All-from_get_or, All-head, All-tail, filter-append}
 use Rattle.std.proofs.lemmas.Option.{same_Some, slice_get-get_or}
-use Rattle.tipc_broadcast_law.specs.Groups.{Accepted, accepted_for, Caster, Group, is_contact, length_now, mark, mark_in, Member, numbered_now, packets, place, queue, window}
+use Rattle.tipc_broadcast_law.specs.Groups.{Accepted, accepted_for, Caster, Group, is_contact, mark, mark_in, Member, numbered_now, packets, place, queue, window}
 use Rattle.tipc_broadcast_law.specs.Events.{IsBegin, IsNewMember, Runs}
 use Rattle.tipc_broadcast_law.specs.Law.{IsGroup, Keeps}
-use Rattle.tipc_broadcast_law.specs.Promises.{IsFrontOf, IsPending, ReleasesInOrder}
+use Rattle.tipc_broadcast_law.specs.Promises.{IsFrontOf, ReleasesInOrder}
 use Rattle.tipc_broadcast_law.proofs.CasterEvents.{run_keeps}
 use Rattle.tipc_broadcast_law.proofs.MemberEvents.{place-begun, place-want}
-use Rattle.tipc_broadcast_law.proofs.Places.{mark-none, mark-within}
+use Rattle.tipc_broadcast_law.proofs.Places.{mark-none}
 
 -- ---- the begin
 
@@ -101,16 +100,16 @@ front_is line m c s w d low before own =
     let middle = take (w - s) (drop s line) in
     let rest = drop (w - s) (drop s line) in
     let nobody : filter p head ≡ [] = filter-none p head (All-from_get_or (λ a. p a ≡ false) head d (λ i within.
-        let size = length-take s line in
-        let inside : i < length line = omega arith in
-        let less : i < s = omega arith in
-        subst (λ a. p a ≡ false) (sym (get_or-take s line i d less)) (not_for-mark line m c i d inside (λ e. let from = before i e in absurd (omega arith))))) in
+    let size = length-take s line in
+    let inside : i < length line = omega arith in
+    let less : i < s = omega arith in
+    subst (λ a. p a ≡ false) (sym (get_or-take s line i d less)) (not_for-mark line m c i d inside (λ e. let from = before i e in absurd (omega arith))))) in
     let everyone : filter p middle ≡ middle = filter-all p middle (All-from_get_or (λ a. p a ≡ true) middle d (λ i within.
-        let size = length-take (w - s) (drop s line) in
-        let left = length-drop s line in
-        let less : i < w - s = omega arith in
-        let inside : s + i < length line = omega arith in
-        subst (λ a. p a ≡ true) (sym (get_or-take (w - s) (drop s line) i d less ∙ get_or-drop s line i d)) (is_for-mark line m c (s + i) d inside (own (s + i) (omega arith) (omega arith))))) in
+    let size = length-take (w - s) (drop s line) in
+    let left = length-drop s line in
+    let less : i < w - s = omega arith in
+    let inside : s + i < length line = omega arith in
+    subst (λ a. p a ≡ true) (sym (get_or-take (w - s) (drop s line) i d less ∙ get_or-drop s line i d)) (is_for-mark line m c (s + i) d inside (own (s + i) (omega arith) (omega arith))))) in
     let split : filter p line ≡ middle ++ filter p rest =
     ap (filter p) (sym (take-append-drop s line)) ∙ filter-append p head (drop s line) ∙ ap (λ xs. xs ++ filter p (drop s line)) nobody
     ∙ ap (filter p) (sym (take-append-drop (w - s) (drop s line))) ∙ filter-append p middle rest ∙ ap (λ xs. xs ++ filter p rest) everyone in

@@ -1,6 +1,6 @@
 -- What may happen to a caster and its members. A packet that was numbered once may arrive anywhere at any time, and
 -- again; so may a STATE of a contact.
-use Rattle.std.specs.Prelude.{◌≡◌, ℕ, ◌+◌, ◌<◌, ◌≤◌, List, [], ◌∷◌, ◌++◌, length, Option, Some, None}
+use Rattle.std.specs.Prelude.{◌≡◌, ℕ, ◌+◌, ◌<◌, ◌≤◌, List, [], ◌∷◌, ◌++◌, Some, None}
 use Rattle.tipc_broadcast_law.specs.Groups.{Accepted, Caster, Group, length_now, mark, Member, numbered_now, packets, put, queue, window}
 
 -- ---- at the caster

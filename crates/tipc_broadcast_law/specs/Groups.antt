@@ -1,6 +1,6 @@
 -- One node that broadcasts, the caster, and any number of members, over all boots of the caster. A packet's place is
 -- its place in the list of all packets that were accepted in one boot, from 0 on.
-use Rattle.std.specs.Prelude.{◌≡◌, ℕ, ◌+◌, ◌-◌, ◌==◌, Bool, false, List, [], length, take, drop, filter, map, slice_get, unwrap_or, Option, Some, None, if◌then◌else◌}
+use Rattle.std.specs.Prelude.{ℕ, ◌-◌, ◌==◌, Bool, false, List, length, take, drop, filter, map, slice_get, unwrap_or, Option, Some, None, if◌then◌else◌}
 
 -- a packet that was accepted: its bytes, and for each member the contact in which it is for that member, if it is
 pub record Accepted : Type 0 where

@@ -1,5 +1,5 @@
 -- What is always true of a caster and its members.
-use Rattle.std.specs.Prelude.{◌≡◌, ℕ, ◌+◌, ◌<◌, ◌≤◌, List, [], length, Option, Some, None}
+use Rattle.std.specs.Prelude.{◌≡◌, ℕ, ◌+◌, ◌<◌, ◌≤◌, [], length, Some, None}
 use Rattle.tipc_broadcast_law.specs.Groups.{Caster, Group, length_now, mark, Member, numbered_now, packets, place, queue, window}
 
 -- What is true of each member m, as a caster and the member keep it. Contacts are c and d, places x and y, starts s.

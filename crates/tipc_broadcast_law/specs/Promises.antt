@@ -1,6 +1,6 @@
 -- What follows for callers.
-use Rattle.std.specs.Prelude.{◌≡◌, ℕ, ◌+◌, ◌<◌, ◌≤◌, List, ◌++◌, Option, Some, None}
-use Rattle.tipc_broadcast_law.specs.Groups.{accepted_for, Caster, Group, mark, Member, numbered_now, place, queue, window}
+use Rattle.std.specs.Prelude.{◌≡◌, ℕ, ◌+◌, ◌<◌, ◌≤◌, List, ◌++◌, Some}
+use Rattle.tipc_broadcast_law.specs.Groups.{accepted_for, Group, mark, numbered_now, place, queue, window}
 use Rattle.tipc_broadcast_law.specs.Events.{Happens, IsBegin, Runs}
 use Rattle.tipc_broadcast_law.specs.Law.{IsGroup}
 

@@ -1,7 +1,7 @@
-use Rattle.std.proofs.Common.{◌≡◌, ◌++◌, ap, ◌∙◌, subst}
+use Rattle.std.proofs.Common.{◌++◌, ap, ◌∙◌, subst}
 use Rattle.tipc_outside.proofs.Adding.{adds_more}
 use Rattle.tipc_outside.specs.Frames.{Adds}
-use Rattle.tipc_broadcast.specs.Casting.{Casting, credited, flush_frames, repeat_frames, settled}
+use Rattle.tipc_broadcast.specs.Casting.{Casting, flush_frames, repeat_frames, settled}
 use Rattle.tipc_broadcast.proofs.broadcast.Broadcast.answer.Goals as goal
 
 pub returns-clause-frames : goal.returns-clause-frames

@@ -1,7 +1,7 @@
-use Rattle.std.proofs.Common.{◌≡◌, sym, ap, ◌∙◌, Some, None}
+use Rattle.std.proofs.Common.{sym, ap, ◌∙◌}
 use Rattle.std.proofs.lemmas.Result.{IfOk-weaker, on_ok_weaker}
 use Rattle.tipc_header.specs.Spelling.{view}
-use Rattle.tipc_broadcast.specs.Contacts.{brought, contact_with, heard, is_with, refusal}
+use Rattle.tipc_broadcast.specs.Contacts.{brought, heard, is_with, refusal}
 use Rattle.tipc_broadcast.specs.Casting.{arriving, arriving_outcome, Casting, hearing_outcome, with_contacts}
 use Rattle.tipc_broadcast.proofs.Finding.{change_is, found_is, missing_is, not_placed, placed_is, unchanged}
 use Rattle.tipc_broadcast.proofs.Keeping.{arrival-keeps}

@@ -1,5 +1,5 @@
-use Rattle.std.proofs.Common.{◌≡◌, sym, ap, ◌∙◌, subst, Some}
-use Rattle.tipc_broadcast.specs.Contacts.{acknowledging, has_joined, is_with, with_changed}
+use Rattle.std.proofs.Common.{ap, ◌∙◌}
+use Rattle.tipc_broadcast.specs.Contacts.{acknowledging, has_joined}
 use Rattle.tipc_broadcast.specs.Casting.{Casting, credited, with_contacts}
 use Rattle.tipc_broadcast.proofs.Finding.{change_is, has_place, missing_is, placed_is}
 use Rattle.tipc_broadcast.proofs.Keeping.{credit-keeps}

@@ -1,4 +1,4 @@
-use Rattle.std.proofs.Common.{◌≡◌, sym, ap, ◌∙◌, Some}
+use Rattle.std.proofs.Common.{ap, ◌∙◌}
 use Rattle.tipc_broadcast.specs.Contacts.{has_joined, told}
 use Rattle.tipc_broadcast.specs.Casting.{Casting, informed, with_contacts}
 use Rattle.tipc_broadcast.proofs.Finding.{change_is, has_place, missing_is}

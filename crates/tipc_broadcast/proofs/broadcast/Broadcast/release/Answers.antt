@@ -1,4 +1,4 @@
-use Rattle.std.proofs.Common.{◌≡◌, sym, ap, ◌∙◌, subst}
+use Rattle.std.proofs.Common.{sym, ap, ◌∙◌, subst}
 use Rattle.tipc_broadcast.specs.Casting.{Casting, IsCasting, settled, with_sending}
 use Rattle.tipc_broadcast.proofs.Keeping.{release-keeps, release_is}
 use Rattle.tipc_broadcast.proofs.broadcast.Broadcast.release.Goals as goal

@@ -1,4 +1,4 @@
-use Rattle.std.proofs.Common.{◌≡◌, ap, ◌∙◌, subst}
+use Rattle.std.proofs.Common.{ap, ◌∙◌, subst}
 use Rattle.tipc_outside.specs.Frames.{Adds}
 use Rattle.tipc_broadcast.specs.Casting.{Casting, flush_frames, flushed, kept_for}
 use Rattle.tipc_broadcast.proofs.broadcast.Broadcast.send.Goals as goal

@@ -1,4 +1,4 @@
-use Rattle.std.proofs.Common.{◌≡◌, ap, ◌∙◌}
+use Rattle.std.proofs.Common.{ap, ◌∙◌}
 use Rattle.tipc_broadcast.specs.Contacts.{has_joined, told}
 use Rattle.tipc_broadcast.specs.Casting.{Casting}
 use Rattle.tipc_broadcast.proofs.Finding.{joined_still, told-peer}
