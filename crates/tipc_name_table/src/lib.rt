@@ -1,0 +1,13 @@
+//! The name table of a node: the publications that it knows, its own and those of its peers.
+#![tactic(auto)]
+
+pub mod laws;
+mod names;
+mod plain;
+mod publications;
+
+pub use names::{MOST_PUBLICATIONS, NameFault, Names, Unknown};
+pub use plain::NameTable;
+
+#[cfg(test)]
+mod tests;
