@@ -1,0 +1,236 @@
+-- What a pair makes of its one link end in each call, as deeds.
+use Rattle.std.proofs.Common.{◌≡◌, ◌+◌, ℕ, Bool, true, false, if◌then◌else◌, List, [], ◌∷◌, Some, option_map, refl, sym, ap, ◌∙◌, subst, inl, inr}
+use Rattle.std.specs.Prelude.{slice_get}
+use Rattle.std.proofs.lemmas.Bool.{cases_eq}
+use Rattle.tipc_types.specs.declared.link_words.BroadcastState.{BroadcastState}
+use Rattle.tipc_types.specs.declared.link_words.Cause.{Cause}
+use Rattle.tipc_types.specs.declared.link_words.Reply.TheVariants as reply
+use Rattle.tipc_outside.specs.declared.outgoing.Outgoing.{Outgoing}
+use Rattle.tipc_contact.specs.Sides.{IsTold}
+use Rattle.tipc_fragments.specs.Joining.{Joining}
+use Rattle.tipc_link.specs.Links.{LinkEnd, after, follow_frames, followed, frames, is_down, on_bearer, reset_frames, session_of, state_frames, with_fsm}
+use Rattle.tipc_link.specs.Sessions.{state_frame}
+use Rattle.tipc_link.proofs.LinkLaw.{Each, Each-none, Each-one}
+use Rattle.tipc_link_fsm.specs.declared.changes.Change.{Change}
+use Rattle.tipc_link_fsm.specs.declared.changes.Change.TheVariants.{Stay, Up, Down, Answer, Ignore}
+use Rattle.tipc_link_fsm.specs.Runs.{Call, ActivateArrives, BearerIsCut, ContactEnds, ForgetsPeer, Releases, ResetArrives, TickPasses, TrafficArrives, TunnelNames, outcome}
+use Rattle.tipc_link_fsm.specs.Table.{is_up}
+use Rattle.tipc_pair.proofs.Ends.{after-is}
+use Rattle.tipc_pair.proofs.EndsTurns.{Rises, Turn, fall, is_quiet, learn, rise, stay}
+use Rattle.tipc_pair.specs.Paired.{IsShowable}
+use Rattle.tipc_pair.specs.Pairs.{parted as parted_end, settled, settled_frames}
+use Rattle.tipc_partners.proofs.CallDeeds.{call_named}
+use Rattle.tipc_partners.proofs.PartnersLaw.{acts_then}
+use Rattle.tipc_partners.proofs.Tellings.{told_all, told_of_all, told_on, tells_all}
+use Rattle.tipc_partners.proofs.Turns.{call_turns, shown_to}
+use Rattle.tipc_partners.proofs.Wires.{none_some, put_other, put_same, same_some, session_of_up}
+use Rattle.tipc_partners.specs.Calls.{IsToldOn}
+use Rattle.tipc_partners.specs.Deeds.{MayCall, MayTell, activates, calls, ended_with, falls, parted, resets, rises, states, with_begun}
+use Rattle.tipc_partners.specs.EndCalls.{Became, EndCallsAreDeeds, HasEnd, partial_after}
+use Rattle.tipc_partners.specs.Partners.{Acts, ActsAll, ArePartners, Partner, changes, follows, nothing, renewed, viewed, works}
+use Rattle.tipc_partners.specs.Views.{IsApart, Node, View, Wire, said_by, with_end, with_wire}
+
+-- ---- one deed, and frames behind it
+
+one : (x y x' : Partner) → Acts x y x' → ActsAll x y x'
+one x y x' act = follows x x' nothing act
+
+-- the end on the bearer is another now, and there is none on another bearer
+end_on : (x : View) (b : ℕ) (e : LinkEnd) (w' : Wire) (e' : LinkEnd) → HasEnd x b e → w'.end ≡ Some e' → HasEnd (with_wire x b w') b e'
+end_on x b e w' e' h is = record {
+  end_is = ap (λ (w : Wire). w.end) (put_same x.wires b w') ∙ is;
+  alone = λ c other. ap (λ (w : Wire). w.end) (put_other x.wires b w' c other) ∙ h.alone c other;
+}
+
+-- it became e', and then told frames
+tell_after : (x y mid : Partner) (b : ℕ) (e' : LinkEnd) (frames : List Outgoing) (partial : Joining) → Became x y mid b e' [] partial → Each (MayTell (mid.view.wires b)) frames → (after : Partner) × Became x y after b e' frames partial
+tell_after x y mid b e' frames partial h may = (
+  told_all mid y b frames,
+  record {
+    acts = acts_then x y mid (told_all mid y b frames) h.acts (tells_all mid y b frames may);
+    end = record { end_is = h.end.end_is; alone = h.end.alone };
+    told = told_of_all mid y b frames;
+    put = h.put;
+    given = h.given;
+    partial_is = h.partial_is;
+  },
+)
+
+-- it told frames, and then became e'
+tell_before : (x y : Partner) (b : ℕ) (e' : LinkEnd) (frames : List Outgoing) (partial : Joining) → Each (MayTell (x.view.wires b)) frames → ((mid : Partner) → ActsAll x y mid → mid.view.node ≡ x.view.node → mid.view.wires ≡ x.view.wires → mid.put ≡ x.put → mid.given ≡ x.given → mid.partial ≡ x.partial
+    → (after : Partner) × Became mid y after b e' [] partial) → (after : Partner) × Became x y after b e' frames partial
+tell_before x y b e' frames partial may next =
+    let mid = told_all x y b frames in
+    let tells = tells_all x y b frames may in
+    let h = next mid tells refl refl refl refl refl in (
+      h.0,
+      record {
+        acts = acts_then x y mid h.0 tells h.1.acts;
+        end = h.1.end;
+        told = λ k o is. told_on mid y h.0 b o h.1.acts (told_of_all x y b frames k o is);
+        put = h.1.put;
+        given = h.1.given;
+        partial_is = h.1.partial_is;
+      },
+    )
+
+-- ---- a call that leaves the link up or down
+
+quiet_partial : (c : Change) (partial : Joining) → is_quiet c ≡ true → partial ≡ partial_after c partial
+quiet_partial Up partial quiet = absurd (let wrong : ⊥ = cc in wrong)
+quiet_partial (Down cause) partial quiet = absurd (let wrong : ⊥ = cc in wrong)
+quiet_partial other partial quiet = refl
+
+called : (x y : Partner) (b : ℕ) (e : LinkEnd) (call : Call) → HasEnd x.view b e → MayCall x.view y.view b call → is_quiet (outcome e.fsm call).change ≡ true
+    → (after_call : Partner) × Became x y after_call b (after e (outcome e.fsm call)) [] (partial_after (outcome e.fsm call).change x.partial)
+called x y b e call h may quiet =
+    let o = outcome e.fsm call in
+    let v = with_wire x.view b (with_end (x.view.wires b) (after e o)) in (
+      viewed x v,
+      record {
+        acts = one x y (viewed x v) (works v (calls b e call h.end_is may quiet));
+        end = end_on x.view b e (with_end (x.view.wires b) (after e o)) (after e o) h refl;
+        told = λ k f there. absurd (let none : ⊥ = cc in none);
+        put = refl;
+        given = refl;
+        partial_is = quiet_partial o.change x.partial quiet;
+      },
+    )
+
+on_bearer_may : (w : Wire) (e : LinkEnd) (o : Outgoing) → MayTell w o → Each (MayTell w) (on_bearer e o)
+on_bearer_may w e o may = elim e.mended as (λ t. Each (MayTell w) (if t then o ∷ [] else [])) [ true ↦ Each-one (MayTell w) o may | false ↦ Each-none (MayTell w) ]
+
+-- the same call of a node that did something else, with the same contact numbers
+may_later : (x v y : View) (b : ℕ) (call : Call) → v.node ≡ x.node → MayCall x y b call → MayCall v y b call
+may_later x v y b (ResetArrives es held) same may = subst (λ (n : Node). IsTold (said_by y) b es n.seen) (sym same) may
+may_later x v y b (ActivateArrives es er) same may = (subst (λ (n : Node). IsTold (said_by y) b es n.seen) (sym same) may.0, may.1)
+may_later x v y b (TrafficArrives es er) same may = may
+may_later x v y b (TickPasses held) same may = tt
+may_later x v y b (BearerIsCut held) same may = tt
+may_later x v y b (TunnelNames epoch) same may = tt
+may_later x v y b Releases same may = tt
+may_later x v y b ForgetsPeer same may = may
+may_later x v y b ContactEnds same may = may
+
+quiet_did : (x y : Partner) (b : ℕ) (e : LinkEnd) (call : Call) (shown : BroadcastState) (c : Change) → ArePartners x y → HasEnd x.view b e → MayCall x.view y.view b call → (outcome e.fsm call).change ≡ c → is_quiet c ≡ true
+    → ((probe : Bool) → c ≡ Answer (reply.State probe) → is_up e.fsm.state ≡ true) → IsShowable shown
+    → (after_call : Partner) × Became x y after_call b (after e (outcome e.fsm call)) (follow_frames (with_fsm e (outcome e.fsm call).after) c shown) (partial_after (outcome e.fsm call).change x.partial)
+quiet_did x y b e call shown Up h end may is quiet says showable = absurd (let wrong : ⊥ = cc in wrong)
+quiet_did x y b e call shown (Down cause) h end may is quiet says showable = absurd (let wrong : ⊥ = cc in wrong)
+quiet_did x y b e call shown Stay h end may is quiet says showable = called x y b e call end may (ap is_quiet is ∙ quiet)
+quiet_did x y b e call shown (Ignore why) h end may is quiet says showable = called x y b e call end may (ap is_quiet is ∙ quiet)
+quiet_did x y b e call shown (Answer reply.Reset) h end may is quiet says showable =
+    let o = outcome e.fsm call in
+    let did = called x y b e call end may (ap is_quiet is ∙ quiet) in
+    let same : after e o ≡ with_fsm e o.after = ap (followed (with_fsm e o.after)) is in
+    tell_after x y did.0 b (after e o) _ _ did.1 (on_bearer_may (did.0.view.wires b) (with_fsm e o.after) _ (resets (with_fsm e o.after) (did.1.end.end_is ∙ ap Some same)))
+quiet_did x y b e call shown (Answer reply.Activate) h end may is quiet says showable =
+    let o = outcome e.fsm call in
+    let did = called x y b e call end may (ap is_quiet is ∙ quiet) in
+    let same : after e o ≡ with_fsm e o.after = ap (followed (with_fsm e o.after)) is in
+    tell_after x y did.0 b (after e o) _ _ did.1 (on_bearer_may (did.0.view.wires b) (with_fsm e o.after) _ (activates (with_fsm e o.after) (did.1.end.end_is ∙ ap Some same)))
+quiet_did x y b e call shown (Answer (reply.State probe)) h end may is quiet says showable =
+    let o = outcome e.fsm call in
+    let up = says probe refl in
+    let going = (h.paired.here.ends b e end.end_is).going up in
+    let on = session_of_up (x.view.wires b) e going.0 (record { end_is = end.end_is; up = up; session_is = going.1 }) in
+    let told = state_frame going.0 shown probe ∷ [] in
+    let did = tell_before x y b (after e o) told (partial_after o.change x.partial) (Each-one (MayTell (x.view.wires b)) (state_frame going.0 shown probe) (states going.0 shown probe on showable))
+    (λ mid acts node wires put given partial.
+    let end' : HasEnd mid.view b e = record { end_is = ap (λ (ws : ℕ → Wire). (ws b).end) wires ∙ end.end_is; alone = λ c other. ap (λ (ws : ℕ → Wire). (ws c).end) wires ∙ end.alone c other } in
+    let next = called mid y b e call end' (may_later x.view mid.view y.view b call node may) (ap is_quiet is ∙ quiet) in
+    (next.0, record { acts = next.1.acts; end = next.1.end; told = next.1.told; put = next.1.put; given = next.1.given; partial_is = next.1.partial_is ∙ ap (partial_after o.change) partial })) in (
+      did.0,
+      record {
+        acts = did.1.acts;
+        end = did.1.end;
+        told = subst (λ (fs : List Outgoing). (k : ℕ) (f : Outgoing) → slice_get fs k ≡ Some f → IsToldOn did.0.view b f) (ap (λ s. state_frames s shown probe) (sym going.1)) did.1.told;
+        put = did.1.put;
+        given = did.1.given;
+        partial_is = did.1.partial_is;
+      },
+    )
+
+-- ---- a call that takes the link down, or up
+
+fell_did : (x y : Partner) (b : ℕ) (e : LinkEnd) (call : Call) (cause : Cause) → ArePartners x y → HasEnd x.view b e → MayCall x.view y.view b call → (outcome e.fsm call).change ≡ Down cause
+    → (after_call : Partner) × Became x y after_call b (parted_end (after e (outcome e.fsm call))) (reset_frames (parted_end (after e (outcome e.fsm call)))) (partial_after (outcome e.fsm call).change x.partial)
+fell_did x y b e call cause h end may down =
+    let o = outcome e.fsm call in
+    let d = after e o in
+    let v = with_wire x.view b (with_end (x.view.wires b) d) in
+    let mid = renewed x (parted v) in
+    let there = end_on x.view b e (with_end (x.view.wires b) d) d end refl in
+    let contact : d.contact ≡ x.view.node.contact = ap (λ (k : LinkEnd). k.contact) (after-is e o) ∙ (h.paired.here.ends b e end.end_is).contact in
+    let same : ended_with (x.view.node.contact + 1) d ≡ parted_end d = ap (λ n. ended_with (n + 1) d) (sym contact) in
+    let became : Became x y mid b (parted_end d) [] (partial_after o.change x.partial) = record {
+      acts = one x y mid (changes (parted v) (falls b e call cause end.end_is may down));
+      end = record {
+        end_is = ap (λ z. option_map (ended_with (x.view.node.contact + 1)) z) there.end_is ∙ ap Some same;
+        alone = λ c other. ap (λ z. option_map (ended_with (x.view.node.contact + 1)) z) (there.alone c other);
+      };
+      told = λ k f is. absurd (let none : ⊥ = cc in none);
+      put = refl;
+      given = refl;
+      partial_is = ap (λ c. partial_after c x.partial) (sym down);
+    } in
+    tell_after x y mid b (parted_end d) (reset_frames (parted_end d)) (partial_after o.change x.partial) became (on_bearer_may (mid.view.wires b) (parted_end d) _ (resets (parted_end d) became.end.end_is))
+
+rose_did : (x y : Partner) (b : ℕ) (e : LinkEnd) (call : Call) (shown : BroadcastState) → ArePartners x y → HasEnd x.view b e → MayCall x.view y.view b call → Rises e.fsm (shown_to call) (outcome e.fsm call) → IsShowable shown
+    → (after_call : Partner) × Became x y after_call b (after e (outcome e.fsm call)) (state_frame (session_of (with_fsm e (outcome e.fsm call).after)) shown false ∷ []) (partial_after (outcome e.fsm call).change x.partial)
+rose_did x y b e call shown h end may m showable =
+    let o = outcome e.fsm call in
+    let d = after e o in
+    let s = session_of (with_fsm e o.after) in
+    let same : d ≡ record (with_fsm e o.after) { session = Some s } = ap (followed (with_fsm e o.after)) m.change in
+    let apart : IsApart x.view = λ c k is. elim (cases_eq c b) [
+      | inl here ↦ (let one : k ≡ e = same_some k e _ (ap (λ i. (x.view.wires i).end) (sym here) ∙ is) end.end_is in ap (λ (z : LinkEnd). is_up z.fsm.state) one ∙ m.was)
+      | inr other ↦ absurd (none_some k _ (end.alone c other) is)
+    ] in
+    let w' = with_begun x.view.node (x.view.wires b) d in
+    let mid = renewed x (with_wire x.view b w') in
+    let there = end_on x.view b e w' d end refl in
+    let became : Became x y mid b d [] (partial_after o.change x.partial) = record {
+      acts = one x y mid (changes (with_wire x.view b w') (rises b e call end.end_is may m.change apart));
+      end = there;
+      told = λ k f is. absurd (let none : ⊥ = cc in none);
+      put = refl;
+      given = refl;
+      partial_is = ap (λ c. partial_after c x.partial) (sym m.change);
+    } in
+    let on = session_of_up (mid.view.wires b) d s (record { end_is = there.end_is; up = ap (λ (z : LinkEnd). is_up z.fsm.state) same ∙ m.up; session_is = ap (λ (z : LinkEnd). z.session) same }) in
+    tell_after x y mid b d _ (partial_after o.change x.partial) became (Each-one (MayTell (mid.view.wires b)) (state_frame s shown false) (states s shown false on showable))
+
+-- ---- a call
+
+quiet_not_down : (c : Change) → is_quiet c ≡ true → is_down c ≡ false
+quiet_not_down Up quiet = refl
+quiet_not_down (Down cause) quiet = absurd (let wrong : ⊥ = cc in wrong)
+quiet_not_down other quiet = refl
+
+settled_turn : (x y : Partner) (b : ℕ) (e : LinkEnd) (call : Call) (shown : BroadcastState) → ArePartners x y → HasEnd x.view b e → MayCall x.view y.view b call → IsShowable shown → Turn e.fsm (shown_to call) (outcome e.fsm call)
+    → (after_call : Partner) × Became x y after_call b (settled e (outcome e.fsm call)) (settled_frames e (outcome e.fsm call) shown) (partial_after (outcome e.fsm call).change x.partial)
+settled_turn x y b e call shown h end may showable (stay m) =
+    let o = outcome e.fsm call in
+    subst (λ t. (z : Partner) × Became x y z b (if t then parted_end (after e o) else after e o) (if t then reset_frames (parted_end (after e o)) else frames e o shown) (partial_after o.change x.partial)) (sym (quiet_not_down o.change m.quiet))
+    (quiet_did x y b e call shown o.change h end may refl m.quiet m.says showable)
+settled_turn x y b e call shown h end may showable (learn m) =
+    let o = outcome e.fsm call in
+    let quiet : is_quiet o.change ≡ true = ap is_quiet m.change in
+    subst (λ t. (z : Partner) × Became x y z b (if t then parted_end (after e o) else after e o) (if t then reset_frames (parted_end (after e o)) else frames e o shown) (partial_after o.change x.partial)) (sym (quiet_not_down o.change quiet))
+    (quiet_did x y b e call shown o.change h end may refl quiet (λ probe is. absurd (let one = m.change in let wrong : ⊥ = cc in wrong)) showable)
+settled_turn x y b e call shown h end may showable (fall m) =
+    let o = outcome e.fsm call in
+    subst (λ t. (z : Partner) × Became x y z b (if t then parted_end (after e o) else after e o) (if t then reset_frames (parted_end (after e o)) else frames e o shown) (partial_after o.change x.partial)) (sym (ap is_down m.change))
+    (fell_did x y b e call m.cause h end may m.change)
+settled_turn x y b e call shown h end may showable (rise m) =
+    let o = outcome e.fsm call in
+    let told : frames e o shown ≡ state_frame (session_of (with_fsm e o.after)) shown false ∷ [] = ap (λ c. follow_frames (with_fsm e o.after) c shown) m.change in
+    subst (λ t. (z : Partner) × Became x y z b (if t then parted_end (after e o) else after e o) (if t then reset_frames (parted_end (after e o)) else frames e o shown) (partial_after o.change x.partial)) (sym (ap is_down m.change))
+    (subst (λ fs. (z : Partner) × Became x y z b (after e o) fs (partial_after o.change x.partial)) (sym told) (rose_did x y b e call shown h end may m showable))
+
+-- what a call makes of the end, with the frames that it says
+pub settled_did : EndCallsAreDeeds
+settled_did x y b e call shown h end may showable =
+    let named = call_named x.view y.view b call may in
+    settled_turn x y b e call shown h end may showable (call_turns e.fsm call named.0 named.1)

@@ -1,0 +1,317 @@
+-- A link goes up, and a session begins.
+use Rattle.std.proofs.Common.{◌≡◌, ◌⊎◌, ◌<◌, ◌≤◌, ◌^◌, ℕ, false, List, [], Option, Some, None, length, refl, sym, ap, ◌∙◌, subst, inl, inr, arith}
+use Rattle.std.specs.Prelude.{slice_get}
+use Rattle.std.proofs.lemmas.Bool.{cases_lt, true≢false}
+use Rattle.tipc_contact.specs.Peers.{ArePeers}
+use Rattle.tipc_contact.proofs.Sessions.{sent_in_contact}
+use Rattle.tipc_link.specs.Direction.{IsDirection}
+use Rattle.tipc_link.specs.Links.{LinkEnd, after, known, session_of}
+use Rattle.tipc_link.specs.Sessions.{SessionEnd, begun}
+use Rattle.tipc_link.proofs.Directions.{holds_none}
+use Rattle.tipc_link_fsm.specs.declared.changes.Change.TheVariants.{Up}
+use Rattle.tipc_link_fsm.specs.Runs.{Call, ActivateArrives, BearerIsCut, ContactEnds, ForgetsPeer, Releases, ResetArrives, TickPasses, TrafficArrives, TunnelNames, outcome}
+use Rattle.tipc_link_fsm.specs.Table.{Fsm, is_last}
+use Rattle.tipc_pair.proofs.Ends.{IsRaised, after-is, rises_raised}
+use Rattle.tipc_pair.proofs.EndsTurns.{Turn, fall, is_quiet, learn, rise, stay}
+use Rattle.tipc_partners.proofs.CallDeeds.{call_named, shown_fits}
+use Rattle.tipc_partners.proofs.Ends.{raised_end}
+use Rattle.tipc_partners.proofs.Rises.{Goes}
+use Rattle.tipc_partners.proofs.Sides.{peers_called}
+use Rattle.tipc_partners.proofs.Turns.{call_turns, shown_to}
+use Rattle.tipc_partners.proofs.WireDeeds.{wire_deed}
+use Rattle.tipc_partners.proofs.Wires.{epoch_of_end, map_at, none_some, on_put, on_put_else, prefix_of_none, prefix_same, put_other, put_same, same_some, session_of_down, session_of_up}
+use Rattle.tipc_partners.specs.Deeds.{MayCall, begun_by, with_begun}
+use Rattle.tipc_partners.specs.Paired.{ArePaired, IsEnd, IsEpochs, IsGoing, IsShown, IsWire, Met}
+use Rattle.tipc_partners.specs.Views.{Begun, Frame, IsApart, View, Wire, epoch_on, er_of, es_of, fsm_in, notice_of, put_at, said_by, session_on, side_of, with_wire}
+
+-- A link end e of wire b went up and is e', under the peer's epoch es, which the peer told beside the end's own one.
+pub record Went (x y : View) (b : ℕ) (e e' : LinkEnd) (es : ℕ) : Type 0 where
+  pub end_is : (x.wires b).end ≡ Some e
+  pub raised : IsRaised e e'
+  pub peer_is : e'.fsm.peer ≡ Some es
+  pub fits : es < 2 ^ 64
+  pub highest : e'.fsm.highest ≡ es
+  pub no_lower : e.fsm.highest ≤ es
+  pub seen : e'.peer_contact ≡ x.node.seen
+  pub shown : IsShown y.told b es e.fsm.own
+  pub peers : ArePeers (side_of (with_wire x b (with_begun x.node (x.wires b) e'))) (said_by x) (side_of y) (said_by y)
+
+known_is : (p : Option ℕ) (es : ℕ) → p ≡ Some es → known p ≡ es
+known_is p es is = ap known is
+
+-- nothing was numbered or taken under the epoch before, and nothing was taken of the peer's session
+fresh_epoch : (x y : View) (b : ℕ) (e e' : LinkEnd) (es : ℕ) → ArePaired x y → Went x y b e e' es → (x.wires b).begun e.fsm.own ≡ None
+fresh_epoch x y b e e' es h m =
+    let down : session_on (x.wires b) ≡ None = session_of_down (x.wires b) e m.end_is m.raised.was in
+    (h.here.epochs b).unborn e.fsm.own ((let now = epoch_of_end x.node (x.wires b) e m.end_is in omega arith), λ s on. absurd (none_some s _ down on))
+
+-- a session began before the present epoch
+begun_before : (x y : View) (b : ℕ) (e e' : LinkEnd) (es epoch : ℕ) (g : Begun) → ArePaired x y → Went x y b e e' es → (x.wires b).begun epoch ≡ Some g → epoch < e.fsm.own
+begun_before x y b e e' es epoch g h m is =
+    let down : session_on (x.wires b) ≡ None = session_of_down (x.wires b) e m.end_is m.raised.was in
+    let now = epoch_of_end x.node (x.wires b) e m.end_is in
+    elim (cases_lt epoch e.fsm.own) [
+      | inl before ↦ before
+      | inr least ↦ absurd (none_some g _ ((h.here.epochs b).unborn epoch ((let low : epoch_on x.node (x.wires b) ≤ epoch = omega arith in low), λ s on. absurd (none_some s _ down on))) is)
+    ]
+
+none_taken : (x y : View) (b : ℕ) (e e' : LinkEnd) (es : ℕ) → ArePaired x y → Went x y b e e' es → ((x.wires b).got es ≡ []) ⊎ Met (x.wires b) (y.wires b) es → (x.wires b).got es ≡ []
+none_taken x y b e e' es h m (inl none) = none
+none_taken x y b e e' es h m (inr met) =
+    let before = begun_before x y b e e' es met.epoch met.here h m met.here_is in
+    let t = m.shown in
+    let named : er_of t.frame.bytes ≤ met.there.peer_epoch = (h.there.epochs b).bounded t.place t.frame met.there t.there t.bearer_is (ap (y.wires b).begun t.es_is ∙ met.there_is) in
+    let er = t.er_is in
+    let back = met.epoch_is in
+    absurd (let wrong : ⊥ = omega arith in wrong)
+
+new_direction : (taken : ℕ) (line got : List (List ℕ)) → line ≡ [] → got ≡ [] → IsDirection Rattle.tipc_send_window.specs.Sending.fresh (length got) line
+new_direction taken line got no_line no_got = subst (λ xs. IsDirection Rattle.tipc_send_window.specs.Sending.fresh (length got) xs) (sym no_line)
+    (subst (λ (xs : List (List ℕ)). IsDirection Rattle.tipc_send_window.specs.Sending.fresh (length xs) []) (sym no_got)
+    (record { window = omega arith; below = omega arith; count = refl; kept = refl; acked_taken = omega arith; taken_numbered = omega arith }))
+
+-- where nothing is begun now nothing was before
+none_before : (w : Wire) (own : ℕ) (g : Begun) (epoch : ℕ) → put_at w.begun own (Some g) epoch ≡ None → w.begun epoch ≡ None
+none_before w own g epoch = on_put w.begun own (Some g) (λ epoch o. o ≡ None → w.begun epoch ≡ None) (λ is. absurd (let wrong : ⊥ = cc in wrong)) (λ c is. is) epoch
+
+pub begun_stays : (w : Wire) (own : ℕ) (g : Begun) → w.begun own ≡ None → (epoch : ℕ) (k : Begun) → w.begun epoch ≡ Some k → put_at w.begun own (Some g) epoch ≡ Some k
+begun_stays w own g none epoch = on_put w.begun own (Some g) (λ epoch o. (k : Begun) → w.begun epoch ≡ Some k → o ≡ Some k) (λ k is. absurd (none_some k _ none is)) (λ c k is. is) epoch
+
+met_before : (w w' v : Wire) (epoch : ℕ) → ((k : ℕ) (g : Begun) → w.begun k ≡ Some g → w'.begun k ≡ Some g) → (w.got epoch ≡ []) ⊎ Met w v epoch → (w.got epoch ≡ []) ⊎ Met w' v epoch
+met_before w w' v epoch begun (inl none) = inl none
+met_before w w' v epoch begun (inr m) = inr (record {
+  epoch = m.epoch;
+  here = m.here;
+  here_is = begun m.epoch m.here m.here_is;
+  peer_is = m.peer_is;
+  there = m.there;
+  there_is = m.there_is;
+  epoch_is = m.epoch_is;
+})
+
+pub went_wire : (x y : View) (b : ℕ) (e e' : LinkEnd) (es : ℕ) → ArePaired x y → Went x y b e e' es → IsWire x.node.own (with_begun x.node (x.wires b) e') (y.wires b)
+went_wire x y b e e' es h m =
+    let w = x.wires b in
+    let v = y.wires b in
+    let w' = with_begun x.node w e' in
+    let wire = h.here.wires b in
+    let own : e'.fsm.own ≡ e.fsm.own = m.raised.epoch in
+    let s = session_of e' in
+    let g = begun_by x.node e' in
+    let peer : known e'.fsm.peer ≡ es = known_is e'.fsm.peer es m.peer_is in
+    let fresh : w.begun e'.fsm.own ≡ None = ap w.begun own ∙ fresh_epoch x y b e e' es h m in
+    let no_line : w.line e'.fsm.own ≡ [] = wire.unborn e'.fsm.own fresh in
+    let no_got : v.got e'.fsm.own ≡ [] = prefix_of_none (v.got e'.fsm.own) (w.line e'.fsm.own) ((h.there.wires b).prefix e'.fsm.own) no_line in
+    let none : w.got (known e'.fsm.peer) ≡ [] = ap w.got peer ∙ none_taken x y b e e' es h m (wire.met es) in
+    let now : w'.begun e'.fsm.own ≡ Some g = put_same w.begun e'.fsm.own (Some g) in
+    record {
+      unborn = λ epoch is. wire.unborn epoch (none_before w e'.fsm.own g epoch is);
+      packets = wire.packets;
+      window = wire.window;
+      prefix = wire.prefix;
+      met = λ epoch. met_before w w' v epoch (begun_stays w e'.fsm.own g fresh) (wire.met epoch);
+      going = λ r on. subst (IsGoing x.node.own w' v) (same_some s r _ (session_of_up w' e' s (record { end_is = refl; up = m.raised.up; session_is = m.raised.session })) on) (record {
+        begun = g;
+        begun_is = now;
+        peer_is = refl;
+        waiting = λ k bytes is. absurd (let wrong : ⊥ = cc in wrong);
+        sends = new_direction 0 _ _ no_line no_got;
+        takes = ap (λ (xs : List (List ℕ)). length xs) none;
+        holds = holds_none _;
+      });
+    }
+
+-- ---- the contact of the session
+
+-- a frame of the epoch was told under the present contact number
+told_now : (x y : View) (b : ℕ) (e e' : LinkEnd) (es k : ℕ) (f : Frame) → ArePaired x y → Went x y b e e' es → slice_get x.told k ≡ Some f → f.bearer ≡ b → es_of f.bytes ≡ e.fsm.own → f.contact ≡ x.node.contact
+told_now x y b e e' es k f h m there bearer own =
+    let speaks = h.peers.a_speaks in
+    let goes_on : is_last (es_of f.bytes) ≡ false = ap is_last own ∙ m.raised.goes_on in
+    let end : fsm_in (x.wires b).end ≡ Some e.fsm = ap fsm_in m.end_is in
+    sym (speaks.shown k (notice_of f) (map_at notice_of x.told k f there) goes_on)
+    ∙ ap (λ c. speaks.contact_of c (es_of f.bytes)) bearer ∙ ap (speaks.contact_of b) own ∙ speaks.now b e.fsm end m.raised.goes_on
+
+-- the frame that shows both epochs was told in the present contact
+shown_in : (x y : View) (b : ℕ) (e e' : LinkEnd) (es : ℕ) → ArePaired x y → (m : Went x y b e e' es) → is_last es ≡ false → (m.shown.frame.contact ≡ x.node.seen) × (m.shown.frame.peer_contact ≡ x.node.contact)
+shown_in x y b e e' es h m goes_on =
+    let t = m.shown in
+    let f = t.frame in
+    let w' = with_begun x.node (x.wires b) e' in
+    let peers = Rattle.tipc_contact.proofs.Sessions.turned _ _ _ _ m.peers in
+    let end : fsm_in (put_at x.wires b w' f.bearer).end ≡ Some e'.fsm = ap (λ c. fsm_in (put_at x.wires b w' c).end) t.bearer_is ∙ ap (λ (w : Wire). fsm_in w.end) (put_same x.wires b w') in
+    sent_in_contact (side_of y) (side_of (with_wire x b w')) (said_by y) (said_by x) peers t.place (notice_of f) e'.fsm (map_at notice_of y.told t.place f t.there) end
+    (m.peer_is ∙ ap Some (sym t.es_is)) (t.er_is ∙ sym m.raised.epoch) (ap is_last t.es_is ∙ goes_on) (ap is_last m.raised.epoch ∙ m.raised.goes_on)
+
+went_agrees : (x y : View) (b : ℕ) (e e' : LinkEnd) (es : ℕ) → ArePaired x y → Went x y b e e' es → (k : Begun) → (y.wires b).begun (known e'.fsm.peer) ≡ Some k → k.peer_epoch ≡ e'.fsm.own → (x.node.contact ≡ k.peer_contact) × (x.node.seen ≡ k.contact)
+went_agrees x y b e e' es h m k is back =
+    let epochs = h.there.epochs b in
+    let there : (y.wires b).begun es ≡ Some k = ap (y.wires b).begun (sym (known_is e'.fsm.peer es m.peer_is)) ∙ is in
+    let goes_on : is_last es ≡ false = epochs.lasts es k there in
+    let t = m.shown in
+    let in_contact = shown_in x y b e e' es h m goes_on in
+    let told : t.frame.contact ≡ k.contact = epochs.told_in t.place t.frame k t.there t.bearer_is (ap (y.wires b).begun t.es_is ∙ there) in
+    let own : k.peer_epoch ≡ e.fsm.own = back ∙ m.raised.epoch in
+    let heard = epochs.heard_in es k there (ap is_last own ∙ m.raised.goes_on) in
+    let number : heard.0.contact ≡ x.node.contact = told_now x y b e e' es heard.1 heard.0 h m heard.2 heard.3 (heard.4 ∙ own) in
+    (sym number ∙ heard.5, sym in_contact.0 ∙ told)
+
+pub went_epochs : (x y : View) (b : ℕ) (e e' : LinkEnd) (es : ℕ) → ArePaired x y → Went x y b e e' es → IsEpochs x.node b x.told y.told (with_begun x.node (x.wires b) e') (y.wires b)
+went_epochs x y b e e' es h m =
+    let w = x.wires b in
+    let v = y.wires b in
+    let w' = with_begun x.node w e' in
+    let old = h.here.epochs b in
+    let own : e'.fsm.own ≡ e.fsm.own = m.raised.epoch in
+    let g = begun_by x.node e' in
+    let peer : known e'.fsm.peer ≡ es = known_is e'.fsm.peer es m.peer_is in
+    let s = session_of e' in
+    let down : session_on w ≡ None = session_of_down w e m.end_is m.raised.was in
+    let was = epoch_of_end x.node w e m.end_is in
+    let is = epoch_of_end x.node w' e' refl in
+    let on : session_on w' ≡ Some s = session_of_up w' e' s (record { end_is = refl; up = m.raised.up; session_is = m.raised.session }) in
+    let now : w'.begun e'.fsm.own ≡ Some g = put_same w.begun e'.fsm.own (Some g) in
+    let high = m.no_lower in
+    record {
+      unborn = λ epoch none. (
+          let other = none.1 s on in
+          let least = none.0 in
+          put_other w.begun e'.fsm.own (Some g) epoch (λ same. other (sym same)) ∙ old.unborn epoch ((let low : epoch_on x.node w ≤ epoch = omega arith in low), λ r there. absurd (none_some r _ down there)));
+      lasts = λ epoch. on_put w.begun e'.fsm.own (Some g) (λ epoch o. (k : Begun) → o ≡ Some k → is_last epoch ≡ false) (λ k there. ap is_last own ∙ m.raised.goes_on) old.lasts epoch;
+      now = λ r k there begun_is. (
+          let same = same_some s r (session_on w') on there in
+          let one : g ≡ k = same_some g k (w'.begun e'.fsm.own) now (ap (λ (u : SessionEnd). w'.begun u.epoch) same ∙ begun_is) in
+          (ap (λ (u : Begun). u.contact) (sym one), ap (λ (u : Begun). u.peer_contact) (sym one)));
+      shown = λ r there. (
+          let same = same_some s r (session_on w') on there in
+          subst (λ (u : SessionEnd). IsShown y.told b u.peer_epoch u.epoch) same (subst (λ n. IsShown y.told b n e'.fsm.own) (sym peer) (subst (λ n. IsShown y.told b es n) (sym own) m.shown)));
+      named = λ k f d there bearer end same. (
+          let one : e' ≡ d = cc in
+          let few = old.named k f e there bearer m.end_is (same ∙ ap (λ (u : LinkEnd). u.fsm.own) (sym one) ∙ own) in
+          let top = m.highest in
+          let last = ap (λ (u : LinkEnd). u.fsm.highest) one in
+          omega arith);
+      bounded = λ k f g' there bearer. on_put_else w.begun e'.fsm.own (Some g) (λ epoch o. epoch ≡ es_of f.bytes → (u : Begun) → o ≡ Some u → er_of f.bytes ≤ u.peer_epoch)
+          (λ same u some. (
+          let one : g ≡ u = cc in
+          let few = old.named k f e there bearer m.end_is (sym same ∙ own) in
+          let to : g.peer_epoch ≡ u.peer_epoch = ap (λ (z : Begun). z.peer_epoch) one in
+          omega arith))
+          (λ epoch other same u some. old.bounded k f u there bearer (ap w.begun (sym same) ∙ some)) (es_of f.bytes) refl g';
+      told_in = λ k f g' there bearer. on_put_else w.begun e'.fsm.own (Some g) (λ epoch o. epoch ≡ es_of f.bytes → (u : Begun) → o ≡ Some u → f.contact ≡ u.contact)
+          (λ same u some. (
+          let one : g ≡ u = cc in
+          told_now x y b e e' es k f h m there bearer (sym same ∙ own) ∙ ap (λ (z : Begun). z.contact) one))
+          (λ epoch other same u some. old.told_in k f u there bearer (ap w.begun (sym same) ∙ some)) (es_of f.bytes) refl g';
+      heard_in = on_put_else w.begun e'.fsm.own (Some g) (λ epoch o. (u : Begun) → o ≡ Some u → is_last u.peer_epoch ≡ false → (f : Frame) × (k : ℕ) × (slice_get y.told k ≡ Some f) × (f.bearer ≡ b) × (es_of f.bytes ≡ u.peer_epoch) × (f.contact ≡ u.peer_contact))
+          (λ u some goes_on. (
+          let one : g ≡ u = cc in
+          let t = m.shown in
+          let to : es ≡ u.peer_epoch = sym peer ∙ ap (λ (z : Begun). z.peer_epoch) one in
+          let in_contact = shown_in x y b e e' es h m (ap is_last to ∙ goes_on) in
+          (t.frame, t.place, t.there, t.bearer_is, t.es_is ∙ to, in_contact.0 ∙ ap (λ (z : Begun). z.peer_contact) one)))
+          (λ epoch other. old.heard_in epoch);
+      agree = on_put_else w.begun e'.fsm.own (Some g) (λ epoch o. (u k : Begun) → o ≡ Some u → v.begun u.peer_epoch ≡ Some k → k.peer_epoch ≡ epoch → (u.contact ≡ k.peer_contact) × (u.peer_contact ≡ k.contact))
+          (λ u k some there back. (
+          let one : g ≡ u = cc in
+          let both = went_agrees x y b e e' es h m k (ap (λ (z : Begun). v.begun z.peer_epoch) one ∙ there) back in
+          (sym (ap (λ (z : Begun). z.contact) one) ∙ both.0, sym (ap (λ (z : Begun). z.peer_contact) one) ∙ both.1)))
+          (λ epoch other. old.agree epoch);
+    }
+
+-- ---- the deed
+
+went_paired : (x y : View) (b : ℕ) (e e' : LinkEnd) (es : ℕ) → ArePaired x y → Went x y b e e' es → ArePaired (with_wire x b (with_begun x.node (x.wires b) e')) y
+went_paired x y b e e' es h m =
+    let w = x.wires b in
+    let w' = with_begun x.node w e' in
+    let own : e'.fsm.own ≡ e.fsm.own = m.raised.epoch in
+    let fresh : w.begun e'.fsm.own ≡ None = ap w.begun own ∙ fresh_epoch x y b e e' es h m in
+    let end : IsEnd x.node b e' = raised_end x.node b e e' (h.here.ends b e m.end_is) m.raised m.seen (λ epoch known. (
+    let here = m.peer_is in let same : es ≡ epoch = cc in (subst (λ n. n < 2 ^ 64) same m.fits, sym same ∙ sym m.highest))) in
+    wire_deed x y b w' h (record {
+      grows = record {
+        line = λ epoch. prefix_same (w.line epoch);
+        got = λ epoch. prefix_same (w.got epoch);
+        begun = begun_stays w e'.fsm.own (begun_by x.node e') fresh;
+      };
+      end = λ d is. (let same : e' ≡ d = cc in subst (IsEnd x.node b) same end);
+      wire = went_wire x y b e e' es h m;
+      epochs = went_epochs x y b e e' es h m;
+      peers = m.peers;
+    })
+
+first_pair : {A B : Type 0} (p q : A × B) → ◌≡◌ {A = Option (A × B)} (Some p) (Some q) → p ≡ q
+first_pair p q is = cc
+
+-- what a call that takes the link up shows was told beside the end's own epoch
+rise_shown : (x y : View) (b : ℕ) (call : Call) (es er : ℕ) → MayCall x y b call → shown_to call ≡ Some (es, er) → 1 ≤ er → IsShown y.told b es er
+rise_shown x y b (ResetArrives k held) es er may is some = absurd (let second : 0 ≡ er = ap (λ (p : ℕ × ℕ). p.1) (first_pair (k, 0) (es, er) is) in let wrong : ⊥ = omega arith in wrong)
+rise_shown x y b (ActivateArrives k n) es er may is some =
+    let same = first_pair (k, n) (es, er) is in
+    subst (λ m. IsShown y.told b m er) (ap (λ (p : ℕ × ℕ). p.0) same) (subst (λ m. IsShown y.told b k m) (ap (λ (p : ℕ × ℕ). p.1) same) may.1)
+rise_shown x y b (TrafficArrives k n) es er may is some =
+    let same = first_pair (k, n) (es, er) is in
+    subst (λ m. IsShown y.told b m er) (ap (λ (p : ℕ × ℕ). p.0) same) (subst (λ m. IsShown y.told b k m) (ap (λ (p : ℕ × ℕ). p.1) same) may)
+rise_shown x y b (TickPasses held) es er may is some = absurd (let wrong : ⊥ = cc in wrong)
+rise_shown x y b (BearerIsCut held) es er may is some = absurd (let wrong : ⊥ = cc in wrong)
+rise_shown x y b (TunnelNames epoch) es er may is some = absurd (let wrong : ⊥ = cc in wrong)
+rise_shown x y b Releases es er may is some = absurd (let wrong : ⊥ = cc in wrong)
+rise_shown x y b ForgetsPeer es er may is some = absurd may
+rise_shown x y b ContactEnds es er may is some = absurd may
+
+-- the highest epoch of the peer when the link went up
+rise_highest : (f after : Fsm) (es : ℕ) → ((epoch : ℕ) → f.peer ≡ Some epoch → (epoch < 2 ^ 64) × (epoch ≡ f.highest)) → ((after.highest ≡ es) × (f.highest ≤ es)) ⊎ ((f.peer ≡ Some es) × (after.highest ≡ f.highest))
+    → (after.highest ≡ es) × (f.highest ≤ es)
+rise_highest f after es fits (inl high) = high
+rise_highest f after es fits (inr known) = let same = (fits es known.0).1 in (known.1 ∙ sym same, omega arith)
+
+went_turn : (x y : View) (b : ℕ) (e : LinkEnd) (call : Call) → ArePaired x y → (x.wires b).end ≡ Some e → MayCall x y b call → (outcome e.fsm call).change ≡ Up → Turn e.fsm (shown_to call) (outcome e.fsm call)
+    → (es : ℕ) × Went x y b e (after e (outcome e.fsm call)) es
+went_turn x y b e call h is may up (stay m) = absurd (true≢false (sym m.quiet ∙ ap is_quiet up))
+went_turn x y b e call h is may up (learn m) = absurd (let one = m.change in let wrong : ⊥ = cc in wrong)
+went_turn x y b e call h is may up (fall m) = absurd (let one = m.change in let wrong : ⊥ = cc in wrong)
+went_turn x y b e call h is may up (rise m) =
+    let o = outcome e.fsm call in
+    let e' = after e o in
+    let end = h.here.ends b e is in
+    let some = h.peers.a_speaks.some in
+    let order = end.order in
+    let fsm : e'.fsm ≡ o.after = ap (λ (d : LinkEnd). d.fsm) (after-is e o) in
+    let high = rise_highest e.fsm o.after m.es end.peer_fits m.highest in (
+      m.es,
+      record {
+        end_is = is;
+        raised = rises_raised e (shown_to call) o m;
+        peer_is = ap (λ (f : Fsm). f.peer) fsm ∙ m.peer;
+        fits = shown_fits x y b call m.es e.fsm.own h may m.shown_is;
+        highest = ap (λ (f : Fsm). f.highest) fsm ∙ high.0;
+        no_lower = high.1;
+        seen = ap (λ (d : LinkEnd). d.peer_contact) (after-is e o) ∙ end.seen;
+        shown = rise_shown x y b call m.es e.fsm.own may m.shown_is (omega arith);
+        peers = peers_called x y b (with_begun x.node (x.wires b) e') e call h is may (ap (λ (f : Fsm). Some f) fsm);
+      },
+    )
+
+-- a call took the link up
+pub went : (x y : View) (b : ℕ) (e : LinkEnd) (call : Call) → ArePaired x y → (x.wires b).end ≡ Some e → MayCall x y b call → (outcome e.fsm call).change ≡ Up → (es : ℕ) × Went x y b e (after e (outcome e.fsm call)) es
+went x y b e call h is may up = let named = call_named x y b call may in went_turn x y b e call h is may up (call_turns e.fsm call named.0 named.1)
+
+pub rises_paired : (x y : View) (b : ℕ) (e : LinkEnd) (call : Call) → ArePaired x y → (x.wires b).end ≡ Some e → MayCall x y b call → (outcome e.fsm call).change ≡ Up
+    → ArePaired (with_wire x b (with_begun x.node (x.wires b) (after e (outcome e.fsm call)))) y
+rises_paired x y b e call h is may up = let m = went x y b e call h is may up in went_paired x y b e (after e (outcome e.fsm call)) m.0 h m.1
+
+-- nothing was numbered under its epoch, nothing waits, and nothing was taken of the peer's session
+pub went_goes : (x y : View) (b : ℕ) (e e' : LinkEnd) (es : ℕ) → ArePaired x y → Went x y b e e' es → IsApart x → Goes x b e' (session_of e')
+went_goes x y b e e' es h m apart =
+    let w = x.wires b in
+    let own : e'.fsm.own ≡ e.fsm.own = m.raised.epoch in
+    let none : w.begun e'.fsm.own ≡ None = ap w.begun own ∙ fresh_epoch x y b e e' es h m in
+    record {
+      apart = apart;
+      session_is = session_of_up (with_begun x.node w e') e' (session_of e') (record { end_is = refl; up = m.raised.up; session_is = m.raised.session });
+      none_begun = none;
+      none_numbered = (h.here.wires b).unborn e'.fsm.own none;
+      none_waits = refl;
+      none_taken = ap w.got (known_is e'.fsm.peer es m.peer_is) ∙ none_taken x y b e e' es h m ((h.here.wires b).met es);
+    }

@@ -1,0 +1,174 @@
+-- What happens to a session: it reads an acknowledgement, takes packets, and numbers those that wait.
+use Rattle.std.proofs.Common.{◌≡◌, ◌⊎◌, ℕ, ◌<◌, ◌^◌, true, List, [], Option, Some, length, refl, sym, ap, ◌∙◌, subst, inl, inr, arith}
+use Rattle.std.specs.Prelude.{slice_get}
+use Rattle.tipc_header.specs.Frames.{frame_of}
+use Rattle.tipc_header.specs.Spelling.{Fields, spelling}
+use Rattle.tipc_link.specs.Direction.{IsDirection}
+use Rattle.tipc_link.specs.Links.{LinkEnd, is_traffic, with_session}
+use Rattle.tipc_link.specs.Sessions.{SessionEnd, released}
+use Rattle.tipc_link.proofs.Directions.{releases as direction_releases}
+use Rattle.tipc_link.proofs.LinkLaw.{Each}
+use Rattle.tipc_pair.proofs.Ends.{Alike}
+use Rattle.tipc_pair.proofs.Frames.{er_of-frame, es_of-frame}
+use Rattle.tipc_pair.proofs.SessionsHeard.{same_packet}
+use Rattle.tipc_pair.specs.Paired.{IsPacket}
+use Rattle.tipc_partners.proofs.Ends.{still_end}
+use Rattle.tipc_partners.proofs.EpochsKept.{epochs_steady, session_is, steady_session, still_session}
+use Rattle.tipc_partners.proofs.Growing.{Grows}
+use Rattle.tipc_partners.proofs.Sides.{peers_still}
+use Rattle.tipc_partners.proofs.WireDeeds.{wire_deed}
+use Rattle.tipc_partners.proofs.Wires.{prefix_same, same_some, session_of_up}
+use Rattle.tipc_partners.specs.Deeds.{Hears, IsUp, with_going}
+use Rattle.tipc_partners.specs.Paired.{ArePaired, IsEnd, IsFrame, IsGoing, IsOfSession, IsWire, Met}
+use Rattle.tipc_partners.specs.Views.{Begun, Frame, View, Wire, er_of, es_of, put_at, session_on, with_end, with_wire}
+
+alike_same : (s s' : SessionEnd) → s'.own ≡ s.own → s'.peer ≡ s.peer → s'.bearer ≡ s.bearer → s'.epoch ≡ s.epoch → s'.peer_epoch ≡ s.peer_epoch → Alike s s'
+alike_same s s' own peer bearer epoch peer_epoch = record { own = own; peer = peer; bearer = bearer; epoch = epoch; peer_epoch = peer_epoch }
+
+-- ---- a step of a session
+
+-- the session of wire b became s', with these packets numbered and taken
+pub session_step : (x y : View) (b : ℕ) (e : LinkEnd) (s s' : SessionEnd) (line got : ℕ → List (List ℕ)) → ArePaired x y → IsUp (x.wires b) e s → Alike s s'
+    → Grows (x.wires b) (record { end = Some (with_session e s'); begun = (x.wires b).begun; line = line; got = got })
+    → IsWire x.node.own (record { end = Some (with_session e s'); begun = (x.wires b).begun; line = line; got = got }) (y.wires b)
+    → ArePaired (with_wire x b (record { end = Some (with_session e s'); begun = (x.wires b).begun; line = line; got = got })) y
+session_step x y b e s s' line got h up alike grows wire =
+    let w' : Wire = record { end = Some (with_session e s'); begun = (x.wires b).begun; line = line; got = got } in
+    let end : (d : LinkEnd) → w'.end ≡ Some d → IsEnd x.node b d = λ d is. (
+    let same : with_session e s' ≡ d = cc in
+    subst (IsEnd x.node b) same (still_end x.node b e (with_session e s') (h.here.ends b e up.end_is) (still_session e s s' up.session_is alike))) in
+    wire_deed x y b w' h (record {
+      grows = grows;
+      end = end;
+      wire = wire;
+      epochs = epochs_steady x.node b x.told y.told (x.wires b) w' (y.wires b) (h.here.epochs b) (steady_session x.node (x.wires b) e s s' line got up alike);
+      peers = peers_still x y b w' h (sym (ap (λ (o : Option LinkEnd). Rattle.tipc_partners.specs.Views.fsm_in o) up.end_is));
+    })
+
+-- where nothing was numbered or taken
+pub met_same : (w w' v : Wire) (epoch : ℕ) → ((k : ℕ) → w'.begun k ≡ w.begun k) → Met w v epoch → Met w' v epoch
+met_same w w' v epoch begun m = record {
+  epoch = m.epoch;
+  here = m.here;
+  here_is = begun m.epoch ∙ m.here_is;
+  peer_is = m.peer_is;
+  there = m.there;
+  there_is = m.there_is;
+  epoch_is = m.epoch_is;
+}
+
+pub met_or_none : (w w' v : Wire) (epoch : ℕ) → ((k : ℕ) → w'.begun k ≡ w.begun k) → w'.got epoch ≡ w.got epoch → (w.got epoch ≡ []) ⊎ Met w v epoch → (w'.got epoch ≡ []) ⊎ Met w' v epoch
+met_or_none w w' v epoch begun same (inl none) = inl (same ∙ none)
+met_or_none w w' v epoch begun same (inr m) = inr (met_same w w' v epoch begun m)
+
+wire_quiet : (own : ℕ) (w v : Wire) (e : LinkEnd) (s s' : SessionEnd) → IsWire own w v → IsUp w e s → IsGoing own (with_going w e s') v s' → IsWire own (with_going w e s') v
+wire_quiet own w v e s s' h up going = record {
+  unborn = h.unborn;
+  packets = h.packets;
+  window = h.window;
+  prefix = h.prefix;
+  met = λ epoch. met_or_none w (with_going w e s') v epoch (λ k. refl) refl (h.met epoch);
+  going = λ t is. subst (IsGoing own (with_going w e s') v) (same_some s' t _ (session_is e s s' w.begun w.line w.got up.up) is) going;
+}
+
+grows_going : (w : Wire) (e : LinkEnd) (s' : SessionEnd) → Grows w (with_going w e s')
+grows_going w e s' = record { line = λ epoch. prefix_same (w.line epoch); got = λ epoch. prefix_same (w.got epoch); begun = λ epoch g is. is }
+
+going_of : (x y : View) (b : ℕ) (e : LinkEnd) (s : SessionEnd) → ArePaired x y → IsUp (x.wires b) e s → IsGoing x.node.own (x.wires b) (y.wires b) s
+going_of x y b e s h up = (h.here.wires b).going s (session_of_up (x.wires b) e s up)
+
+-- ---- something is kept for the answers, and packets wait
+
+pub notes_paired : (x y : View) (b : ℕ) (e : LinkEnd) (s : SessionEnd) (shown unanswered : ℕ) (owes : Rattle.std.specs.Prelude.Bool) → ArePaired x y → IsUp (x.wires b) e s
+    → ArePaired (with_wire x b (with_going (x.wires b) e (record s { shown = shown; unanswered = unanswered; owes = owes }))) y
+notes_paired x y b e s shown unanswered owes h up =
+    let w = x.wires b in
+    let s' : SessionEnd = record s { shown = shown; unanswered = unanswered; owes = owes } in
+    let g = going_of x y b e s h up in
+    session_step x y b e s s' w.line w.got h up (alike_same s s' refl refl refl refl refl) (grows_going w e s')
+    (wire_quiet x.node.own w (y.wires b) e s s' (h.here.wires b) up (record {
+      begun = g.begun;
+      begun_is = g.begun_is;
+      peer_is = g.peer_is;
+      waiting = g.waiting;
+      sends = g.sends;
+      takes = g.takes;
+      holds = g.holds;
+    }))
+
+pub puts_paired : (x y : View) (b : ℕ) (e : LinkEnd) (s : SessionEnd) (waiting : List (List ℕ)) → ArePaired x y → IsUp (x.wires b) e s → Each (IsPacket x.node.own) waiting
+    → ArePaired (with_wire x b (with_going (x.wires b) e (record s { sending = record s.sending { waiting = waiting } }))) y
+puts_paired x y b e s waiting h up packets =
+    let w = x.wires b in
+    let s' : SessionEnd = record s { sending = record s.sending { waiting = waiting } } in
+    let g = going_of x y b e s h up in
+    let d = g.sends in
+    session_step x y b e s s' w.line w.got h up (alike_same s s' refl refl refl refl refl) (grows_going w e s')
+    (wire_quiet x.node.own w (y.wires b) e s s' (h.here.wires b) up (record {
+      begun = g.begun;
+      begun_is = g.begun_is;
+      peer_is = g.peer_is;
+      waiting = packets;
+      sends = record { window = d.window; below = d.below; count = d.count; kept = d.kept; acked_taken = d.acked_taken; taken_numbered = d.taken_numbered };
+      takes = g.takes;
+      holds = g.holds;
+    }))
+
+-- ---- a frame of the peer
+
+-- what was read of a frame is what was written
+pub of_session : (own : ℕ) (v w : Wire) (f : Frame) (es er : ℕ) (p : Fields) → IsFrame own v w f → es < 2 ^ 64 → er < 2 ^ 64 → Rattle.tipc_header.specs.Grammar.Fits p → f.bytes ≡ frame_of es er (spelling p) → is_traffic p.header ≡ true → IsOfSession v w f es er p
+of_session own v w f es er p h es_fits er_fits fits bytes traffic =
+    let same_es : h.es ≡ es = sym (es_of-frame h.es h.er (spelling h.packet) h.es_fits h.er_fits) ∙ ap es_of (sym h.bytes ∙ bytes) ∙ es_of-frame es er (spelling p) es_fits er_fits in
+    let same_er : h.er ≡ er = sym (er_of-frame h.es h.er (spelling h.packet) h.es_fits h.er_fits) ∙ ap er_of (sym h.bytes ∙ bytes) ∙ er_of-frame es er (spelling p) es_fits er_fits in
+    let same : h.packet ≡ p = same_packet h.es h.er es er h.packet p h.fits fits (sym h.bytes ∙ bytes) in
+    let session = h.session (ap (λ (q : Fields). is_traffic q.header) same ∙ traffic) in
+    subst (λ q. IsOfSession v w f es er q) same (subst (λ n. IsOfSession v w f es n h.packet) same_er (subst (λ n. IsOfSession v w f n h.er h.packet) same_es session))
+
+-- the epochs of a session have 64 bits
+pub epoch_small : (epoch boot : ℕ) → Rattle.tipc_contact.specs.Sides.boot_of epoch ≡ boot → boot < 2 ^ 32 → epoch < 2 ^ 64
+epoch_small epoch boot is fits = omega arith
+
+pub record FitsEpochs (s : SessionEnd) : Type 0 where
+  pub epoch : s.epoch < 2 ^ 64
+  pub peer_epoch : s.peer_epoch < 2 ^ 64
+
+pub epochs_fit : (x y : View) (b : ℕ) (e : LinkEnd) (s : SessionEnd) → ArePaired x y → IsUp (x.wires b) e s → FitsEpochs s
+epochs_fit x y b e s h up =
+    let end = h.here.ends b e up.end_is in
+    let going = end.going up.up in
+    let same : going.0 ≡ s = same_some going.0 s e.session going.1 up.session_is in
+    let epoch : s.epoch ≡ e.fsm.own = ap (λ (t : SessionEnd). t.epoch) (sym same) ∙ going.2 in
+    let peer : e.fsm.peer ≡ Some s.peer_epoch = going.3 ∙ ap (λ (t : SessionEnd). Some t.peer_epoch) same in
+    record {
+      epoch = subst (λ n. n < 2 ^ 64) (sym epoch) (epoch_small e.fsm.own x.node.boot end.boot h.here.node.boot);
+      peer_epoch = (end.peer_fits s.peer_epoch peer).0;
+    }
+
+pub hears_session : (x y : View) (b : ℕ) (e : LinkEnd) (s : SessionEnd) (p : Fields) → ArePaired x y → IsUp (x.wires b) e s → (a : Hears x y b s p) → IsOfSession (y.wires b) (x.wires b) a.frame s.peer_epoch s.epoch p
+hears_session x y b e s p h up a =
+    let fit = epochs_fit x y b e s h up in
+    let frame = subst (λ c. IsFrame y.node.own (y.wires c) (x.wires c) a.frame) a.bearer_is (h.there.frames a.place a.frame a.there) in
+    of_session y.node.own (y.wires b) (x.wires b) a.frame s.peer_epoch s.epoch p frame fit.peer_epoch fit.epoch a.fits a.bytes a.traffic
+
+-- it reads an acknowledgement
+pub releases_paired : (x y : View) (b : ℕ) (e : LinkEnd) (s : SessionEnd) (p : Fields) → ArePaired x y → IsUp (x.wires b) e s → Hears x y b s p → ArePaired (with_wire x b (with_going (x.wires b) e (released s p.acknowledgement))) y
+releases_paired x y b e s p h up a =
+    let w = x.wires b in
+    let s' = released s p.acknowledgement in
+    let g = going_of x y b e s h up in
+    let o = hears_session x y b e s p h up a in
+    let count = g.sends.count in
+    let fresh = a.own_fresh in
+    let near = o.told_recent in
+    let d = direction_releases s.sending (length ((y.wires b).got s.epoch)) (w.line s.epoch) o.told g.sends o.told_taken (omega arith) in
+    session_step x y b e s s' w.line w.got h up (alike_same s s' refl refl refl refl refl) (grows_going w e s')
+    (wire_quiet x.node.own w (y.wires b) e s s' (h.here.wires b) up (record {
+      begun = g.begun;
+      begun_is = g.begun_is;
+      peer_is = g.peer_is;
+      waiting = g.waiting;
+      sends = subst (λ n. IsDirection (released s n).sending (length ((y.wires b).got s.epoch)) (w.line s.epoch)) (sym o.told_is) d;
+      takes = g.takes;
+      holds = g.holds;
+    }))

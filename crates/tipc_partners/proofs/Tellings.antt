@@ -1,0 +1,130 @@
+-- Frames are told one after the other.
+use Rattle.std.proofs.Common.{◌≡◌, ℕ, zero, suc, ◌+◌, ◌≤◌, List, [], ◌∷◌, ◌++◌, Some, length, map, take, refl, sym, ap, ◌∙◌, subst, append_assoc, append-nil, length-append, arith}
+use Rattle.std.specs.Prelude.{slice_get}
+use Rattle.tipc_types.specs.Position.{number_of}
+use Rattle.tipc_types.specs.declared.packet_lists.Kept.{Kept}
+use Rattle.tipc_outside.specs.declared.outgoing.Outgoing.{Outgoing}
+use Rattle.std.proofs.lemmas.List.{length-take-le}
+use Rattle.tipc_send_window.specs.Sending.{Sending, acked_of, kept_after, kept_of}
+use Rattle.tipc_link.specs.Direction.{IsDirection}
+use Rattle.tipc_link.specs.Sessions.{SessionEnd, advanced, flush_frames, flushed, moving, packet_frame, repeat_frames, repeated, room}
+use Rattle.tipc_link.proofs.Directions.{repeated_from, slice_get-append, slice_get-behind}
+use Rattle.tipc_link.proofs.LinkLaw.{Each}
+use Rattle.tipc_pair.proofs.Frames.{packet_frames-at}
+use Rattle.tipc_partners.proofs.PartnersLaw.{acts_then}
+use Rattle.tipc_partners.proofs.Wires.{map_at, mapped_at}
+use Rattle.tipc_partners.specs.Calls.{IsToldOn}
+use Rattle.tipc_partners.specs.Deeds.{Changes, MayTell, Works, calls, falls, framed, makes, notes, numbers, parts, releases, restarts, rises, sends, shows, tells, turns}
+use Rattle.tipc_partners.specs.Partners.{Acts, ActsAll, Partner, changes, follows, nothing, puts, takes, viewed, works}
+use Rattle.tipc_partners.specs.Views.{Frame, View, Wire, session_on, with_told}
+
+-- the node when it told these frames
+abbrev pub told_all : Partner → Partner → ℕ → List Outgoing → Partner
+told_all x y b frames = viewed x (record { node = x.view.node; wires = x.view.wires; told = x.view.told ++ map (framed x.view y.view b) frames })
+
+same_told : (x : Partner) (told : List Frame) → told ≡ x.view.told → viewed x (record { node = x.view.node; wires = x.view.wires; told = told }) ≡ x
+same_told x told same = ap (λ fs. viewed x (record { node = x.view.node; wires = x.view.wires; told = fs })) same
+
+pub tells_all : (x y : Partner) (b : ℕ) (frames : List Outgoing) → Each (MayTell (x.view.wires b)) frames → ActsAll x y (told_all x y b frames)
+tells_all x y b [] may = subst (ActsAll x y) (sym (same_told x (x.view.told ++ []) (append-nil x.view.told))) nothing
+tells_all x y b (o ∷ frames) may =
+    let f = framed x.view y.view b o in
+    let x' = viewed x (with_told x.view f) in
+    let first : ActsAll x y x' = follows x x' nothing (works (with_told x.view f) (tells b o (may 0 o refl))) in
+    let rest = tells_all x' y b frames (λ k q is. may (suc k) q is) in
+    subst (ActsAll x y) (ap (λ fs. viewed x (record { node = x.view.node; wires = x.view.wires; told = fs })) (append_assoc x.view.told (f ∷ []) (map (framed x.view y.view b) frames))) (acts_then x y x' _ first rest)
+
+pub told_of_all : (x y : Partner) (b : ℕ) (frames : List Outgoing) → (k : ℕ) (o : Outgoing) → slice_get frames k ≡ Some o → IsToldOn (told_all x y b frames).view b o
+told_of_all x y b frames k o is = record {
+  place = length x.view.told + k;
+  frame = framed x.view y.view b o;
+  there = slice_get-behind x.view.told (map (framed x.view y.view b) frames) k (framed x.view y.view b o) (map_at (framed x.view y.view b) frames k o is);
+  bearer_is = refl;
+  bytes = refl;
+}
+
+-- what was told stays told
+pub told_still : (x x' : View) (b : ℕ) (o : Outgoing) (more : List Frame) → x'.told ≡ x.told ++ more → IsToldOn x b o → IsToldOn x' b o
+told_still x x' b o more is h = record {
+  place = h.place;
+  frame = h.frame;
+  there = subst (λ fs. slice_get fs h.place ≡ Some h.frame) (sym is) (slice_get-append x.told more h.place h.frame h.there);
+  bearer_is = h.bearer_is;
+  bytes = h.bytes;
+}
+
+-- ---- the frames of a session
+
+-- packets that are sent again may be told
+pub repeats_may : (w : Wire) (s : SessionEnd) (acknowledgement missed : ℕ) → session_on w ≡ Some s → Each (MayTell w) (repeat_frames s acknowledgement missed)
+unfolding repeat_frames
+repeats_may w s acknowledgement missed on k o is =
+    let at = mapped_at (λ (t : Kept). packet_frame s t.number t.packet) (repeated s acknowledgement missed) k o is in
+    let kept = repeated_from s acknowledgement missed k at.0 at.1 in
+    subst (MayTell w) at.2 (sends s kept.0 at.0 on kept.1)
+
+kept_behind : (before : ℕ) (unacked more : List (List ℕ)) → kept_after before (unacked ++ more) ≡ kept_after before unacked ++ kept_after (before + length unacked) more
+kept_behind before [] more = ap (λ n. kept_after n more) (let same : before ≡ before + 0 = omega arith in same)
+kept_behind before (x ∷ unacked) more =
+    ap (λ (ks : List Kept). record { number = number_of (before + 1); packet = x } ∷ ks) (kept_behind (before + 1) unacked more ∙ ap (λ n. kept_after (before + 1) unacked ++ kept_after n more) (let same : before + 1 + length unacked ≡ before + suc (length unacked) = omega arith in same))
+
+kept_long : (before : ℕ) (packets : List (List ℕ)) → length (kept_after before packets) ≡ length packets
+kept_long before [] = refl
+kept_long before (x ∷ packets) = ap suc (kept_long (before + 1) packets)
+
+kept_one : (before : ℕ) (packets : List (List ℕ)) (k : ℕ) (q : List ℕ) → slice_get packets k ≡ Some q → slice_get (kept_after before packets) k ≡ Some (record { number = number_of (before + k + 1); packet = q })
+kept_one before [] k q is = absurd (let none : ⊥ = cc in none)
+kept_one before (x ∷ packets) zero q is = (let same : x ≡ q = cc in ap (λ n. Some (record { number = number_of n; packet = x })) (let sum : before + 1 ≡ before + 0 + 1 = omega arith in sum) ∙ ap (λ (y : List ℕ). Some (record { number = number_of (before + 0 + 1); packet = y })) same)
+kept_one before (x ∷ packets) (suc k) q is = kept_one (before + 1) packets k q is ∙ ap (λ n. Some (record { number = number_of n; packet = q })) (let sum : before + 1 + k + 1 ≡ before + suc k + 1 = omega arith in sum)
+
+-- what is kept when waiting packets were numbered
+kept_flushed : (z : Sending) (n : ℕ) → n ≤ length z.waiting → length z.unacked ≤ z.numbered → kept_of (advanced n z) ≡ kept_after (acked_of z) z.unacked ++ kept_after (acked_of z + length z.unacked) (take n z.waiting)
+kept_flushed z n few below =
+    let short : length (take n z.waiting) ≡ n = length-take-le n z.waiting few in
+    let long = length-append z.unacked (take n z.waiting) in
+    let same : acked_of (advanced n z) ≡ acked_of z = omega arith in
+    ap (λ a. kept_after a (z.unacked ++ take n z.waiting)) same ∙ kept_behind (acked_of z) z.unacked (take n z.waiting)
+
+-- packets that move up may be told once they have their numbers
+pub flush_may : (w : Wire) (s : SessionEnd) (taken : ℕ) (line : List (List ℕ)) → IsDirection s.sending taken line → session_on w ≡ Some (flushed s) → Each (MayTell w) (flush_frames s)
+unfolding flush_frames flushed
+flush_may w s taken line d on k o is =
+    let at = packet_frames-at s s.sending.numbered (moving s) k o is in
+    let below = d.below in
+    let acked = acked_of s.sending in
+    let unacked = s.sending.unacked in
+    let place : acked + length unacked ≡ s.sending.numbered = omega arith in
+    let one = kept_one (acked + length unacked) (moving s) k at.0 at.1 in
+    let there = slice_get-behind (kept_after acked unacked) (kept_after (acked + length unacked) (moving s)) k _ one in
+    let kept_now : kept_of (flushed s).sending ≡ kept_after acked unacked ++ kept_after (acked + length unacked) (moving s) = kept_flushed s.sending (room s.sending) (omega arith) below in
+    let packet : Kept = record { number = number_of (acked + length unacked + k + 1); packet = at.0 } in
+    subst (MayTell w) (ap (λ n. packet_frame s (number_of (n + k + 1)) at.0) place ∙ sym at.2) (sends (flushed s) _ packet on (ap (λ (ks : List Kept). slice_get ks (length (kept_after acked unacked) + k)) kept_now ∙ there))
+
+-- ---- what was told stays told
+
+work_told : (x y v : View) → Works x y v → (more : List Frame) × (v.told ≡ x.told ++ more)
+work_told x y _ (makes b none) = ([], sym (append-nil x.told))
+work_told x y _ (turns b e mended is) = ([], sym (append-nil x.told))
+work_told x y _ (calls b e call is may quiet) = ([], sym (append-nil x.told))
+work_told x y _ (shows number higher fits apart) = ([], sym (append-nil x.told))
+work_told x y _ (releases b e s p up a) = ([], sym (append-nil x.told))
+work_told x y _ (notes b e s shown unanswered owes up) = ([], sym (append-nil x.told))
+work_told x y _ (numbers b e s up) = ([], sym (append-nil x.told))
+work_told x y _ (tells b o may) = (framed x y b o ∷ [], refl)
+
+change_told : (x y v : View) → Changes x y v → (more : List Frame) × (v.told ≡ x.told ++ more)
+change_told x y _ (rises b e call is may up apart) = ([], sym (append-nil x.told))
+change_told x y _ (falls b e call cause is may down) = ([], sym (append-nil x.told))
+change_told x y _ (parts b e is up) = ([], sym (append-nil x.told))
+change_told x y _ (restarts boot more fits) = ([], sym (append-nil x.told))
+
+act_told : (x y x' : Partner) → Acts x y x' → (more : List Frame) × (x'.view.told ≡ x.view.told ++ more)
+act_told x y _ (works v w) = work_told x.view y.view v w
+act_told x y _ (changes v c) = change_told x.view y.view v c
+act_told x y _ (puts b e s s' m up put message) = ([], sym (append-nil x.view.told))
+act_told x y _ (takes b e s p number by packet opened last up a is brings) = ([], sym (append-nil x.view.told))
+
+-- through any deeds
+pub told_on : (x y after : Partner) (b : ℕ) (o : Outgoing) → ActsAll x y after → IsToldOn x.view b o → IsToldOn after.view b o
+told_on x y _ b o nothing h = h
+told_on x y after b o (follows mid _ all act) h = (let more = act_told mid y after act in told_still mid.view after.view b o more.0 more.1 (told_on x y mid b o all h))

@@ -1,0 +1,112 @@
+-- What each call of a link end makes of its epochs, and whether the link is up.
+use Rattle.std.proofs.Common.{◌≡◌, ℕ, Bool, true, false, Option, Some, None, refl, sym, ap, ◌∙◌}
+use Rattle.std.specs.Prelude.{◌&&◌, ◌||◌, ◌==◌, nat_lt}
+use Rattle.std.proofs.lemmas.Bool.{and_parts, ltb-false}
+use Rattle.tipc_types.specs.declared.link_words.LinkState.{LinkState}
+use Rattle.tipc_types.specs.declared.link_words.LinkState.TheVariants.{ResetUnknown, ResetReset, WorkingWorking, WorkingUnknown, Held}
+use Rattle.tipc_types.specs.declared.link_words.Reply.TheVariants as reply
+use Rattle.tipc_link_fsm.specs.declared.changes.Change.TheVariants.{Answer}
+use Rattle.tipc_link_fsm.specs.Runs.{Call, ActivateArrives, BearerIsCut, ContactEnds, ForgetsPeer, Releases, ResetArrives, TickPasses, TrafficArrives, TunnelNames, outcome}
+use Rattle.tipc_link_fsm.specs.Table.{Fsm, Outcome, is_held, is_peer, is_up, lowered, on_cut, on_peer_tunnel, on_reset, on_tick, release, tick_in, up_tick, unheard}
+use Rattle.tipc_link_fsm.proofs.Moves.{cases_on, is_up_held}
+use Rattle.tipc_pair.proofs.EndsTurns.{Turn, fall, is_quiet, learn, on_activate_turns, on_traffic_turns, stay}
+
+-- the two epochs that a call's frame shows, where a link end reads them
+abbrev pub shown_to : Call → Option (ℕ × ℕ)
+shown_to (ResetArrives es held) = Some (es, 0)
+shown_to (ActivateArrives es er) = Some (es, er)
+shown_to (TrafficArrives es er) = Some (es, er)
+shown_to other = None
+
+-- a link end that stays as it was
+same : (f : Fsm) (shown : Option (ℕ × ℕ)) (o : Outcome) → o.after ≡ f → is_quiet o.change ≡ true → ((probe : Bool) → o.change ≡ Answer (reply.State probe) → is_up f.state ≡ true) → Turn f shown o
+same f shown o is quiet says = stay (record {
+  own = ap (λ (e : Fsm). e.own) is;
+  peer = ap (λ (e : Fsm). e.peer) is;
+  highest = ap (λ (e : Fsm). e.highest) is;
+  up = ap (λ (e : Fsm). is_up e.state) is;
+  quiet = quiet;
+  says = says;
+})
+
+lowered_down : (f : Fsm) (held : Bool) → is_up (lowered f held).state ≡ false
+lowered_down f true = refl
+lowered_down f false = refl
+
+reset_turns : (f : Fsm) (es : ℕ) (held : Bool) → Turn f (Some (es, 0)) (on_reset f es held)
+unfolding on_reset
+reset_turns f es held =
+    let T : Outcome → Type 0 = Turn f (Some (es, 0)) in
+    cases_on T (is_held f.state) _ _ (λ _. same f _ _ refl refl (λ probe is. absurd (let wrong : ⊥ = cc in wrong)))
+    (λ _. cases_on T (nat_lt es f.highest || (is_up f.state && is_peer f.peer es)) _ _ (λ _. same f _ _ refl refl (λ probe is. absurd (let wrong : ⊥ = cc in wrong)))
+    (λ high. cases_on T (is_up f.state) _ _
+    (λ up. fall (record { cause = _; own = refl; peer = refl; highest = refl; was = up; down = lowered_down f held; change = refl }))
+    (λ down. learn (record {
+      es = es;
+      er = 0;
+      shown_is = refl;
+      own = refl;
+      peer = refl;
+      highest = refl;
+      no_lower = ltb-false es f.highest (or_false (nat_lt es f.highest) _ high);
+      was = down;
+      down = refl;
+      change = refl;
+    }))))
+  where
+    or_false : (a b : Bool) → (a || b) ≡ false → a ≡ false
+    or_false true b neither = absurd (let wrong : ⊥ = cc in wrong)
+    or_false false b neither = refl
+
+cut_turns : (f : Fsm) (held : Bool) (shown : Option (ℕ × ℕ)) → Turn f shown (on_cut f held)
+unfolding on_cut
+cut_turns f held shown =
+    cases_on (Turn f shown) (is_up f.state) _ _
+    (λ up. fall (record { cause = _; own = refl; peer = refl; highest = refl; was = up; down = lowered_down f held; change = refl }))
+    (λ _. same f _ _ refl refl (λ probe is. absurd (let wrong : ⊥ = cc in wrong)))
+
+tunnel_turns : (f : Fsm) (epoch : ℕ) (shown : Option (ℕ × ℕ)) → Turn f shown (on_peer_tunnel f epoch)
+unfolding on_peer_tunnel
+tunnel_turns f epoch shown =
+    cases_on (Turn f shown) (is_up f.state && is_peer f.peer epoch) _ _
+    (λ both. fall (record { cause = _; own = refl; peer = refl; highest = refl; was = (and_parts (is_up f.state) _ both).0; down = refl; change = refl }))
+    (λ _. same f _ _ refl refl (λ probe is. absurd (let wrong : ⊥ = cc in wrong)))
+
+release_turns : (f : Fsm) (shown : Option (ℕ × ℕ)) → Turn f shown (release f)
+unfolding release
+release_turns f shown =
+    cases_on (Turn f shown) (is_held f.state) _ _
+    (λ held. stay (record { own = refl; peer = refl; highest = refl; up = sym (is_up_held f.state held); quiet = refl; says = λ probe is. absurd (let wrong : ⊥ = cc in wrong) }))
+    (λ _. same f _ _ refl refl (λ probe is. absurd (let wrong : ⊥ = cc in wrong)))
+
+still_up : (f : Fsm) → is_up (unheard f).state ≡ true
+still_up f = elim (Rattle.std.specs.Prelude.nat_le 1 f.silent) as (λ b. is_up (Rattle.std.specs.Prelude.if◌then◌else◌ b WorkingUnknown WorkingWorking) ≡ true) [ true ↦ refl | false ↦ refl ]
+
+up_tick_turns : (f : Fsm) (held : Bool) (shown : Option (ℕ × ℕ)) → is_up f.state ≡ true → Turn f shown (up_tick f held)
+up_tick_turns f held shown up =
+    cases_on (Turn f shown) (f.silent == 4) _ _
+    (λ _. fall (record { cause = _; own = refl; peer = refl; highest = refl; was = up; down = lowered_down f held; change = refl }))
+    (λ _. stay (record { own = refl; peer = refl; highest = refl; up = still_up f ∙ sym up; quiet = refl; says = λ probe is. up }))
+
+tick_in_turns : (st : LinkState) (f : Fsm) (held : Bool) (shown : Option (ℕ × ℕ)) → f.state ≡ st → Turn f shown (tick_in st f held)
+tick_in_turns ResetUnknown f held shown is = same f _ _ refl refl (λ probe says. absurd (let wrong : ⊥ = cc in wrong))
+tick_in_turns ResetReset f held shown is = same f _ _ refl refl (λ probe says. absurd (let wrong : ⊥ = cc in wrong))
+tick_in_turns Held f held shown is = same f _ _ refl refl (λ probe says. absurd (let wrong : ⊥ = cc in wrong))
+tick_in_turns WorkingWorking f held shown is = up_tick_turns f held shown (ap is_up is)
+tick_in_turns WorkingUnknown f held shown is = up_tick_turns f held shown (ap is_up is)
+
+tick_turns : (f : Fsm) (held : Bool) (shown : Option (ℕ × ℕ)) → Turn f shown (on_tick f held)
+unfolding on_tick
+tick_turns f held shown = tick_in_turns f.state f held shown refl
+
+-- each call that is made of a single link end
+pub call_turns : (f : Fsm) (call : Call) → (call ≡ ForgetsPeer → ⊥) → (call ≡ ContactEnds → ⊥) → Turn f (shown_to call) (outcome f call)
+call_turns f (ResetArrives es held) _ _ = reset_turns f es held
+call_turns f (ActivateArrives es er) _ _ = on_activate_turns f es er
+call_turns f (TrafficArrives es er) _ _ = on_traffic_turns f es er
+call_turns f (TickPasses held) _ _ = tick_turns f held None
+call_turns f (BearerIsCut held) _ _ = cut_turns f held None
+call_turns f (TunnelNames epoch) _ _ = tunnel_turns f epoch None
+call_turns f Releases _ _ = release_turns f None
+call_turns f ForgetsPeer other _ = absurd (other refl)
+call_turns f ContactEnds _ other = absurd (other refl)

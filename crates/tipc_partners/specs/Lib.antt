@@ -1,0 +1,6 @@
+pub mod Views
+pub mod Paired
+pub mod Deeds
+pub mod Partners
+pub mod Calls
+pub mod EndCalls

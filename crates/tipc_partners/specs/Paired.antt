@@ -1,0 +1,166 @@
+-- What holds of the two nodes of a pair at every moment, whatever either does and whatever arrives, by bearer and session.
+use Rattle.std.specs.Prelude.{◌≡◌, ◌≢◌, ◌<◌, ◌≤◌, ◌⊎◌, ℕ, ◌+◌, ◌^◌, true, false, List, [], Some, None, length, slice_get}
+use Rattle.tipc_types.specs.Position.{number_of}
+use Rattle.tipc_header.specs.Frames.{frame_of}
+use Rattle.tipc_header.specs.Grammar.{Fits}
+use Rattle.tipc_header.specs.Spelling.{Fields, spelling}
+use Rattle.tipc_link_fsm.specs.Table.{is_last, is_up}
+use Rattle.tipc_contact.specs.Peers.{ArePeers}
+use Rattle.tipc_contact.specs.Sides.{boot_of, first_number}
+use Rattle.tipc_link.specs.Direction.{IsCarried, IsDirection, IsReceiver}
+use Rattle.tipc_link.specs.Laws.{IsPrefixOf}
+use Rattle.tipc_link.specs.Links.{LinkEnd, is_traffic}
+use Rattle.tipc_link.specs.Sessions.{Carries, SessionEnd, content_of}
+use Rattle.tipc_pair.specs.Paired.{IsPacket, ShowsContact}
+use Rattle.tipc_partners.specs.Views.{Begun, Frame, Node, View, Wire, epoch_on, er_of, es_of, said_by, session_on, side_of, unused}
+
+-- ---- a node and its link ends
+
+pub record IsNode (n : Node) : Type 0 where
+  pub own : n.own < 2 ^ 32
+  pub peer : n.peer < 2 ^ 32
+  pub boot : n.boot < 2 ^ 32
+  -- the contact number is of this boot, and what the peer showed has 64 bits
+  pub contact : boot_of n.contact ≡ n.boot
+  pub seen : n.seen < 2 ^ 64
+
+pub record IsEnd (n : Node) (bearer : ℕ) (e : LinkEnd) : Type 0 where
+  pub own : e.own ≡ n.own
+  pub peer : e.peer ≡ n.peer
+  pub bearer_is : e.bearer ≡ bearer
+  -- it shows the node's contact numbers, and its epoch is of this boot, and no lower than the node's own number
+  pub contact : e.contact ≡ n.contact
+  pub seen : e.peer_contact ≡ n.seen
+  pub boot : boot_of e.fsm.own ≡ n.boot
+  pub order : n.contact ≤ e.fsm.own
+  -- the epoch of the peer that it knows is the highest that it took
+  pub peer_fits : (epoch : ℕ) → e.fsm.peer ≡ Some epoch → (epoch < 2 ^ 64) × (epoch ≡ e.fsm.highest)
+  -- a link that is up has a session of its epochs, and isn't at the last epoch of its boot
+  pub going : is_up e.fsm.state ≡ true → (s : SessionEnd) × (e.session ≡ Some s) × (s.epoch ≡ e.fsm.own) × (e.fsm.peer ≡ Some s.peer_epoch) × (is_last e.fsm.own ≡ false)
+  -- and so was the last one
+  pub session : (s : SessionEnd) → e.session ≡ Some s → (s.own ≡ n.own) × (s.peer ≡ n.peer) × (s.bearer ≡ bearer)
+
+-- ---- two ends on one bearer
+
+-- packets of the peer's session were taken in a session of the two, and the peer's session is with that one
+pub record Met (w v : Wire) (peer_epoch : ℕ) : Type 0 where
+  pub epoch : ℕ
+  pub here : Begun
+  pub here_is : w.begun epoch ≡ Some here
+  pub peer_is : here.peer_epoch ≡ peer_epoch
+  pub there : Begun
+  pub there_is : v.begun peer_epoch ≡ Some there
+  pub epoch_is : there.peer_epoch ≡ epoch
+
+-- the session on wire w, against the wire v of the peer
+pub record IsGoing (own : ℕ) (w v : Wire) (s : SessionEnd) : Type 0 where
+  pub begun : Begun
+  pub begun_is : w.begun s.epoch ≡ Some begun
+  pub peer_is : begun.peer_epoch ≡ s.peer_epoch
+  -- what waits can be sent
+  pub waiting : (k : ℕ) (bytes : List ℕ) → slice_get s.sending.waiting k ≡ Some bytes → IsPacket own bytes
+  -- what it sends, against what the peer took of it
+  pub sends : IsDirection s.sending (length (v.got s.epoch)) (w.line s.epoch)
+  -- what it took and holds, against what the peer numbered
+  pub takes : length (w.got s.peer_epoch) ≡ s.taken
+  pub holds : IsReceiver s.held s.taken (v.line s.peer_epoch)
+
+-- what a node did on one bearer, beside what its peer did there
+pub record IsWire (own : ℕ) (w v : Wire) : Type 0 where
+  -- what was numbered was numbered in a session, and can be sent
+  pub unborn : (epoch : ℕ) → w.begun epoch ≡ None → w.line epoch ≡ []
+  pub packets : (epoch k : ℕ) (bytes : List ℕ) → slice_get (w.line epoch) k ≡ Some bytes → IsPacket own bytes
+  -- in each session at most 50 packets were numbered behind those that the peer took, also once it is over
+  pub window : (epoch : ℕ) → length (w.line epoch) ≤ length (v.got epoch) + 50
+  -- what was taken of a session of the peer is a prefix of what the peer numbered in it, and was taken in a session with it
+  pub prefix : (epoch : ℕ) → IsPrefixOf (w.got epoch) (v.line epoch)
+  pub met : (epoch : ℕ) → (w.got epoch ≡ []) ⊎ Met w v epoch
+  pub going : (s : SessionEnd) → session_on w ≡ Some s → IsGoing own w v s
+
+-- ---- frames
+
+-- one of these frames shows the two epochs on the bearer
+pub record IsShown (frames : List Frame) (bearer es er : ℕ) : Type 0 where
+  pub place : ℕ
+  pub frame : Frame
+  pub there : slice_get frames place ≡ Some frame
+  pub bearer_is : frame.bearer ≡ bearer
+  pub es_is : es_of frame.bytes ≡ es
+  pub er_is : er_of frame.bytes ≡ er
+
+-- A STATE or a numbered packet of the session of the epochs es and er, which w told v.
+pub record IsOfSession (w v : Wire) (f : Frame) (es er : ℕ) (p : Fields) : Type 0 where
+  pub begun : Begun
+  pub begun_is : w.begun es ≡ Some begun
+  pub peer_is : begun.peer_epoch ≡ er
+  pub so_far : f.numbered ≤ length (w.line es)
+  -- what it acknowledges was taken of the peer's session, and not long before
+  pub told : ℕ
+  pub told_is : p.acknowledgement ≡ number_of told
+  pub told_taken : told ≤ length (w.got er)
+  pub told_recent : f.peer_numbered ≤ told + 50
+  -- what it carries was numbered in the session, and but for 50 packets the receiver had taken what was numbered
+  pub carried : (number : ℕ) (bytes : List ℕ) → content_of p ≡ Carries number bytes → IsCarried (w.line es) f.numbered number bytes
+  pub recent : f.numbered ≤ length (v.got es) + 50
+
+-- a frame is an envelope and a packet of its node
+pub record IsFrame (own : ℕ) (w v : Wire) (f : Frame) : Type 0 where
+  pub es : ℕ
+  pub er : ℕ
+  pub es_fits : es < 2 ^ 64
+  pub er_fits : er < 2 ^ 64
+  pub packet : Fields
+  pub fits : Fits packet
+  pub bytes : f.bytes ≡ frame_of es er (spelling packet)
+  pub previous : packet.previous ≡ own
+  -- a RESET or an ACTIVATE shows the contact numbers, and any other packet is of a session
+  pub notice : ShowsContact packet.header f.contact f.peer_contact
+  pub session : is_traffic packet.header ≡ true → IsOfSession w v f es er packet
+
+-- ---- epochs and contacts
+
+-- an epoch under which no session began yet
+abbrev pub IsUnborn : Node → Wire → ℕ → Type 0
+IsUnborn n w epoch = (epoch_on n w ≤ epoch) × ((s : SessionEnd) → session_on w ≡ Some s → s.epoch ≢ epoch)
+
+-- The sessions of a node on one bearer: when and in which contact they began, and what was told of it.
+pub record IsEpochs (n : Node) (bearer : ℕ) (told heard : List Frame) (w v : Wire) : Type 0 where
+  pub unborn : (epoch : ℕ) → IsUnborn n w epoch → w.begun epoch ≡ None
+  -- none began at the last epoch of a boot
+  pub lasts : (epoch : ℕ) (g : Begun) → w.begun epoch ≡ Some g → is_last epoch ≡ false
+  -- the present session began in the present contact, by a frame that shows both its epochs
+  pub now : (s : SessionEnd) (g : Begun) → session_on w ≡ Some s → w.begun s.epoch ≡ Some g → (g.contact ≡ n.contact) × (g.peer_contact ≡ n.seen)
+  pub shown : (s : SessionEnd) → session_on w ≡ Some s → IsShown heard bearer s.peer_epoch s.epoch
+  -- no frame of an epoch names a higher epoch of the peer than the highest that was taken, and that of its session
+  pub named : (k : ℕ) (f : Frame) (e : LinkEnd) → slice_get told k ≡ Some f → f.bearer ≡ bearer → w.end ≡ Some e → es_of f.bytes ≡ e.fsm.own → er_of f.bytes ≤ e.fsm.highest
+  pub bounded : (k : ℕ) (f : Frame) (g : Begun) → slice_get told k ≡ Some f → f.bearer ≡ bearer → w.begun (es_of f.bytes) ≡ Some g → er_of f.bytes ≤ g.peer_epoch
+  -- each frame of a session's epoch was told in its contact, and the peer told its own epoch under the contact number that counts
+  pub told_in : (k : ℕ) (f : Frame) (g : Begun) → slice_get told k ≡ Some f → f.bearer ≡ bearer → w.begun (es_of f.bytes) ≡ Some g → f.contact ≡ g.contact
+  pub heard_in : (epoch : ℕ) (g : Begun) → w.begun epoch ≡ Some g → is_last g.peer_epoch ≡ false → (f : Frame) × (k : ℕ) × (slice_get heard k ≡ Some f) × (f.bearer ≡ bearer) × (es_of f.bytes ≡ g.peer_epoch) × (f.contact ≡ g.peer_contact)
+  -- two sessions with one another are in one contact
+  pub agree : (epoch : ℕ) (g h : Begun) → w.begun epoch ≡ Some g → v.begun g.peer_epoch ≡ Some h → h.peer_epoch ≡ epoch → (g.contact ≡ h.peer_contact) × (g.peer_contact ≡ h.contact)
+
+-- ---- two nodes
+
+-- what x keeps and told, beside its peer y
+pub record IsHalf (x y : View) : Type 0 where
+  pub node : IsNode x.node
+  pub ends : (bearer : ℕ) (e : LinkEnd) → (x.wires bearer).end ≡ Some e → IsEnd x.node bearer e
+  pub wires : (bearer : ℕ) → IsWire x.node.own (x.wires bearer) (y.wires bearer)
+  pub epochs : (bearer : ℕ) → IsEpochs x.node bearer x.told y.told (x.wires bearer) (y.wires bearer)
+  pub frames : (k : ℕ) (f : Frame) → slice_get x.told k ≡ Some f → IsFrame x.node.own (x.wires f.bearer) (y.wires f.bearer) f
+
+pub record ArePaired (x y : View) : Type 0 where
+  pub peers : ArePeers (side_of x) (said_by x) (side_of y) (said_by y)
+  pub here : IsHalf x y
+  pub there : IsHalf y x
+
+-- a node at the beginning of a boot, which keeps nothing of the peer, did nothing and told it nothing
+pub record IsNew (x : View) : Type 0 where
+  pub own : x.node.own < 2 ^ 32
+  pub peer : x.node.peer < 2 ^ 32
+  pub boot : x.node.boot < 2 ^ 32
+  pub contact : x.node.contact ≡ first_number x.node.boot
+  pub seen : x.node.seen ≡ 0
+  pub wires : (bearer : ℕ) → x.wires bearer ≡ unused
+  pub told : x.told ≡ []
