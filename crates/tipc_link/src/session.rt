@@ -100,6 +100,24 @@ impl Session {
         }
     }
 
+    /// An end that is as this one.
+    pub fn copy(&self) -> Result<Session, NoMemory>
+        ensures { IfOk result (λ session. session ≡ self.now) }
+    {
+        Ok(Session {
+            own: self.own,
+            peer: self.peer,
+            bearer: self.bearer,
+            epoch: self.epoch,
+            peer_epoch: self.peer_epoch,
+            window: self.window.copy()?,
+            receiving: self.receiving.copy()?,
+            shown: self.shown,
+            unanswered: self.unanswered,
+            owes: self.owes,
+        })
+    }
+
     /// How many packets it has taken.
     fn taken(&self) -> u64
         ensures { result ≡ self.now.taken }
