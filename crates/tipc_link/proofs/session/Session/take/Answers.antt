@@ -1,6 +1,4 @@
 use Rattle.std.proofs.Common.{◌≡◌, ◌+◌, ◌-◌, ◌≤◌, None, refl, sym, ap, subst, ◌∙◌, arith}
-use Rattle.tipc_types.specs.declared.packet_lists.Taken.{Taken}
-use Rattle.tipc_recv_window.specs.declared.outcomes.Place.{Place}
 use Rattle.tipc_recv_window.specs.Receiving.{Coming, Receiving, coming, drained, next_of, with_packet}
 use Rattle.tipc_link.specs.Sessions.{SessionEnd, place_of, receiving, took}
 use Rattle.tipc_link.proofs.Takings.{IsSession-took, drained_wanted, drained_wants, receiving_is, took_is}
