@@ -85,8 +85,8 @@ fn bundle_with_packet(
     bundle_bytes(alloc, count + 1, rest.as_slice())
 }
 
-/// Puts a packet behind those that wait in `last`: a packet becomes the bundle of itself and the new one, and a bundle
-/// gets one more inner packet. (TIPC 2.0 draft; the limit and the padding are this project's profile.)
+/// The bundle of the packets that wait in `last` and a new one behind them: a packet becomes the bundle of itself and the new
+/// one, and a bundle gets one more inner packet. (TIPC 2.0 draft; the limit and the padding are this project's profile.)
 ///
 /// `packet` may stand inside a bundle: it is payload or name items, under any numbers. `last` is such a packet, or a bundle
 /// that this call made.
@@ -94,7 +94,29 @@ fn bundle_with_packet(
 /// # Errors
 ///
 /// `Full` exactly where the bundle would have more than 1,452 bytes, whether there is memory or not; else `NoMemory` where
-/// memory runs out. Either leaves `last` as it was.
+/// memory runs out.
+pub fn with_added(alloc: Global, last: &[u8], packet: &[u8]) -> Result<Bytes, BundleFault>
+    requires last { (packets : List (List ℕ)) × Carries last.now packets }
+    requires packet { IsInner packet.now }
+    ensures ok { (packets : List (List ℕ)) → Carries last.now packets → IfOk result (λ bundle. Carries bundle (packets ++ packet.now ∷ [])) }
+    ensures within { IfOk result (λ bundle. length bundle ≤ 1452) }
+    ensures full { (packets : List (List ℕ)) → Carries last.now packets →
+        (result ≡ Err BundleFault.Full) ↔ (1452 < length (joined (packets ++ packet.now ∷ []))) }
+{
+    let (count, waiting) = carried(last);
+    let size = HEADER_BYTES + padded_size(waiting.len()) + padded_size(packet.len());
+    if size > MOST_PACKET_BYTES {
+        return Err(BundleFault::Full);
+    }
+    let bundle = bundle_with_packet(alloc, count, waiting, packet)?;
+    Ok(bundle)
+}
+
+/// Puts a packet behind those that wait in `last`: it becomes the bundle of them all, as [`with_added`] makes it.
+///
+/// # Errors
+///
+/// As of [`with_added`]. Either leaves `last` as it was.
 pub fn try_add(alloc: Global, last: &mut Bytes, packet: &[u8]) -> Result<(), BundleFault>
     requires last { (packets : List (List ℕ)) × Carries last.old packets }
     requires packet { IsInner packet.now }
@@ -104,11 +126,11 @@ pub fn try_add(alloc: Global, last: &mut Bytes, packet: &[u8]) -> Result<(), Bun
         (result ≡ Err BundleFault.Full) ↔ (1452 < length (joined (packets ++ packet.now ∷ []))) }
     ensures err { OnErr result (last.new ≡ last.old) }
 {
-    let (count, waiting) = carried(last.as_slice());
-    let size = HEADER_BYTES + padded_size(waiting.len()) + padded_size(packet.len());
-    if size > MOST_PACKET_BYTES {
-        return Err(BundleFault::Full);
+    match with_added(alloc, last.as_slice(), packet) {
+        Ok(bundle) => {
+            *last = bundle;
+            Ok(())
+        }
+        Err(fault) => Err(fault),
     }
-    *last = bundle_with_packet(alloc, count, waiting, packet)?;
-    Ok(())
 }

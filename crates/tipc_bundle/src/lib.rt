@@ -7,7 +7,7 @@ mod laws;
 mod padding;
 mod splitting;
 
-pub use adding::{BundleFault, MOST_PACKET_BYTES, try_add};
+pub use adding::{BundleFault, MOST_PACKET_BYTES, try_add, with_added};
 pub use inner::may_be_bundled;
 pub use laws::{
     joined_packets_are_a_packet, joined_packets_are_split_again, one_answer_a_bundle,

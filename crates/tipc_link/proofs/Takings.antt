@@ -1,20 +1,17 @@
 -- What a packet with a number makes of a session.
-use Rattle.std.proofs.Common.{◌≡◌, ℕ, ◌+◌, ◌-◌, ◌<◌, ◌≤◌, ◌==◌, ◌&&◌, if◌then◌else◌, Bool, true, false, List, length, take, drop, Some, None, Result, Ok, Err, refl, ap, ◌∙◌, arith}
+use Rattle.std.proofs.Common.{◌≡◌, ℕ, ◌+◌, ◌-◌, ◌<◌, ◌≤◌, ◌==◌, ◌&&◌, if◌then◌else◌, Bool, true, false, List, [], length, take, drop, Some, None, Result, Ok, Err, refl, ap, ◌∙◌, arith}
 use Rattle.std.specs.Prelude.{All, OnErr, OnOk}
 use Rattle.std.proofs.lemmas.List.Elements.{All-append, All-push, All-take}
 use Rattle.tipc_types.specs.declared.packet_lists.Taken.{Taken}
 use Rattle.tipc_send_window.specs.Sending.{Sending, offered, swapped}
 use Rattle.tipc_recv_window.specs.declared.outcomes.LinkOutcome.{LinkOutcome}
 use Rattle.tipc_recv_window.specs.declared.outcomes.Place.{Place}
-use Rattle.tipc_recv_window.specs.Receiving.{Receiving, arrived_at, deferred_count, drained, filled, is_new, next_of, past_wanted, place_at, run_of}
+use Rattle.tipc_recv_window.specs.declared.outcomes.Place.TheVariants as place
+use Rattle.tipc_recv_window.specs.Receiving.{Coming, Receiving, arrived_at, coming, deferred_count, drained, filled, is_new, next_of, past_wanted, place_at, run_of, with_packet}
+use Rattle.tipc_recv_window.proofs.Comings.{due_none}
 use Rattle.tipc_recv_window.proofs.Runs.{run_leaves}
 use Rattle.tipc_link.specs.Sessions.{SessionEnd, IsWaiting, due_with, is_deferred, is_only_deferred, past, place_of, placed, receiving, released, took, window_with}
 use Rattle.tipc_link.specs.Hearings.{IsSession, numbered_hearing}
-
--- what was due isn't held any more
-pub took_wants : (e : SessionEnd) (t : Taken) → next_of (receiving (took e t)) ≡ None
-unfolding due_with
-took_wants e t = run_leaves (window_with e t).held
 
 -- the packets that were taken are counted
 pub IsSession-took : (bearer shown unanswered : ℕ) (window : Sending) (before after : Receiving) → before.wanted ≤ after.wanted → next_of after ≡ None → IsSession bearer shown unanswered window before
@@ -64,19 +61,54 @@ arrived_wanted r d t = elim (is_new r d) as (λ b. (if b then record { wanted = 
   | false ↦ refl
 ]
 
--- the window w1 has the packet t, and w2 is without what was due
-pub hearing_is : (e : SessionEnd) (t : Taken) (w0 w1 w2 : Receiving) (place : Place) (packet : List ℕ) (due : List Taken) (outcome : LinkOutcome) (owes : Bool)
-    → w0 ≡ receiving e → packet ≡ t.packet
-    → (place ≡ place_at w0 (past_wanted w0 t.number)) × (w1 ≡ arrived_at w0 (past_wanted w0 t.number) (record { number = t.number; packet = packet; by = t.by }))
-    → (due ≡ run_of w1.held) × (w2 ≡ drained w1) → outcome ≡ placed place due → owes ≡ (is_deferred place && (deferred_count w1 == 1))
-    → record { by = t.by; window = Some w2; owes = owes; outcome = outcome } ≡ numbered_hearing e t
+-- what a window makes of the packet t is what the session does
+pub hearing_is : (e : SessionEnd) (t : Taken) (w : Receiving) (a : Coming) (packet : List ℕ) (due : List Taken) (outcome : LinkOutcome)
+    → w ≡ receiving e → packet ≡ t.packet
+    → a ≡ coming w (record { number = t.number; packet = packet; by = t.by }) → due ≡ run_of (with_packet w (record { number = t.number; packet = packet; by = t.by })).held
+    → outcome ≡ placed a.place due
+    → record { by = t.by; window = Some a; outcome = outcome } ≡ numbered_hearing e t
+unfolding due_with
+hearing_is e t w a packet due outcome first same told run is =
+    let packet_is : record { number = t.number; packet = packet; by = t.by } ≡ t = ap (λ q. record { number = t.number; packet = q; by = t.by }) same in
+    let told_is : a ≡ coming (receiving e) t = told ∙ ap (λ q. coming w q) packet_is ∙ ap (λ r. coming r t) first in
+    let due_is : due ≡ run_of (window_with e t).held = run ∙ ap (λ q. run_of (with_packet w q).held) packet_is ∙ ap (λ r. run_of (with_packet r t).held) first in
+    let outcome_is : outcome ≡ placed (place_of e t) (run_of (window_with e t).held) = is ∙ ap (λ (x : Coming). placed x.place due) told_is ∙ ap (placed (place_of e t)) due_is in
+    ap (λ x. record { by = t.by; window = Some x; outcome = outcome }) told_is ∙ ap (λ o. record { by = t.by; window = Some (coming (receiving e) t); outcome = o }) outcome_is
+
+-- the receive window of a session
+pub receiving_is : (r : Receiving) (e : SessionEnd) → 1 ≤ r.wanted → r.wanted - 1 ≡ e.taken → r.held ≡ e.held → r ≡ receiving e
+receiving_is r e first taken held =
+    let wanted : r.wanted ≡ e.taken + 1 = omega arith in
+    ap (λ n. record { wanted = n; held = r.held }) wanted ∙ ap (λ xs. record { wanted = e.taken + 1; held = xs }) held
+
+-- the wanted position doesn't fall
+pub drained_wanted : (r : Receiving) (t : Taken) → (drained (with_packet r t)).wanted ≡ r.wanted + length (run_of (with_packet r t).held)
+drained_wanted r t = ap (λ n. n + length (run_of (with_packet r t).held)) (arrived_wanted r (past_wanted r t.number) t)
+
+pub drained_wants : (r : Receiving) (t : Taken) → next_of (drained (with_packet r t)) ≡ None
+drained_wants r t = run_leaves (with_packet r t).held
+
+-- a packet that is deferred leaves nothing due, so it is the only one also then
+deferred_same : (r : Receiving) (d : ℕ) (t : Taken) (place : Place) → next_of r ≡ None → place ≡ place_at r d
+    → (is_deferred place && (deferred_count (drained (arrived_at r d t)) == 1)) ≡ (is_deferred place && (deferred_count (arrived_at r d t) == 1))
+deferred_same r d t place.InOrder free at = refl
+deferred_same r d t place.Deferred free at =
+    let none : run_of (arrived_at r d t).held ≡ [] = due_none r d t free (λ e. let first : place.Deferred ≡ place.InOrder = at ∙ e in let no : ⊥ = cc in no) in
+    ap (λ n. deferred_count (record { wanted = (arrived_at r d t).wanted; held = drop n (arrived_at r d t).held }) == 1) (ap length none)
+deferred_same r d t place.Old free at = refl
+
+-- the session took what its window did
+pub took_is : (e : SessionEnd) (t : Taken) (after : Receiving) (unanswered : ℕ) (owes : Bool) (place : Place) → next_of (receiving e) ≡ None
+    → after ≡ drained (with_packet (receiving e) t) → place ≡ place_of e t → unanswered ≡ e.unanswered + (after.wanted - (e.taken + 1))
+    → owes ≡ (is_deferred place && (deferred_count after == 1))
+    → record e { taken = after.wanted - 1; held = after.held; unanswered = unanswered; owes = owes } ≡ took e t
 unfolding due_with is_only_deferred
-hearing_is e t w0 w1 w2 place packet due outcome owes first same at run is asks =
-    let with_t : w1 ≡ window_with e t = at.1 ∙ ap (λ q. arrived_at w0 (past_wanted w0 t.number) (record { number = t.number; packet = q; by = t.by })) same ∙ ap (λ r. arrived_at r (past_wanted r t.number) t) first in
-    let place_is : place ≡ place_of e t = at.0 ∙ ap (λ r. place_at r (past_wanted r t.number)) first in
-    let due_is : due ≡ run_of (window_with e t).held = run.0 ∙ ap (λ (r : Receiving). run_of r.held) with_t in
-    let wanted : (window_with e t).wanted + length (run_of (window_with e t).held) ≡ e.taken + length (run_of (window_with e t).held) + 1 = omega (arith, arrived_wanted (receiving e) (past e t.number) t) in
-    let left : w2 ≡ receiving (took e t) = run.1 ∙ ap drained with_t ∙ ap (λ n. record { wanted = n; held = drop (length (run_of (window_with e t).held)) (window_with e t).held }) wanted in
-    let outcome_is : outcome ≡ placed (place_of e t) (run_of (window_with e t).held) = is ∙ ap (λ p. placed p due) place_is ∙ ap (placed (place_of e t)) due_is in
-    let owes_is : owes ≡ (is_deferred (place_of e t) && (deferred_count (window_with e t) == 1)) = asks ∙ ap (λ p. is_deferred p && (deferred_count w1 == 1)) place_is ∙ ap (λ r. is_deferred (place_of e t) && (deferred_count r == 1)) with_t in
-    rw (left, outcome_is, owes_is) refl
+took_is e t after unanswered owes place free is at count asks =
+    let due : ℕ = length (run_of (window_with e t).held) in
+    let wanted : after.wanted ≡ e.taken + 1 + due = ap (λ (r : Receiving). r.wanted) is ∙ drained_wanted (receiving e) t in
+    let taken : after.wanted - 1 ≡ e.taken + due = omega (arith, wanted) in
+    let held : after.held ≡ drop due (window_with e t).held = ap (λ (r : Receiving). r.held) is in
+    let more : unanswered ≡ e.unanswered + due = omega (arith, wanted, count) in
+    let owes_is : owes ≡ (is_deferred (place_of e t) && (deferred_count (window_with e t) == 1)) =
+    asks ∙ ap (λ r. is_deferred place && (deferred_count r == 1)) is ∙ deferred_same (receiving e) (past e t.number) t place free at ∙ ap (λ p. is_deferred p && (deferred_count (window_with e t) == 1)) at in
+    rw (taken, held, more, owes_is) refl

@@ -1,40 +1,33 @@
 -- What an arrival will make of a session and of a link, told before anything of them is changed; and what is true of every session.
-use Rattle.std.specs.Prelude.{◌≡◌, ℕ, ◌+◌, ◌<◌, ◌≤◌, Bool, true, false, List, [], ◌∷◌, ◌++◌, Option, Some, None, All, length}
+use Rattle.std.specs.Prelude.{◌≡◌, ℕ, ◌+◌, ◌<◌, ◌≤◌, true, List, [], ◌∷◌, ◌++◌, Option, Some, None, All, length}
 use Rattle.tipc_header.specs.Spelling.{Fields}
 use Rattle.tipc_link_fsm.specs.Table.{Outcome}
 use Rattle.tipc_recv_window.specs.declared.outcomes.LinkOutcome.{LinkOutcome}
-use Rattle.tipc_recv_window.specs.Receiving.{Receiving, next_of}
+use Rattle.tipc_recv_window.specs.Receiving.{Coming, Receiving, coming, next_of}
 use Rattle.tipc_types.specs.declared.packet_lists.Taken.{Taken}
 use Rattle.tipc_bundle.specs.Bundles.{Carries as Waits}
 use Rattle.tipc_send_window.specs.Sending.{Sending}
-use Rattle.tipc_link.specs.Sessions.{SessionEnd, Content, Carries, IsWaiting, brought, content_of, due_with, is_only_deferred, outcome, place_of, placed, receiving, took, MayJoin}
+use Rattle.tipc_link.specs.Sessions.{SessionEnd, Content, Carries, IsWaiting, brought, content_of, due_with, outcome, place_of, placed, receiving, MayJoin}
 use Rattle.tipc_link.specs.Links.{LinkEnd, after, is_heard, link_outcome}
 
--- the arrival's number at the node, what it brings, and for a packet with a number: the receive window after it, and whether it
--- asks for a STATE
+-- the arrival's number at the node, what it brings, and for a packet with a number what it will make of the receive window
 pub record HearingState : Type 0 where
   pub by : ℕ
-  pub window : Option Receiving
-  pub owes : Bool
+  pub window : Option Coming
   pub outcome : LinkOutcome
 
-abbrev pub window_after : SessionEnd → ℕ → Content → Option Receiving
-window_after e by (Carries number packet) = Some (receiving (took e (brought number packet by)))
-window_after e by other = None
-
-abbrev pub owes_after : SessionEnd → ℕ → Content → Bool
-owes_after e by (Carries number packet) = is_only_deferred e (brought number packet by)
-owes_after e by other = false
+abbrev pub window_by : SessionEnd → ℕ → Content → Option Coming
+window_by e by (Carries number packet) = Some (coming (receiving e) (brought number packet by))
+window_by e by other = None
 
 -- of a packet with a number
 abbrev pub numbered_hearing : SessionEnd → Taken → HearingState
 numbered_hearing e t =
-    record { by = t.by; window = Some (receiving (took e t)); owes = is_only_deferred e t; outcome = placed (place_of e t) (due_with e t) }
+    record { by = t.by; window = Some (coming (receiving e) t); outcome = placed (place_of e t) (due_with e t) }
 
 -- it tells what this packet does to the session
 pub record IsHearing (e : SessionEnd) (p : Fields) (h : HearingState) : Type 0 where
-  pub window : h.window ≡ window_after e h.by (content_of p)
-  pub owes : h.owes ≡ owes_after e h.by (content_of p)
+  pub window : h.window ≡ window_by e h.by (content_of p)
   pub outcome : h.outcome ≡ outcome e h.by (content_of p)
 
 -- the link states after an arrival with their change, and what the session will make of it

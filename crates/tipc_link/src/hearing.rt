@@ -1,6 +1,6 @@
 //! What a packet will make of a session, before anything of it is changed.
 
-ghost use Rattle.std.specs.Prelude.{◌≡◌, ◌==◌, ◌&&◌, false, None, IfOk};
+ghost use Rattle.std.specs.Prelude.{◌≡◌, ◌==◌, ◌&&◌, None, IfOk};
 ghost use Rattle.tipc_recv_window.specs.Receiving.{deferred_count};
 ghost use Rattle.tipc_header.specs.Spelling.{spelling, view};
 ghost use Rattle.tipc_header.specs.Grammar.{Fits};
@@ -9,7 +9,7 @@ ghost use Rattle.tipc_link.specs.Sessions.{as_waiting, is_deferred, placed, prev
 use std::alloc::Global;
 use std::marker::Model;
 use tipc_header::{Header, Packet, encode};
-use tipc_recv_window::{LinkOutcome, Place, RecvWindow};
+use tipc_recv_window::{LinkOutcome, Place, RecvWindow, WindowArrival};
 use tipc_types::{Bytes, NoMemory, TakenList, Why};
 
 /// What a packet will make of a session.
@@ -17,10 +17,8 @@ use tipc_types::{Bytes, NoMemory, TakenList, Why};
 pub(crate) struct Hearing {
     /// The arrival's number at the node.
     pub(crate) by: u64,
-    /// For a packet with a number, the receive window after it, from which what was due is taken.
-    pub(crate) window: Option<RecvWindow>,
-    /// Whether a packet with a number asks for a STATE.
-    pub(crate) owes: bool,
+    /// For a packet with a number, what it will make of the receive window.
+    pub(crate) window: Option<WindowArrival>,
     /// What the packet brings.
     pub(crate) outcome: LinkOutcome,
 }
@@ -30,18 +28,17 @@ impl Model for Hearing {
 
     ghost Value = { HearingState };
 
-    ghost view = { λ h. record { by = h.by; window = h.window; owes = h.owes; outcome = h.outcome } };
+    ghost view = { λ h. record { by = h.by; window = h.window; outcome = h.outcome } };
 }
 
 impl Hearing {
     /// A packet that leaves the receive window as it is.
     pub fn without_window(by: u64, outcome: LinkOutcome) -> Hearing
-        ensures { result ≡ record { by = by; window = None; owes = false; outcome = outcome } }
+        ensures { result ≡ record { by = by; window = None; outcome = outcome } }
     {
         Hearing {
             by,
             window: None,
-            owes: false,
             outcome,
         }
     }

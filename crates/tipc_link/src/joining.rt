@@ -6,7 +6,7 @@ ghost use Rattle.tipc_bundle.specs.Splitting.{IsBundle};
 ghost use Rattle.tipc_link.specs.Sessions.{IsWaiting};
 
 use std::alloc::Global;
-use tipc_bundle::{BundleFault, may_be_bundled, try_add};
+use tipc_bundle::{BundleFault, may_be_bundled, with_added};
 use tipc_header::{Header, decode};
 use tipc_types::{Bytes, NoMemory};
 
@@ -41,9 +41,8 @@ pub(crate) fn joined_with(
         (length bundle ≤ 1452) × ((packets : List (List ℕ)) → Carries last.now packets → Carries bundle (packets ++ packet.now ∷ [])))) }
     ensures none { IfOk result (λ given. IfNone given ((packets : List (List ℕ)) → Carries last.now packets → 1452 < length (joined (packets ++ packet.now ∷ [])))) }
 {
-    let mut bundle = Bytes::from_slice(alloc, last)?;
-    match try_add(alloc, &mut bundle, packet) {
-        Ok(()) => Ok(Some(bundle)),
+    match with_added(alloc, last, packet) {
+        Ok(bundle) => Ok(Some(bundle)),
         Err(BundleFault::Full) => Ok(None),
         Err(BundleFault::NoMemory) => Err(NoMemory),
     }

@@ -86,6 +86,22 @@ impl Link {
         }
     }
 
+    /// An end that is as this one.
+    pub fn copy(&self) -> Result<Link, NoMemory>
+        ensures { IfOk result (λ link. link ≡ self.now) }
+    {
+        Ok(Link {
+            own: self.own,
+            peer: self.peer,
+            bearer: self.bearer,
+            mended: self.mended,
+            fsm: self.fsm.copy()?,
+            contact: self.contact,
+            peer_contact: self.peer_contact,
+            session: copy_session(&self.session)?,
+        })
+    }
+
     /// Sets the contact numbers that RESET and ACTIVATE show: the node's own, and the highest that the peer has shown.
     pub fn show_contact(&mut self, own: u64, peer: u64)
         ensures { self.new ≡ record self.old { contact = own; peer_contact = peer } }
@@ -370,6 +386,33 @@ impl Link {
         LinkArrival { change, outcome }
     }
 
+    /// Takes a packet that arrived under an envelope of these two epochs: [`Link::prepare`] and [`Link::commit`] in one call.
+    ///
+    /// # Errors
+    ///
+    /// Where memory runs out. Nothing is changed then, and nothing is sent.
+    pub fn arrive(
+        &mut self,
+        alloc: Global,
+        es: u64,
+        er: u64,
+        packet: &Packet<'_>,
+        held: bool,
+        by: u64,
+        shown: BroadcastState,
+        out: &mut Outbox,
+    ) -> Result<LinkArrival, NoMemory>
+        requires { Fits (view packet.now) }
+        ensures change { IfOk result (λ a. a.change ≡ (outcome_of self.old.fsm packet.now.header es er held).change) }
+        ensures outcome { IfOk result (λ a. a.outcome ≡ link_outcome self.old (outcome_of self.old.fsm packet.now.header es er held) (view packet.now) by) }
+        ensures after { OnOk result (self.new ≡ arrival_end self.old (outcome_of self.old.fsm packet.now.header es er held) (view packet.now) by) }
+        ensures frames { OnOk result (Adds out.old out.new (link_frames self.old (outcome_of self.old.fsm packet.now.header es er held) (view packet.now) by shown)) }
+        ensures err { OnErr result ((self.new ≡ self.old) × (out.new ≡ out.old)) }
+    {
+        let arriving = self.prepare(alloc, es, er, packet, held, by)?;
+        Ok(self.commit(alloc, arriving, packet, shown, out))
+    }
+
     /// Gives a packet to the session that there is.
     fn hear(
         &mut self,
@@ -554,6 +597,16 @@ impl Link {
         let change = self.fsm.contact_ended();
         self.send_reset(alloc, out);
         change
+    }
+}
+
+/// A session, or none, that is as this one.
+fn copy_session(session: &Option<Session>) -> Result<Option<Session>, NoMemory>
+    ensures { IfOk result (λ copy. copy ≡ session.now) }
+{
+    match session {
+        Some(session) => Ok(Some(session.copy()?)),
+        None => Ok(None),
     }
 }
 

@@ -5,6 +5,7 @@ ghost use Rattle.tipc_header.specs.Grammar.{Fits};
 ghost use Rattle.tipc_outside.specs.Frames.{Adds};
 ghost use Rattle.tipc_types.specs.declared.packet_lists.Taken.{Taken};
 ghost use Rattle.tipc_send_window.specs.Sending.{kept_of};
+ghost use Rattle.tipc_recv_window.specs.Receiving.{coming, next_of};
 ghost use Rattle.tipc_link.specs.Sessions.{is_behind};
 
 use crate::hearing::{Hearing, is_only_deferred, outcome_at, waiting_bytes};
@@ -14,11 +15,11 @@ use std::marker::Model;
 use tipc_bundle::may_be_bundled;
 use tipc_header::{Header, Packet, State, encode_frame, stamp_frame};
 use tipc_outside::Outbox;
-use tipc_recv_window::{LinkOutcome, RecvWindow};
+use tipc_recv_window::{LinkOutcome, RecvWindow, WindowArrival};
 use tipc_send_window::{OfferFault, SendWindow, WINDOW};
 use tipc_types::{
-    Addr, BroadcastState, Bytes, Kept, NoMemory, Pieces, TakenList, To, Why, number_distance,
-    sequence_number,
+    Addr, BroadcastState, Bytes, Kept, NoMemory, Pieces, Taken, TakenList, To, Why,
+    number_distance, sequence_number,
 };
 
 /// How many packets may be taken before a STATE is sent. (This project's profile.)
@@ -70,7 +71,7 @@ impl Model for Session {
 }
 
 impl Session {
-    ghost use Rattle.tipc_link.specs.Sessions.{ahead, answer_frames, answered, arrival_frames, arrived, as_waiting, begun, brought, content_of, flush_frames, flushed, gap, highest, missing, noted, outcome, packet_frame, past, put, priority_of, receiving, released, repeat_frames, repeated, room, sent, shows_more, is_only_deferred, spoke, state_fields, state_frame, told, took, wanted, with_last, Content, IsPut, IsWaiting, MayJoin, SessionEnd};
+    ghost use Rattle.tipc_link.specs.Sessions.{ahead, answer_frames, answered, arrival_frames, arrived, as_waiting, begun, brought, content_of, flush_frames, flushed, gap, highest, missing, noted, outcome, packet_frame, past, put, priority_of, receiving, released, repeat_frames, repeated, room, sent, shows_more, spoke, state_fields, state_frame, told, took, wanted, with_last, Content, IsPut, IsWaiting, MayJoin, SessionEnd};
     ghost use Rattle.tipc_link.specs.Hearings.{IsHearing, IsJoined, numbered_hearing};
 
     /// An end that is up, in the session of these two epochs, over a bearer 0 or 1.
@@ -97,6 +98,24 @@ impl Session {
             unanswered: 0,
             owes: false,
         }
+    }
+
+    /// An end that is as this one.
+    pub fn copy(&self) -> Result<Session, NoMemory>
+        ensures { IfOk result (λ session. session ≡ self.now) }
+    {
+        Ok(Session {
+            own: self.own,
+            peer: self.peer,
+            bearer: self.bearer,
+            epoch: self.epoch,
+            peer_epoch: self.peer_epoch,
+            window: self.window.copy()?,
+            receiving: self.receiving.copy()?,
+            shown: self.shown,
+            unanswered: self.unanswered,
+            owes: self.owes,
+        })
     }
 
     /// How many packets it has taken.
@@ -292,6 +311,7 @@ impl Session {
     fn receive_window(&self) -> &RecvWindow
         ensures value { result.now ≡ receiving self.now }
         ensures wants { result.now.wanted ≡ self.now.taken + 1 }
+        ensures next { next_of result.now ≡ None }
     {
         &self.receiving
     }
@@ -408,15 +428,18 @@ impl Session {
         requires { Fits (view packet.now) }
         ensures { IfOk result (λ h. h ≡ numbered_hearing self.now (brought packet.now.sequence (spelling (as_waiting (view packet.now))) by)) }
     {
-        let mut window = self.receive_window().copy()?;
-        let place = window.arrive(packet.sequence, waiting_bytes(alloc, packet)?, by)?;
-        let owes = is_only_deferred(place, &window);
-        let due = window.take_run(alloc)?;
+        let number = packet.sequence;
+        let taken = Taken {
+            number,
+            packet: waiting_bytes(alloc, packet)?,
+            by,
+        };
+        let (arrival, due) = self.receive_window().prepare(alloc, taken)?;
+        let outcome = outcome_at(arrival.place(), due);
         Ok(Hearing {
             by,
-            window: Some(window),
-            owes,
-            outcome: outcome_at(place, due),
+            window: Some(arrival),
+            outcome,
         })
     }
 
@@ -477,12 +500,11 @@ impl Session {
     {
         let Hearing {
             window,
-            owes,
             outcome,
             ..
         } = hearing;
         match window {
-            Some(window) => self.take(window, owes),
+            Some(arrival) => self.take(arrival),
             None => unreachable!(),
         }
         self.acknowledge(acknowledgement);
@@ -490,14 +512,16 @@ impl Session {
         outcome
     }
 
-    /// Keeps the receive window that a packet with a number left.
-    fn take(&mut self, window: RecvWindow, owes: bool)
-        requires { (t : Taken) × (window ≡ receiving (took self.old t)) }
-        ensures { (t : Taken) → window ≡ receiving (took self.old t) → owes ≡ is_only_deferred self.old t → self.new ≡ took self.old t }
+    /// Lets the receive window do what a packet with a number makes of it. The only packet that is deferred asks for a STATE.
+    fn take(&mut self, arrival: WindowArrival)
+        requires { (t : Taken) × (arrival ≡ coming (receiving self.old) t) }
+        ensures { (t : Taken) → arrival ≡ coming (receiving self.old) t → self.new ≡ took self.old t }
     {
-        self.unanswered += window.wanted_position() - self.receiving.wanted_position();
-        self.owes = owes;
-        self.receiving = window;
+        let place = arrival.place();
+        let before = self.receiving.wanted_position();
+        self.receiving.commit(arrival);
+        self.unanswered += self.receiving.wanted_position() - before;
+        self.owes = is_only_deferred(place, &self.receiving);
     }
 
     /// Sends the STATE that is due where the last arrival asks for one, or once 16 packets were taken since the last frame on this

@@ -271,8 +271,9 @@ fn reaches(
     let frame = sent.frames().get(place).ok_or("not sent")?;
     let frame = open_frame(frame.frame.as_slice()).ok_or("no frame")?;
     let packet = decode(frame.packet).ok().ok_or("no packet")?;
-    let arriving = link.prepare(alloc, frame.first, frame.second, &packet, false, 40)?;
-    Ok(link.commit(alloc, arriving, &packet, no_broadcast(), out))
+    let (es, er) = (frame.first, frame.second);
+    let shown = no_broadcast();
+    Ok(link.arrive(alloc, es, er, &packet, false, 40, shown, out)?)
 }
 
 /// RESET, ACTIVATE and STATE take both ends of a link up; a cut takes one down.

@@ -1,3 +1,4 @@
 pub mod ArrivalLaws
+pub mod Comings
 pub mod Holding
 pub mod Runs

@@ -1,4 +1,4 @@
-use Rattle.std.specs.Prelude.{◌≡◌, ℕ, ◌+◌, ◌-◌, ◌≤◌, ◌^◌, ◌&&◌, ◌==◌, Bool, not, List, [], ◌∷◌, ◌++◌, length, drop, replicate, slice_index_or, slice_set, Option, Some, None, is_some, count_by, position, unwrap_or, nat_lt, if◌then◌else◌}
+use Rattle.std.specs.Prelude.{◌≡◌, ℕ, ◌+◌, ◌-◌, ◌≤◌, ◌^◌, ◌&&◌, ◌==◌, Bool, true, not, List, [], ◌∷◌, ◌++◌, length, drop, replicate, slice_index_or, slice_set, Option, Some, None, is_some, count_by, position, unwrap_or, nat_lt, if◌then◌else◌}
 use Rattle.tipc_types.specs.Position.{distance_of, number_of}
 use Rattle.tipc_types.specs.declared.packet_lists.Taken.{Taken}
 use Rattle.tipc_recv_window.specs.declared.outcomes.Place.{Place}
@@ -73,3 +73,38 @@ run_of (Some packet ∷ held) = packet ∷ run_of held
 -- after all of them were taken
 abbrev pub drained : Receiving → Receiving
 drained r = record { wanted = r.wanted + length (run_of r.held); held = drop (length (run_of r.held)) r.held }
+
+-- ---- an arrival that is told before anything is changed
+
+-- the window with a packet
+abbrev pub with_packet : Receiving → Taken → Receiving
+with_packet r packet = arrived_at r (past_wanted r packet.number) packet
+
+-- the packet, where it is to be held behind the wanted one
+abbrev pub deferred_at : Place → Taken → Option Taken
+deferred_at Deferred packet = Some packet
+deferred_at other packet = None
+
+-- what a packet will make of a window that wants this position: where it stands, whether it is to be held behind the wanted one, and
+-- how many packets can be taken then
+pub record Coming : Type 0 where
+  pub wanted : ℕ
+  pub place : Place
+  pub held : Option Taken
+  pub count : ℕ
+
+abbrev pub coming : Receiving → Taken → Coming
+coming r packet = record {
+  wanted = r.wanted;
+  place = place_at r (past_wanted r packet.number);
+  held = deferred_at (place_at r (past_wanted r packet.number)) packet;
+  count = length (run_of (with_packet r packet).held);
+}
+
+-- positions behind the wanted one have 62 bits, at most a window's packets are taken, and there is room for a window where a packet is
+-- to be held
+pub record HasRoom (wanted : ℕ) (held : Option Taken) (count : ℕ) (room : List (Option Taken)) (capacity : ℕ) : Type 0 where
+  pub counted : wanted + 50 ≤ 2 ^ 62
+  pub few : count ≤ 50
+  pub empty : room ≡ []
+  pub wide : is_some held ≡ true → 50 ≤ capacity

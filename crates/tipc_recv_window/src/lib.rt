@@ -7,7 +7,7 @@ mod outcomes;
 mod window;
 
 pub use outcomes::{LinkOutcome, Place};
-pub use window::{RecvWindow, WINDOW};
+pub use window::{RecvWindow, WINDOW, WindowArrival};
 
 #[cfg(test)]
 mod tests;

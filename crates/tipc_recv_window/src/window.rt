@@ -1,4 +1,7 @@
-ghost use Rattle.std.specs.Prelude.{◌≡◌, ◌+◌, ◌-◌, ◌<◌, ◌≤◌, ◌^◌, ◌++◌, ◌↔◌, is_some, length, not, replicate, position, IfOk, IfSome, IsTrue, OnErr, OnOk};
+ghost use Rattle.std.specs.Prelude.{◌≡◌, ◌+◌, ◌-◌, ◌<◌, ◌≤◌, ◌^◌, ◌++◌, ◌∷◌, ◌⊎◌, ◌↔◌, [], drop, false, is_some, length, replicate, position, IfOk, IfSome, IsTrue, None, OnErr, Some};
+ghost use Rattle.std.specs.VecDeque.{deque_capacity};
+ghost use Rattle.tipc_types.specs.declared.packet_lists.Taken.{Taken};
+ghost use Rattle.tipc_recv_window.specs.Receiving.{filled};
 ghost use Rattle.tipc_types.specs.Position.{number_of};
 
 use crate::outcomes::Place;
@@ -34,8 +37,44 @@ impl Model for RecvWindow {
     ghost invariant = { λ w. IsReceiving (record { wanted = w.wanted; held = w.held.items }) };
 }
 
+/// What a numbered packet will make of a receive window, and the memory that it takes: [`RecvWindow::prepare`] tells it, and
+/// [`RecvWindow::commit`] does it.
+#[derive(Drop)]
+pub struct WindowArrival {
+    /// The position that the window wants.
+    wanted: u64,
+    /// Where the packet stands.
+    place: Place,
+    /// The packet, where it is to be held behind the wanted one.
+    held: Option<Taken>,
+    /// Room for the packets of a window, where the packet is to be held.
+    room: VecDeque<Option<Taken>>,
+    /// How many packets are taken.
+    count: usize,
+}
+
+impl Model for WindowArrival {
+    ghost use Rattle.std.specs.VecDeque.{deque_capacity};
+    ghost use Rattle.tipc_recv_window.specs.Receiving.{Coming, HasRoom};
+
+    ghost Value = { Coming };
+
+    ghost view = { λ a. record { wanted = a.wanted; place = a.place; held = a.held; count = a.count } };
+
+    ghost invariant = { λ a. HasRoom a.wanted a.held a.count a.room.items (deque_capacity a.room) };
+}
+
+impl WindowArrival {
+    /// Where the packet stands.
+    pub fn place(&self) -> Place
+        ensures { result ≡ self.now.place }
+    {
+        self.place
+    }
+}
+
 impl RecvWindow {
-    ghost use Rattle.tipc_recv_window.specs.Receiving.{after_take, arrived_at, deferred_count, drained, filled, fresh, gap_of, held_at, IsReceiving, next_of, past_wanted, place_at, run_of};
+    ghost use Rattle.tipc_recv_window.specs.Receiving.{after_take, arrived_at, coming, deferred_count, drained, fresh, gap_of, held_at, IsReceiving, next_of, past_wanted, place_at, run_of, with_packet};
 
     /// A window that wants the packet with the number `next` and holds none.
     pub fn new(alloc: Global, next: u16) -> RecvWindow
@@ -109,19 +148,17 @@ impl RecvWindow {
         ensures not_old { OnErr result (place_at self.old (past_wanted self.old number) ≡ Place.Old → ⊥) }
         ensures window { IsReceiving self.new }
     {
-        let distance = number_distance(sequence_number(self.wanted), number) as usize;
-        if distance >= WINDOW || self.is_held(distance) {
+        let distance = self.distance(number);
+        let place = self.place_at(distance);
+        if place == Place::Old {
             return Ok(Place::Old);
         }
-        if self.wanted > LAST_POSITION - WINDOW as u64 {
+        if self.is_last() {
             return Err(NoMemory);
         }
-        self.hold(distance, Taken { number, packet, by })?;
-        Ok(if distance == 0 {
-            Place::InOrder
-        } else {
-            Place::Deferred
-        })
+        self.held.reserve(WINDOW - self.held.len())?;
+        fill(&mut self.held, distance, Taken { number, packet, by });
+        Ok(place)
     }
 
     /// Gives the wanted packet, and the next one is wanted: None exactly where the wanted packet isn't held, and
@@ -138,37 +175,155 @@ impl RecvWindow {
         self.held.pop_front()?
     }
 
-    /// Gives the packets that can be taken, in order: the wanted one and those behind it, up to the first that isn't held, which
-    /// is the wanted one then. NoMemory changes nothing.
-    pub fn take_run(&mut self, alloc: Global) -> Result<TakenList, NoMemory>
-        ensures ok { IfOk result (λ run. (run ≡ run_of self.old.held) × (self.new ≡ drained self.old)) }
-        ensures err { OnErr result (self.new ≡ self.old) }
-        ensures window { IsReceiving self.new }
+    /// What a packet will make of the window, where the wanted one isn't held, and the packets that can be taken with it, in
+    /// order: the wanted one and those behind it, up to the first that isn't held. Nothing is changed yet:
+    /// [`RecvWindow::commit`] does it.
+    ///
+    /// # Errors
+    ///
+    /// Where memory runs out; positions past 2^62 count as want of memory.
+    pub fn prepare(
+        &self,
+        alloc: Global,
+        packet: Taken,
+    ) -> Result<(WindowArrival, TakenList), NoMemory>
+        requires { next_of self.now ≡ None }
+        ensures arrival { IfOk result (λ told. told.0 ≡ coming self.now packet) }
+        ensures due { IfOk result (λ told. told.1 ≡ run_of (with_packet self.now packet).held) }
     {
-        let count = self.run_length();
-        let mut run = Vec::with_capacity(alloc, count)?;
-        for _ in 0..count {
-            match self.take_next() {
-                Some(packet) => run.push_reserved(packet),
-                None => unreachable!(),
+        if self.is_last() {
+            return Err(NoMemory);
+        }
+        let place = self.place_at(self.distance(packet.number));
+        match place {
+            Place::InOrder => {
+                let run = self.run_from(alloc, packet)?;
+                Ok((self.passing(alloc, place, run.len()), run))
+            }
+            Place::Deferred => Ok((self.holding(alloc, packet)?, TakenList::new(alloc))),
+            Place::Old => Ok((self.passing(alloc, place, 0), TakenList::new(alloc))),
+        }
+    }
+
+    /// Does what a packet makes of the window, as [`RecvWindow::prepare`] told of it when the window was as it is: what can be
+    /// taken is, or the packet is held. It takes no memory.
+    pub fn commit(&mut self, arrival: WindowArrival)
+        requires free { next_of self.old ≡ None }
+        requires arrival { (packet : Taken) × (arrival ≡ coming self.old packet) }
+        ensures after { (packet : Taken) → arrival ≡ coming self.old packet → self.new ≡ drained (with_packet self.old packet) }
+    {
+        let WindowArrival {
+            held,
+            room,
+            count,
+            ..
+        } = arrival;
+        match held {
+            None => self.pass(count),
+            Some(packet) => self.hold(room, packet),
+        }
+    }
+
+    /// An arrival after which so many packets are taken, and none is held besides.
+    fn passing(&self, alloc: Global, place: Place, count: usize) -> WindowArrival
+        requires counted { self.now.wanted + 50 ≤ 2 ^ 62 }
+        requires few { count ≤ 50 }
+        ensures { result ≡ record { wanted = self.now.wanted; place = place; held = None; count = count } }
+    {
+        WindowArrival {
+            wanted: self.wanted,
+            place,
+            held: None,
+            room: VecDeque::new(alloc),
+            count,
+        }
+    }
+
+    /// An arrival after which the packet is held.
+    fn holding(&self, alloc: Global, packet: Taken) -> Result<WindowArrival, NoMemory>
+        requires { self.now.wanted + 50 ≤ 2 ^ 62 }
+        ensures { IfOk result (λ arrival. arrival ≡ record { wanted = self.now.wanted; place = Place.Deferred; held = Some packet; count = 0 }) }
+    {
+        Ok(WindowArrival {
+            wanted: self.wanted,
+            place: Place::Deferred,
+            held: Some(packet),
+            room: VecDeque::with_capacity(alloc, WINDOW)?,
+            count: 0,
+        })
+    }
+
+    /// The wanted packet, and those that are held right behind it.
+    fn run_from(&self, alloc: Global, first: Taken) -> Result<TakenList, NoMemory>
+        ensures { IfOk result (λ run. run ≡ first ∷ run_of (drop 1 self.now.held)) }
+    {
+        let mut run = Vec::new(alloc);
+        run.push(first)?;
+        for place in 1..self.held.len() {
+            match &self.held[place] {
+                Some(packet) => run.push(packet.clone()?)?,
+                None => return Ok(TakenList::from_vec(run)),
             }
         }
         Ok(TakenList::from_vec(run))
     }
 
-    /// How many packets can be taken.
-    fn run_length(&self) -> usize
-        ensures value { result ≡ length (run_of self.now.held) }
-        ensures window { IsReceiving self.now }
+    /// The first packets are taken, and the next one is wanted.
+    fn pass(&mut self, count: usize)
+        requires few { count ≤ 50 }
+        requires counted { self.old.wanted + 50 ≤ 2 ^ 62 }
+        ensures { self.new ≡ record { wanted = self.old.wanted + count; held = drop count self.old.held } }
     {
-        self.first_free().unwrap_or(self.held.len())
+        self.wanted += count as u64;
+        let held = count.min(self.held.len());
+        self.held.drain(..held);
     }
 
-    /// How far the first packet that isn't held lies past the wanted one, where a place is kept for it.
-    fn first_free(&self) -> Option<usize>
-        ensures { result ≡ position (λ packet. not (is_some packet)) self.now.held }
+    /// Holds a packet behind the wanted one, in new room.
+    fn hold(&mut self, room: VecDeque<Option<Taken>>, packet: Taken)
+        requires room { (room.items ≡ []) × (50 ≤ deque_capacity room) }
+        requires near { past_wanted self.old packet.number < 50 }
+        requires number { packet.number < 2 ^ 16 }
+        requires counted { self.old.wanted + 50 ≤ 2 ^ 62 }
+        ensures { self.new ≡ record { wanted = self.old.wanted; held = filled self.old.held (past_wanted self.old packet.number) packet } }
     {
-        self.held.iter().position(|packet| packet.is_none())
+        let distance = self.distance(packet.number);
+        let mut held = room;
+        match held.append(&mut self.held) {
+            Ok(()) => {}
+            Err(_) => unreachable!(),
+        }
+        fill(&mut held, distance, packet);
+        self.held = held;
+    }
+
+    /// Whether a position behind the wanted one is too high.
+    fn is_last(&self) -> bool
+        ensures counted { result ≡ false → self.now.wanted + 50 ≤ 2 ^ 62 }
+        ensures window { IsReceiving self.now }
+    {
+        self.wanted > LAST_POSITION - WINDOW as u64
+    }
+
+    /// How far a number lies past the wanted one.
+    fn distance(&self, number: u16) -> usize
+        ensures { result ≡ past_wanted self.now number }
+    {
+        number_distance(sequence_number(self.wanted), number) as usize
+    }
+
+    /// Where a packet stands at a distance from the wanted one.
+    fn place_at(&self, distance: usize) -> Place
+        ensures value { result ≡ place_at self.now distance }
+        ensures near { distance < 50 ⊎ (result ≡ Place.Old) }
+    {
+        if distance >= WINDOW || self.is_held(distance) {
+            Place::Old
+        } else if distance == 0 {
+            Place::InOrder
+        } else {
+            Place::Deferred
+        }
     }
 
     /// Whether the packet at a distance from the wanted one is held.
@@ -188,30 +343,25 @@ impl RecvWindow {
     {
         self.held.iter().position(|packet| packet.is_some())
     }
-
-    /// Holds a packet at a distance from the wanted one.
-    fn hold(&mut self, distance: usize, packet: Taken) -> Result<(), NoMemory>
-        requires near { distance < 50 }
-        requires number { packet.number ≡ number_of (self.old.wanted + distance) }
-        requires counted { self.old.wanted + 50 ≤ 2 ^ 62 }
-        ensures ok { OnOk result (self.new ≡ record { wanted = self.old.wanted; held = filled self.old.held distance packet }) }
-        ensures err { OnErr result (self.new ≡ self.old) }
-        ensures window { IsReceiving self.new }
-    {
-        widen(&mut self.held, distance)?;
-        self.held[distance] = Some(packet);
-        Ok(())
-    }
 }
 
-/// Makes a list long enough for a place, by empty places at its end.
-fn widen(held: &mut VecDeque<Option<Taken>>, place: usize) -> Result<(), NoMemory>
-    requires { place < 50 }
-    ensures ok { OnOk result (held.new.items ≡ held.old.items ++ replicate (place + 1 - length held.old.items) None) }
-    ensures err { OnErr result (held.new.items ≡ held.old.items) }
+/// Holds a packet at a place of a list that has room; places that it didn't have are made empty.
+fn fill(held: &mut VecDeque<Option<Taken>>, place: usize, packet: Taken)
+    requires near { place < 50 }
+    requires room { 50 ≤ deque_capacity held.old }
+    ensures { held.new.items ≡ filled held.old.items place packet }
 {
-    if held.len() <= place {
-        held.resize(place + 1, None)?;
+    widen(held, place);
+    held[place] = Some(packet);
+}
+
+/// Makes a list that has room long enough for a place, by empty places at its end.
+fn widen(held: &mut VecDeque<Option<Taken>>, place: usize)
+    requires near { place < 50 }
+    requires room { 50 ≤ deque_capacity held.old }
+    ensures { held.new.items ≡ held.old.items ++ replicate (place + 1 - length held.old.items) None }
+{
+    for _ in held.len()..place + 1 {
+        held.push_back_reserved(None);
     }
-    Ok(())
 }
