@@ -13,8 +13,10 @@ A row is a few files in rows/:
     NAME.make     in place of a long script or report: `NAME.make script` and `NAME.make report` print what
                   isn't stored (Python 3; where NAME.report is stored, that counts)
 
-Three cases more stand here, since no file can say them: a full device and a closed one behind standard output,
-and a closed standard input.
+rows/bad_lines.table has lines that are bad by themselves; each is run as a script of its own.
+
+A few cases more stand here, since no file can say them: a full device and a closed one behind standard output, and a
+closed standard input.
 """
 
 import os
@@ -25,9 +27,10 @@ from pathlib import Path
 ROWS = Path(__file__).resolve().parent.parent / "rows"
 SECONDS = 60
 KINDS = {".script", ".report", ".status", ".words", ".make"}
+TABLE = "bad_lines.table"
 
 A_NODE = b"node 1\n"
-WRITE_FAULT, READ_FAULT, USAGE = 4, 3, 1
+USAGE, BAD_LINE, READ_FAULT, WRITE_FAULT = 1, 2, 3, 4
 
 
 class Missing(Exception):
@@ -57,6 +60,17 @@ def status_of(name: str) -> int:
     return int(path.read_text()) if path.exists() else 0
 
 
+def bad_lines() -> dict:
+    """The lines of the table: by a name, the script of one line and the report that it must give."""
+    found = {}
+    for line in (ROWS / TABLE).read_text().splitlines():
+        fault, tab, text = line.partition("\t")
+        if not line.startswith("#"):
+            script = text.encode("ascii").decode("unicode_escape").encode("latin-1")
+            found[f"bad line {text!r}"] = (script, f"1 bad {fault}\n".encode())
+    return found
+
+
 def difference(wanted: bytes, printed: bytes) -> str:
     """The first line in which two reports differ."""
     wanted_lines, lines = wanted.split(b"\n"), printed.split(b"\n")
@@ -72,9 +86,14 @@ def fault_of_row(program: str, name: str) -> str:
         script, report = part_of(name, "script"), part_of(name, "report")
     except Missing as missing:
         return str(missing)
-    ended = subprocess.run([program, *words_of(name)], input=script, capture_output=True, timeout=SECONDS)
-    if ended.returncode != status_of(name):
-        return f"status {ended.returncode}, wanted {status_of(name)}; {difference(report, ended.stdout)}"
+    return fault_of_run([program, *words_of(name)], script, report, status_of(name))
+
+
+def fault_of_run(command: list, script: bytes, report: bytes, status: int) -> str:
+    """What is wrong with a run of a command on a script; nothing where it ends and prints as it must."""
+    ended = subprocess.run(command, input=script, capture_output=True, timeout=SECONDS)
+    if ended.returncode != status:
+        return f"status {ended.returncode}, wanted {status}; {difference(report, ended.stdout)}"
     if ended.stdout != report:
         return difference(report, ended.stdout)
     if ended.stderr:
@@ -104,10 +123,12 @@ def names_of_rows() -> list:
     return sorted({path.stem for path in ROWS.iterdir() if path.suffix in KINDS})
 
 
-def fault_of(program: str, name: str) -> str:
+def fault_of(program: str, name: str, table: dict) -> str:
     try:
         if name in DEVICES:
             return fault_of_shell(program, *DEVICES[name])
+        if name in table:
+            return fault_of_run([program, "run"], *table[name], BAD_LINE)
         return fault_of_row(program, name)
     except subprocess.TimeoutExpired:
         return f"not ended after {SECONDS} seconds"
@@ -118,14 +139,20 @@ def main(words: list) -> int:
         print(__doc__, file=sys.stderr)
         return 1
     program = os.path.abspath(words[0])
-    names = words[1:] or [*names_of_rows(), *DEVICES]
+    try:
+        table = bad_lines()
+    except (OSError, ValueError) as error:
+        print(f"rows/{TABLE} can't be read: {error}")
+        print("0 passed, 1 failed")
+        return 1
+    names = words[1:] or [*names_of_rows(), *table, *DEVICES]
     if not os.access(program, os.X_OK):
         print(f"{program} isn't there, so no row was run")
         print(f"0 passed, {len(names)} failed")
         return 1
     failed = 0
     for name in names:
-        fault = fault_of(program, name)
+        fault = fault_of(program, name, table)
         if fault:
             failed += 1
             print(f"FAILED {name}: {fault}")
