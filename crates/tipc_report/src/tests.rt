@@ -33,65 +33,6 @@ fn message(code: u8, body: Bytes) -> Answer {
     })
 }
 
-#[test]
-fn answers_have_their_texts(rt: HostRuntime) -> Result<(), Fail> {
-    let mut report = Vec::new(rt.alloc());
-    tell(1, Answer::Done, &mut report)?;
-    tell(2, Answer::Socket(4_294_967_295), &mut report)?;
-    tell(3, Answer::Sent, &mut report)?;
-    tell(4, Answer::Arrived(Arrival::Took(1)), &mut report)?;
-    tell(5, Answer::Arrived(Arrival::Ignored(Why::Old)), &mut report)?;
-    tell(
-        6,
-        Answer::Arrived(Arrival::Ignored(Why::Header(17))),
-        &mut report,
-    )?;
-    tell(7, Answer::TooOld(30_001), &mut report)?;
-    tell(
-        8,
-        Answer::Flow {
-            accepted: 3,
-            delivered: 2,
-        },
-        &mut report,
-    )?;
-    tell(
-        9,
-        Answer::Congested {
-            in_flight: 50,
-            waiting: 51,
-        },
-        &mut report,
-    )?;
-    tell(65_536, Answer::NoFrame, &mut report)?;
-    let expected =
-        b"1 ok\n2 socket 4294967295\n3 sent\n4 took 1\n5 ignored old\n6 ignored header 17\n7 too-old 30001\n8 accepted 3 delivered 2\n9 congested 50 51\n65536 no-frame\n";
-    assert_eq!(rt; report.as_slice(), expected.as_slice());
-    Ok(())
-}
-
-#[test]
-fn counts_and_unsettled_packets_are_told(rt: HostRuntime) -> Result<(), Fail> {
-    let mut report = Vec::new(rt.alloc());
-    tell(1, Answer::Drained(0), &mut report)?;
-    tell(2, Answer::Pumped(12), &mut report)?;
-    tell(3, Answer::Moved(u64::MAX), &mut report)?;
-    tell(4, Answer::Quiet, &mut report)?;
-    tell(
-        5,
-        Answer::Unsettled {
-            unacked: 4_294_967_296,
-            waiting: 7,
-        },
-        &mut report,
-    )?;
-    tell(6, Answer::Air(100_000), &mut report)?;
-    let expected =
-        b"1 drained 0\n2 pumped 12\n3 moved 18446744073709551615\n4 quiet\n5 unsettled 4294967296 7\n6 air 100000\n";
-    assert_eq!(rt; report.as_slice(), expected.as_slice());
-    Ok(())
-}
-
 /// The link ends to a peer.
 fn links_to(peer: Addr, first: Option<LinkState>, second: Option<LinkState>) -> PeerLinks {
     PeerLinks {
@@ -146,7 +87,7 @@ fn messages_show_short_visible_bodies(rt: HostRuntime) -> Result<(), Fail> {
 }
 
 #[test]
-fn events_name_their_port(rt: HostRuntime) -> Result<(), Fail> {
+fn texts_that_no_script_asks_for(rt: HostRuntime) -> Result<(), Fail> {
     let subscription = Subscription {
         range_kind: 100,
         lower: 0,
@@ -174,29 +115,12 @@ fn events_name_their_port(rt: HostRuntime) -> Result<(), Fail> {
     let mut report = Vec::new(rt.alloc());
     tell(1, Answer::Next(published), &mut report)?;
     tell(2, Answer::Next(timeout), &mut report)?;
+    let unread = Answer::Arrived(Arrival::Ignored(Why::Header(17)));
+    tell(3, unread, &mut report)?;
     assert_eq!(rt;
         report.as_slice(),
-        b"1 published 2 3 32:7\n2 timeout 0 9 0:0\n".as_slice()
+        b"1 published 2 3 32:7\n2 timeout 0 9 0:0\n3 ignored header 17\n".as_slice()
     );
-    Ok(())
-}
-
-/// Appends the line of messages that were sent.
-fn tell_times(line: u32, count: u64, last: Answer, report: &mut Vec<u8>) -> Result<(), NoMemory> {
-    print(line, &Told::Times { count, last }, report)
-}
-
-#[test]
-fn repeated_sends_are_told_with_the_last_answer(rt: HostRuntime) -> Result<(), Fail> {
-    let congested = Answer::Congested {
-        in_flight: 50,
-        waiting: 50,
-    };
-    let mut report = Vec::new(rt.alloc());
-    tell_times(1, 1_000_000, Answer::Sent, &mut report)?;
-    tell_times(2, 7, congested, &mut report)?;
-    let expected = b"1 times 1000000 sent\n2 times 7 congested 50 50\n";
-    assert_eq!(rt; report.as_slice(), expected.as_slice());
     Ok(())
 }
 

@@ -63,7 +63,8 @@ fn receive(alloc: Global, at: Socket, world: &mut World) -> Result<Answer, World
     make(alloc, event, world)
 }
 
-/// Lets a message be sent so many times at most, until it isn't. It answers how many times it was, and the last answer.
+/// Sends a message again and again, so many times at most, and stops at the first send that is refused. It answers how
+/// many were sent, and the last answer.
 pub fn repeat(
     alloc: Global,
     times: u32,

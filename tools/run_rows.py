@@ -1,0 +1,164 @@
+#!/usr/bin/env python3
+"""Runs a program on every row of rows/ and compares its status and each byte that it prints.
+
+run_rows.py PROGRAM [NAME..]: all rows, or those of these names. It ends with a line `N passed, M failed`,
+and with status 1 where a row failed, or where the program or a file of a row is missing.
+
+A row is a few files in rows/:
+
+    NAME.script   what the program gets on standard input
+    NAME.report   what it must print, whole
+    NAME.status   the exit status that it must end with, where that isn't 0
+    NAME.words    the words behind the program's name, one a line, where they aren't `run`; an empty file is no word
+    NAME.make     in place of a long script or report: `NAME.make script` and `NAME.make report` print what
+                  isn't stored (Python 3; where NAME.report is stored, that counts)
+
+rows/bad_lines.table has lines that are bad by themselves; each is run as a script of its own.
+
+A few cases more stand here, since no file can say them: a full device and a closed one behind standard output, and a
+closed standard input.
+"""
+
+import os
+import subprocess
+import sys
+from pathlib import Path
+
+ROWS = Path(__file__).resolve().parent.parent / "rows"
+SECONDS = 60
+KINDS = {".script", ".report", ".status", ".words", ".make"}
+TABLE = "bad_lines.table"
+
+A_NODE = b"node 1\n"
+USAGE, BAD_LINE, READ_FAULT, WRITE_FAULT = 1, 2, 3, 4
+
+
+class Missing(Exception):
+    """A file that a row needs isn't there, or can't be made."""
+
+
+def part_of(name: str, part: str) -> bytes:
+    """The script or the report of a row: stored, or made."""
+    stored, maker = ROWS / f"{name}.{part}", ROWS / f"{name}.make"
+    if stored.exists():
+        return stored.read_bytes()
+    if not maker.exists():
+        raise Missing(f"neither {stored.name} nor {maker.name} is there")
+    made = subprocess.run([sys.executable, maker, part], capture_output=True, timeout=SECONDS)
+    if made.returncode != 0:
+        raise Missing(f"{maker.name} {part} ended with status {made.returncode}")
+    return made.stdout
+
+
+def words_of(name: str) -> list:
+    path = ROWS / f"{name}.words"
+    return path.read_text().splitlines() if path.exists() else ["run"]
+
+
+def status_of(name: str) -> int:
+    path = ROWS / f"{name}.status"
+    return int(path.read_text()) if path.exists() else 0
+
+
+def bad_lines() -> dict:
+    """The lines of the table: by a name, the script of one line and the report that it must give."""
+    found = {}
+    for line in (ROWS / TABLE).read_text().splitlines():
+        fault, tab, text = line.partition("\t")
+        if not line.startswith("#"):
+            script = text.encode("ascii").decode("unicode_escape").encode("latin-1")
+            found[f"bad line {text!r}"] = (script, f"1 bad {fault}\n".encode())
+    return found
+
+
+def difference(wanted: bytes, printed: bytes) -> str:
+    """The first line in which two reports differ."""
+    wanted_lines, lines = wanted.split(b"\n"), printed.split(b"\n")
+    for place, (one, other) in enumerate(zip(wanted_lines, lines), 1):
+        if one != other:
+            return f"line {place}: {other[:100]!r}, wanted {one[:100]!r}"
+    return f"{len(printed)} bytes, wanted {len(wanted)}"
+
+
+def fault_of_row(program: str, name: str) -> str:
+    """What is wrong with the program's run on a row; nothing where all is as it must be."""
+    try:
+        script, report = part_of(name, "script"), part_of(name, "report")
+    except Missing as missing:
+        return str(missing)
+    return fault_of_run([program, *words_of(name)], script, report, status_of(name))
+
+
+def fault_of_run(command: list, script: bytes, report: bytes, status: int) -> str:
+    """What is wrong with a run of a command on a script; nothing where it ends and prints as it must."""
+    ended = subprocess.run(command, input=script, capture_output=True, timeout=SECONDS)
+    if ended.returncode != status:
+        return f"status {ended.returncode}, wanted {status}; {difference(report, ended.stdout)}"
+    if ended.stdout != report:
+        return difference(report, ended.stdout)
+    if ended.stderr:
+        return f"on standard error: {ended.stderr[:100]!r}"
+    return ""
+
+
+def fault_of_shell(program: str, words: str, status: int) -> str:
+    """The same for a run with a closed or full device, which the shell gives it."""
+    ended = subprocess.run(["sh", "-c", f'exec "$0" {words}', program], input=A_NODE, capture_output=True, timeout=SECONDS)
+    if ended.returncode != status:
+        return f"status {ended.returncode}, wanted {status}"
+    return f"printed {ended.stdout[:100]!r}" if ended.stdout else ""
+
+
+# What the shell gives the program, and the status with which it must end.
+DEVICES = {
+    "a full device": ("run >/dev/full", WRITE_FAULT),
+    "a closed output": ("run >&-", WRITE_FAULT),
+    "a closed input": ("run <&-", READ_FAULT),
+    "other words over a closed input": ("walk <&-", USAGE),
+    "other words over a full device": ("walk >/dev/full", USAGE),
+}
+
+
+def names_of_rows() -> list:
+    return sorted({path.stem for path in ROWS.iterdir() if path.suffix in KINDS})
+
+
+def fault_of(program: str, name: str, table: dict) -> str:
+    try:
+        if name in DEVICES:
+            return fault_of_shell(program, *DEVICES[name])
+        if name in table:
+            return fault_of_run([program, "run"], *table[name], BAD_LINE)
+        return fault_of_row(program, name)
+    except subprocess.TimeoutExpired:
+        return f"not ended after {SECONDS} seconds"
+
+
+def main(words: list) -> int:
+    if not words:
+        print(__doc__, file=sys.stderr)
+        return 1
+    program = os.path.abspath(words[0])
+    try:
+        table = bad_lines()
+    except (OSError, ValueError) as error:
+        print(f"rows/{TABLE} can't be read: {error}")
+        print("0 passed, 1 failed")
+        return 1
+    names = words[1:] or [*names_of_rows(), *table, *DEVICES]
+    if not os.access(program, os.X_OK):
+        print(f"{program} isn't there, so no row was run")
+        print(f"0 passed, {len(names)} failed")
+        return 1
+    failed = 0
+    for name in names:
+        fault = fault_of(program, name, table)
+        if fault:
+            failed += 1
+            print(f"FAILED {name}: {fault}")
+    print(f"{len(names) - failed} passed, {failed} failed")
+    return 1 if failed else 0
+
+
+if __name__ == "__main__":
+    sys.exit(main(sys.argv[1:]))
