@@ -124,6 +124,17 @@ fn outcome_at(place: Place, due: TakenList) -> LinkOutcome
     }
 }
 
+/// Takes the packets that can be taken, in order.
+fn take_run(alloc: Global, window: &mut RecvWindow) -> Result<TakenList, NoMemory>
+    ensures { IfOk result (λ run. (run ≡ run_of window.old.held) × (window.new ≡ drained window.old)) }
+{
+    let mut run = Vec::new(alloc);
+    while let Some(packet) = window.take_next() {
+        run.push(packet)?;
+    }
+    Ok(TakenList::from_vec(run))
+}
+
 /// The receive window after a packet, from which what can be taken is taken, and the answer.
 pub(crate) fn receive(
     alloc: Global,
@@ -137,6 +148,6 @@ pub(crate) fn receive(
 {
     let mut window = window.copy()?;
     let place = window.arrive(packet.sequence, accepted_bytes(alloc, packet)?, by)?;
-    let due = window.take_run(alloc)?;
+    let due = take_run(alloc, &mut window)?;
     Ok((window, outcome_at(place, due)))
 }
