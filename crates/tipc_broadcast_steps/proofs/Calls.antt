@@ -27,7 +27,7 @@ follow (go_on one rest) more = go_on one (follow rest more)
 same-test : (p : ℕ) → (p == p) ≡ true
 same-test p = grind (arith, nat_tests)
 
-other-test : (p m : ℕ) → (m ≡ p → ⊥) → (p == m) ≡ false
+pub other-test : (p m : ℕ) → (m ≡ p → ⊥) → (p == m) ≡ false
 other-test p m never = grind (arith, nat_tests)
 
 or-none : (o : Option Contact) → option_or o None ≡ o

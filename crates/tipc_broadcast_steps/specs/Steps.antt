@@ -4,7 +4,7 @@ use Rattle.tipc_types.specs.Position.{number_of}
 use Rattle.tipc_send_window.specs.Sending.{IsSending}
 use Rattle.tipc_broadcast.specs.declared.contacts.Contact.{Contact}
 use Rattle.tipc_broadcast.specs.Contacts.{acknowledged_to, contact_with}
-use Rattle.tipc_broadcast.specs.Casting.{accepted, accepting, Casting, flushed, IsCasting, joining, leaving, settled, with_message}
+use Rattle.tipc_broadcast.specs.Casting.{accepted, accepting, Casting, credited, flushed, IsCasting, joining, leaving, settled, with_message}
 use Rattle.tipc_broadcast_law.specs.Groups.{Group, length_now, Member, numbered_now}
 use Rattle.tipc_broadcast_law.specs.Events.{Runs}
 
@@ -58,3 +58,11 @@ LeaveRuns = (g : Group) (v : Casting) (peer : ℕ) → Casts g v → IsSending v
 abbrev pub SendRuns : Type 0
 SendRuns = (g : Group) (v : Casting) (pieces : List (List ℕ)) → Casts g v → IsSending (with_message v pieces).sending → IsCasting v.own v.sending v.contacts
     → All (λ piece. 16 ≤ length piece) pieces → length v.sending.waiting < 200 → length pieces ≤ 47 → Leads g (accepting v pieces)
+
+-- A STATE of a peer in contact acknowledges: its number is that of a place that the member had, at most 60,000 before what it
+-- acknowledged, and what it acknowledges was numbered.
+abbrev pub AcknowledgementRuns : Type 0
+AcknowledgementRuns = (g : Group) (v : Casting) (peer j w place : ℕ) (c : Contact) → Casts g v → contact_with peer v.contacts ≡ Some c
+    → (g.members peer).joined ≡ Some j → (g.members peer).want j ≡ Some w → place ≤ w
+    → v.sending.numbered ≤ c.acked + 50 → place ≤ v.sending.numbered → c.acked ≤ place + 60000
+    → Leads g (credited v peer (number_of place))

@@ -1,5 +1,5 @@
 //! How calls of the broadcast link are events of the law. The functions do nothing: their contracts are the laws.
-ghost use Rattle.tipc_broadcast_steps.specs.Steps.{AcknowledgementsTellPlaces, FlushRuns, JoinRuns, LeaveRuns, ReleaseIsSilent, SendRuns};
+ghost use Rattle.tipc_broadcast_steps.specs.Steps.{AcknowledgementRuns, AcknowledgementsTellPlaces, FlushRuns, JoinRuns, LeaveRuns, ReleaseIsSilent, SendRuns};
 
 /// Packets that move up are numbered, one after the other, as the law allows.
 pub fn moving_up_is_numbering()
@@ -29,4 +29,9 @@ pub fn leaving_is_a_run()
 /// A message that is sent is accepted packet by packet, with nothing between, and what moves up is numbered.
 pub fn sending_is_a_run()
     ensures { SendRuns }
+{}
+
+/// What a peer acknowledges is acknowledged in the law, or was before.
+pub fn acknowledging_is_an_event()
+    ensures { AcknowledgementRuns }
 {}
