@@ -1,22 +1,22 @@
 -- The calls of the caster are runs of the law.
-use Rattle.std.proofs.Common.{◌≡◌, ℕ, ◌+◌, ◌-◌, ◌<◌, ◌≤◌, ◌==◌, Bool, true, false, not, cond, if◌then◌else◌, List, [], ◌∷◌, ◌++◌, length, map, drop, filter, Option, Some, None, refl, sym, ap, ◌∙◌, subst, length-append, length-drop, inl, inr, eqb-true, arith}
+use Rattle.std.proofs.Common.{◌≡◌, ℕ, ◌+◌, ◌-◌, ◌<◌, ◌≤◌, ◌==◌, true, false, not, cond, List, [], ◌∷◌, ◌++◌, length, map, Option, Some, None, refl, sym, ap, ◌∙◌, subst, length-append, length-drop, inl, inr, eqb-true, arith}
 use Rattle.std.specs.Prelude.{All}
 use Rattle.std.specs.List.{find}
 use Rattle.std.specs.Option.{option_or}
 use Rattle.std.proofs.lemmas.Bool.Decides.{nat_tests}
 use Rattle.std.proofs.lemmas.List.{length-map}
 use Rattle.std.proofs.lemmas.List.Folds.{find-append}
-use Rattle.tipc_send_window.specs.Sending.{acked_of, IsSending, passed_over, released, Sending}
+use Rattle.tipc_send_window.specs.Sending.{IsSending, passed_over, released, Sending}
 use Rattle.tipc_broadcast.specs.declared.contacts.Contact.{Contact}
 use Rattle.tipc_broadcast.specs.Contacts.{contact_with, is_with, joined, member_set, without}
 use Rattle.tipc_broadcast.specs.Frames.{accepted_frame}
-use Rattle.tipc_broadcast.specs.Casting.{accepted, accepting, Casting, flushed, IsCasting, joining, kept_for, leaving, left_with, next_start, settled, with_contacts, with_message, with_sending}
+use Rattle.tipc_broadcast.specs.Casting.{accepting, Casting, flushed, IsCasting, joining, kept_for, leaving, left_with, next_start, settled, with_contacts, with_message, with_sending}
 use Rattle.tipc_broadcast.proofs.Keeping.{leave-keeps, offer-keeps, release-keeps, to_release}
-use Rattle.tipc_broadcast_law.specs.Groups.{Accepted, Caster, Group, length_now, Member, numbered_now, put, queue}
+use Rattle.tipc_broadcast_law.specs.Groups.{Accepted, Caster, Group, length_now, numbered_now, put, queue}
 use Rattle.tipc_broadcast_law.specs.Events.{accepting as accepting_one, accepts, caster_begins, caster_ends, changes, empties, go_on, joined_in, line_with, none, numbered_to, Runs, without_contact}
 use Rattle.tipc_broadcast_law.proofs.Places.{put_other, put_same, same_or_not}
 use Rattle.tipc_broadcast_steps.specs.Steps.{Casts, IsSeen, Leads}
-use Rattle.tipc_broadcast_steps.proofs.Numbering.{flush_runs, release_is_silent}
+use Rattle.tipc_broadcast_steps.proofs.Numbering.{flush_runs}
 
 follow : {g h i : Group} → Runs g h → Runs h i → Runs g i
 follow none more = more

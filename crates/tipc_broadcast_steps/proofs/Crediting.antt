@@ -1,5 +1,5 @@
 -- An acknowledgement at the broadcast link is one in the law, or tells nothing new.
-use Rattle.std.proofs.Common.{◌≡◌, ℕ, ◌+◌, ◌<◌, ◌≤◌, ◌==◌, Bool, true, false, cond, if◌then◌else◌, List, [], ◌∷◌, Option, Some, None, refl, sym, ap, ◌∙◌, subst, inl, inr, eqb-true, arith}
+use Rattle.std.proofs.Common.{◌≡◌, ℕ, ◌+◌, ◌≤◌, ◌==◌, true, false, cond, if◌then◌else◌, List, [], ◌∷◌, Some, None, refl, sym, ap, ◌∙◌, subst, inl, inr, eqb-true, arith}
 use Rattle.std.specs.List.{find}
 use Rattle.std.proofs.lemmas.Bool.{cases_lt}
 use Rattle.std.proofs.lemmas.Option.{same_Some}
@@ -8,7 +8,7 @@ use Rattle.tipc_broadcast.specs.declared.contacts.Contact.{Contact}
 use Rattle.tipc_broadcast.specs.Contacts.{acknowledged_to, acknowledging, contact_with, is_with, with_changed}
 use Rattle.tipc_broadcast.specs.Casting.{Casting, credited}
 use Rattle.tipc_broadcast_law.specs.Groups.{Group, Member, put}
-use Rattle.tipc_broadcast_law.specs.Events.{acknowledged, acknowledges, changes, go_on, none, Runs}
+use Rattle.tipc_broadcast_law.specs.Events.{acknowledged, acknowledges, changes, go_on, none}
 use Rattle.tipc_broadcast_law.proofs.Places.{put_other, put_same, same_or_not}
 use Rattle.tipc_broadcast_steps.specs.Steps.{Casts, IsSeen, Leads}
 use Rattle.tipc_broadcast_steps.proofs.Calls.{other-test}

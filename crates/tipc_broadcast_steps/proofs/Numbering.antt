@@ -1,17 +1,16 @@
 -- Packets of the link that move up are numbered in the law.
-use Rattle.std.proofs.Common.{◌≡◌, ℕ, zero, suc, ◌+◌, ◌-◌, ◌<◌, ◌≤◌, Bool, true, false, cond, if◌then◌else◌, List, [], ◌∷◌, length, drop, min, Option, Some, None, refl, sym, ap, ◌∙◌, subst, length-drop, inl, inr, arith}
+use Rattle.std.proofs.Common.{◌≡◌, ℕ, zero, suc, ◌+◌, ◌-◌, ◌<◌, ◌≤◌, true, false, cond, if◌then◌else◌, List, [], ◌∷◌, Option, Some, None, refl, sym, ap, ◌∙◌, subst, length-drop, inl, inr, arith}
 use Rattle.std.specs.Prelude.{All, nat_le}
 use Rattle.std.specs.List.{find}
 use Rattle.std.proofs.lemmas.Bool.Decides.{nat_tests}
 use Rattle.std.proofs.lemmas.List.Elements.{All-head, All-tail}
 use Rattle.std.proofs.lemmas.Option.{same_Some}
 use Rattle.tipc_types.specs.Position.{distance_of, number_of}
-use Rattle.tipc_types.proofs.PositionLaws.{distance_of-ahead}
-use Rattle.tipc_send_window.specs.Sending.{acked_of, IsSending, Sending}
+use Rattle.tipc_send_window.specs.Sending.{acked_of, IsSending}
 use Rattle.tipc_broadcast.specs.declared.contacts.Contact.{Contact}
 use Rattle.tipc_broadcast.specs.Contacts.{acknowledged_to, contact_with, is_with, IsContact}
-use Rattle.tipc_broadcast.specs.Casting.{accepted, Casting, flushed, IsCasting, room, sent, settled}
-use Rattle.tipc_broadcast_law.specs.Groups.{Group, length_now, Member, numbered_now, put, window}
+use Rattle.tipc_broadcast.specs.Casting.{accepted, Casting, flushed, IsCasting, room, settled}
+use Rattle.tipc_broadcast_law.specs.Groups.{Group, length_now, Member, numbered_now, window}
 use Rattle.tipc_broadcast_law.specs.Events.{go_on, none, numbered_to, numbers, Runs}
 use Rattle.tipc_broadcast_law.proofs.Places.{put_same, same_or_not}
 use Rattle.tipc_broadcast_steps.specs.Steps.{Casts, IsSeen, Leads, TellsPlace}
