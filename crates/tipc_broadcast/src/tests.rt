@@ -77,7 +77,9 @@ fn arrives(
     let sent = out.frames().get(place).ok_or("no frame")?;
     let frame = open_frame(sent.frame.as_slice()).ok_or("no envelope")?;
     let packet = decode(frame.packet).ok().ok_or("no packet")?;
-    let outcome = node.arrive(alloc, frame.first as u32, frame.second as u32, &packet, 7)?;
+    let boot = u32::try_from(frame.first).ok().ok_or("no boot")?;
+    let members = u32::try_from(frame.second).ok().ok_or("no member set")?;
+    let outcome = node.arrive(alloc, boot, members, &packet, 7)?;
     assert!(rt; answer == answer_of(&outcome));
     Ok(())
 }
