@@ -1,7 +1,7 @@
 -- What follows for callers.
-use Rattle.std.specs.Prelude.{◌≡◌, ℕ, ◌+◌, ◌<◌, ◌≤◌, List, ◌++◌, Some}
-use Rattle.tipc_broadcast_law.specs.Groups.{accepted_for, Group, mark, numbered_now, place, queue, window}
-use Rattle.tipc_broadcast_law.specs.Events.{Happens, IsBegin, Runs}
+use Rattle.std.specs.Prelude.{◌≡◌, ℕ, ◌+◌, ◌<◌, ◌≤◌, List, [], ◌++◌, map, Some, if◌then◌else◌}
+use Rattle.tipc_broadcast_law.specs.Groups.{Accepted, accepted_for, Group, is_contact, mark, numbered_now, place, queue, window}
+use Rattle.tipc_broadcast_law.specs.Events.{accepting, Happens, IsBegin, Runs}
 use Rattle.tipc_broadcast_law.specs.Law.{IsGroup}
 
 abbrev pub IsFrontOf : List (List ℕ) → List (List ℕ) → Type 0
@@ -20,6 +20,12 @@ RunsKeep = (g after : Group) → Runs g after → IsGroup g → IsGroup after
 abbrev pub TakesAPrefix : Type 0
 TakesAPrefix = (g after : Group) → IsBegin g → Runs g after → (m c : ℕ)
     → IsFrontOf ((after.members m).out c) (accepted_for m c (after.caster.line ((after.members m).boots c)))
+
+-- The packets of one message are accepted one behind the other. Each member gets all of them, side by side, where it is in
+-- contact, and none where it isn't: no packet of another message stands between them.
+abbrev pub MessagesStandTogether : Type 0
+MessagesStandTogether = (g : Group) (line : List Accepted) (message : List (List ℕ)) (m c : ℕ)
+    → accepted_for m c (line ++ map (accepting g) message) ≡ accepted_for m c line ++ (if is_contact c (g.members m).joined then message else [])
 
 -- a packet for the member in its present contact, which it acknowledged, was taken
 abbrev pub AcknowledgedIsTaken : Type 0

@@ -1,5 +1,5 @@
 //! What is promised of a caster and its members. The functions do nothing: their contracts are the laws.
-ghost use Rattle.tipc_broadcast_law.specs.Promises.{AcknowledgedIsTaken, AllReleaseInOrder, BeginsSound, EventsKeep, PacketsAreNear, RunsKeep, TakesAPrefix, WindowOf50};
+ghost use Rattle.tipc_broadcast_law.specs.Promises.{AcknowledgedIsTaken, AllReleaseInOrder, BeginsSound, EventsKeep, MessagesStandTogether, PacketsAreNear, RunsKeep, TakesAPrefix, WindowOf50};
 
 /// A caster that accepted nothing and members that were in no contact meet the law.
 pub fn it_holds_at_the_begin()
@@ -20,6 +20,11 @@ pub fn it_always_holds()
 /// contact, once and in order.
 pub fn each_member_takes_a_prefix()
     ensures { TakesAPrefix }
+{}
+
+/// What is accepted for a member is made of whole messages: the packets of one message stand side by side.
+pub fn messages_stand_together()
+    ensures { MessagesStandTogether }
 {}
 
 /// A packet that a member acknowledged in the present contact was taken by it.
