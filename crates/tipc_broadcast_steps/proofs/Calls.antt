@@ -1,5 +1,5 @@
 -- The calls of the caster are runs of the law.
-use Rattle.std.proofs.Common.{◌≡◌, ℕ, ◌+◌, ◌-◌, ◌<◌, ◌≤◌, ◌==◌, true, false, not, cond, List, [], ◌∷◌, ◌++◌, length, map, Option, Some, None, refl, sym, ap, ◌∙◌, subst, length-append, length-drop, inl, inr, eqb-true, arith}
+use Rattle.std.proofs.Common.{◌≡◌, ℕ, ◌+◌, ◌-◌, ◌<◌, ◌≤◌, ◌==◌, true, false, not, cond, List, [], ◌∷◌, ◌++◌, length, map, Option, Some, None, refl, sym, ap, ◌∙◌, subst, append_assoc, append-nil, length-append, length-drop, inl, inr, eqb-true, arith}
 use Rattle.std.specs.Prelude.{All}
 use Rattle.std.specs.List.{find}
 use Rattle.std.specs.Option.{option_or}
@@ -15,8 +15,8 @@ use Rattle.tipc_broadcast.proofs.Keeping.{leave-keeps, offer-keeps, release-keep
 use Rattle.tipc_broadcast_law.specs.Groups.{Accepted, Caster, Group, length_now, numbered_now, put, queue}
 use Rattle.tipc_broadcast_law.specs.Events.{accepting as accepting_one, accepts, caster_begins, caster_ends, changes, empties, go_on, joined_in, line_with, none, numbered_to, Runs, without_contact}
 use Rattle.tipc_broadcast_law.proofs.Places.{put_other, put_same, same_or_not}
-use Rattle.tipc_broadcast_steps.specs.Steps.{Casts, IsSeen, Leads}
-use Rattle.tipc_broadcast_steps.proofs.Numbering.{flush_runs}
+use Rattle.tipc_broadcast_steps.specs.Steps.{Casts, IsSeen, Leads, Sends}
+use Rattle.tipc_broadcast_steps.proofs.Numbering.{flush_moves, flush_runs, Moves}
 
 follow : {g h i : Group} → Runs g h → Runs h i → Runs g i
 follow none more = more
@@ -100,17 +100,20 @@ ended_stands g v peer h =
     }
 
 -- with nobody in contact everything is passed over
-given_up : (g : Group) (v : Casting) → Casts g v → v.contacts ≡ [] → Leads g (with_sending v (passed_over v.sending))
+given_up : (g : Group) (v : Casting) → Casts g v → v.contacts ≡ [] → Moves g (with_sending v (passed_over v.sending))
 given_up g v h nobody =
     let a = g.caster in
     record {
-      after = record { caster = numbered_to a (length_now a); members = g.members };
-      runs = go_on (empties (λ m. subst (λ cs. IsSeen (g.members m) (contact_with m cs)) nobody (h.members m))) none;
-      stands = record {
-        numbered = h.accepted_all ∙ sym (put_same a.boot (length_now a) a.numbered);
-        accepted_all = omega (arith, h.accepted_all);
-        members = h.members;
+      leads = record {
+        after = record { caster = numbered_to a (length_now a); members = g.members };
+        runs = go_on (empties (λ m. subst (λ cs. IsSeen (g.members m) (contact_with m cs)) nobody (h.members m))) none;
+        stands = record {
+          numbered = h.accepted_all ∙ sym (put_same a.boot (length_now a) a.numbered);
+          accepted_all = omega (arith, h.accepted_all);
+          members = h.members;
+        };
       };
+      line = λ f. refl;
     }
 
 released-sending : (s : Sending) (n : ℕ) → IsSending s → IsSending (released s n)
@@ -125,7 +128,7 @@ settled_flush g v h window is =
     flush_runs g (with_sending v (released v.sending (to_release v.sending v.contacts))) (record { numbered = h.numbered; accepted_all = h.accepted_all; members = h.members }) (released-sending v.sending (to_release v.sending v.contacts) window) (release-keeps v.own v.sending v.contacts window is)
 
 follow_departure : (g : Group) (v : Casting) (cs : List Contact) → cs ≡ v.contacts → Casts g v → IsSending v.sending → IsCasting v.own v.sending v.contacts → Leads g (left_with cs v)
-follow_departure g v [] same h window is = given_up g v h (sym same)
+follow_departure g v [] same h window is = (given_up g v h (sym same)).leads
 follow_departure g v (c ∷ cs) same h window is = settled_flush g v h window is
 
 pub leave_runs : (g : Group) (v : Casting) (peer : ℕ) → Casts g v → IsSending v.sending → IsCasting v.own v.sending v.contacts → Leads g (leaving v peer)
@@ -137,32 +140,45 @@ leave_runs g v peer h window is =
 
 -- ---- sending
 
-pub record Grown (g : Group) (n : ℕ) : Type 0 where
+pub record Grown (g : Group) (message : List (List ℕ)) : Type 0 where
   pub after : Group
   pub runs : Runs g after
-  pub count : length_now after.caster ≡ length_now g.caster + n
+  pub line : after.caster.line g.caster.boot ≡ g.caster.line g.caster.boot ++ map (accepting_one g) message
+  pub count : length_now after.caster ≡ length_now g.caster + length message
   pub same : numbered_now after.caster ≡ numbered_now g.caster
   pub members : (m : ℕ) → after.members m ≡ g.members m
 
-length-now : (a : Caster) (x : Accepted) → length (put a.boot (a.line a.boot ++ x ∷ []) a.line a.boot) ≡ length_now a + 1
-length-now a x = ap length (put_same a.boot (a.line a.boot ++ x ∷ []) a.line) ∙ length-append (a.line a.boot) (x ∷ [])
+line-now : (a : Caster) (x : Accepted) → put a.boot (a.line a.boot ++ x ∷ []) a.line a.boot ≡ a.line a.boot ++ x ∷ []
+line-now a x = put_same a.boot (a.line a.boot ++ x ∷ []) a.line
 
-accept_all : (pieces : List (List ℕ)) (g : Group) → length_now g.caster + length pieces ≤ numbered_now g.caster + queue → Grown g (length pieces)
-accept_all [] g within = record { after = g; runs = none; count = omega arith; same = refl; members = λ m. refl }
-accept_all (piece ∷ pieces) g within =
+accept_all : (message : List (List ℕ)) (g : Group) → length_now g.caster + length message ≤ numbered_now g.caster + queue → Grown g message
+accept_all [] g within = record { after = g; runs = none; line = sym (append-nil (g.caster.line g.caster.boot)); count = omega arith; same = refl; members = λ m. refl }
+accept_all (piece ∷ message) g within =
     let a = g.caster in
-    let h : Group = record { caster = line_with a (accepting_one g piece); members = g.members } in
-    let longer : length_now h.caster ≡ length_now a + 1 = length-now a (accepting_one g piece) in
-    let more = accept_all pieces h (omega (arith, longer, within)) in
+    let x = accepting_one g piece in
+    let h : Group = record { caster = line_with a x; members = g.members } in
+    let longer : length_now h.caster ≡ length_now a + 1 = ap length (line-now a x) ∙ length-append (a.line a.boot) (x ∷ []) in
+    let more = accept_all message h (omega (arith, longer, within)) in
     let count = more.count in
-    record { after = more.after; runs = go_on (accepts piece (omega arith)) more.runs; count = omega (arith, longer, count); same = more.same; members = more.members }
+    record {
+      after = more.after;
+      runs = go_on (accepts piece (omega arith)) more.runs;
+      line = more.line ∙ ap (λ l. l ++ map (accepting_one g) message) (line-now a x) ∙ append_assoc (a.line a.boot) (x ∷ []) (map (accepting_one g) message);
+      count = omega (arith, longer, count);
+      same = more.same;
+      members = more.members;
+    }
 
-kept_runs : (g h : Group) (v : Casting) (cs : List Contact) → cs ≡ v.contacts → Runs g h → Casts h v → Leads g (kept_for cs v)
-kept_runs g h v [] same runs stands = let rest = given_up h v stands (sym same) in record { after = rest.after; runs = follow runs rest.runs; stands = rest.stands }
-kept_runs g h v (c ∷ cs) same runs stands = record { after = h; runs = runs; stands = stands }
+kept_runs : (g h : Group) (v : Casting) (message : List (List ℕ)) (cs : List Contact) → cs ≡ v.contacts → Runs g h → h.caster.line g.caster.boot ≡ g.caster.line g.caster.boot ++ map (accepting_one g) message → Casts h v
+    → Sends g (kept_for cs v) message
+kept_runs g h v message [] same runs line stands =
+    let rest = given_up h v stands (sym same) in
+    let leads : Leads g (kept_for [] v) = record { after = rest.leads.after; runs = follow runs rest.leads.runs; stands = rest.leads.stands } in
+    record { leads = leads; line = rest.line g.caster.boot ∙ line }
+kept_runs g h v message (c ∷ cs) same runs line stands = record { leads = record { after = h; runs = runs; stands = stands }; line = line }
 
 pub send_runs : (g : Group) (v : Casting) (pieces : List (List ℕ)) → Casts g v → IsSending (with_message v pieces).sending → IsCasting v.own v.sending v.contacts
-    → All (λ piece. 16 ≤ length piece) pieces → length v.sending.waiting < 200 → length pieces ≤ 47 → Leads g (accepting v pieces)
+    → All (λ piece. 16 ≤ length piece) pieces → length v.sending.waiting < 200 → length pieces ≤ 47 → Sends g (accepting v pieces) pieces
 unfolding flushed
 send_runs g v pieces h window is long few most =
     let w = with_message v pieces in
@@ -175,5 +191,5 @@ send_runs g v pieces h window is long few most =
       accepted_all = omega (arith, count, h.accepted_all, length-append v.sending.waiting frames, length-map pieces (accepted_frame v.own v.boot (member_set v.contacts)));
       members = λ m. subst (λ k. IsSeen k (contact_with m v.contacts)) (sym (more.members m)) (h.members m);
     } in
-    let moved = flush_runs more.after w stands window (offer-keeps v.own v.boot (member_set v.contacts) v.sending v.contacts pieces long few most is) in
-    kept_runs g moved.after (flushed w) v.contacts refl (follow more.runs moved.runs) moved.stands
+    let moved = flush_moves more.after w stands window (offer-keeps v.own v.boot (member_set v.contacts) v.sending v.contacts pieces long few most is) in
+    kept_runs g moved.leads.after (flushed w) pieces v.contacts refl (follow more.runs moved.leads.runs) (moved.line g.caster.boot ∙ more.line) moved.leads.stands

@@ -21,10 +21,16 @@ pub record Numbered (g : Group) (n : ℕ) : Type 0 where
   pub runs : Runs g after
   pub count : numbered_now after.caster ≡ numbered_now g.caster + n
   pub same : length_now after.caster ≡ length_now g.caster
+  pub line : (f : ℕ) → after.caster.line f ≡ g.caster.line f
   pub members : (m : ℕ) → after.members m ≡ g.members m
 
+-- after events in which nothing was accepted the link stands so
+pub record Moves (g : Group) (v : Casting) : Type 0 where
+  pub leads : Leads g v
+  pub line : (f : ℕ) → leads.after.caster.line f ≡ g.caster.line f
+
 number_all : (n : ℕ) (g : Group) → numbered_now g.caster + n ≤ length_now g.caster → ((m c : ℕ) → (g.members m).joined ≡ Some c → numbered_now g.caster + n ≤ (g.members m).acked + window) → Numbered g n
-number_all zero g within near = record { after = g; runs = none; count = omega arith; same = refl; members = λ m. refl }
+number_all zero g within near = record { after = g; runs = none; count = omega arith; same = refl; line = λ f. refl; members = λ m. refl }
 number_all (suc n) g within near =
     let a = g.caster in
     let h : Group = record { caster = numbered_to a (numbered_now a + 1); members = g.members } in
@@ -36,6 +42,7 @@ number_all (suc n) g within near =
       runs = go_on (numbers (omega arith) (λ m c is. omega (arith, near m c is))) more.runs;
       count = omega (arith, now, count);
       same = more.same;
+      line = more.line;
       members = more.members;
     }
 
@@ -52,9 +59,9 @@ seen-acked : (k : Member) (o : Option Contact) (low high j : ℕ) → IsSeen k o
 seen-acked k None low high j seen is joined = let clash : None ≡ Some j = sym seen ∙ joined in cc
 seen-acked k (Some c) low high j seen is joined = let from = (is c refl).after_release in omega (arith, from, seen.3)
 
-pub flush_runs : (g : Group) (v : Casting) → Casts g v → IsSending v.sending → IsCasting v.own v.sending v.contacts → Leads g (flushed v)
+pub flush_moves : (g : Group) (v : Casting) → Casts g v → IsSending v.sending → IsCasting v.own v.sending v.contacts → Moves g (flushed v)
 unfolding flushed
-flush_runs g v h window is =
+flush_moves g v h window is =
     let s = v.sending in
     let n = room s in
     let fifty = window.window in
@@ -64,15 +71,15 @@ flush_runs g v h window is =
     omega (arith, h.numbered, low)) in
     let count = all.count in
     let same = all.same in
-    record {
-      after = all.after;
-      runs = all.runs;
-      stands = record {
-        numbered = omega (arith, count, h.numbered);
-        accepted_all = omega (arith, same, h.accepted_all, length-drop n s.waiting);
-        members = λ m. subst (λ k. IsSeen k (contact_with m v.contacts)) (sym (all.members m)) (h.members m);
-      };
-    }
+    let stands : Casts all.after (flushed v) = record {
+      numbered = omega (arith, count, h.numbered);
+      accepted_all = omega (arith, same, h.accepted_all, length-drop n s.waiting);
+      members = λ m. subst (λ k. IsSeen k (contact_with m v.contacts)) (sym (all.members m)) (h.members m);
+    } in
+    record { leads = record { after = all.after; runs = all.runs; stands = stands }; line = all.line }
+
+pub flush_runs : (g : Group) (v : Casting) → Casts g v → IsSending v.sending → IsCasting v.own v.sending v.contacts → Leads g (flushed v)
+flush_runs g v h window is = (flush_moves g v h window is).leads
 
 pub release_is_silent : (g : Group) (v : Casting) → Casts g v → Casts g (settled v)
 unfolding settled

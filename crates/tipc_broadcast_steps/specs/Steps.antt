@@ -1,12 +1,12 @@
 -- How the broadcast link of a caster stands in the law of broadcast: the calls make the law's events.
-use Rattle.std.specs.Prelude.{◌≡◌, ℕ, ◌+◌, ◌-◌, ◌<◌, ◌≤◌, All, List, length, Option, Some, None}
+use Rattle.std.specs.Prelude.{◌≡◌, ℕ, ◌+◌, ◌-◌, ◌<◌, ◌≤◌, ◌++◌, All, List, length, map, Option, Some, None}
 use Rattle.tipc_types.specs.Position.{number_of}
 use Rattle.tipc_send_window.specs.Sending.{IsSending}
 use Rattle.tipc_broadcast.specs.declared.contacts.Contact.{Contact}
 use Rattle.tipc_broadcast.specs.Contacts.{acknowledged_to, contact_with}
 use Rattle.tipc_broadcast.specs.Casting.{accepted, accepting, Casting, credited, flushed, IsCasting, joining, leaving, settled, with_message}
 use Rattle.tipc_broadcast_law.specs.Groups.{Group, length_now, Member, numbered_now}
-use Rattle.tipc_broadcast_law.specs.Events.{Runs}
+use Rattle.tipc_broadcast_law.specs.Events.{accepting as accepting_one, Runs}
 
 -- what the caster keeps of a member is what the law says of it
 abbrev pub IsSeen : Member → Option Contact → Type 0
@@ -25,6 +25,12 @@ pub record Leads (g : Group) (v : Casting) : Type 0 where
   pub after : Group
   pub runs : Runs g after
   pub stands : Casts after v
+
+-- The same, and the packets of this message were accepted in these events, and nothing besides: they stand in the present
+-- boot's list behind all others, one behind the other, each for the members that were in contact at the begin.
+pub record Sends (g : Group) (v : Casting) (message : List (List ℕ)) : Type 0 where
+  pub leads : Leads g v
+  pub line : leads.after.caster.line g.caster.boot ≡ g.caster.line g.caster.boot ++ map (accepting_one g) message
 
 -- what moves up is numbered by the law, one after the other
 abbrev pub FlushRuns : Type 0
@@ -57,7 +63,7 @@ LeaveRuns = (g : Group) (v : Casting) (peer : ℕ) → Casts g v → IsSending v
 -- a message is accepted packet by packet, with nothing between, and what moves up is numbered
 abbrev pub SendRuns : Type 0
 SendRuns = (g : Group) (v : Casting) (pieces : List (List ℕ)) → Casts g v → IsSending (with_message v pieces).sending → IsCasting v.own v.sending v.contacts
-    → All (λ piece. 16 ≤ length piece) pieces → length v.sending.waiting < 200 → length pieces ≤ 47 → Leads g (accepting v pieces)
+    → All (λ piece. 16 ≤ length piece) pieces → length v.sending.waiting < 200 → length pieces ≤ 47 → Sends g (accepting v pieces) pieces
 
 -- A STATE of a peer in contact acknowledges: its number is that of a place that the member had, at most 60,000 before what it
 -- acknowledged, and what it acknowledges was numbered.
