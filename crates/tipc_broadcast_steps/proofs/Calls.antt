@@ -18,7 +18,7 @@ use Rattle.tipc_broadcast_law.proofs.Places.{put_other, put_same, same_or_not}
 use Rattle.tipc_broadcast_steps.specs.Steps.{Casts, IsSeen, Leads, Sends}
 use Rattle.tipc_broadcast_steps.proofs.Numbering.{flush_moves, flush_runs, Moves}
 
-follow : {g h i : Group} → Runs g h → Runs h i → Runs g i
+pub follow : {g h i : Group} → Runs g h → Runs h i → Runs g i
 follow none more = more
 follow (go_on one rest) more = go_on one (follow rest more)
 
@@ -122,7 +122,7 @@ released-sending s n h =
     let begun = h.numbered in
     record { window = omega (arith, length-drop n s.unacked); numbered = omega (arith, length-drop n s.unacked); counted = h.counted }
 
-settled_flush : (g : Group) (v : Casting) → Casts g v → IsSending v.sending → IsCasting v.own v.sending v.contacts → Leads g (flushed (settled v))
+pub settled_flush : (g : Group) (v : Casting) → Casts g v → IsSending v.sending → IsCasting v.own v.sending v.contacts → Leads g (flushed (settled v))
 unfolding settled
 settled_flush g v h window is =
     flush_runs g (with_sending v (released v.sending (to_release v.sending v.contacts))) (record { numbered = h.numbered; accepted_all = h.accepted_all; members = h.members }) (released-sending v.sending (to_release v.sending v.contacts) window) (release-keeps v.own v.sending v.contacts window is)

@@ -1,3 +1,4 @@
 pub mod Calls
 pub mod Crediting
 pub mod Numbering
+pub mod Stating

@@ -1,10 +1,11 @@
 -- How the broadcast link of a caster stands in the law of broadcast: the calls make the law's events.
-use Rattle.std.specs.Prelude.{◌≡◌, ℕ, ◌+◌, ◌-◌, ◌<◌, ◌≤◌, ◌++◌, All, List, length, map, Option, Some, None}
+use Rattle.std.specs.Prelude.{◌≡◌, true, ℕ, ◌+◌, ◌-◌, ◌<◌, ◌≤◌, ◌++◌, All, List, length, map, Option, Some, None}
 use Rattle.tipc_types.specs.Position.{number_of}
+use Rattle.tipc_types.specs.declared.link_words.BroadcastState.{BroadcastState}
 use Rattle.tipc_send_window.specs.Sending.{IsSending}
 use Rattle.tipc_broadcast.specs.declared.contacts.Contact.{Contact}
 use Rattle.tipc_broadcast.specs.Contacts.{acknowledged_to, contact_with}
-use Rattle.tipc_broadcast.specs.Casting.{accepted, accepting, Casting, credited, flushed, IsCasting, joining, leaving, settled, with_message}
+use Rattle.tipc_broadcast.specs.Casting.{accepted, accepting, Casting, credited, flushed, IsCasting, joining, leaving, settled, stating, with_message}
 use Rattle.tipc_broadcast_law.specs.Groups.{Group, length_now, Member, numbered_now}
 use Rattle.tipc_broadcast_law.specs.Events.{accepting as accepting_one, Runs}
 
@@ -65,10 +66,28 @@ abbrev pub SendRuns : Type 0
 SendRuns = (g : Group) (v : Casting) (pieces : List (List ℕ)) → Casts g v → IsSending (with_message v pieces).sending → IsCasting v.own v.sending v.contacts
     → All (λ piece. 16 ≤ length piece) pieces → length v.sending.waiting < 200 → length pieces ≤ 47 → Sends g (accepting v pieces) pieces
 
--- A STATE of a peer in contact acknowledges: its number is that of a place that the member had, at most 60,000 before what it
--- acknowledged, and what it acknowledges was numbered.
+-- A number in a STATE of a peer is that of a place that the member had in the contact in which the caster is with it, at most
+-- 60,000 before what it acknowledged; at most 50 are numbered past that.
+pub record Shows (g : Group) (v : Casting) (peer number : ℕ) : Type 0 where
+  pub contact : Contact
+  pub there : contact_with peer v.contacts ≡ Some contact
+  pub contact_number : ℕ
+  pub joined : (g.members peer).joined ≡ Some contact_number
+  pub wanted : ℕ
+  pub wants : (g.members peer).want contact_number ≡ Some wanted
+  pub place : ℕ
+  pub had : place ≤ wanted
+  pub is_numbered : place ≤ v.sending.numbered
+  pub in_window : v.sending.numbered ≤ contact.acked + 50
+  pub recent : contact.acked ≤ place + 60000
+  pub number_is : number ≡ number_of place
+
+-- what such a number acknowledges is acknowledged by the law, or was before
 abbrev pub AcknowledgementRuns : Type 0
-AcknowledgementRuns = (g : Group) (v : Casting) (peer j w place : ℕ) (c : Contact) → Casts g v → contact_with peer v.contacts ≡ Some c
-    → (g.members peer).joined ≡ Some j → (g.members peer).want j ≡ Some w → place ≤ w
-    → v.sending.numbered ≤ c.acked + 50 → place ≤ v.sending.numbered → c.acked ≤ place + 60000
-    → Leads g (credited v peer (number_of place))
+AcknowledgementRuns = (g : Group) (v : Casting) (peer number : ℕ) → Casts g v → Shows g v peer number → Leads g (credited v peer number)
+
+-- A whole STATE: what the peer tells of its own broadcast is nothing to the law of this caster. Where it says that it is in
+-- step, what it acknowledges is acknowledged, and what moves up is numbered.
+abbrev pub StateRuns : Type 0
+StateRuns = (g : Group) (v : Casting) (peer : ℕ) (seen : BroadcastState) → Casts g v → IsSending v.sending → IsCasting v.own v.sending v.contacts
+    → (seen.in_step ≡ true → Shows g v peer seen.acknowledged) → Leads g (stating v peer seen)

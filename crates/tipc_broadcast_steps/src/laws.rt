@@ -1,5 +1,5 @@
 //! How calls of the broadcast link are events of the law. The functions do nothing: their contracts are the laws.
-ghost use Rattle.tipc_broadcast_steps.specs.Steps.{AcknowledgementRuns, AcknowledgementsTellPlaces, FlushRuns, JoinRuns, LeaveRuns, ReleaseIsSilent, SendRuns};
+ghost use Rattle.tipc_broadcast_steps.specs.Steps.{AcknowledgementRuns, AcknowledgementsTellPlaces, FlushRuns, JoinRuns, LeaveRuns, ReleaseIsSilent, SendRuns, StateRuns};
 
 /// Packets that move up are numbered, one after the other, as the law allows.
 pub fn moving_up_is_numbering()
@@ -34,4 +34,9 @@ pub fn sending_is_a_run()
 /// What a peer acknowledges is acknowledged in the law, or was before.
 pub fn acknowledging_is_an_event()
     ensures { AcknowledgementRuns }
+{}
+
+/// A whole STATE of a peer is a run of the law: it acknowledges, and what moves up is numbered.
+pub fn a_state_is_a_run()
+    ensures { StateRuns }
 {}
