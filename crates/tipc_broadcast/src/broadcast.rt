@@ -1,3 +1,5 @@
+//! A node's broadcast link: what it sends to all its peers at once, and what it takes from each of them.
+
 ghost use Rattle.std.specs.Prelude.{[], ◌≡◌, ℕ, ◌+◌, ◌<◌, ◌≤◌, true, false, Err, Some, None, List, All, length, slice_get, IfNone, IfOk, IfSome, OnErr, OnOk};
 ghost use Rattle.tipc_types.specs.Address.{IsNodeWord};
 ghost use Rattle.tipc_types.specs.Position.{number_of};

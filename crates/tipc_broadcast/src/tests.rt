@@ -1,3 +1,5 @@
+//! Tests of the broadcast link: members join and leave, messages reach them all, and a lost one is sent again.
+
 ghost use Rattle.std.specs.Prelude.{◌≤◌};
 
 use super::Broadcast;

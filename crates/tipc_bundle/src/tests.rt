@@ -1,3 +1,5 @@
+//! Tests of bundles: small messages are joined and taken apart, and the first bad place is told.
+
 use super::*;
 use std::alloc::Global;
 use std::process::Abort;

@@ -1,3 +1,5 @@
+//! The numbers of a contact: the own one, and the highest that the peer has shown.
+
 ghost use Rattle.std.specs.Prelude.{◌≡◌, ◌+◌, ◌-◌, ◌^◌, ◌<◌, ◌==◌, nat_lt, if◌then◌else◌};
 ghost use Rattle.tipc_contact.specs.Sides.{first_number};
 

@@ -1,3 +1,5 @@
+//! Tests of the numbers of a contact.
+
 use super::{Contact, Standing};
 use std::test::Fail;
 

@@ -1,3 +1,5 @@
+//! What a discovery frame tells of its sender, and the neighbours that were heard on each bearer.
+
 ghost use Rattle.std.specs.Prelude.{◌≡◌, ◌≤◌, ◌-◌, ◌==◌, ◌++◌, ◌∷◌, [], false, IfOk, OnErr, OnOk};
 ghost use Rattle.std.specs.List.{list_any};
 ghost use Rattle.tipc_types.specs.Address.{IsNodeWord};

@@ -1,3 +1,5 @@
+//! Tests of discovery: each neighbour is new once, and requests and responses are spelled.
+
 use super::*;
 use std::alloc::Global;
 use std::process::Abort;

@@ -1,3 +1,5 @@
+//! A long message is cut into fragments.
+
 ghost use Rattle.std.specs.Prelude.{◌≡◌, ◌+◌, ◌*◌, ◌/◌, ◌<◌, ◌≤◌, All, length, take, drop, IfOk};
 ghost use Rattle.tipc_fragments.specs.Cutting.{count_of, kind_of, packet_of, packets_of, piece_after};
 ghost use Rattle.tipc_header.specs.Spelling.{spelling};

@@ -1,3 +1,5 @@
+//! Fragments are joined to the message that they were cut from.
+
 ghost use Rattle.std.specs.Prelude.{◌≡◌, true, IfErr, IfOk, OnErr, OnOk};
 ghost use Rattle.tipc_fragments.specs.Cutting.{is_last, may_follow, piece_of};
 

@@ -1,3 +1,5 @@
+//! Tests of fragments: messages are cut and joined, and what breaks a run of fragments is refused.
+
 use super::*;
 use std::alloc::{AllocError, Global};
 use std::process::Abort;

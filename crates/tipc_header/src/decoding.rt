@@ -149,13 +149,13 @@ fn packet(bytes: &[u8]) -> Packet<'_>
 ///
 /// The first rule that they break, in the order of [`HeaderFault`].
 pub fn decode(bytes: &[u8]) -> Result<Packet<'_>, HeaderFault>
-    // What is decoded is spelled so.
+    // The packet that is given is one of the grammar, and the bytes are its spelling.
     ensures spells { IfOk result (λ p. Fits (view p) × (bytes.now ≡ spelling (view p))) }
-    // What is spelled so is decoded.
+    // Bytes that spell a packet of the grammar are decoded, to that packet.
     ensures only { (p : Fields) → Fits p → bytes.now ≡ spelling p → IsOkAnd result (λ q. view q ≡ p) }
-    // It is what stands at the places of the fields.
+    // Each field has the value that stands at its place in the bytes.
     ensures read { IfOk result (λ p. view p ≡ fields_at bytes.now) }
-    // Which fault it is.
+    // The fault is the first rule that the bytes break.
     ensures fault { MatchResult result (λ p. fault_of bytes.now ≡ None) (λ e. fault_of bytes.now ≡ Some e) }
 {
     match first_fault(bytes) {

@@ -1,3 +1,5 @@
+//! The rules of the grammar that bytes may break, in the order in which they are asked.
+
 ghost use Rattle.std.specs.Prelude.{◌≡◌};
 
 /// Why bytes are no packet: the first of these rules that they break. The order and the numbers are

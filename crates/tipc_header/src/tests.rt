@@ -1,3 +1,5 @@
+//! Tests of the codec, against packets spelled by hand from the TIPC 2.0 draft.
+
 use super::*;
 use std::alloc::{AllocError, Global};
 use std::process::Abort;

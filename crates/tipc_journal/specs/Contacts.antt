@@ -1,3 +1,4 @@
+-- Contacts and links in a journal.
 use Rattle.std.specs.Prelude.{◌==◌, ◌&&◌, if◌then◌else◌, ℕ, List, Option, Some, None, fold}
 use Rattle.tipc_types.specs.declared.identity.Addr.{Addr}
 use Rattle.tipc_journal.specs.declared.entries.Entry.{Entry}

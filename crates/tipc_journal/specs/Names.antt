@@ -1,3 +1,4 @@
+-- Names in a journal: the node's live publications, and those that it learned of its peers.
 use Rattle.std.specs.Prelude.{◌==◌, ◌&&◌, if◌then◌else◌, not, Bool, true, false, List, [], ◌∷◌, ◌++◌, Option, Some, None, filter}
 use Rattle.std.specs.List.{cons_option, list_any}
 use Rattle.tipc_types.specs.declared.services.Publication.{Publication}

@@ -1,3 +1,4 @@
+-- One list is a front of another.
 use Rattle.std.specs.Prelude.{◌≡◌, List, [], ◌∷◌, ◌++◌, Option, Some, None}
 
 -- xs is a prefix of ys: ys is xs and then some rest

@@ -1,3 +1,4 @@
+-- The queue of a socket, as a journal tells it.
 use Rattle.std.specs.Prelude.{◌==◌, if◌then◌else◌, not, ℕ, Bool, true, false, List, [], ◌∷◌, ◌++◌, Option, Some, None, fold, filter, drop, take, option_map, option_to_list, count_by}
 use Rattle.std.specs.List.{flat_map, list_any}
 use Rattle.tipc_types.specs.declared.identity.Addr.{Addr}

@@ -1,3 +1,4 @@
+-- Steps in a journal: each begins with a Step and ends with an Answered.
 use Rattle.std.specs.Prelude.{◌≡◌, ℕ, Bool, true, false, List, [], ◌∷◌, ◌++◌, drop, take_while}
 use Rattle.std.specs.List.{flat_map, list_all, prefix_len}
 use Rattle.tipc_types.specs.declared.node_calls.By.{By}

@@ -1,3 +1,4 @@
+-- Streams in a journal: the messages accepted and delivered in one flow of one contact.
 use Rattle.std.specs.Prelude.{◌==◌, ◌&&◌, if◌then◌else◌, ℕ, Bool, true, false, List, Option, Some, None, filter_map}
 use Rattle.tipc_types.specs.declared.identity.Addr.{Addr}
 use Rattle.tipc_types.specs.declared.message_forms.Flow.{Flow}

@@ -1,3 +1,4 @@
+-- Subscriptions in a journal, and the events that each was told.
 use Rattle.std.specs.Prelude.{◌==◌, ◌&&◌, ◌+◌, if◌then◌else◌, not, max, ℕ, Bool, false, List, [], ◌∷◌, ◌++◌, Option, Some, None, fold, filter}
 use Rattle.tipc_types.specs.declared.node_calls.Event.{Event}
 use Rattle.tipc_types.specs.declared.node_calls.EventNote.TheVariants.{Tick}

@@ -1,3 +1,5 @@
+//! The entries of a journal: what a node records of each step.
+
 use tipc_types::{
     Addr, Answer, By, Cause, EventNote, Flow, LinkState, Message, Publication, Sequence,
     Subscription,

@@ -1,3 +1,5 @@
+//! What a journal tells: messages accepted and delivered, and publications.
+
 ghost use Rattle.std.specs.Prelude.{◌≡◌, ◌++◌, Option, IfOk, OnOk, is_some, length};
 ghost use Rattle.std.specs.Option.{option_copied};
 ghost use Rattle.tipc_journal.specs.Streams.{Stream, stream_eq, flow_eq, accepted_message, delivered_message, accepted, delivered};

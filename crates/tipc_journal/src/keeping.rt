@@ -1,3 +1,5 @@
+//! The journal, its limits, and how an entry is appended.
+
 ghost use Rattle.std.specs.Prelude.{◌≡◌, ◌==◌, ◌+◌, ◌-◌, ◌^◌, ◌<◌, ◌≤◌, ◌↔◌, [], length, min, IsOk, OnErr, OnOk, IsTrue};
 ghost use Rattle.tipc_journal.specs.Room.{JournalState, appended, reserved, counted_bytes, entry_bytes, message_bytes, HasRoom, HasNoRoom};
 

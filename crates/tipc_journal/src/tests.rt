@@ -1,3 +1,5 @@
+//! Tests of the journal: an entry is appended, and what its entries tell is read.
+
 use crate::entries::{Arrivals, Entry};
 use crate::keeping::Journal;
 use std::test::Fail;

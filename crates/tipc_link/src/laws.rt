@@ -1,3 +1,5 @@
+//! The law of two link ends, for callers: the contract of a function that does nothing.
+
 ghost use Rattle.tipc_link.specs.Laws.{AnswersStayJoined, ArrivalsStayJoined, BeginJoined, JoinedGivePrefix, PutsStayJoined, StatesStayJoined, TurnJoined};
 
 /// Two ends of a session stay joined: what one of them numbered is what the other takes, at its place, once and in order. So it

@@ -1,3 +1,5 @@
+//! A link end: its states, its session while it is up, and the frames that it sends.
+
 ghost use Rattle.std.specs.Prelude.{◌≡◌, ℕ, ◌⊎◌, ◌<◌, ◌≤◌, [], true, false, is_some, Some, None, Err, length, All, IfOk, OnErr, OnOk};
 ghost use Rattle.tipc_header.specs.Grammar.{Fits, ResetFits};
 ghost use Rattle.tipc_header.specs.Spelling.{view};

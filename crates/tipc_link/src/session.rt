@@ -1,3 +1,5 @@
+//! A session: the packets of a link end that is up, sent and taken.
+
 ghost use Rattle.std.specs.Prelude.{◌≡◌, ◌+◌, ◌-◌, ◌<◌, ◌≤◌, [], ◌∷◌, ◌==◌, if◌then◌else◌, List, ℕ, None, Err, length, take, slice_get, All, IfNone, IfOk, IfSome, OnErr, OnOk, Some};
 ghost use Rattle.tipc_types.specs.Position.{number_of};
 ghost use Rattle.tipc_header.specs.Spelling.{spelling, view};

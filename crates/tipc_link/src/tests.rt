@@ -1,3 +1,5 @@
+//! Tests of two link ends that exchange frames.
+
 ghost use Rattle.std.specs.Prelude.{IfOk};
 ghost use Rattle.tipc_link.specs.Sessions.{IsWaiting};
 

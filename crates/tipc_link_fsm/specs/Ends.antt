@@ -1,3 +1,4 @@
+-- What holds of every link end, whatever is called.
 use Rattle.std.specs.Prelude.{◌≡◌, ◌≤◌, ◌↔◌, true, false}
 use Rattle.tipc_types.specs.declared.link_words.LinkState.TheVariants.{WorkingUnknown}
 use Rattle.tipc_link_fsm.specs.Table.{Fsm, is_up, is_last}

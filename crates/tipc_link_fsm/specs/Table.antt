@@ -1,3 +1,4 @@
+-- The table of link states: what each event changes in each state.
 use Rattle.std.specs.Prelude.{◌==◌, ◌&&◌, ◌||◌, ◌+◌, ◌%◌, if◌then◌else◌, nat_lt, nat_le, not, ℕ, Bool, true, false, Option, Some, None}
 use Rattle.tipc_types.specs.declared.link_words.LinkState.{LinkState}
 use Rattle.tipc_types.specs.declared.link_words.LinkState.TheVariants.{ResetUnknown, ResetReset, WorkingWorking, WorkingUnknown, Held}

@@ -1,3 +1,5 @@
+//! What an event does to the state of a link end.
+
 use tipc_types::{Cause, Reply, Why};
 
 /// What a call did to a link end. (This project's profile.)

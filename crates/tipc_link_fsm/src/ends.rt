@@ -1,3 +1,5 @@
+//! The state of a link end, and the table of its changes.
+
 ghost use Rattle.std.specs.Prelude.{◌≡◌, ◌&&◌, ◌≤◌, ◌↔◌, true, false, not};
 ghost use Rattle.tipc_link_fsm.specs.Table.{fresh, is_up, is_in_reset, is_held, is_last, is_peer, is_session, next_epoch, lowered, apart, forgotten, heard, up_tick, on_reset, on_activate, on_traffic, on_tick, on_cut, on_peer_tunnel, release, forget_peer, contact_ended};
 ghost use Rattle.tipc_link_fsm.specs.Ends.{IsSound};

@@ -1,3 +1,5 @@
+//! Tests of the table of states.
+
 use crate::changes::Change;
 use crate::ends::LinkFsm;
 use std::test::Fail;

@@ -1,3 +1,5 @@
+//! The law that a message is read back from its packet, for callers.
+
 ghost use Rattle.std.specs.Prelude.{◌≡◌, Some};
 ghost use Rattle.tipc_types.specs.declared.message_forms.Message.{Message};
 ghost use Rattle.tipc_header.specs.Spelling.{Fields};

@@ -1,3 +1,5 @@
+//! Tests of messages on the wire, one for each form.
+
 ghost use Rattle.std.specs.Prelude.{◌≡◌};
 ghost use Rattle.tipc_message.specs.Wire.{IsPayload};
 

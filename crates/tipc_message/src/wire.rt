@@ -1,3 +1,5 @@
+//! A message as the packet that carries it, and the message that a packet carries.
+
 ghost use Rattle.std.specs.Prelude.{◌≡◌, ◌≤◌, ◌<◌, ◌^◌, ℕ, Some, length, IfOk, option_map};
 ghost use Rattle.tipc_header.specs.Grammar.{Fits, AddressingFits, PayloadFits};
 ghost use Rattle.tipc_header.specs.Spelling.{Fields, spelling, view};

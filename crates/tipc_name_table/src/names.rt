@@ -1,3 +1,5 @@
+//! What every name table does: publications, withdrawals, and the sockets that a name finds.
+
 ghost use Rattle.std.specs.Prelude.{◌≡◌, ◌<◌, ◌≤◌, ◌↔◌, ℕ, List, Err, None, Some, false, true, count_by, find, filter, IfOk, OnErr, OnOk};
 ghost use Rattle.std.specs.List.{list_any};
 ghost use Rattle.tipc_types.specs.Address.{IsNodeWord};

@@ -1,3 +1,5 @@
+//! Tests that every name table passes.
+
 ghost use Rattle.std.specs.Prelude.{◌≤◌};
 
 use super::*;

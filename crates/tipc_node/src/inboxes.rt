@@ -1,3 +1,5 @@
+//! The inbox of a socket: the messages that wait for its owner.
+
 ghost use Rattle.std.specs.Prelude.{◌≡◌, ◌∷◌, [], IfOk, IfSome, IfNone};
 ghost use Rattle.tipc_node.specs.Inboxes.{enqueued};
 

@@ -1,3 +1,5 @@
+//! The peers of a node, and what a call does at each.
+
 ghost use Rattle.std.specs.Prelude.{◌≡◌, ℕ, ◌+◌, ◌++◌, ◌||◌, ◌&&◌, ◌<◌, ◌≤◌, [], true, false, All, Some, None, length, slice_index_or, vec_capacity, vec_len, IfSome, IfNone, OnErr, OnOk};
 ghost use Rattle.tipc_outside.specs.Frames.{Adds};
 ghost use Rattle.tipc_header.specs.Spelling.{Fields, view};

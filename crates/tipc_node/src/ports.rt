@@ -1,3 +1,5 @@
+//! The numbers of sockets, and the answers of the calls that make and read them.
+
 ghost use Rattle.std.specs.Prelude.{◌≡◌, ◌+◌, ◌<◌, ◌≤◌, [], nat_lt, length, slice_index_or, if◌then◌else◌};
 ghost use Rattle.tipc_node.specs.Nodes.{first_answer, kept_answer, port_base, without_first, IsReceived};
 

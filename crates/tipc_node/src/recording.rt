@@ -1,3 +1,5 @@
+//! How a step is recorded in the journal, and when the journal has room for it.
+
 ghost use Rattle.std.specs.Prelude.{◌≡◌, ◌+◌, ◌≤◌, ◌++◌, true, false, length, OnOk, Err, sum_by, None, Some, vec_len, vec_capacity};
 ghost use Rattle.tipc_types.specs.Address.{node_word};
 ghost use Rattle.tipc_journal.specs.Room.{entry_bytes, message_bytes};

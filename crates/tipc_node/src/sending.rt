@@ -1,3 +1,5 @@
+//! A message that is sent to a port, its limits, and its packets.
+
 ghost use Rattle.std.specs.Prelude.{◌≡◌, ◌≤◌, All, Some, length, IfOk};
 ghost use Rattle.tipc_header.specs.Grammar.{Fits};
 ghost use Rattle.tipc_header.specs.Spelling.{Fields, spelling};

@@ -1,3 +1,5 @@
+//! Tests of nodes that exchange frames.
+
 ghost use Rattle.std.specs.Prelude.{◌≤◌};
 
 use super::{Deed, Node};

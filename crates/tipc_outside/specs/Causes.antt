@@ -1,3 +1,4 @@
+-- Counts of faults, which rise where a call fails.
 use Rattle.std.specs.Prelude.{◌+◌, ◌-◌, ◌^◌, ◌≤◌, ℕ, min, Result, IsErr}
 
 -- a count rose: it is greater than it was, or stands at the last value of its type

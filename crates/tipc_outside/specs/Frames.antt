@@ -1,3 +1,4 @@
+-- Frames on their way out: those that a call left, and whether one was lost.
 use Rattle.std.specs.Prelude.{◌≡◌, ◌≤◌, ◌++◌, ℕ, Bool, true, false, List, length, take}
 use Rattle.tipc_outside.specs.declared.outgoing.Outgoing.{Outgoing}
 

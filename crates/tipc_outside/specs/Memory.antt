@@ -1,3 +1,4 @@
+-- A source and a sink in memory, which fail at the calls that a test names.
 use Rattle.std.specs.Prelude.{ℕ, ◌==◌, Bool, List}
 use Rattle.std.specs.List.{list_any}
 use Rattle.tipc_outside.specs.Causes.{counted}

@@ -1,3 +1,5 @@
+//! Frames on their way out of a node.
+
 ghost use Rattle.std.specs.Prelude.{◌≡◌, ◌∷◌, [], true, false};
 ghost use Rattle.tipc_outside.specs.Frames.{Adds};
 

@@ -1,3 +1,5 @@
+//! What a threaded node asks of its surroundings: a clock, and a gate at which threads may be held.
+
 ghost use Rattle.std.specs.Prelude.{◌≡◌, ◌≤◌, ℕ};
 ghost use Rattle.tipc_outside.specs.Causes.{counted};
 

@@ -1,3 +1,5 @@
+//! Tests of the edge, with fakes and with the standard library.
+
 use super::{
     Clock, Failed, MemorySink, MemorySource, Outbox, Sink, SinkFault, Source, StdSink, StdSource,
     StepClock,

@@ -1,3 +1,5 @@
+//! What a node asks of a bearer: to send a frame and to hear one.
+
 ghost use Rattle.std.specs.Prelude.{◌≡◌, ◌+◌, ◌-◌, ◌^◌, ◌≤◌, ℕ, Ok, IsErrOf};
 ghost use Rattle.tipc_outside.specs.Causes.{Rose, counted};
 

@@ -1,3 +1,5 @@
+//! What a call changes at a pair.
+
 use tipc_reassembly::OpenedList;
 use tipc_types::{Cause, Why};
 

@@ -1,3 +1,5 @@
+//! A link end with the contact numbers that its frames show.
+
 ghost use Rattle.std.specs.Prelude.{◌≡◌, ℕ, ◌<◌, ◌≤◌, ◌==◌, [], if◌then◌else◌, true, false, Some, None, Err, nat_lt, length, All, IfOk, OnErr, OnOk};
 ghost use Rattle.tipc_header.specs.Grammar.{Fits};
 ghost use Rattle.tipc_header.specs.Spelling.{Fields, view};

@@ -1,3 +1,5 @@
+//! Tests of the two sides of a pair that exchange frames.
+
 use super::{Pair, PairArrival, PairChange, PairOutcome, shows_contact};
 use std::alloc::Global;
 use std::process::Abort;

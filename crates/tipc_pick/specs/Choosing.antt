@@ -1,3 +1,4 @@
+-- A pick at one of its turns.
 use Rattle.std.specs.Prelude.{ℕ}
 
 -- a pick and the turn that it is at

@@ -1,3 +1,4 @@
+-- Which closures are picks.
 use Rattle.std.specs.Prelude.{ℕ, ◌≡◌, ◌<◌, ◌≤◌, ◌^◌}
 
 -- What makes a closure a pick, by when it may be called and what it may answer: for every turn below 2^64 and every count

@@ -1,3 +1,5 @@
+//! The pick of a run, with the turn that it is asked for next.
+
 ghost use Rattle.std.specs.Prelude.{◌≡◌, ◌+◌, ◌%◌, ◌<◌, ◌≤◌, ◌^◌, ℕ};
 ghost use Rattle.tipc_pick.specs.Choosing.{Choosing};
 

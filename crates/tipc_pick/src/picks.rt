@@ -1,3 +1,5 @@
+//! What chooses among the sockets that a name finds.
+
 ghost use Rattle.std.specs.Prelude.{◌≡◌, ◌<◌, ◌≤◌, ◌^◌, ℕ};
 
 /// The most things of which one is chosen: 32 nodes with 1,024 publications each. (This project's profile.)

@@ -1,3 +1,5 @@
+//! Tests of choosing, by a closure and one after another.
+
 ghost use Rattle.std.specs.Prelude.{◌≡◌, ◌≤◌, ◌%◌};
 
 use super::*;

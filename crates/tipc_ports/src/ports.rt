@@ -1,3 +1,5 @@
+//! The ports of a node in one boot, with what each holds.
+
 ghost use Rattle.std.specs.Prelude.{◌≡◌, ◌+◌, ◌*◌, ◌≤◌, ◌<◌, ◌⊎◌, ◌↔◌, ◌++◌, ◌∷◌, [], Err, length, Contains, IfOk, IsErr, IsTrue, OnErr, OnOk};
 ghost use Rattle.tipc_ports.specs.Numbers.{port_number, without, ArePresent, PortTable};
 

@@ -1,3 +1,5 @@
+//! Tests of ports: they are made and closed, and no number comes twice.
+
 use super::*;
 use std::process::Abort;
 use std::test::Fail;

@@ -1,3 +1,5 @@
+//! Packets in order are opened to messages: payload, items, bundles and runs of fragments.
+
 ghost use Rattle.std.specs.Prelude.{◌≡◌, ◌∷◌, [], map, IfOk, OnErr};
 ghost use Rattle.tipc_header.specs.Faults.{fault_of};
 ghost use Rattle.tipc_fragments.specs.Cutting.{piece_of};

@@ -1,3 +1,5 @@
+//! Tests of opening packets.
+
 use super::*;
 use std::alloc::Global;
 use std::test::Fail;

@@ -1,3 +1,4 @@
+-- The receive window: packets that came before their turn, at their places behind the next number.
 use Rattle.std.specs.Prelude.{◌≡◌, ℕ, ◌+◌, ◌-◌, ◌≤◌, ◌^◌, ◌&&◌, ◌==◌, Bool, true, not, List, [], ◌∷◌, ◌++◌, length, drop, replicate, slice_index_or, slice_set, Option, Some, None, is_some, count_by, position, unwrap_or, nat_lt, if◌then◌else◌}
 use Rattle.tipc_types.specs.Position.{distance_of, number_of}
 use Rattle.tipc_types.specs.declared.packet_lists.Taken.{Taken}

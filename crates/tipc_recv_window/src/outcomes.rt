@@ -1,3 +1,5 @@
+//! Where a numbered packet stands in a receive window, and what comes of it.
+
 use tipc_types::{TakenList, Why};
 
 /// Where a numbered packet stands that arrived. (TIPC 2.0 draft.)

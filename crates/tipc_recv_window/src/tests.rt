@@ -1,3 +1,5 @@
+//! Tests of the receive window, over the wrap of the numbers.
+
 use super::{Place, RecvWindow};
 use std::alloc::Global;
 use std::test::Fail;

@@ -1,3 +1,5 @@
+//! The receive window: the next number, and the packets that came before their turn.
+
 ghost use Rattle.std.specs.Prelude.{◌≡◌, ◌+◌, ◌-◌, ◌<◌, ◌≤◌, ◌^◌, ◌++◌, ◌∷◌, ◌⊎◌, ◌↔◌, [], drop, false, is_some, length, replicate, position, IfOk, IfSome, IsTrue, None, OnErr, Some};
 ghost use Rattle.std.specs.VecDeque.{deque_capacity};
 ghost use Rattle.tipc_types.specs.declared.packet_lists.Taken.{Taken};

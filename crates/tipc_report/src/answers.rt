@@ -1,3 +1,5 @@
+//! The text of an answer.
+
 ghost use Rattle.std.specs.Prelude.{◌≡◌, IfOk};
 ghost use Rattle.tipc_report.specs.Answering.{IsRefusal, text_of, what_word, event_text, arrival_text};
 

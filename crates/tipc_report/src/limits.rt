@@ -1,3 +1,5 @@
+//! The limits at which a run ends.
+
 ghost use Rattle.std.specs.Prelude.{◌≡◌};
 ghost use Rattle.tipc_report.specs.Closing.{limit_number, limit_word};
 

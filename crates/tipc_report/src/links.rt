@@ -1,3 +1,5 @@
+//! The text of a node's links.
+
 ghost use Rattle.std.specs.Prelude.{◌≡◌, ◌∷◌, ◌++◌, IfOk};
 ghost use Rattle.tipc_report.specs.Answering.{end_letter, peer_text, links_text};
 

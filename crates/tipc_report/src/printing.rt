@@ -1,3 +1,5 @@
+//! Report lines: a number, a text and a newline.
+
 ghost use Rattle.std.specs.Prelude.{◌≡◌, ◌++◌, OnOk, OnErr, IfOk};
 ghost use Rattle.tipc_report.specs.Closing.{bad_text, limit_text, why_word};
 ghost use Rattle.tipc_report.specs.Text.{line_of, told_line, bad_line, limit_line};

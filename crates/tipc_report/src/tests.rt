@@ -1,3 +1,5 @@
+//! Tests of texts that no script asks for.
+
 use crate::{Told, Which, print, print_bad, print_limit};
 use std::test::Fail;
 use tipc_script::LineWhy;

@@ -1,3 +1,5 @@
+//! What a line is answered by, and its text.
+
 ghost use Rattle.std.specs.Prelude.{◌≡◌, ◌<◌, ◌%◌, ◌++◌, ◌∷◌, [], IfOk, OnOk, codes};
 ghost use Rattle.std.specs.Fmt.{decimal};
 ghost use Rattle.tipc_report.specs.Closing.{spaced};

@@ -1,3 +1,5 @@
+//! Words and numbers in a row.
+
 ghost use Rattle.std.specs.Prelude.{◌≡◌, ◌∷◌, ◌++◌, ◌%◌, [], IfOk, codes};
 ghost use Rattle.std.specs.Fmt.{decimal};
 ghost use Rattle.tipc_report.specs.Closing.{spaced};

@@ -1,3 +1,5 @@
+//! What is wrong with a line, and where.
+
 ghost use Rattle.std.specs.Prelude.{◌≡◌};
 ghost use Rattle.tipc_script.specs.declared.faults.LineFault.TheVariants as faults;
 

@@ -1,3 +1,5 @@
+//! The tokens that each first word asks for.
+
 ghost use Rattle.std.specs.Prelude.{◌≡◌, ◌+◌, ◌<◌, ◌^◌, IfOk, length, ℕ, MatchOption, Some, None};
 ghost use Rattle.tipc_script.specs.Grammar.{node_row, mend_row, cut_row, tick_row, restart_row, link_row, mark_row, socket_row, send_row, repeat_row, arrive_row, receive_row, drain_row, burst_row, pump_row, settle_row, air_row, show_row, links_row, flow_row, row_of, nodes_in, asked, nodes_of};
 ghost use Rattle.tipc_script.specs.Faults.{Tells, row_fault, fault_of};

@@ -1,3 +1,5 @@
+//! What a line of a script asks for.
+
 use tipc_types::{Bytes, Importance, PortId, Sequence};
 
 /// What a line of a script asks for. Nodes have numbers from 1 to 32, and the bearer is 0. (This

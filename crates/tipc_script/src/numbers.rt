@@ -1,3 +1,5 @@
+//! Numbers in a script.
+
 ghost use Rattle.std.specs.Prelude.{◌≡◌, ℕ, ◌<◌, ◌≤◌, ◌^◌, Some, None, if◌then◌else◌, MatchOption, IfSome, IsTrue, ◌↔◌, length};
 ghost use Rattle.std.specs.Fmt.{decimal};
 ghost use Rattle.std.specs.Str.Parse.{AllDigits};

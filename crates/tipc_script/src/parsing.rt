@@ -1,3 +1,5 @@
+//! A line of a script is read.
+
 ghost use Rattle.std.specs.Prelude.{◌≡◌, ◌+◌, ◌<◌, ◌^◌, IfOk, length, MatchOption, Some, None, List, ℕ};
 ghost use Rattle.tipc_script.specs.Kinds.{is_remark};
 ghost use Rattle.tipc_script.specs.Grammar.{frame_rows, traffic_rows, row_among, row_of, asked_by, nodes_by, asked, nodes_of};

@@ -1,3 +1,5 @@
+//! Tests of lines that are read and lines that are refused.
+
 use crate::{Command, Line, LineFault, LineWhy, NodeToken, parse_line};
 use std::alloc::Global;
 use std::process::Abort;

@@ -1,3 +1,5 @@
+//! The tokens of a line, with the place of each.
+
 ghost use Rattle.std.specs.Prelude.{◌≡◌, ◌≢◌, ◌+◌, ◌-◌, ◌*◌, ◌<◌, ◌≤◌, ◌^◌, ◌&&◌, ◌==◌, ◌↔◌, not, true, length, IfSome, IfNone, IfOk, MatchOption, IsTrue, position, OnOk, Some, None, if◌then◌else◌, drop, [], ◌∷◌, codes, ℕ};
 ghost use Rattle.std.specs.Option.{option_copied};
 ghost use Rattle.std.specs.Str.{bytes_eq};

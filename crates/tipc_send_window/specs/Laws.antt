@@ -1,3 +1,4 @@
+-- Laws of the send window, for callers.
 use Rattle.std.specs.Prelude.{◌≡◌, ℕ, ◌+◌, ◌-◌, ◌<◌, ◌≤◌, ◌^◌, List, ◌++◌, length, drop, slice_get, Some}
 use Rattle.tipc_types.specs.Position.{number_of}
 use Rattle.tipc_send_window.specs.Sending.{acked_of, acknowledged, IsSending, kept_of, moved, offered, released, Sending}

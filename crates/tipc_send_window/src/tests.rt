@@ -1,3 +1,5 @@
+//! Tests of the send window, over the wrap of the numbers.
+
 use super::{OfferFault, SendWindow};
 use std::alloc::Global;
 use std::test::Fail;

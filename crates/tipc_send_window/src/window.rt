@@ -1,3 +1,5 @@
+//! The send window: packets that aren't acknowledged, and packets that wait for room.
+
 ghost use Rattle.std.specs.Prelude.{◌≡◌, ℕ, ◌+◌, ◌-◌, ◌<◌, ◌≤◌, ◌⊎◌, [], length, slice_get, IfNone, IfOk, IfSome, OnErr, OnOk};
 ghost use Rattle.tipc_types.specs.Position.{number_of};
 

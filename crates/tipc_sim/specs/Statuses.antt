@@ -1,3 +1,4 @@
+-- How a run ends, as the exit status of the program.
 use Rattle.std.specs.Prelude.{ℕ}
 use Rattle.tipc_sim.specs.declared.status.Status.{Status}
 use Rattle.tipc_sim.specs.declared.status.Status.TheVariants.{Ok, Usage, BadLine, ReadFault, WriteFault, NoMemory, Limit}

@@ -1,3 +1,5 @@
+//! Lines that move frames: arrivals, `drain` and `pump`.
+
 ghost use Rattle.std.specs.Prelude.{◌≡◌, ◌≤◌, length, IfOk, Some, None};
 ghost use Rattle.tipc_world.specs.Calls.{CanHappen};
 ghost use Rattle.tipc_sim.specs.Courses.{Comes, Continues, Drains, Once, Takes};

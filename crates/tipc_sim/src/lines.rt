@@ -1,3 +1,5 @@
+//! A line is read in its world, and what it asks for is done.
+
 ghost use Rattle.std.specs.Prelude.{◌≡◌, ◌+◌, ◌<◌, ◌≤◌, ◌^◌, ◌==◌, ◌||◌, ℕ, true, false, length, slice_get, IfErr, IfOk, OnOk, find};
 ghost use Rattle.tipc_report.specs.Text.{told_line};
 ghost use Rattle.tipc_world.specs.Calls.{CanHappen};

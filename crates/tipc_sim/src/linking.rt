@@ -1,3 +1,5 @@
+//! Lines that join nodes: `know`, `mend` and `link`.
+
 ghost use Rattle.std.specs.Prelude.{◌≡◌, true};
 ghost use Rattle.tipc_world.specs.States.{is_there};
 ghost use Rattle.tipc_sim.specs.Courses.{Comes, Continues, Takes, TakesAll};

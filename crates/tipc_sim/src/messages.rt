@@ -1,3 +1,5 @@
+//! Lines that send and receive messages, also many at once.
+
 ghost use Rattle.std.specs.Prelude.{◌≡◌, true};
 ghost use Rattle.tipc_world.specs.Calls.{CanHappen};
 ghost use Rattle.tipc_world.specs.States.{is_there};

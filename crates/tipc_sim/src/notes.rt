@@ -1,3 +1,5 @@
+//! What a run keeps beside its world: the pump's place and the pairs that are named.
+
 ghost use Rattle.std.specs.Prelude.{◌≡◌, ◌≢◌, true, length, OnOk, OnErr};
 ghost use Rattle.tipc_sim.specs.Noted.{is_named, marked, naming, no_notes, pumped, with_named};
 

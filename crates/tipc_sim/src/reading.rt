@@ -1,3 +1,5 @@
+//! The script is read from its source.
+
 ghost use Rattle.std.specs.Prelude.{◌≡◌, ◌<◌, ◌≤◌, ◌^◌, IfOk, IfSome, IsErrOf, Some, [], length, vec_len};
 ghost use Rattle.tipc_outside.specs.Causes.{Rose};
 

@@ -1,3 +1,5 @@
+//! The run of a script: each line is done and answered, until the last or a fault.
+
 ghost use Rattle.std.specs.Prelude.{ℕ, ◌≡◌, ◌⊎◌, ◌<◌, ◌≤◌, ◌^◌, ◌↔◌, OnOk, OnErr, IfErr, IfOk, IfSome, IsErrOf, Err, Some, None, [], length, map, true, false};
 ghost use Rattle.std.specs.String.{string_bytes};
 ghost use Rattle.std.specs.Io.KnownBytes.{Appends};

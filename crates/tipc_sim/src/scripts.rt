@@ -1,3 +1,5 @@
+//! A script is cut into lines.
+
 ghost use Rattle.std.specs.Prelude.{◌≡◌, ◌<◌, ◌≤◌, ◌+◌, ◌==◌, ◌∷◌, length, position};
 ghost use Rattle.tipc_sim.specs.Lines.{lines_of, is_newline};
 

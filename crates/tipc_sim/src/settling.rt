@@ -1,3 +1,5 @@
+//! The line `settle`: ticks and deliveries until nothing is under way.
+
 ghost use Rattle.std.specs.Prelude.{◌≡◌, ◌≤◌, length, IfOk};
 ghost use Rattle.tipc_world.specs.Readers.{load_of};
 ghost use Rattle.tipc_sim.specs.Courses.{Comes, Continues, Takes, TakesAll};

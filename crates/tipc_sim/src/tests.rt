@@ -1,3 +1,5 @@
+//! Tests of a run over sources and sinks that fail.
+
 use super::*;
 use std::test::Fail;
 use tipc_outside::{MemorySink, MemorySource};

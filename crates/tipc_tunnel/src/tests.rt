@@ -1,3 +1,5 @@
+//! Tests of packets that are wrapped and unwrapped.
+
 use super::*;
 use std::alloc::Global;
 use std::process::Abort;

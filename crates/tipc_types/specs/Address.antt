@@ -1,3 +1,4 @@
+-- Addresses of the cluster's nodes.
 use Rattle.std.specs.Prelude.{◌+◌, ◌≤◌, ℕ}
 
 -- the address word of node <1.1.n>: zone 1 in bits 31-24, cluster 1 in bits 23-12, n in bits 11-0

@@ -1,3 +1,4 @@
+-- Positions in a session, and the sequence numbers that packets carry.
 use Rattle.std.specs.Prelude.{ℕ, ◌+◌, ◌-◌, ◌%◌}
 
 -- A position counts the packets of one direction from 1 on, without bound; this is the number that a packet at

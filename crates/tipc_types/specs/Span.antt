@@ -1,3 +1,4 @@
+-- Service ranges.
 use Rattle.std.specs.Prelude.{ℕ}
 
 -- a service type and the instances from lower to upper, both included

@@ -1,3 +1,5 @@
+//! Who is who: nodes, ports, and whom a frame is for.
+
 ghost use Rattle.std.specs.Prelude.{◌≡◌, ◌+◌, ◌≤◌, ◌<◌, ◌↔◌, IfNone, IfSome};
 ghost use Rattle.tipc_types.specs.Address.{node_word, IsNodeWord};
 

@@ -1,3 +1,5 @@
+//! The words of links: states, causes, replies, reasons, and what frames say of a session.
+
 /// The state of a link end. It is up in the two working states. (TIPC 2.0 draft; Held is this project's profile.)
 #[derive(Clone, Copy, Debug, PartialEq, Eq)]
 pub enum LinkState {

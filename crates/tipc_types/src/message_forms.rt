@@ -1,3 +1,5 @@
+//! Messages: importance, flow, form, and the items of name distribution.
+
 use crate::identity::PortId;
 use crate::sequences::{Bytes, Sequence};
 

@@ -1,3 +1,5 @@
+//! The calls of a node: who calls, what is called, and how it is answered.
+
 ghost use Rattle.std.specs.Prelude.{◌≡◌, IfOk};
 
 use crate::identity::{Addr, PortId};

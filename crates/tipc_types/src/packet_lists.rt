@@ -1,3 +1,5 @@
+//! Packets that are kept or taken, with where they came from.
+
 use crate::sequences::{Bytes, Sequence};
 
 /// A packet that is unacknowledged, beside its link sequence number.

@@ -1,3 +1,5 @@
+//! Positions in a session and the 16 bits of them that a packet carries.
+
 ghost use Rattle.std.specs.Prelude.{◌≡◌};
 ghost use Rattle.tipc_types.specs.Position.{distance_of, number_of};
 

@@ -1,3 +1,5 @@
+//! Lists of values, whose growth may find no memory.
+
 ghost use Rattle.std.specs.Prelude.{◌≡◌, ◌==◌, ◌++◌, ◌∷◌, [], length, IfOk, OnErr, OnOk};
 
 use crate::memory::NoMemory;

@@ -1,3 +1,5 @@
+//! Service ranges, scopes and publications.
+
 ghost use Rattle.std.specs.Prelude.{◌≡◌, ◌<◌, ◌≤◌, ◌↔◌, IfOk, IsErr};
 
 use crate::identity::PortId;

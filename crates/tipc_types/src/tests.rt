@@ -1,3 +1,5 @@
+//! Tests of addresses, numbers, ranges and lists.
+
 use super::{Addr, BadRange, Bytes, ServiceRange, number_distance, sequence_number};
 use std::test::Fail;
 

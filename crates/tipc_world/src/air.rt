@@ -1,3 +1,5 @@
+//! The air: frames that were sent, and frames that arrived.
+
 use tipc_types::{Addr, Bytes, To};
 
 /// A frame that was sent on a bearer. It stays in the air for ever: it may arrive again, late, or never.

@@ -1,3 +1,5 @@
+//! What may happen in a world, and the limits at which it stops.
+
 ghost use Rattle.std.specs.Prelude.{◌≡◌};
 ghost use Rattle.tipc_world.specs.Calls.{is_recorded, node_of};
 

@@ -1,3 +1,5 @@
+//! A node of a world, with the journals of all its boots.
+
 ghost use Rattle.std.specs.Prelude.{◌≡◌, ◌≢◌, ◌+◌, ◌-◌, ◌<◌, ◌≤◌, ◌++◌, ◌∷◌, [], ℕ, true, false, Some, None, Err, length, map, is_some, option_and_then, option_map, unwrap_or, IfErr, IfOk, IfSome, IfNone, OnErr, OnOk};
 ghost use Rattle.indexmap.specs.IndexMap.{spare};
 ghost use Rattle.tipc_types.specs.Address.{node_word};

@@ -1,3 +1,5 @@
+//! The world: its nodes, the air between them, and its events.
+
 ghost use Rattle.std.specs.Prelude.{◌≡◌, ◌≢◌, ◌+◌, ◌<◌, ◌≤◌, ◌==◌, ◌||◌, ◌&&◌, ◌++◌, [], List, ℕ, Bool, true, false, Some, None, Err, length, slice_get, slice_index_or, is_some, if◌then◌else◌, IfErr, IfOk, OnErr, OnOk};
 ghost use Rattle.tipc_types.specs.Address.{node_word};
 ghost use Rattle.tipc_world.specs.Calls.{counts_at, is_call_at, is_recorded, node_of, CallStops, CanDo, CanHappen, CanHappenAt, RecordStops};
