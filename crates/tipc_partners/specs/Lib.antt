@@ -4,3 +4,4 @@ pub mod Deeds
 pub mod Partners
 pub mod Calls
 pub mod EndCalls
+pub mod Sights
