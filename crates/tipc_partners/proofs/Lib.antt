@@ -20,5 +20,6 @@ pub mod Rises
 pub mod Messages
 pub mod PartnersLaw
 pub mod Tellings
+pub mod Later
 pub mod Calls
 pub mod EndCalls
