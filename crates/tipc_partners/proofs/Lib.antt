@@ -9,6 +9,7 @@ pub mod SessionDeeds
 pub mod SessionPackets
 pub mod CallDeeds
 pub mod RiseDeeds
+pub mod Mutual
 pub mod TellDeeds
 pub mod ContactDeeds
 pub mod PairedLaw
