@@ -19,6 +19,7 @@ pub mod QuietDeeds
 pub mod Numbers
 pub mod Rises
 pub mod Messages
+pub mod Past
 pub mod PartnersLaw
 pub mod Tellings
 pub mod Calls
