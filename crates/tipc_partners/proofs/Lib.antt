@@ -21,6 +21,7 @@ pub mod Rises
 pub mod Messages
 pub mod Past
 pub mod PartnersLaw
+pub mod Truth
 pub mod Tellings
 pub mod Calls
 pub mod EndCalls

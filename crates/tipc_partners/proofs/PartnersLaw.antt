@@ -218,6 +218,7 @@ new_crossed x h =
       prefix = λ i j. prefix_same [];
     }
 
+-- no session began
 new_past : (x y : View) → IsNew x → IsPast x y (record { stream = λ i j. []; taken = λ i j. [] })
 new_past x y h b epoch g k is there back = absurd (none_some g _ (ap (λ (w : Wire). w.begun epoch) (h.wires b)) is)
 

@@ -18,9 +18,11 @@ use Rattle.tipc_partners.specs.Views.{Begun, View, Wire}
 
 -- ---- deeds that take and begin nothing
 
+-- of the node that did them
 pub past_still : (x v y : View) (c : Crossed) → IsPast x y c → ((b epoch : ℕ) → (v.wires b).begun epoch ≡ (x.wires b).begun epoch) → ((b epoch : ℕ) → (v.wires b).got epoch ≡ (x.wires b).got epoch) → IsPast v y c
 past_still x v y c h begun got b epoch g k is there back = h b epoch g k (sym (begun b epoch) ∙ is) there back ∙ sym (got b g.peer_epoch)
 
+-- and of its peer
 pub past_back : (y x v : View) (d : Crossed) → IsPast y x d → ((b epoch : ℕ) → (v.wires b).begun epoch ≡ (x.wires b).begun epoch) → IsPast y v d
 past_back y x v d h begun b epoch g k is there back = h b epoch g k is (sym (begun b g.peer_epoch) ∙ there) back
 
@@ -33,6 +35,7 @@ taken_else x b e s t q epoch =
     on_put x.wires b (with_taken w e s t) (λ q (z : Wire). (q ≡ b → epoch ≡ s.peer_epoch → ⊥) → z.got epoch ≡ (x.wires q).got epoch)
     (λ other. put_other w.got s.peer_epoch (w.got s.peer_epoch ++ packets_in (due_with s t)) epoch (other refl)) (λ q other. refl) q
 
+-- the present contact has more, and so has the peer's session that is with the present one
 pub takes_past : (x y : View) (b : ℕ) (e : LinkEnd) (s : SessionEnd) (t : Taken) (c d : Crossed) → ArePaired x y → IsCrossed x c d → IsPast x y c → IsUp (x.wires b) e s → IsPast (taken_view x b e s t) y (taken_in x c s t)
 takes_past x y b e s t c d h k past up q epoch g i is' there back =
     let w = x.wires b in
@@ -67,6 +70,7 @@ takes_past x y b e s t c d h k past up q epoch g i is' there back =
 
 -- ---- a contact begins
 
+-- the node took nothing of the peer's session yet, and nothing in the new contact
 pub rises_past_here : (x y : View) (b : ℕ) (e' : LinkEnd) (s : SessionEnd) (c d : Crossed) → IsCrossed x c d → Goes x b e' s → IsPast x y c → IsPast (risen_view x b e') y c
 rises_past_here x y b e' s c d k m past q epoch g i is there back =
     let same = got_same x b e' q g.peer_epoch in
