@@ -26,3 +26,4 @@ pub mod Tellings
 pub mod Later
 pub mod Calls
 pub mod EndCalls
+pub mod Steps
