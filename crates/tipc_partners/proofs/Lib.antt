@@ -27,3 +27,4 @@ pub mod Later
 pub mod Calls
 pub mod EndCalls
 pub mod Steps
+pub mod Seeing

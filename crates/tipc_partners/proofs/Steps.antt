@@ -8,7 +8,7 @@ use Rattle.tipc_link.specs.Links.{LinkEnd, with_session}
 use Rattle.tipc_link.specs.Sessions.{SessionEnd}
 use Rattle.tipc_link.proofs.LinkLaw.{Each, Each-append}
 use Rattle.tipc_partners.proofs.Contacts.{by_contact, put_else, put_here}
-use Rattle.tipc_partners.proofs.Later.{IsNow, later_still, told_front, told_now}
+use Rattle.tipc_partners.proofs.Later.{IsLater, later_still, told_front, told_now}
 use Rattle.tipc_partners.proofs.PartnersLaw.{acts_all, acts_then}
 use Rattle.tipc_partners.proofs.Tellings.{told_longer}
 use Rattle.tipc_partners.proofs.Wires.{none_some, same_some}
@@ -51,7 +51,7 @@ said_still : (x y after : Partner) (b : ℕ) (o : Outgoing) → ArePartners x y 
 said_still x y after b o h acts same t =
     let now = told_now x y after h acts t.place t.frame t.there t.recent in
     let contact = later_still x.view.node.contact x.view.node.seen t.frame.contact t.frame.peer_contact now.since
-    (subst (λ (n : Node). Rattle.tipc_partners.proofs.Later.IsLater t.frame.contact t.frame.peer_contact n.contact n.seen) same now.till) in
+    (subst (λ (n : Node). IsLater t.frame.contact t.frame.peer_contact n.contact n.seen) same now.till) in
     record { told = t; contact = inr (contact.0 ∙ ap (λ (n : Node). n.contact) (sym same), contact.1 ∙ ap (λ (n : Node). n.seen) (sym same)) }
 
 said_became : (x y after : Partner) (b : ℕ) (e : LinkEnd) (frames : List Outgoing) (partial : Joining) → ArePartners x y → (h : Became x y after b e frames partial) → Each (IsSaid x.view after.view b) frames
