@@ -41,17 +41,17 @@ one : (x y x' : Partner) → Acts x y x' → ActsAll x y x'
 one x y x' act = follows x x' nothing act
 
 -- the end on the bearer is another now, and there is none on another bearer
-end_on : (x : View) (b : ℕ) (e : LinkEnd) (w' : Wire) (e' : LinkEnd) → HasEnd x b e → w'.end ≡ Some e' → HasEnd (with_wire x b w') b e'
+pub end_on : (x : View) (b : ℕ) (e : LinkEnd) (w' : Wire) (e' : LinkEnd) → HasEnd x b e → w'.end ≡ Some e' → HasEnd (with_wire x b w') b e'
 end_on x b e w' e' h is = record {
   end_is = ap (λ (w : Wire). w.end) (put_same x.wires b w') ∙ is;
   alone = λ c other. ap (λ (w : Wire). w.end) (put_other x.wires b w' c other) ∙ h.alone c other;
 }
 
-line_put : (x : View) (b : ℕ) (w' : Wire) → ((n : ℕ) → w'.line n ≡ (x.wires b).line n) → (c n : ℕ) → ((with_wire x b w').wires c).line n ≡ (x.wires c).line n
+pub line_put : (x : View) (b : ℕ) (w' : Wire) → ((n : ℕ) → w'.line n ≡ (x.wires b).line n) → (c n : ℕ) → ((with_wire x b w').wires c).line n ≡ (x.wires c).line n
 line_put x b w' same c n = on_put x.wires b w' (λ c (w : Wire). w.line n ≡ (x.wires c).line n) (same n) (λ c. refl) c
 
 -- it became e', and then told frames
-tell_after : (x y mid : Partner) (b : ℕ) (e' : LinkEnd) (frames : List Outgoing) (partial : Joining) → Became x y mid b e' [] partial → Each (MayTell (mid.view.wires b)) frames → (mid.view.node ≡ x.view.node) ⊎ Each IsNotice frames
+pub tell_after : (x y mid : Partner) (b : ℕ) (e' : LinkEnd) (frames : List Outgoing) (partial : Joining) → Became x y mid b e' [] partial → Each (MayTell (mid.view.wires b)) frames → (mid.view.node ≡ x.view.node) ⊎ Each IsNotice frames
     → (after : Partner) × Became x y after b e' frames partial
 tell_after x y mid b e' frames partial h may steady = (
   told_all mid y b frames,
@@ -117,7 +117,7 @@ called x y b e call h may quiet =
       refl,
     )
 
-on_bearer_each : (P : Outgoing → Type 0) (e : LinkEnd) (o : Outgoing) → P o → Each P (on_bearer e o)
+pub on_bearer_each : (P : Outgoing → Type 0) (e : LinkEnd) (o : Outgoing) → P o → Each P (on_bearer e o)
 on_bearer_each P e o is = elim e.mended as (λ t. Each P (if t then o ∷ [] else [])) [ true ↦ Each-one P o is | false ↦ Each-none P ]
 
 -- a RESET is of no session

@@ -28,3 +28,5 @@ pub mod Calls
 pub mod EndCalls
 pub mod Steps
 pub mod Seeing
+pub mod EndSteps
+pub mod Sights

@@ -63,7 +63,7 @@ of_take (suc n) [] k x there = absurd (let wrong : ⊥ = cc in wrong)
 of_take (suc n) (y ∷ xs) zero x there = there
 of_take (suc n) (y ∷ xs) (suc k) x there = of_take n xs k x there
 
-told_still : (x y after : Partner) (f : Frame) → ActsAll x y after → WasTold x.view f → WasTold after.view f
+pub told_still : (x y after : Partner) (f : Frame) → ActsAll x y after → WasTold x.view f → WasTold after.view f
 told_still x y after f acts h = record {
   place = h.place;
   frame = h.frame;

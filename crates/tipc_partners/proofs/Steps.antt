@@ -41,7 +41,7 @@ same_node : (n m : Node) → m ≡ n → IsSameNode n m
 same_node n m same = record { own = ap (λ (k : Node). k.own) same; peer = ap (λ (k : Node). k.peer) same; boot = ap (λ (k : Node). k.boot) same }
 
 -- nothing came to the messages
-more_none : (f g : ℕ → ℕ → List (List ℕ)) (own theirs : ℕ) → g ≡ f → (k l : ℕ) → g k l ≡ put_in f own theirs (f own theirs ++ []) k l
+pub more_none : (f g : ℕ → ℕ → List (List ℕ)) (own theirs : ℕ) → g ≡ f → (k l : ℕ) → g k l ≡ put_in f own theirs (f own theirs ++ []) k l
 more_none f g own theirs same = by_contact own theirs (λ k l. g k l ≡ put_in f own theirs (f own theirs ++ []) k l)
     (ap (λ (h : ℕ → ℕ → List (List ℕ)). h own theirs) same ∙ sym (append-nil (f own theirs)) ∙ sym (put_here f own theirs (f own theirs ++ [])))
     (λ k l other. ap (λ (h : ℕ → ℕ → List (List ℕ)). h k l) same ∙ sym (put_else f own theirs (f own theirs ++ []) k l other))
