@@ -30,3 +30,4 @@ pub mod Steps
 pub mod Seeing
 pub mod EndSteps
 pub mod Sights
+pub mod Notices
