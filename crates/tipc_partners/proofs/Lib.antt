@@ -31,3 +31,4 @@ pub mod Seeing
 pub mod EndSteps
 pub mod Sights
 pub mod Notices
+pub mod Arrivals
