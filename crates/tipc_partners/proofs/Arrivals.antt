@@ -1,5 +1,5 @@
 -- A frame arrives, and is answered: what it makes of a pair, as deeds; and what it gives.
-use Rattle.std.proofs.Common.{◌≡◌, ◌≢◌, ◌⊎◌, ◌≤◌, ◌+◌, ◌==◌, ◌&&◌, ℕ, Bool, true, false, List, [], ◌∷◌, ◌++◌, Option, Some, None, if◌then◌else◌, length, option_map, refl, sym, ap, ◌∙◌, subst, inl, inr, append-nil, eqb-true, arith}
+use Rattle.std.proofs.Common.{◌≡◌, ◌≢◌, ◌⊎◌, ◌<◌, ◌^◌, ◌≤◌, ◌+◌, ◌==◌, ◌&&◌, ℕ, Bool, true, false, List, [], ◌∷◌, ◌++◌, Option, Some, None, if◌then◌else◌, length, option_map, refl, sym, ap, ◌∙◌, subst, inl, inr, append-nil, eqb-true, arith}
 use Rattle.std.specs.Prelude.{All, not, slice_get}
 use Rattle.std.proofs.lemmas.Bool.{and_parts, cases_Bool, true≢false}
 use Rattle.tipc_types.specs.declared.link_words.BroadcastState.{BroadcastState}
@@ -9,6 +9,7 @@ use Rattle.tipc_outside.specs.declared.outgoing.Outgoing.{Outgoing}
 use Rattle.tipc_header.specs.declared.packet.Header.{Header}
 use Rattle.tipc_header.specs.declared.packet.Header.TheVariants as header
 use Rattle.tipc_header.specs.Frames.{frame_of}
+use Rattle.tipc_header.specs.Grammar.{HeaderFits}
 use Rattle.tipc_header.specs.Spelling.{Fields, spelling}
 use Rattle.tipc_fragments.specs.Joining.{Joining, fresh}
 use Rattle.tipc_recv_window.specs.declared.outcomes.LinkOutcome.{LinkOutcome}
@@ -40,7 +41,7 @@ use Rattle.tipc_partners.proofs.EndSteps.{StepsTo}
 use Rattle.tipc_partners.proofs.Notices.{MetQuietly, Reaches, activates_quietly, passed_quietly, reached_contact, reached_shown, reached_told, resets_quietly, unheard_met}
 use Rattle.tipc_partners.proofs.PartnersLaw.{acts_all, whole_given}
 use Rattle.tipc_partners.proofs.Steps.{IsSaid, Stepped, became_stepped, did_stepped, more_none, node_of_end, onward_lines, said_became, still_stepped, stepped_then, then_stepped}
-use Rattle.tipc_partners.proofs.Wires.{session_of_up}
+use Rattle.tipc_partners.proofs.Wires.{same_some, session_of_up}
 use Rattle.tipc_partners.specs.Calls.{Brings, Did}
 use Rattle.tipc_partners.specs.Deeds.{Hears, IsUp}
 use Rattle.tipc_partners.specs.EndCalls.{Became, HasEnd, partial_after}
@@ -256,3 +257,73 @@ traffic_met x y b e es er p by shown out last h has r showable traffic k is (is_
     subst (λ (z : Outcome). MetTo x y b e (link_met e z p by shown) out last) (sym row)
     (quietly_met x y b e (link_met e (gives e.fsm (Ignore why.Epoch)) p by shown) out last (other_met x y b e p by shown has)
     (subst (λ (z : Outcome). OpensTo (begun_after (link_met e z p by shown).change x.partial) (link_met e z p by shown).outcome out last) row o))
+
+-- ---- a frame of any kind
+
+header_met : (header_is : Header) (x y : Partner) (b : ℕ) (e : LinkEnd) (es er : ℕ) (p : Fields) (by : ℕ) (shown : BroadcastState) (out : PairOutcome) (last : Joining) → p.header ≡ header_is → ArePartners x y → HasEnd x.view b e → Reaches x.view y.view b es er p → IsShowable shown
+    → OpensTo (begun_after (arrival_of header_is e es er p by shown).change x.partial) (arrival_of header_is e es er p by shown).outcome out last → MetTo x y b e (arrival_of header_is e es er p by shown) out last
+header_met (header.Reset said) x y b e es er p by shown out last is h has r showable o =
+    let shows = subst (λ k. ShowsContact k r.frame.contact r.frame.peer_contact) is (reached_contact x.view y.view b es er p h.paired r) in
+    let fits : said.contact < 2 ^ 64 = (subst (λ k. HeaderFits k) is r.fits.header).contact in
+    quietly_met x y b e (arrival_of (header.Reset said) e es er p by shown) out last
+    (resets_quietly x y b e said.contact es shown h has fits (reached_told x.view y.view b es er said.contact p r (sym shows.0)) showable) o
+header_met (header.Activate said) x y b e es er p by shown out last is h has r showable o =
+    let shows = subst (λ k. ShowsContact k r.frame.contact r.frame.peer_contact) is (reached_contact x.view y.view b es er p h.paired r) in
+    let fits : said.contact < 2 ^ 64 = (subst (λ k. HeaderFits k) is r.fits.header).contact in
+    quietly_met x y b e (arrival_of (header.Activate said) e es er p by shown) out last
+    (activates_quietly x y b e said.contact es er p by shown h has (ap is_traffic is) (λ f. ap (λ k. outcome_of f k es er false) is) fits (reached_told x.view y.view b es er said.contact p r (sym shows.0)) (reached_shown x.view y.view b es er p r) showable) o
+header_met (header.Discovery said) x y b e es er p by shown out last is h has r showable o =
+    let row : outcome_of e.fsm p.header es er false ≡ gives e.fsm (Ignore why.Epoch) = ap (λ k. outcome_of e.fsm k es er false) is in
+    subst (λ (z : Outcome). MetTo x y b e (link_met e z p by shown) out last) (sym row)
+    (quietly_met x y b e (link_met e (gives e.fsm (Ignore why.Epoch)) p by shown) out last (other_met x y b e p by shown has)
+    (subst (λ (z : Outcome). OpensTo (begun_after (link_met e z p by shown).change x.partial) (link_met e z p by shown).outcome out last) row o))
+header_met other x y b e es er p by shown out last is h has r showable o =
+    let row : outcome_of e.fsm p.header es er false ≡ on_traffic e.fsm es er = ap (λ k. outcome_of e.fsm k es er false) is in
+    traffic_met x y b e es er p by shown out last h has r showable (ap is_traffic is) (outcome_of e.fsm p.header es er false) (sym row) (subst (Row e.fsm es er) (sym row) (row_of e.fsm es er)) o
+
+pub arrival_met : (x y : Partner) (b : ℕ) (e : LinkEnd) (es er : ℕ) (p : Fields) (by : ℕ) (shown : BroadcastState) (out : PairOutcome) (last : Joining) → ArePartners x y → HasEnd x.view b e → Reaches x.view y.view b es er p → IsShowable shown
+    → OpensTo (begun_after (arrival e es er p by shown).change x.partial) (arrival e es er p by shown).outcome out last
+    → StepsTo x y b (arrival e es er p by shown).after (arrival e es er p by shown).frames [] (given_in (opened_in out)) last × All IsWholePacket (opened_in out) × ((opened_in out ≡ []) ⊎ IsInContact e (arrival e es er p by shown))
+unfolding arrival
+arrival_met x y b e es er p by shown out last h has r showable o = header_met p.header x y b e es er p by shown out last refl h has r showable o
+
+-- ---- the STATE that is due
+
+answered_met : (mid y : Partner) (b : ℕ) (d : LinkEnd) (shown : BroadcastState) → ArePartners mid y → HasEnd mid.view b d → IsShowable shown → (after : Partner) × Stepped mid y after b (answered_end d) (answered_frames d shown) [] [] mid.partial × (after.view.node ≡ mid.view.node)
+    × ((s : SessionEnd) → d.session ≡ Some s → (t : SessionEnd) × ((answered_end d).session ≡ Some t) × (t.epoch ≡ s.epoch))
+answered_met mid y b d shown h has showable = elim (cases_Bool (is_up d.fsm.state)) [
+  | inl up ↦
+      let going = (h.paired.here.ends b d has.end_is).going up in
+      let s = going.0 in
+      let did = answer_did mid y b d s shown (record { end_is = has.end_is; up = up; session_is = going.1 }) showable in
+      let end_is : answered_end d ≡ with_session d (answered s) = ap (λ t. if t then record d { session = option_map answered d.session } else d) up ∙ ap (λ o. record d { session = option_map answered o }) going.1 in
+      let frames_are : answered_frames d shown ≡ answer_frames s shown = ap (λ t. if t then session_answer d.session shown else []) up ∙ ap (λ o. session_answer o shown) going.1 in
+      let stepped = did_stepped mid y did.0 b d d (answered s) (answer_frames s shown) [] [] mid.partial h has did.1 (more_none mid.put did.0.put mid.view.node.contact mid.view.node.seen did.2)
+      (more_none mid.given did.0.given mid.view.node.contact mid.view.node.seen did.3) did.4 in (
+        did.0,
+        subst (λ k. Stepped mid y did.0 b k (answered_frames d shown) [] [] mid.partial) (sym end_is) (subst (λ fs. Stepped mid y did.0 b (with_session d (answered s)) fs [] [] mid.partial) (sym frames_are) stepped),
+        did.1.node,
+        λ t is. (answered s, ap (λ (k : LinkEnd). k.session) end_is, (let same : s ≡ t = same_some s t d.session going.1 is in ap (λ (u : SessionEnd). u.epoch) same)),
+      )
+  | inr down ↦
+      let end_is : answered_end d ≡ d = ap (λ t. if t then record d { session = option_map answered d.session } else d) down in
+      let frames_are : answered_frames d shown ≡ [] = ap (λ t. if t then session_answer d.session shown else []) down in (
+        mid,
+        subst (λ k. Stepped mid y mid b k (answered_frames d shown) [] [] mid.partial) (sym end_is) (subst (λ fs. Stepped mid y mid b d fs [] [] mid.partial) (sym frames_are) (still_stepped mid y b d has)),
+        refl,
+        λ t is. (t, ap (λ (k : LinkEnd). k.session) end_is ∙ is, refl),
+      )
+]
+
+-- a frame arrives, and the STATE that is due is sent
+pub arrival_stepped : (x y : Partner) (b : ℕ) (e : LinkEnd) (es er : ℕ) (p : Fields) (by : ℕ) (shown shown' : BroadcastState) (out : PairOutcome) (last : Joining) → ArePartners x y → HasEnd x.view b e → Reaches x.view y.view b es er p → IsShowable shown → IsShowable shown'
+    → OpensTo (begun_after (arrival e es er p by shown).change x.partial) (arrival e es er p by shown).outcome out last
+    → StepsTo x y b (answered_end (arrival e es er p by shown).after) ((arrival e es er p by shown).frames ++ answered_frames (arrival e es er p by shown).after shown') [] (given_in (opened_in out)) last
+arrival_stepped x y b e es er p by shown shown' out last h has r showable showable' o =
+    let m = arrival e es er p by shown in
+    let met = arrival_met x y b e es er p by shown out last h has r showable o in
+    let mid = met.0.0 in
+    let first = met.0.1 in
+    let second = answered_met mid y b m.after shown' (acts_all x y mid h first.acts) first.end showable' in
+    (second.0, then_stepped x y mid second.0 b m.after (answered_end m.after) m.frames (answered_frames m.after shown') [] (given_in (opened_in out)) last last first
+    (subst (λ q. Stepped mid y second.0 b (answered_end m.after) (answered_frames m.after shown') [] [] q) first.partial_is second.1) second.2 (onward_lines x.view mid.view b m.after (answered_end m.after) first.line second.3))

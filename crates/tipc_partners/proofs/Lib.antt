@@ -29,6 +29,6 @@ pub mod EndCalls
 pub mod Steps
 pub mod Seeing
 pub mod EndSteps
-pub mod Sights
 pub mod Notices
 pub mod Arrivals
+pub mod Sights
