@@ -1,7 +1,7 @@
 -- A frame arrives, and is answered: what it makes of a pair, as deeds; and what it gives.
-use Rattle.std.proofs.Common.{◌≡◌, ◌≢◌, ◌⊎◌, ◌<◌, ◌^◌, ◌≤◌, ◌+◌, ◌==◌, ◌&&◌, ℕ, Bool, true, false, List, [], ◌∷◌, ◌++◌, Option, Some, None, if◌then◌else◌, length, option_map, refl, sym, ap, ◌∙◌, subst, inl, inr, append-nil, eqb-true, arith}
-use Rattle.std.specs.Prelude.{All, not, slice_get}
-use Rattle.std.proofs.lemmas.Bool.{and_parts, cases_Bool, true≢false}
+use Rattle.std.proofs.Common.{◌≡◌, ◌⊎◌, ◌<◌, ◌^◌, ◌&&◌, ℕ, true, false, List, [], ◌∷◌, ◌++◌, Option, Some, None, if◌then◌else◌, length, option_map, refl, sym, ap, ◌∙◌, subst, inl, inr, eqb-true, arith}
+use Rattle.std.specs.Prelude.{All, not}
+use Rattle.std.proofs.lemmas.Bool.{and_parts, cases_Bool}
 use Rattle.tipc_types.specs.declared.link_words.BroadcastState.{BroadcastState}
 use Rattle.tipc_types.specs.declared.link_words.Why.TheVariants as why
 use Rattle.tipc_types.specs.declared.packet_lists.Taken.{Taken}
@@ -18,36 +18,30 @@ use Rattle.tipc_recv_window.specs.declared.outcomes.Place.TheVariants.{Deferred,
 use Rattle.tipc_reassembly.specs.declared.opening.Opened.{Opened}
 use Rattle.tipc_reassembly.specs.Opening.{BringsAll, go_on, none as brings_none}
 use Rattle.tipc_reassembly.specs.Slots.{IsWholePacket, packets_in as given_in}
-use Rattle.tipc_link.specs.Laws.{IsPrefixOf}
 use Rattle.tipc_link.specs.Links.{LinkEnd, after, answered_end, answered_frames, arrival_end, frames, heard_by, heard_end, heard_frames, heard_outcome, is_heard, is_traffic, known, link_frames, link_outcome, outcome_of, session_answer, session_of, with_fsm, with_session}
 use Rattle.tipc_link.specs.Sessions.{Carries, Content, Nothing, SessionEnd, Shows, answer_frames, answered, arrival_frames, arrived, brought, content_of, due_with, outcome as session_outcome, place_of, placed, state_frame}
 use Rattle.tipc_link.proofs.Directions.{slice_get-append}
-use Rattle.tipc_link.proofs.LinkLaw.{Each}
-use Rattle.tipc_link_fsm.specs.declared.changes.Change.{Change}
 use Rattle.tipc_link_fsm.specs.declared.changes.Change.TheVariants.{Ignore, Stay, Up}
-use Rattle.tipc_link_fsm.specs.Runs.{TrafficArrives, outcome}
-use Rattle.tipc_link_fsm.specs.Table.{Fsm, Outcome, gives, heard, is_last, is_peer, is_reset_reset, is_session, is_up, on_activate, on_traffic}
-use Rattle.tipc_link_fsm.proofs.Moves.{cases_on, not_true}
+use Rattle.tipc_link_fsm.specs.Runs.{TrafficArrives}
+use Rattle.tipc_link_fsm.specs.Table.{Fsm, Outcome, gives, heard, is_last, is_peer, is_reset_reset, is_session, is_up, on_traffic}
+use Rattle.tipc_link_fsm.proofs.Moves.{cases_on}
 use Rattle.tipc_pair.proofs.Receivings.{due_none}
-use Rattle.tipc_pair.specs.declared.changes.PairChange.{PairChange}
-use Rattle.tipc_pair.specs.declared.changes.PairChange.TheVariants as pair
 use Rattle.tipc_pair.specs.declared.changes.PairOutcome.{PairOutcome}
 use Rattle.tipc_pair.specs.Paired.{IsShowable, ShowsContact}
-use Rattle.tipc_pair.specs.Pairs.{Met, arrival, arrival_of, change_of, link_met, packets_of, settled, settled_frames}
+use Rattle.tipc_pair.specs.Pairs.{Met, arrival, arrival_of, link_met, packets_of, settled, settled_frames}
 use Rattle.tipc_pair.specs.Partners.{IsInContact, OpensTo, begun_after, deferred, ignored, opened_in, took}
-use Rattle.tipc_partners.proofs.Calls.{answer_did, arrived_epoch, heard_did}
+use Rattle.tipc_partners.proofs.Calls.{answer_did, heard_did}
 use Rattle.tipc_partners.proofs.EndCalls.{settled_did}
 use Rattle.tipc_partners.proofs.EndSteps.{StepsTo}
-use Rattle.tipc_partners.proofs.Notices.{MetQuietly, Reaches, activates_quietly, passed_quietly, reached_contact, reached_shown, reached_told, resets_quietly, unheard_met}
+use Rattle.tipc_partners.proofs.Notices.{MetQuietly, Reaches, activates_quietly, reached_contact, reached_shown, reached_told, resets_quietly, unheard_met}
 use Rattle.tipc_partners.proofs.PartnersLaw.{acts_all, whole_given}
-use Rattle.tipc_partners.proofs.Steps.{IsSaid, Stepped, became_stepped, did_stepped, more_none, node_of_end, onward_lines, said_became, still_stepped, stepped_then, then_stepped}
+use Rattle.tipc_partners.proofs.Steps.{Stepped, did_stepped, more_none, node_of_end, onward_lines, said_became, still_stepped, stepped_then, then_stepped}
 use Rattle.tipc_partners.proofs.Wires.{same_some, session_of_up}
-use Rattle.tipc_partners.specs.Calls.{Brings, Did}
+use Rattle.tipc_partners.specs.Calls.{Brings}
 use Rattle.tipc_partners.specs.Deeds.{Hears, IsUp}
 use Rattle.tipc_partners.specs.EndCalls.{Became, HasEnd, partial_after}
-use Rattle.tipc_partners.specs.Paired.{ArePaired}
-use Rattle.tipc_partners.specs.Partners.{ActsAll, ArePartners, Partner}
-use Rattle.tipc_partners.specs.Views.{Frame, Node, View, Wire, session_on}
+use Rattle.tipc_partners.specs.Partners.{ArePartners, Partner}
+use Rattle.tipc_partners.specs.Views.{View, session_on}
 
 -- ---- what came
 
@@ -183,10 +177,10 @@ session_met x y mid b e d s p by first partial last out h has became contact see
     let same = node_of_end x y mid b e d h h' has became.end became.whose contact seen in
     let all = stepped_then x y mid did.0 b d (with_session d (arrived s by p.acknowledgement c)) first (arrival_frames s by p.acknowledgement c) [] (given_in (opened_in out)) partial last became (said_became x y mid b d first partial h became) second same did.1.node in
     ((did.0, all), whole_of c refl brings h' is_up_now) where
-  whole_of : (c : Content) → content_of p ≡ c → Brings mid.partial s by c (opened_in out) last → ArePartners mid y → IsUp (mid.view.wires b) d s → All IsWholePacket (opened_in out)
-  whole_of Nothing is brings h' on = none_whole (opened_in out) brings.0
-  whole_of (Shows next gap probe) is brings h' on = none_whole (opened_in out) brings.0
-  whole_of (Carries number packet) is brings h' on = whole_given mid y b d s p number by packet (opened_in out) last h' on hears is brings
+      whole_of : (c : Content) → content_of p ≡ c → Brings mid.partial s by c (opened_in out) last → ArePartners mid y → IsUp (mid.view.wires b) d s → All IsWholePacket (opened_in out)
+      whole_of Nothing is brings h' on = none_whole (opened_in out) brings.0
+      whole_of (Shows next gap probe) is brings h' on = none_whole (opened_in out) brings.0
+      whole_of (Carries number packet) is brings h' on = whole_given mid y b d s p number by packet (opened_in out) last h' on hears is brings
 
 -- the end was up, and hears it
 kept_met : (x y : Partner) (b : ℕ) (e : LinkEnd) (es er : ℕ) (p : Fields) (by : ℕ) (shown : BroadcastState) (out : PairOutcome) (last : Joining) → ArePartners x y → HasEnd x.view b e → Reaches x.view y.view b es er p → IsShowable shown
@@ -324,6 +318,8 @@ arrival_stepped x y b e es er p by shown shown' out last h has r showable showab
     let met = arrival_met x y b e es er p by shown out last h has r showable o in
     let mid = met.0.0 in
     let first = met.0.1 in
-    let second = answered_met mid y b m.after shown' (acts_all x y mid h first.acts) first.end showable' in
-    (second.0, then_stepped x y mid second.0 b m.after (answered_end m.after) m.frames (answered_frames m.after shown') [] (given_in (opened_in out)) last last first
-    (subst (λ q. Stepped mid y second.0 b (answered_end m.after) (answered_frames m.after shown') [] [] q) first.partial_is second.1) second.2 (onward_lines x.view mid.view b m.after (answered_end m.after) first.line second.3))
+    let second = answered_met mid y b m.after shown' (acts_all x y mid h first.acts) first.end showable' in (
+      second.0,
+      then_stepped x y mid second.0 b m.after (answered_end m.after) m.frames (answered_frames m.after shown') [] (given_in (opened_in out)) last last first
+          (subst (λ q. Stepped mid y second.0 b (answered_end m.after) (answered_frames m.after shown') [] [] q) first.partial_is second.1) second.2 (onward_lines x.view mid.view b m.after (answered_end m.after) first.line second.3),
+    )

@@ -1,6 +1,5 @@
 -- The calls of a pair but an arrival, as deeds: a link end is made, its bearer is mended or cut, a tick passes, a message is put.
-use Rattle.std.proofs.Common.{◌≡◌, ◌≢◌, ℕ, Bool, true, false, List, [], ◌∷◌, ◌++◌, Option, Some, None, if◌then◌else◌, length, refl, sym, ap, ◌∙◌, subst, inl, inr}
-use Rattle.std.specs.Prelude.{slice_get}
+use Rattle.std.proofs.Common.{◌≡◌, ℕ, Bool, true, false, List, [], ◌∷◌, Some, None, if◌then◌else◌, refl, ap, ◌∙◌, subst, inl}
 use Rattle.tipc_types.specs.declared.link_words.BroadcastState.{BroadcastState}
 use Rattle.tipc_types.specs.declared.link_words.Cause.TheVariants as cause
 use Rattle.tipc_outside.specs.declared.outgoing.Outgoing.{Outgoing}
@@ -10,7 +9,7 @@ use Rattle.tipc_link.specs.Sessions.{IsPut, SessionEnd, flush_frames, flushed}
 use Rattle.tipc_link.proofs.LinkLaw.{Each, Each-none}
 use Rattle.tipc_link_fsm.specs.declared.changes.Change.{Change}
 use Rattle.tipc_link_fsm.specs.declared.changes.Change.TheVariants.{Down, Stay, Up}
-use Rattle.tipc_link_fsm.specs.Runs.{BearerIsCut, TickPasses, outcome}
+use Rattle.tipc_link_fsm.specs.Runs.{BearerIsCut, TickPasses}
 use Rattle.tipc_link_fsm.specs.Table.{Fsm, Outcome, gives, is_up, lowered, on_cut, on_tick}
 use Rattle.tipc_pair.specs.Paired.{IsShowable}
 use Rattle.tipc_pair.specs.Pairs.{change_of, cut_pair, parted, settled, settled_frames, tick_frames, tick_pair, told_of}
@@ -18,12 +17,12 @@ use Rattle.tipc_pair.specs.Partners.{IsMessage, begun_after, pieces_for}
 use Rattle.tipc_partners.proofs.Calls.{put_did}
 use Rattle.tipc_partners.proofs.EndCalls.{end_on, line_put, on_bearer_each, settled_did, tell_after}
 use Rattle.tipc_partners.proofs.PartnersLaw.{acts_all, acts_then}
-use Rattle.tipc_partners.proofs.Steps.{Stepped, became_stepped, did_stepped, fewer_stepped, more_none, node_of_end, then_stepped}
+use Rattle.tipc_partners.proofs.Steps.{Stepped, became_stepped, did_stepped, more_none, node_of_end, then_stepped}
 use Rattle.tipc_partners.proofs.Wires.{put_other, put_same}
-use Rattle.tipc_partners.specs.Deeds.{IsUp, MayTell, made_on, makes, resets, turns}
-use Rattle.tipc_partners.specs.EndCalls.{Became, HasEnd, IsNotice, partial_after}
+use Rattle.tipc_partners.specs.Deeds.{MayTell, made_on, makes, resets, turns}
+use Rattle.tipc_partners.specs.EndCalls.{Became, HasEnd, partial_after}
 use Rattle.tipc_partners.specs.Partners.{Acts, ActsAll, ArePartners, Partner, follows, nothing, viewed, works}
-use Rattle.tipc_partners.specs.Views.{Node, View, Wire, with_end, with_wire}
+use Rattle.tipc_partners.specs.Views.{Wire, with_end, with_wire}
 
 -- a link end and what became of it, and the frames that left
 abbrev pub StepsTo : Partner → Partner → ℕ → LinkEnd → List Outgoing → List (List ℕ) → List (List ℕ) → Joining → Type 0
@@ -134,23 +133,27 @@ cuts_stepped x y b e shown h has showable =
     let did = settled_did turned.0 y b d (BearerIsCut false) shown h' turned.1.end tt showable in
     let first = became_stepped x y turned.0 b d [] x.partial h turned.1 in
     let second = became_stepped turned.0 y did.0 b (settled d o) (settled_frames d o shown) (partial_after o.change turned.0.partial) h' did.1 in
-    let partial : partial_after o.change turned.0.partial ≡ begun_after (change_of e o 0) x.partial = ap (partial_after o.change) turned.1.partial_is ∙ partial_same e o 0 x.partial in
-    (did.0, record {
-      acts = acts_then x y turned.0 did.0 turned.1.acts did.1.acts;
-      end = subst (HasEnd did.0.view b) (cut_settled e) did.1.end;
-      whose = record { own = did.1.whose.own ∙ turned.1.whose.own; peer = did.1.whose.peer ∙ turned.1.whose.peer; boot = did.1.whose.boot ∙ turned.1.whose.boot };
-      said = Each-none _;
-      line = λ c epoch apart. did.1.line c epoch ∙ turned.1.line c epoch;
-      put_is = more_none x.put did.0.put x.view.node.contact x.view.node.seen (did.1.put ∙ turned.1.put);
-      given_is = more_none x.given did.0.given x.view.node.contact x.view.node.seen (did.1.given ∙ turned.1.given);
-      partial_is = did.1.partial_is ∙ partial;
-    })
+    let partial : partial_after o.change turned.0.partial ≡ begun_after (change_of e o 0) x.partial = ap (partial_after o.change) turned.1.partial_is ∙ partial_same e o 0 x.partial in (
+      did.0,
+      record {
+        acts = acts_then x y turned.0 did.0 turned.1.acts did.1.acts;
+        end = subst (HasEnd did.0.view b) (cut_settled e) did.1.end;
+        whose = record { own = did.1.whose.own ∙ turned.1.whose.own; peer = did.1.whose.peer ∙ turned.1.whose.peer; boot = did.1.whose.boot ∙ turned.1.whose.boot };
+        said = Each-none _;
+        line = λ c epoch apart. did.1.line c epoch ∙ turned.1.line c epoch;
+        put_is = more_none x.put did.0.put x.view.node.contact x.view.node.seen (did.1.put ∙ turned.1.put);
+        given_is = more_none x.given did.0.given x.view.node.contact x.view.node.seen (did.1.given ∙ turned.1.given);
+        partial_is = did.1.partial_is ∙ partial;
+      },
+    )
 
 -- ---- a message is put
 
 pub puts_stepped : (x y : Partner) (b : ℕ) (e : LinkEnd) (s s' : SessionEnd) (m : List ℕ) → ArePartners x y → HasEnd x.view b e → is_up e.fsm.state ≡ true → e.session ≡ Some s → IsPut s (pieces_for m) s' → IsMessage x.view.node.own m
     → StepsTo x y b (with_session e (flushed s')) (flush_frames s') (m ∷ []) [] x.partial
 puts_stepped x y b e s s' m h has up session put message =
-    let did = put_did x y b e s s' m h (record { end_is = has.end_is; up = up; session_is = session }) put message in
-    (did.0, did_stepped x y did.0 b e e (flushed s') (flush_frames s') (m ∷ []) [] x.partial h has did.1 (λ own theirs. ap (λ (f : ℕ → ℕ → List (List ℕ)). f own theirs) did.2)
-    (more_none x.given did.0.given x.view.node.contact x.view.node.seen did.3) did.4)
+    let did = put_did x y b e s s' m h (record { end_is = has.end_is; up = up; session_is = session }) put message in (
+      did.0,
+      did_stepped x y did.0 b e e (flushed s') (flush_frames s') (m ∷ []) [] x.partial h has did.1 (λ own theirs. ap (λ (f : ℕ → ℕ → List (List ℕ)). f own theirs) did.2)
+          (more_none x.given did.0.given x.view.node.contact x.view.node.seen did.3) did.4,
+    )

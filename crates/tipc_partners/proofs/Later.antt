@@ -1,8 +1,7 @@
 -- What deeds one after the other leave behind: how much was numbered, contact numbers that never fall, and the frames that were told.
-use Rattle.std.proofs.Common.{◌≡◌, ◌⊎◌, ◌+◌, ◌<◌, ◌≤◌, ℕ, zero, suc, List, [], ◌∷◌, ◌++◌, Option, Some, None, length, option_map, refl, sym, ap, ◌∙◌, subst, inl, inr, append-nil, length-append, arith}
+use Rattle.std.proofs.Common.{◌≡◌, ◌⊎◌, ◌+◌, ◌<◌, ◌≤◌, ℕ, zero, suc, List, [], ◌∷◌, ◌++◌, Option, Some, None, length, option_map, refl, sym, ap, ◌∙◌, subst, inl, inr, arith}
 use Rattle.std.specs.Prelude.{slice_get, true}
 use Rattle.std.proofs.lemmas.Option.{slice_get_within}
-use Rattle.tipc_types.specs.declared.link_words.Cause.{Cause}
 use Rattle.tipc_types.specs.declared.link_words.Reply.TheVariants as reply
 use Rattle.tipc_outside.specs.declared.outgoing.Outgoing.{Outgoing}
 use Rattle.tipc_send_window.specs.Sending.{Sending}
@@ -19,10 +18,10 @@ use Rattle.tipc_partners.proofs.QuietDeeds.{restarts_leaves}
 use Rattle.tipc_partners.proofs.RiseDeeds.{went}
 use Rattle.tipc_partners.proofs.Tellings.{act_told}
 use Rattle.tipc_partners.proofs.Wires.{on_put, prefix_long, put_same, same_some, session_of_up}
-use Rattle.tipc_partners.specs.Deeds.{Changes, IsUp, MayTell, Works, calls, ended_with, falls, forgot_with, framed, makes, notes, numbers, parted, parts, releases, restarted, restarts, rises, risen, shows, tells, turns, with_begun}
+use Rattle.tipc_partners.specs.Deeds.{Changes, IsUp, Works, calls, ended_with, falls, forgot_with, framed, makes, notes, numbers, parted, parts, releases, restarts, rises, shows, tells, turns, with_begun}
 use Rattle.tipc_partners.specs.Paired.{ArePaired}
-use Rattle.tipc_partners.specs.Partners.{Acts, ActsAll, ArePartners, Partner, changes, follows, nothing, puts, takes, viewed, works}
-use Rattle.tipc_partners.specs.Views.{Frame, View, Wire, er_of, es_of, put_at, with_end, with_wire}
+use Rattle.tipc_partners.specs.Partners.{Acts, ActsAll, ArePartners, Partner, changes, follows, nothing, puts, takes, works}
+use Rattle.tipc_partners.specs.Views.{Frame, View, Wire, er_of, es_of, with_end, with_wire}
 
 -- ---- how much was numbered
 

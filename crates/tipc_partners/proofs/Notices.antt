@@ -1,43 +1,39 @@
 -- A RESET or an ACTIVATE arrives: what it makes of a pair, as deeds.
-use Rattle.std.proofs.Common.{◌≡◌, ◌≢◌, ◌<◌, ◌≤◌, ◌+◌, ◌^◌, ◌==◌, ◌&&◌, ◌||◌, ℕ, Bool, true, false, List, [], ◌∷◌, ◌++◌, Option, Some, None, if◌then◌else◌, length, option_map, refl, sym, ap, ◌∙◌, subst, inl, inr, append-nil, eqb-true, arith}
+use Rattle.std.proofs.Common.{◌≡◌, ◌<◌, ◌≤◌, ◌+◌, ◌^◌, ◌==◌, ◌&&◌, ◌||◌, ℕ, true, false, List, [], ◌++◌, Some, if◌then◌else◌, length, option_map, refl, sym, ap, ◌∙◌, subst, inl, inr, eqb-true, arith}
 use Rattle.std.specs.Prelude.{nat_lt, not, slice_get}
 use Rattle.std.proofs.lemmas.Bool.{cases_eq, eqb-false, ltb-false, true≢false}
-use Rattle.std.proofs.lemmas.Bool.Decides.{nat_tests}
 use Rattle.tipc_types.specs.declared.link_words.BroadcastState.{BroadcastState}
 use Rattle.tipc_types.specs.declared.link_words.Cause.TheVariants as cause
-use Rattle.tipc_types.specs.declared.link_words.Reply.TheVariants as reply
 use Rattle.tipc_types.specs.declared.link_words.Why.{Why}
 use Rattle.tipc_types.specs.declared.link_words.Why.TheVariants as why
 use Rattle.tipc_outside.specs.declared.outgoing.Outgoing.{Outgoing}
-use Rattle.tipc_header.specs.declared.packet.Header.{Header}
-use Rattle.tipc_header.specs.declared.packet.Header.TheVariants as header
 use Rattle.tipc_header.specs.Frames.{frame_of}
 use Rattle.tipc_header.specs.Grammar.{Fits}
 use Rattle.tipc_header.specs.Spelling.{Fields, spelling}
 use Rattle.tipc_fragments.specs.Joining.{Joining, fresh}
 use Rattle.tipc_contact.specs.Sides.{IsTold}
 use Rattle.tipc_recv_window.specs.declared.outcomes.LinkOutcome.{LinkOutcome}
-use Rattle.tipc_link.specs.Links.{LinkEnd, after, change_outcome, frames, is_down, is_heard, is_taken, is_traffic, link_frames, link_moving, link_outcome, arrival_end, outcome_of, reset_frames, with_fsm}
-use Rattle.tipc_link.specs.Sessions.{SessionEnd, content_of}
-use Rattle.tipc_link.proofs.LinkLaw.{Each, Each-none}
+use Rattle.tipc_link.specs.Links.{LinkEnd, after, change_outcome, frames, is_down, is_heard, is_taken, is_traffic, link_frames, link_outcome, arrival_end, outcome_of, reset_frames, with_fsm}
+use Rattle.tipc_link.specs.Sessions.{SessionEnd}
+use Rattle.tipc_link.proofs.LinkLaw.{Each-none}
 use Rattle.tipc_link_fsm.specs.declared.changes.Change.{Change}
 use Rattle.tipc_link_fsm.specs.declared.changes.Change.TheVariants.{Answer, Down, Ignore, Stay, Up}
-use Rattle.tipc_link_fsm.specs.Runs.{ActivateArrives, ResetArrives, outcome}
-use Rattle.tipc_link_fsm.specs.Table.{Fsm, Outcome, apart, contact_ended, forget_peer, forgotten, gives, heard, is_held, is_in_reset, is_last, is_peer, is_session, is_up, lowered, on_activate, on_reset, told}
+use Rattle.tipc_link_fsm.specs.Runs.{ActivateArrives, ResetArrives}
+use Rattle.tipc_link_fsm.specs.Table.{Fsm, Outcome, forget_peer, forgotten, is_held, is_in_reset, is_last, is_peer, is_session, is_up, on_activate, on_reset, told}
 use Rattle.tipc_link_fsm.proofs.Moves.{cases_on}
-use Rattle.tipc_pair.proofs.Ends.{after-is, ended-is, forgotten-is}
+use Rattle.tipc_pair.proofs.Ends.{ended-is, forgotten-is}
 use Rattle.tipc_pair.proofs.Frames.{er_of-frame, es_of-frame}
 use Rattle.tipc_pair.proofs.PeeringArrivals.{reset_leaves, settled_is_down}
 use Rattle.tipc_pair.proofs.PeeringFalls.{risen_is_down}
-use Rattle.tipc_pair.proofs.PeeringParts.{contact_after, fsm_after, seen_after}
+use Rattle.tipc_pair.proofs.PeeringParts.{contact_after, seen_after}
 use Rattle.tipc_pair.proofs.SessionsHeard.{same_packet}
 use Rattle.tipc_pair.specs.declared.changes.PairChange.{PairChange}
 use Rattle.tipc_pair.specs.declared.changes.PairChange.TheVariants as pair
 use Rattle.tipc_pair.specs.Paired.{IsShowable, ShowsContact}
-use Rattle.tipc_pair.specs.Pairs.{Met, arrival, behind, by_number, change_of, link_met, packets_of, parted, passed_over, reset_down, reset_met, reset_up, risen, risen_activate, risen_change, risen_frames, risen_reset, settled, settled_frames, told_of}
+use Rattle.tipc_pair.specs.Pairs.{Met, behind, by_number, change_of, link_met, packets_of, parted, passed_over, reset_down, reset_met, reset_up, risen, risen_activate, risen_change, risen_frames, risen_reset, settled, settled_frames}
 use Rattle.tipc_pair.specs.Partners.{begun_after}
-use Rattle.tipc_partners.proofs.ContactDeeds.{ended_down, mapped_end}
-use Rattle.tipc_partners.proofs.EndCalls.{line_put, on_bearer_each, reset_notice, settled_did, tell_after}
+use Rattle.tipc_partners.proofs.ContactDeeds.{ended_down}
+use Rattle.tipc_partners.proofs.EndCalls.{on_bearer_each, reset_notice, settled_did, tell_after}
 use Rattle.tipc_partners.proofs.EndSteps.{StepsTo, partial_same}
 use Rattle.tipc_partners.proofs.PartnersLaw.{acts_all}
 use Rattle.tipc_partners.proofs.Steps.{Stepped, became_stepped, node_of_end, onward_lines, still_stepped, then_stepped}
@@ -46,7 +42,7 @@ use Rattle.tipc_partners.specs.Deeds.{MayTell, ended_with, forgot_with, parted a
 use Rattle.tipc_partners.specs.EndCalls.{Became, HasEnd, IsNotice, partial_after}
 use Rattle.tipc_partners.specs.Paired.{ArePaired, IsShown}
 use Rattle.tipc_partners.specs.Partners.{Acts, ActsAll, ArePartners, Partner, changes, follows, nothing, renewed, viewed, works}
-use Rattle.tipc_partners.specs.Views.{Frame, IsApart, Node, View, Wire, er_of, es_of, notice_of, said_by}
+use Rattle.tipc_partners.specs.Views.{Frame, IsApart, View, er_of, es_of, notice_of, said_by}
 
 -- ---- the frame
 
@@ -140,9 +136,11 @@ reset_stepped x y b e es shown h has told showable on =
     let o = on_reset e.fsm es false in
     let did = settled_did x y b e (ResetArrives es false) shown h has told showable in
     let same = settled_on e o shown on in
-    let stepped = became_stepped x y did.0 b (settled e o) (settled_frames e o shown) (partial_after o.change x.partial) h did.1 in
-    (did.0, subst (λ p. Stepped x y did.0 b (after e o) (frames e o shown) [] [] p) (reset_partial e.fsm es x.partial on)
-    (subst (λ d. Stepped x y did.0 b d (frames e o shown) [] [] (partial_after o.change x.partial)) same.0 (subst (λ fs. Stepped x y did.0 b (settled e o) fs [] [] (partial_after o.change x.partial)) same.1 stepped)))
+    let stepped = became_stepped x y did.0 b (settled e o) (settled_frames e o shown) (partial_after o.change x.partial) h did.1 in (
+      did.0,
+      subst (λ p. Stepped x y did.0 b (after e o) (frames e o shown) [] [] p) (reset_partial e.fsm es x.partial on)
+          (subst (λ d. Stepped x y did.0 b d (frames e o shown) [] [] (partial_after o.change x.partial)) same.0 (subst (λ fs. Stepped x y did.0 b (settled e o) fs [] [] (partial_after o.change x.partial)) same.1 stepped)),
+    )
 
 -- the session of before, or the last one
 kept_epoch : (d e : LinkEnd) → e.session ≡ d.session → (s : SessionEnd) → d.session ≡ Some s → (t : SessionEnd) × (e.session ≡ Some t) × (t.epoch ≡ s.epoch)
@@ -271,8 +269,8 @@ pub risen_stepped : (x y : Partner) (b : ℕ) (e : LinkEnd) (number : ℕ) → A
     → StillTo x y b (risen e number) (risen_frames e number) (begun_after (risen_change e number) x.partial)
 risen_stepped x y b e number h has higher fits =
     elim (is_up e.fsm.state) as (λ t. is_up e.fsm.state ≡ t
-        → StillTo x y b (record (if t then parted e else with_fsm e (forget_peer e.fsm).after) { peer_contact = number }) (if t then reset_frames (risen e number) else [])
-        (begun_after (if t then pair.Ended cause.ContactEnded 0 (e.contact, e.peer_contact) number else pair.Stay) x.partial)) [
+    → StillTo x y b (record (if t then parted e else with_fsm e (forget_peer e.fsm).after) { peer_contact = number }) (if t then reset_frames (risen e number) else [])
+    (begun_after (if t then pair.Ended cause.ContactEnded 0 (e.contact, e.peer_contact) number else pair.Stay) x.partial)) [
       | true ↦ λ up. (
           let is : risen e number ≡ record (parted e) { peer_contact = number } = ap (λ t. record (if t then parted e else with_fsm e (forget_peer e.fsm).after) { peer_contact = number }) up in
           subst (λ d. StillTo x y b (record (parted e) { peer_contact = number }) (reset_frames d) fresh) (sym is) (ended_stepped x y b e number h has up higher fits))
@@ -338,9 +336,11 @@ activate_stepped x y b e es er shown h has told named showable =
     let o = on_activate e.fsm es er in
     let did = settled_did x y b e (ActivateArrives es er) shown h has (told, named) showable in
     let same = settled_on e o shown (activate_on e.fsm es er) in
-    let stepped = became_stepped x y did.0 b (settled e o) (settled_frames e o shown) (partial_after o.change x.partial) h did.1 in
-    (did.0, subst (λ p. Stepped x y did.0 b (after e o) (frames e o shown) [] [] p) (partial_same e o 0 x.partial)
-    (subst (λ d. Stepped x y did.0 b d (frames e o shown) [] [] (partial_after o.change x.partial)) same.0 (subst (λ fs. Stepped x y did.0 b (settled e o) fs [] [] (partial_after o.change x.partial)) same.1 stepped)))
+    let stepped = became_stepped x y did.0 b (settled e o) (settled_frames e o shown) (partial_after o.change x.partial) h did.1 in (
+      did.0,
+      subst (λ p. Stepped x y did.0 b (after e o) (frames e o shown) [] [] p) (partial_same e o 0 x.partial)
+          (subst (λ d. Stepped x y did.0 b d (frames e o shown) [] [] (partial_after o.change x.partial)) same.0 (subst (λ fs. Stepped x y did.0 b (settled e o) fs [] [] (partial_after o.change x.partial)) same.1 stepped)),
+    )
 
 activate_quietly : (x y : Partner) (b : ℕ) (e : LinkEnd) (es er : ℕ) (p : Fields) (by : ℕ) (shown : BroadcastState) → ArePartners x y → HasEnd x.view b e → is_traffic p.header ≡ false → outcome_of e.fsm p.header es er false ≡ on_activate e.fsm es er
     → IsTold (said_by y.view) b es x.view.node.seen → IsShown y.view.told b es er → IsShowable shown → MetQuietly x y b e (link_met e (outcome_of e.fsm p.header es er false) p by shown)
@@ -348,9 +348,10 @@ activate_quietly x y b e es er p by shown h has notice is told named showable =
     let o = on_activate e.fsm es er in
     let met = unheard_met e o p by shown (ap (λ t. t && is_taken o.change) notice) in
     let steps = activate_stepped x y b e es er shown h has told named showable in
-    subst (λ (o' : Outcome). MetQuietly x y b e (link_met e o' p by shown)) (sym is)
-    (subst (λ d. StepsTo x y b d (link_frames e o p by shown) [] [] (begun_after (change_of e o 0) x.partial)) (sym met.0) (subst (λ fs. StepsTo x y b (after e o) fs [] [] (begun_after (change_of e o 0) x.partial)) (sym met.1) steps),
-    ap packets_of met.2 ∙ change_packets o.change)
+    subst (λ (o' : Outcome). MetQuietly x y b e (link_met e o' p by shown)) (sym is) (
+      subst (λ d. StepsTo x y b d (link_frames e o p by shown) [] [] (begun_after (change_of e o 0) x.partial)) (sym met.0) (subst (λ fs. StepsTo x y b (after e o) fs [] [] (begun_after (change_of e o 0) x.partial)) (sym met.1) steps),
+      ap packets_of met.2 ∙ change_packets o.change,
+    )
 
 -- an end that is down when an ACTIVATE shows a higher number
 lonely_activate_quietly : (x y : Partner) (b : ℕ) (e : LinkEnd) (number es er : ℕ) (p : Fields) (by : ℕ) (shown : BroadcastState) → ArePartners x y → is_traffic p.header ≡ false
@@ -370,12 +371,15 @@ lonely_activate_quietly x y b e number es er p by shown h notice is told named s
     let all = then_stepped x y first.0 second.0 b d (after d o) (risen_frames e number) (frames d o shown) [] [] (begun_after (risen_change e number) x.partial) (begun_after (change_of d o 0) first.0.partial) first.1 second.1 same
     (λ c epoch apart. first.2 c epoch) in
     let met = unheard_met d o p by shown (ap (λ t. t && is_taken o.change) notice) in
-    let steps : StepsTo x y b (after d o) (frames d o shown) [] [] (begun_after (change_of d o 0) x.partial) =
-    (second.0, subst (λ q. Stepped x y second.0 b (after d o) (frames d o shown) [] [] (begun_after (change_of d o 0) q)) partial
-    (subst (λ fs. Stepped x y second.0 b (after d o) (fs ++ frames d o shown) [] [] (begun_after (change_of d o 0) first.0.partial)) silent all)) in
-    subst (λ (o' : Outcome). MetQuietly x y b e (link_met d o' p by shown)) (sym is)
-    (subst (λ k. StepsTo x y b k (link_frames d o p by shown) [] [] (begun_after (change_of d o 0) x.partial)) (sym met.0) (subst (λ fs. StepsTo x y b (after d o) fs [] [] (begun_after (change_of d o 0) x.partial)) (sym met.1) steps),
-    ap packets_of met.2 ∙ change_packets o.change)
+    let steps : StepsTo x y b (after d o) (frames d o shown) [] [] (begun_after (change_of d o 0) x.partial) = (
+      second.0,
+      subst (λ q. Stepped x y second.0 b (after d o) (frames d o shown) [] [] (begun_after (change_of d o 0) q)) partial
+          (subst (λ fs. Stepped x y second.0 b (after d o) (fs ++ frames d o shown) [] [] (begun_after (change_of d o 0) first.0.partial)) silent all),
+    ) in
+    subst (λ (o' : Outcome). MetQuietly x y b e (link_met d o' p by shown)) (sym is) (
+      subst (λ k. StepsTo x y b k (link_frames d o p by shown) [] [] (begun_after (change_of d o 0) x.partial)) (sym met.0) (subst (λ fs. StepsTo x y b (after d o) fs [] [] (begun_after (change_of d o 0) x.partial)) (sym met.1) steps),
+      ap packets_of met.2 ∙ change_packets o.change,
+    )
 
 -- an ACTIVATE that shows a higher number
 higher_activate_quietly : (x y : Partner) (b : ℕ) (e : LinkEnd) (number es er : ℕ) (p : Fields) (by : ℕ) (shown : BroadcastState) → ArePartners x y → HasEnd x.view b e → is_traffic p.header ≡ false
@@ -385,7 +389,7 @@ higher_activate_quietly x y b e number es er p by shown h has notice is higher f
     let d = risen e number in
     let first = risen_stepped x y b e number h has higher fits in
     elim (is_up e.fsm.state) as (λ t. is_up e.fsm.state ≡ t
-        → MetQuietly x y b e (if t then record { after = d; frames = risen_frames e number; change = risen_change e number; outcome = LinkOutcome.Took []; moved = [] } else link_met d (outcome_of d.fsm p.header es er false) p by shown)) [
+    → MetQuietly x y b e (if t then record { after = d; frames = risen_frames e number; change = risen_change e number; outcome = LinkOutcome.Took []; moved = [] } else link_met d (outcome_of d.fsm p.header es er false) p by shown)) [
       | true ↦ λ up. ((first.0, first.1), refl)
       | false ↦ λ down. lonely_activate_quietly x y b e number es er p by shown h notice (is d.fsm) told named showable down first
     ] refl

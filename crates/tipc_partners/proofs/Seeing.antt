@@ -1,5 +1,5 @@
 -- What a world tells of a node after a call, from what the node did as a partner.
-use Rattle.std.proofs.Common.{◌≡◌, ◌≢◌, ◌⊎◌, ◌≤◌, ◌+◌, ℕ, zero, suc, true, List, [], ◌∷◌, ◌++◌, Option, Some, None, length, map, take, refl, sym, ap, ◌∙◌, subst, inl, inr, append-nil, arith}
+use Rattle.std.proofs.Common.{◌≡◌, ◌≢◌, ◌≤◌, ℕ, zero, suc, List, [], ◌∷◌, ◌++◌, Option, Some, None, length, map, take, refl, sym, ap, ◌∙◌, subst, inl, inr, append-nil, arith}
 use Rattle.std.specs.Prelude.{slice_get}
 use Rattle.std.proofs.lemmas.Bool.{cases_eq, true≢false}
 use Rattle.tipc_outside.specs.declared.outgoing.Outgoing.{Outgoing}
@@ -7,7 +7,7 @@ use Rattle.tipc_fragments.specs.Joining.{Joining}
 use Rattle.tipc_link.specs.Links.{LinkEnd}
 use Rattle.tipc_link.specs.Sessions.{SessionEnd}
 use Rattle.tipc_link.proofs.LinkLaw.{Each, Each-append}
-use Rattle.tipc_partners.proofs.Contacts.{IsElse, by_contact, in_else, in_same, put_else, put_here}
+use Rattle.tipc_partners.proofs.Contacts.{by_contact, in_else, in_same, put_else, put_here}
 use Rattle.tipc_partners.proofs.Later.{AreCounted, acts_counted, told_front, told_now}
 use Rattle.tipc_partners.proofs.PartnersLaw.{acts_all}
 use Rattle.tipc_partners.proofs.Steps.{IsSaid, Stepped}
@@ -15,7 +15,7 @@ use Rattle.tipc_partners.proofs.Wires.{mapped_at, none_some, same_some}
 use Rattle.tipc_partners.specs.EndCalls.{HasEnd}
 use Rattle.tipc_partners.specs.Partners.{ActsAll, ArePartners, Partner, put_in}
 use Rattle.tipc_partners.specs.Sights.{AreSeen, Goes, HasOnly, IsSeen, Sight, WasTold, come, sent_as}
-use Rattle.tipc_partners.specs.Views.{Frame, Node, View, er_of, es_of}
+use Rattle.tipc_partners.specs.Views.{Frame, Node, er_of, es_of}
 
 -- the only link end of a node is that of its view
 pub only_end : (x : Partner) (v : Sight) (b : ℕ) (e : LinkEnd) → IsSeen x v → HasOnly v b e → HasEnd x.view b e
@@ -43,6 +43,7 @@ numbered_seen : (x y after : Partner) (v v' w : Sight) (b : ℕ) (e : LinkEnd) (
 numbered_seen x y after v v' w b e frames put given partial p h st g c epoch = by_session e.session refl where
   other : ((s : SessionEnd) → e.session ≡ Some s → c ≡ b → s.epoch ≢ epoch) → v'.numbered c epoch ≡ length ((after.view.wires c).line epoch)
   other apart = g.numbered_else c epoch apart ∙ h.numbered c epoch ∙ ap (λ (xs : List (List ℕ)). length xs) (sym (st.line c epoch apart))
+
   by_session : (o : Option SessionEnd) → e.session ≡ o → v'.numbered c epoch ≡ length ((after.view.wires c).line epoch)
   by_session None none = other (λ s is here. absurd (none_some s e.session none is))
   by_session (Some s) is = elim (cases_eq c b) [

@@ -1,8 +1,8 @@
 -- Two nodes stay partners as a world tells of them, whatever either does.
-use Rattle.std.proofs.Common.{◌≡◌, ℕ, ◌+◌, ◌<◌, ◌^◌, Bool, true, false, List, [], ◌++◌, Some, None, if◌then◌else◌, length, refl, sym, ap, ◌∙◌, subst, arith}
+use Rattle.std.proofs.Common.{◌≡◌, ℕ, ◌+◌, false, List, [], ◌++◌, Some, if◌then◌else◌, refl, sym, ap, ◌∙◌, subst, arith}
 use Rattle.std.specs.Prelude.{slice_get}
 use Rattle.tipc_outside.specs.declared.outgoing.Outgoing.{Outgoing}
-use Rattle.tipc_fragments.specs.Joining.{Joining, fresh}
+use Rattle.tipc_fragments.specs.Joining.{Joining}
 use Rattle.tipc_header.specs.Spelling.{Fields}
 use Rattle.tipc_reassembly.specs.Slots.{packets_in}
 use Rattle.tipc_contact.specs.Sides.{first_number}
@@ -24,8 +24,8 @@ use Rattle.tipc_partners.proofs.Truth.{told_true}
 use Rattle.tipc_partners.proofs.Wires.{none_some}
 use Rattle.tipc_partners.specs.Deeds.{made_on, restarted as begun_again, restarts}
 use Rattle.tipc_partners.specs.Paired.{IsEnd, IsNew as IsNewView}
-use Rattle.tipc_partners.specs.Partners.{ActsAll, ArePartners, Partner, beginning, changes, follows, nothing, renewed}
-use Rattle.tipc_partners.specs.Sights.{ArrivesSeen, AreSeen, Comes, CutsSeen, GivesSeen, EndsSeen, FramesSeen, FrontsSeen, Goes, HasOnly, IsNew, IsSeen, KnowsSeen, MendsSeen, PutsSeen, Restarts, RestartsSeen, Sight, StartsSeen, TicksSeen, TruthsSeen, TurnedSeen}
+use Rattle.tipc_partners.specs.Partners.{ActsAll, beginning, changes, follows, nothing, renewed}
+use Rattle.tipc_partners.specs.Sights.{ArrivesSeen, AreSeen, Comes, CutsSeen, GivesSeen, EndsSeen, FramesSeen, FrontsSeen, Goes, IsNew, IsSeen, KnowsSeen, MendsSeen, PutsSeen, RestartsSeen, Sight, StartsSeen, TicksSeen, TruthsSeen, TurnedSeen}
 use Rattle.tipc_partners.specs.Truth.{IsTold}
 use Rattle.tipc_partners.specs.Views.{Frame, Node, View, unused}
 
@@ -220,7 +220,7 @@ truths v w k f es er p h there fits bytes traffic =
     let same : is.packet ≡ p = same_packet is.es is.er es er is.packet p is.fits fits (sym is.bytes ∙ t.bytes ∙ bytes) in
     let contact = t.contact es er p fits (t.bytes ∙ bytes) traffic in
     let told = subst (λ q. IsTold (h.here.put t.frame.contact t.frame.peer_contact) (h.there.put t.frame.peer_contact t.frame.contact) (h.here.given t.frame.contact t.frame.peer_contact) q) same
-        (is.told (ap (λ (q : Fields). is_traffic q.header) same ∙ traffic)) in
+    (is.told (ap (λ (q : Fields). is_traffic q.header) same ∙ traffic)) in
     subst (λ n. IsTold (v.put n f.peer_contact) (w.put f.peer_contact n) (v.given n f.peer_contact) p) contact.0
     (subst (λ n. IsTold (v.put t.frame.contact n) (w.put n t.frame.contact) (v.given t.frame.contact n) p) contact.1
     (subst (λ ms. IsTold ms (w.put t.frame.peer_contact t.frame.contact) (v.given t.frame.contact t.frame.peer_contact) p) (s.put t.frame.contact t.frame.peer_contact)

@@ -1,7 +1,5 @@
 -- A call of a pair as deeds one after the other: what it told, put and was given, and what became of its one link end.
-use Rattle.std.proofs.Common.{◌≡◌, ◌≢◌, ◌⊎◌, ◌≤◌, ℕ, List, [], ◌∷◌, ◌++◌, Option, Some, None, length, refl, sym, ap, ◌∙◌, subst, inl, inr, append-nil, arith}
-use Rattle.std.specs.Prelude.{slice_get}
-use Rattle.std.proofs.lemmas.Bool.{cases_eq}
+use Rattle.std.proofs.Common.{◌≡◌, ◌≢◌, ◌⊎◌, ℕ, List, [], ◌++◌, Some, length, refl, sym, ap, ◌∙◌, subst, inl, inr, append-nil, arith}
 use Rattle.tipc_outside.specs.declared.outgoing.Outgoing.{Outgoing}
 use Rattle.tipc_fragments.specs.Joining.{Joining}
 use Rattle.tipc_link.specs.Links.{LinkEnd, with_session}
@@ -9,14 +7,12 @@ use Rattle.tipc_link.specs.Sessions.{SessionEnd}
 use Rattle.tipc_link.proofs.LinkLaw.{Each, Each-append}
 use Rattle.tipc_partners.proofs.Contacts.{by_contact, put_else, put_here}
 use Rattle.tipc_partners.proofs.Later.{IsLater, later_still, told_front, told_now}
-use Rattle.tipc_partners.proofs.PartnersLaw.{acts_all, acts_then}
+use Rattle.tipc_partners.proofs.PartnersLaw.{acts_then}
 use Rattle.tipc_partners.proofs.Tellings.{told_longer}
-use Rattle.tipc_partners.proofs.Wires.{none_some, same_some}
 use Rattle.tipc_partners.specs.Calls.{Did, IsToldOn, given_more, put_more}
 use Rattle.tipc_partners.specs.EndCalls.{Became, HasEnd, IsNotice, IsSameNode}
-use Rattle.tipc_partners.specs.Paired.{ArePaired}
 use Rattle.tipc_partners.specs.Partners.{ActsAll, ArePartners, Partner, nothing, put_in}
-use Rattle.tipc_partners.specs.Views.{Frame, Node, View}
+use Rattle.tipc_partners.specs.Views.{Node, View}
 
 -- a frame that deeds told: it is of no session, or was told under the contact numbers that the node has after them
 pub record IsSaid (x after : View) (bearer : ℕ) (o : Outgoing) : Type 0 where

@@ -20,6 +20,7 @@ ghost use Rattle.tipc_partners.specs.Deeds.{Does, Hears, IsUp};
 ghost use Rattle.tipc_partners.specs.EndCalls.{EndCallsAreDeeds};
 ghost use Rattle.tipc_partners.specs.Paired.{ArePaired, IsNew};
 ghost use Rattle.tipc_partners.specs.Partners.{Acts, ActsAll, ArePartners, Partner, beginning};
+ghost use Rattle.tipc_partners.specs.Sights.{ArrivesSeen, CutsSeen, EndsSeen, FramesSeen, FrontsSeen, GivesSeen, KnowsSeen, MendsSeen, PutsSeen, RestartsSeen, StartsSeen, TicksSeen, TruthsSeen, TurnedSeen};
 ghost use Rattle.tipc_partners.specs.Truth.{IsTrue};
 ghost use Rattle.tipc_partners.specs.Views.{Frame, View};
 
@@ -89,4 +90,29 @@ pub fn an_answered_arrival_is_deeds()
 /// shows the highest contact number.
 pub fn a_link_end_acts_by_deeds()
     ensures { EndCallsAreDeeds }
+{}
+
+/// Two nodes of a world stay partners, as the world tells of them: by what they keep, what their journals record, and the frames that came
+/// into the air. Each call of a pair leaves them so, whatever it sends is lost, and whatever of all that was ever sent arrives.
+pub fn two_nodes_of_a_world_stay_partners()
+    ensures starts { StartsSeen }
+    ensures turned { TurnedSeen }
+    ensures restarts { RestartsSeen }
+    ensures knows { KnowsSeen }
+    ensures mends { MendsSeen }
+    ensures cuts { CutsSeen }
+    ensures ticks { TicksSeen }
+    ensures puts { PutsSeen }
+    ensures arrives { ArrivesSeen }
+{}
+
+/// What holds of two partners of a world: what an arrival gives is whole, and a front of what the other put; so is what was given; each link
+/// end keeps the numbers of its node; each frame in the air is a packet of its node; and what a STATE or a numbered packet says of its contact
+/// is so.
+pub fn partners_of_a_world_speak_the_truth()
+    ensures gives { GivesSeen }
+    ensures front { FrontsSeen }
+    ensures ends { EndsSeen }
+    ensures frames { FramesSeen }
+    ensures truths { TruthsSeen }
 {}
