@@ -66,6 +66,16 @@ impl End {
         }
     }
 
+    /// An end that is as this one.
+    pub fn copy(&self) -> Result<End, NoMemory>
+        ensures { IfOk result (λ end. end ≡ self.now) }
+    {
+        Ok(End {
+            link: self.link.copy()?,
+            numbers: self.numbers,
+        })
+    }
+
     /// The contact: the node's own contact number, and the peer's. None exactly where the node isn't in contact with the peer.
     pub fn contact(&self) -> Option<(u64, u64)>
         ensures { result ≡ contact_of self.now }

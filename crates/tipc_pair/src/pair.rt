@@ -80,6 +80,16 @@ impl Pair {
         }
     }
 
+    /// A pair that is as this one.
+    pub fn copy(&self) -> Result<Pair, NoMemory>
+        ensures { IfOk result (λ pair. pair ≡ self.now) }
+    {
+        Ok(Pair {
+            end: self.end.copy()?,
+            reassembly: self.reassembly.copy()?,
+        })
+    }
+
     /// The contact: the node's own contact number, and the peer's. None exactly where the node isn't in contact with the peer.
     pub fn contact(&self) -> Option<(u64, u64)>
         ensures { result ≡ contact_of self.now.link }

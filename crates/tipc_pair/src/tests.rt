@@ -196,7 +196,10 @@ fn a_silent_peer_ends_the_contact(rt: HostRuntime) -> Result<(), Fail> {
         let said = nodes.left.tick(alloc, NO_BROADCAST, &mut nodes.sent);
         assert_eq!(rt; said, PairChange::Stay);
     }
+    let before = nodes.left.copy()?;
     let silent = nodes.left.tick(alloc, NO_BROADCAST, &mut nodes.sent);
     assert_eq!(rt; silent, ended(Cause::Silent, 0, 0));
+    assert_eq!(rt; nodes.left.contact(), None);
+    assert_eq!(rt; before.contact(), Some((FIRST, FIRST)));
     Ok(())
 }
