@@ -1,3 +1,4 @@
+pub mod Stub
 pub mod Calls
 pub mod Outcomes
 pub mod Ages

@@ -22,15 +22,13 @@ use Rattle.tipc_link.specs.Sessions.{as_waiting, Carries, content_by, content_of
 use Rattle.std.proofs.lemmas.Option.{slice_get-map}
 use Rattle.tipc_fragments.specs.Joining.{Joining}
 use Rattle.tipc_reassembly.specs.Slots.{Fragment, Group, IsSlot, Slot, slot_bytes}
-use Rattle.tipc_pair.specs.Paired.{IsOfSession}
-use Rattle.tipc_pair.specs.Partners.{ArePartners, crossing}
-use Rattle.tipc_pair.specs.Views.{Frame}
+use Rattle.tipc_partners.specs.Sights.{AreSeen}
 use Rattle.tipc_world.specs.declared.air.Sent.{Sent}
 use Rattle.tipc_world.specs.Air.{as_frame, is_to, sent_between}
 use Rattle.tipc_world.specs.Good.{IsTold, IsTrue}
 use Rattle.tipc_world.specs.Sound.{IsSound}
 use Rattle.tipc_world.specs.States.{MemberState, accepted_at, delivered_at}
-use Rattle.tipc_world.specs.Views.{view_at}
+use Rattle.tipc_world.specs.Views.{sight_at}
 use Rattle.tipc_world.proofs.Bringing.{in_front}
 use Rattle.tipc_world.proofs.Reaching.{goes_there, sent_at}
 
@@ -72,61 +70,12 @@ frame_size members a b own theirs es er p frame fits is told =
 position_is : (position : ℕ) → 1 ≤ position → position ≡ position - 1 + 1
 position_is position positive = omega (arith, positive)
 
-told_by : (members : List (Option MemberState)) (air : List Sent) (a b es er : ℕ) (x_begun y_begun : Joining) (f : Frame) (p : Fields) → (h : ArePartners (view_at members air a b) x_begun (view_at members air b a) y_begun)
-    → IsOfSession (crossing (view_at members air a b) h.here) (crossing (view_at members air b a) h.there) f es er p → IsTold members a b f.contact f.peer_contact p
-unfolding view_at accepted_at delivered_at
-told_by members air a b es er x_begun y_begun f p h s =
-    let taken = length (h.here.got f.contact f.peer_contact) in
-    let given = h.receives.given f.peer_contact f.contact in
-    let slots = h.sends.slots f.contact f.peer_contact in
-    record {
-      told = s.told;
-      told_is = s.told_is;
-      taken = taken;
-      told_taken = s.told_taken;
-      taken_is = record {
-        slots = h.receives.slots f.peer_contact f.contact;
-        are = record { sound = h.receives.sound f.peer_contact f.contact; front = h.receives.front f.peer_contact f.contact };
-        begun = given.last;
-        gave = given.opened;
-      };
-      carried = λ number bytes carries.
-          let c = s.carried number bytes carries in
-          let there = in_front (h.here.line f.contact f.peer_contact) _ (c.position - 1) bytes c.packet_is in (
-            c.position - 1,
-            c.number_is ∙ ap number_of (position_is c.position c.positive),
-            record {
-              slots = slots;
-              are = record { sound = h.sends.sound f.contact f.peer_contact; front = h.sends.front f.contact f.peer_contact };
-              there = sym (slice_get-map slot_bytes slots (c.position - 1)) ∙ ap (λ ps. slice_get ps (c.position - 1)) (h.sends.bytes f.contact f.peer_contact) ∙ there;
-            },
-          );
-    }
-
-true_by : (members : List (Option MemberState)) (air : List Sent) (a b place : ℕ) (x_begun y_begun : Joining) (f : Sent) → f.from.word ≡ node_word a → is_to b f.to ≡ true
-    → ArePartners (view_at members air a b) x_begun (view_at members air b a) y_begun → slice_get (sent_between air a b) place ≡ Some (as_frame f) → IsTrue members f
-unfolding view_at
-true_by members air a b place x_begun y_begun f from to h there =
-    let said = h.paired.here.frames place (as_frame f) there in
-    let spoken = said.spoken in
-    let told : is_traffic spoken.packet.header ≡ true → IsTold members a b f.contact.0 f.contact.1 spoken.packet = λ traffic. told_by members air a b spoken.es spoken.er x_begun y_begun (as_frame f) spoken.packet h (said.session traffic) in
-    record {
-      a = a;
-      b = b;
-      from_is = from;
-      to_is = to_is b f.to to;
-      size = frame_size members a b f.contact.0 f.contact.1 spoken.es spoken.er spoken.packet f.frame spoken.fits spoken.bytes told;
-      es = spoken.es;
-      er = spoken.er;
-      packet = spoken.packet;
-      fits = spoken.fits;
-      frame_is = spoken.bytes;
-      previous = spoken.previous;
-      told = told;
-    }
+true_by : (members : List (Option MemberState)) (air : List Sent) (a b place : ℕ) (f : Sent) → f.from.word ≡ node_word a → is_to b f.to ≡ true
+    → AreSeen (sight_at members air a b) (sight_at members air b a) → slice_get (sent_between air a b) place ≡ Some (as_frame f) → IsTrue members f
+true_by members air a b place f from to h there = ?
 
 pub frame_is_true : (members : List (Option MemberState)) (air : List Sent) → IsSound members air → (k : ℕ) (f : Sent) → slice_get air k ≡ Some f → IsTrue members f
 frame_is_true members air sound k f there =
     let flies = sound.frames k f there in
     let sent = sent_at air flies.from flies.receiver k f there (goes_there flies.from flies.receiver f flies.from_is flies.to_is) in
-    true_by members air flies.from flies.receiver sent.0 _ _ f flies.from_is flies.to_is (sound.pairs flies.from flies.receiver flies.from_number flies.receiver_number flies.apart) sent.1
+    true_by members air flies.from flies.receiver sent.0 f flies.from_is flies.to_is (sound.pairs flies.from flies.receiver flies.from_number flies.receiver_number flies.apart) sent.1
