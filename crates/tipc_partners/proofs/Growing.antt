@@ -5,7 +5,7 @@ use Rattle.tipc_link.specs.Laws.{IsPrefixOf}
 use Rattle.tipc_link.proofs.Directions.{IsCarried-stays, IsReceiver-stays, slice_get-append}
 use Rattle.tipc_send_window.specs.Sending.{Sending}
 use Rattle.tipc_partners.proofs.Wires.{prefix_extends, prefix_long, prefix_trans}
-use Rattle.tipc_partners.specs.Paired.{IsEpochs, IsFrame, IsHalf, IsShown, IsWire, Met}
+use Rattle.tipc_partners.specs.Paired.{IsEpochs, IsFrame, IsHalf, IsShown, IsWire, IsWith, Met}
 use Rattle.tipc_partners.specs.Views.{Begun, Frame, Node, View, Wire}
 
 -- what was numbered, taken and begun on a wire stays
@@ -52,6 +52,11 @@ wire_back own v w w' h grows within = record {
   });
 }
 
+-- the session of a node that went on is with the peer's still
+with_back : (w w' : Wire) (told er es : ℕ) → Grows w w' → (told ≡ 0) ⊎ IsWith w er es → (told ≡ 0) ⊎ IsWith w' er es
+with_back w w' told er es grows (inl none) = inl none
+with_back w w' told er es grows (inr m) = inr (m.0, grows.begun er m.0 m.1, m.2)
+
 -- a frame of a node that went on, and one of its peer
 pub frame_here : (own : ℕ) (w w' v : Wire) (f : Frame) → IsFrame own w v f → Grows w w' → IsFrame own w' v f
 frame_here own w w' v f h grows = record {
@@ -74,11 +79,14 @@ frame_here own w w' v f h grows = record {
         begun = s.begun;
         begun_is = grows.begun h.es s.begun s.begun_is;
         peer_is = s.peer_is;
+        contact_is = s.contact_is;
+        seen_is = s.seen_is;
         so_far = omega arith;
         told = s.told;
         told_is = s.told_is;
         told_taken = omega arith;
         told_recent = s.told_recent;
+        told_met = s.told_met;
         carried = λ number bytes is. IsCarried-stays _ _ _ number bytes (prefix_extends _ _ (grows.line h.es)) (s.carried number bytes is);
         recent = s.recent;
       };
@@ -103,11 +111,14 @@ frame_back own v w w' f h grows = record {
         begun = s.begun;
         begun_is = s.begun_is;
         peer_is = s.peer_is;
+        contact_is = s.contact_is;
+        seen_is = s.seen_is;
         so_far = s.so_far;
         told = s.told;
         told_is = s.told_is;
         told_taken = s.told_taken;
         told_recent = s.told_recent;
+        told_met = with_back w w' s.told h.er h.es grows s.told_met;
         carried = s.carried;
         recent = omega arith;
       };

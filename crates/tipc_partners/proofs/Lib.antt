@@ -9,6 +9,7 @@ pub mod SessionDeeds
 pub mod SessionPackets
 pub mod CallDeeds
 pub mod RiseDeeds
+pub mod Mutual
 pub mod TellDeeds
 pub mod ContactDeeds
 pub mod PairedLaw
@@ -18,7 +19,9 @@ pub mod QuietDeeds
 pub mod Numbers
 pub mod Rises
 pub mod Messages
+pub mod Past
 pub mod PartnersLaw
+pub mod Truth
 pub mod Tellings
 pub mod Calls
 pub mod EndCalls

@@ -11,25 +11,26 @@ use Rattle.tipc_link.specs.Links.{LinkEnd, after, session_of}
 use Rattle.tipc_header.specs.Spelling.{Fields}
 use Rattle.tipc_reassembly.specs.declared.opening.Opened.{Opened}
 use Rattle.tipc_reassembly.specs.Opening.{BringsAll}
-use Rattle.tipc_link.specs.Sessions.{Carries, IsPut, SessionEnd, brought, content_of, due_with, flushed, moving}
+use Rattle.tipc_link.specs.Sessions.{Carries, IsPut, SessionEnd, brought, content_of, due_with, flushed, moving, took}
 use Rattle.tipc_link_fsm.specs.Runs.{outcome}
 use Rattle.tipc_pair.proofs.PartnersPuts.{more_packets}
 use Rattle.tipc_pair.proofs.PartnersSends.{front_items}
 use Rattle.tipc_pair.specs.Partners.{IsMessage, pieces_for}
 use Rattle.tipc_partners.proofs.Contacts.{all_of_each}
-use Rattle.tipc_partners.proofs.Messages.{put_view, put_waits, puts_crossed, puts_sends, taken_in, takes_crossed, takes_receives, takes_sends}
-use Rattle.tipc_partners.proofs.Numbers.{crossed_more, numbered_in, numbered_view, numbers_crossed, numbers_sends}
+use Rattle.tipc_partners.proofs.Messages.{put_view, put_waits, puts_crossed, puts_sends, taken_in, taken_view, takes_crossed, takes_receives, takes_sends}
+use Rattle.tipc_partners.proofs.Numbers.{crossed_more, numbered_in, numbered_view, numbers_crossed, numbers_sends, with_numbered}
 use Rattle.tipc_partners.proofs.PairedLaw.{changes_paired, start as start_paired, turned as turn_paired, works_paired}
+use Rattle.tipc_partners.proofs.Past.{past_back, past_still, rises_past_here, rises_past_there, takes_past}
 use Rattle.tipc_partners.proofs.Quiet.{Leaves, Quietly, crossed_leaves, crossed_still, receives_leaves, receives_still, sends_leaves, sends_still}
 use Rattle.tipc_partners.proofs.QuietDeeds.{calls_quietly, falls_leaves, lasts_on, lasts_session, makes_quietly, notes_quietly, parts_leaves, releases_quietly, restarts_leaves, shows_quietly, tells_quietly, turns_quietly}
 use Rattle.tipc_partners.proofs.RiseDeeds.{went, went_goes}
 use Rattle.tipc_partners.proofs.Rises.{Goes, rises_crossed, rises_receives, rises_sends}
 use Rattle.tipc_partners.proofs.SessionDeeds.{puts_paired}
 use Rattle.tipc_partners.proofs.SessionPackets.{takes_paired}
-use Rattle.tipc_partners.proofs.Wires.{none_some, prefix_same, session_of_none, session_of_up}
-use Rattle.tipc_partners.specs.Deeds.{Changes, Hears, IsUp, Works, calls, falls, framed, makes, notes, numbers, parts, releases, restarts, rises, shows, tells, turns, with_begun, with_going}
+use Rattle.tipc_partners.proofs.Wires.{none_some, on_put, prefix_same, session_of_none, session_of_up}
+use Rattle.tipc_partners.specs.Deeds.{Changes, Hears, IsUp, Works, calls, falls, framed, makes, notes, numbers, parts, releases, restarts, rises, shows, tells, turns, with_begun, with_going, with_taken}
 use Rattle.tipc_partners.specs.Paired.{ArePaired, IsNew}
-use Rattle.tipc_partners.specs.Partners.{Acts, ActsAll, ArePartners, IsCrossed, IsFlow, Partner, beginning, changes, nothing, puts, renewed, takes, follows, viewed, works}
+use Rattle.tipc_partners.specs.Partners.{Acts, ActsAll, ArePartners, IsCrossed, IsFlow, IsPast, Partner, beginning, changes, nothing, puts, renewed, takes, follows, viewed, works}
 use Rattle.tipc_partners.specs.Views.{Begun, View, Wire, session_on, with_wire}
 
 -- ---- deeds that put, number, take and begin nothing
@@ -41,6 +42,8 @@ quiet_partners x y v h paired m = record {
   paired = paired;
   crossed_here = crossed_still x.view v h.here h.there h.crossed_here m.lasts m.line m.got;
   crossed_there = h.crossed_there;
+  past_here = past_still x.view v y.view h.here h.past_here m.lasts.begun m.got;
+  past_there = past_back y.view x.view v h.there h.past_there m.lasts.begun;
   sends = sends_still x.view v y.view h.here.stream x.put h.there.taken y.given y.partial h.sends m.lasts m.waits;
   receives = receives_still y.view x.view v h.there.stream y.put h.here.taken x.given x.partial h.receives m.lasts;
 }
@@ -52,9 +55,15 @@ leaves_partners x y v h paired m = record {
   paired = paired;
   crossed_here = crossed_leaves x.view v h.here h.there h.crossed_here m;
   crossed_there = h.crossed_there;
+  past_here = past_still x.view v y.view h.here h.past_here m.begun m.got;
+  past_there = past_back y.view x.view v h.there h.past_there m.begun;
   sends = sends_leaves x.view v y.view h.here.stream x.put h.there.taken y.given y.partial h.sends m;
   receives = receives_leaves y.view x.view v h.there.stream y.put h.here.taken x.given x.partial fresh h.receives m;
 }
+
+-- what was taken is the same where wire b took nothing
+got_still : (x : View) (b : ℕ) (w' : Wire) → ((epoch : ℕ) → w'.got epoch ≡ (x.wires b).got epoch) → (c epoch : ℕ) → ((with_wire x b w').wires c).got epoch ≡ (x.wires c).got epoch
+got_still x b w' same c epoch = on_put x.wires b w' (λ c (w : Wire). w.got epoch ≡ (x.wires c).got epoch) (same epoch) (λ c. refl) c
 
 same_peer : (s : SessionEnd) → (flushed s).peer_epoch ≡ s.peer_epoch
 unfolding flushed
@@ -64,15 +73,17 @@ numbers_partners : (x y : Partner) (b : ℕ) (e : LinkEnd) (s : SessionEnd) → 
 numbers_partners x y b e s h up paired =
     let v = numbered_view x.view b e s in
     let w = x.view.wires b in
+    let lasts = lasts_on x.view b _ (lasts_session w e s (flushed s) (with_numbered w e s).line w.got up (same_peer s)) in
     record {
       here = numbered_in x.view h.here s;
       there = h.there;
       paired = paired;
       crossed_here = numbers_crossed x.view y.view b e s h.here h.there h.paired h.crossed_here up;
       crossed_there = crossed_more y.view h.there h.here x.view.node.contact x.view.node.seen (moving s) h.crossed_there;
+      past_here = past_still x.view v y.view h.here h.past_here lasts.begun (got_still x.view b (with_numbered w e s) (λ epoch. refl));
+      past_there = past_back y.view x.view v h.there h.past_there lasts.begun;
       sends = numbers_sends x.view y.view y.view b e s h.here h.there x.put h.there.taken y.given y.partial h.paired h.crossed_here h.sends up;
-      receives = receives_still y.view x.view v h.there.stream y.put h.here.taken x.given x.partial h.receives
-          (lasts_on x.view b _ (lasts_session w e s (flushed s) _ w.got up (same_peer s)));
+      receives = receives_still y.view x.view v h.there.stream y.put h.here.taken x.given x.partial h.receives lasts;
     }
 
 works_partners : (x y : Partner) (v : View) → ArePartners x y → Works x.view y.view v → ArePartners (viewed x v) y
@@ -97,6 +108,8 @@ rises_partners x y b e' s h m paired = record {
   paired = paired;
   crossed_here = rises_crossed x.view b e' s h.here h.there h.crossed_here m;
   crossed_there = h.crossed_there;
+  past_here = rises_past_here x.view y.view b e' s h.here h.there h.crossed_here m h.past_here;
+  past_there = rises_past_there x.view y.view b e' s h.here h.there h.paired paired h.crossed_here h.crossed_there m h.past_there;
   sends = rises_sends x.view y.view b e' s h.here h.there x.put y.given y.partial h.crossed_here h.crossed_there m h.sends;
   receives = rises_receives y.view x.view b e' s h.here h.there y.put x.given x.partial h.crossed_here m h.receives;
 }
@@ -125,17 +138,22 @@ acts_partners x y _ h (changes v c) = changes_partners x y v h c
 acts_partners x y _ h (puts b e s s' m up put message) =
     let v = put_view x.view b e s' in
     let w = x.view.wires b in
+    let lasts = lasts_on x.view b (with_going w e s') (lasts_session w e s s' w.line w.got up (ap (λ (u : SessionEnd). u.peer_epoch) (put_waits s s' (pieces_for m) put))) in
     record {
       here = h.here;
       there = h.there;
       paired = puts_paired_as x y b e s s' m h up put message;
       crossed_here = puts_crossed x.view b e s s' (pieces_for m) h.here h.there h.crossed_here up put;
       crossed_there = h.crossed_there;
+      past_here = past_still x.view v y.view h.here h.past_here lasts.begun (got_still x.view b (with_going w e s') (λ epoch. refl));
+      past_there = past_back y.view x.view v h.there h.past_there lasts.begun;
       sends = puts_sends x.view y.view y.view b e s s' m h.here h.there x.put y.given y.partial h.paired h.crossed_here h.crossed_there h.sends up put message;
-      receives = receives_still y.view x.view v h.there.stream y.put h.here.taken x.given x.partial h.receives (lasts_on x.view b (with_going w e s') (lasts_session w e s s' w.line w.got up (ap (λ (u : SessionEnd). u.peer_epoch) (put_waits s s' (pieces_for m) put))));
+      receives = receives_still y.view x.view v h.there.stream y.put h.here.taken x.given x.partial h.receives lasts;
     }
 acts_partners x y _ h (takes b e s p number by packet opened last up a is brings) =
     let t = brought number packet by in
+    let w = x.view.wires b in
+    let lasts = lasts_on x.view b (with_taken w e s t) (lasts_session w e s (took s t) w.line (with_taken w e s t).got up refl) in
     let flow = takes_receives y.view x.view b e s p number by packet opened h.here h.there y.put x.given x.partial last h.paired h.crossed_here h.crossed_there h.receives up a is brings in
     record {
       here = taken_in x.view h.here s t;
@@ -143,6 +161,8 @@ acts_partners x y _ h (takes b e s p number by packet opened last up a is brings
       paired = takes_paired x.view y.view b e s p number by packet h.paired up a is;
       crossed_here = takes_crossed x.view y.view b e s p number by packet h.here h.there h.paired h.crossed_here h.crossed_there up a is;
       crossed_there = record { stream_is = h.crossed_there.stream_is; taken_is = h.crossed_there.taken_is; entered = h.crossed_there.entered; once = h.crossed_there.once; ahead = h.crossed_there.ahead; prefix = h.crossed_there.prefix };
+      past_here = takes_past x.view y.view b e s t h.here h.there h.paired h.crossed_here h.past_here up;
+      past_there = past_back y.view x.view (taken_view x.view b e s t) h.there h.past_there lasts.begun;
       sends = takes_sends x.view y.view b e s t h.here.stream x.put h.there.taken y.given y.partial h.sends up;
       receives = flow.0;
     }
@@ -163,6 +183,8 @@ turned x y h = record {
   paired = turn_paired x.view y.view h.paired;
   crossed_here = h.crossed_there;
   crossed_there = h.crossed_here;
+  past_here = h.past_there;
+  past_there = h.past_here;
   sends = h.receives;
   receives = h.sends;
 }
@@ -196,6 +218,10 @@ new_crossed x h =
       prefix = λ i j. prefix_same [];
     }
 
+-- no session began
+new_past : (x y : View) → IsNew x → IsPast x y (record { stream = λ i j. []; taken = λ i j. [] })
+new_past x y h b epoch g k is there back = absurd (none_some g _ (ap (λ (w : Wire). w.begun epoch) (h.wires b)) is)
+
 new_flow : (x y : View) → IsNew x → IsNew y → IsFlow x (λ i j. []) (λ i j. []) y (λ i j. []) (λ i j. []) fresh
 new_flow x y h k =
     let down : (b : ℕ) (s : SessionEnd) → session_on (x.wires b) ≡ Some s → ⊥ = λ b s on. none_some s _ (session_of_none (x.wires b) (ap (λ (w : Wire). w.end) (h.wires b))) on in
@@ -217,6 +243,8 @@ start x y h k = record {
   paired = start_paired x y h k;
   crossed_here = new_crossed x h;
   crossed_there = new_crossed y k;
+  past_here = new_past x y h;
+  past_there = new_past y x k;
   sends = new_flow x y h k;
   receives = new_flow y x k h;
 }

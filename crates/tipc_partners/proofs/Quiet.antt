@@ -84,6 +84,7 @@ pub record Leaves (x v : View) : Type 0 where
   pub contact : x.node.contact < v.node.contact
   pub begun : (b epoch : ℕ) → (v.wires b).begun epoch ≡ (x.wires b).begun epoch
   pub line : (b epoch : ℕ) → (v.wires b).line epoch ≡ (x.wires b).line epoch
+  pub got : (b epoch : ℕ) → (v.wires b).got epoch ≡ (x.wires b).got epoch
   pub none : (b : ℕ) (s : SessionEnd) → session_on (v.wires b) ≡ Some s → ⊥
 
 no_later : (x : View) (contact : ℕ) → (contact < x.node.contact) ⊎ ((contact ≡ x.node.contact) × IsPresent x x.node.contact x.node.seen) → contact ≤ x.node.contact

@@ -150,7 +150,7 @@ parted_none x b s on = down_none ((parted x).wires b) s (λ e' is. (
     ap (λ (d : LinkEnd). is_up d.fsm.state) (sym at.2) ∙ ended_down (x.node.contact + 1) at.0)) on
 
 pub parts_leaves : (x : View) → Leaves x (parted x)
-parts_leaves x = record { contact = omega arith; begun = λ b epoch. refl; line = λ b epoch. refl; none = parted_none x }
+parts_leaves x = record { contact = omega arith; begun = λ b epoch. refl; line = λ b epoch. refl; got = λ b epoch. refl; none = parted_none x }
 
 pub falls_leaves : (x : View) (b : ℕ) (e' : LinkEnd) → Leaves x (parted (with_wire x b (with_end (x.wires b) e')))
 falls_leaves x b e' =
@@ -159,6 +159,7 @@ falls_leaves x b e' =
       contact = omega arith;
       begun = λ c epoch. on_put x.wires b w' (λ c (w : Wire). w.begun epoch ≡ (x.wires c).begun epoch) refl (λ c. refl) c;
       line = λ c epoch. on_put x.wires b w' (λ c (w : Wire). w.line epoch ≡ (x.wires c).line epoch) refl (λ c. refl) c;
+      got = λ c epoch. on_put x.wires b w' (λ c (w : Wire). w.got epoch ≡ (x.wires c).got epoch) refl (λ c. refl) c;
       none = parted_none (with_wire x b w');
     }
 
@@ -167,5 +168,6 @@ restarts_leaves x y boot h more = record {
   contact = earlier x.node.contact x.node.boot boot h.here.node.contact more;
   begun = λ b epoch. refl;
   line = λ b epoch. refl;
+  got = λ b epoch. refl;
   none = λ b s on. none_some s _ (session_of_none ((restarted x boot).wires b) refl) on;
 }

@@ -314,4 +314,5 @@ went_goes x y b e e' es h m apart =
       none_numbered = (h.here.wires b).unborn e'.fsm.own none;
       none_waits = refl;
       none_taken = ap w.got (known_is e'.fsm.peer es m.peer_is) ∙ none_taken x y b e e' es h m ((h.here.wires b).met es);
+      peer_is = refl;
     }

@@ -5,7 +5,7 @@ use Rattle.std.specs.List.{flat_map}
 use Rattle.tipc_fragments.specs.Joining.{Joining, fresh}
 use Rattle.tipc_fragments.specs.Streams.{items_of}
 use Rattle.tipc_reassembly.specs.Slots.{HasOpened, Slot, slot_bytes, slot_items}
-use Rattle.tipc_link.specs.Links.{LinkEnd}
+use Rattle.tipc_link.specs.Links.{LinkEnd, known}
 use Rattle.tipc_link.specs.Sessions.{SessionEnd}
 use Rattle.std.specs.Prelude.{All}
 use Rattle.tipc_reassembly.specs.Slots.{IsSlot}
@@ -24,6 +24,7 @@ pub record Goes (x : View) (b : ℕ) (e' : LinkEnd) (s : SessionEnd) : Type 0 wh
   pub none_numbered : (x.wires b).line e'.fsm.own ≡ []
   pub none_waits : s.sending.waiting ≡ []
   pub none_taken : (x.wires b).got s.peer_epoch ≡ []
+  pub peer_is : s.peer_epoch ≡ known e'.fsm.peer
 
 abbrev pub risen_view : View → ℕ → LinkEnd → View
 risen_view x b e' = with_wire x b (with_begun x.node (x.wires b) e')
@@ -37,14 +38,14 @@ all_before x contact apart (inl before) = before
 all_before x contact apart (inr now) = absurd (apart_none x now.1.bearer now.1.session apart now.1.session_is)
 
 -- the contact is a new one
-new_ahead : (x : View) (c d : Crossed) → IsCrossed x c d → IsApart x → IsAhead x x.node.contact x.node.seen
+pub new_ahead : (x : View) (c d : Crossed) → IsCrossed x c d → IsApart x → IsAhead x x.node.contact x.node.seen
 new_ahead x c d h apart b epoch g is own theirs = let before = all_before x g.contact apart (h.entered b epoch g is) in let wrong : ⊥ = omega arith in wrong
 
 -- what is begun now was begun before, or is the new session
-record Began (x : View) (b : ℕ) (e' : LinkEnd) (k epoch : ℕ) (g : Begun) : Type 0 where
-  which : ((k ≡ b) × (epoch ≡ e'.fsm.own) × (g ≡ begun_by x.node e')) ⊎ ((x.wires k).begun epoch ≡ Some g)
+pub record Began (x : View) (b : ℕ) (e' : LinkEnd) (k epoch : ℕ) (g : Begun) : Type 0 where
+  pub which : ((k ≡ b) × (epoch ≡ e'.fsm.own) × (g ≡ begun_by x.node e')) ⊎ ((x.wires k).begun epoch ≡ Some g)
 
-began : (x : View) (b : ℕ) (e' : LinkEnd) (k epoch : ℕ) (g : Begun) → ((risen_view x b e').wires k).begun epoch ≡ Some g → Began x b e' k epoch g
+pub began : (x : View) (b : ℕ) (e' : LinkEnd) (k epoch : ℕ) (g : Begun) → ((risen_view x b e').wires k).begun epoch ≡ Some g → Began x b e' k epoch g
 began x b e' k epoch g =
     let w' = with_begun x.node (x.wires b) e' in
     on_put_else x.wires b w' (λ k (z : Wire). (k ≡ k) → z.begun epoch ≡ Some g → Began x b e' k epoch g)
@@ -75,7 +76,7 @@ session_new x b e' s k t m =
 line_same : (x : View) (b : ℕ) (e' : LinkEnd) (k epoch : ℕ) → ((risen_view x b e').wires k).line epoch ≡ (x.wires k).line epoch
 line_same x b e' k epoch = on_put x.wires b (with_begun x.node (x.wires b) e') (λ k (z : Wire). z.line epoch ≡ (x.wires k).line epoch) refl (λ k. refl) k
 
-got_same : (x : View) (b : ℕ) (e' : LinkEnd) (k epoch : ℕ) → ((risen_view x b e').wires k).got epoch ≡ (x.wires k).got epoch
+pub got_same : (x : View) (b : ℕ) (e' : LinkEnd) (k epoch : ℕ) → ((risen_view x b e').wires k).got epoch ≡ (x.wires k).got epoch
 got_same x b e' k epoch = on_put x.wires b (with_begun x.node (x.wires b) e') (λ k (z : Wire). z.got epoch ≡ (x.wires k).got epoch) refl (λ k. refl) k
 
 pub rises_crossed : (x : View) (b : ℕ) (e' : LinkEnd) (s : SessionEnd) (c d : Crossed) → IsCrossed x c d → Goes x b e' s → IsCrossed (risen_view x b e') c d

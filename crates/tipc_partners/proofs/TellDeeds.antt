@@ -19,6 +19,7 @@ use Rattle.tipc_pair.proofs.Frames.{IsSaid, IsWorded, er_of-frame, es_of-frame, 
 use Rattle.tipc_pair.proofs.SpokenNotices.{packet_says, state_says, traffic_shows}
 use Rattle.tipc_pair.specs.Paired.{ShowsContact}
 use Rattle.tipc_partners.proofs.Growing.{half_back}
+use Rattle.tipc_partners.proofs.Mutual.{taken_met}
 use Rattle.tipc_partners.proofs.SessionDeeds.{epoch_small, epochs_fit}
 use Rattle.tipc_partners.proofs.WireDeeds.{agree_turned, grows_same}
 use Rattle.tipc_partners.proofs.Wires.{epoch_of_end, is_up_of, none_some, same_some, session_of_down, session_of_up}
@@ -132,6 +133,8 @@ session_said x y b s o h p es er said =
     let w = x.wires b in
     let v = y.wires b in
     let g = p.going in
+    let on = session_of_up w p.end s p.up in
+    let now = (h.here.epochs b).now s g.begun on g.begun_is in
     let takes = g.takes in
     let window = (h.there.wires b).window s.peer_epoch in
     let own_window = (h.here.wires b).window s.epoch in
@@ -156,11 +159,14 @@ session_said x y b s o h p es er said =
           begun = g.begun;
           begun_is = g.begun_is;
           peer_is = g.peer_is;
+          contact_is = sym now.0;
+          seen_is = sym now.1;
           so_far = omega arith;
           told = s.taken;
           told_is = said.told_is;
           told_taken = omega arith;
           told_recent = omega arith;
+          told_met = taken_met x y b s h on;
           carried = λ number bytes is. subst (λ n. IsCarried (w.line s.epoch) n number bytes) (sym line) (said.carried number bytes is);
           recent = omega arith;
         };

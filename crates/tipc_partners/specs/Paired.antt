@@ -52,6 +52,10 @@ pub record Met (w v : Wire) (peer_epoch : ℕ) : Type 0 where
   pub there_is : v.begun peer_epoch ≡ Some there
   pub epoch_is : there.peer_epoch ≡ epoch
 
+-- the peer's session under er, on its wire v, is with the node's session under es
+abbrev pub IsWith : Wire → ℕ → ℕ → Type 0
+IsWith v er es = (there : Begun) × (v.begun er ≡ Some there) × (there.peer_epoch ≡ es)
+
 -- the session on wire w, against the wire v of the peer
 pub record IsGoing (own : ℕ) (w v : Wire) (s : SessionEnd) : Type 0 where
   pub begun : Begun
@@ -93,12 +97,16 @@ pub record IsOfSession (w v : Wire) (f : Frame) (es er : ℕ) (p : Fields) : Typ
   pub begun : Begun
   pub begun_is : w.begun es ≡ Some begun
   pub peer_is : begun.peer_epoch ≡ er
+  -- it was told in the contact of its session
+  pub contact_is : f.contact ≡ begun.contact
+  pub seen_is : f.peer_contact ≡ begun.peer_contact
   pub so_far : f.numbered ≤ length (w.line es)
-  -- what it acknowledges was taken of the peer's session, and not long before
+  -- what it acknowledges was taken of the peer's session, and not long before; where that is anything, that session is with this one
   pub told : ℕ
   pub told_is : p.acknowledgement ≡ number_of told
   pub told_taken : told ≤ length (w.got er)
   pub told_recent : f.peer_numbered ≤ told + 50
+  pub told_met : (told ≡ 0) ⊎ IsWith v er es
   -- what it carries was numbered in the session, and but for 50 packets the receiver had taken what was numbered
   pub carried : (number : ℕ) (bytes : List ℕ) → content_of p ≡ Carries number bytes → IsCarried (w.line es) f.numbered number bytes
   pub recent : f.numbered ≤ length (v.got es) + 50

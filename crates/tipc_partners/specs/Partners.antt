@@ -104,6 +104,11 @@ pub record IsCrossed (x : View) (c d : Crossed) : Type 0 where
   -- what was taken is a prefix of what the peer numbered in the contact
   pub prefix : (own theirs : ℕ) → IsPrefixOf (c.taken own theirs) (d.stream theirs own)
 
+-- Of two sessions with one another, also of those that are over: what x took in their contact is what it took of the peer's session.
+abbrev pub IsPast : View → View → Crossed → Type 0
+IsPast x y c = (b epoch : ℕ) (g h : Begun) → (x.wires b).begun epoch ≡ Some g → (y.wires b).begun g.peer_epoch ≡ Some h → h.peer_epoch ≡ epoch
+    → c.taken g.contact g.peer_contact ≡ (x.wires b).got g.peer_epoch
+
 -- these messages came out of the packets that were taken, and this message is begun
 pub record IsGiven (y : View) (own theirs : ℕ) (given : List (List ℕ)) (slots : List Slot) (partial : Joining) : Type 0 where
   pub last : Joining
@@ -129,5 +134,7 @@ pub record ArePartners (x y : Partner) : Type 0 where
   pub paired : ArePaired x.view y.view
   pub crossed_here : IsCrossed x.view here there
   pub crossed_there : IsCrossed y.view there here
+  pub past_here : IsPast x.view y.view here
+  pub past_there : IsPast y.view x.view there
   pub sends : IsFlow x.view here.stream x.put y.view there.taken y.given y.partial
   pub receives : IsFlow y.view there.stream y.put x.view here.taken x.given x.partial

@@ -5,7 +5,7 @@
 //! and through all events. Frames may be lost, repeated and reordered, and may arrive long after a session, a contact or a boot
 //! ended: whatever a node ever told may arrive at any time.
 
-ghost use Rattle.std.specs.Prelude.{◌≡◌, ◌++◌, ℕ, All, List, Some};
+ghost use Rattle.std.specs.Prelude.{◌≡◌, ◌++◌, ℕ, All, List, Some, slice_get};
 ghost use Rattle.tipc_types.specs.declared.packet_lists.Taken.{Taken};
 ghost use Rattle.tipc_header.specs.Spelling.{Fields};
 ghost use Rattle.tipc_fragments.specs.Joining.{Joining};
@@ -20,7 +20,8 @@ ghost use Rattle.tipc_partners.specs.Deeds.{Does, Hears, IsUp};
 ghost use Rattle.tipc_partners.specs.EndCalls.{EndCallsAreDeeds};
 ghost use Rattle.tipc_partners.specs.Paired.{ArePaired, IsNew};
 ghost use Rattle.tipc_partners.specs.Partners.{Acts, ActsAll, ArePartners, Partner, beginning};
-ghost use Rattle.tipc_partners.specs.Views.{View};
+ghost use Rattle.tipc_partners.specs.Truth.{IsTrue};
+ghost use Rattle.tipc_partners.specs.Views.{Frame, View};
 
 /// What holds of two nodes at the beginning goes on to hold, whatever either does: on each bearer, in each session.
 pub fn two_nodes_stay_paired()
@@ -49,6 +50,12 @@ pub fn two_nodes_stay_partners()
 /// lost between two that were given, none is given twice, and none out of order.
 pub fn what_is_given_was_put()
     ensures { (x y : Partner) → ArePartners x y → (own theirs : ℕ) → IsPrefixOf (x.given own theirs) (y.put theirs own) }
+{}
+
+/// What a frame tells of the contact whose numbers stand beside it is so, at whatever time after it was told: what it acknowledges was
+/// taken in the contact, and gave what the node was given there; and what it carries the node put into the packet of that number.
+pub fn what_a_frame_tells_is_so()
+    ensures { (x y : Partner) → ArePartners x y → (place : ℕ) (f : Frame) → slice_get x.view.told place ≡ Some f → IsTrue x y f }
 {}
 
 /// What comes of packets that are taken is whole: each bundle splits, and each message joins.
