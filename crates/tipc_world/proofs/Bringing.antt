@@ -37,12 +37,6 @@ in_middle xs ys zs k x there =
     slice_get-get_or ((xs ++ ys) ++ zs) (length xs + k) x whole
     ∙ ap Some (get_or-append (xs ++ ys) zs x (length xs + k) front ∙ get_or-append-add xs ys k x ∙ get_or_from_slice_get ys k x x there)
 
-pub in_front : {A : Type 0} (ys zs : List A) (k : ℕ) (x : A) → slice_get ys k ≡ Some x → slice_get (ys ++ zs) k ≡ Some x
-in_front ys zs k x there =
-    let within = slice_get_within ys k x there in
-    let whole : k < length (ys ++ zs) = omega (arith, length-append ys zs, within) in
-    slice_get-get_or (ys ++ zs) k x whole ∙ ap Some (get_or-append ys zs x k within ∙ get_or_from_slice_get ys k x x there)
-
 -- what an arrival gives, where each packet that the peer put is of a message
 arrival_brings : (v w : Sight) (e : LinkEnd) (es er : ℕ) (p : Fields) (by : ℕ) (shown : BroadcastState) (out : PairOutcome) (last : Joining) → AreSeen v w → HasOnly v 0 e → Comes v w 0 es er p → IsShowable shown
     → OpensTo (begun_after (arrival e es er p by shown).change v.partial) (arrival e es er p by shown).outcome out last → ((own theirs k : ℕ) (packet : List ℕ) → slice_get (w.put own theirs) k ≡ Some packet → IsOfMessage packet)

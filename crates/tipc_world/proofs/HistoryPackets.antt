@@ -1,4 +1,4 @@
--- What an event adds to the packets that were put on the links of its node and given from them.
+-- What an event adds to the packets of the messages that its node put for each other node and was given.
 use Rattle.std.proofs.Common.{◌≡◌, ◌≢◌, ◌⊎◌, ◌==◌, ◌&&◌, ℕ, suc, Bool, true, false, if◌then◌else◌, List, [], ◌∷◌, ◌++◌, Option, Some, None, inl, inr, map, slice_get, refl, sym, ap, subst, ◌∙◌, append-nil, eq-eqb, arith}
 use Rattle.std.specs.Prelude.{option_map}
 use Rattle.std.proofs.Math.Path.{fun_ext}
@@ -36,6 +36,7 @@ use Rattle.tipc_world.specs.Sound.{IsSendable}
 use Rattle.tipc_world.specs.States.{MemberState, history, stream_of}
 use Rattle.tipc_world.specs.Views.{given_in, put_in}
 use Rattle.std.specs.Prelude.{option_to_list}
+use Rattle.tipc_world.proofs.LookUps.{either_way}
 use Rattle.tipc_world.proofs.Messages.{bytes_are}
 use Rattle.tipc_world.proofs.Histories.{Grew, KeepsStreams, come_none, come_to, keeps_grew, messages_given}
 use Rattle.tipc_world.proofs.HistoryEvents.{hears_grew, puts_grew}
@@ -87,15 +88,11 @@ packets_grew old new peer own theirs accepts delivers x g own_is seen_is = recor
 -- nothing came to the packets of a contact, as each sight tells it
 pub nothing_more : (x : Sight) (old new : ℕ → ℕ → List (List ℕ)) → new ≡ old → (own theirs : ℕ) → new own theirs ≡ old own theirs ++ come x [] own theirs
 nothing_more x old new same own theirs =
-    ap (λ ps. ps own theirs) same ∙ sym (append-nil (old own theirs)) ∙ ap (λ more. old own theirs ++ more) (sym (none_chosen ((own == x.node.contact) && (theirs == x.node.seen))))
-  where
-    none_chosen : (t : Bool) → let none : List (List ℕ) = [] in (if t then none else none) ≡ none
-    none_chosen true = refl
-    none_chosen false = refl
+    ap (λ ps. ps own theirs) same ∙ sym (append-nil (old own theirs)) ∙ ap (λ more. old own theirs ++ more) (sym (either_way ((own == x.node.contact) && (theirs == x.node.seen)) []))
 
 -- where nothing came to the streams, nothing came to the packets of any node
 pub packets_kept : (old new : List Entry) (peer : ℕ) (x : Sight) → KeepsStreams old new → PacketsGrew old new peer x [] []
-packets_kept old new peer x k = packets_grew old new peer (x.node.contact) (x.node.seen) [] [] x (keeps_grew old new peer (x.node.contact) (x.node.seen) k) refl refl
+packets_kept old new peer x k = packets_grew old new peer x.node.contact x.node.seen [] [] x (keeps_grew old new peer x.node.contact x.node.seen k) refl refl
 
 -- ---- a message is put
 

@@ -1,5 +1,5 @@
 -- A world is sound at the beginning, when a node comes in, and after every step.
-use Rattle.std.proofs.Common.{◌≡◌, ◌<◌, ℕ, zero, suc, Bool, List, [], ◌++◌, Option, Some, None, map, option_map, option_and_then, slice_index_or, unwrap_or, refl, sym, ap, ◌∙◌, subst, inl, inr, arith}
+use Rattle.std.proofs.Common.{◌≡◌, ◌==◌, ◌<◌, ℕ, Bool, List, [], ◌++◌, Option, Some, None, map, option_map, option_and_then, slice_index_or, unwrap_or, refl, sym, ap, ◌∙◌, subst, inl, inr, arith}
 use Rattle.std.specs.Prelude.{slice_get}
 use Rattle.std.specs.List.{flat_map}
 use Rattle.std.specs.Map.{lookup}
@@ -22,8 +22,8 @@ use Rattle.tipc_world.specs.Numbers.{own_in, seen_in}
 use Rattle.tipc_world.specs.Sound.{IsAirborne, IsNumber, IsSound}
 use Rattle.tipc_world.specs.States.{MemberState, WorldState, boot_at, count_at, count_in, history, history_at, link_at, link_in, member_at, same_session, stream_of, begun_at, begun_in}
 use Rattle.tipc_world.specs.Steps.{Becomes, IsArrival, IsJoined, IsStep, Stage, stage}
-use Rattle.tipc_world.specs.Views.{given_in, numbered_with, put_in, sight_at, sight_from}
-use Rattle.tipc_world.proofs.LookUps.{begun_at-is, begun_at-same, boot_at-is, boot_at-same, count_at-is, count_at-same, history_at-is, history_at-same, link_at-is, link_at-same, member_at-is}
+use Rattle.tipc_world.specs.Views.{given_in, put_in, sight_at, sight_from}
+use Rattle.tipc_world.proofs.LookUps.{begun_at-is, begun_at-same, boot_at-is, boot_at-same, count_at-is, count_at-same, either_way, history_at-is, history_at-same, link_at-is, link_at-same, member_at-is}
 use Rattle.tipc_world.proofs.SoundEvents.{happens_sound}
 use Rattle.tipc_world.proofs.StreamsEvents.{joined_keeps_streams, streams_start}
 use Rattle.tipc_world.proofs.StreamsKept.{streams_of}
@@ -178,10 +178,6 @@ joined_sound old new n number none sound j =
 nothing_there : (n : ℕ) → let nobody : List (Option MemberState) = [] in slice_index_or nobody n None ≡ None
 nothing_there n = refl
 
-no_counts : (bearer epoch : ℕ) → numbered_with (λ epoch. 0) bearer epoch ≡ 0
-no_counts zero epoch = refl
-no_counts (suc b) epoch = refl
-
 new_sight : (a b : ℕ) → IsNumber a → IsNumber b → IsNew (sight_at [] [] a b)
 unfolding sight_at sent_between
 new_sight a b a_is b_is =
@@ -200,7 +196,7 @@ new_sight a b a_is b_is =
       put = λ own theirs. ap (λ es. put_in es b own theirs) entries ∙ ap (map bytes_of) (accepted_nil (stream_of b own theirs Zero));
       given = λ own theirs. ap (λ es. given_in es b own theirs) entries ∙ ap (map bytes_of) (delivered_nil (stream_of b own theirs Zero));
       partial = absent_begun [] a b (nothing_there a);
-      numbered = λ bearer epoch. counts_alike (count_at [] a b) (λ epoch. 0) bearer epoch (λ here. counts epoch) ∙ no_counts bearer epoch;
+      numbered = λ bearer epoch. counts_alike (count_at [] a b) (λ epoch. 0) bearer epoch (λ here. counts epoch) ∙ either_way (bearer == 0) 0;
       sent = refl;
     }
 

@@ -1,5 +1,12 @@
 -- A stub: what holds of two nodes as a world tells of them, until it is proved.
-use Rattle.tipc_partners.specs.Sights.{ArrivesSeen, CutsSeen, EndsSeen, FramesSeen, FrontsSeen, GivesSeen, KnowsSeen, MendsSeen, PutsSeen, RestartsSeen, StartsSeen, TicksSeen, TurnedSeen}
+use Rattle.std.specs.Prelude.{◌≡◌, ℕ, true, Some, slice_get}
+use Rattle.tipc_header.specs.Frames.{frame_of}
+use Rattle.tipc_header.specs.Grammar.{Fits}
+use Rattle.tipc_header.specs.Spelling.{Fields, spelling}
+use Rattle.tipc_link.specs.Links.{is_traffic}
+use Rattle.tipc_partners.specs.Truth.{IsTold}
+use Rattle.tipc_partners.specs.Views.{Frame}
+use Rattle.tipc_partners.specs.Sights.{AreSeen, ArrivesSeen, CutsSeen, EndsSeen, FramesSeen, FrontsSeen, GivesSeen, KnowsSeen, MendsSeen, PutsSeen, RestartsSeen, Sight, StartsSeen, TicksSeen, TurnedSeen}
 
 pub starts : StartsSeen
 starts = ?
@@ -39,3 +46,7 @@ ends = ?
 
 pub frames : FramesSeen
 frames = ?
+
+pub truths : (v w : Sight) (k : ℕ) (f : Frame) (es er : ℕ) (p : Fields) → AreSeen v w → slice_get v.sent k ≡ Some f → Fits p → f.bytes ≡ frame_of es er (spelling p) → is_traffic p.header ≡ true
+    → IsTold (v.put f.contact f.peer_contact) (w.put f.peer_contact f.contact) (v.given f.contact f.peer_contact) p
+truths = ?

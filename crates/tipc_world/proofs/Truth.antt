@@ -1,8 +1,7 @@
 -- Every frame in the air of a sound world is true.
-use Rattle.std.proofs.Common.{length, sym, ◌≡◌, eqb-true, ◌≤◌, ◌+◌, ◌-◌, ℕ, zero, suc, true, List, [], ◌∷◌, Option, Some, refl, ap, ◌∙◌, arith}
+use Rattle.std.proofs.Common.{length, sym, ◌≡◌, eqb-true, ◌≤◌, ◌+◌, ℕ, zero, suc, true, List, [], ◌∷◌, Option, Some, refl, ap, ◌∙◌, append-nil, arith}
 use Rattle.std.specs.Prelude.{slice_get}
 use Rattle.tipc_types.specs.Address.{node_word}
-use Rattle.tipc_types.specs.Position.{number_of}
 use Rattle.tipc_types.specs.declared.identity.To.{To}
 use Rattle.tipc_types.specs.declared.identity.To.TheVariants as to
 use Rattle.std.specs.Prelude.{All, option_map, ◌*◌}
@@ -16,21 +15,21 @@ use Rattle.tipc_header.specs.Spelling.{Fields, numbers_size, spelling}
 use Rattle.tipc_header.specs.Users.{header_size}
 use Rattle.tipc_header.proofs.Again.{length-spelling}
 use Rattle.tipc_header.proofs.FrameWords.{length-envelope}
+use Rattle.std.specs.List.{flat_map}
 use Rattle.tipc_fragments.specs.Cutting.{packet_of}
 use Rattle.tipc_link.specs.Links.{is_traffic}
 use Rattle.tipc_link.specs.Sessions.{as_waiting, Carries, content_by, content_of}
-use Rattle.std.proofs.lemmas.Option.{slice_get-map}
-use Rattle.tipc_fragments.specs.Joining.{Joining}
-use Rattle.tipc_reassembly.specs.Slots.{Fragment, Group, IsSlot, Slot, slot_bytes}
+use Rattle.tipc_reassembly.specs.Slots.{Fragment, Group, IsSlot, Slot, slot_bytes, slot_items}
 use Rattle.tipc_partners.specs.Sights.{AreSeen}
+use Rattle.tipc_partners.specs.Truth as partners
 use Rattle.tipc_world.specs.declared.air.Sent.{Sent}
 use Rattle.tipc_world.specs.Air.{as_frame, is_to, sent_between}
-use Rattle.tipc_world.specs.Good.{IsTold, IsTrue}
+use Rattle.tipc_world.specs.Good.{AreSlots, IsTold, IsTrue, accepted_packets, delivered_packets}
 use Rattle.tipc_world.specs.Sound.{IsSound}
 use Rattle.tipc_world.specs.States.{MemberState, accepted_at, delivered_at}
 use Rattle.tipc_world.specs.Views.{sight_at}
-use Rattle.tipc_world.proofs.Bringing.{in_front}
 use Rattle.tipc_world.proofs.Reaching.{goes_there, sent_at}
+use Rattle.tipc_world.proofs.Stub.{frames, truths}
 
 to_is : (b : ℕ) (t : To) → is_to b t ≡ true → t ≡ to.Node (record { word = node_word b })
 to_is b (to.Node address) is = ap (λ w. to.Node (record { word = w })) (eqb-true _ _ is)
@@ -67,12 +66,50 @@ frame_size members a b own theirs es er p frame fits is told =
     let head = length-envelope es er in
     omega (arith, waiting_size, size, short, whole, head)
 
-position_is : (position : ℕ) → 1 ≤ position → position ≡ position - 1 + 1
-position_is position positive = omega (arith, positive)
+-- ---- what it says of its contact
+
+slots_are : (members : List (Option MemberState)) (a b own theirs : ℕ) (slots : List Slot) → partners.AreSlots (accepted_packets members a b own theirs) slots → AreSlots members a b own theirs slots
+slots_are members a b own theirs slots h = record { sound = h.sound; front = ([], sym h.whole ∙ sym (append-nil (flat_map slot_items slots))) }
+
+-- what is so of the packets that two partners put and were given is so of the messages that were accepted and delivered
+told_as : (members : List (Option MemberState)) (a b own theirs : ℕ) (p : Fields)
+    → partners.IsTold (accepted_packets members a b own theirs) (accepted_packets members b a theirs own) (delivered_packets members a b own theirs) p → IsTold members a b own theirs p
+told_as members a b own theirs p t =
+    let taken = t.taken_is in
+    record {
+      told = t.told;
+      told_is = t.told_is;
+      taken = t.taken;
+      told_taken = t.told_taken;
+      taken_is = record { slots = taken.slots; are = slots_are members b a theirs own taken.slots taken.are; begun = taken.begun; gave = taken.gave };
+      carried = λ number bytes carries.
+          let c = t.carried number bytes carries in
+          (c.0, c.1, record { slots = c.2.slots; are = slots_are members a b own theirs c.2.slots c.2.are; there = c.2.there });
+    }
 
 true_by : (members : List (Option MemberState)) (air : List Sent) (a b place : ℕ) (f : Sent) → f.from.word ≡ node_word a → is_to b f.to ≡ true
     → AreSeen (sight_at members air a b) (sight_at members air b a) → slice_get (sent_between air a b) place ≡ Some (as_frame f) → IsTrue members f
-true_by members air a b place f from to h there = ?
+unfolding sight_at accepted_at delivered_at
+true_by members air a b place f from to h there =
+    let v = sight_at members air a b in
+    let w = sight_at members air b a in
+    let spoken = frames v w place (as_frame f) h there in
+    let told : is_traffic spoken.packet.header ≡ true → IsTold members a b f.contact.0 f.contact.1 spoken.packet = λ traffic.
+    told_as members a b f.contact.0 f.contact.1 spoken.packet (truths v w place (as_frame f) spoken.es spoken.er spoken.packet h there spoken.fits spoken.bytes traffic) in
+    record {
+      a = a;
+      b = b;
+      from_is = from;
+      to_is = to_is b f.to to;
+      size = frame_size members a b f.contact.0 f.contact.1 spoken.es spoken.er spoken.packet f.frame spoken.fits spoken.bytes told;
+      es = spoken.es;
+      er = spoken.er;
+      packet = spoken.packet;
+      fits = spoken.fits;
+      frame_is = spoken.bytes;
+      previous = spoken.previous;
+      told = told;
+    }
 
 pub frame_is_true : (members : List (Option MemberState)) (air : List Sent) → IsSound members air → (k : ℕ) (f : Sent) → slice_get air k ≡ Some f → IsTrue members f
 frame_is_true members air sound k f there =

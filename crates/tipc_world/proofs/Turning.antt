@@ -1,6 +1,7 @@
 -- What an event at one node is to each pair of nodes.
-use Rattle.std.proofs.Common.{◌≡◌, ◌≢◌, ℕ, zero, suc, ◌==◌, ◌&&◌, Bool, true, false, List, [], ◌++◌, Option, Some, None, map, take, if◌then◌else◌, refl, sym, ap, ◌∙◌, subst, append-nil, inl, inr}
+use Rattle.std.proofs.Common.{◌≡◌, ◌≢◌, ℕ, zero, suc, ◌==◌, ◌&&◌, Bool, true, false, List, [], ◌++◌, Option, Some, None, map, take, if◌then◌else◌, refl, sym, ap, ◌∙◌, subst, append-nil, eqb-true, inl, inr, arith}
 use Rattle.std.proofs.lemmas.Bool.{cases_eq}
+use Rattle.std.proofs.lemmas.Bool.Decides.{nat_tests}
 use Rattle.tipc_outside.specs.declared.outgoing.Outgoing.{Outgoing}
 use Rattle.tipc_link.specs.Links.{LinkEnd}
 use Rattle.tipc_link.specs.Sessions.{SessionEnd}
@@ -13,7 +14,7 @@ use Rattle.tipc_world.specs.Steps.{Stage, Turns}
 use Rattle.tipc_world.specs.Views.{ends_with, given_in, node_from, numbered_with, put_in, sight_at, sight_from}
 use Rattle.tipc_world.specs.Air.{sent_between}
 use Rattle.tipc_world.proofs.Emissions.{frames_to, sent_adds, sent_same}
-use Rattle.tipc_world.proofs.LookUps.{begun_at-is, begun_at-same, boot_at-is, boot_at-same, count_at-is, count_at-same, history_at-is, history_at-same, link_at-is, link_at-same, member_at-changed, member_at-is, member_at-other}
+use Rattle.tipc_world.proofs.LookUps.{begun_at-is, begun_at-same, boot_at-is, boot_at-same, count_at-is, count_at-same, either_way, history_at-is, history_at-same, link_at-is, link_at-same, member_at-changed, member_at-is, member_at-other}
 use Rattle.tipc_world.proofs.Stub.{turned}
 
 -- two nodes of a stage as a pair
@@ -26,20 +27,18 @@ PartnersIn s t a b = AreSeen (sight_in s a b) (sight_in t b a)
 
 -- ---- bearer 0 is the only one
 
-no_end : (bearer : ℕ) → ends_with None bearer ≡ None
-no_end zero = refl
-no_end (suc b) = refl
-
 pub no_ends : (link : Option LinkEnd) (bearer : ℕ) → link ≡ None → ends_with link bearer ≡ None
-no_ends link bearer none = ap (λ o. ends_with o bearer) none ∙ no_end bearer
+no_ends link bearer none = ap (λ o. ends_with o bearer) none ∙ either_way (bearer == 0) None
 
 pub end_apart : (link : Option LinkEnd) (bearer : ℕ) → bearer ≢ 0 → ends_with link bearer ≡ None
-end_apart link zero apart = absurd (apart refl)
-end_apart link (suc b) apart = refl
+end_apart link bearer apart = let other : (bearer == 0) ≡ false = grind (arith, nat_tests, apart) in ap (λ t. if t then link else None) other
 
 pub counts_alike : (now was : ℕ → ℕ) (bearer epoch : ℕ) → (bearer ≡ 0 → now epoch ≡ was epoch) → numbered_with now bearer epoch ≡ numbered_with was bearer epoch
-counts_alike now was zero epoch same = same refl
-counts_alike now was (suc b) epoch same = refl
+counts_alike now was bearer epoch same = case (bearer == 0) refl
+  where
+    case : (t : Bool) → (bearer == 0) ≡ t → (if t then now epoch else 0) ≡ (if t then was epoch else 0)
+    case true is = same (eqb-true bearer 0 is)
+    case false is = refl
 
 -- ---- the node that changed, and the others
 
@@ -122,15 +121,11 @@ goes old new a before after frames lost b e fs put given partial t apart c r =
       partial_is = begun_now old new a before after frames lost t b ∙ c.begun;
       numbered_now = λ s has. count_at-is new.members a b s.epoch after is ∙ c.numbered_now s has;
       numbered_else = λ bearer epoch none. counts_alike (count_at new.members a b) (count_at old.members a b) bearer epoch (λ here.
-      count_at-is new.members a b epoch after is ∙ c.numbered_else epoch (λ s has. none s has here) ∙ sym (count_at-is old.members a b epoch before was));
+          count_at-is new.members a b epoch after is ∙ c.numbered_else epoch (λ s has. none s has here) ∙ sym (count_at-is old.members a b epoch before was));
       count = adds.count;
       sent = adds.sent ∙ ap (λ w. sent_between old.air a b ++ map (sent_as (sight_in new a b) w 0) (take adds.count (frames_to b frames))) other
           ∙ ap (λ os. sent_between old.air a b ++ map (sent_as (sight_in new a b) (sight_in old b a) 0) (take adds.count os)) c.frames_are;
     }
-
-nothing_comes : (t : Bool) → let none : List (List ℕ) = [] in (if t then none else none) ≡ none
-nothing_comes true = refl
-nothing_comes false = refl
 
 -- where no message concerned b, what was put and given is as it was
 pub same_put : (old new : Stage) (a : ℕ) (before after : MemberState) (frames : List Outgoing) (lost : Bool) (b : ℕ) → Turns old new a before after frames lost → Records (sight_in old a b) before after b [] []
@@ -138,7 +133,7 @@ pub same_put : (old new : Stage) (a : ℕ) (before after : MemberState) (frames 
 same_put old new a before after frames lost b t r own theirs =
     let v = sight_in old a b in
     ap (λ es. put_in es b own theirs) (history_at-is new.members a after (is_there old new a before after frames lost t)) ∙ r.put_is own theirs
-    ∙ ap (λ ps. put_in (history before) b own theirs ++ ps) (nothing_comes ((own == v.node.contact) && (theirs == v.node.seen))) ∙ append-nil _
+    ∙ ap (λ ps. put_in (history before) b own theirs ++ ps) (either_way ((own == v.node.contact) && (theirs == v.node.seen)) []) ∙ append-nil _
     ∙ ap (λ es. put_in es b own theirs) (sym (history_at-is old.members a before (was_there old new a before after frames lost t)))
 
 pub same_given : (old new : Stage) (a : ℕ) (before after : MemberState) (frames : List Outgoing) (lost : Bool) (b : ℕ) → Turns old new a before after frames lost → Records (sight_in old a b) before after b [] []
@@ -146,7 +141,7 @@ pub same_given : (old new : Stage) (a : ℕ) (before after : MemberState) (frame
 same_given old new a before after frames lost b t r own theirs =
     let v = sight_in old a b in
     ap (λ es. given_in es b own theirs) (history_at-is new.members a after (is_there old new a before after frames lost t)) ∙ r.given_is own theirs
-    ∙ ap (λ ps. given_in (history before) b own theirs ++ ps) (nothing_comes ((own == v.node.contact) && (theirs == v.node.seen))) ∙ append-nil _
+    ∙ ap (λ ps. given_in (history before) b own theirs ++ ps) (either_way ((own == v.node.contact) && (theirs == v.node.seen)) []) ∙ append-nil _
     ∙ ap (λ es. given_in es b own theirs) (sym (history_at-is old.members a before (was_there old new a before after frames lost t)))
 
 none_sent : (air : List Sent) (s : Stage) (c d count : ℕ) → sent_between air c d ++ map (sent_as (sight_in s c d) (sight_in s d c) 0) (take count []) ≡ sent_between air c d
