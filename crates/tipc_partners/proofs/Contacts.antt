@@ -14,10 +14,10 @@ use Rattle.tipc_partners.specs.Partners.{put_in}
 abbrev pub IsElse : ℕ → ℕ → ℕ → ℕ → Type 0
 IsElse own theirs k l = k ≡ own → l ≡ theirs → ⊥
 
-in_same : {A : Type 0} (own theirs k l : ℕ) (u v : A) → k ≡ own → l ≡ theirs → (if (k == own) && (l == theirs) then u else v) ≡ u
+pub in_same : {A : Type 0} (own theirs k l : ℕ) (u v : A) → k ≡ own → l ≡ theirs → (if (k == own) && (l == theirs) then u else v) ≡ u
 in_same own theirs k l u v a b = let test : ((k == own) && (l == theirs)) ≡ true = grind (Rattle.std.proofs.Common.arith, nat_tests, a, b) in rw test refl
 
-in_else : {A : Type 0} (own theirs k l : ℕ) (u v : A) → IsElse own theirs k l → (if (k == own) && (l == theirs) then u else v) ≡ v
+pub in_else : {A : Type 0} (own theirs k l : ℕ) (u v : A) → IsElse own theirs k l → (if (k == own) && (l == theirs) then u else v) ≡ v
 in_else own theirs k l u v other = elim (cases_eq k own) [
   | inl a ↦ elim (cases_eq l theirs) [
     | inl b ↦ absurd (other a b)

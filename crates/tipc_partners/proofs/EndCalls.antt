@@ -1,14 +1,16 @@
 -- What a pair makes of its one link end in each call, as deeds.
-use Rattle.std.proofs.Common.{◌≡◌, ◌+◌, ℕ, Bool, true, false, if◌then◌else◌, List, [], ◌∷◌, Some, option_map, refl, sym, ap, ◌∙◌, subst, inl, inr}
+use Rattle.std.proofs.Common.{◌≡◌, ◌⊎◌, ◌+◌, ℕ, length, arith, Bool, true, false, if◌then◌else◌, List, [], ◌∷◌, Some, option_map, refl, sym, ap, ◌∙◌, subst, inl, inr}
 use Rattle.std.specs.Prelude.{slice_get}
 use Rattle.std.proofs.lemmas.Bool.{cases_eq}
 use Rattle.tipc_types.specs.declared.link_words.BroadcastState.{BroadcastState}
 use Rattle.tipc_types.specs.declared.link_words.Cause.{Cause}
 use Rattle.tipc_types.specs.declared.link_words.Reply.TheVariants as reply
 use Rattle.tipc_outside.specs.declared.outgoing.Outgoing.{Outgoing}
+use Rattle.tipc_header.specs.declared.packet.Header.TheVariants as header
+use Rattle.tipc_header.specs.Spelling.{Fields}
 use Rattle.tipc_contact.specs.Sides.{IsTold}
 use Rattle.tipc_fragments.specs.Joining.{Joining}
-use Rattle.tipc_link.specs.Links.{LinkEnd, after, follow_frames, followed, frames, is_down, on_bearer, reset_frames, session_of, state_frames, with_fsm}
+use Rattle.tipc_link.specs.Links.{LinkEnd, after, follow_frames, followed, frames, is_down, is_traffic, known, notice, notice_fields, on_bearer, reset_frames, session_of, shown_by, state_frames, with_fsm}
 use Rattle.tipc_link.specs.Sessions.{state_frame}
 use Rattle.tipc_link.proofs.LinkLaw.{Each, Each-none, Each-one}
 use Rattle.tipc_link_fsm.specs.declared.changes.Change.{Change}
@@ -17,17 +19,20 @@ use Rattle.tipc_link_fsm.specs.Runs.{Call, ActivateArrives, BearerIsCut, Contact
 use Rattle.tipc_link_fsm.specs.Table.{is_up}
 use Rattle.tipc_pair.proofs.Ends.{after-is}
 use Rattle.tipc_pair.proofs.EndsTurns.{Rises, Turn, fall, is_quiet, learn, rise, stay}
+use Rattle.tipc_pair.proofs.SessionsHeard.{same_packet}
 use Rattle.tipc_pair.specs.Paired.{IsShowable}
 use Rattle.tipc_pair.specs.Pairs.{parted as parted_end, settled, settled_frames}
 use Rattle.tipc_partners.proofs.CallDeeds.{call_named}
-use Rattle.tipc_partners.proofs.PartnersLaw.{acts_then}
-use Rattle.tipc_partners.proofs.Tellings.{told_all, told_of_all, told_on, tells_all}
+use Rattle.tipc_partners.proofs.PartnersLaw.{acts_all, acts_then}
+use Rattle.tipc_partners.proofs.Tellings.{told_all, told_longer, told_of_all, told_on, told_since, tells_all}
+use Rattle.tipc_partners.proofs.TellDeeds.{notice_fits, shown_fits}
 use Rattle.tipc_partners.proofs.Turns.{call_turns, shown_to}
-use Rattle.tipc_partners.proofs.Wires.{none_some, put_other, put_same, same_some, session_of_up}
+use Rattle.tipc_partners.proofs.Wires.{none_some, on_put, put_other, put_same, same_some, session_of_up}
 use Rattle.tipc_partners.specs.Calls.{IsToldOn}
 use Rattle.tipc_partners.specs.Deeds.{MayCall, MayTell, activates, calls, ended_with, falls, parted, resets, rises, states, with_begun}
-use Rattle.tipc_partners.specs.EndCalls.{Became, EndCallsAreDeeds, HasEnd, partial_after}
+use Rattle.tipc_partners.specs.EndCalls.{Became, EndCallsAreDeeds, HasEnd, IsNotice, partial_after}
 use Rattle.tipc_partners.specs.Partners.{Acts, ActsAll, ArePartners, Partner, changes, follows, nothing, renewed, viewed, works}
+use Rattle.tipc_partners.specs.Paired.{ArePaired}
 use Rattle.tipc_partners.specs.Views.{IsApart, Node, View, Wire, said_by, with_end, with_wire}
 
 -- ---- one deed, and frames behind it
@@ -36,20 +41,27 @@ one : (x y x' : Partner) → Acts x y x' → ActsAll x y x'
 one x y x' act = follows x x' nothing act
 
 -- the end on the bearer is another now, and there is none on another bearer
-end_on : (x : View) (b : ℕ) (e : LinkEnd) (w' : Wire) (e' : LinkEnd) → HasEnd x b e → w'.end ≡ Some e' → HasEnd (with_wire x b w') b e'
+pub end_on : (x : View) (b : ℕ) (e : LinkEnd) (w' : Wire) (e' : LinkEnd) → HasEnd x b e → w'.end ≡ Some e' → HasEnd (with_wire x b w') b e'
 end_on x b e w' e' h is = record {
   end_is = ap (λ (w : Wire). w.end) (put_same x.wires b w') ∙ is;
   alone = λ c other. ap (λ (w : Wire). w.end) (put_other x.wires b w' c other) ∙ h.alone c other;
 }
 
+pub line_put : (x : View) (b : ℕ) (w' : Wire) → ((n : ℕ) → w'.line n ≡ (x.wires b).line n) → (c n : ℕ) → ((with_wire x b w').wires c).line n ≡ (x.wires c).line n
+line_put x b w' same c n = on_put x.wires b w' (λ c (w : Wire). w.line n ≡ (x.wires c).line n) (same n) (λ c. refl) c
+
 -- it became e', and then told frames
-tell_after : (x y mid : Partner) (b : ℕ) (e' : LinkEnd) (frames : List Outgoing) (partial : Joining) → Became x y mid b e' [] partial → Each (MayTell (mid.view.wires b)) frames → (after : Partner) × Became x y after b e' frames partial
-tell_after x y mid b e' frames partial h may = (
+pub tell_after : (x y mid : Partner) (b : ℕ) (e' : LinkEnd) (frames : List Outgoing) (partial : Joining) → Became x y mid b e' [] partial → Each (MayTell (mid.view.wires b)) frames → (mid.view.node ≡ x.view.node) ⊎ Each IsNotice frames
+    → (after : Partner) × Became x y after b e' frames partial
+tell_after x y mid b e' frames partial h may steady = (
   told_all mid y b frames,
   record {
     acts = acts_then x y mid (told_all mid y b frames) h.acts (tells_all mid y b frames may);
     end = record { end_is = h.end.end_is; alone = h.end.alone };
-    told = told_of_all mid y b frames;
+    told = λ k o is. told_since (length x.view.told) (length mid.view.told) (told_all mid y b frames).view b o (told_longer x y mid h.acts) (told_of_all mid y b frames k o is);
+    whose = h.whose;
+    steady = steady;
+    line = h.line;
     put = h.put;
     given = h.given;
     partial_is = h.partial_is;
@@ -58,7 +70,7 @@ tell_after x y mid b e' frames partial h may = (
 
 -- it told frames, and then became e'
 tell_before : (x y : Partner) (b : ℕ) (e' : LinkEnd) (frames : List Outgoing) (partial : Joining) → Each (MayTell (x.view.wires b)) frames → ((mid : Partner) → ActsAll x y mid → mid.view.node ≡ x.view.node → mid.view.wires ≡ x.view.wires → mid.put ≡ x.put → mid.given ≡ x.given → mid.partial ≡ x.partial
-    → (after : Partner) × Became mid y after b e' [] partial) → (after : Partner) × Became x y after b e' frames partial
+    → (after : Partner) × Became mid y after b e' [] partial × (after.view.node ≡ mid.view.node)) → (after : Partner) × Became x y after b e' frames partial × (after.view.node ≡ x.view.node)
 tell_before x y b e' frames partial may next =
     let mid = told_all x y b frames in
     let tells = tells_all x y b frames may in
@@ -67,11 +79,15 @@ tell_before x y b e' frames partial may next =
       record {
         acts = acts_then x y mid h.0 tells h.1.acts;
         end = h.1.end;
-        told = λ k o is. told_on mid y h.0 b o h.1.acts (told_of_all x y b frames k o is);
+        told = λ k o is. told_on (length x.view.told) mid y h.0 b o h.1.acts (told_of_all x y b frames k o is);
+        whose = h.1.whose;
+        steady = inl h.2;
+        line = h.1.line;
         put = h.1.put;
         given = h.1.given;
         partial_is = h.1.partial_is;
       },
+      h.2,
     )
 
 -- ---- a call that leaves the link up or down
@@ -82,7 +98,7 @@ quiet_partial (Down cause) partial quiet = absurd (let wrong : ⊥ = cc in wrong
 quiet_partial other partial quiet = refl
 
 called : (x y : Partner) (b : ℕ) (e : LinkEnd) (call : Call) → HasEnd x.view b e → MayCall x.view y.view b call → is_quiet (outcome e.fsm call).change ≡ true
-    → (after_call : Partner) × Became x y after_call b (after e (outcome e.fsm call)) [] (partial_after (outcome e.fsm call).change x.partial)
+    → (after_call : Partner) × Became x y after_call b (after e (outcome e.fsm call)) [] (partial_after (outcome e.fsm call).change x.partial) × (after_call.view.node ≡ x.view.node)
 called x y b e call h may quiet =
     let o = outcome e.fsm call in
     let v = with_wire x.view b (with_end (x.view.wires b) (after e o)) in (
@@ -91,14 +107,25 @@ called x y b e call h may quiet =
         acts = one x y (viewed x v) (works v (calls b e call h.end_is may quiet));
         end = end_on x.view b e (with_end (x.view.wires b) (after e o)) (after e o) h refl;
         told = λ k f there. absurd (let none : ⊥ = cc in none);
+        whose = record { own = refl; peer = refl; boot = refl };
+        steady = inl refl;
+        line = line_put x.view b (with_end (x.view.wires b) (after e o)) (λ n. refl);
         put = refl;
         given = refl;
         partial_is = quiet_partial o.change x.partial quiet;
       },
+      refl,
     )
 
-on_bearer_may : (w : Wire) (e : LinkEnd) (o : Outgoing) → MayTell w o → Each (MayTell w) (on_bearer e o)
-on_bearer_may w e o may = elim e.mended as (λ t. Each (MayTell w) (if t then o ∷ [] else [])) [ true ↦ Each-one (MayTell w) o may | false ↦ Each-none (MayTell w) ]
+pub on_bearer_each : (P : Outgoing → Type 0) (e : LinkEnd) (o : Outgoing) → P o → Each P (on_bearer e o)
+on_bearer_each P e o is = elim e.mended as (λ t. Each P (if t then o ∷ [] else [])) [ true ↦ Each-one P o is | false ↦ Each-none P ]
+
+-- a RESET is of no session
+reset_notice : (x y : View) (b : ℕ) (e : LinkEnd) → ArePaired x y → (x.wires b).end ≡ Some e → IsNotice (notice e (header.Reset (shown_by e)))
+reset_notice x y b e h is es er p fits bytes =
+    let end = h.here.ends b e is in
+    let said = notice_fits x.node b e (header.Reset (shown_by e)) h.here.node end (shown_fits x.node b e h.here.node end) (refl, refl) refl (omega arith) in
+    ap (λ (q : Fields). is_traffic q.header) (sym (same_packet e.fsm.own (known e.fsm.peer) es er (notice_fields e (header.Reset (shown_by e))) p said fits bytes))
 
 -- the same call of a node that did something else, with the same contact numbers
 may_later : (x v y : View) (b : ℕ) (call : Call) → v.node ≡ x.node → MayCall x y b call → MayCall v y b call
@@ -117,18 +144,18 @@ quiet_did : (x y : Partner) (b : ℕ) (e : LinkEnd) (call : Call) (shown : Broad
     → (after_call : Partner) × Became x y after_call b (after e (outcome e.fsm call)) (follow_frames (with_fsm e (outcome e.fsm call).after) c shown) (partial_after (outcome e.fsm call).change x.partial)
 quiet_did x y b e call shown Up h end may is quiet says showable = absurd (let wrong : ⊥ = cc in wrong)
 quiet_did x y b e call shown (Down cause) h end may is quiet says showable = absurd (let wrong : ⊥ = cc in wrong)
-quiet_did x y b e call shown Stay h end may is quiet says showable = called x y b e call end may (ap is_quiet is ∙ quiet)
-quiet_did x y b e call shown (Ignore why) h end may is quiet says showable = called x y b e call end may (ap is_quiet is ∙ quiet)
+quiet_did x y b e call shown Stay h end may is quiet says showable = (let did = called x y b e call end may (ap is_quiet is ∙ quiet) in (did.0, did.1))
+quiet_did x y b e call shown (Ignore why) h end may is quiet says showable = (let did = called x y b e call end may (ap is_quiet is ∙ quiet) in (did.0, did.1))
 quiet_did x y b e call shown (Answer reply.Reset) h end may is quiet says showable =
     let o = outcome e.fsm call in
     let did = called x y b e call end may (ap is_quiet is ∙ quiet) in
     let same : after e o ≡ with_fsm e o.after = ap (followed (with_fsm e o.after)) is in
-    tell_after x y did.0 b (after e o) _ _ did.1 (on_bearer_may (did.0.view.wires b) (with_fsm e o.after) _ (resets (with_fsm e o.after) (did.1.end.end_is ∙ ap Some same)))
+    tell_after x y did.0 b (after e o) _ _ did.1 (on_bearer_each (MayTell (did.0.view.wires b)) (with_fsm e o.after) _ (resets (with_fsm e o.after) (did.1.end.end_is ∙ ap Some same))) (inl did.2)
 quiet_did x y b e call shown (Answer reply.Activate) h end may is quiet says showable =
     let o = outcome e.fsm call in
     let did = called x y b e call end may (ap is_quiet is ∙ quiet) in
     let same : after e o ≡ with_fsm e o.after = ap (followed (with_fsm e o.after)) is in
-    tell_after x y did.0 b (after e o) _ _ did.1 (on_bearer_may (did.0.view.wires b) (with_fsm e o.after) _ (activates (with_fsm e o.after) (did.1.end.end_is ∙ ap Some same)))
+    tell_after x y did.0 b (after e o) _ _ did.1 (on_bearer_each (MayTell (did.0.view.wires b)) (with_fsm e o.after) _ (activates (with_fsm e o.after) (did.1.end.end_is ∙ ap Some same))) (inl did.2)
 quiet_did x y b e call shown (Answer (reply.State probe)) h end may is quiet says showable =
     let o = outcome e.fsm call in
     let up = says probe refl in
@@ -139,12 +166,15 @@ quiet_did x y b e call shown (Answer (reply.State probe)) h end may is quiet say
     (λ mid acts node wires put given partial.
     let end' : HasEnd mid.view b e = record { end_is = ap (λ (ws : ℕ → Wire). (ws b).end) wires ∙ end.end_is; alone = λ c other. ap (λ (ws : ℕ → Wire). (ws c).end) wires ∙ end.alone c other } in
     let next = called mid y b e call end' (may_later x.view mid.view y.view b call node may) (ap is_quiet is ∙ quiet) in
-    (next.0, record { acts = next.1.acts; end = next.1.end; told = next.1.told; put = next.1.put; given = next.1.given; partial_is = next.1.partial_is ∙ ap (partial_after o.change) partial })) in (
+    (next.0, record { acts = next.1.acts; end = next.1.end; told = next.1.told; whose = next.1.whose; steady = next.1.steady; line = next.1.line; put = next.1.put; given = next.1.given; partial_is = next.1.partial_is ∙ ap (partial_after o.change) partial }, next.2)) in (
       did.0,
       record {
         acts = did.1.acts;
         end = did.1.end;
-        told = subst (λ (fs : List Outgoing). (k : ℕ) (f : Outgoing) → slice_get fs k ≡ Some f → IsToldOn did.0.view b f) (ap (λ s. state_frames s shown probe) (sym going.1)) did.1.told;
+        told = subst (λ (fs : List Outgoing). (k : ℕ) (f : Outgoing) → slice_get fs k ≡ Some f → IsToldOn (length x.view.told) did.0.view b f) (ap (λ s. state_frames s shown probe) (sym going.1)) did.1.told;
+        whose = did.1.whose;
+        steady = inl did.2;
+        line = did.1.line;
         put = did.1.put;
         given = did.1.given;
         partial_is = did.1.partial_is;
@@ -170,11 +200,16 @@ fell_did x y b e call cause h end may down =
         alone = λ c other. ap (λ z. option_map (ended_with (x.view.node.contact + 1)) z) (there.alone c other);
       };
       told = λ k f is. absurd (let none : ⊥ = cc in none);
+      whose = record { own = refl; peer = refl; boot = refl };
+      steady = inr (Each-none IsNotice);
+      line = line_put x.view b (with_end (x.view.wires b) d) (λ n. refl);
       put = refl;
       given = refl;
       partial_is = ap (λ c. partial_after c x.partial) (sym down);
     } in
-    tell_after x y mid b (parted_end d) (reset_frames (parted_end d)) (partial_after o.change x.partial) became (on_bearer_may (mid.view.wires b) (parted_end d) _ (resets (parted_end d) became.end.end_is))
+    let paired = (acts_all x y mid h became.acts).paired in
+    tell_after x y mid b (parted_end d) (reset_frames (parted_end d)) (partial_after o.change x.partial) became (on_bearer_each (MayTell (mid.view.wires b)) (parted_end d) _ (resets (parted_end d) became.end.end_is))
+    (inr (on_bearer_each IsNotice (parted_end d) _ (reset_notice mid.view y.view b (parted_end d) paired became.end.end_is)))
 
 rose_did : (x y : Partner) (b : ℕ) (e : LinkEnd) (call : Call) (shown : BroadcastState) → ArePartners x y → HasEnd x.view b e → MayCall x.view y.view b call → Rises e.fsm (shown_to call) (outcome e.fsm call) → IsShowable shown
     → (after_call : Partner) × Became x y after_call b (after e (outcome e.fsm call)) (state_frame (session_of (with_fsm e (outcome e.fsm call).after)) shown false ∷ []) (partial_after (outcome e.fsm call).change x.partial)
@@ -194,12 +229,15 @@ rose_did x y b e call shown h end may m showable =
       acts = one x y mid (changes (with_wire x.view b w') (rises b e call end.end_is may m.change apart));
       end = there;
       told = λ k f is. absurd (let none : ⊥ = cc in none);
+      whose = record { own = refl; peer = refl; boot = refl };
+      steady = inl refl;
+      line = line_put x.view b w' (λ n. refl);
       put = refl;
       given = refl;
       partial_is = ap (λ c. partial_after c x.partial) (sym m.change);
     } in
     let on = session_of_up (mid.view.wires b) d s (record { end_is = there.end_is; up = ap (λ (z : LinkEnd). is_up z.fsm.state) same ∙ m.up; session_is = ap (λ (z : LinkEnd). z.session) same }) in
-    tell_after x y mid b d _ (partial_after o.change x.partial) became (Each-one (MayTell (mid.view.wires b)) (state_frame s shown false) (states s shown false on showable))
+    tell_after x y mid b d _ (partial_after o.change x.partial) became (Each-one (MayTell (mid.view.wires b)) (state_frame s shown false) (states s shown false on showable)) (inl refl)
 
 -- ---- a call
 

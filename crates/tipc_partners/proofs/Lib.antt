@@ -23,5 +23,10 @@ pub mod Past
 pub mod PartnersLaw
 pub mod Truth
 pub mod Tellings
+pub mod Later
 pub mod Calls
 pub mod EndCalls
+pub mod Steps
+pub mod Seeing
+pub mod EndSteps
+pub mod Sights

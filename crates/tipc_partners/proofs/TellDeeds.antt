@@ -5,7 +5,7 @@ use Rattle.std.proofs.lemmas.List.{map-append}
 use Rattle.tipc_outside.specs.declared.outgoing.Outgoing.{Outgoing}
 use Rattle.tipc_header.specs.declared.packet.Header.{Header}
 use Rattle.tipc_header.specs.declared.packet.Header.TheVariants as header
-use Rattle.tipc_header.specs.Grammar.{HeaderFits, NumberingFits, ResetFits, RestFits}
+use Rattle.tipc_header.specs.Grammar.{Fits, HeaderFits, NumberingFits, ResetFits, RestFits}
 use Rattle.tipc_header.specs.Spelling.{size_of, spelling}
 use Rattle.tipc_contact.specs.Peers.{ArePeers}
 use Rattle.tipc_contact.proofs.Sessions.{says}
@@ -52,12 +52,23 @@ record Said (x y : View) (b : ℕ) (o : Outgoing) : Type 0 where
 
 -- ---- RESET and ACTIVATE
 
-shown_fits : (n : Node) (b : ℕ) (e : LinkEnd) → IsNode n → IsEnd n b e → ResetFits (shown_by e)
+pub shown_fits : (n : Node) (b : ℕ) (e : LinkEnd) → IsNode n → IsEnd n b e → ResetFits (shown_by e)
 shown_fits n b e node h = record {
   destination_node = (let peer = h.peer in let fits = node.peer in omega arith);
   priority = elim (e.bearer == 0) as (λ t. (if t then 11 else 10) < 2 ^ 5) [ true ↦ omega arith | false ↦ omega arith ];
   contact = (let same = h.contact in let fits : n.contact < 2 ^ 64 = epoch_small n.contact n.boot node.contact node.boot in omega arith);
   peer_contact = (let same = h.seen in let fits = node.seen in omega arith);
+}
+
+pub notice_fits : (n : Node) (b : ℕ) (e : LinkEnd) (h : Header) → IsNode n → IsEnd n b e → HeaderFits h → NumberingFits h 0 0 → RestFits h 0 → size_of (notice_fields e h) < 2 ^ 17 → Fits (notice_fields e h)
+notice_fits n b e h node end fits numbering rest size = record {
+  acknowledgement = omega arith;
+  sequence = omega arith;
+  previous = (let same = end.own in let low = node.own in omega arith);
+  header = fits;
+  numbering = numbering;
+  rest = rest;
+  size = size;
 }
 
 notice_said : (x y : View) (b : ℕ) (e : LinkEnd) (h : Header) → ArePaired x y → (x.wires b).end ≡ Some e → HeaderFits h → NumberingFits h 0 0 → RestFits h 0 → size_of (notice_fields e h) < 2 ^ 17 → is_traffic h ≡ false
@@ -77,15 +88,7 @@ notice_said x y b e h p is fits numbering rest size quiet shows =
         es_fits = own;
         er_fits = peer;
         packet = notice_fields e h;
-        fits = record {
-          acknowledgement = omega arith;
-          sequence = omega arith;
-          previous = (let same = end.own in let low = p.here.node.own in omega arith);
-          header = fits;
-          numbering = numbering;
-          rest = rest;
-          size = size;
-        };
+        fits = notice_fits x.node b e h p.here.node end fits numbering rest size;
         bytes = refl;
         previous = end.own;
         notice = shows;

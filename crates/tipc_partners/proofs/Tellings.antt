@@ -34,9 +34,10 @@ tells_all x y b (o ∷ frames) may =
     let rest = tells_all x' y b frames (λ k q is. may (suc k) q is) in
     subst (ActsAll x y) (ap (λ fs. viewed x (record { node = x.view.node; wires = x.view.wires; told = fs })) (append_assoc x.view.told (f ∷ []) (map (framed x.view y.view b) frames))) (acts_then x y x' _ first rest)
 
-pub told_of_all : (x y : Partner) (b : ℕ) (frames : List Outgoing) → (k : ℕ) (o : Outgoing) → slice_get frames k ≡ Some o → IsToldOn (told_all x y b frames).view b o
+pub told_of_all : (x y : Partner) (b : ℕ) (frames : List Outgoing) → (k : ℕ) (o : Outgoing) → slice_get frames k ≡ Some o → IsToldOn (length x.view.told) (told_all x y b frames).view b o
 told_of_all x y b frames k o is = record {
   place = length x.view.told + k;
+  recent = omega arith;
   frame = framed x.view y.view b o;
   there = slice_get-behind x.view.told (map (framed x.view y.view b) frames) k (framed x.view y.view b o) (map_at (framed x.view y.view b) frames k o is);
   bearer_is = refl;
@@ -44,9 +45,10 @@ told_of_all x y b frames k o is = record {
 }
 
 -- what was told stays told
-pub told_still : (x x' : View) (b : ℕ) (o : Outgoing) (more : List Frame) → x'.told ≡ x.told ++ more → IsToldOn x b o → IsToldOn x' b o
-told_still x x' b o more is h = record {
+pub told_still : (since : ℕ) (x x' : View) (b : ℕ) (o : Outgoing) (more : List Frame) → x'.told ≡ x.told ++ more → IsToldOn since x b o → IsToldOn since x' b o
+told_still since x x' b o more is h = record {
   place = h.place;
+  recent = h.recent;
   frame = h.frame;
   there = subst (λ fs. slice_get fs h.place ≡ Some h.frame) (sym is) (slice_get-append x.told more h.place h.frame h.there);
   bearer_is = h.bearer_is;
@@ -118,13 +120,32 @@ change_told x y _ (falls b e call cause is may down) = ([], sym (append-nil x.to
 change_told x y _ (parts b e is up) = ([], sym (append-nil x.told))
 change_told x y _ (restarts boot more fits) = ([], sym (append-nil x.told))
 
-act_told : (x y x' : Partner) → Acts x y x' → (more : List Frame) × (x'.view.told ≡ x.view.told ++ more)
+pub act_told : (x y x' : Partner) → Acts x y x' → (more : List Frame) × (x'.view.told ≡ x.view.told ++ more)
 act_told x y _ (works v w) = work_told x.view y.view v w
 act_told x y _ (changes v c) = change_told x.view y.view v c
 act_told x y _ (puts b e s s' m up put message) = ([], sym (append-nil x.view.told))
 act_told x y _ (takes b e s p number by packet opened last up a is brings) = ([], sym (append-nil x.view.told))
 
 -- through any deeds
-pub told_on : (x y after : Partner) (b : ℕ) (o : Outgoing) → ActsAll x y after → IsToldOn x.view b o → IsToldOn after.view b o
-told_on x y _ b o nothing h = h
-told_on x y after b o (follows mid _ all act) h = (let more = act_told mid y after act in told_still mid.view after.view b o more.0 more.1 (told_on x y mid b o all h))
+pub told_on : (since : ℕ) (x y after : Partner) (b : ℕ) (o : Outgoing) → ActsAll x y after → IsToldOn since x.view b o → IsToldOn since after.view b o
+told_on since x y _ b o nothing h = h
+told_on since x y after b o (follows mid _ all act) h = (let more = act_told mid y after act in told_still since mid.view after.view b o more.0 more.1 (told_on since x y mid b o all h))
+
+pub told_longer : (x y after : Partner) → ActsAll x y after → length x.view.told ≤ length after.view.told
+told_longer x y _ nothing = omega arith
+told_longer x y after (follows mid _ all act) =
+    let before = told_longer x y mid all in
+    let more = act_told mid y after act in
+    let long = ap (λ (fs : List Frame). length fs) more.1 ∙ length-append mid.view.told more.0 in
+    omega arith
+
+-- what was told behind more frames was told behind fewer
+pub told_since : (least since : ℕ) (x : View) (b : ℕ) (o : Outgoing) → least ≤ since → IsToldOn since x b o → IsToldOn least x b o
+told_since least since x b o fewer h = record {
+  place = h.place;
+  recent = (let behind = h.recent in omega arith);
+  frame = h.frame;
+  there = h.there;
+  bearer_is = h.bearer_is;
+  bytes = h.bytes;
+}

@@ -1,5 +1,5 @@
 -- What a session does in one call or at one arrival, as deeds one after the other.
-use Rattle.std.specs.Prelude.{◌≡◌, ℕ, List, [], ◌∷◌, ◌++◌, Some, slice_get}
+use Rattle.std.specs.Prelude.{◌≡◌, ◌≢◌, ◌≤◌, ℕ, List, [], ◌∷◌, ◌++◌, Some, length, slice_get}
 use Rattle.tipc_types.specs.declared.link_words.BroadcastState.{BroadcastState}
 use Rattle.tipc_outside.specs.declared.outgoing.Outgoing.{Outgoing}
 use Rattle.tipc_header.specs.Spelling.{Fields}
@@ -13,22 +13,29 @@ use Rattle.tipc_pair.specs.Paired.{IsShowable}
 use Rattle.tipc_pair.specs.Partners.{IsMessage, pieces_for}
 use Rattle.tipc_partners.specs.Deeds.{Hears, IsUp}
 use Rattle.tipc_partners.specs.Partners.{ActsAll, ArePartners, Partner, put_in}
-use Rattle.tipc_partners.specs.Views.{Frame, View}
+use Rattle.tipc_partners.specs.Views.{Frame, View, Wire}
 
--- these bytes were told on the bearer
-pub record IsToldOn (x : View) (bearer : ℕ) (o : Outgoing) : Type 0 where
+-- these bytes were told on the bearer, behind so many frames
+pub record IsToldOn (since : ℕ) (x : View) (bearer : ℕ) (o : Outgoing) : Type 0 where
   pub place : ℕ
+  pub recent : since ≤ place
   pub frame : Frame
   pub there : slice_get x.told place ≡ Some frame
   pub bearer_is : frame.bearer ≡ bearer
   pub bytes : frame.bytes ≡ o.frame
+
+-- no other link end than that on the bearer changed, and nothing was numbered but under the epoch
+pub record Keeps (ws vs : ℕ → Wire) (bearer epoch : ℕ) : Type 0 where
+  pub others : (b : ℕ) → b ≢ bearer → (vs b).end ≡ (ws b).end
+  pub line : (b k : ℕ) → (b ≡ bearer → epoch ≢ k) → (vs b).line k ≡ (ws b).line k
 
 -- By deeds of x, the link end on the bearer became e with the session s, and these frames were told.
 pub record Did (x y after : Partner) (bearer : ℕ) (e : LinkEnd) (s : SessionEnd) (frames : List Outgoing) : Type 0 where
   pub acts : ActsAll x y after
   pub up : IsUp (after.view.wires bearer) e s
   pub node : after.view.node ≡ x.view.node
-  pub told : (k : ℕ) (o : Outgoing) → slice_get frames k ≡ Some o → IsToldOn after.view bearer o
+  pub told : (k : ℕ) (o : Outgoing) → slice_get frames k ≡ Some o → IsToldOn (length x.view.told) after.view bearer o
+  pub keeps : Keeps x.view.wires after.view.wires bearer s.epoch
 
 -- one more message in the contact
 abbrev pub put_more : Partner → List (List ℕ) → ℕ → ℕ → List (List ℕ)

@@ -21,6 +21,7 @@ use Rattle.tipc_pair.specs.Partners.{IsInContact, IsMessage, OpensTo, begun_afte
 use Rattle.tipc_partners.specs.Deeds.{made_on}
 use Rattle.tipc_partners.specs.Paired.{IsEnd}
 use Rattle.tipc_partners.specs.Partners.{ArePartners, Partner}
+use Rattle.tipc_partners.specs.Truth.{IsTold}
 use Rattle.tipc_partners.specs.Views.{Frame, Node, View, er_of, es_of}
 
 -- A node towards its peer: its numbers, its link ends by bearer, the messages that it put and was given by contact, each as its packet,
@@ -211,3 +212,8 @@ EndsSeen = (v w : Sight) (bearer : ℕ) (e : LinkEnd) → AreSeen v w → v.ends
 
 abbrev pub FramesSeen : Type 0
 FramesSeen = (v w : Sight) (k : ℕ) (f : Frame) → AreSeen v w → slice_get v.sent k ≡ Some f → IsSpoken v.node.own f
+
+-- a STATE or a numbered packet in the air says of the contact whose numbers stand beside it what is so
+abbrev pub TruthsSeen : Type 0
+TruthsSeen = (v w : Sight) (k : ℕ) (f : Frame) (es er : ℕ) (p : Fields) → AreSeen v w → slice_get v.sent k ≡ Some f → Fits p → f.bytes ≡ frame_of es er (spelling p) → is_traffic p.header ≡ true
+    → IsTold (v.put f.contact f.peer_contact) (w.put f.peer_contact f.contact) (v.given f.contact f.peer_contact) p
