@@ -18,6 +18,7 @@ use Rattle.tipc_pair.specs.Paired.{IsShowable}
 use Rattle.tipc_pair.specs.Pairs.{change_of, cut_pair, settled, tick_frames, tick_pair}
 use Rattle.tipc_pair.specs.Partners.{begun_after}
 use Rattle.tipc_partners.specs.Sights.{AreSeen, Goes, HasOnly, Sight}
+use Rattle.tipc_partners.proofs.Sights.{cuts, mends, ticks}
 use Rattle.tipc_node.specs.declared.neighbours.Deed.{Deed}
 use Rattle.tipc_node.specs.declared.neighbours.Deed.TheVariants as deed
 use Rattle.tipc_node.specs.declared.neighbours.Neighbour.{Neighbour}
@@ -32,7 +33,6 @@ use Rattle.tipc_world.proofs.Addressing.{AreFor, Names, either, mend_for, tick_f
 use Rattle.tipc_world.proofs.Emissions.{frames_to}
 use Rattle.tipc_world.proofs.Shares.{after_at, shares}
 use Rattle.tipc_world.proofs.Standing.{IsAcquainted, all_names, sight_counts, sight_only, sight_partial}
-use Rattle.tipc_world.proofs.Stub.{cuts, mends, ticks}
 use Rattle.tipc_world.proofs.Turning.{AllPaired, IsChanged, IsIdle, PartnersIn, Records, all_paired, goes, idle_pair, sight_in, was_there}
 
 -- ---- what a session has numbered stays

@@ -10,6 +10,7 @@ use Rattle.tipc_link.specs.Links.{with_session}
 use Rattle.tipc_link.specs.Sessions.{SessionEnd, IsPut, flush_frames, flushed, joins, waits}
 use Rattle.tipc_pair.specs.Partners.{IsMessage, pieces_for}
 use Rattle.tipc_partners.specs.Sights.{Goes}
+use Rattle.tipc_partners.proofs.Sights.{puts}
 use Rattle.tipc_node.specs.declared.neighbours.Neighbour.{Neighbour}
 use Rattle.tipc_node.specs.Neighbours.{neighbour}
 use Rattle.tipc_node.specs.Nodes.{session_with}
@@ -21,7 +22,6 @@ use Rattle.tipc_world.specs.Steps.{Stage, Turns}
 use Rattle.tipc_world.proofs.Addressing.{AreFor, flush_for}
 use Rattle.tipc_world.proofs.PairedChanges.{IsOne, one_pairs}
 use Rattle.tipc_world.proofs.Standing.{IsAcquainted, all_names, sight_only, sight_partial}
-use Rattle.tipc_world.proofs.Stub.{puts}
 use Rattle.tipc_world.proofs.Turning.{AllPaired, Records, sight_in, was_there}
 
 -- the session with a neighbour is that of its link

@@ -10,6 +10,7 @@ use Rattle.tipc_fragments.specs.Joining.{Joining, fresh}
 use Rattle.tipc_pair.specs.Pairs.{lonely}
 use Rattle.tipc_partners.specs.Deeds.{made_on}
 use Rattle.tipc_partners.specs.Sights.{AreSeen, Goes, Restarts, Sight}
+use Rattle.tipc_partners.proofs.Sights.{knows, restarted}
 use Rattle.tipc_node.specs.declared.neighbours.Neighbour.{Neighbour}
 use Rattle.tipc_node.specs.Nodes.{known_frames, neighbour_of}
 use Rattle.tipc_world.specs.Members.{IsRestarted, known_member}
@@ -22,7 +23,6 @@ use Rattle.tipc_world.proofs.Emissions.{frames_to}
 use Rattle.tipc_world.proofs.LookUps.{begun_at-is, boot_at-is, link_at-is}
 use Rattle.tipc_world.proofs.Shares.{frames_to-other, frames_to-own}
 use Rattle.tipc_world.proofs.Standing.{link_is, sight_no_ends}
-use Rattle.tipc_world.proofs.Stub.{knows, restarted}
 use Rattle.tipc_world.proofs.Turning.{AllPaired, IsChanged, IsIdle, PartnersIn, Records, all_paired, begun_now, counts_alike, goes, idle_pair, is_there, no_ends, same_given, same_numbered, same_put, same_sent, sight_in, was_there}
 
 -- ---- a restart

@@ -6,6 +6,7 @@ use Rattle.tipc_types.specs.declared.message_forms.Message.{Message}
 use Rattle.tipc_journal.specs.declared.entries.Entry.TheVariants as entry
 use Rattle.tipc_journal.specs.Prefixes.{IsPrefixOf}
 use Rattle.tipc_link.proofs.LinkLaw.{Each}
+use Rattle.tipc_partners.proofs.Sights.{front}
 use Rattle.tipc_world.specs.declared.air.Sent.{Sent}
 use Rattle.tipc_world.specs.Good.{IsGood}
 use Rattle.tipc_world.specs.Members.{bytes_of}
@@ -15,7 +16,6 @@ use Rattle.tipc_world.specs.Views.{sight_at}
 use Rattle.tipc_world.specs.Watched.{AreWatched}
 use Rattle.tipc_world.proofs.Entered.{both_entered}
 use Rattle.tipc_world.proofs.Messages.{same_bytes}
-use Rattle.tipc_world.proofs.Stub.{front}
 use Rattle.tipc_world.proofs.Truth.{frame_is_true}
 
 pub no_message : (ys : List Message) → IsPrefixOf [] ys

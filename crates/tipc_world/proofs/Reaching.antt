@@ -23,6 +23,7 @@ use Rattle.tipc_pair.proofs.SessionsHeard.{same_packet}
 use Rattle.tipc_pair.proofs.Spoken.{er_of-frame, es_of-frame}
 use Rattle.tipc_partners.specs.Sights.{Comes}
 use Rattle.tipc_partners.specs.Views.{Frame, er_of, es_of}
+use Rattle.tipc_partners.proofs.Sights.{frames}
 use Rattle.tipc_node.specs.declared.neighbours.Neighbour.{Neighbour}
 use Rattle.tipc_node.specs.Calls.{IsDue}
 use Rattle.tipc_node.specs.Nodes.{is_frame_size, stop_among, stop_by_fault, stop_of}
@@ -33,7 +34,6 @@ use Rattle.tipc_world.specs.Sound.{IsAirborne, IsNumber}
 use Rattle.tipc_world.specs.States.{MemberState, count_at}
 use Rattle.tipc_world.specs.Steps.{Stage}
 use Rattle.tipc_world.specs.Views.{sight_at}
-use Rattle.tipc_world.proofs.Stub.{frames}
 use Rattle.tipc_world.proofs.Turning.{AllPaired, PartnersIn, sight_in}
 
 -- ---- the frame among those that its sender sent

@@ -10,6 +10,7 @@ use Rattle.tipc_types.specs.declared.node_calls.Answer.{Answer}
 use Rattle.tipc_journal.proofs.StreamLaws.{accepted_nil, delivered_nil}
 use Rattle.tipc_fragments.specs.Joining.{fresh}
 use Rattle.tipc_partners.specs.Sights.{AreSeen, IsNew}
+use Rattle.tipc_partners.proofs.Sights.{starts}
 use Rattle.tipc_node.specs.declared.neighbours.Neighbour.{Neighbour}
 use Rattle.tipc_world.specs.declared.air.Sent.{Sent}
 use Rattle.tipc_world.specs.declared.events.WorldEvent.{WorldEvent}
@@ -27,7 +28,6 @@ use Rattle.tipc_world.proofs.LookUps.{begun_at-is, begun_at-same, boot_at-is, bo
 use Rattle.tipc_world.proofs.SoundEvents.{happens_sound}
 use Rattle.tipc_world.proofs.StreamsEvents.{joined_keeps_streams, streams_start}
 use Rattle.tipc_world.proofs.StreamsKept.{streams_of}
-use Rattle.tipc_world.proofs.Stub.{starts}
 use Rattle.tipc_world.proofs.Turning.{counts_alike, no_ends}
 
 -- ---- after an event

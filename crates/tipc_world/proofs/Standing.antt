@@ -5,6 +5,7 @@ use Rattle.tipc_types.specs.Address.{node_word}
 use Rattle.tipc_fragments.specs.Joining.{fresh}
 use Rattle.tipc_link.specs.Sessions.{SessionEnd}
 use Rattle.tipc_partners.specs.Sights.{AreSeen, HasOnly, Sight}
+use Rattle.tipc_partners.proofs.Sights.{ends}
 use Rattle.tipc_node.specs.declared.neighbours.Neighbour.{Neighbour}
 use Rattle.tipc_node.specs.Nodes.{neighbour_of}
 use Rattle.tipc_world.specs.Sound.{IsNumber}
@@ -13,7 +14,6 @@ use Rattle.tipc_world.specs.Steps.{Stage}
 use Rattle.tipc_world.specs.Views.{sight_at}
 use Rattle.tipc_world.proofs.Addressing.{Names}
 use Rattle.tipc_world.proofs.LookUps.{begun_at-is, count_at-is, link_at-is}
-use Rattle.tipc_world.proofs.Stub.{ends}
 use Rattle.tipc_world.proofs.Turning.{AllPaired, end_apart, no_ends, sight_in}
 
 -- a number is of a node, or it isn't

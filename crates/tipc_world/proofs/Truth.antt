@@ -22,6 +22,7 @@ use Rattle.tipc_link.specs.Sessions.{as_waiting, Carries, content_by, content_of
 use Rattle.tipc_reassembly.specs.Slots.{Fragment, Group, IsSlot, Slot, slot_bytes, slot_items}
 use Rattle.tipc_partners.specs.Sights.{AreSeen}
 use Rattle.tipc_partners.specs.Truth as partners
+use Rattle.tipc_partners.proofs.Sights.{frames, truths}
 use Rattle.tipc_world.specs.declared.air.Sent.{Sent}
 use Rattle.tipc_world.specs.Air.{as_frame, is_to, sent_between}
 use Rattle.tipc_world.specs.Good.{AreSlots, IsTold, IsTrue, accepted_packets, delivered_packets}
@@ -29,7 +30,6 @@ use Rattle.tipc_world.specs.Sound.{IsSound}
 use Rattle.tipc_world.specs.States.{MemberState, accepted_at, delivered_at}
 use Rattle.tipc_world.specs.Views.{sight_at}
 use Rattle.tipc_world.proofs.Reaching.{goes_there, sent_at}
-use Rattle.tipc_world.proofs.Stub.{frames, truths}
 
 to_is : (b : ℕ) (t : To) → is_to b t ≡ true → t ≡ to.Node (record { word = node_word b })
 to_is b (to.Node address) is = ap (λ w. to.Node (record { word = w })) (eqb-true _ _ is)

@@ -7,6 +7,7 @@ use Rattle.tipc_link.specs.Links.{LinkEnd}
 use Rattle.tipc_link.specs.Sessions.{SessionEnd}
 use Rattle.tipc_fragments.specs.Joining.{Joining}
 use Rattle.tipc_partners.specs.Sights.{AreSeen, Goes, HasOnly, Sight, come, sent_as}
+use Rattle.tipc_partners.proofs.Sights.{turned}
 use Rattle.tipc_world.specs.declared.air.Sent.{Sent}
 use Rattle.tipc_world.specs.Sound.{IsNumber}
 use Rattle.tipc_world.specs.States.{MemberState, begun_at, begun_in, count_at, count_in, history, history_at, link_at, link_in, member_at}
@@ -15,7 +16,6 @@ use Rattle.tipc_world.specs.Views.{ends_with, given_in, node_from, numbered_with
 use Rattle.tipc_world.specs.Air.{sent_between}
 use Rattle.tipc_world.proofs.Emissions.{frames_to, sent_adds, sent_same}
 use Rattle.tipc_world.proofs.LookUps.{begun_at-is, begun_at-same, boot_at-is, boot_at-same, count_at-is, count_at-same, either_way, history_at-is, history_at-same, link_at-is, link_at-same, member_at-changed, member_at-is, member_at-other}
-use Rattle.tipc_world.proofs.Stub.{turned}
 
 -- two nodes of a stage as a pair
 abbrev pub sight_in : Stage → ℕ → ℕ → Sight
