@@ -52,7 +52,7 @@ pub others_stay : (old new : Stage) (a : ℕ) (before after : MemberState) (fram
 others_stay old new a before after frames lost t x apart = ap (λ ms. member_at ms x) t.members ∙ member_at-other old.members a x after apart
 
 -- another node is to every node as it was
-pub sights_apart : (old new : Stage) (a : ℕ) (before after : MemberState) (frames : List Outgoing) (lost : Bool) → Turns old new a before after frames lost → (c d : ℕ) → c ≢ a → sight_in new c d ≡ sight_in old c d
+sights_apart : (old new : Stage) (a : ℕ) (before after : MemberState) (frames : List Outgoing) (lost : Bool) → Turns old new a before after frames lost → (c d : ℕ) → c ≢ a → sight_in new c d ≡ sight_in old c d
 unfolding sight_at
 sights_apart old new a before after frames lost t c d apart =
     let same = others_stay old new a before after frames lost t c apart in
@@ -73,7 +73,7 @@ there_stays old new a before after frames lost t c d apart v h = subst (λ w. Ar
 
 -- ---- the message that is begun
 
-pub begun_was : (old new : Stage) (a : ℕ) (before after : MemberState) (frames : List Outgoing) (lost : Bool) → Turns old new a before after frames lost → (b : ℕ) → begun_at old.members a b ≡ begun_in before.node b
+begun_was : (old new : Stage) (a : ℕ) (before after : MemberState) (frames : List Outgoing) (lost : Bool) → Turns old new a before after frames lost → (b : ℕ) → begun_at old.members a b ≡ begun_in before.node b
 begun_was old new a before after frames lost t b = begun_at-is old.members a b before (was_there old new a before after frames lost t)
 
 pub begun_now : (old new : Stage) (a : ℕ) (before after : MemberState) (frames : List Outgoing) (lost : Bool) → Turns old new a before after frames lost → (b : ℕ) → begun_at new.members a b ≡ begun_in after.node b

@@ -46,7 +46,7 @@ pub record Leaves (old new : List Sent) (members : List (Option MemberState)) (a
 abbrev pub goes : ℕ → ℕ → Sent → Bool
 goes a b f = (f.from.word == node_word a) && is_to b f.to
 
--- a frame in the air, on bearer 0, for the two nodes that it is between
+-- a frame in the air as the pair of its nodes has it, on bearer 0
 abbrev pub as_frame : Sent → Frame
 as_frame f = record { bearer = 0; bytes = f.frame; contact = f.contact.0; peer_contact = f.contact.1; numbered = f.numbered; peer_numbered = f.peer_numbered }
 
