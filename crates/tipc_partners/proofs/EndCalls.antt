@@ -121,7 +121,7 @@ pub on_bearer_each : (P : Outgoing → Type 0) (e : LinkEnd) (o : Outgoing) → 
 on_bearer_each P e o is = elim e.mended as (λ t. Each P (if t then o ∷ [] else [])) [ true ↦ Each-one P o is | false ↦ Each-none P ]
 
 -- a RESET is of no session
-reset_notice : (x y : View) (b : ℕ) (e : LinkEnd) → ArePaired x y → (x.wires b).end ≡ Some e → IsNotice (notice e (header.Reset (shown_by e)))
+pub reset_notice : (x y : View) (b : ℕ) (e : LinkEnd) → ArePaired x y → (x.wires b).end ≡ Some e → IsNotice (notice e (header.Reset (shown_by e)))
 reset_notice x y b e h is es er p fits bytes =
     let end = h.here.ends b e is in
     let said = notice_fits x.node b e (header.Reset (shown_by e)) h.here.node end (shown_fits x.node b e h.here.node end) (refl, refl) refl (omega arith) in

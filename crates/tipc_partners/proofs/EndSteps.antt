@@ -95,7 +95,7 @@ knows_stepped x y b true h none =
     let mended = mends_stepped made.0 y b e h' made.1.end in
     let second = subst (λ p. Stepped made.0 y mended.0 b (mended_end e) (mend_frames e) [] [] p) made.1.partial_is mended.1 in
     let same = node_of_end made.0 y mended.0 b e (mended_end e) h' (acts_all made.0 y mended.0 h' mended.1.acts) made.1.end mended.1.end mended.1.whose refl refl in
-    (mended.0, then_stepped x y made.0 mended.0 b e (mended_end e) [] (mend_frames e) [] [] x.partial x.partial first second same (λ s is. absurd (let wrong : ⊥ = cc in wrong)))
+    (mended.0, then_stepped x y made.0 mended.0 b e (mended_end e) [] (mend_frames e) [] [] x.partial x.partial first second same (λ c epoch apart. made.1.line c epoch))
 
 -- ---- calls of the link states
 

@@ -29,4 +29,6 @@ pub mod EndCalls
 pub mod Steps
 pub mod Seeing
 pub mod EndSteps
+pub mod Notices
+pub mod Arrivals
 pub mod Sights

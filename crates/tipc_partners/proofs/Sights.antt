@@ -1,19 +1,23 @@
 -- Two nodes stay partners as a world tells of them, whatever either does.
-use Rattle.std.proofs.Common.{◌≡◌, ℕ, ◌+◌, ◌<◌, ◌^◌, Bool, true, false, List, [], Some, None, if◌then◌else◌, length, refl, sym, ap, ◌∙◌, subst, arith}
+use Rattle.std.proofs.Common.{◌≡◌, ℕ, ◌+◌, ◌<◌, ◌^◌, Bool, true, false, List, [], ◌++◌, Some, None, if◌then◌else◌, length, refl, sym, ap, ◌∙◌, subst, arith}
 use Rattle.std.specs.Prelude.{slice_get}
 use Rattle.tipc_outside.specs.declared.outgoing.Outgoing.{Outgoing}
 use Rattle.tipc_fragments.specs.Joining.{Joining, fresh}
 use Rattle.tipc_header.specs.Spelling.{Fields}
+use Rattle.tipc_reassembly.specs.Slots.{packets_in}
 use Rattle.tipc_contact.specs.Sides.{first_number}
 use Rattle.tipc_link.specs.Laws.{IsPrefixOf}
-use Rattle.tipc_link.specs.Links.{LinkEnd, is_traffic, mend_frames, mended_end}
+use Rattle.tipc_link.specs.Links.{LinkEnd, answered_end, answered_frames, is_traffic, mend_frames, mended_end}
 use Rattle.tipc_link_fsm.specs.Table.{on_cut, on_tick}
 use Rattle.tipc_types.specs.declared.link_words.BroadcastState.{BroadcastState}
 use Rattle.tipc_pair.proofs.SessionsHeard.{same_packet}
 use Rattle.tipc_pair.specs.Paired.{IsShowable}
-use Rattle.tipc_pair.specs.Pairs.{change_of, cut_pair, tick_frames, tick_pair}
-use Rattle.tipc_pair.specs.Partners.{IsMessage, begun_after}
+use Rattle.tipc_pair.specs.Pairs.{arrival, change_of, cut_pair, tick_frames, tick_pair}
+use Rattle.tipc_pair.specs.Partners.{IsMessage, OpensTo, begun_after, opened_in}
+use Rattle.tipc_partners.proofs.Arrivals.{arrival_met, arrival_stepped}
+use Rattle.tipc_partners.proofs.Contacts.{put_here}
 use Rattle.tipc_partners.proofs.EndSteps.{StepsTo, cuts_stepped, knows_stepped, mends_stepped, puts_stepped, ticks_stepped}
+use Rattle.tipc_partners.proofs.Notices.{Reaches}
 use Rattle.tipc_partners.proofs.PartnersLaw.{acts_all, front as front_law, start, turned as turn}
 use Rattle.tipc_partners.proofs.Seeing.{only_end, stepped_seen, told_still}
 use Rattle.tipc_partners.proofs.Truth.{told_true}
@@ -21,7 +25,7 @@ use Rattle.tipc_partners.proofs.Wires.{none_some}
 use Rattle.tipc_partners.specs.Deeds.{made_on, restarted as begun_again, restarts}
 use Rattle.tipc_partners.specs.Paired.{IsEnd, IsNew as IsNewView}
 use Rattle.tipc_partners.specs.Partners.{ActsAll, ArePartners, Partner, beginning, changes, follows, nothing, renewed}
-use Rattle.tipc_partners.specs.Sights.{AreSeen, CutsSeen, EndsSeen, FramesSeen, FrontsSeen, Goes, HasOnly, IsNew, IsSeen, KnowsSeen, MendsSeen, PutsSeen, Restarts, RestartsSeen, Sight, StartsSeen, TicksSeen, TruthsSeen, TurnedSeen}
+use Rattle.tipc_partners.specs.Sights.{ArrivesSeen, AreSeen, Comes, CutsSeen, GivesSeen, EndsSeen, FramesSeen, FrontsSeen, Goes, HasOnly, IsNew, IsSeen, KnowsSeen, MendsSeen, PutsSeen, Restarts, RestartsSeen, Sight, StartsSeen, TicksSeen, TruthsSeen, TurnedSeen}
 use Rattle.tipc_partners.specs.Truth.{IsTold}
 use Rattle.tipc_partners.specs.Views.{Frame, Node, View, unused}
 
@@ -134,6 +138,56 @@ puts v v' w b e s s' m h only up session put message g =
     let x = h.here in
     let steps = puts_stepped x h.there b e s s' m h.partners (only_end x v b e h.seen_here only) up session put (subst (λ (n : Node). IsMessage n.own m) (sym h.seen_here.node) message) in
     seen_by v v' w b _ _ _ [] v.partial h g (subst (λ p. StepsTo x h.there b _ _ _ [] p) h.seen_here.partial steps)
+
+-- ---- an arrival
+
+-- the frame in the air was told
+reached : (v w : Sight) (b es er : ℕ) (p : Fields) → (h : AreSeen v w) → Comes v w b es er p → Reaches h.here.view h.there.view b es er p
+reached v w b es er p h c =
+    let t = h.seen_there.sent c.place c.frame c.there in
+    let here = h.seen_here.numbered b er in
+    let there = h.seen_there.numbered b es in
+    let behind = t.numbered in
+    let theirs = t.peer_numbered in
+    record {
+      place = t.place;
+      frame = t.frame;
+      there = t.there;
+      bearer_is = t.bearer_is ∙ c.bearer_is;
+      es_fits = c.es_fits;
+      er_fits = c.er_fits;
+      fits = c.fits;
+      bytes = t.bytes ∙ c.bytes;
+      own_fresh = λ traffic. (let fresh = c.own_fresh traffic in omega arith);
+      peer_fresh = λ traffic. (let fresh = c.peer_fresh traffic in omega arith);
+    }
+
+pub arrives : ArrivesSeen
+arrives v v' w b e es er p by shown shown' out last h only c showable showable' o g =
+    let m = arrival e es er p by shown in
+    let opens = subst (λ q. OpensTo (begun_after m.change q) m.outcome out last) (sym h.seen_here.partial) o in
+    seen_by v v' w b (answered_end m.after) (m.frames ++ answered_frames m.after shown') [] (packets_in (opened_in out)) last h g
+    (arrival_stepped h.here h.there b e es er p by shown shown' out last h.partners (only_end h.here v b e h.seen_here only) (reached v w b es er p h c) showable showable' opens)
+
+-- what an arrival gives, with what was given before it, is a front of what the other put
+pub gives : GivesSeen
+gives v w b e es er p by shown out last h only c showable o =
+    let x = h.here in
+    let m = arrival e es er p by shown in
+    let n = x.view.node in
+    let opens = subst (λ q. OpensTo (begun_after m.change q) m.outcome out last) (sym h.seen_here.partial) o in
+    let met = arrival_met x h.there b e es er p by shown out last h.partners (only_end x v b e h.seen_here only) (reached v w b es er p h c) showable opens in
+    let after = met.0.0 in
+    let all : IsPrefixOf (after.given n.contact n.seen) (h.there.put n.seen n.contact) = front_law after h.there (acts_all x h.there after h.partners met.0.1.acts) n.contact n.seen in
+    let given : after.given n.contact n.seen ≡ x.given n.contact n.seen ++ packets_in (opened_in out) = met.0.1.given_is n.contact n.seen ∙ put_here x.given n.contact n.seen (x.given n.contact n.seen ++ packets_in (opened_in out)) in
+    let here : IsPrefixOf (v.given n.contact n.seen ++ packets_in (opened_in out)) (w.put n.seen n.contact) =
+    subst (λ ms. IsPrefixOf (ms ++ packets_in (opened_in out)) (w.put n.seen n.contact)) (h.seen_here.given n.contact n.seen)
+    (subst (λ ms. IsPrefixOf (x.given n.contact n.seen ++ packets_in (opened_in out)) ms) (h.seen_there.put n.seen n.contact) (subst (λ ms. IsPrefixOf ms (h.there.put n.seen n.contact)) given all)) in
+    record {
+      whole = met.1;
+      front = subst (λ (k : Node). IsPrefixOf (v.given k.contact k.seen ++ packets_in (opened_in out)) (w.put k.seen k.contact)) h.seen_here.node here;
+      contact = met.2;
+    }
 
 -- ---- what holds of both
 

@@ -54,7 +54,7 @@ said_still x y after b o h acts same t =
     (subst (λ (n : Node). IsLater t.frame.contact t.frame.peer_contact n.contact n.seen) same now.till) in
     record { told = t; contact = inr (contact.0 ∙ ap (λ (n : Node). n.contact) (sym same), contact.1 ∙ ap (λ (n : Node). n.seen) (sym same)) }
 
-said_became : (x y after : Partner) (b : ℕ) (e : LinkEnd) (frames : List Outgoing) (partial : Joining) → ArePartners x y → (h : Became x y after b e frames partial) → Each (IsSaid x.view after.view b) frames
+pub said_became : (x y after : Partner) (b : ℕ) (e : LinkEnd) (frames : List Outgoing) (partial : Joining) → ArePartners x y → (h : Became x y after b e frames partial) → Each (IsSaid x.view after.view b) frames
 said_became x y after b e frames partial p h k o there = elim h.steady [
   | inl same ↦ said_still x y after b o p h.acts same (h.told k o there)
   | inr notices ↦ record { told = h.told k o there; contact = inl (notices k o there) }
@@ -153,13 +153,11 @@ said_since x y mid after b o acts h = record {
   contact = h.contact;
 }
 
--- what the session of an end that stays numbered is all that was numbered
-both_lines : (x mid after : View) (b : ℕ) (d e : LinkEnd) → ((s : SessionEnd) → d.session ≡ Some s → (t : SessionEnd) × (e.session ≡ Some t) × (t.epoch ≡ s.epoch))
-    → ((c epoch : ℕ) → ((s : SessionEnd) → d.session ≡ Some s → c ≡ b → s.epoch ≢ epoch) → (mid.wires c).line epoch ≡ (x.wires c).line epoch)
-    → ((c epoch : ℕ) → ((s : SessionEnd) → e.session ≡ Some s → c ≡ b → s.epoch ≢ epoch) → (after.wires c).line epoch ≡ (mid.wires c).line epoch)
-    → (c epoch : ℕ) → ((s : SessionEnd) → e.session ≡ Some s → c ≡ b → s.epoch ≢ epoch) → (after.wires c).line epoch ≡ (x.wires c).line epoch
-both_lines x mid after b d e onward first second c epoch apart =
-    second c epoch apart ∙ first c epoch (λ s is here same. (let next = onward s is in apart next.0 next.1 here (next.2 ∙ same)))
+-- where an end goes on with its session, nothing was numbered but in that
+pub onward_lines : (x mid : View) (b : ℕ) (d e : LinkEnd) → ((c epoch : ℕ) → ((s : SessionEnd) → d.session ≡ Some s → c ≡ b → s.epoch ≢ epoch) → (mid.wires c).line epoch ≡ (x.wires c).line epoch)
+    → ((s : SessionEnd) → d.session ≡ Some s → (t : SessionEnd) × (e.session ≡ Some t) × (t.epoch ≡ s.epoch))
+    → (c epoch : ℕ) → ((s : SessionEnd) → e.session ≡ Some s → c ≡ b → s.epoch ≢ epoch) → (mid.wires c).line epoch ≡ (x.wires c).line epoch
+onward_lines x mid b d e first onward c epoch apart = first c epoch (λ s is here same. (let next = onward s is in apart next.0 next.1 here (next.2 ∙ same)))
 
 -- what came to a contact, when nothing more came
 more_then : (f g h : ℕ → ℕ → List (List ℕ)) (own theirs own' theirs' : ℕ) (more : List (List ℕ)) → ((k l : ℕ) → g k l ≡ put_in f own theirs (f own theirs ++ more) k l)
@@ -168,16 +166,17 @@ more_then f g h own theirs own' theirs' more first second k l =
     second k l ∙ by_contact own' theirs' (λ k l. put_in g own' theirs' (g own' theirs' ++ []) k l ≡ g k l)
     (put_here g own' theirs' (g own' theirs' ++ []) ∙ append-nil (g own' theirs')) (λ k l other. put_else g own' theirs' (g own' theirs' ++ []) k l other) k l ∙ first k l
 
--- The first part, and then one that puts and gives nothing more, and leaves the contact numbers as they are. Where the first numbered
--- packets in a session, the second goes on with it.
+-- The first part, which numbered nothing but in the session of the end that comes, and then one that puts and gives nothing more, and leaves
+-- the contact numbers as they are.
 pub then_stepped : (x y mid after : Partner) (b : ℕ) (d e : LinkEnd) (first second : List Outgoing) (put given : List (List ℕ)) (partial last : Joining) → Stepped x y mid b d first put given partial → Stepped mid y after b e second [] [] last
-    → after.view.node ≡ mid.view.node → ((s : SessionEnd) → d.session ≡ Some s → (t : SessionEnd) × (e.session ≡ Some t) × (t.epoch ≡ s.epoch)) → Stepped x y after b e (first ++ second) put given last
-then_stepped x y mid after b d e first second put given partial last h k same onward = record {
+    → after.view.node ≡ mid.view.node → ((c epoch : ℕ) → ((s : SessionEnd) → e.session ≡ Some s → c ≡ b → s.epoch ≢ epoch) → (mid.view.wires c).line epoch ≡ (x.view.wires c).line epoch)
+    → Stepped x y after b e (first ++ second) put given last
+then_stepped x y mid after b d e first second put given partial last h k same lines = record {
   acts = acts_then x y mid after h.acts k.acts;
   end = k.end;
   whose = record { own = k.whose.own ∙ h.whose.own; peer = k.whose.peer ∙ h.whose.peer; boot = k.whose.boot ∙ h.whose.boot };
   said = Each-append (IsSaid x.view after.view b) first second (λ i o is. said_on x y mid after b o k.acts same (h.said i o is)) (λ i o is. said_since x y mid after b o h.acts (k.said i o is));
-  line = both_lines x.view mid.view after.view b d e onward h.line k.line;
+  line = λ c epoch apart. k.line c epoch apart ∙ lines c epoch apart;
   put_is = more_then x.put mid.put after.put x.view.node.contact x.view.node.seen mid.view.node.contact mid.view.node.seen put h.put_is k.put_is;
   given_is = more_then x.given mid.given after.given x.view.node.contact x.view.node.seen mid.view.node.contact mid.view.node.seen given h.given_is k.given_is;
   partial_is = k.partial_is;
