@@ -16,6 +16,7 @@ use Rattle.tipc_pair.specs.Paired.{IsShowable}
 use Rattle.tipc_pair.specs.Pairs.{arrival}
 use Rattle.tipc_pair.specs.Partners.{OpensTo, begun_after, opened_in}
 use Rattle.tipc_partners.specs.Sights.{AreSeen, Comes, HasOnly, Sight}
+use Rattle.tipc_partners.proofs.Sights.{gives}
 use Rattle.tipc_node.specs.Neighbours.{no_broadcast}
 use Rattle.tipc_world.specs.declared.air.Sent.{Sent}
 use Rattle.tipc_world.specs.Deeds.{Hears}
@@ -26,7 +27,6 @@ use Rattle.tipc_world.specs.Views.{sight_at}
 use Rattle.tipc_world.proofs.HistoryPackets.{Brings, IsOfMessage, put_message}
 use Rattle.tipc_world.proofs.PairedDeeds.{shows_none}
 use Rattle.tipc_world.proofs.Standing.{sight_only, sight_partial}
-use Rattle.tipc_world.proofs.Stub.{gives}
 use Rattle.tipc_world.proofs.Turning.{sight_in}
 
 in_middle : {A : Type 0} (xs ys zs : List A) (k : ℕ) (x : A) → slice_get ys k ≡ Some x → slice_get ((xs ++ ys) ++ zs) (length xs + k) ≡ Some x

@@ -1,4 +1,3 @@
-pub mod Stub
 pub mod Calls
 pub mod Outcomes
 pub mod Ages

@@ -7,6 +7,7 @@ use Rattle.tipc_reassembly.specs.Slots.{packets_in}
 use Rattle.tipc_pair.specs.Pairs.{Met}
 use Rattle.tipc_pair.specs.Partners.{OpensTo, begun_after, opened_in}
 use Rattle.tipc_partners.specs.Sights.{Goes}
+use Rattle.tipc_partners.proofs.Sights.{arrives}
 use Rattle.tipc_node.specs.Neighbours.{heard_frames, heard_neighbour, in_step_after, met_by, no_broadcast}
 use Rattle.tipc_world.specs.declared.air.Sent.{Sent}
 use Rattle.tipc_world.specs.Deeds.{Hears}
@@ -19,7 +20,6 @@ use Rattle.tipc_world.proofs.PairedChanges.{IsOne, one_pairs}
 use Rattle.tipc_world.proofs.PairedDeeds.{shows_none}
 use Rattle.tipc_world.proofs.Reaching.{IsReached, comes}
 use Rattle.tipc_world.proofs.Standing.{IsAcquainted, all_names, sight_only, sight_partial}
-use Rattle.tipc_world.proofs.Stub.{arrives}
 use Rattle.tipc_world.proofs.Turning.{AllPaired, Records, sight_in, was_there}
 
 -- a packet that reaches the link to a peer
