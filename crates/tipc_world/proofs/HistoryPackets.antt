@@ -29,7 +29,6 @@ use Rattle.tipc_link.proofs.LinkLaw.{Each, Each-append, Each-none, Each-one}
 use Rattle.tipc_pair.specs.Pairs.{Met}
 use Rattle.tipc_pair.specs.Partners.{IsInContact, opened_in}
 use Rattle.tipc_partners.specs.Sights.{Sight, come}
-use Rattle.tipc_world.specs.declared.air.Sent.{Sent}
 use Rattle.tipc_world.specs.Deeds.{Hears, Puts}
 use Rattle.tipc_world.specs.Members.{bytes_of}
 use Rattle.tipc_world.specs.Sound.{IsSendable}

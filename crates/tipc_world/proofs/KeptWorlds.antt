@@ -23,7 +23,7 @@ use Rattle.tipc_node.specs.declared.neighbours.Deed.{Deed}
 use Rattle.tipc_node.specs.declared.neighbours.Deed.TheVariants as deed
 use Rattle.tipc_node.specs.declared.neighbours.Neighbour.{Neighbour}
 use Rattle.tipc_node.specs.Neighbours.{heard_neighbour, no_broadcast}
-use Rattle.tipc_node.specs.Nodes.{direct, limit_of, neighbour_of, new_pair, refusal, session_with, stop_of}
+use Rattle.tipc_node.specs.Nodes.{direct, limit_of, neighbour_of, new_pair, refusal, stop_of}
 use Rattle.tipc_world.specs.declared.air.Arrived.{Arrived}
 use Rattle.tipc_pair.specs.Partners.{begun_after}
 use Rattle.tipc_world.specs.declared.air.Sent.{Sent}

@@ -6,7 +6,7 @@ use Rattle.tipc_outside.specs.declared.outgoing.Outgoing.{Outgoing}
 use Rattle.tipc_link.specs.Links.{LinkEnd}
 use Rattle.tipc_link.specs.Sessions.{SessionEnd}
 use Rattle.tipc_fragments.specs.Joining.{Joining}
-use Rattle.tipc_partners.specs.Sights.{AreSeen, Goes, HasOnly, Sight, come, sent_as}
+use Rattle.tipc_partners.specs.Sights.{AreSeen, Goes, Sight, come, sent_as}
 use Rattle.tipc_partners.proofs.Sights.{turned}
 use Rattle.tipc_world.specs.declared.air.Sent.{Sent}
 use Rattle.tipc_world.specs.Sound.{IsNumber}
