@@ -8,11 +8,11 @@ use Rattle.tipc_types.specs.Address.{node_word}
 use Rattle.tipc_types.specs.declared.identity.To.{To}
 use Rattle.tipc_types.specs.declared.identity.To.TheVariants as to
 use Rattle.tipc_outside.specs.declared.outgoing.Outgoing.{Outgoing}
-use Rattle.tipc_pair.specs.Views.{framed, own_of, seen_of}
+use Rattle.tipc_partners.specs.Sights.{sent_as}
 use Rattle.tipc_world.specs.declared.air.Sent.{Sent}
 use Rattle.tipc_world.specs.Air.{Leaves, airborne, as_frame, goes, is_to, receiver_of, sent_between}
 use Rattle.tipc_world.specs.States.{MemberState}
-use Rattle.tipc_world.specs.Views.{view_at}
+use Rattle.tipc_world.specs.Views.{sight_at}
 
 -- whether a frame that leaves is for node b
 abbrev pub is_out_to : ℕ → Outgoing → Bool
@@ -28,8 +28,8 @@ receiver_is b (to.Node address) is = let word : address.word ≡ node_word b = e
 receiver_is b to.All is = absurd cc
 
 -- a frame in the air is what the pair of nodes says of it
-framed_as : (members : List (Option MemberState)) (air : List Sent) (a b : ℕ) (o : Outgoing) → is_out_to b o ≡ true → as_frame (airborne members a o) ≡ framed (view_at members air a b) (view_at members air b a) o
-unfolding view_at own_of seen_of
+framed_as : (members : List (Option MemberState)) (air : List Sent) (a b : ℕ) (o : Outgoing) → is_out_to b o ≡ true → as_frame (airborne members a o) ≡ sent_as (sight_at members air a b) (sight_at members air b a) 0 o
+unfolding sight_at
 framed_as members air a b o is = rw (receiver_is b o.to is) refl
 
 -- a frame of a node goes to another where it is for that
@@ -48,10 +48,10 @@ passed_alike f g x y xs ys true false same here later = absurd cc
 passed_alike f g x y xs ys false true same here later = absurd cc
 
 emitted : (members : List (Option MemberState)) (air : List Sent) (a b : ℕ) (frames : List Outgoing)
-    → map as_frame (filter (goes a b) (map (airborne members a) frames)) ≡ map (framed (view_at members air a b) (view_at members air b a)) (frames_to b frames)
+    → map as_frame (filter (goes a b) (map (airborne members a) frames)) ≡ map (sent_as (sight_at members air a b) (sight_at members air b a) 0) (frames_to b frames)
 emitted members air a b [] = refl
 emitted members air a b (o ∷ os) =
-    passed_alike as_frame (framed (view_at members air a b) (view_at members air b a)) (airborne members a o) o _ _ _ _ (goes_out members a b o) (framed_as members air a b o) (emitted members air a b os)
+    passed_alike as_frame (sent_as (sight_at members air a b) (sight_at members air b a) 0) (airborne members a o) o _ _ _ _ (goes_out members a b o) (framed_as members air a b o) (emitted members air a b os)
 
 -- the frames of another node are none of these
 emitted_apart : (members : List (Option MemberState)) (a c b : ℕ) (frames : List Outgoing) → c ≢ a → filter (goes c b) (map (airborne members a) frames) ≡ []
@@ -75,7 +75,7 @@ front_to b (suc count) (o ∷ os) = case (front_to b count os) (is_out_to b o)
 -- the frames of node a to b, after the event at a
 pub record Adds (members : List (Option MemberState)) (old new : List Sent) (a b : ℕ) (frames : List Outgoing) : Type 0 where
   pub count : ℕ
-  pub sent : sent_between new a b ≡ sent_between old a b ++ map (framed (view_at members new a b) (view_at members new b a)) (take count (frames_to b frames))
+  pub sent : sent_between new a b ≡ sent_between old a b ++ map (sent_as (sight_at members new a b) (sight_at members new b a) 0) (take count (frames_to b frames))
 
 pub sent_adds : (members : List (Option MemberState)) (old new : List Sent) (a b : ℕ) (frames : List Outgoing) (lost : Bool) → Leaves old new members a frames lost → Adds members old new a b frames
 unfolding sent_between
@@ -86,7 +86,7 @@ sent_adds members old new a b frames lost l =
           ap (λ air. map as_frame (filter (goes a b) air)) l.air
           ∙ ap (map as_frame) (filter-append (goes a b) old (map (airborne members a) front))
           ∙ map-append as_frame (filter (goes a b) old) _
-          ∙ ap (λ fs. map as_frame (filter (goes a b) old) ++ fs) (emitted members new a b front ∙ ap (map (framed (view_at members new a b) (view_at members new b a))) (front_to b l.count frames));
+          ∙ ap (λ fs. map as_frame (filter (goes a b) old) ++ fs) (emitted members new a b front ∙ ap (map (sent_as (sight_at members new a b) (sight_at members new b a) 0)) (front_to b l.count frames));
     }
 
 pub sent_same : (members : List (Option MemberState)) (old new : List Sent) (a c b : ℕ) (frames : List Outgoing) (lost : Bool) → Leaves old new members a frames lost → c ≢ a → sent_between new c b ≡ sent_between old c b

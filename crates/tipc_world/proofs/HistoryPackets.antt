@@ -1,4 +1,4 @@
--- What an event adds to the packets that were put on the links of its node and taken from them.
+-- What an event adds to the packets of the messages that its node put for each other node and was given.
 use Rattle.std.proofs.Common.{◌≡◌, ◌≢◌, ◌⊎◌, ◌==◌, ◌&&◌, ℕ, suc, Bool, true, false, if◌then◌else◌, List, [], ◌∷◌, ◌++◌, Option, Some, None, inl, inr, map, slice_get, refl, sym, ap, subst, ◌∙◌, append-nil, eq-eqb, arith}
 use Rattle.std.specs.Prelude.{option_map}
 use Rattle.std.proofs.Math.Path.{fun_ext}
@@ -28,27 +28,17 @@ use Rattle.tipc_link.specs.Links.{LinkEnd}
 use Rattle.tipc_link.proofs.LinkLaw.{Each, Each-append, Each-none, Each-one}
 use Rattle.tipc_pair.specs.Pairs.{Met}
 use Rattle.tipc_pair.specs.Partners.{IsInContact, opened_in}
-use Rattle.tipc_pair.specs.Views.{View, come, own_of, seen_of}
-use Rattle.tipc_world.specs.declared.air.Sent.{Sent}
+use Rattle.tipc_partners.specs.Sights.{Sight, come}
 use Rattle.tipc_world.specs.Deeds.{Hears, Puts}
 use Rattle.tipc_world.specs.Members.{bytes_of}
 use Rattle.tipc_world.specs.Sound.{IsSendable}
-use Rattle.tipc_world.specs.States.{MemberState, history, link_at, stream_of}
-use Rattle.tipc_world.specs.Views.{put_in, took_in, view_at}
+use Rattle.tipc_world.specs.States.{MemberState, history, stream_of}
+use Rattle.tipc_world.specs.Views.{given_in, put_in}
 use Rattle.std.specs.Prelude.{option_to_list}
+use Rattle.tipc_world.proofs.LookUps.{either_way}
 use Rattle.tipc_world.proofs.Messages.{bytes_are}
 use Rattle.tipc_world.proofs.Histories.{Grew, KeepsStreams, come_none, come_to, keeps_grew, messages_given}
 use Rattle.tipc_world.proofs.HistoryEvents.{hears_grew, puts_grew}
-
--- ---- the contact that a view shows
-
-pub own_of-view : (members : List (Option MemberState)) (air : List Sent) (a b : ℕ) (e : LinkEnd) → link_at members a b ≡ Some e → own_of (view_at members air a b) ≡ e.contact
-unfolding view_at own_of
-own_of-view members air a b e is = rw is refl
-
-pub seen_of-view : (members : List (Option MemberState)) (air : List Sent) (a b : ℕ) (e : LinkEnd) → link_at members a b ≡ Some e → seen_of (view_at members air a b) ≡ e.peer_contact
-unfolding view_at seen_of
-seen_of-view members air a b e is = rw is refl
 
 -- ---- packets
 
@@ -56,27 +46,27 @@ chosen_packets : (t : Bool) (ms : List Message) → map bytes_of (if t then ms e
 chosen_packets true ms = refl
 chosen_packets false ms = refl
 
-come_here : (x : View) (peer own theirs own' theirs' : ℕ) (ms : List Message) → own_of x ≡ own → seen_of x ≡ theirs
+come_here : (x : Sight) (peer own theirs own' theirs' : ℕ) (ms : List Message) → x.node.contact ≡ own → x.node.seen ≡ theirs
     → map bytes_of (come_to peer own theirs ms peer own' theirs' Zero) ≡ come x (map bytes_of ms) own' theirs'
 come_here x peer own theirs own' theirs' ms own_is seen_is =
     ap (λ t. map bytes_of (if t && ((own' == own) && (theirs' == theirs)) then ms else [])) (eq-eqb peer peer refl)
     ∙ chosen_packets ((own' == own) && (theirs' == theirs)) ms
     ∙ ap (λ n. if (own' == n) && (theirs' == theirs) then map bytes_of ms else []) (sym own_is)
-    ∙ ap (λ n. if (own' == own_of x) && (theirs' == n) then map bytes_of ms else []) (sym seen_is)
+    ∙ ap (λ n. if (own' == x.node.contact) && (theirs' == n) then map bytes_of ms else []) (sym seen_is)
 
 pub come_elsewhere : (peer own theirs b own' theirs' : ℕ) (flow : Flow) (ms : List Message) → b ≢ peer → come_to peer own theirs ms b own' theirs' flow ≡ []
 come_elsewhere peer own theirs b own' theirs' flow ms apart =
     let not_it : (b == peer) ≡ false = grind (arith, nat_tests) in
     ap (λ t. if t && (flow_eq flow Zero && ((own' == own) && (theirs' == theirs))) then ms else []) not_it
 
--- Packets were put and taken in the contact with a peer that a view shows, and none in one with another node.
-pub record PacketsGrew (old new : List Entry) (peer : ℕ) (x : View) (put took : List (List ℕ)) : Type 0 where
+-- Packets were put and given in the contact with a peer that a sight shows, and none in one with another node.
+pub record PacketsGrew (old new : List Entry) (peer : ℕ) (x : Sight) (put given : List (List ℕ)) : Type 0 where
   pub put_is : (own theirs : ℕ) → put_in new peer own theirs ≡ put_in old peer own theirs ++ come x put own theirs
-  pub took_is : (own theirs : ℕ) → took_in new peer own theirs ≡ took_in old peer own theirs ++ come x took own theirs
+  pub given_is : (own theirs : ℕ) → given_in new peer own theirs ≡ given_in old peer own theirs ++ come x given own theirs
   pub put_else : (b : ℕ) → b ≢ peer → put_in new b ≡ put_in old b
-  pub took_else : (b : ℕ) → b ≢ peer → took_in new b ≡ took_in old b
+  pub given_else : (b : ℕ) → b ≢ peer → given_in new b ≡ given_in old b
 
-more_packets : (x : View) (peer own theirs own' theirs' : ℕ) (now was ms : List Message) → own_of x ≡ own → seen_of x ≡ theirs → now ≡ was ++ come_to peer own theirs ms peer own' theirs' Zero
+more_packets : (x : Sight) (peer own theirs own' theirs' : ℕ) (now was ms : List Message) → x.node.contact ≡ own → x.node.seen ≡ theirs → now ≡ was ++ come_to peer own theirs ms peer own' theirs' Zero
     → map bytes_of now ≡ map bytes_of was ++ come x (map bytes_of ms) own' theirs'
 more_packets x peer own theirs own' theirs' now was ms own_is seen_is grew =
     ap (map bytes_of) grew ∙ map-append bytes_of was (come_to peer own theirs ms peer own' theirs' Zero) ∙ ap (λ ps. map bytes_of was ++ ps) (come_here x peer own theirs own' theirs' ms own_is seen_is)
@@ -85,38 +75,28 @@ same_packets : (peer own theirs b own' theirs' : ℕ) (now was ms : List Message
 same_packets peer own theirs b own' theirs' now was ms apart grew =
     ap (map bytes_of) (grew ∙ ap (λ ps. was ++ ps) (come_elsewhere peer own theirs b own' theirs' Zero ms apart) ∙ append-nil was)
 
-pub packets_grew : (old new : List Entry) (peer own theirs : ℕ) (accepts delivers : List Message) (x : View) → Grew old new peer own theirs accepts delivers → own_of x ≡ own → seen_of x ≡ theirs
+pub packets_grew : (old new : List Entry) (peer own theirs : ℕ) (accepts delivers : List Message) (x : Sight) → Grew old new peer own theirs accepts delivers → x.node.contact ≡ own → x.node.seen ≡ theirs
     → PacketsGrew old new peer x (map bytes_of accepts) (map bytes_of delivers)
 packets_grew old new peer own theirs accepts delivers x g own_is seen_is = record {
   put_is = λ own' theirs'. more_packets x peer own theirs own' theirs' _ (accepted old (stream_of peer own' theirs' Zero)) accepts own_is seen_is (g.accepted_is peer own' theirs' Zero);
-  took_is = λ own' theirs'. more_packets x peer own theirs own' theirs' _ (delivered old (stream_of peer own' theirs' Zero)) delivers own_is seen_is (g.delivered_is peer own' theirs' Zero);
+  given_is = λ own' theirs'. more_packets x peer own theirs own' theirs' _ (delivered old (stream_of peer own' theirs' Zero)) delivers own_is seen_is (g.delivered_is peer own' theirs' Zero);
   put_else = λ b apart. fun_ext (λ own'. fun_ext (λ theirs'. same_packets peer own theirs b own' theirs' (accepted new (stream_of b own' theirs' Zero)) (accepted old (stream_of b own' theirs' Zero)) accepts apart (g.accepted_is b own' theirs' Zero)));
-  took_else = λ b apart. fun_ext (λ own'. fun_ext (λ theirs'. same_packets peer own theirs b own' theirs' (delivered new (stream_of b own' theirs' Zero)) (delivered old (stream_of b own' theirs' Zero)) delivers apart (g.delivered_is b own' theirs' Zero)));
+  given_else = λ b apart. fun_ext (λ own'. fun_ext (λ theirs'. same_packets peer own theirs b own' theirs' (delivered new (stream_of b own' theirs' Zero)) (delivered old (stream_of b own' theirs' Zero)) delivers apart (g.delivered_is b own' theirs' Zero)));
 }
 
--- nothing came to the packets of a contact, as each view tells it
-pub nothing_more : (x : View) (old new : ℕ → ℕ → List (List ℕ)) → new ≡ old → (own theirs : ℕ) → new own theirs ≡ old own theirs ++ come x [] own theirs
+-- nothing came to the packets of a contact, as each sight tells it
+pub nothing_more : (x : Sight) (old new : ℕ → ℕ → List (List ℕ)) → new ≡ old → (own theirs : ℕ) → new own theirs ≡ old own theirs ++ come x [] own theirs
 nothing_more x old new same own theirs =
-    ap (λ ps. ps own theirs) same ∙ sym (append-nil (old own theirs)) ∙ ap (λ more. old own theirs ++ more) (sym (none_chosen ((own == own_of x) && (theirs == seen_of x))))
-  where
-    none_chosen : (t : Bool) → let none : List (List ℕ) = [] in (if t then none else none) ≡ none
-    none_chosen true = refl
-    none_chosen false = refl
+    ap (λ ps. ps own theirs) same ∙ sym (append-nil (old own theirs)) ∙ ap (λ more. old own theirs ++ more) (sym (either_way ((own == x.node.contact) && (theirs == x.node.seen)) []))
 
 -- where nothing came to the streams, nothing came to the packets of any node
-pub put_kept : (old new : List Entry) (b : ℕ) → KeepsStreams old new → put_in new b ≡ put_in old b
-put_kept old new b k = fun_ext (λ own. fun_ext (λ theirs. ap (map bytes_of) (k.accepted_same (stream_of b own theirs Zero))))
-
-pub took_kept : (old new : List Entry) (b : ℕ) → KeepsStreams old new → took_in new b ≡ took_in old b
-took_kept old new b k = fun_ext (λ own. fun_ext (λ theirs. ap (map bytes_of) (k.delivered_same (stream_of b own theirs Zero))))
-
-pub packets_kept : (old new : List Entry) (peer : ℕ) (x : View) → KeepsStreams old new → PacketsGrew old new peer x [] []
-packets_kept old new peer x k = packets_grew old new peer (own_of x) (seen_of x) [] [] x (keeps_grew old new peer (own_of x) (seen_of x) k) refl refl
+pub packets_kept : (old new : List Entry) (peer : ℕ) (x : Sight) → KeepsStreams old new → PacketsGrew old new peer x [] []
+packets_kept old new peer x k = packets_grew old new peer x.node.contact x.node.seen [] [] x (keeps_grew old new peer x.node.contact x.node.seen k) refl refl
 
 -- ---- a message is put
 
-pub puts_packets : (stamp : ℕ) (event : EventNote) (peer : ℕ) (message : Message) (m m' : MemberState) (frames : List Outgoing) (answered : Answer) (h : Puts stamp event peer message m m' frames answered) (x : View)
-    → own_of x ≡ h.neighbour.pair.link.contact → seen_of x ≡ h.neighbour.pair.link.peer_contact → PacketsGrew (history m) (history m') peer x (bytes_of message ∷ []) []
+pub puts_packets : (stamp : ℕ) (event : EventNote) (peer : ℕ) (message : Message) (m m' : MemberState) (frames : List Outgoing) (answered : Answer) (h : Puts stamp event peer message m m' frames answered) (x : Sight)
+    → x.node.contact ≡ h.neighbour.pair.link.contact → x.node.seen ≡ h.neighbour.pair.link.peer_contact → PacketsGrew (history m) (history m') peer x (bytes_of message ∷ []) []
 puts_packets stamp event peer message m m' frames answered h x own_is seen_is =
     packets_grew (history m) (history m') peer h.neighbour.pair.link.contact h.neighbour.pair.link.peer_contact (message ∷ []) [] x (puts_grew stamp event peer message m m' frames answered h) own_is seen_is
 
@@ -203,8 +183,8 @@ hears_delivers stamp place bytes m m' frames answered h brings =
       packets = given.packets;
     }
 
-pub hears_packets : (stamp place : ℕ) (bytes : List ℕ) (m m' : MemberState) (frames : List Outgoing) (answered : Answer) (h : Hears stamp place bytes m m' frames answered) (x : View)
-    → own_of x ≡ h.neighbour.pair.link.contact → seen_of x ≡ h.neighbour.pair.link.peer_contact → Brings h.neighbour.pair.link h.met (opened_in h.out)
+pub hears_packets : (stamp place : ℕ) (bytes : List ℕ) (m m' : MemberState) (frames : List Outgoing) (answered : Answer) (h : Hears stamp place bytes m m' frames answered) (x : Sight)
+    → x.node.contact ≡ h.neighbour.pair.link.contact → x.node.seen ≡ h.neighbour.pair.link.peer_contact → Brings h.neighbour.pair.link h.met (opened_in h.out)
     → PacketsGrew (history m) (history m') h.peer x [] (packets_in (opened_in h.out))
 hears_packets stamp place bytes m m' frames answered h x own_is seen_is brings =
     let d = hears_delivers stamp place bytes m m' frames answered h brings in

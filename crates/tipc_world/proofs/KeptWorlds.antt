@@ -23,7 +23,7 @@ use Rattle.tipc_node.specs.declared.neighbours.Deed.{Deed}
 use Rattle.tipc_node.specs.declared.neighbours.Deed.TheVariants as deed
 use Rattle.tipc_node.specs.declared.neighbours.Neighbour.{Neighbour}
 use Rattle.tipc_node.specs.Neighbours.{heard_neighbour, no_broadcast}
-use Rattle.tipc_node.specs.Nodes.{direct, limit_of, neighbour_of, new_pair, refusal, session_with, stop_of}
+use Rattle.tipc_node.specs.Nodes.{direct, limit_of, neighbour_of, new_pair, refusal, stop_of}
 use Rattle.tipc_world.specs.declared.air.Arrived.{Arrived}
 use Rattle.tipc_pair.specs.Partners.{begun_after}
 use Rattle.tipc_world.specs.declared.air.Sent.{Sent}
@@ -59,7 +59,7 @@ use Rattle.tipc_pair.proofs.Holding.{MetBy, arrival_by}
 use Rattle.tipc_node.specs.Neighbours.{neighbour}
 use Rattle.tipc_world.specs.Spelled.{HasBrought}
 use Rattle.tipc_world.specs.Watched.{addr_of, AreTraced}
-use Rattle.tipc_world.proofs.PairedSends.{session_there}
+use Rattle.tipc_world.proofs.PairedSends.{session_there, session_up}
 use Rattle.tipc_world.proofs.Traced.{brings_packet, given_spelled, hears_by, put_keeps, traced_deed, traced_set, traced_wider}
 use Rattle.tipc_world.proofs.Stepping.{Widens, get_prefix}
 use Rattle.tipc_world.proofs.Turning.{was_there}
@@ -150,14 +150,6 @@ stopped_watched air air' a stamp m bearer place reason f longer there w =
 deed_watched : (air air' : List Sent) (stamp : ℕ) (m : MemberState) (d : Deed) → IsPrefixOf air air' → IsWatched air m → IsWatched air' (deed_member stamp m d)
 deed_watched air air' stamp m d longer w =
     watched_of air' (deed_member stamp m d) (deed_kept (seen_by air' m) m.past m.node.journal (by_in stamp m) d m.node.neighbours (kept_in air air' m longer w)) (traced_deed (seen_by air' m) d m.node.neighbours (traced_in air air' m longer w))
-
--- a link on which a message is put is up
-session_up : (x : Neighbour) (s : SessionEnd) → session_with (Some x) ≡ Some s → is_up x.pair.link.fsm.state ≡ true
-session_up x s is = case (is_up x.pair.link.fsm.state) refl is
-  where
-    case : (b : Bool) → is_up x.pair.link.fsm.state ≡ b → (if b then x.pair.link.session else None) ≡ Some s → is_up x.pair.link.fsm.state ≡ true
-    case true up e = up
-    case false down e = absurd cc
 
 put_watched : (air air' : List Sent) (stamp : ℕ) (event : EventNote) (peer : ℕ) (message : Message) (m m' : MemberState) (frames : List Outgoing) (answered : Answer) → IsPrefixOf air air' → IsWatched air m
     → Puts stamp event peer message m m' frames answered → ((bearer number : ℕ) → event ≡ note.Arrive bearer number → ⊥) → IsWatched air' m'

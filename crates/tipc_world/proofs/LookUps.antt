@@ -10,6 +10,11 @@ use Rattle.tipc_world.specs.Members.{noted_session}
 use Rattle.tipc_fragments.specs.Joining.{fresh}
 use Rattle.tipc_world.specs.States.{MemberState, begun_at, begun_in, boot_at, count_at, count_in, history, history_at, link_at, link_in, member_at, same_session}
 
+-- a choice of the same
+pub either_way : {A : Type 0} (t : Bool) (x : A) → (if t then x else x) ≡ x
+either_way true x = refl
+either_way false x = refl
+
 -- ---- a table of which one place was written
 
 -- a place that holds something is within the table

@@ -10,15 +10,15 @@ use Rattle.tipc_send_window.specs.Sending.{Sending}
 use Rattle.tipc_link_fsm.specs.declared.changes.Change.{Change}
 use Rattle.tipc_link_fsm.specs.declared.changes.Change.TheVariants.{Up, Answer as Answers}
 use Rattle.tipc_link_fsm.specs.Table.{Fsm, Outcome, on_cut, on_tick, tick_in, up_tick}
-use Rattle.tipc_link.specs.Links.{LinkEnd, followed, is_down, with_fsm}
+use Rattle.tipc_link.specs.Links.{LinkEnd, followed, is_down, mend_frames, mended_end, with_fsm}
 use Rattle.tipc_link.specs.Sessions.{SessionEnd, told}
 use Rattle.std.specs.Prelude.{unwrap_or}
-use Rattle.tipc_fragments.specs.Joining.{Joining, fresh}
+use Rattle.tipc_fragments.specs.Joining.{fresh}
 use Rattle.tipc_pair.specs.Paired.{IsShowable}
-use Rattle.tipc_pair.specs.Partners.{ArePartners}
-use Rattle.tipc_pair.specs.Pairs.{settled}
-use Rattle.tipc_pair.specs.Views.{Goes, View}
-use Rattle.tipc_pair.proofs.PartnersCalls.{cuts, mends, ticks}
+use Rattle.tipc_pair.specs.Pairs.{change_of, cut_pair, settled, tick_frames, tick_pair}
+use Rattle.tipc_pair.specs.Partners.{begun_after}
+use Rattle.tipc_partners.specs.Sights.{AreSeen, Goes, HasOnly, Sight}
+use Rattle.tipc_partners.proofs.Sights.{cuts, mends, ticks}
 use Rattle.tipc_node.specs.declared.neighbours.Deed.{Deed}
 use Rattle.tipc_node.specs.declared.neighbours.Deed.TheVariants as deed
 use Rattle.tipc_node.specs.declared.neighbours.Neighbour.{Neighbour}
@@ -32,8 +32,8 @@ use Rattle.tipc_world.specs.Steps.{Stage, Turns}
 use Rattle.tipc_world.proofs.Addressing.{AreFor, Names, either, mend_for, tick_for}
 use Rattle.tipc_world.proofs.Emissions.{frames_to}
 use Rattle.tipc_world.proofs.Shares.{after_at, shares}
-use Rattle.tipc_world.proofs.Standing.{IsAcquainted, all_names, view_counts, view_link}
-use Rattle.tipc_world.proofs.Turning.{AllPaired, IsChanged, IsIdle, PartnersIn, Records, all_paired, begun_now, begun_of, begun_was, goes, idle_pair, view_in, was_there}
+use Rattle.tipc_world.proofs.Standing.{IsAcquainted, all_names, sight_counts, sight_only, sight_partial}
+use Rattle.tipc_world.proofs.Turning.{AllPaired, IsChanged, IsIdle, PartnersIn, Records, all_paired, goes, idle_pair, sight_in, was_there}
 
 -- ---- what a session has numbered stays
 
@@ -87,11 +87,15 @@ done_for deed.Tick x word n = tick_for word x.pair.link (no_broadcast x.in_step)
 pub shows_none : (in_step : Bool) → IsShowable (no_broadcast in_step)
 shows_none in_step = record { acknowledged = omega arith; next = omega arith; start = omega arith; gap = omega arith }
 
-pair_done : (d : Deed) (x : Neighbour) (v v' y : View) (y_begun : Joining) → ArePartners v x.pair.begun y y_begun → v.link ≡ Some x.pair.link → Goes v v' y (done d x).after.pair.link (done d x).frames [] []
-    → ArePartners v' (done d x).after.pair.begun y y_begun
-pair_done deed.Mend x v v' y y_begun h is g = mends v v' y x.pair.begun y_begun x.pair.link h is g
-pair_done deed.Cut x v v' y y_begun h is g = cuts v v' y x.pair.begun _ y_begun x.pair.link h is g
-pair_done deed.Tick x v v' y y_begun h is g = ticks v v' y x.pair.begun y_begun x.pair.link (no_broadcast x.in_step) h is (shows_none x.in_step) g
+pair_done : (d : Deed) (x : Neighbour) (v v' w : Sight) → AreSeen v w → HasOnly v 0 x.pair.link → v.partial ≡ x.pair.begun
+    → Goes v v' w 0 (done d x).after.pair.link (done d x).frames [] [] (done d x).after.pair.begun → AreSeen v' w
+pair_done deed.Mend x v v' w h only begun g = mends v v' w 0 x.pair.link h only (subst (λ j. Goes v v' w 0 (mended_end x.pair.link) (mend_frames x.pair.link) [] [] j) (sym begun) g)
+pair_done deed.Cut x v v' w h only begun g =
+    cuts v v' w 0 x.pair.link h only (subst (λ j. Goes v v' w 0 (cut_pair x.pair.link) [] [] [] (begun_after (change_of x.pair.link (on_cut x.pair.link.fsm false) 0) j)) (sym begun) g)
+pair_done deed.Tick x v v' w h only begun g =
+    let shown = no_broadcast x.in_step in
+    ticks v v' w 0 x.pair.link shown h only (shows_none x.in_step)
+    (subst (λ j. Goes v v' w 0 (tick_pair x.pair.link) (tick_frames x.pair.link shown) [] [] (begun_after (change_of x.pair.link (on_tick x.pair.link.fsm false) 0) j)) (sym begun) g)
 
 -- ---- a node
 
@@ -103,10 +107,11 @@ begun_after_deed stamp d m b = ap (λ o. unwrap_or (option_map (λ (x : Neighbou
 
 changed : (stamp : ℕ) (d : Deed) (m : MemberState) (b : ℕ) (x : Neighbour) → neighbour_of m.node b ≡ Some x → frames_to b (frames_all d m.node.neighbours) ≡ frames_one d (neighbour_of m.node b)
     → ((t : SessionEnd) → x.pair.link.session ≡ Some t → count_in m.counts b t.epoch ≡ t.sending.numbered)
-    → IsChanged m (deed_member stamp m d) (frames_all d m.node.neighbours) b (done d x).after.pair.link (done d x).frames
+    → IsChanged m (deed_member stamp m d) (frames_all d m.node.neighbours) b (done d x).after.pair.link (done d x).frames (done d x).after.pair.begun
 changed stamp d m b x is share counts = record {
   boot = refl;
   link = link_after stamp d m b ∙ ap (λ o. option_map (λ (y : Neighbour). y.pair.link) (after_one d o)) is;
+  begun = begun_after_deed stamp d m b ∙ ap (λ o. unwrap_or (option_map (λ (y : Neighbour). y.pair.begun) (after_one d o)) fresh) is;
   frames_are = share ∙ ap (frames_one d) is;
   numbered_now = λ t has.
       let back = (keeps_done d x).back t has in
@@ -128,25 +133,21 @@ idle stamp d m b is share = record {
 -- what a deed makes of the node towards b
 turned_by : (old new : Stage) (a stamp : ℕ) (d : Deed) (before after : MemberState) (frames : List Outgoing) (lost : Bool) (b : ℕ) (o : Option Neighbour) → neighbour_of before.node b ≡ o
     → Turns old new a before after frames lost → after ≡ deed_member stamp before d → frames ≡ frames_all d before.node.neighbours → frames_to b (frames_all d before.node.neighbours) ≡ frames_one d (neighbour_of before.node b)
-    → b ≢ a → Records (view_in old a b) before after b [] [] → PartnersIn old old a b → PartnersIn new old a b
+    → b ≢ a → Records (sight_in old a b) before after b [] [] → PartnersIn old old a b → PartnersIn new old a b
 turned_by old new a stamp d before after frames lost b None is t then_ frames_are share apart r h =
     let c = idle stamp d before b is share in
     idle_pair old new a before after frames lost b t (subst (λ m. IsIdle before m frames b) (sym then_) (subst (λ fs. IsIdle before (deed_member stamp before d) fs b) (sym frames_are) c)) r h
 turned_by old new a stamp d before after frames lost b (Some x) is t then_ frames_are share apart r h =
     let was = was_there old new a before after frames lost t in
-    let c = changed stamp d before b x is share (view_counts old a b before x _ (view_in old b a) _ was is h) in
-    let c' = subst (λ m. IsChanged before m frames b (done d x).after.pair.link (done d x).frames) (sym then_)
-    (subst (λ fs. IsChanged before (deed_member stamp before d) fs b (done d x).after.pair.link (done d x).frames) (sym frames_are) c) in
-    let at = begun_was old new a before after frames lost t b ∙ ap (λ o. unwrap_or (option_map (λ (y : Neighbour). y.pair.begun) o) fresh) is in
-    let then_at : begun_of new a b ≡ (done d x).after.pair.begun =
-    begun_now old new a before after frames lost t b ∙ ap (λ (m : MemberState). begun_in m.node b) then_ ∙ begun_after_deed stamp d before b ∙ ap (λ o. unwrap_or (option_map (λ (y : Neighbour). y.pair.begun) (after_one d o)) fresh) is in
-    subst (λ j. ArePartners (view_in new a b) j (view_in old b a) (begun_of old b a)) (sym then_at)
-    (pair_done d x (view_in old a b) (view_in new a b) (view_in old b a) (begun_of old b a) (subst (λ j. ArePartners (view_in old a b) j (view_in old b a) (begun_of old b a)) at h) (view_link old a b before x was is)
-    (goes old new a before after frames lost b (done d x).after.pair.link (done d x).frames [] [] t apart c' r))
+    let c = changed stamp d before b x is share (sight_counts old a b before x (sight_in old b a) was is h) in
+    let c' = subst (λ m. IsChanged before m frames b (done d x).after.pair.link (done d x).frames (done d x).after.pair.begun) (sym then_)
+    (subst (λ fs. IsChanged before (deed_member stamp before d) fs b (done d x).after.pair.link (done d x).frames (done d x).after.pair.begun) (sym frames_are) c) in
+    pair_done d x (sight_in old a b) (sight_in new a b) (sight_in old b a) h (sight_only old a b before x was is) (sight_partial old a b before x was is)
+    (goes old new a before after frames lost b (done d x).after.pair.link (done d x).frames [] [] (done d x).after.pair.begun t apart c' r)
 
 -- something happens to all neighbours alike
 pub deed_pairs : (old new : Stage) (a stamp : ℕ) (d : Deed) (before after : MemberState) (frames : List Outgoing) (answered : Answer) (lost : Bool) → AllPaired old → IsAcquainted old.members a
-    → Turns old new a before after frames lost → TakesPart stamp d before after frames answered → ((b : ℕ) → IsNumber b → b ≢ a → Records (view_in old a b) before after b [] []) → AllPaired new
+    → Turns old new a before after frames lost → TakesPart stamp d before after frames answered → ((b : ℕ) → IsNumber b → b ≢ a → Records (sight_in old a b) before after b [] []) → AllPaired new
 deed_pairs old new a stamp d before after frames answered lost paired knows t part records =
     let was = was_there old new a before after frames lost t in
     all_paired old new a before after frames lost paired t (λ b a_is b_is apart h.

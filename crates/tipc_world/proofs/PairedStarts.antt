@@ -7,69 +7,73 @@ use Rattle.tipc_link.specs.Links.{LinkEnd, mend_frames, mended_end}
 use Rattle.tipc_link.specs.Sessions.{SessionEnd}
 use Rattle.std.specs.Prelude.{unwrap_or}
 use Rattle.tipc_fragments.specs.Joining.{Joining, fresh}
-use Rattle.tipc_pair.specs.Partners.{ArePartners}
 use Rattle.tipc_pair.specs.Pairs.{lonely}
-use Rattle.tipc_pair.specs.Views.{Goes, Restarts, View}
-use Rattle.tipc_pair.proofs.PartnersArrives.{restarted as restarts}
-use Rattle.tipc_pair.proofs.PartnersCalls.{knows}
+use Rattle.tipc_partners.specs.Deeds.{made_on}
+use Rattle.tipc_partners.specs.Sights.{AreSeen, Goes, Restarts, Sight}
+use Rattle.tipc_partners.proofs.Sights.{knows, restarted}
 use Rattle.tipc_node.specs.declared.neighbours.Neighbour.{Neighbour}
 use Rattle.tipc_node.specs.Nodes.{known_frames, neighbour_of}
 use Rattle.tipc_world.specs.Members.{IsRestarted, known_member}
 use Rattle.tipc_world.specs.Sound.{IsNumber}
-use Rattle.tipc_world.specs.States.{MemberState, boot_at, count_in, link_in, member_at}
+use Rattle.tipc_world.specs.States.{MemberState, boot_at, count_at, count_in, link_at, member_at}
 use Rattle.tipc_world.specs.Steps.{Stage, Turns}
-use Rattle.tipc_world.specs.Views.{view_at}
+use Rattle.tipc_world.specs.Views.{node_from, sight_at}
 use Rattle.tipc_world.proofs.Addressing.{AreFor, lonely_names, mend_for}
 use Rattle.tipc_world.proofs.Emissions.{frames_to}
-use Rattle.tipc_world.proofs.LookUps.{boot_at-is, link_at-is}
+use Rattle.tipc_world.proofs.LookUps.{begun_at-is, boot_at-is, link_at-is}
 use Rattle.tipc_world.proofs.Shares.{frames_to-other, frames_to-own}
-use Rattle.tipc_world.proofs.Standing.{view_no_link}
-use Rattle.tipc_world.proofs.Turning.{AllPaired, IsChanged, IsIdle, PartnersIn, Records, all_paired, begun_of, goes, idle_pair, is_there, same_numbered, same_put, same_sent, same_took, view_in, was_there}
+use Rattle.tipc_world.proofs.Standing.{link_is, sight_no_ends}
+use Rattle.tipc_world.proofs.Turning.{AllPaired, IsChanged, IsIdle, PartnersIn, Records, all_paired, begun_now, counts_alike, goes, idle_pair, is_there, no_ends, same_given, same_numbered, same_put, same_sent, sight_in, was_there}
 
 -- ---- a restart
 
-restarted : (old new : Stage) (a : ℕ) (before after : MemberState) (frames : List Outgoing) (lost : Bool) (b : ℕ) → Turns old new a before after frames lost → IsRestarted before after → frames ≡ []
-    → Records (view_in old a b) before after b [] [] → Restarts (view_in old a b) (view_in new a b)
-unfolding view_at
-restarted old new a before after frames lost b t s none r =
+restarts : (old new : Stage) (a : ℕ) (before after : MemberState) (frames : List Outgoing) (lost : Bool) (b : ℕ) → Turns old new a before after frames lost → IsRestarted before after → frames ≡ []
+    → Records (sight_in old a b) before after b [] [] → Restarts (sight_in old a b) (sight_in new a b)
+unfolding sight_at
+restarts old new a before after frames lost b t s none r =
     let was = was_there old new a before after frames lost t in
-    let is = is_there old new a before after frames lost t in record {
-      own = refl;
-      peer = refl;
-      boot = boot_at-is new.members a after is ∙ s.node.boot_is ∙ ap (λ n. n + 1) (sym (boot_at-is old.members a before was));
-      link = link_at-is new.members a b after is ∙ ap (λ o. option_map (λ (y : Neighbour). y.pair.link) o) (s.node.alone b);
+    let is = is_there old new a before after frames lost t in
+    let boot : boot_at new.members a ≡ boot_at old.members a + 1 = boot_at-is new.members a after is ∙ s.node.boot_is ∙ ap (λ n. n + 1) (sym (boot_at-is old.members a before was)) in
+    let link : link_at new.members a b ≡ None = link_at-is new.members a b after is ∙ ap (λ o. option_map (λ (y : Neighbour). y.pair.link) o) (s.node.alone b) in
+    let counts = same_numbered old new a before after frames lost b t (λ epoch. ap (λ cs. count_in cs b epoch) s.counts) in record {
+      node = λ i. node_from a b (boot i) (link i);
+      ends = λ bearer. no_ends (link_at new.members a b) bearer link;
       put_is = same_put old new a before after frames lost b t r;
-      took_is = same_took old new a before after frames lost b t r;
-      numbered_is = same_numbered old new a before after frames lost b t (λ epoch. ap (λ cs. count_in cs b epoch) s.counts);
+      given_is = same_given old new a before after frames lost b t r;
+      partial_is = begun_now old new a before after frames lost t b ∙ ap (λ o. unwrap_or (option_map (λ (y : Neighbour). y.pair.begun) o) fresh) (s.node.alone b);
+      numbered_is = λ bearer epoch. counts_alike (count_at new.members a b) (count_at old.members a b) bearer epoch (λ here. counts epoch);
       sent = same_sent old new a before after frames lost b t (ap (frames_to b) none);
     }
 
-boot_is : (s : Stage) (a b : ℕ) (m : MemberState) → member_at s.members a ≡ Some m → (view_in s a b).boot ≡ m.node.boot
-unfolding view_at
+boot_is : (s : Stage) (a b : ℕ) (m : MemberState) → member_at s.members a ≡ Some m → (sight_in s a b).node.boot ≡ m.node.boot
+unfolding sight_at
 boot_is s a b m was = boot_at-is s.members a m was
 
 -- the number of the next boot has 32 bits
 pub restart_pairs : (old new : Stage) (a : ℕ) (before after : MemberState) (frames : List Outgoing) (lost : Bool) → AllPaired old → Turns old new a before after frames lost → IsRestarted before after → frames ≡ []
-    → before.node.boot + 1 < 2 ^ 32 → ((b : ℕ) → IsNumber b → b ≢ a → Records (view_in old a b) before after b [] []) → AllPaired new
+    → before.node.boot + 1 < 2 ^ 32 → ((b : ℕ) → IsNumber b → b ≢ a → Records (sight_in old a b) before after b [] []) → AllPaired new
 restart_pairs old new a before after frames lost paired t s none fits records =
     all_paired old new a before after frames lost paired t (λ b a_is b_is apart h.
-    restarts (view_in old a b) (view_in new a b) (view_in old b a) (begun_of old a b) (begun_of new a b) (begun_of old b a) h (restarted old new a before after frames lost b t s none (records b b_is apart))
+    restarted (sight_in old a b) (sight_in new a b) (sight_in old b a) h (restarts old new a before after frames lost b t s none (records b b_is apart))
     (subst (λ n. n + 1 < 2 ^ 32) (sym (boot_is old a b before (was_there old new a before after frames lost t))) fits))
 
 -- ---- a node comes to know a peer
 
--- the new end
-abbrev known_pair : ℕ → ℕ → ℕ → Bool → LinkEnd
-known_pair own peer boot mended = if mended then mended_end (lonely own peer boot) else lonely own peer boot
+-- the new end, on a bearer that is mended or cut
+abbrev end_of : LinkEnd → Bool → LinkEnd
+end_of e mended = if mended then mended_end e else e
 
-abbrev pair_frames : ℕ → ℕ → ℕ → Bool → List Outgoing
-pair_frames own peer boot mended = if mended then mend_frames (lonely own peer boot) else []
+abbrev end_frames : LinkEnd → Bool → List Outgoing
+end_frames e mended = if mended then mend_frames e else []
 
-no_session : (own peer boot : ℕ) (mended : Bool) (s : SessionEnd) → (known_pair own peer boot mended).session ≡ Some s → ⊥
+abbrev new_end : MemberState → ℕ → LinkEnd
+new_end m peer = lonely m.node.own (node_word peer) m.node.boot
+
+no_session : (own peer boot : ℕ) (mended : Bool) (s : SessionEnd) → (end_of (lonely own peer boot) mended).session ≡ Some s → ⊥
 no_session own peer boot true s has = absurd cc
 no_session own peer boot false s has = absurd cc
 
-frames_for_it : (own peer boot : ℕ) (mended : Bool) → AreFor peer (pair_frames own peer boot mended)
+frames_for_it : (own peer boot : ℕ) (mended : Bool) → AreFor peer (end_frames (lonely own peer boot) mended)
 frames_for_it own peer boot true = mend_for peer (lonely own peer boot) (lonely_names own peer boot)
 frames_for_it own peer boot false = tt
 
@@ -77,15 +81,13 @@ frames_for_it own peer boot false = tt
 pub known_for : (m : MemberState) (peer : ℕ) → AreFor (node_word peer) (known_frames m.node peer)
 known_for m peer = frames_for_it m.node.own (node_word peer) m.node.boot m.node.mended
 
-link_set : (m : MemberState) (peer : ℕ) → peer < length m.node.neighbours → link_in (known_member m peer).node peer ≡ Some (known_pair m.node.own (node_word peer) m.node.boot m.node.mended)
-link_set m peer within = ap (λ o. option_map (λ (y : Neighbour). y.pair.link) o) (get_or-set_same m.node.neighbours peer _ None within)
-
 changed : (m : MemberState) (peer : ℕ) → peer < length m.node.neighbours
-    → IsChanged m (known_member m peer) (known_frames m.node peer) peer (known_pair m.node.own (node_word peer) m.node.boot m.node.mended) (pair_frames m.node.own (node_word peer) m.node.boot m.node.mended)
+    → IsChanged m (known_member m peer) (known_frames m.node peer) peer (end_of (new_end m peer) m.node.mended) (end_frames (new_end m peer) m.node.mended) fresh
 changed m peer within = record {
   boot = refl;
-  link = link_set m peer within;
-  frames_are = frames_to-own peer _ (frames_for_it m.node.own (node_word peer) m.node.boot m.node.mended);
+  link = ap (λ o. option_map (λ (y : Neighbour). y.pair.link) o) (get_or-set_same m.node.neighbours peer _ None within);
+  begun = ap (λ o. unwrap_or (option_map (λ (y : Neighbour). y.pair.begun) o) fresh) (get_or-set_same m.node.neighbours peer _ None within);
+  frames_are = frames_to-own peer _ (known_for m peer);
   numbered_now = λ s has. absurd (no_session m.node.own (node_word peer) m.node.boot m.node.mended s has);
   numbered_else = λ epoch apart. refl;
 }
@@ -95,38 +97,48 @@ idle m peer b apart = record {
   boot = refl;
   link = ap (λ o. option_map (λ (y : Neighbour). y.pair.link) o) (get_or-set_other m.node.neighbours peer b _ None apart);
   begun = ap (λ o. unwrap_or (option_map (λ (y : Neighbour). y.pair.begun) o) fresh) (get_or-set_other m.node.neighbours peer b _ None apart);
-  frames_are = frames_to-other b peer _ (λ e. apart (sym e)) (frames_for_it m.node.own (node_word peer) m.node.boot m.node.mended);
+  frames_are = frames_to-other b peer _ (λ e. apart (sym e)) (known_for m peer);
   numbered = λ epoch. refl;
 }
 
+-- it is the end that the node makes under its present contact number
+made_new : (s : Stage) (a peer : ℕ) (m : MemberState) → member_at s.members a ≡ Some m → m.node.own ≡ node_word a → neighbour_of m.node peer ≡ None → new_end m peer ≡ made_on (sight_in s a peer).node 0
+unfolding sight_at
+made_new s a peer m was own none =
+    let boot = sym (boot_at-is s.members a m was) in
+    let link = sym (link_is s a peer m None was none) in
+    λ i. made_on (record (node_from a peer (boot i) (link i)) { own = own i }) 0
+
+no_begun : (s : Stage) (a peer : ℕ) (m : MemberState) → member_at s.members a ≡ Some m → neighbour_of m.node peer ≡ None → (sight_in s a peer).partial ≡ fresh
+unfolding sight_at
+no_begun s a peer m was none = begun_at-is s.members a peer m was ∙ ap (λ o. unwrap_or (option_map (λ (y : Neighbour). y.pair.begun) o) fresh) none
+
 -- the new end, as the pair of nodes has it
-known_as : (old new : Stage) (a peer boot own : ℕ) (mended : Bool) (was now : Joining) (y : View) (y_begun : Joining) → boot ≡ (view_in old a peer).boot → own ≡ node_word a → ArePartners (view_in old a peer) was y y_begun → (view_in old a peer).link ≡ None
-    → Goes (view_in old a peer) (view_in new a peer) y (known_pair own (node_word peer) boot mended) (pair_frames own (node_word peer) boot mended) [] [] → ArePartners (view_in new a peer) now y y_begun
-unfolding view_at
-known_as old new a peer boot own mended was now y y_begun boot_same own_same h none g =
-    knows (view_in old a peer) (view_in new a peer) y was now y_begun mended h none
-    (subst (λ n. Goes (view_in old a peer) (view_in new a peer) y (known_pair n (node_word peer) (boot_at old.members a) mended) (pair_frames n (node_word peer) (boot_at old.members a) mended) [] []) own_same
-    (subst (λ n. Goes (view_in old a peer) (view_in new a peer) y (known_pair own (node_word peer) n mended) (pair_frames own (node_word peer) n mended) [] []) boot_same g))
+known_as : (v v' w : Sight) (e : LinkEnd) (partial : Joining) (mended : Bool) → e ≡ made_on v.node 0 → v.partial ≡ partial → AreSeen v w → ((bearer : ℕ) → v.ends bearer ≡ None)
+    → Goes v v' w 0 (end_of e mended) (end_frames e mended) [] [] partial → AreSeen v' w
+known_as v v' w e partial mended made begun h none g =
+    knows v v' w 0 mended h none (subst (λ j. Goes v v' w 0 (end_of (made_on v.node 0) mended) (end_frames (made_on v.node 0) mended) [] [] j) (sym begun)
+    (subst (λ (d : LinkEnd). Goes v v' w 0 (end_of d mended) (end_frames d mended) [] [] partial) made g))
 
 pub know_pairs : (old new : Stage) (a peer : ℕ) (before after : MemberState) (frames : List Outgoing) (lost : Bool) → AllPaired old → Turns old new a before after frames lost
     → after ≡ known_member before peer → frames ≡ known_frames before.node peer → before.node.own ≡ node_word a → neighbour_of before.node peer ≡ None → peer < length before.node.neighbours
-    → ((b : ℕ) → IsNumber b → b ≢ a → Records (view_in old a b) before after b [] []) → AllPaired new
+    → ((b : ℕ) → IsNumber b → b ≢ a → Records (sight_in old a b) before after b [] []) → AllPaired new
 know_pairs old new a peer before after frames lost paired t then_ frames_are own none within records =
     let was = was_there old new a before after frames lost t in
-    let e = known_pair before.node.own (node_word peer) before.node.boot before.node.mended in
-    let fs = pair_frames before.node.own (node_word peer) before.node.boot before.node.mended in
-    let c : IsChanged before after frames peer e fs =
-    subst (λ m. IsChanged before m frames peer e fs) (sym then_) (subst (λ os. IsChanged before (known_member before peer) os peer e fs) (sym frames_are) (changed before peer within)) in
+    let mended = before.node.mended in
+    let e = new_end before peer in
+    let c : IsChanged before after frames peer (end_of e mended) (end_frames e mended) fresh =
+    subst (λ m. IsChanged before m frames peer (end_of e mended) (end_frames e mended) fresh) (sym then_)
+    (subst (λ os. IsChanged before (known_member before peer) os peer (end_of e mended) (end_frames e mended) fresh) (sym frames_are) (changed before peer within)) in
     let still : (b : ℕ) → b ≢ peer → IsIdle before after frames b =
     λ b apart. subst (λ m. IsIdle before m frames b) (sym then_) (subst (λ os. IsIdle before (known_member before peer) os b) (sym frames_are) (idle before peer b apart)) in
     all_paired old new a before after frames lost paired t (λ b a_is b_is apart h.
     elim (cases_eq b peer) [
       | inl same ↦
           let peer_apart : peer ≢ a = λ e. apart (same ∙ e) in
-          let peer_is : IsNumber peer = subst IsNumber same b_is in
           let h' : PartnersIn old old a peer = subst (λ k. PartnersIn old old a k) same h in
           subst (λ k. PartnersIn new old a k) (sym same)
-          (known_as old new a peer before.node.boot before.node.own before.node.mended (begun_of old a peer) (begun_of new a peer) (view_in old peer a) (begun_of old peer a) (sym (boot_is old a peer before was)) own h' (view_no_link old a peer before was none)
-          (goes old new a before after frames lost peer e fs [] [] t peer_apart c (records peer peer_is peer_apart)))
+          (known_as (sight_in old a peer) (sight_in new a peer) (sight_in old peer a) e fresh mended (made_new old a peer before was own none) (no_begun old a peer before was none) h' (sight_no_ends old a peer before was none)
+          (goes old new a before after frames lost peer (end_of e mended) (end_frames e mended) [] [] fresh t peer_apart c (records peer (subst IsNumber same b_is) peer_apart)))
       | inr other ↦ idle_pair old new a before after frames lost b t (still b other) (records b b_is apart) h
     ])

@@ -6,17 +6,13 @@ use Rattle.tipc_types.specs.declared.message_forms.Message.{Message}
 use Rattle.tipc_journal.specs.declared.entries.Entry.TheVariants as entry
 use Rattle.tipc_journal.specs.Prefixes.{IsPrefixOf}
 use Rattle.tipc_link.proofs.LinkLaw.{Each}
-use Rattle.tipc_fragments.specs.Joining.{Joining}
-use Rattle.tipc_link.specs.Laws.{IsPrefixOf as IsLinkPrefix}
-use Rattle.tipc_pair.specs.Partners.{ArePartners}
-use Rattle.tipc_pair.specs.Views.{View}
-use Rattle.tipc_pair.proofs.PartnersGives.{flow_front}
+use Rattle.tipc_partners.proofs.Sights.{front}
 use Rattle.tipc_world.specs.declared.air.Sent.{Sent}
 use Rattle.tipc_world.specs.Good.{IsGood}
 use Rattle.tipc_world.specs.Members.{bytes_of}
 use Rattle.tipc_world.specs.Sound.{IsSendable, IsSound}
 use Rattle.tipc_world.specs.States.{MemberState, WorldState, accepted_at, delivered_at}
-use Rattle.tipc_world.specs.Views.{view_at}
+use Rattle.tipc_world.specs.Views.{sight_at}
 use Rattle.tipc_world.specs.Watched.{AreWatched}
 use Rattle.tipc_world.proofs.Entered.{both_entered}
 use Rattle.tipc_world.proofs.Messages.{same_bytes}
@@ -37,18 +33,14 @@ messages_in_front (x ∷ xs) (y ∷ ys) hx hy h =
     let later = messages_in_front xs ys (λ k m. hx (suc k) m) (λ k m. hy (suc k) m) (h.0, rests) in
     (later.0, ap (λ m. m ∷ ys) same ∙ ap (λ ms. x ∷ ms) later.1)
 
--- what a partner was given is a beginning of what the other put
-given_was_put : {x y : View} {x_begun y_begun : Joining} → ArePartners x x_begun y y_begun → (own theirs : ℕ) → IsLinkPrefix (x.took own theirs) (y.put theirs own)
-given_was_put {x} {y} {x_begun} {y_begun} h own theirs = flow_front y h.there.line x h.here.got x_begun h.receives own theirs
-
 -- two nodes of a sound world that are apart keep the promise for flow Zero
 pair_promise : (members : List (Option MemberState)) (air : List Sent) (a b own theirs : ℕ) → IsSound members air
     → delivered_at members b a own theirs Zero ≢ [] → IsPrefixOf (delivered_at members b a own theirs Zero) (accepted_at members a b theirs own Zero)
-unfolding view_at accepted_at delivered_at
+unfolding sight_at accepted_at delivered_at
 pair_promise members air a b own theirs h some =
     let numbers = h.nothing b a own theirs some in
     messages_in_front (delivered_at members b a own theirs Zero) (accepted_at members a b theirs own Zero) (h.delivered b a own theirs) (h.accepted a b theirs own)
-    (given_was_put (h.pairs b a numbers.0 numbers.1 numbers.2) own theirs)
+    (front (sight_at members air b a) (sight_at members air a b) (h.pairs b a numbers.0 numbers.1 numbers.2) own theirs)
 
 -- what was delivered in flow Zero is nothing, or was delivered between two nodes
 zero_promise : (members : List (Option MemberState)) (air : List Sent) (a b own theirs : ℕ) → IsSound members air

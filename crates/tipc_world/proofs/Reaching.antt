@@ -19,10 +19,11 @@ use Rattle.tipc_header.specs.Spelling.{Fields, spelling}
 use Rattle.tipc_header.proofs.Again.{again}
 use Rattle.tipc_header.proofs.FrameWords.{length-envelope}
 use Rattle.tipc_link.specs.Links.{is_traffic}
-use Rattle.tipc_pair.specs.Paired.{Comes}
-use Rattle.tipc_pair.specs.Views.{Frame, er_of, es_of}
 use Rattle.tipc_pair.proofs.SessionsHeard.{same_packet}
 use Rattle.tipc_pair.proofs.Spoken.{er_of-frame, es_of-frame}
+use Rattle.tipc_partners.specs.Sights.{Comes}
+use Rattle.tipc_partners.specs.Views.{Frame, er_of, es_of}
+use Rattle.tipc_partners.proofs.Sights.{frames}
 use Rattle.tipc_node.specs.declared.neighbours.Neighbour.{Neighbour}
 use Rattle.tipc_node.specs.Calls.{IsDue}
 use Rattle.tipc_node.specs.Nodes.{is_frame_size, stop_among, stop_by_fault, stop_of}
@@ -32,8 +33,8 @@ use Rattle.tipc_world.specs.Due.{age_by_fault, age_of, frame_for, is_for, kept_f
 use Rattle.tipc_world.specs.Sound.{IsAirborne, IsNumber}
 use Rattle.tipc_world.specs.States.{MemberState, count_at}
 use Rattle.tipc_world.specs.Steps.{Stage}
-use Rattle.tipc_world.specs.Views.{view_at}
-use Rattle.tipc_world.proofs.Turning.{AllPaired, PartnersIn, view_in}
+use Rattle.tipc_world.specs.Views.{sight_at}
+use Rattle.tipc_world.proofs.Turning.{AllPaired, PartnersIn, sight_in}
 
 -- ---- the frame among those that its sender sent
 
@@ -151,9 +152,9 @@ pub record IsFromPeer (s : Stage) (a : ℕ) (f : Sent) (peer : ℕ) : Type 0 whe
 
 spoken_by : (s : Stage) (from a : ℕ) (f : Frame) (place first second : ℕ) (p : Fields) → PartnersIn s s from a → slice_get (sent_between s.air from a) place ≡ Some f
     → Fits p → f.bytes ≡ frame_of first second (spelling p) → p.previous ≡ node_word from
-unfolding view_at
+unfolding sight_at
 spoken_by s from a f place first second p h there fits bytes =
-    let spoken = (h.paired.here.frames place f there).spoken in
+    let spoken = frames (sight_in s from a) (sight_in s a from) place f h there in
     let same : spoken.packet ≡ p = same_packet spoken.es spoken.er first second spoken.packet p spoken.fits fits (sym spoken.bytes ∙ bytes) in
     ap (λ (q : Fields). q.previous) (sym same) ∙ spoken.previous
 
@@ -173,8 +174,8 @@ from_peer s a bearer place f m peer first second p paired r =
     subst (λ n. IsFromPeer s a f n) same there
 
 pub comes : (s : Stage) (a bearer place : ℕ) (f : Sent) (m : MemberState) (peer first second : ℕ) (p : Fields) → AllPaired s → IsReached s a bearer place f m peer first second p
-    → Comes (view_in s a peer) (view_in s peer a) first second p
-unfolding view_at
+    → Comes (sight_in s a peer) (sight_in s peer a) 0 first second p
+unfolding sight_at
 comes s a bearer place f m peer first second p paired r =
     let sent = from_peer s a bearer place f m peer first second p paired r in
     let clear = clear_by m.node.own m.node.mended m.node.neighbours bearer f.frame r.clear in
@@ -186,6 +187,7 @@ comes s a bearer place f m peer first second p paired r =
       place = sent.place;
       frame = as_frame f;
       there = sent.there;
+      bearer_is = refl;
       es_fits = r.due.first_fits;
       er_fits = r.due.second_fits;
       fits = r.due.fits;

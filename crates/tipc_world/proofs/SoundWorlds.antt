@@ -1,5 +1,5 @@
 -- A world is sound at the beginning, when a node comes in, and after every step.
-use Rattle.std.proofs.Common.{◌≡◌, ◌<◌, ℕ, Bool, List, [], ◌++◌, Option, Some, None, map, option_map, option_and_then, slice_index_or, unwrap_or, refl, sym, ap, ◌∙◌, subst, inl, inr, arith}
+use Rattle.std.proofs.Common.{◌≡◌, ◌==◌, ◌<◌, ℕ, Bool, List, [], ◌++◌, Option, Some, None, map, option_map, option_and_then, slice_index_or, unwrap_or, refl, sym, ap, ◌∙◌, subst, inl, inr, arith}
 use Rattle.std.specs.Prelude.{slice_get}
 use Rattle.std.specs.List.{flat_map}
 use Rattle.std.specs.Map.{lookup}
@@ -9,9 +9,8 @@ use Rattle.tipc_types.specs.declared.message_forms.Flow.TheVariants.{Zero}
 use Rattle.tipc_types.specs.declared.node_calls.Answer.{Answer}
 use Rattle.tipc_journal.proofs.StreamLaws.{accepted_nil, delivered_nil}
 use Rattle.tipc_fragments.specs.Joining.{fresh}
-use Rattle.tipc_pair.specs.Paired.{IsNew}
-use Rattle.tipc_pair.specs.Partners.{ArePartners}
-use Rattle.tipc_pair.proofs.PartnersArrives.{starts}
+use Rattle.tipc_partners.specs.Sights.{AreSeen, IsNew}
+use Rattle.tipc_partners.proofs.Sights.{starts}
 use Rattle.tipc_node.specs.declared.neighbours.Neighbour.{Neighbour}
 use Rattle.tipc_world.specs.declared.air.Sent.{Sent}
 use Rattle.tipc_world.specs.declared.events.WorldEvent.{WorldEvent}
@@ -20,14 +19,16 @@ use Rattle.tipc_world.specs.Air.{sent_between}
 use Rattle.tipc_world.specs.Calls.{CanHappenAt}
 use Rattle.tipc_world.specs.Due.{unarrived}
 use Rattle.tipc_world.specs.Members.{IsNewcomer, bytes_of}
+use Rattle.tipc_world.specs.Numbers.{own_in, seen_in}
 use Rattle.tipc_world.specs.Sound.{IsAirborne, IsNumber, IsSound}
 use Rattle.tipc_world.specs.States.{MemberState, WorldState, boot_at, count_at, count_in, history, history_at, link_at, link_in, member_at, same_session, stream_of, begun_at, begun_in}
 use Rattle.tipc_world.specs.Steps.{Becomes, IsArrival, IsJoined, IsStep, Stage, stage}
-use Rattle.tipc_world.specs.Views.{put_in, took_in, view_at, view_from}
-use Rattle.tipc_world.proofs.LookUps.{begun_at-is, begun_at-same, boot_at-is, boot_at-same, count_at-is, count_at-same, history_at-is, history_at-same, link_at-is, link_at-same, member_at-is}
+use Rattle.tipc_world.specs.Views.{given_in, put_in, sight_at, sight_from}
+use Rattle.tipc_world.proofs.LookUps.{begun_at-is, begun_at-same, boot_at-is, boot_at-same, count_at-is, count_at-same, either_way, history_at-is, history_at-same, link_at-is, link_at-same, member_at-is}
 use Rattle.tipc_world.proofs.SoundEvents.{happens_sound}
 use Rattle.tipc_world.proofs.StreamsEvents.{joined_keeps_streams, streams_start}
 use Rattle.tipc_world.proofs.StreamsKept.{streams_of}
+use Rattle.tipc_world.proofs.Turning.{counts_alike, no_ends}
 
 -- ---- after an event
 
@@ -127,14 +128,15 @@ all_same old new n none j a = elim (cases_eq a n) [
       }
 ]
 
-same_view : (members members' : List (Option MemberState)) (air air' : List Sent) (a b : ℕ) → air' ≡ air → IsSame members members' a → view_at members' air' a b ≡ view_at members air a b
-unfolding view_at
-same_view members members' air air' a b flown s =
+same_sight : (members members' : List (Option MemberState)) (air air' : List Sent) (a b : ℕ) → air' ≡ air → IsSame members members' a → sight_at members' air' a b ≡ sight_at members air a b
+unfolding sight_at
+same_sight members members' air air' a b flown s =
     let boot = s.boot in
     let link = s.link b in
     let entries = s.entries in
+    let begun = s.begun b in
     let sent : sent_between air' a b ≡ sent_between air a b = ap (λ fs. sent_between fs a b) flown in
-    λ i. view_from a b (boot i) (link i) (entries i) (λ epoch. s.numbered b epoch i) (sent i)
+    λ i. sight_from a b (boot i) (link i) (put_in (entries i) b) (given_in (entries i) b) (begun i) (λ epoch. s.numbered b epoch i) (sent i)
 
 joined_numbers : (old new : WorldState) (n : ℕ) → IsNumber n → IsSound old.members old.air → IsJoined old new n → (k : ℕ) (m : MemberState) → slice_index_or new.members k None ≡ Some m → IsNumber k × (m.node.own ≡ node_word k)
 joined_numbers old new n number sound j k m there = elim (cases_eq k n) [
@@ -157,16 +159,13 @@ pub joined_sound : (old new : WorldState) (n : ℕ) → IsNumber n → slice_ind
 joined_sound old new n number none sound j =
     let same = all_same old new n none j in
     let streams = joined_keeps_streams old new n (streams_of old.members old.air sound) j in
-    let view : (a b : ℕ) → view_at new.members new.air a b ≡ view_at old.members old.air a b = λ a b. same_view old.members new.members old.air new.air a b j.air (same a) in
+    let sight : (a b : ℕ) → sight_at new.members new.air a b ≡ sight_at old.members old.air a b = λ a b. same_sight old.members new.members old.air new.air a b j.air (same a) in
     record {
       numbered = joined_numbers old new n number sound j;
       apart = λ a. (same a).link a ∙ sound.apart a;
       known = λ a b absent. (same a).link b ∙ sound.known a b (λ is. joined_absent old new n b j (absent is));
       pairs = λ a b a_is b_is apart.
-          subst (λ x. ArePartners x (begun_at new.members a b) (view_at new.members new.air b a) (begun_at new.members b a)) (sym (view a b))
-          (subst (λ y. ArePartners (view_at old.members old.air a b) (begun_at new.members a b) y (begun_at new.members b a)) (sym (view b a))
-          (subst (λ j. ArePartners (view_at old.members old.air a b) j (view_at old.members old.air b a) (begun_at new.members b a)) (sym ((same a).begun b))
-          (subst (λ j. ArePartners (view_at old.members old.air a b) (begun_at old.members a b) (view_at old.members old.air b a) j) (sym ((same b).begun a)) (sound.pairs a b a_is b_is apart))));
+          subst (λ v. AreSeen v (sight_at new.members new.air b a)) (sym (sight a b)) (subst (λ w. AreSeen (sight_at old.members old.air a b) w) (sym (sight b a)) (sound.pairs a b a_is b_is apart));
       one_flow = streams.one_flow;
       accepted = streams.accepted;
       delivered = streams.delivered;
@@ -179,20 +178,25 @@ joined_sound old new n number none sound j =
 nothing_there : (n : ℕ) → let nobody : List (Option MemberState) = [] in slice_index_or nobody n None ≡ None
 nothing_there n = refl
 
-new_view : (a b : ℕ) → IsNumber a → IsNumber b → IsNew (view_at [] [] a b)
-unfolding view_at sent_between
-new_view a b a_is b_is =
+new_sight : (a b : ℕ) → IsNumber a → IsNumber b → IsNew (sight_at [] [] a b)
+unfolding sight_at sent_between
+new_sight a b a_is b_is =
     let a_high = a_is.1 in
     let b_high = b_is.1 in
     let entries = absent_history [] a (nothing_there a) in
+    let link = absent_link [] a b (nothing_there a) in
+    let counts : (epoch : ℕ) → count_at [] a b epoch ≡ 0 = λ epoch. absent_count [] a b epoch (nothing_there a) in
     record {
       own = omega arith;
       peer = omega arith;
       boot = let first = absent_boot [] a (nothing_there a) in omega arith;
-      link = absent_link [] a b (nothing_there a);
+      contact = ap (own_in (boot_at [] a)) link;
+      seen = ap seen_in link;
+      ends = λ bearer. no_ends (link_at [] a b) bearer link;
       put = λ own theirs. ap (λ es. put_in es b own theirs) entries ∙ ap (map bytes_of) (accepted_nil (stream_of b own theirs Zero));
-      took = λ own theirs. ap (λ es. took_in es b own theirs) entries ∙ ap (map bytes_of) (delivered_nil (stream_of b own theirs Zero));
-      numbered = λ epoch. absent_count [] a b epoch (nothing_there a);
+      given = λ own theirs. ap (λ es. given_in es b own theirs) entries ∙ ap (map bytes_of) (delivered_nil (stream_of b own theirs Zero));
+      partial = absent_begun [] a b (nothing_there a);
+      numbered = λ bearer epoch. counts_alike (count_at [] a b) (λ epoch. 0) bearer epoch (λ here. counts epoch) ∙ either_way (bearer == 0) 0;
       sent = refl;
     }
 
@@ -202,9 +206,7 @@ start_sound = record {
   numbered = λ n m there. absurd cc;
   apart = λ a. absent_link [] a a (nothing_there a);
   known = λ a b _. absent_link [] a b (nothing_there a);
-  pairs = λ a b a_is b_is apart.
-      subst (λ j. ArePartners (view_at [] [] a b) j (view_at [] [] b a) (begun_at [] b a)) (sym (absent_begun [] a b (nothing_there a)))
-      (subst (λ j. ArePartners (view_at [] [] a b) fresh (view_at [] [] b a) j) (sym (absent_begun [] b a (nothing_there b))) (starts (view_at [] [] a b) (view_at [] [] b a) (new_view a b a_is b_is) (new_view b a b_is a_is)));
+  pairs = λ a b a_is b_is apart. starts (sight_at [] [] a b) (sight_at [] [] b a) (new_sight a b a_is b_is) (new_sight b a b_is a_is);
   one_flow = streams_start.one_flow;
   accepted = streams_start.accepted;
   delivered = streams_start.delivered;

@@ -1,20 +1,20 @@
 -- What a sound world says of a node and its neighbours.
-use Rattle.std.proofs.Common.{◌⊎◌, ◌≡◌, ◌≢◌, ℕ, List, Option, Some, None, option_map, sym, ap, ◌∙◌, inl, inr, arith}
+use Rattle.std.proofs.Common.{◌⊎◌, ◌≡◌, ◌≢◌, ℕ, List, Option, Some, None, option_map, unwrap_or, sym, ap, ◌∙◌, inl, inr, arith}
 use Rattle.std.proofs.lemmas.Bool.{cases_lt}
 use Rattle.tipc_types.specs.Address.{node_word}
+use Rattle.tipc_fragments.specs.Joining.{fresh}
 use Rattle.tipc_link.specs.Sessions.{SessionEnd}
-use Rattle.tipc_fragments.specs.Joining.{Joining}
-use Rattle.tipc_pair.specs.Partners.{ArePartners}
-use Rattle.tipc_pair.specs.Views.{View}
+use Rattle.tipc_partners.specs.Sights.{AreSeen, HasOnly, Sight}
+use Rattle.tipc_partners.proofs.Sights.{ends}
 use Rattle.tipc_node.specs.declared.neighbours.Neighbour.{Neighbour}
 use Rattle.tipc_node.specs.Nodes.{neighbour_of}
 use Rattle.tipc_world.specs.Sound.{IsNumber}
 use Rattle.tipc_world.specs.States.{MemberState, count_in, link_at, member_at}
 use Rattle.tipc_world.specs.Steps.{Stage}
-use Rattle.tipc_world.specs.Views.{view_at}
+use Rattle.tipc_world.specs.Views.{sight_at}
 use Rattle.tipc_world.proofs.Addressing.{Names}
-use Rattle.tipc_world.proofs.LookUps.{count_at-is, link_at-is}
-use Rattle.tipc_world.proofs.Turning.{AllPaired, view_in}
+use Rattle.tipc_world.proofs.LookUps.{begun_at-is, count_at-is, link_at-is}
+use Rattle.tipc_world.proofs.Turning.{AllPaired, end_apart, no_ends, sight_in}
 
 -- a number is of a node, or it isn't
 pub number_cases : (n : ℕ) → IsNumber n ⊎ (IsNumber n → ⊥)
@@ -28,26 +28,33 @@ number_cases n = elim (cases_lt n 1) [
 
 -- ---- a link
 
-pub view_link : (s : Stage) (a b : ℕ) (m : MemberState) (x : Neighbour) → member_at s.members a ≡ Some m → neighbour_of m.node b ≡ Some x → (view_in s a b).link ≡ Some x.pair.link
-unfolding view_at
-view_link s a b m x was is = link_at-is s.members a b m was ∙ ap (λ o. option_map (λ (y : Neighbour). y.pair.link) o) is
+pub link_is : (s : Stage) (a b : ℕ) (m : MemberState) (o : Option Neighbour) → member_at s.members a ≡ Some m → neighbour_of m.node b ≡ o → link_at s.members a b ≡ option_map (λ x. x.pair.link) o
+link_is s a b m o was is = link_at-is s.members a b m was ∙ ap (λ o. option_map (λ (y : Neighbour). y.pair.link) o) is
 
-pub view_no_link : (s : Stage) (a b : ℕ) (m : MemberState) → member_at s.members a ≡ Some m → neighbour_of m.node b ≡ None → (view_in s a b).link ≡ None
-unfolding view_at
-view_no_link s a b m was is = link_at-is s.members a b m was ∙ ap (λ o. option_map (λ (y : Neighbour). y.pair.link) o) is
+pub sight_only : (s : Stage) (a b : ℕ) (m : MemberState) (x : Neighbour) → member_at s.members a ≡ Some m → neighbour_of m.node b ≡ Some x → HasOnly (sight_in s a b) 0 x.pair.link
+unfolding sight_at
+sight_only s a b m x was is = record { end_is = link_is s a b m (Some x) was is; alone = λ bearer apart. end_apart (link_at s.members a b) bearer apart }
+
+pub sight_no_ends : (s : Stage) (a b : ℕ) (m : MemberState) → member_at s.members a ≡ Some m → neighbour_of m.node b ≡ None → (bearer : ℕ) → (sight_in s a b).ends bearer ≡ None
+unfolding sight_at
+sight_no_ends s a b m was is bearer = no_ends (link_at s.members a b) bearer (link_is s a b m None was is)
+
+pub sight_partial : (s : Stage) (a b : ℕ) (m : MemberState) (x : Neighbour) → member_at s.members a ≡ Some m → neighbour_of m.node b ≡ Some x → (sight_in s a b).partial ≡ x.pair.begun
+unfolding sight_at
+sight_partial s a b m x was is = begun_at-is s.members a b m was ∙ ap (λ o. unwrap_or (option_map (λ (y : Neighbour). y.pair.begun) o) fresh) is
 
 -- its frames are for the peer
-pub view_names : (s : Stage) (a b : ℕ) (m : MemberState) (x : Neighbour) (begun : Joining) (y : View) (y_begun : Joining) → member_at s.members a ≡ Some m → neighbour_of m.node b ≡ Some x → ArePartners (view_in s a b) begun y y_begun → Names (node_word b) x.pair.link
-unfolding view_at
-view_names s a b m x begun y y_begun was is h =
-    let end = h.paired.here.end x.pair.link (view_link s a b m x was is) in
-    record { peer = end.peer; session = λ t has. (end.session t has).1 ∙ end.peer }
+pub sight_names : (s : Stage) (a b : ℕ) (m : MemberState) (x : Neighbour) (w : Sight) → member_at s.members a ≡ Some m → neighbour_of m.node b ≡ Some x → AreSeen (sight_in s a b) w → Names (node_word b) x.pair.link
+unfolding sight_at
+sight_names s a b m x w was is h =
+    let end = ends (sight_in s a b) w 0 x.pair.link h (sight_only s a b m x was is).end_is in
+    record { peer = end.peer; session = λ t has. (end.session t has).1 }
 
 -- how many packets its session has numbered
-pub view_counts : (s : Stage) (a b : ℕ) (m : MemberState) (x : Neighbour) (begun : Joining) (y : View) (y_begun : Joining) → member_at s.members a ≡ Some m → neighbour_of m.node b ≡ Some x → ArePartners (view_in s a b) begun y y_begun
+pub sight_counts : (s : Stage) (a b : ℕ) (m : MemberState) (x : Neighbour) (w : Sight) → member_at s.members a ≡ Some m → neighbour_of m.node b ≡ Some x → AreSeen (sight_in s a b) w
     → (t : SessionEnd) → x.pair.link.session ≡ Some t → count_in m.counts b t.epoch ≡ t.sending.numbered
-unfolding view_at
-view_counts s a b m x begun y y_begun was is h t has = sym (count_at-is s.members a b t.epoch m was) ∙ h.paired.here.counts x.pair.link t (view_link s a b m x was is) has
+unfolding sight_at
+sight_counts s a b m x w was is h t has = sym (count_at-is s.members a b t.epoch m was) ∙ h.seen_here.counts 0 x.pair.link t (sight_only s a b m x was is).end_is has
 
 -- ---- all links of a node
 
@@ -60,7 +67,7 @@ pub record IsAcquainted (members : List (Option MemberState)) (a : ℕ) : Type 0
 -- each neighbour of a node is another one
 pub neighbour_apart : (s : Stage) (a : ℕ) (m : MemberState) → IsAcquainted s.members a → member_at s.members a ≡ Some m → (k : ℕ) (x : Neighbour) → neighbour_of m.node k ≡ Some x → IsNumber k × (k ≢ a)
 neighbour_apart s a m knows was k x is =
-    let link : link_at s.members a k ≡ Some x.pair.link = link_at-is s.members a k m was ∙ ap (λ o. option_map (λ (y : Neighbour). y.pair.link) o) is in
+    let link : link_at s.members a k ≡ Some x.pair.link = link_is s a k m (Some x) was is in
     elim (number_cases k) [
       | inl number ↦ (number, λ same. let none : link_at s.members a k ≡ None = ap (link_at s.members a) same ∙ knows.apart in let wrong : ⊥ = cc in wrong)
       | inr other ↦ absurd (let none = knows.only k other in let wrong : ⊥ = cc in wrong)
@@ -70,4 +77,4 @@ neighbour_apart s a m knows was k x is =
 pub all_names : (s : Stage) (a : ℕ) (m : MemberState) → IsAcquainted s.members a → AllPaired s → member_at s.members a ≡ Some m → (k : ℕ) (x : Neighbour) → neighbour_of m.node k ≡ Some x → Names (node_word k) x.pair.link
 all_names s a m knows paired was k x is =
     let other = neighbour_apart s a m knows was k x is in
-    view_names s a k m x _ (view_in s k a) _ was is (paired a k knows.number other.0 (λ e. other.1 (sym e)))
+    sight_names s a k m x (sight_in s k a) was is (paired a k knows.number other.0 (λ e. other.1 (sym e)))

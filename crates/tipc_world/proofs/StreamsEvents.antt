@@ -22,13 +22,11 @@ use Rattle.tipc_world.specs.declared.events.WorldEvent.TheVariants.{Know, Mend, 
 use Rattle.tipc_world.specs.Deeds.{Arrives, Does, Hears, Puts, Sends}
 use Rattle.tipc_world.specs.Members.{IsNewcomer}
 use Rattle.tipc_world.specs.Sound.{IsNumber, IsSendable, IsSound}
-use Rattle.std.specs.Prelude.{unwrap_or}
-use Rattle.tipc_fragments.specs.Joining.{fresh}
 use Rattle.tipc_pair.specs.Partners.{opened_in}
-use Rattle.tipc_world.specs.States.{MemberState, WorldState, accepted_at, begun_at, delivered_at, history, history_at, link_at, member_at, stream_of}
+use Rattle.tipc_world.specs.States.{MemberState, WorldState, accepted_at, delivered_at, history, history_at, link_at, member_at, stream_of}
 use Rattle.tipc_world.specs.Steps.{Happens, IsJoined, Stage}
 use Rattle.tipc_world.specs.Calls.{node_of}
-use Rattle.tipc_world.proofs.LookUps.{begun_at-is, history_at-is, history_at-same, link_at-is, member_at-is}
+use Rattle.tipc_world.proofs.LookUps.{history_at-is, history_at-same, link_at-is, member_at-is}
 use Rattle.tipc_world.proofs.Messages.{direct_sendable}
 use Rattle.tipc_world.proofs.HistoryEvents.{deed_streams, know_streams, puts_grew, receive_streams, refused_streams, restart_streams, socket_streams, stopped_streams}
 use Rattle.tipc_world.proofs.HistoryPackets.{Brings, hears_delivers}
@@ -37,15 +35,10 @@ use Rattle.tipc_world.proofs.StreamsKept.{StreamsSound, accepted_by, delivered_b
 -- ---- the peer of an arrival
 
 -- the node knows the peer
-pub hears_link : (members : List (Option MemberState)) (a stamp place : ℕ) (bytes : List ℕ) (m m' : MemberState) (frames : List Outgoing) (answered : Answer) (h : Hears stamp place bytes m m' frames answered)
+hears_link : (members : List (Option MemberState)) (a stamp place : ℕ) (bytes : List ℕ) (m m' : MemberState) (frames : List Outgoing) (answered : Answer) (h : Hears stamp place bytes m m' frames answered)
     → slice_index_or members a None ≡ Some m → link_at members a h.peer ≡ Some h.neighbour.pair.link
 hears_link members a stamp place bytes m m' frames answered h was =
     link_at-is members a h.peer m (member_at-is members a m was) ∙ ap (λ o. option_map (λ x. x.pair.link) o) h.neighbour_is
-
-pub hears_begun : (members : List (Option MemberState)) (a stamp place : ℕ) (bytes : List ℕ) (m m' : MemberState) (frames : List Outgoing) (answered : Answer) (h : Hears stamp place bytes m m' frames answered)
-    → slice_index_or members a None ≡ Some m → begun_at members a h.peer ≡ h.neighbour.pair.begun
-hears_begun members a stamp place bytes m m' frames answered h was =
-    begun_at-is members a h.peer m (member_at-is members a m was) ∙ ap (λ o. unwrap_or (option_map (λ x. x.pair.begun) o) fresh) h.neighbour_is
 
 -- and is another node
 pub hears_apart : (members : List (Option MemberState)) (air : List Sent) (a stamp place : ℕ) (bytes : List ℕ) (m m' : MemberState) (frames : List Outgoing) (answered : Answer) (h : Hears stamp place bytes m m' frames answered)

@@ -1,8 +1,7 @@
 -- Every frame in the air of a sound world is true.
-use Rattle.std.proofs.Common.{length, sym, ◌≡◌, eqb-true, ◌≤◌, ◌+◌, ◌-◌, ℕ, zero, suc, true, List, [], ◌∷◌, Option, Some, refl, ap, ◌∙◌, arith}
+use Rattle.std.proofs.Common.{length, sym, ◌≡◌, eqb-true, ◌≤◌, ◌+◌, ℕ, zero, suc, true, List, [], ◌∷◌, Option, Some, refl, ap, ◌∙◌, append-nil, arith}
 use Rattle.std.specs.Prelude.{slice_get}
 use Rattle.tipc_types.specs.Address.{node_word}
-use Rattle.tipc_types.specs.Position.{number_of}
 use Rattle.tipc_types.specs.declared.identity.To.{To}
 use Rattle.tipc_types.specs.declared.identity.To.TheVariants as to
 use Rattle.std.specs.Prelude.{All, option_map, ◌*◌}
@@ -16,22 +15,20 @@ use Rattle.tipc_header.specs.Spelling.{Fields, numbers_size, spelling}
 use Rattle.tipc_header.specs.Users.{header_size}
 use Rattle.tipc_header.proofs.Again.{length-spelling}
 use Rattle.tipc_header.proofs.FrameWords.{length-envelope}
+use Rattle.std.specs.List.{flat_map}
 use Rattle.tipc_fragments.specs.Cutting.{packet_of}
 use Rattle.tipc_link.specs.Links.{is_traffic}
 use Rattle.tipc_link.specs.Sessions.{as_waiting, Carries, content_by, content_of}
-use Rattle.std.proofs.lemmas.Option.{slice_get-map}
-use Rattle.tipc_fragments.specs.Joining.{Joining}
-use Rattle.tipc_reassembly.specs.Slots.{Fragment, Group, IsSlot, Slot, slot_bytes}
-use Rattle.tipc_pair.specs.Paired.{IsOfSession}
-use Rattle.tipc_pair.specs.Partners.{ArePartners, crossing}
-use Rattle.tipc_pair.specs.Views.{Frame}
+use Rattle.tipc_reassembly.specs.Slots.{Fragment, Group, IsSlot, Slot, slot_bytes, slot_items}
+use Rattle.tipc_partners.specs.Sights.{AreSeen}
+use Rattle.tipc_partners.specs.Truth as partners
+use Rattle.tipc_partners.proofs.Sights.{frames, truths}
 use Rattle.tipc_world.specs.declared.air.Sent.{Sent}
 use Rattle.tipc_world.specs.Air.{as_frame, is_to, sent_between}
-use Rattle.tipc_world.specs.Good.{IsTold, IsTrue}
+use Rattle.tipc_world.specs.Good.{AreSlots, IsTold, IsTrue, accepted_packets, delivered_packets}
 use Rattle.tipc_world.specs.Sound.{IsSound}
 use Rattle.tipc_world.specs.States.{MemberState, accepted_at, delivered_at}
-use Rattle.tipc_world.specs.Views.{view_at}
-use Rattle.tipc_world.proofs.Bringing.{in_front}
+use Rattle.tipc_world.specs.Views.{sight_at}
 use Rattle.tipc_world.proofs.Reaching.{goes_there, sent_at}
 
 to_is : (b : ℕ) (t : To) → is_to b t ≡ true → t ≡ to.Node (record { word = node_word b })
@@ -69,47 +66,36 @@ frame_size members a b own theirs es er p frame fits is told =
     let head = length-envelope es er in
     omega (arith, waiting_size, size, short, whole, head)
 
-position_is : (position : ℕ) → 1 ≤ position → position ≡ position - 1 + 1
-position_is position positive = omega (arith, positive)
+-- ---- what it says of its contact
 
-told_by : (members : List (Option MemberState)) (air : List Sent) (a b es er : ℕ) (x_begun y_begun : Joining) (f : Frame) (p : Fields) → (h : ArePartners (view_at members air a b) x_begun (view_at members air b a) y_begun)
-    → IsOfSession (crossing (view_at members air a b) h.here) (crossing (view_at members air b a) h.there) f es er p → IsTold members a b f.contact f.peer_contact p
-unfolding view_at accepted_at delivered_at
-told_by members air a b es er x_begun y_begun f p h s =
-    let taken = length (h.here.got f.contact f.peer_contact) in
-    let given = h.receives.given f.peer_contact f.contact in
-    let slots = h.sends.slots f.contact f.peer_contact in
+slots_are : (members : List (Option MemberState)) (a b own theirs : ℕ) (slots : List Slot) → partners.AreSlots (accepted_packets members a b own theirs) slots → AreSlots members a b own theirs slots
+slots_are members a b own theirs slots h = record { sound = h.sound; front = ([], sym h.whole ∙ sym (append-nil (flat_map slot_items slots))) }
+
+-- what is so of the packets that two partners put and were given is so of the messages that were accepted and delivered
+told_as : (members : List (Option MemberState)) (a b own theirs : ℕ) (p : Fields)
+    → partners.IsTold (accepted_packets members a b own theirs) (accepted_packets members b a theirs own) (delivered_packets members a b own theirs) p → IsTold members a b own theirs p
+told_as members a b own theirs p t =
+    let taken = t.taken_is in
     record {
-      told = s.told;
-      told_is = s.told_is;
-      taken = taken;
-      told_taken = s.told_taken;
-      taken_is = record {
-        slots = h.receives.slots f.peer_contact f.contact;
-        are = record { sound = h.receives.sound f.peer_contact f.contact; front = h.receives.front f.peer_contact f.contact };
-        begun = given.last;
-        gave = given.opened;
-      };
+      told = t.told;
+      told_is = t.told_is;
+      taken = t.taken;
+      told_taken = t.told_taken;
+      taken_is = record { slots = taken.slots; are = slots_are members b a theirs own taken.slots taken.are; begun = taken.begun; gave = taken.gave };
       carried = λ number bytes carries.
-          let c = s.carried number bytes carries in
-          let there = in_front (h.here.line f.contact f.peer_contact) _ (c.position - 1) bytes c.packet_is in (
-            c.position - 1,
-            c.number_is ∙ ap number_of (position_is c.position c.positive),
-            record {
-              slots = slots;
-              are = record { sound = h.sends.sound f.contact f.peer_contact; front = h.sends.front f.contact f.peer_contact };
-              there = sym (slice_get-map slot_bytes slots (c.position - 1)) ∙ ap (λ ps. slice_get ps (c.position - 1)) (h.sends.bytes f.contact f.peer_contact) ∙ there;
-            },
-          );
+          let c = t.carried number bytes carries in
+          (c.0, c.1, record { slots = c.2.slots; are = slots_are members a b own theirs c.2.slots c.2.are; there = c.2.there });
     }
 
-true_by : (members : List (Option MemberState)) (air : List Sent) (a b place : ℕ) (x_begun y_begun : Joining) (f : Sent) → f.from.word ≡ node_word a → is_to b f.to ≡ true
-    → ArePartners (view_at members air a b) x_begun (view_at members air b a) y_begun → slice_get (sent_between air a b) place ≡ Some (as_frame f) → IsTrue members f
-unfolding view_at
-true_by members air a b place x_begun y_begun f from to h there =
-    let said = h.paired.here.frames place (as_frame f) there in
-    let spoken = said.spoken in
-    let told : is_traffic spoken.packet.header ≡ true → IsTold members a b f.contact.0 f.contact.1 spoken.packet = λ traffic. told_by members air a b spoken.es spoken.er x_begun y_begun (as_frame f) spoken.packet h (said.session traffic) in
+true_by : (members : List (Option MemberState)) (air : List Sent) (a b place : ℕ) (f : Sent) → f.from.word ≡ node_word a → is_to b f.to ≡ true
+    → AreSeen (sight_at members air a b) (sight_at members air b a) → slice_get (sent_between air a b) place ≡ Some (as_frame f) → IsTrue members f
+unfolding sight_at accepted_at delivered_at
+true_by members air a b place f from to h there =
+    let v = sight_at members air a b in
+    let w = sight_at members air b a in
+    let spoken = frames v w place (as_frame f) h there in
+    let told : is_traffic spoken.packet.header ≡ true → IsTold members a b f.contact.0 f.contact.1 spoken.packet = λ traffic.
+    told_as members a b f.contact.0 f.contact.1 spoken.packet (truths v w place (as_frame f) spoken.es spoken.er spoken.packet h there spoken.fits spoken.bytes traffic) in
     record {
       a = a;
       b = b;
@@ -129,4 +115,4 @@ pub frame_is_true : (members : List (Option MemberState)) (air : List Sent) → 
 frame_is_true members air sound k f there =
     let flies = sound.frames k f there in
     let sent = sent_at air flies.from flies.receiver k f there (goes_there flies.from flies.receiver f flies.from_is flies.to_is) in
-    true_by members air flies.from flies.receiver sent.0 _ _ f flies.from_is flies.to_is (sound.pairs flies.from flies.receiver flies.from_number flies.receiver_number flies.apart) sent.1
+    true_by members air flies.from flies.receiver sent.0 f flies.from_is flies.to_is (sound.pairs flies.from flies.receiver flies.from_number flies.receiver_number flies.apart) sent.1

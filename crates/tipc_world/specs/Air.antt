@@ -5,8 +5,9 @@ use Rattle.tipc_types.specs.declared.identity.To.{To}
 use Rattle.tipc_types.specs.declared.identity.To.TheVariants as to
 use Rattle.tipc_outside.specs.declared.outgoing.Outgoing.{Outgoing}
 use Rattle.tipc_outside.specs.Frames.{Out}
-use Rattle.tipc_pair.specs.Views.{Frame, er_of, es_of, own_in, seen_in}
+use Rattle.tipc_partners.specs.Views.{Frame, er_of, es_of}
 use Rattle.tipc_world.specs.declared.air.Sent.{Sent}
+use Rattle.tipc_world.specs.Numbers.{own_in, seen_in}
 use Rattle.tipc_world.specs.States.{MemberState, boot_at, count_at, link_at}
 
 -- the number of a node by its address word
@@ -45,8 +46,9 @@ pub record Leaves (old new : List Sent) (members : List (Option MemberState)) (a
 abbrev pub goes : ℕ → ℕ → Sent → Bool
 goes a b f = (f.from.word == node_word a) && is_to b f.to
 
+-- a frame in the air as the pair of its nodes has it, on bearer 0
 abbrev pub as_frame : Sent → Frame
-as_frame f = record { bytes = f.frame; contact = f.contact.0; peer_contact = f.contact.1; numbered = f.numbered; peer_numbered = f.peer_numbered }
+as_frame f = record { bearer = 0; bytes = f.frame; contact = f.contact.0; peer_contact = f.contact.1; numbered = f.numbered; peer_numbered = f.peer_numbered }
 
 unfoldable pub sent_between : List Sent → ℕ → ℕ → List Frame
 sent_between air a b = map as_frame (filter (goes a b) air)

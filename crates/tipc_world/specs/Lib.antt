@@ -1,4 +1,5 @@
 pub mod States
+pub mod Numbers
 pub mod Air
 pub mod Due
 pub mod Calls

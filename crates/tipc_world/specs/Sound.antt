@@ -7,11 +7,11 @@ use Rattle.tipc_types.specs.declared.message_forms.Message.{Message}
 use Rattle.tipc_header.specs.Grammar.{Fits}
 use Rattle.tipc_header.specs.Spelling.{Fields}
 use Rattle.tipc_message.specs.Wire.{packet_of, IsPayload}
-use Rattle.tipc_pair.specs.Partners.{ArePartners}
+use Rattle.tipc_partners.specs.Sights.{AreSeen}
 use Rattle.tipc_world.specs.declared.air.Sent.{Sent}
 use Rattle.tipc_world.specs.Air.{is_to}
-use Rattle.tipc_world.specs.States.{MemberState, accepted_at, begun_at, delivered_at, link_at}
-use Rattle.tipc_world.specs.Views.{view_at}
+use Rattle.tipc_world.specs.States.{MemberState, accepted_at, delivered_at, link_at}
+use Rattle.tipc_world.specs.Views.{sight_at}
 
 -- the numbers of nodes are from 1 to 32
 abbrev pub IsNumber : ℕ → Type 0
@@ -41,7 +41,7 @@ pub record IsSound (members : List (Option MemberState)) (air : List Sent) : Typ
   pub apart : (a : ℕ) → link_at members a a ≡ None
   pub known : (a b : ℕ) → (IsNumber b → slice_index_or members b None ≡ None) → link_at members a b ≡ None
   -- each two nodes are partners
-  pub pairs : (a b : ℕ) → IsNumber a → IsNumber b → a ≢ b → ArePartners (view_at members air a b) (begun_at members a b) (view_at members air b a) (begun_at members b a)
+  pub pairs : (a b : ℕ) → IsNumber a → IsNumber b → a ≢ b → AreSeen (sight_at members air a b) (sight_at members air b a)
   -- messages are accepted and delivered in flow Zero alone, and each can be sent
   pub one_flow : (a b own theirs : ℕ) (flow : Flow) → flow ≢ Zero → (accepted_at members a b own theirs flow ≡ []) × (delivered_at members a b own theirs flow ≡ [])
   pub accepted : (a b own theirs k : ℕ) (m : Message) → slice_get (accepted_at members a b own theirs Zero) k ≡ Some m → IsSendable m

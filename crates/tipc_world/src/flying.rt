@@ -2,9 +2,9 @@
 
 ghost use Rattle.std.specs.Prelude.{◌≡◌, ◌≤◌, ◌++◌, ◌⊎◌, [], ℕ, true, false, Some, None, length, map, drop, is_some, slice_get, IfOk, IfSome, IfNone, IfErr, OnOk};
 ghost use Rattle.tipc_types.specs.Address.{node_word};
-ghost use Rattle.tipc_pair.specs.Views.{own_in, seen_in};
 ghost use Rattle.tipc_world.specs.Air.{airborne, Emits, Releases};
 ghost use Rattle.tipc_world.specs.Due.{age_of, frame_for, is_for, unarrived, HasNoSession, HasSession};
+ghost use Rattle.tipc_world.specs.Numbers.{own_in, seen_in};
 ghost use Rattle.tipc_world.specs.States.{boot_at, count_at, link_at};
 
 use crate::air::Sent;

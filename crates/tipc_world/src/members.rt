@@ -8,7 +8,6 @@ ghost use Rattle.tipc_header.specs.Grammar.{Fits};
 ghost use Rattle.tipc_header.specs.Spelling.{view};
 ghost use Rattle.tipc_journal.specs.Streams.{accepted, delivered};
 ghost use Rattle.tipc_pair.specs.Pairs.{contact_of};
-ghost use Rattle.tipc_pair.specs.Views.{own_in, seen_in};
 ghost use Rattle.tipc_node.specs.Calls.{IsDue};
 ghost use Rattle.tipc_node.specs.declared.neighbours.Neighbour.{Neighbour};
 ghost use Rattle.tipc_node.specs.Nodes.{direct, frames_all, has_room, known_frames, limit_of, load_of, neighbour_of, receive_answer, refusal, session_with, socket_answer, stop_of};
@@ -16,6 +15,7 @@ ghost use Rattle.tipc_world.specs.Calls.{is_recorded, CallStops, CanDo, RecordSt
 ghost use Rattle.tipc_world.specs.Deeds.{ArrivesInto, Did, HearsInto, SendsInto};
 ghost use Rattle.tipc_world.specs.Events.{IsSettledAt};
 ghost use Rattle.tipc_world.specs.Members.{by_in, deed_member, known_member, noted_link, receive_member, socket_member, stopped_member, IsNewcomer, IsRestarted};
+ghost use Rattle.tipc_world.specs.Numbers.{own_in, seen_in};
 ghost use Rattle.tipc_world.specs.States.{count_in, counted, history, joined, link_in, stream_of};
 
 use crate::air::Arrived;
