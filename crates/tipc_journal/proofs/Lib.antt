@@ -1,5 +1,9 @@
 pub mod ContactLaws
+pub mod DueLaws
+pub mod FateLaws
 pub mod Following
+pub mod Insides
+pub mod MatchLaws
 pub mod NameLaws
 pub mod PrefixLaws
 pub mod QueueLaws
@@ -7,3 +11,4 @@ pub mod RoomLaws
 pub mod StepLaws
 pub mod StreamLaws
 pub mod SubscriptionLaws
+pub mod WholeSteps

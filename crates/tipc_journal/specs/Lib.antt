@@ -1,4 +1,7 @@
 pub mod Contacts
+pub mod Dues
+pub mod Fates
+pub mod Matches
 pub mod Names
 pub mod Prefixes
 pub mod Queues

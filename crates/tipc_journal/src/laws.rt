@@ -1,11 +1,17 @@
 //! Laws of what a journal is read for. Each says what one more entry, or one more step, changes, so that
 //! no caller has to look into a whole journal. They do nothing when they run.
 
-ghost use Rattle.std.specs.Prelude.{◌≡◌, ◌+◌, ℕ, List, [], ◌∷◌, ◌++◌, if◌then◌else◌};
+ghost use Rattle.std.specs.Prelude.{◌≡◌, ◌<◌, ◌+◌, ℕ, Bool, true, not, List, [], ◌∷◌, ◌++◌, if◌then◌else◌, drop, filter, length};
+ghost use Rattle.std.specs.List.{list_all, list_any};
+ghost use Rattle.tipc_types.specs.declared.services.Publication.{Publication};
+ghost use Rattle.tipc_name_table.specs.Tables.{is_of, put};
 ghost use Rattle.tipc_journal.specs.Contacts.{contact, contact_after, up_epochs, epochs_after};
-ghost use Rattle.tipc_journal.specs.Names.{live, live_after, learned, learned_after};
+ghost use Rattle.tipc_journal.specs.Dues.{Due, due_after, due_behind, first_due};
+ghost use Rattle.tipc_journal.specs.Fates.{AllHaveFates, AllMayStand, HasFates, MayStand, scene_at};
+ghost use Rattle.tipc_journal.specs.Matches.{arranged, names, names_after};
+ghost use Rattle.tipc_journal.specs.Names.{live, live_after, learned, learned_after, table, is_at_home, AreAtHome};
 ghost use Rattle.tipc_journal.specs.Prefixes.{list_with};
-ghost use Rattle.tipc_journal.specs.Queues.{ever_queued, step_queued, taken_count, is_taking, sockets, sockets_after};
+ghost use Rattle.tipc_journal.specs.Queues.{ever_queued, step_queued, queued_by, taken_count, is_taking, queue, queue_inside, IsFed, sockets, sockets_after};
 ghost use Rattle.tipc_journal.specs.Room.{message_bytes, entry_bytes};
 ghost use Rattle.tipc_journal.specs.Steps.{NodeStep, step_entries, steps, IsWhole, IsInside};
 ghost use Rattle.tipc_journal.specs.Streams.{Stream, accepted, accepted_message, delivered, delivered_message};
@@ -74,4 +80,64 @@ pub fn queues_follow()
     ensures queued { (own : Addr) (J : List Entry) (s : NodeStep) (port : ℕ) → IsWhole J → IsInside s.inside → ever_queued own (J ++ step_entries s) port ≡ ever_queued own J port ++ step_queued own port s }
     ensures taken { (J : List Entry) (s : NodeStep) (port : ℕ) → IsWhole J → IsInside s.inside → taken_count (J ++ step_entries s) port ≡ taken_count J port + (if is_taking port s.event s.answer then 1 else 0) }
     ensures sockets { (J : List Entry) (s : NodeStep) → IsWhole J → IsInside s.inside → sockets (J ++ step_entries s) ≡ sockets_after (sockets J) s.event s.answer }
+    ensures queue { (own : Addr) (J : List Entry) (s : NodeStep) (port : ℕ) → IsWhole J → IsInside s.inside → IsFed own J port →
+        queue own (J ++ step_entries s) port ≡ drop (if is_taking port s.event s.answer then 1 else 0) (queue_inside own J (first_due own s.event s.answer) s.inside port) }
+    ensures fed { (own : Addr) (J : List Entry) (s : NodeStep) (port : ℕ) → IsWhole J → IsInside s.inside → IsFed own J port →
+        (is_taking port s.event s.answer ≡ true → 0 < length (queue_inside own J (first_due own s.event s.answer) s.inside port)) → IsFed own (J ++ step_entries s) port }
+{}
+
+/// One more entry of an unfinished step puts what is due behind the queue of a port where it is a Queued to it, and says what is due
+/// next. At the beginning of the step the queue is that of the journal before it.
+pub fn queues_follow_inside()
+    ensures begin { (own : Addr) (J : List Entry) (d : Due) (port : ℕ) → queue_inside own J d [] port ≡ queue own J port }
+    ensures more { (own : Addr) (J : List Entry) (d : Due) (front : List Entry) (e : Entry) (port : ℕ) →
+        queue_inside own J d (front ++ e ∷ []) port ≡ queue_inside own J d front port ++ queued_by port (due_behind own d front) e }
+    ensures due { (own : Addr) (d : Due) (front : List Entry) (e : Entry) → due_behind own d (front ++ e ∷ []) ≡ due_after own (due_behind own d front) e }
+{}
+
+/// One more entry of an unfinished step changes what is read entry by entry as one more entry of a journal does.
+pub fn readings_follow_inside()
+    ensures live { (J front : List Entry) (e : Entry) → live (J ++ (front ++ e ∷ [])) ≡ live_after (live (J ++ front)) e }
+    ensures learned { (J front : List Entry) (e : Entry) → learned (J ++ (front ++ e ∷ [])) ≡ learned_after (learned (J ++ front)) e }
+    ensures names { (own : Addr) (J front : List Entry) (e : Entry) → AreAtHome own (J ++ front) → is_at_home own e ≡ true →
+        names (J ++ (front ++ e ∷ [])) ≡ names_after (names (J ++ front)) e }
+    ensures contact { (J front : List Entry) (e : Entry) (p : Addr) → contact (J ++ (front ++ e ∷ [])) p ≡ contact_after p (contact (J ++ front) p) e }
+    ensures links { (J front : List Entry) (e : Entry) (p : Addr) (x : ℕ) → up_epochs (J ++ (front ++ e ∷ [])) p x ≡ epochs_after p x (up_epochs (J ++ front) p x) e }
+{}
+
+/// One more whole step changes what is read entry by entry as the entries that it made do: its Step and its Answered change nothing.
+pub fn readings_follow_steps()
+    ensures live { (J : List Entry) (s : NodeStep) → live (J ++ step_entries s) ≡ live (J ++ s.inside) }
+    ensures learned { (J : List Entry) (s : NodeStep) → learned (J ++ step_entries s) ≡ learned (J ++ s.inside) }
+    ensures table { (J : List Entry) (s : NodeStep) → table (J ++ step_entries s) ≡ table (J ++ s.inside) }
+    ensures names { (J : List Entry) (s : NodeStep) → names (J ++ step_entries s) ≡ names (J ++ s.inside) }
+    ensures contact { (J : List Entry) (s : NodeStep) (p : Addr) → contact (J ++ step_entries s) p ≡ contact (J ++ s.inside) p }
+    ensures links { (J : List Entry) (s : NodeStep) (p : Addr) (x : ℕ) → up_epochs (J ++ step_entries s) p x ≡ up_epochs (J ++ s.inside) p x }
+    ensures accepted { (J : List Entry) (n : NodeStep) (s : Stream) → accepted (J ++ step_entries n) s ≡ accepted J s ++ accepted n.inside s }
+    ensures delivered { (J : List Entry) (n : NodeStep) (s : Stream) → delivered (J ++ step_entries n) s ≡ delivered J s ++ delivered n.inside s }
+{}
+
+/// One more entry of this node puts a publication into the table in order, takes some out of it, or leaves it, by its kind.
+pub fn names_follow()
+    ensures table { (own : Addr) (J : List Entry) (e : Entry) → AreAtHome own J → is_at_home own e ≡ true → names (J ++ e ∷ []) ≡ names_after (names J) e }
+    ensures home { (own : Addr) (J : List Entry) (e : Entry) → AreAtHome own J → is_at_home own e ≡ true → AreAtHome own (J ++ e ∷ []) }
+    ensures own { (own : Addr) (J : List Entry) → AreAtHome own J → list_all (is_of own.word) (live J) ≡ true }
+    ensures peers { (own : Addr) (J : List Entry) → AreAtHome own J → list_all (λ p. not (is_of own.word p)) (learned J) ≡ true }
+{}
+
+/// What is looked up in publications in order is in order what is looked up in them, and something is found in the ones exactly where it
+/// is found in the others.
+pub fn look_ups_are_arranged()
+    ensures looked_up { (test : Publication → Bool) (ps : List Publication) → filter test (arranged ps) ≡ arranged (filter test ps) }
+    ensures found { (test : Publication → Bool) (ps : List Publication) → list_any test (arranged ps) ≡ list_any test ps }
+    ensures more { (ps : List Publication) (p : Publication) → arranged (ps ++ p ∷ []) ≡ put p (arranged ps) }
+{}
+
+/// One more entry that may stand where it stands leaves all so; and one more whole step in which each message has its fate leaves a journal
+/// in which each has.
+pub fn fates_follow()
+    ensures inside { (own : Addr) (J : List Entry) (d : Due) (front : List Entry) (e : Entry) → AllMayStand own J d front →
+        MayStand (scene_at own J d front) (due_behind own d front) e → AllMayStand own J d (front ++ e ∷ []) }
+    ensures step { (own : Addr) (J : List Entry) (s : NodeStep) → IsWhole J → IsInside s.inside → AllHaveFates own J →
+        HasFates own (record { before = J; step = s }) → AllHaveFates own (J ++ step_entries s) }
 {}
