@@ -11,6 +11,8 @@ pub mod PrefixLaws
 pub mod QueueLaws
 pub mod RoomLaws
 pub mod StepLaws
+pub mod StoryLaws
 pub mod StreamLaws
 pub mod SubscriptionLaws
+pub mod VisitLaws
 pub mod WholeSteps
