@@ -14,7 +14,7 @@ use Rattle.std.proofs.lemmas.List.{map-append}
 use Rattle.tipc_journal.specs.declared.entries.Entry.{Entry}
 use Rattle.tipc_journal.specs.declared.entries.Entry.TheVariants.{Step, Answered}
 use Rattle.tipc_journal.specs.Counting.{call_by, calls_of, is_sent_by_name, names_sent, names_sent_before, stamps, CallsCount, StampsRise}
-use Rattle.tipc_journal.specs.Licensed.{events_taken, is_event_taken}
+use Rattle.tipc_journal.specs.Licensed.{event_given, events_given}
 use Rattle.tipc_journal.specs.Prefixes.{list_with}
 use Rattle.tipc_journal.specs.Refusals.{is_subscribed, made_by, sockets_made, subscriptions_made}
 use Rattle.tipc_journal.specs.Steps.{IsInside, IsWhole, NodeStep, PlacedStep, step_entries, steps}
@@ -85,16 +85,16 @@ names_sent_before_all J stamp below =
     below_tests : (a b : ℕ) → a < b → nat_lt a b ≡ true
     below_tests a b h = grind (arith, nat_tests)
 
--- in an empty journal no event was taken
-pub events_taken_nil : (n : ℕ) → events_taken [] n ≡ 0
-unfolding events_taken
-events_taken_nil n = ap (count_by (λ p. is_event_taken n p.step.event p.step.answer)) steps_nil
+-- in an empty journal no event was given
+pub events_given_nil : (n : ℕ) → events_given [] n ≡ []
+unfolding events_given
+events_given_nil n = ap (filter_map (λ p. event_given n p.step.event p.step.answer)) steps_nil
 
--- one more whole step counts where an event of the subscription was taken
-pub events_taken_step : (J : List Entry) (s : NodeStep) (n : ℕ) → IsWhole J → IsInside s.inside
-    → events_taken (J ++ step_entries s) n ≡ events_taken J n + cond (is_event_taken n s.event s.answer) 1 0
-unfolding events_taken
-events_taken_step J s n whole clean = count_step (λ p. is_event_taken n p.step.event p.step.answer) J s whole clean
+-- one more whole step adds the event of the subscription that it gave
+pub events_given_step : (J : List Entry) (s : NodeStep) (n : ℕ) → IsWhole J → IsInside s.inside
+    → events_given (J ++ step_entries s) n ≡ list_with (events_given J n) (event_given n s.event s.answer)
+unfolding events_given
+events_given_step J s n whole clean = read_step (λ p. event_given n p.step.event p.step.answer) J s whole clean
 
 -- in an empty journal no socket was made
 pub sockets_made_nil : sockets_made [] ≡ []

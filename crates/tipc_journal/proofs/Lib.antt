@@ -1,6 +1,7 @@
 pub mod ContactLaws
 pub mod CountLaws
 pub mod DueLaws
+pub mod EventLaws
 pub mod FateLaws
 pub mod Following
 pub mod Insides

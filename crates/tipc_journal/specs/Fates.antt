@@ -124,6 +124,13 @@ IsPassedOn s (Payload importance form from to kind lower upper code droppable bo
     × (e ≡ Accepted to.node numbers Zero (Payload importance form from to kind lower upper code droppable body))
 IsPassedOn s (Items withdrawal items) e = ⊥
 
+-- whether an entry can only be a fate
+abbrev pub is_fate : Entry → Bool
+is_fate (Queued ports) = true
+is_fate (Returned code) = true
+is_fate (ReturnDropped waiting) = true
+is_fate _ = false
+
 -- The entry may stand where d is due. Where nothing is, no fate stands; what is dropped then is no message.
 abbrev pub MayStand : Scene → Due → Entry → Type 0
 MayStand s NothingDue (Queued ports) = ⊥
@@ -143,6 +150,13 @@ scene_at own before d front =
       queued = λ port. length (queue_inside own before d front port);
       contact = contact (before ++ front);
     }
+
+-- what is due behind the entries of a step so far, and what a fate there rests on
+abbrev pub due_in : Addr → PlacedStep → List Entry → Due
+due_in own p front = due_behind own (first_due own p.step.event p.step.answer) front
+
+abbrev pub scene_in : Addr → PlacedStep → List Entry → Scene
+scene_in own p front = scene_at own p.before (first_due own p.step.event p.step.answer) front
 
 -- Each entry may stand where it stands, in a step behind this journal at whose beginning d was due.
 abbrev pub AllMayStand : Addr → List Entry → Due → List Entry → Type 0

@@ -1,7 +1,7 @@
 -- What makes the answer of a call licensed: it is the first refusal whose condition holds, or the call is done,
 -- with just the entries that it asks for.
-use Rattle.std.specs.Prelude.{◌≡◌, ◌⊎◌, ◌==◌, ◌||◌, ◌+◌, ◌%◌, ◌^◌, if◌then◌else◌, not, is_some, ℕ, Bool, true, false, List, [], ◌∷◌, ◌++◌, Option, Some, None, Contains, filter, find, length, map, option_map, option_to_list, slice_get, count_by}
-use Rattle.std.specs.List.{All, flat_map, list_any, range_with_len}
+use Rattle.std.specs.Prelude.{◌≡◌, ◌⊎◌, ◌==◌, ◌||◌, ◌+◌, ◌%◌, ◌^◌, if◌then◌else◌, not, is_some, ℕ, Bool, true, false, List, [], ◌∷◌, ◌++◌, Option, Some, None, Contains, filter, find, length, map, option_map, option_to_list, slice_get}
+use Rattle.std.specs.List.{All, filter_map, flat_map, list_any, range_with_len}
 use Rattle.tipc_types.specs.Address.{node_word}
 use Rattle.tipc_types.specs.declared.identity.Addr.{Addr}
 use Rattle.tipc_types.specs.declared.message_forms.Flow.{Flow}
@@ -35,14 +35,14 @@ abbrev pub received : List Message → Answer
 received [] = answer.Empty
 received (m ∷ ms) = answer.Got
 
--- whether an event of the subscription of a number was taken
-abbrev pub is_event_taken : ℕ → EventNote → Answer → Bool
-is_event_taken n (event.NextEvent number) (answer.Next e) = number == n
-is_event_taken n event answer = false
+-- the event of the subscription of a number that a call gave
+abbrev pub event_given : ℕ → EventNote → Answer → Option Event
+event_given n (event.NextEvent number) (answer.Next e) = if number == n then Some e else None
+event_given n event answer = None
 
--- how many events of the subscription of a number were taken
-unfoldable pub events_taken : List Entry → ℕ → ℕ
-events_taken entries n = count_by (λ p. is_event_taken n p.step.event p.step.answer) (steps entries)
+-- the events of the subscription of a number that were given, in order
+unfoldable pub events_given : List Entry → ℕ → List Event
+events_given entries n = filter_map (λ p. event_given n p.step.event p.step.answer) (steps entries)
 
 -- what next_event answers, by the event that is next
 abbrev pub next_answer : Option Event → Answer
@@ -55,8 +55,8 @@ is_reached own J node = (node.word == own.word) || is_some (contact J node)
 
 -- A call that isn't refused answers this behind a journal. A socket has a port that none had before. A message by name
 -- goes to a match, at the own node or in contact. A receive gives a message exactly where one is queued. Subscriptions
--- are counted from 1. The events of a subscription are taken in their order, and there is none exactly where each was
--- taken.
+-- are counted from 1. The events of a subscription are given in the order of its transitions, and there is none exactly
+-- where each was given.
 abbrev pub IsDone : Addr → List Entry → EventNote → Answer → Type 0
 IsDone own J event.Socket given = (port : ℕ) × (given ≡ answer.Socket port) × (is_among (sockets_made J) port ≡ false)
 IsDone own J (event.SendName port kind instance importance body) given =
@@ -69,7 +69,7 @@ IsDone own J (event.Multicast port kind lower upper importance body) given = giv
 IsDone own J (event.Receive port) given = given ≡ received (queue own J port)
 IsDone own J (event.Subscribe s) given = given ≡ answer.Subscribed (subscriptions_made J + 1)
 IsDone own J (event.NextEvent number) given =
-    given ≡ next_answer (slice_get (transitions J number) (events_taken J number))
+    given ≡ next_answer (slice_get (transitions J number) (length (events_given J number)))
 IsDone own J (event.Arrive bearer number) given = (arrival : Arrival) × (given ≡ answer.Arrived arrival)
 IsDone own J event given = given ≡ answer.Done
 

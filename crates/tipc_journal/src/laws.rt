@@ -1,24 +1,27 @@
 //! Laws of what a journal is read for. Each says what one more entry, or one more step, changes, so that
 //! no caller has to look into a whole journal. They do nothing when they run.
 
-ghost use Rattle.std.specs.Prelude.{◌≡◌, ◌<◌, ◌+◌, ◌%◌, ◌&&◌, nat_lt, ℕ, Bool, true, not, List, [], ◌∷◌, ◌++◌, if◌then◌else◌, drop, filter, length};
+ghost use Rattle.std.specs.Prelude.{◌≡◌, ◌<◌, ◌+◌, ◌%◌, ◌&&◌, nat_lt, ℕ, Bool, true, false, not, List, [], ◌∷◌, ◌++◌, if◌then◌else◌, drop, filter, length};
 ghost use Rattle.std.specs.List.{All, list_all, list_any};
+ghost use Rattle.tipc_types.specs.declared.message_forms.Flow.{Flow};
+ghost use Rattle.tipc_types.specs.declared.message_forms.Message.{Message};
 ghost use Rattle.tipc_types.specs.declared.services.Publication.{Publication};
 ghost use Rattle.tipc_name_table.specs.Tables.{is_of, put};
+ghost use Rattle.tipc_journal.specs.declared.entries.Entry.TheVariants.{Delivered};
 ghost use Rattle.tipc_journal.specs.Contacts.{contact, contact_after, up_epochs, epochs_after};
 ghost use Rattle.tipc_journal.specs.Counting.{call_by, calls_of, is_sent_by_name, names_sent, names_sent_before, stamps, CallsCount, StampsRise};
-ghost use Rattle.tipc_journal.specs.Dues.{Due, due_after, due_behind, first_due};
-ghost use Rattle.tipc_journal.specs.Fates.{AllHaveFates, AllMayStand, HasFates, MayStand, scene_at};
-ghost use Rattle.tipc_journal.specs.Licensed.{events_taken, is_event_taken, is_send, sends_in, AllLicensed, AllPicked, IsLicensed};
+ghost use Rattle.tipc_journal.specs.Dues.{Due, NothingDue, FateDue, due_after, due_behind, first_due};
+ghost use Rattle.tipc_journal.specs.Fates.{AllHaveFates, AllMayStand, HasFates, IsFate, MayStand, due_in, is_fate, scene_at, scene_in};
+ghost use Rattle.tipc_journal.specs.Licensed.{event_given, events_given, is_send, sends_in, AllLicensed, AllPicked, IsLicensed};
 ghost use Rattle.tipc_journal.specs.Matches.{arranged, names, names_after};
 ghost use Rattle.tipc_journal.specs.Names.{live, live_after, learned, learned_after, table, is_at_home, AreAtHome};
-ghost use Rattle.tipc_journal.specs.Prefixes.{list_with};
+ghost use Rattle.tipc_journal.specs.Prefixes.{list_with, IsPrefixOf};
 ghost use Rattle.tipc_journal.specs.Queues.{ever_queued, step_queued, queued_by, taken_count, is_taking, queue, queue_inside, IsFed, sockets, sockets_after};
 ghost use Rattle.tipc_journal.specs.Refusals.{is_subscribed, made_by, sockets_made, subscriptions_made};
 ghost use Rattle.tipc_journal.specs.Room.{message_bytes, entry_bytes};
-ghost use Rattle.tipc_journal.specs.Steps.{NodeStep, step_entries, steps, IsWhole, IsInside};
+ghost use Rattle.tipc_journal.specs.Steps.{NodeStep, PlacedStep, step_entries, steps, IsWhole, IsInside};
 ghost use Rattle.tipc_journal.specs.Story.{came_back, story, story_after, teller};
-ghost use Rattle.tipc_journal.specs.Streams.{Stream, accepted, accepted_message, delivered, delivered_message};
+ghost use Rattle.tipc_journal.specs.Streams.{Stream, accepted, accepted_message, delivered, delivered_message, is_items};
 ghost use Rattle.tipc_journal.specs.Subscriptions.{watching, watching_after, subscriptions, subscriptions_after, transitions, told, AllTimely, IsTimely};
 ghost use Rattle.tipc_journal.specs.Visits.{visits};
 
@@ -189,7 +192,23 @@ pub fn fates_follow()
         HasFates own (record { before = J; step = s }) → AllHaveFates own (J ++ step_entries s) }
 {}
 
-/// One more whole step adds what it counts for: a send by name, an event that was taken, a socket or subscriptions
+/// In a step in which each message has its fate, what is due behind some of its entries stands next: so each payload message that was
+/// delivered is followed by its fate. And no fate stands but where a message has it.
+pub fn what_is_due_stands_next()
+    ensures next { (own : Addr) (p : PlacedStep) (front rest : List Entry) → HasFates own p →
+        p.step.inside ≡ front ++ rest → (due_in own p front ≡ NothingDue → ⊥) →
+        (e : Entry) × (more : List Entry) × (rest ≡ e ∷ more) × MayStand (scene_in own p front) (due_in own p front) e }
+    ensures delivered { (own : Addr) (p : PlacedStep) (front : List Entry) (peer : Addr) (numbers : ℕ × ℕ) (flow : Flow)
+        (m : Message) (by : List ℕ) (rest : List Entry) → HasFates own p → is_items m ≡ false →
+        p.step.inside ≡ front ++ Delivered peer numbers flow m by ∷ rest →
+        (e : Entry) × (more : List Entry) × (rest ≡ e ∷ more)
+        × IsFate (scene_in own p (front ++ Delivered peer numbers flow m by ∷ [])) m true e }
+    ensures fates { (own : Addr) (p : PlacedStep) (front : List Entry) (e : Entry) (rest : List Entry) → HasFates own p →
+        is_fate e ≡ true → p.step.inside ≡ front ++ e ∷ rest →
+        (m : Message) × (arrived : Bool) × (due_in own p front ≡ FateDue m arrived) × IsFate (scene_in own p front) m arrived e }
+{}
+
+/// One more whole step adds what it counts for: a send by name, an event that was given, a socket or subscriptions
 /// that were made.
 pub fn counts_follow()
     ensures names { (J : List Entry) (s : NodeStep) → IsWhole J → IsInside s.inside →
@@ -200,7 +219,7 @@ pub fn counts_follow()
     ensures all { (J : List Entry) (stamp : ℕ) → All (λ x. x < stamp) (stamps J) →
         names_sent_before J stamp ≡ names_sent J }
     ensures events { (J : List Entry) (s : NodeStep) (n : ℕ) → IsWhole J → IsInside s.inside →
-        events_taken (J ++ step_entries s) n ≡ events_taken J n + (if is_event_taken n s.event s.answer then 1 else 0) }
+        events_given (J ++ step_entries s) n ≡ list_with (events_given J n) (event_given n s.event s.answer) }
     ensures sockets { (J : List Entry) (s : NodeStep) → IsWhole J → IsInside s.inside →
         sockets_made (J ++ step_entries s) ≡ list_with (sockets_made J) (made_by s.event s.answer) }
     ensures subscriptions { (J : List Entry) (s : NodeStep) →
@@ -233,6 +252,9 @@ pub fn licences_follow()
     ensures inside { (own : Addr) (d : Due) (front : List Entry) (e : Entry) →
         sends_in own d (front ++ e ∷ [])
         ≡ sends_in own d front ++ (if is_send (due_behind own d front) e then e ∷ [] else []) }
+    ensures told { (own : Addr) (J : List Entry) (s : NodeStep) (n : ℕ) → IsWhole J → IsInside s.inside →
+        IsLicensed own (record { before = J; step = s }) → IsPrefixOf (events_given J n) (transitions J n) →
+        IsPrefixOf (events_given (J ++ step_entries s) n) (transitions (J ++ step_entries s) n) }
     ensures timely { (J : List Entry) (s : NodeStep) → IsWhole J → IsInside s.inside → AllTimely J →
         IsTimely (record { before = J; step = s }) → AllTimely (J ++ step_entries s) }
 {}
