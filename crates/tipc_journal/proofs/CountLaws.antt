@@ -8,12 +8,12 @@ use Rattle.std.proofs.lemmas.Bool.Decides.{nat_tests}
 use Rattle.std.specs.declared.cmp.Ordering.TheVariants.{Less}
 use Rattle.std.specs.List.{AllByRecursion}
 use Rattle.std.proofs.Common.{◌≡◌, ℕ, zero, suc, ◌+◌, ◌<◌, Bool, true, false, arith, List, [], ◌∷◌, ◌++◌, Option, Some, None, cond, length, length-append, map, sum_by, refl, sym, subst, ◌∙◌, ap, zero-add, eqb-true}
-use Rattle.std.proofs.lemmas.List.Elements.{recursion_from_All}
+use Rattle.std.proofs.lemmas.List.Elements.{All-push, recursion_from_All}
 use Rattle.std.proofs.lemmas.List.Sums.{sum_by-append, sum_by-cons}
 use Rattle.std.proofs.lemmas.List.{map-append}
 use Rattle.tipc_journal.specs.declared.entries.Entry.{Entry}
 use Rattle.tipc_journal.specs.declared.entries.Entry.TheVariants.{Step, Answered}
-use Rattle.tipc_journal.specs.Counting.{call_by, calls_of, is_sent_by_name, names_sent, names_sent_before, stamps, CallsCount, StampsRise}
+use Rattle.tipc_journal.specs.Counting.{call_by, calls_of, is_sent_by_name, names_sent, names_sent_before, stamps, AllAnsweredToCallers, CallsCount, IsAnsweredToCaller, StampsRise}
 use Rattle.tipc_journal.specs.Licensed.{event_given, events_given}
 use Rattle.tipc_journal.specs.Prefixes.{list_with}
 use Rattle.tipc_journal.specs.Refusals.{is_subscribed, made_by, sockets_made, subscriptions_made}
@@ -165,6 +165,17 @@ StampsRise_step J s whole clean rise below =
     (rising_more (stamps J) s.by.stamp rise (recursion_from_All (λ stamp. stamp < s.by.stamp) (stamps J) below))
 
 -- ---- calls
+
+-- each step of an empty journal is answered to its caller
+pub AllAnsweredToCallers_nil : AllAnsweredToCallers []
+AllAnsweredToCallers_nil = subst (λ (w : List PlacedStep). All (λ p. IsAnsweredToCaller p.step) w) (sym steps_nil) (λ i d within. absurd (omega (arith, within)))
+
+-- one more whole step that is answered to its caller
+pub AllAnsweredToCallers_step : (J : List Entry) (s : NodeStep) → IsWhole J → IsInside s.inside
+    → AllAnsweredToCallers J → IsAnsweredToCaller s → AllAnsweredToCallers (J ++ step_entries s)
+AllAnsweredToCallers_step J s whole clean all one =
+    subst (λ (w : List PlacedStep). All (λ p. IsAnsweredToCaller p.step) w) (sym (steps_more J s whole clean))
+    (All-push (λ p. IsAnsweredToCaller p.step) (steps J) (record { before = J; step = s }) all one)
 
 -- an empty journal has no calls
 pub calls_of_nil : (caller : ℕ) → calls_of [] caller ≡ []

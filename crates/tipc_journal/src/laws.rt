@@ -9,7 +9,7 @@ ghost use Rattle.tipc_types.specs.declared.services.Publication.{Publication};
 ghost use Rattle.tipc_name_table.specs.Tables.{is_of, put};
 ghost use Rattle.tipc_journal.specs.declared.entries.Entry.TheVariants.{Delivered};
 ghost use Rattle.tipc_journal.specs.Contacts.{contact, contact_after, up_epochs, epochs_after};
-ghost use Rattle.tipc_journal.specs.Counting.{call_by, calls_of, is_sent_by_name, names_sent, names_sent_before, stamps, CallsCount, StampsRise};
+ghost use Rattle.tipc_journal.specs.Counting.{call_by, calls_of, is_sent_by_name, names_sent, names_sent_before, stamps, AllAnsweredToCallers, CallsCount, IsAnsweredToCaller, StampsRise};
 ghost use Rattle.tipc_journal.specs.Dues.{Due, NothingDue, FateDue, due_after, due_behind, first_due};
 ghost use Rattle.tipc_journal.specs.Fates.{AllHaveFates, AllMayStand, HasFates, IsFate, MayStand, due_in, is_fate, scene_at, scene_in};
 ghost use Rattle.tipc_journal.specs.Licensed.{event_given, events_given, is_send, sends_in, AllLicensed, AllPicked, IsLicensed};
@@ -237,6 +237,8 @@ pub fn stamps_and_calls_follow()
         All (λ x. x < s.by.stamp) (stamps J) → StampsRise (J ++ step_entries s) }
     ensures calls { (J : List Entry) (s : NodeStep) (caller : ℕ) → IsWhole J → IsInside s.inside →
         calls_of (J ++ step_entries s) caller ≡ list_with (calls_of J caller) (call_by caller s) }
+    ensures callers { (J : List Entry) (s : NodeStep) → IsWhole J → IsInside s.inside → AllAnsweredToCallers J →
+        IsAnsweredToCaller s → AllAnsweredToCallers (J ++ step_entries s) }
     ensures count { (J : List Entry) (s : NodeStep) → IsWhole J → IsInside s.inside → CallsCount J →
         s.call ≡ length (calls_of J s.caller) → CallsCount (J ++ step_entries s) }
 {}
