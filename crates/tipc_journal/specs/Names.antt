@@ -1,6 +1,7 @@
 -- Names in a journal: the node's live publications, and those that it learned of its peers.
-use Rattle.std.specs.Prelude.{◌==◌, ◌&&◌, if◌then◌else◌, not, Bool, true, false, List, [], ◌∷◌, ◌++◌, Option, Some, None, filter}
-use Rattle.std.specs.List.{cons_option, list_any}
+use Rattle.std.specs.Prelude.{◌≡◌, ◌==◌, ◌&&◌, if◌then◌else◌, not, Bool, true, false, List, [], ◌∷◌, ◌++◌, Option, Some, None, filter}
+use Rattle.std.specs.List.{cons_option, list_all, list_any}
+use Rattle.tipc_types.specs.declared.identity.Addr.{Addr}
 use Rattle.tipc_types.specs.declared.services.Publication.{Publication}
 use Rattle.tipc_types.specs.declared.services.Scope.{Scope}
 use Rattle.tipc_types.specs.declared.services.Scope.TheVariants.{Node}
@@ -72,3 +73,17 @@ learned_after ps (Learned p) = ps ++ p ∷ []
 learned_after ps (Forgot q) = filter (λ p. not ((q.at.node.word == p.at.node.word) && (q.key == p.key))) ps
 learned_after ps (ContactDown peer numbers states shown) = filter (λ p. not (peer.word == p.at.node.word)) ps
 learned_after ps _ = ps
+
+-- whether an entry tells of publications as a journal of this node may: it publishes and withdraws its own,
+-- and learns and forgets those of its peers
+abbrev pub is_at_home : Addr → Entry → Bool
+is_at_home own (Published p) = p.at.node.word == own.word
+is_at_home own (Withdrawn p) = p.at.node.word == own.word
+is_at_home own (Learned p) = not (p.at.node.word == own.word)
+is_at_home own (Forgot p) = not (p.at.node.word == own.word)
+is_at_home own (ContactDown peer numbers states shown) = not (peer.word == own.word)
+is_at_home own _ = true
+
+-- the entries are of this node: each tells of publications as its journal may
+abbrev pub AreAtHome : Addr → List Entry → Type 0
+AreAtHome own entries = list_all (is_at_home own) entries ≡ true

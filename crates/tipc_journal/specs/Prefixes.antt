@@ -1,4 +1,4 @@
--- One list is a front of another.
+-- One list is a front of another, and what holds of each element behind those before it.
 use Rattle.std.specs.Prelude.{◌≡◌, List, [], ◌∷◌, ◌++◌, Option, Some, None}
 
 -- xs is a prefix of ys: ys is xs and then some rest
@@ -14,3 +14,8 @@ list_with xs (Some x) = xs ++ x ∷ []
 abbrev pub each_behind : {A B : Type 0} → (List A → A → List B) → List A → List A → List B
 each_behind f before [] = []
 each_behind f before (x ∷ xs) = f before x ++ each_behind f (before ++ x ∷ []) xs
+
+-- each element of the later part of a list is as it has to be behind what stands before it
+abbrev pub AllBehind : {A : Type 0} → (List A → A → Type 0) → List A → List A → Type 0
+AllBehind P before [] = Unit {0}
+AllBehind P before (x ∷ xs) = P before x × AllBehind P (before ++ x ∷ []) xs

@@ -1,46 +1,30 @@
--- The queue of a socket, as a journal tells it.
-use Rattle.std.specs.Prelude.{◌==◌, if◌then◌else◌, not, ℕ, Bool, true, false, List, [], ◌∷◌, ◌++◌, Option, Some, None, fold, filter, drop, take, option_map, option_to_list, count_by}
+-- The sockets of a journal, and the queue of each, also inside a step.
+use Rattle.std.specs.Prelude.{◌==◌, ◌≤◌, if◌then◌else◌, not, ℕ, Bool, false, List, [], ◌∷◌, ◌++◌, fold, filter, drop, length, count_by}
 use Rattle.std.specs.List.{flat_map, list_any}
 use Rattle.tipc_types.specs.declared.identity.Addr.{Addr}
-use Rattle.tipc_types.specs.declared.message_forms.Form.TheVariants.{Multicast as Many, Named, Direct}
 use Rattle.tipc_types.specs.declared.message_forms.Message.{Message}
-use Rattle.tipc_types.specs.declared.message_forms.Message.TheVariants.{Payload, Items}
 use Rattle.tipc_types.specs.declared.node_calls.Answer.{Answer}
-use Rattle.tipc_types.specs.declared.node_calls.Answer.TheVariants.{Done, Socket as Made, SentTo, Got}
+use Rattle.tipc_types.specs.declared.node_calls.Answer.TheVariants.{Done, Socket as Made, Got}
 use Rattle.tipc_types.specs.declared.node_calls.EventNote.{EventNote}
-use Rattle.tipc_types.specs.declared.node_calls.EventNote.TheVariants.{Socket, Close, SendName, SendPort, Multicast, Receive}
+use Rattle.tipc_types.specs.declared.node_calls.EventNote.TheVariants.{Socket, Close, Receive}
 use Rattle.tipc_journal.specs.declared.entries.Entry.{Entry}
-use Rattle.tipc_journal.specs.declared.entries.Entry.TheVariants.{Delivered, Queued, Returned}
+use Rattle.tipc_journal.specs.declared.entries.Entry.TheVariants.{Queued}
+use Rattle.tipc_journal.specs.Dues.{Due, FateDue, due_after, first_due}
 use Rattle.tipc_journal.specs.Steps.{NodeStep, steps}
 
--- the message that a call of a node makes of its arguments and its answer, where it sends one
-abbrev pub sent_message : Addr → EventNote → Answer → Option Message
-sent_message own (SendName port kind instance importance body) (SentTo to) =
-    Some (Payload importance Named (record { node = own; port = port }) to kind instance instance 0 false body)
-sent_message own (SendPort port to importance body) answer =
-    Some (Payload importance Direct (record { node = own; port = port }) to 0 0 0 0 false body)
-sent_message own (Multicast port kind lower upper importance body) answer =
-    Some (Payload importance Many (record { node = own; port = port }) (record { node = record { word = 0 }; port = 0 }) kind lower upper 0 true body)
-sent_message own event answer = None
+-- the messages that an entry queues to a port, where d is due
+abbrev pub queued_by : ℕ → Due → Entry → List Message
+queued_by port (FateDue m arrived) (Queued ports) = if list_any (λ q. q == port) ports then m ∷ [] else []
+queued_by port d e = []
 
--- a message as it is returned: direct, with the code and at most its first 1,024 bytes, from the port that it was for
-abbrev pub returned_message : ℕ → Message → Message
-returned_message code (Payload importance form from to kind lower upper old droppable body) =
-    Payload importance Direct to from 0 0 0 code false (take 1024 body)
-returned_message code (Items withdrawal items) = Items withdrawal items
-
--- the messages that entries of a step queue to a port, where m is the message whose fate comes next
-abbrev pub queued_in : ℕ → Option Message → List Entry → List Message
-queued_in port m [] = []
-queued_in port m (Delivered peer contact flow message by ∷ es) = queued_in port (Some message) es
-queued_in port m (Returned code ∷ es) = queued_in port (option_map (returned_message code) m) es
-queued_in port m (Queued ports ∷ es) =
-    (if list_any (λ q. q == port) ports then option_to_list m else []) ++ queued_in port m es
-queued_in port m (_ ∷ es) = queued_in port m es
+-- the messages that entries of a step queue to a port, where d is due before them
+unfoldable pub queued_in : Addr → ℕ → Due → List Entry → List Message
+queued_in own port d [] = []
+queued_in own port d (e ∷ es) = queued_by port d e ++ queued_in own port (due_after own d e) es
 
 -- the messages that a step queues to a port
 abbrev pub step_queued : Addr → ℕ → NodeStep → List Message
-step_queued own port s = queued_in port (sent_message own s.event s.answer) s.inside
+step_queued own port s = queued_in own port (first_due own s.event s.answer) s.inside
 
 -- whether the step is a receive from the port that was answered with a message
 abbrev pub is_taking : ℕ → EventNote → Answer → Bool
@@ -57,8 +41,17 @@ unfoldable pub taken_count : List Entry → ℕ → ℕ
 taken_count entries port = count_by (λ p. is_taking port p.step.event p.step.answer) (steps entries)
 
 -- the queue of a port: the messages queued to it, without as many first ones as receives gave
-abbrev pub queue : Addr → List Entry → ℕ → List Message
+unfoldable pub queue : Addr → List Entry → ℕ → List Message
 queue own entries port = drop (taken_count entries port) (ever_queued own entries port)
+
+-- no more messages were received from the port than were queued to it
+abbrev pub IsFed : Addr → List Entry → ℕ → Type 0
+IsFed own entries port = taken_count entries port ≤ length (ever_queued own entries port)
+
+-- the queue of a port inside a step: that of the journal before the step, and what the entries of the step so far
+-- queued to it, where d was due at the beginning of the step
+abbrev pub queue_inside : Addr → List Entry → Due → List Entry → ℕ → List Message
+queue_inside own before d front port = queue own before port ++ queued_in own port d front
 
 -- the sockets after a step: one that was made is there, and one that was closed isn't
 abbrev pub sockets_after : List ℕ → EventNote → Answer → List ℕ
