@@ -1,5 +1,5 @@
 -- Every frame in the air of a sound world is true.
-use Rattle.std.proofs.Common.{length, sym, ◌≡◌, eqb-true, ◌≤◌, ◌+◌, ℕ, zero, suc, true, List, [], ◌∷◌, Option, Some, refl, ap, ◌∙◌, append-nil, arith}
+use Rattle.std.proofs.Common.{length, sym, ◌≡◌, eqb-true, ◌≤◌, ◌+◌, ℕ, zero, suc, true, List, [], ◌∷◌, Option, Some, refl, ap, ◌∙◌, arith}
 use Rattle.std.specs.Prelude.{slice_get}
 use Rattle.tipc_types.specs.Address.{node_word}
 use Rattle.tipc_types.specs.declared.identity.To.{To}
@@ -15,17 +15,15 @@ use Rattle.tipc_header.specs.Spelling.{Fields, numbers_size, spelling}
 use Rattle.tipc_header.specs.Users.{header_size}
 use Rattle.tipc_header.proofs.Again.{length-spelling}
 use Rattle.tipc_header.proofs.FrameWords.{length-envelope}
-use Rattle.std.specs.List.{flat_map}
 use Rattle.tipc_fragments.specs.Cutting.{packet_of}
 use Rattle.tipc_link.specs.Links.{is_traffic}
 use Rattle.tipc_link.specs.Sessions.{as_waiting, Carries, content_by, content_of}
-use Rattle.tipc_reassembly.specs.Slots.{Fragment, Group, IsSlot, Slot, slot_bytes, slot_items}
+use Rattle.tipc_reassembly.specs.Slots.{Fragment, Group, IsSlot, Slot, slot_bytes}
 use Rattle.tipc_partners.specs.Sights.{AreSeen}
-use Rattle.tipc_partners.specs.Truth as partners
 use Rattle.tipc_partners.proofs.Sights.{frames, truths}
 use Rattle.tipc_world.specs.declared.air.Sent.{Sent}
 use Rattle.tipc_world.specs.Air.{as_frame, is_to, sent_between}
-use Rattle.tipc_world.specs.Good.{AreSlots, IsTold, IsTrue, accepted_packets, delivered_packets}
+use Rattle.tipc_world.specs.Good.{IsTrue, SpeaksTruth}
 use Rattle.tipc_world.specs.Sound.{IsSound}
 use Rattle.tipc_world.specs.States.{MemberState, accepted_at, delivered_at}
 use Rattle.tipc_world.specs.Views.{sight_at}
@@ -55,7 +53,7 @@ packet_size (header.Activate a) n sequence bytes rest size carried = omega (arit
 packet_size (header.Discovery d) n sequence bytes rest size carried = omega (arith, size, rest)
 packet_size other n sequence bytes rest size carried = carried refl sequence bytes refl
 
-frame_size : (members : List (Option MemberState)) (a b own theirs es er : ℕ) (p : Fields) (frame : List ℕ) → Fits p → frame ≡ frame_of es er (spelling p) → (is_traffic p.header ≡ true → IsTold members a b own theirs p) → length frame ≤ 1516
+frame_size : (members : List (Option MemberState)) (a b own theirs es er : ℕ) (p : Fields) (frame : List ℕ) → Fits p → frame ≡ frame_of es er (spelling p) → (is_traffic p.header ≡ true → SpeaksTruth members a b own theirs p) → length frame ≤ 1516
 unfolding content_of
 frame_size members a b own theirs es er p frame fits is told =
     let waiting_size = length-spelling (as_waiting p) in
@@ -66,26 +64,7 @@ frame_size members a b own theirs es er p frame fits is told =
     let head = length-envelope es er in
     omega (arith, waiting_size, size, short, whole, head)
 
--- ---- what it says of its contact
-
-slots_are : (members : List (Option MemberState)) (a b own theirs : ℕ) (slots : List Slot) → partners.AreSlots (accepted_packets members a b own theirs) slots → AreSlots members a b own theirs slots
-slots_are members a b own theirs slots h = record { sound = h.sound; front = ([], sym h.whole ∙ sym (append-nil (flat_map slot_items slots))) }
-
--- what is so of the packets that two partners put and were given is so of the messages that were accepted and delivered
-told_as : (members : List (Option MemberState)) (a b own theirs : ℕ) (p : Fields)
-    → partners.IsTold (accepted_packets members a b own theirs) (accepted_packets members b a theirs own) (delivered_packets members a b own theirs) p → IsTold members a b own theirs p
-told_as members a b own theirs p t =
-    let taken = t.taken_is in
-    record {
-      told = t.told;
-      told_is = t.told_is;
-      taken = t.taken;
-      told_taken = t.told_taken;
-      taken_is = record { slots = taken.slots; are = slots_are members b a theirs own taken.slots taken.are; begun = taken.begun; gave = taken.gave };
-      carried = λ number bytes carries.
-          let c = t.carried number bytes carries in
-          (c.0, c.1, record { slots = c.2.slots; are = slots_are members a b own theirs c.2.slots c.2.are; there = c.2.there });
-    }
+-- ---- a frame
 
 true_by : (members : List (Option MemberState)) (air : List Sent) (a b place : ℕ) (f : Sent) → f.from.word ≡ node_word a → is_to b f.to ≡ true
     → AreSeen (sight_at members air a b) (sight_at members air b a) → slice_get (sent_between air a b) place ≡ Some (as_frame f) → IsTrue members f
@@ -94,8 +73,8 @@ true_by members air a b place f from to h there =
     let v = sight_at members air a b in
     let w = sight_at members air b a in
     let spoken = frames v w place (as_frame f) h there in
-    let told : is_traffic spoken.packet.header ≡ true → IsTold members a b f.contact.0 f.contact.1 spoken.packet = λ traffic.
-    told_as members a b f.contact.0 f.contact.1 spoken.packet (truths v w place (as_frame f) spoken.es spoken.er spoken.packet h there spoken.fits spoken.bytes traffic) in
+    let told : is_traffic spoken.packet.header ≡ true → SpeaksTruth members a b f.contact.0 f.contact.1 spoken.packet =
+    λ traffic. truths v w place (as_frame f) spoken.es spoken.er spoken.packet h there spoken.fits spoken.bytes traffic in
     record {
       a = a;
       b = b;

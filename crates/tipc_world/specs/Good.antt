@@ -1,8 +1,6 @@
 -- What is promised of every world.
-use Rattle.std.specs.Prelude.{◌≡◌, ◌≢◌, ◌≤◌, ◌+◌, ℕ, true, All, List, [], Option, Some, None, length, map, option_map, slice_get, slice_index_or, take}
-use Rattle.std.specs.List.{flat_map}
+use Rattle.std.specs.Prelude.{◌≡◌, ◌≢◌, ◌≤◌, ℕ, true, List, [], Option, Some, None, length, map, slice_get, slice_index_or}
 use Rattle.tipc_types.specs.Address.{node_word}
-use Rattle.tipc_types.specs.Position.{number_of}
 use Rattle.tipc_types.specs.declared.identity.To.TheVariants as to
 use Rattle.tipc_types.specs.declared.message_forms.Flow.{Flow}
 use Rattle.tipc_types.specs.declared.message_forms.Flow.TheVariants.{Zero}
@@ -10,12 +8,8 @@ use Rattle.tipc_header.specs.Frames.{frame_of}
 use Rattle.tipc_header.specs.Grammar.{Fits}
 use Rattle.tipc_header.specs.Spelling.{Fields, spelling}
 use Rattle.tipc_journal.specs.Prefixes.{IsPrefixOf}
-use Rattle.tipc_fragments.specs.Joining.{Joining}
-use Rattle.tipc_fragments.specs.Laws.{IsFrontOf}
-use Rattle.tipc_fragments.specs.Streams.{items_of}
-use Rattle.tipc_reassembly.specs.Slots.{HasOpened, IsSlot, Slot, slot_bytes, slot_items}
 use Rattle.tipc_link.specs.Links.{is_traffic}
-use Rattle.tipc_link.specs.Sessions.{Carries, content_of}
+use Rattle.tipc_partners.specs.Truth.{IsTold}
 use Rattle.tipc_world.specs.declared.air.Sent.{Sent}
 use Rattle.tipc_world.specs.Lawful.{AreLawful, HasBegun}
 use Rattle.tipc_world.specs.Members.{bytes_of}
@@ -29,36 +23,10 @@ accepted_packets members a b own theirs = map bytes_of (accepted_at members a b 
 abbrev pub delivered_packets : List (Option MemberState) → ℕ → ℕ → ℕ → ℕ → List (List ℕ)
 delivered_packets members a b own theirs = map bytes_of (delivered_at members a b own theirs Zero)
 
--- What node a put into numbered packets for node b in a contact, one slot for each: whole messages, bundles and fragments. It is a
--- beginning of what is sent of the messages that a accepted for b, one after the other.
-pub record AreSlots (members : List (Option MemberState)) (a b own theirs : ℕ) (slots : List Slot) : Type 0 where
-  pub sound : All IsSlot slots
-  pub front : IsFrontOf (flat_map slot_items slots) (flat_map items_of (accepted_packets members a b own theirs))
-
--- What node a put into its packet at a position in a contact, from 0.
-pub record IsNumbered (members : List (Option MemberState)) (a b own theirs position : ℕ) (bytes : List ℕ) : Type 0 where
-  pub slots : List Slot
-  pub are : AreSlots members a b own theirs slots
-  pub there : option_map slot_bytes (slice_get slots position) ≡ Some bytes
-
--- Node a took so many packets of node b in a contact: they gave what was delivered there.
-pub record HasTaken (members : List (Option MemberState)) (a b own theirs taken : ℕ) : Type 0 where
-  pub slots : List Slot
-  pub are : AreSlots members b a theirs own slots
-  pub begun : Joining
-  pub gave : HasOpened (flat_map slot_items (take taken slots)) (delivered_packets members a b own theirs) begun
-
--- A STATE or a numbered packet from node a to node b speaks the truth of their contact, node a's number first: what it acknowledges, the
--- packet at position `told` and those before it, was taken at a; and what it carries was put into a packet by a for b, at the position of
--- its number.
-pub record IsTold (members : List (Option MemberState)) (a b own theirs : ℕ) (p : Fields) : Type 0 where
-  pub told : ℕ
-  pub told_is : p.acknowledgement ≡ number_of told
-  pub taken : ℕ
-  pub told_taken : told ≤ taken
-  pub taken_is : HasTaken members a b own theirs taken
-  pub carried : (number : ℕ) (bytes : List ℕ) → content_of p ≡ Carries number bytes
-      → (position : ℕ) × (number ≡ number_of (position + 1)) × IsNumbered members a b own theirs position bytes
+-- A STATE or a numbered packet from node a to node b speaks the truth of their contact, node a's number first: what it acknowledges was
+-- taken at a, and gave what was delivered there; and what it carries was put into a packet by a for b, at the position of its number.
+abbrev pub SpeaksTruth : List (Option MemberState) → ℕ → ℕ → ℕ → ℕ → Fields → Type 0
+SpeaksTruth members a b own theirs p = IsTold (accepted_packets members a b own theirs) (accepted_packets members b a theirs own) (delivered_packets members a b own theirs) p
 
 -- A frame is true: node a sent it to node b, it has at most 1,516 bytes, it is a packet of a under an envelope, and what it says of the
 -- contact whose numbers stand beside it is so.
@@ -74,7 +42,7 @@ pub record IsTrue (members : List (Option MemberState)) (f : Sent) : Type 0 wher
   pub fits : Fits packet
   pub frame_is : f.frame ≡ frame_of es er (spelling packet)
   pub previous : packet.previous ≡ node_word a
-  pub told : is_traffic packet.header ≡ true → IsTold members a b f.contact.0 f.contact.1 packet
+  pub told : is_traffic packet.header ≡ true → SpeaksTruth members a b f.contact.0 f.contact.1 packet
 
 pub record IsGood (w : WorldState) : Type 0 where
   -- For all nodes a and b, each contact and each flow: what was ever delivered at b from a is a prefix of what a ever accepted for b.
