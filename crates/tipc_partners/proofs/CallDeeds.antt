@@ -4,7 +4,7 @@ use Rattle.std.specs.Prelude.{slice_get}
 use Rattle.std.proofs.lemmas.Bool.{true≢false}
 use Rattle.tipc_contact.specs.Sides.{IsTold, Notice}
 use Rattle.tipc_header.specs.Spelling.{spelling}
-use Rattle.tipc_pair.proofs.Frames.{es_of-frame}
+use Rattle.tipc_partners.proofs.Frames.{es_of-frame}
 use Rattle.tipc_link.specs.Links.{LinkEnd, after, with_fsm}
 use Rattle.tipc_link.specs.Sessions.{SessionEnd, told}
 use Rattle.tipc_link_fsm.specs.declared.changes.Change.{Change}
@@ -13,7 +13,8 @@ use Rattle.tipc_link_fsm.specs.Runs.{Call, ActivateArrives, BearerIsCut, Contact
 use Rattle.tipc_link_fsm.specs.Table.{Outcome, is_up}
 use Rattle.tipc_types.specs.declared.link_words.Reply.TheVariants as reply
 use Rattle.tipc_pair.proofs.Ends.{Alike, IsStill, after-is, alike-same, followed_session, learns_taught, like-same, stays_still}
-use Rattle.tipc_pair.proofs.EndsTurns.{Turn, fall, is_quiet, learn, rise, stay}
+use Rattle.tipc_pair.proofs.EndsTurns.{Turn, fall, learn, rise, stay}
+use Rattle.tipc_pair.specs.Pairs.{is_quiet}
 use Rattle.tipc_partners.proofs.Ends.{still_end, taught_end}
 use Rattle.tipc_partners.proofs.EpochsKept.{IsSteady, epochs_steady}
 use Rattle.tipc_partners.proofs.Growing.{Grows}

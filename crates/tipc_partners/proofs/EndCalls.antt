@@ -18,10 +18,9 @@ use Rattle.tipc_link_fsm.specs.declared.changes.Change.TheVariants.{Stay, Up, Do
 use Rattle.tipc_link_fsm.specs.Runs.{Call, ActivateArrives, BearerIsCut, ContactEnds, ForgetsPeer, Releases, ResetArrives, TickPasses, TrafficArrives, TunnelNames, outcome}
 use Rattle.tipc_link_fsm.specs.Table.{is_up}
 use Rattle.tipc_pair.proofs.Ends.{after-is}
-use Rattle.tipc_pair.proofs.EndsTurns.{Rises, Turn, fall, is_quiet, learn, rise, stay}
-use Rattle.tipc_pair.proofs.SessionsHeard.{same_packet}
-use Rattle.tipc_pair.specs.Paired.{IsShowable}
-use Rattle.tipc_pair.specs.Pairs.{parted as parted_end, settled, settled_frames}
+use Rattle.tipc_pair.proofs.EndsTurns.{Rises, Turn, fall, learn, rise, stay}
+use Rattle.tipc_partners.proofs.Frames.{same_packet}
+use Rattle.tipc_pair.specs.Pairs.{is_quiet, parted as parted_end, settled, settled_frames}
 use Rattle.tipc_partners.proofs.CallDeeds.{call_named}
 use Rattle.tipc_partners.proofs.PartnersLaw.{acts_all, acts_then}
 use Rattle.tipc_partners.proofs.Tellings.{told_all, told_longer, told_of_all, told_on, told_since, tells_all}
@@ -32,7 +31,7 @@ use Rattle.tipc_partners.specs.Calls.{IsToldOn}
 use Rattle.tipc_partners.specs.Deeds.{MayCall, MayTell, activates, calls, ended_with, falls, parted, resets, rises, states, with_begun}
 use Rattle.tipc_partners.specs.EndCalls.{Became, EndCallsAreDeeds, HasEnd, IsNotice, partial_after}
 use Rattle.tipc_partners.specs.Partners.{Acts, ActsAll, ArePartners, Partner, changes, follows, nothing, renewed, viewed, works}
-use Rattle.tipc_partners.specs.Paired.{ArePaired}
+use Rattle.tipc_partners.specs.Paired.{ArePaired, IsShowable}
 use Rattle.tipc_partners.specs.Views.{IsApart, Node, View, Wire, said_by, with_end, with_wire}
 
 -- ---- one deed, and frames behind it

@@ -11,7 +11,7 @@ use Rattle.tipc_link.proofs.Directions.{slice_get-append}
 use Rattle.tipc_link_fsm.specs.declared.changes.Change.{Change}
 use Rattle.tipc_link_fsm.specs.declared.changes.Change.TheVariants.{Stay, Up, Down, Answer, Ignore}
 use Rattle.tipc_link_fsm.specs.Runs.{Call, outcome}
-use Rattle.tipc_pair.proofs.EndsTurns.{is_quiet}
+use Rattle.tipc_pair.specs.Pairs.{is_quiet}
 use Rattle.tipc_partners.proofs.ContactDeeds.{mapped_end}
 use Rattle.tipc_partners.proofs.PartnersLaw.{acts_all, acts_partners}
 use Rattle.tipc_partners.proofs.QuietDeeds.{restarts_leaves}

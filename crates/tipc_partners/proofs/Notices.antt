@@ -21,15 +21,10 @@ use Rattle.tipc_link_fsm.specs.declared.changes.Change.TheVariants.{Answer, Down
 use Rattle.tipc_link_fsm.specs.Runs.{ActivateArrives, ResetArrives}
 use Rattle.tipc_link_fsm.specs.Table.{Fsm, Outcome, forget_peer, forgotten, is_held, is_in_reset, is_last, is_peer, is_session, is_up, on_activate, on_reset, told}
 use Rattle.tipc_link_fsm.proofs.Moves.{cases_on}
-use Rattle.tipc_pair.proofs.Ends.{ended-is, forgotten-is}
-use Rattle.tipc_pair.proofs.Frames.{er_of-frame, es_of-frame}
-use Rattle.tipc_pair.proofs.PeeringArrivals.{reset_leaves, settled_is_down}
-use Rattle.tipc_pair.proofs.PeeringFalls.{risen_is_down}
-use Rattle.tipc_pair.proofs.PeeringParts.{contact_after, seen_after}
-use Rattle.tipc_pair.proofs.SessionsHeard.{same_packet}
+use Rattle.tipc_pair.proofs.Ends.{contact_after, ended-is, forgotten-is, reset_leaves, risen_is_down, seen_after, settled_is_down}
+use Rattle.tipc_partners.proofs.Frames.{er_of-frame, es_of-frame, same_packet}
 use Rattle.tipc_pair.specs.declared.changes.PairChange.{PairChange}
 use Rattle.tipc_pair.specs.declared.changes.PairChange.TheVariants as pair
-use Rattle.tipc_pair.specs.Paired.{IsShowable, ShowsContact}
 use Rattle.tipc_pair.specs.Pairs.{Met, behind, by_number, change_of, link_met, packets_of, parted, passed_over, reset_down, reset_met, reset_up, risen, risen_activate, risen_change, risen_frames, risen_reset, settled, settled_frames}
 use Rattle.tipc_pair.specs.Partners.{begun_after}
 use Rattle.tipc_partners.proofs.ContactDeeds.{ended_down}
@@ -40,7 +35,7 @@ use Rattle.tipc_partners.proofs.Steps.{Stepped, became_stepped, node_of_end, onw
 use Rattle.tipc_partners.proofs.Wires.{map_at, none_some, same_some}
 use Rattle.tipc_partners.specs.Deeds.{MayTell, ended_with, forgot_with, parted as parted_view, parts, resets, risen as risen_view, shows}
 use Rattle.tipc_partners.specs.EndCalls.{Became, HasEnd, IsNotice, partial_after}
-use Rattle.tipc_partners.specs.Paired.{ArePaired, IsShown}
+use Rattle.tipc_partners.specs.Paired.{ArePaired, IsShowable, IsShown, ShowsContact}
 use Rattle.tipc_partners.specs.Partners.{Acts, ActsAll, ArePartners, Partner, changes, follows, nothing, renewed, viewed, works}
 use Rattle.tipc_partners.specs.Views.{Frame, IsApart, View, er_of, es_of, notice_of, said_by}
 

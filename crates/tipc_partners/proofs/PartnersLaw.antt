@@ -13,8 +13,8 @@ use Rattle.tipc_reassembly.specs.declared.opening.Opened.{Opened}
 use Rattle.tipc_reassembly.specs.Opening.{BringsAll}
 use Rattle.tipc_link.specs.Sessions.{Carries, IsPut, SessionEnd, brought, content_of, due_with, flushed, moving, took}
 use Rattle.tipc_link_fsm.specs.Runs.{outcome}
-use Rattle.tipc_pair.proofs.PartnersPuts.{more_packets}
-use Rattle.tipc_pair.proofs.PartnersSends.{front_items}
+use Rattle.tipc_partners.proofs.Packets.{more_packets}
+use Rattle.tipc_partners.proofs.Slots.{front_items}
 use Rattle.tipc_pair.specs.Partners.{IsMessage, pieces_for}
 use Rattle.tipc_partners.proofs.Contacts.{all_of_each}
 use Rattle.tipc_partners.proofs.Messages.{put_view, put_waits, puts_crossed, puts_sends, taken_in, taken_view, takes_crossed, takes_receives, takes_sends}

@@ -105,7 +105,7 @@ makes_quietly x b none = quietly_on x b (with_end (x.wires b) (made_on x.node b)
 pub turns_quietly : (x : View) (b : ℕ) (e : LinkEnd) (mended : Rattle.std.specs.Prelude.Bool) → (x.wires b).end ≡ Some e → Quietly x (with_wire x b (with_end (x.wires b) (record e { mended = mended })))
 turns_quietly x b e mended is = quietly_on x b _ (goes_on_quietly (x.wires b) e (record e { mended = mended }) (turns_on (x.wires b) e mended is))
 
-pub calls_quietly : (x y : View) (b : ℕ) (e : LinkEnd) (call : Rattle.tipc_link_fsm.specs.Runs.Call) → (x.wires b).end ≡ Some e → Rattle.tipc_partners.specs.Deeds.MayCall x y b call → Rattle.tipc_pair.proofs.EndsTurns.is_quiet (outcome e.fsm call).change ≡ true
+pub calls_quietly : (x y : View) (b : ℕ) (e : LinkEnd) (call : Rattle.tipc_link_fsm.specs.Runs.Call) → (x.wires b).end ≡ Some e → Rattle.tipc_partners.specs.Deeds.MayCall x y b call → Rattle.tipc_pair.specs.Pairs.is_quiet (outcome e.fsm call).change ≡ true
     → Quietly x (with_wire x b (with_end (x.wires b) (after e (outcome e.fsm call))))
 calls_quietly x y b e call is may quiet = quietly_on x b _ (goes_on_quietly (x.wires b) e (after e (outcome e.fsm call)) (calls_on x y b e call is may quiet))
 

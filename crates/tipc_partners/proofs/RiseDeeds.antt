@@ -12,7 +12,8 @@ use Rattle.tipc_link_fsm.specs.declared.changes.Change.TheVariants.{Up}
 use Rattle.tipc_link_fsm.specs.Runs.{Call, ActivateArrives, BearerIsCut, ContactEnds, ForgetsPeer, Releases, ResetArrives, TickPasses, TrafficArrives, TunnelNames, outcome}
 use Rattle.tipc_link_fsm.specs.Table.{Fsm, is_last}
 use Rattle.tipc_pair.proofs.Ends.{IsRaised, after-is, rises_raised}
-use Rattle.tipc_pair.proofs.EndsTurns.{Turn, fall, is_quiet, learn, rise, stay}
+use Rattle.tipc_pair.proofs.EndsTurns.{Turn, fall, learn, rise, stay}
+use Rattle.tipc_pair.specs.Pairs.{is_quiet}
 use Rattle.tipc_partners.proofs.CallDeeds.{call_named, shown_fits}
 use Rattle.tipc_partners.proofs.Ends.{raised_end}
 use Rattle.tipc_partners.proofs.Rises.{Goes}

@@ -9,9 +9,7 @@ use Rattle.tipc_link.specs.Sessions.{SessionEnd, released}
 use Rattle.tipc_link.proofs.Directions.{releases as direction_releases}
 use Rattle.tipc_link.proofs.LinkLaw.{Each}
 use Rattle.tipc_pair.proofs.Ends.{Alike}
-use Rattle.tipc_pair.proofs.Frames.{er_of-frame, es_of-frame}
-use Rattle.tipc_pair.proofs.SessionsHeard.{same_packet}
-use Rattle.tipc_pair.specs.Paired.{IsPacket}
+use Rattle.tipc_partners.proofs.Frames.{er_of-frame, es_of-frame, same_packet}
 use Rattle.tipc_partners.proofs.Ends.{still_end}
 use Rattle.tipc_partners.proofs.EpochsKept.{epochs_steady, session_is, steady_session, still_session}
 use Rattle.tipc_partners.proofs.Growing.{Grows}
@@ -19,7 +17,7 @@ use Rattle.tipc_partners.proofs.Sides.{peers_still}
 use Rattle.tipc_partners.proofs.WireDeeds.{wire_deed}
 use Rattle.tipc_partners.proofs.Wires.{prefix_same, same_some, session_of_up}
 use Rattle.tipc_partners.specs.Deeds.{Hears, IsUp, with_going}
-use Rattle.tipc_partners.specs.Paired.{ArePaired, IsEnd, IsFrame, IsGoing, IsOfSession, IsWire, Met}
+use Rattle.tipc_partners.specs.Paired.{ArePaired, IsEnd, IsFrame, IsGoing, IsOfSession, IsPacket, IsWire, Met}
 use Rattle.tipc_partners.specs.Views.{Begun, Frame, View, Wire, er_of, es_of, put_at, session_on, with_end, with_wire}
 
 alike_same : (s s' : SessionEnd) → s'.own ≡ s.own → s'.peer ≡ s.peer → s'.bearer ≡ s.bearer → s'.epoch ≡ s.epoch → s'.peer_epoch ≡ s.peer_epoch → Alike s s'
