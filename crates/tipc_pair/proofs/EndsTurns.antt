@@ -79,7 +79,7 @@ heard_reset WorkingWorking here = absurd (let wrong : ⊥ = cc in wrong)
 heard_reset WorkingUnknown here = absurd (let wrong : ⊥ = cc in wrong)
 heard_reset Held here = refl
 
-peer_is : (peer : Option ℕ) (es : ℕ) → is_peer peer es ≡ true → peer ≡ Some es
+pub peer_is : (peer : Option ℕ) (es : ℕ) → is_peer peer es ≡ true → peer ≡ Some es
 peer_is None es same = absurd (let wrong : ⊥ = cc in wrong)
 peer_is (Some p) es same = ap Some (eqb-true p es same)
 

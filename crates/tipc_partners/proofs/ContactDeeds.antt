@@ -17,7 +17,7 @@ use Rattle.tipc_pair.proofs.Ends.{ended-is, forgotten-is, not_last}
 use Rattle.tipc_pair.proofs.EndsTurns.{Falls, Turn, fall, learn, rise, stay}
 use Rattle.tipc_pair.specs.Pairs.{is_quiet}
 use Rattle.tipc_partners.proofs.CallDeeds.{call_named}
-use Rattle.tipc_partners.proofs.Ends.{ended_end, forgot_end, made_end}
+use Rattle.tipc_partners.proofs.Ends.{ended_end, forgot_end, made_end, next_no_lower}
 use Rattle.tipc_partners.proofs.Growing.{Grows, frame_here, half_back}
 use Rattle.tipc_partners.proofs.SessionDeeds.{met_or_none}
 use Rattle.tipc_partners.proofs.Sides.{peers_called, same_side}
@@ -134,9 +134,6 @@ next_named x y b k f e h there bearer is own =
 pub mapped_end : (f : LinkEnd → LinkEnd) (o : Option LinkEnd) (e' : LinkEnd) → option_map f o ≡ Some e' → (e : LinkEnd) × (o ≡ Some e) × (f e ≡ e')
 mapped_end f None e' is = absurd (let wrong : ⊥ = cc in wrong)
 mapped_end f (Some e) e' is = (e, refl, (let same : f e ≡ e' = cc in same))
-
-pub next_no_lower : (epoch : ℕ) → epoch ≤ next_epoch epoch
-next_no_lower epoch = elim (is_last epoch) as (λ b. epoch ≤ (if b then epoch else epoch + 1)) [ true ↦ omega arith | false ↦ omega arith ]
 
 next_most : (epoch : ℕ) → next_epoch epoch ≤ epoch + 1
 next_most epoch = elim (is_last epoch) as (λ b. (if b then epoch else epoch + 1) ≤ epoch + 1) [ true ↦ omega arith | false ↦ omega arith ]

@@ -67,7 +67,7 @@ called_counted w e call h is apart d s is_d has =
     let o = outcome e.fsm call in
     let same : after e o ≡ d = cc in
     let old = kept_session (with_fsm e o.after) o.change s apart (ap (λ (k : LinkEnd). k.session) same ∙ has) in
-    ap (λ n. length (w.line n)) old.2 ∙ h e old.0 is old.1 ∙ ap (λ (z : Sending). z.numbered) (sym old.3)
+    ap (λ n. length (w.line n)) old.2 ∙ h e old.0 is old.1 ∙ ap (λ (z : Sending). z.numbered) {x = old.0.sending} (sym old.3)
 
 -- ends that keep their sessions
 mapped_counted : (f : LinkEnd → LinkEnd) (w : Wire) → ((e : LinkEnd) → (f e).session ≡ e.session) → IsCounted w → IsCounted (record w { end = option_map f w.end })

@@ -171,6 +171,10 @@ pub acts_all : (x y x' : Partner) → ArePartners x y → ActsAll x y x' → Are
 acts_all x y _ h nothing = h
 acts_all x y x'' h (follows x' _ all one) = acts_partners x' y x'' (acts_all x y x' h all) one
 
+-- one deed
+pub acts_one : (x y x' : Partner) → Acts x y x' → ActsAll x y x'
+acts_one x y x' act = follows x x' nothing act
+
 -- deeds after deeds
 pub acts_then : (x y z x' : Partner) → ActsAll x y z → ActsAll z y x' → ActsAll x y x'
 acts_then x y z _ first nothing = first

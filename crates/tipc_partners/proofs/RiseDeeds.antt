@@ -3,7 +3,7 @@ use Rattle.std.proofs.Common.{◌≡◌, ◌⊎◌, ◌<◌, ◌≤◌, ◌^◌,
 use Rattle.std.specs.Prelude.{slice_get}
 use Rattle.std.proofs.lemmas.Bool.{cases_lt, true≢false}
 use Rattle.tipc_contact.specs.Peers.{ArePeers}
-use Rattle.tipc_contact.proofs.Sessions.{sent_in_contact}
+use Rattle.tipc_contact.proofs.Sessions.{sent_in_contact, turned}
 use Rattle.tipc_link.specs.Direction.{IsDirection}
 use Rattle.tipc_link.specs.Links.{LinkEnd, after, known, session_of}
 use Rattle.tipc_link.specs.Sessions.{SessionEnd, begun}
@@ -139,7 +139,7 @@ shown_in x y b e e' es h m goes_on =
     let t = m.shown in
     let f = t.frame in
     let w' = with_begun x.node (x.wires b) e' in
-    let peers = Rattle.tipc_contact.proofs.Sessions.turned _ _ _ _ m.peers in
+    let peers = turned _ _ _ _ m.peers in
     let end : fsm_in (put_at x.wires b w' f.bearer).end ≡ Some e'.fsm = ap (λ c. fsm_in (put_at x.wires b w' c).end) t.bearer_is ∙ ap (λ (w : Wire). fsm_in w.end) (put_same x.wires b w') in
     sent_in_contact (side_of y) (side_of (with_wire x b w')) (said_by y) (said_by x) peers t.place (notice_of f) e'.fsm (map_at notice_of y.told t.place f t.there) end
     (m.peer_is ∙ ap Some (sym t.es_is)) (t.er_is ∙ sym m.raised.epoch) (ap is_last t.es_is ∙ goes_on) (ap is_last m.raised.epoch ∙ m.raised.goes_on)

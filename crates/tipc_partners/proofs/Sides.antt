@@ -11,6 +11,8 @@ use Rattle.tipc_partners.specs.Deeds.{MayCall}
 use Rattle.tipc_partners.specs.Paired.{ArePaired}
 use Rattle.tipc_partners.specs.Views.{View, Wire, fsm_in, put_at, said_by, side_of, with_wire}
 use Rattle.tipc_partners.proofs.Wires.{on_put, put_other, put_same}
+use Rattle.std.proofs.lemmas.Bool.{cases_eq}
+use Rattle.tipc_contact.proofs.Speaking.{at_other, at_same}
 
 -- sides of one link end are the same where what they keep is
 pub same_side : (own own' seen seen' : ℕ) (ends ends' : ℕ → Option Fsm) → own' ≡ own → seen' ≡ seen → ((x : ℕ) → ends x ≡ ends' x)
@@ -45,9 +47,9 @@ pub side_called : (x : View) (b : ℕ) (w' : Wire) (e : LinkEnd) (call : Call) �
 side_called x b w' e call is after =
     let here : (c : ℕ) → c ≡ b → after_call call (fsm_in (x.wires c).end) ≡ fsm_in w'.end = λ c same. ap (λ k. after_call call (fsm_in (x.wires k).end)) same ∙ ap (λ o. after_call call (fsm_in o)) is ∙ sym after in
     let at : (c : ℕ) → (if c == b then after_call call (fsm_in (x.wires c).end) else fsm_in (x.wires c).end) ≡ fsm_in (put_at x.wires b w' c).end =
-    λ c. elim (Rattle.std.proofs.lemmas.Bool.cases_eq c b) [
-      | inl same ↦ Rattle.tipc_contact.proofs.Speaking.at_same c b _ _ same ∙ here c same ∙ ap (λ (w : Wire). fsm_in w.end) (sym (ap (put_at x.wires b w') same ∙ put_same x.wires b w'))
-      | inr other ↦ Rattle.tipc_contact.proofs.Speaking.at_other c b _ _ other ∙ ap (λ (w : Wire). fsm_in w.end) (sym (put_other x.wires b w' c other))
+    λ c. elim (cases_eq c b) [
+      | inl same ↦ at_same c b _ _ same ∙ here c same ∙ ap (λ (w : Wire). fsm_in w.end) (sym (ap (put_at x.wires b w') same ∙ put_same x.wires b w'))
+      | inr other ↦ at_other c b _ _ other ∙ ap (λ (w : Wire). fsm_in w.end) (sym (put_other x.wires b w' c other))
     ] in
     same_side x.node.contact x.node.contact x.node.seen x.node.seen _ _ refl refl at
 
