@@ -62,7 +62,7 @@ pub data Turn (f : Fsm) (shown : Option (ℕ × ℕ)) (o : Outcome) : Type 0 whe
   fall : Falls f o → Turn f shown o
 
 -- nothing but what was heard is new
-ignored : (f : Fsm) (shown : Option (ℕ × ℕ)) (o : Outcome) → o.after ≡ f → is_quiet o.change ≡ true → ((probe : Bool) → o.change ≡ Answer (reply.State probe) → is_up f.state ≡ true) → Turn f shown o
+pub ignored : (f : Fsm) (shown : Option (ℕ × ℕ)) (o : Outcome) → o.after ≡ f → is_quiet o.change ≡ true → ((probe : Bool) → o.change ≡ Answer (reply.State probe) → is_up f.state ≡ true) → Turn f shown o
 ignored f shown o same quiet says = stay (record {
   own = ap (λ (e : Fsm). e.own) same;
   peer = ap (λ (e : Fsm). e.peer) same;

@@ -4,6 +4,7 @@ use Rattle.std.specs.Prelude.{slice_get}
 use Rattle.std.proofs.lemmas.Bool.{cases_lt, true≢false}
 use Rattle.tipc_contact.specs.Peers.{ArePeers}
 use Rattle.tipc_contact.proofs.Sessions.{sent_in_contact, turned}
+use Rattle.tipc_send_window.specs.Sending.{fresh as none_sent}
 use Rattle.tipc_link.specs.Direction.{IsDirection}
 use Rattle.tipc_link.specs.Links.{LinkEnd, after, known, session_of}
 use Rattle.tipc_link.specs.Sessions.{SessionEnd, begun}
@@ -66,9 +67,9 @@ none_taken x y b e e' es h m (inr met) =
     let back = met.epoch_is in
     absurd (let wrong : ⊥ = omega arith in wrong)
 
-new_direction : (taken : ℕ) (line got : List (List ℕ)) → line ≡ [] → got ≡ [] → IsDirection Rattle.tipc_send_window.specs.Sending.fresh (length got) line
-new_direction taken line got no_line no_got = subst (λ xs. IsDirection Rattle.tipc_send_window.specs.Sending.fresh (length got) xs) (sym no_line)
-    (subst (λ (xs : List (List ℕ)). IsDirection Rattle.tipc_send_window.specs.Sending.fresh (length xs) []) (sym no_got)
+new_direction : (taken : ℕ) (line got : List (List ℕ)) → line ≡ [] → got ≡ [] → IsDirection none_sent (length got) line
+new_direction taken line got no_line no_got = subst (λ xs. IsDirection none_sent (length got) xs) (sym no_line)
+    (subst (λ (xs : List (List ℕ)). IsDirection none_sent (length xs) []) (sym no_got)
     (record { window = omega arith; below = omega arith; count = refl; kept = refl; acked_taken = omega arith; taken_numbered = omega arith }))
 
 -- where nothing is begun now nothing was before
