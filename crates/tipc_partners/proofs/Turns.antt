@@ -4,13 +4,10 @@ use Rattle.std.specs.Prelude.{◌&&◌, ◌||◌, ◌==◌, nat_lt, nat_le, if�
 use Rattle.std.proofs.lemmas.Bool.{and_parts, ltb-false}
 use Rattle.tipc_types.specs.declared.link_words.LinkState.{LinkState}
 use Rattle.tipc_types.specs.declared.link_words.LinkState.TheVariants.{ResetUnknown, ResetReset, WorkingWorking, WorkingUnknown, Held}
-use Rattle.tipc_types.specs.declared.link_words.Reply.TheVariants as reply
-use Rattle.tipc_link_fsm.specs.declared.changes.Change.TheVariants.{Answer}
 use Rattle.tipc_link_fsm.specs.Runs.{Call, ActivateArrives, BearerIsCut, ContactEnds, ForgetsPeer, Releases, ResetArrives, TickPasses, TrafficArrives, TunnelNames, outcome}
 use Rattle.tipc_link_fsm.specs.Table.{Fsm, Outcome, is_held, is_peer, is_up, lowered, on_cut, on_peer_tunnel, on_reset, on_tick, release, tick_in, up_tick, unheard}
 use Rattle.tipc_link_fsm.proofs.Moves.{cases_on, is_up_held}
 use Rattle.tipc_pair.proofs.EndsTurns.{Turn, fall, ignored, learn, on_activate_turns, on_traffic_turns, stay}
-use Rattle.tipc_pair.specs.Pairs.{is_quiet}
 
 -- the two epochs that a call's frame shows, where a link end reads them
 abbrev pub shown_to : Call → Option (ℕ × ℕ)
