@@ -19,7 +19,7 @@ use Rattle.tipc_reassembly.specs.Opening.{bad_bundle, Brings, BringsAll, brought
 use Rattle.tipc_reassembly.proofs.AnswerLaws.{answer_whole}
 use Rattle.tipc_pair.specs.declared.changes.PairOutcome.{PairOutcome}
 use Rattle.tipc_pair.specs.Partners.{OpensTo, deferred, ignored, opened_in, took}
-use Rattle.tipc_pair.proofs.PartnersPackets.{All-one}
+use Rattle.tipc_pair.proofs.Pieces.{All-one}
 use Rattle.tipc_node.specs.Deliveries.{HasNoFault}
 
 inner_sound : (bytes : List ℕ) → IsInner bytes → fault_of bytes ≡ None

@@ -16,7 +16,7 @@ use Rattle.tipc_pair.specs.declared.changes.PairOutcome.{PairOutcome}
 use Rattle.tipc_pair.specs.Pairs.{Met, arrival, change_of, link_met, shows_contact}
 use Rattle.tipc_pair.specs.Partners.{IsPairArriving, OpensTo, PairArrivingState, PairState, begun_after, deferred, ignored, pair_state, took}
 use Rattle.tipc_pair.proofs.Meeting.{heard_arrival}
-use Rattle.tipc_pair.proofs.PeeringParts.{contact_after, seen_after}
+use Rattle.tipc_pair.proofs.Ends.{contact_after, seen_after}
 use Rattle.tipc_node.specs.Nodes.{shown_contact}
 use Rattle.tipc_node.specs.declared.neighbours.Neighbour.{Neighbour}
 use Rattle.tipc_node.specs.Neighbours.{heard_frames, heard_neighbour, in_step_after, is_given, is_state, is_taken, met_by, neighbour, no_broadcast, stays_in_step}

@@ -19,7 +19,7 @@ use Rattle.tipc_reassembly.proofs.OnePacket.{bundle_no_fragment, inner_no_bundle
 use Rattle.tipc_reassembly.proofs.SlotLaws.{cut_is_fragment}
 use Rattle.tipc_link.specs.Sessions.{IsWaiting}
 use Rattle.tipc_pair.specs.Partners.{pieces_for}
-use Rattle.tipc_pair.proofs.PartnersPackets.{All-one, pieces_cut}
+use Rattle.tipc_pair.proofs.Pieces.{All-one, pieces_cut}
 
 -- these bytes spell the packet of a message
 abbrev pub IsSpelled : Message → List ℕ → Type 0

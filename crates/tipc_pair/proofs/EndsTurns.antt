@@ -1,21 +1,15 @@
 -- What a call makes of the link states of an end: all that it may do to the epochs, and whether the link is up.
-use Rattle.std.proofs.Common.{◌≡◌, ◌≤◌, ◌⊎◌, ℕ, Bool, true, false, Option, Some, None, refl, sym, ap, ◌∙◌, inl, inr, eqb-true}
-use Rattle.std.specs.Prelude.{◌&&◌, ◌||◌, ◌==◌, nat_lt, nat_le, not, if◌then◌else◌}
+use Rattle.std.specs.Prelude.{◌&&◌, ◌==◌, nat_lt, not}
+use Rattle.std.proofs.Common.{◌≡◌, ◌≤◌, ◌⊎◌, Bool, None, Option, Some, ap, eqb-true, false, inl, inr, refl, sym, true, ℕ}
 use Rattle.std.proofs.lemmas.Bool.{and_parts, ltb-false}
 use Rattle.tipc_types.specs.declared.link_words.Cause.{Cause}
 use Rattle.tipc_types.specs.declared.link_words.LinkState.{LinkState}
-use Rattle.tipc_types.specs.declared.link_words.LinkState.TheVariants.{ResetUnknown, ResetReset, WorkingWorking, WorkingUnknown, Held}
+use Rattle.tipc_types.specs.declared.link_words.LinkState.TheVariants.{Held, ResetReset, ResetUnknown, WorkingUnknown, WorkingWorking}
 use Rattle.tipc_types.specs.declared.link_words.Reply.TheVariants as reply
-use Rattle.tipc_link_fsm.specs.declared.changes.Change.{Change}
-use Rattle.tipc_link_fsm.specs.declared.changes.Change.TheVariants.{Stay, Up, Down, Answer}
-use Rattle.tipc_link_fsm.specs.Table.{Fsm, Outcome, is_up, is_in_reset, is_reset_reset, is_held, is_peer, is_session, is_last, next_epoch, tick_in, unheard, up_tick, on_reset, on_activate, on_traffic, on_tick, on_cut}
+use Rattle.tipc_link_fsm.specs.Table.{Fsm, Outcome, is_held, is_in_reset, is_last, is_peer, is_reset_reset, is_session, is_up, next_epoch, on_activate, on_traffic}
+use Rattle.tipc_link_fsm.specs.declared.changes.Change.TheVariants.{Answer, Down, Stay, Up}
 use Rattle.tipc_link_fsm.proofs.Moves.{cases_on, is_up_in_reset, not_true}
-
--- a change after which no session begins, and no link ended
-abbrev pub is_quiet : Change → Bool
-is_quiet Up = false
-is_quiet (Down cause) = false
-is_quiet other = true
+use Rattle.tipc_pair.specs.Pairs.{is_quiet}
 
 -- both epochs stay, and the link is up or down as before; a STATE is said only by a link that is up
 pub record Stays (f : Fsm) (o : Outcome) : Type 0 where
@@ -68,7 +62,7 @@ pub data Turn (f : Fsm) (shown : Option (ℕ × ℕ)) (o : Outcome) : Type 0 whe
   fall : Falls f o → Turn f shown o
 
 -- nothing but what was heard is new
-ignored : (f : Fsm) (shown : Option (ℕ × ℕ)) (o : Outcome) → o.after ≡ f → is_quiet o.change ≡ true → ((probe : Bool) → o.change ≡ Answer (reply.State probe) → is_up f.state ≡ true) → Turn f shown o
+pub ignored : (f : Fsm) (shown : Option (ℕ × ℕ)) (o : Outcome) → o.after ≡ f → is_quiet o.change ≡ true → ((probe : Bool) → o.change ≡ Answer (reply.State probe) → is_up f.state ≡ true) → Turn f shown o
 ignored f shown o same quiet says = stay (record {
   own = ap (λ (e : Fsm). e.own) same;
   peer = ap (λ (e : Fsm). e.peer) same;
@@ -85,34 +79,9 @@ heard_reset WorkingWorking here = absurd (let wrong : ⊥ = cc in wrong)
 heard_reset WorkingUnknown here = absurd (let wrong : ⊥ = cc in wrong)
 heard_reset Held here = refl
 
-peer_is : (peer : Option ℕ) (es : ℕ) → is_peer peer es ≡ true → peer ≡ Some es
+pub peer_is : (peer : Option ℕ) (es : ℕ) → is_peer peer es ≡ true → peer ≡ Some es
 peer_is None es same = absurd (let wrong : ⊥ = cc in wrong)
 peer_is (Some p) es same = ap Some (eqb-true p es same)
-
-or_false : (a b : Bool) → (a || b) ≡ false → a ≡ false
-or_false true b neither = absurd (let wrong : ⊥ = cc in wrong)
-or_false false b neither = refl
-
-pub on_reset_turns : (f : Fsm) (es er : ℕ) → Turn f (Some (es, er)) (on_reset f es false)
-unfolding on_reset
-on_reset_turns f es er =
-    let T : Outcome → Type 0 = Turn f (Some (es, er)) in
-    cases_on T (is_held f.state) _ _ (λ _. ignored f _ _ refl refl (λ probe is. absurd (let wrong : ⊥ = cc in wrong)))
-    (λ _. cases_on T (nat_lt es f.highest || (is_up f.state && is_peer f.peer es)) _ _ (λ _. ignored f _ _ refl refl (λ probe is. absurd (let wrong : ⊥ = cc in wrong)))
-    (λ high. cases_on T (is_up f.state) _ _
-    (λ up. fall (record { cause = _; own = refl; peer = refl; highest = refl; was = up; down = refl; change = refl }))
-    (λ down. learn (record {
-      es = es;
-      er = er;
-      shown_is = refl;
-      own = refl;
-      peer = refl;
-      highest = refl;
-      no_lower = ltb-false es f.highest (or_false (nat_lt es f.highest) _ high);
-      was = down;
-      down = refl;
-      change = refl;
-    }))))
 
 -- an end that hears its peer
 hears : (f : Fsm) (shown : Option (ℕ × ℕ)) → is_up f.state ≡ true → Turn f shown (record { after = record { own = f.own; peer = f.peer; highest = f.highest; state = WorkingWorking; silent = 0 }; change = Stay })
@@ -165,31 +134,3 @@ on_traffic_turns f es er =
     }))
     (λ _. cases_on T (is_session f es er && is_up f.state) _ _ (λ fits. hears f _ (and_parts (is_session f es er) _ fits).1)
     (λ _. ignored f _ _ refl refl (λ probe is. absurd (let wrong : ⊥ = cc in wrong))))
-
-still_up : (f : Fsm) → is_up (unheard f).state ≡ true
-still_up f = elim (nat_le 1 f.silent) as (λ b. is_up (if b then WorkingUnknown else WorkingWorking) ≡ true) [ true ↦ refl | false ↦ refl ]
-
--- a tick of a link that is up
-up_tick_turns : (f : Fsm) (shown : Option (ℕ × ℕ)) → is_up f.state ≡ true → Turn f shown (up_tick f false)
-up_tick_turns f shown up =
-    cases_on (Turn f shown) (f.silent == 4) _ _
-    (λ _. fall (record { cause = _; own = refl; peer = refl; highest = refl; was = up; down = refl; change = refl }))
-    (λ _. stay (record { own = refl; peer = refl; highest = refl; up = still_up f ∙ sym up; quiet = refl; says = λ probe is. up }))
-
-tick_in_turns : (st : LinkState) (f : Fsm) (shown : Option (ℕ × ℕ)) → f.state ≡ st → Turn f shown (tick_in st f false)
-tick_in_turns ResetUnknown f shown is = ignored f _ _ refl refl (λ probe says. absurd (let wrong : ⊥ = cc in wrong))
-tick_in_turns ResetReset f shown is = ignored f _ _ refl refl (λ probe says. absurd (let wrong : ⊥ = cc in wrong))
-tick_in_turns Held f shown is = ignored f _ _ refl refl (λ probe says. absurd (let wrong : ⊥ = cc in wrong))
-tick_in_turns WorkingWorking f shown is = up_tick_turns f shown (ap is_up is)
-tick_in_turns WorkingUnknown f shown is = up_tick_turns f shown (ap is_up is)
-
-pub on_tick_turns : (f : Fsm) (shown : Option (ℕ × ℕ)) → Turn f shown (on_tick f false)
-unfolding on_tick
-on_tick_turns f shown = tick_in_turns f.state f shown refl
-
-pub on_cut_turns : (f : Fsm) (shown : Option (ℕ × ℕ)) → Turn f shown (on_cut f false)
-unfolding on_cut
-on_cut_turns f shown =
-    cases_on (Turn f shown) (is_up f.state) _ _
-    (λ up. fall (record { cause = _; own = refl; peer = refl; highest = refl; was = up; down = refl; change = refl }))
-    (λ _. ignored f _ _ refl refl (λ probe is. absurd (let wrong : ⊥ = cc in wrong)))

@@ -166,15 +166,6 @@ outcome_moves s (header.Changeover x) es er = on_traffic_moves s es er
 outcome_moves s (header.NameDistributor x) es er = on_traffic_moves s es er
 outcome_moves s (header.Fragmenter x) es er = on_traffic_moves s es er
 
-pub kept_arrival : (e : LinkEnd) (p : Fields) (es er by : ℕ) → IsKept e → IsKept (arrival_end e (outcome_of e.fsm p.header es er false) p by)
-kept_arrival e p es er by kept =
-    let o = outcome_of e.fsm p.header es er false in
-    let now : IsKept (after e o) = kept_after e _ o kept (outcome_moves e.fsm p.header es er) in
-    elim (is_heard p.header o.change) as (λ b. IsKept (if b then heard_end (after e o) by p.acknowledgement (content_of p) else after e o)) [
-      | true ↦ kept_heard (after e o) by p.acknowledgement (content_of p) now
-      | false ↦ now
-    ]
-
 cut_session : (e : LinkEnd) → IsKept e → is_up (on_cut e.fsm false).after.state ≡ true → is_some e.session ≡ true
 unfolding on_cut
 cut_session e kept =

@@ -1,5 +1,5 @@
 -- What an arrival makes of a pair, by what it is and by the contact number that it shows.
-use Rattle.std.proofs.Common.{Result, Ok, Err, OnErr, ◌≡◌, ℕ, ◌==◌, nat_lt, true, false, if◌then◌else◌, List, [], ◌++◌, refl, sym, ap, ◌∙◌, subst}
+use Rattle.std.proofs.Common.{◌≡◌, ℕ, ◌==◌, nat_lt, true, false, if◌then◌else◌, List, [], ◌++◌, refl, sym, ap, ◌∙◌, subst}
 use Rattle.tipc_types.specs.declared.link_words.BroadcastState.{BroadcastState}
 use Rattle.tipc_types.specs.declared.link_words.Reply.TheVariants as reply
 use Rattle.tipc_types.specs.declared.link_words.Why.TheVariants as why
@@ -125,11 +125,6 @@ other_arrival (header.Bundler x) e es er p by shown other = refl
 other_arrival (header.Changeover x) e es er p by shown other = refl
 other_arrival (header.NameDistributor x) e es er p by shown other = refl
 other_arrival (header.Fragmenter x) e es er p by shown other = refl
-
--- what holds anyway holds at a fault
-pub on_fault : {T E : Type 0} (P : Type 0) (r : Result T E) → P → OnErr r P
-on_fault P (Ok done) holds = tt
-on_fault P (Err fault) holds = holds
 
 pub heard_arrival : (e : LinkEnd) (es er : ℕ) (p : Fields) (by : ℕ) (shown : BroadcastState) → shows_contact p.header ≡ false
     → arrival e es er p by shown ≡ link_met e (outcome_of e.fsm p.header es er false) p by shown

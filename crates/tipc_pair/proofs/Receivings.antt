@@ -1,20 +1,17 @@
 -- A numbered packet of the peer arrives at the receive window of a session.
-use Rattle.std.proofs.Common.{◌≡◌, ℕ, zero, suc, inl, inr, length-drop, ◌+◌, ◌-◌, ◌<◌, ◌≤◌, true, false, if◌then◌else◌, List, [], ◌∷◌, Option, Some, None, length, take, drop, slice_get, slice_index_or, refl, sym, ap, ◌∙◌, subst, get_or, arith}
+use Rattle.std.proofs.Common.{◌≡◌, ℕ, zero, suc, inl, inr, length-drop, ◌+◌, ◌-◌, ◌<◌, ◌≤◌, true, false, if◌then◌else◌, List, [], ◌∷◌, Option, Some, None, length, take, drop, slice_get, slice_index_or, refl, sym, ap, ◌∙◌, subst, arith}
 use Rattle.std.proofs.lemmas.Bool.{cases_eq, cases_lt}
 use Rattle.std.proofs.lemmas.Bool.Decides.{nat_tests}
-use Rattle.std.proofs.lemmas.List.{get_or-take}
-use Rattle.std.proofs.lemmas.Option.{get_or_from_slice_get, slice_get-get_or, slice_get_within}
+use Rattle.std.proofs.lemmas.Option.{slice_get_within}
 use Rattle.tipc_types.specs.declared.packet_lists.Taken.{Taken}
-use Rattle.tipc_recv_window.specs.declared.outcomes.Place.{Place}
-use Rattle.tipc_recv_window.specs.declared.outcomes.Place.TheVariants.{InOrder, Deferred, Old}
+use Rattle.tipc_recv_window.specs.declared.outcomes.Place.TheVariants.{InOrder}
 use Rattle.tipc_link.specs.Direction.{IsCarried, IsReceiver}
 use Rattle.tipc_types.specs.Position.{number_of}
 use Rattle.tipc_recv_window.specs.Receiving.{Receiving, arrived_at, filled, held_at, is_new, past_wanted, place_at, run_of}
 use Rattle.tipc_recv_window.proofs.ArrivalLaws.{arrives, place_at-wanted}
 use Rattle.tipc_recv_window.proofs.Holding.{filled-other, filled-same, length-filled}
-use Rattle.tipc_link.specs.Sessions.{SessionEnd, due_with, past, place_of, placed, receiving, released, took, window_with}
-use Rattle.tipc_pair.specs.Pairs.{packets_in, packets_of}
-use Rattle.tipc_pair.proofs.Halves.{length-take-both}
+use Rattle.tipc_link.specs.Sessions.{SessionEnd, due_with, past, place_of, receiving, released, took, window_with}
+use Rattle.tipc_pair.specs.Pairs.{packets_in}
 
 -- what a session makes of a packet, against the packets that were numbered
 pub record IsReceived (s : SessionEnd) (t : Taken) (line : List (List ℕ)) : Type 0 where
@@ -38,9 +35,6 @@ pub record IsRun (held : List (Option Taken)) (from : ℕ) (line : List (List �
   pub within : from + length (run_of held) ≤ length line
   pub wants : slice_index_or (drop (length (run_of held)) held) 0 None ≡ None
   pub holds : Holds (drop (length (run_of held)) held) (from + length (run_of held)) line
-
-take_none : (xs : List (List ℕ)) → take 0 xs ≡ []
-take_none xs = refl
 
 run_in : (held : List (Option Taken)) (from : ℕ) (line : List (List ℕ)) → from ≤ length line → Holds held from line → IsRun held from line
 run_in [] from line within h = record {
@@ -150,34 +144,7 @@ due_none s t wants other =
     let r = receiving s in
     run_none (window_with s t).held (still_none r (past s t.number) t wants (first_in_order r (past s t.number) wants other))
 
-pub taken_by_place : (p : Place) (due : List Taken) → ((p ≡ InOrder → ⊥) → due ≡ []) → packets_of (placed p due) ≡ packets_in due
-taken_by_place InOrder due none = refl
-taken_by_place Deferred due none = ap packets_in (sym (none (λ same. let wrong : ⊥ = cc in wrong)))
-taken_by_place Old due none = ap packets_in (sym (none (λ same. let wrong : ⊥ = cc in wrong)))
-
 -- what is released makes nothing else of it
 pub due_released : (s : SessionEnd) (acknowledgement : ℕ) (t : Taken) → due_with (released s acknowledgement) t ≡ due_with s t
 unfolding due_with
 due_released s acknowledgement t = refl
-
--- a packet of the first n that were numbered
-pub front_carried : (line : List (List ℕ)) (n numbered number : ℕ) (packet : List ℕ) → numbered ≤ n → (c : IsCarried line numbered number packet) → (k : IsCarried (take n line) numbered number packet) × (k.position ≡ c.position)
-front_carried line n numbered number packet few c =
-    let sent = c.sent in
-    let positive = c.positive in
-    let within = slice_get_within line (c.position - 1) packet c.packet_is in
-    let value : get_or (take n line) (c.position - 1) packet ≡ packet = get_or-take n line (c.position - 1) packet (omega arith) ∙ get_or_from_slice_get line (c.position - 1) packet packet c.packet_is in (
-      record {
-        position = c.position;
-        positive = c.positive;
-        number_is = c.number_is;
-        recent = c.recent;
-        sent = c.sent;
-        packet_is = slice_get-get_or (take n line) (c.position - 1) packet (length-take-both n line (c.position - 1) (omega arith) within) ∙ ap Some value;
-      },
-      refl,
-    )
-
-pub received_released : (s : SessionEnd) (acknowledgement : ℕ) (t : Taken) (line : List (List ℕ)) → IsReceived s t line → IsReceived (released s acknowledgement) t line
-unfolding due_with
-received_released s acknowledgement t line h = record { receiver = h.receiver; front = h.front; within = h.within }

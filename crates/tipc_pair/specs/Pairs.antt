@@ -61,6 +61,12 @@ told_of e fsm other es = Stay
 abbrev pub change_of : LinkEnd → Outcome → ℕ → PairChange
 change_of e o es = told_of e o.after o.change es
 
+-- a change after which no session begins, and no link ended
+abbrev pub is_quiet : Change → Bool
+is_quiet Up = false
+is_quiet (Down cause) = false
+is_quiet other = true
+
 -- ---- the bearer is cut, and a tick
 
 abbrev pub cut_pair : LinkEnd → LinkEnd

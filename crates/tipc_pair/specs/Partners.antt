@@ -1,32 +1,23 @@
--- Two nodes that send each other messages over their pair: whole packets, several of which may be sent as one, and longer ones in
--- fragments.
-use Rattle.std.specs.Prelude.{◌≡◌, ◌⊎◌, ℕ, true, false, All, List, [], ◌∷◌, ◌++◌, Option, Some, None, length, map, nat_le, take, slice_get, if◌then◌else◌}
-use Rattle.std.specs.List.{flat_map}
+-- What a pair makes of messages: the packets in which one is sent, and what an arrival gives, tells and leaves begun.
+use Rattle.std.specs.Prelude.{◌≡◌, ℕ, true, false, List, [], ◌∷◌, length, nat_le, if◌then◌else◌}
 use Rattle.tipc_types.specs.declared.link_words.Why.{Why}
 use Rattle.tipc_types.specs.declared.packet_lists.Taken.{Taken}
 use Rattle.tipc_header.specs.Frames.{sent_as}
 use Rattle.tipc_header.specs.Grammar.{Fits}
 use Rattle.tipc_header.specs.Spelling.{Fields, spelling}
-use Rattle.tipc_bundle.specs.Bundles.{IsInner, may_stand_inside}
+use Rattle.tipc_bundle.specs.Bundles.{may_stand_inside}
 use Rattle.tipc_fragments.specs.Cutting.{packets_of}
 use Rattle.tipc_fragments.specs.Joining.{Joining, fresh}
-use Rattle.tipc_fragments.specs.Laws.{IsFrontOf}
-use Rattle.tipc_fragments.specs.Streams.{items_of}
 use Rattle.tipc_recv_window.specs.declared.outcomes.LinkOutcome.{LinkOutcome}
 use Rattle.tipc_reassembly.specs.declared.opening.Opened.{Opened}
 use Rattle.tipc_reassembly.specs.Opening.{BringsAll}
-use Rattle.tipc_reassembly.specs.Slots.{HasOpened, IsSlot, IsWholePacket, Slot, packets_in, slot_bytes, slot_items}
-use Rattle.tipc_link.specs.Laws.{IsPrefixOf}
 use Rattle.tipc_link.specs.Links.{LinkEnd, outcome_of}
 use Rattle.tipc_link.specs.Hearings.{ArrivingState, IsArriving}
-use Rattle.tipc_link.specs.Sessions.{SessionEnd}
 use Rattle.tipc_link_fsm.specs.Table.{is_up}
 use Rattle.tipc_pair.specs.Pairs.{Met, change_of}
 use Rattle.tipc_pair.specs.declared.changes.PairChange.{PairChange}
 use Rattle.tipc_pair.specs.declared.changes.PairChange.TheVariants.{Stay}
 use Rattle.tipc_pair.specs.declared.changes.PairOutcome.{PairOutcome}
-use Rattle.tipc_pair.specs.Paired.{ArePaired, IsAhead}
-use Rattle.tipc_pair.specs.Views.{View, come, own_of, seen_of, session_of}
 
 -- ---- what an arrival gives
 
@@ -74,13 +65,6 @@ pub record IsInContact (e : LinkEnd) (m : Met) : Type 0 where
   pub contact : m.after.contact ≡ e.contact
   pub seen : m.after.peer_contact ≡ e.peer_contact
 
--- Everything that came is whole. It was given in the contact of before, and with what was given there before it is a front of what
--- the other node put.
-pub record GivesFront (x : View) (e : LinkEnd) (m : Met) (y : View) (opened : List Opened) : Type 0 where
-  pub whole : All IsWholePacket opened
-  pub front : IsPrefixOf (x.took (own_of x) (seen_of x) ++ packets_in opened) (y.put (seen_of x) (own_of x))
-  pub contact : (opened ≡ []) ⊎ IsInContact e m
-
 -- ---- messages
 
 -- a message's packet as it waits to be sent by this node: payload, or name items
@@ -94,54 +78,3 @@ pub record IsMessage (own : ℕ) (bytes : List ℕ) : Type 0 where
 -- the packets in which a message is sent: its own, or its fragments
 unfoldable pub pieces_for : List ℕ → List (List ℕ)
 pieces_for message = if nat_le (length message) 1452 then message ∷ [] else packets_of message
-
--- ---- two nodes
-
--- the packets that were numbered on the link and those that were taken from it, by contact: the node's own number, then the
--- peer's
-pub record Crossed : Type 0 where
-  pub line : ℕ → ℕ → List (List ℕ)
-  pub got : ℕ → ℕ → List (List ℕ)
-
--- A view of a node tells the messages that it put and those that it was given, each as its packet. With the packets that
--- crossed the link in their place it is a view of its link.
-abbrev pub crossing : View → Crossed → View
-crossing x c = record { own = x.own; peer = x.peer; boot = x.boot; link = x.link; put = c.line; took = c.got; numbered = x.numbered; sent = x.sent }
-
--- what waits on the link
-abbrev pub waiting_on : Option SessionEnd → List (List ℕ)
-waiting_on None = []
-waiting_on (Some s) = s.sending.waiting
-
--- a contact of the node, which lasts
-pub record IsPresent (x : View) (own theirs : ℕ) : Type 0 where
-  pub session : SessionEnd
-  pub session_is : session_of x ≡ Some session
-  pub own_is : own ≡ own_of x
-  pub theirs_is : theirs ≡ seen_of x
-
--- these packets came out of what crossed the link, and this message is begun
-pub record IsGiven (x : View) (own theirs : ℕ) (slots : List Slot) (begun : Joining) : Type 0 where
-  pub last : Joining
-  pub opened : HasOpened (flat_map slot_items slots) (x.took own theirs) last
-  pub now : IsPresent x own theirs → last ≡ begun
-
--- The messages from x to y: each was put on the link of x, and what crossed it gave y a front of them.
-pub record IsFlow (x : View) (line : ℕ → ℕ → List (List ℕ)) (y : View) (got : ℕ → ℕ → List (List ℕ)) (begun : Joining) : Type 0 where
-  pub messages : (own theirs k : ℕ) (m : List ℕ) → slice_get (x.put own theirs) k ≡ Some m → IsInner m
-  pub ahead : (own theirs : ℕ) → IsAhead x own theirs → x.put own theirs ≡ []
-  -- what is put into each packet that was numbered, and into each that waits
-  pub slots : ℕ → ℕ → List Slot
-  pub sound : (own theirs : ℕ) → All IsSlot (slots own theirs)
-  pub bytes : (own theirs : ℕ) → map slot_bytes (slots own theirs) ≡ line own theirs ++ come x (waiting_on (session_of x)) own theirs
-  -- it is what is sent of the messages, one after the other; all of it while the contact lasts
-  pub front : (own theirs : ℕ) → IsFrontOf (flat_map slot_items (slots own theirs)) (flat_map items_of (x.put own theirs))
-  pub whole : (own theirs : ℕ) → IsPresent x own theirs → flat_map slot_items (slots own theirs) ≡ flat_map items_of (x.put own theirs)
-  pub given : (own theirs : ℕ) → IsGiven y theirs own (take (length (got theirs own)) (slots own theirs)) begun
-
-pub record ArePartners (x : View) (x_begun : Joining) (y : View) (y_begun : Joining) : Type 0 where
-  pub here : Crossed
-  pub there : Crossed
-  pub paired : ArePaired (crossing x here) (crossing y there)
-  pub sends : IsFlow x here.line y there.got y_begun
-  pub receives : IsFlow y there.line x here.got x_begun

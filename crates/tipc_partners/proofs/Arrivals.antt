@@ -1,5 +1,5 @@
 -- A frame arrives, and is answered: what it makes of a pair, as deeds; and what it gives.
-use Rattle.std.proofs.Common.{◌≡◌, ◌⊎◌, ◌<◌, ◌^◌, ◌&&◌, ℕ, true, false, List, [], ◌∷◌, ◌++◌, Option, Some, None, if◌then◌else◌, length, option_map, refl, sym, ap, ◌∙◌, subst, inl, inr, eqb-true, arith}
+use Rattle.std.proofs.Common.{◌≡◌, ◌⊎◌, ◌<◌, ◌^◌, ◌&&◌, ℕ, true, false, List, [], ◌∷◌, ◌++◌, Some, if◌then◌else◌, length, option_map, refl, sym, ap, ◌∙◌, subst, inl, inr, eqb-true, arith}
 use Rattle.std.specs.Prelude.{All, not}
 use Rattle.std.proofs.lemmas.Bool.{and_parts, cases_Bool}
 use Rattle.tipc_types.specs.declared.link_words.BroadcastState.{BroadcastState}
@@ -27,7 +27,7 @@ use Rattle.tipc_link_fsm.specs.Table.{Fsm, Outcome, gives, heard, is_last, is_pe
 use Rattle.tipc_link_fsm.proofs.Moves.{cases_on}
 use Rattle.tipc_pair.proofs.Receivings.{due_none}
 use Rattle.tipc_pair.specs.declared.changes.PairOutcome.{PairOutcome}
-use Rattle.tipc_pair.specs.Paired.{IsShowable, ShowsContact}
+use Rattle.tipc_partners.specs.Paired.{IsShowable, ShowsContact}
 use Rattle.tipc_pair.specs.Pairs.{Met, arrival, arrival_of, link_met, packets_of, settled, settled_frames}
 use Rattle.tipc_pair.specs.Partners.{IsInContact, OpensTo, begun_after, deferred, ignored, opened_in, took}
 use Rattle.tipc_partners.proofs.Calls.{answer_did, heard_did}
@@ -42,6 +42,7 @@ use Rattle.tipc_partners.specs.Deeds.{Hears, IsUp}
 use Rattle.tipc_partners.specs.EndCalls.{Became, HasEnd, partial_after}
 use Rattle.tipc_partners.specs.Partners.{ArePartners, Partner}
 use Rattle.tipc_partners.specs.Views.{View, session_on}
+use Rattle.tipc_pair.proofs.EndsTurns.{peer_is}
 
 -- ---- what came
 
@@ -106,10 +107,6 @@ data Row (f : Fsm) (es er : ℕ) (o : Outcome) : Type 0 where
   goes_up : f.peer ≡ Some es → er ≡ f.own → is_reset_reset f.state ≡ true → o ≡ gives (heard f) Up → Row f es er o
   is_kept : f.peer ≡ Some es → er ≡ f.own → is_up f.state ≡ true → o ≡ gives (heard f) Stay → Row f es er o
   is_other : o ≡ gives f (Ignore why.Epoch) → Row f es er o
-
-peer_is : (peer : Option ℕ) (es : ℕ) → is_peer peer es ≡ true → peer ≡ Some es
-peer_is None es same = absurd (let wrong : ⊥ = cc in wrong)
-peer_is (Some p) es same = ap Some (eqb-true p es same)
 
 row_of : (f : Fsm) (es er : ℕ) → Row f es er (on_traffic f es er)
 unfolding on_traffic

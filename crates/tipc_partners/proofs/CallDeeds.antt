@@ -4,7 +4,7 @@ use Rattle.std.specs.Prelude.{slice_get}
 use Rattle.std.proofs.lemmas.Bool.{true≢false}
 use Rattle.tipc_contact.specs.Sides.{IsTold, Notice}
 use Rattle.tipc_header.specs.Spelling.{spelling}
-use Rattle.tipc_pair.proofs.Frames.{es_of-frame}
+use Rattle.tipc_partners.proofs.Frames.{es_of-frame}
 use Rattle.tipc_link.specs.Links.{LinkEnd, after, with_fsm}
 use Rattle.tipc_link.specs.Sessions.{SessionEnd, told}
 use Rattle.tipc_link_fsm.specs.declared.changes.Change.{Change}
@@ -13,7 +13,8 @@ use Rattle.tipc_link_fsm.specs.Runs.{Call, ActivateArrives, BearerIsCut, Contact
 use Rattle.tipc_link_fsm.specs.Table.{Outcome, is_up}
 use Rattle.tipc_types.specs.declared.link_words.Reply.TheVariants as reply
 use Rattle.tipc_pair.proofs.Ends.{Alike, IsStill, after-is, alike-same, followed_session, learns_taught, like-same, stays_still}
-use Rattle.tipc_pair.proofs.EndsTurns.{Turn, fall, is_quiet, learn, rise, stay}
+use Rattle.tipc_pair.proofs.EndsTurns.{Turn, fall, learn, rise, stay}
+use Rattle.tipc_pair.specs.Pairs.{is_quiet}
 use Rattle.tipc_partners.proofs.Ends.{still_end, taught_end}
 use Rattle.tipc_partners.proofs.EpochsKept.{IsSteady, epochs_steady}
 use Rattle.tipc_partners.proofs.Growing.{Grows}
@@ -25,6 +26,8 @@ use Rattle.tipc_partners.proofs.Wires.{epoch_of_end, is_up_of, mapped_at, prefix
 use Rattle.tipc_partners.specs.Deeds.{MayCall}
 use Rattle.tipc_partners.specs.Paired.{ArePaired, IsEnd, IsFrame, IsGoing, IsShown, IsWire}
 use Rattle.tipc_partners.specs.Views.{Frame, Node, View, Wire, es_of, fsm_in, notice_of, said_by, session_on, with_end, with_wire}
+use Rattle.tipc_link.specs.Direction.{IsDirection, IsReceiver}
+use Rattle.tipc_send_window.specs.Sending.{Sending}
 
 -- ---- a link end that goes on as it was
 
@@ -98,13 +101,13 @@ going_same own w v e' s s' g m = record {
   begun = g.begun;
   begun_is = ap w.begun m.alike.epoch ∙ g.begun_is;
   peer_is = g.peer_is ∙ sym m.alike.peer_epoch;
-  waiting = λ k bytes is. g.waiting k bytes (ap (λ (z : Rattle.tipc_send_window.specs.Sending.Sending). slice_get z.waiting k) (sym m.sending) ∙ is);
-  sends = subst (λ z. Rattle.tipc_link.specs.Direction.IsDirection z (length (v.got s'.epoch)) (w.line s'.epoch)) (sym m.sending)
-      (subst (λ n. Rattle.tipc_link.specs.Direction.IsDirection s.sending (length (v.got n)) (w.line n)) (sym m.alike.epoch) g.sends);
+  waiting = λ k bytes is. g.waiting k bytes (ap (λ (z : Sending). slice_get z.waiting k) (sym m.sending) ∙ is);
+  sends = subst (λ z. IsDirection z (length (v.got s'.epoch)) (w.line s'.epoch)) (sym m.sending)
+      (subst (λ n. IsDirection s.sending (length (v.got n)) (w.line n)) (sym m.alike.epoch) g.sends);
   takes = ap (λ n. length (w.got n)) m.alike.peer_epoch ∙ g.takes ∙ sym m.taken;
-  holds = subst (λ z. Rattle.tipc_link.specs.Direction.IsReceiver z s'.taken (v.line s'.peer_epoch)) (sym m.held)
-      (subst (λ n. Rattle.tipc_link.specs.Direction.IsReceiver s.held n (v.line s'.peer_epoch)) (sym m.taken)
-      (subst (λ n. Rattle.tipc_link.specs.Direction.IsReceiver s.held s.taken (v.line n)) (sym m.alike.peer_epoch) g.holds));
+  holds = subst (λ z. IsReceiver z s'.taken (v.line s'.peer_epoch)) (sym m.held)
+      (subst (λ n. IsReceiver s.held n (v.line s'.peer_epoch)) (sym m.taken)
+      (subst (λ n. IsReceiver s.held s.taken (v.line n)) (sym m.alike.peer_epoch) g.holds));
 }
 
 wire_on : (own : ℕ) (w v : Wire) (e e' : LinkEnd) → IsWire own w v → GoesOn w e e' → IsWire own (with_end w e') v

@@ -15,25 +15,23 @@ use Rattle.tipc_link.specs.Links.{LinkEnd, with_session}
 use Rattle.tipc_link.specs.Sessions.{Carries, Content, IsPut, joins, waits, Nothing, SessionEnd, Shows, answer_frames, answered, arrival_frames, arrived, brought, content_of, due_with, flush_frames, flushed, is_due, noted, released, repeat_frames, repeated, spoke, state_frame, took}
 use Rattle.tipc_link.proofs.LinkLaw.{Each, Each-append, Each-none, Each-one}
 use Rattle.tipc_pair.proofs.Receivings.{due_released}
-use Rattle.tipc_pair.specs.Paired.{IsShowable}
+use Rattle.tipc_partners.specs.Paired.{IsShowable}
 use Rattle.tipc_pair.specs.Partners.{IsMessage, pieces_for}
 use Rattle.tipc_partners.proofs.Contacts.{by_contact, on_put_in, put_else, put_here}
 use Rattle.tipc_partners.proofs.Messages.{put_view, taken_view}
 use Rattle.tipc_partners.proofs.Numbers.{numbered_view, with_numbered}
-use Rattle.tipc_partners.proofs.PartnersLaw.{acts_all, acts_partners, acts_then}
+use Rattle.tipc_partners.proofs.PartnersLaw.{acts_all, acts_one, acts_partners, acts_then}
 use Rattle.tipc_partners.proofs.Tellings.{flush_may, repeats_may, told_all, told_longer, told_of_all, told_on, told_since, tells_all}
-use Rattle.tipc_partners.proofs.Wires.{on_put, put_other, put_same, session_of_up}
+use Rattle.tipc_partners.proofs.Wires.{line_put, put_other, put_same, session_of_up}
 use Rattle.tipc_partners.specs.Calls.{AnsweredArrivalsAreDeeds, Brings, Did, IsToldOn, Keeps, PutsAll, PutsAreDeeds, WasGiven, given_more, none_put, put_more, puts_one}
 use Rattle.tipc_partners.specs.Deeds.{Hears, IsUp, MayTell, with_going, with_taken, notes, numbers, releases, states}
-use Rattle.tipc_partners.specs.Partners.{Acts, ActsAll, ArePartners, Partner, follows, nothing, put_in, puts, takes, viewed, with_given, with_put, works}
+use Rattle.tipc_partners.specs.Partners.{Acts, ArePartners, Partner, nothing, put_in, puts, takes, viewed, with_given, with_put, works}
 use Rattle.tipc_partners.specs.Views.{Node, View, Wire, put_at, with_wire}
+use Rattle.tipc_link_fsm.specs.Table.{is_up}
 
 -- the session of a node that became another on one wire
-up_on : (x : View) (b : ℕ) (e : LinkEnd) (s' : SessionEnd) (w' : Wire) → w'.end ≡ Some (with_session e s') → Rattle.tipc_link_fsm.specs.Table.is_up e.fsm.state ≡ true → IsUp ((with_wire x b w').wires b) (with_session e s') s'
+up_on : (x : View) (b : ℕ) (e : LinkEnd) (s' : SessionEnd) (w' : Wire) → w'.end ≡ Some (with_session e s') → is_up e.fsm.state ≡ true → IsUp ((with_wire x b w').wires b) (with_session e s') s'
 up_on x b e s' w' is up = record { end_is = ap (λ (w : Wire). w.end) (put_same x.wires b w') ∙ is; up = up; session_is = refl }
-
-one : (x y x' : Partner) → Acts x y x' → ActsAll x y x'
-one x y x' act = follows x x' nothing act
 
 -- ---- what stays
 
@@ -50,7 +48,7 @@ keeps_same ws b epoch = record { others = λ c other. refl; line = λ c n apart.
 keeps_wire : (ws : ℕ → Wire) (b epoch : ℕ) (w' : Wire) → ((n : ℕ) → w'.line n ≡ (ws b).line n) → Keeps ws (put_at ws b w') b epoch
 keeps_wire ws b epoch w' same = record {
   others = λ c other. ap (λ (w : Wire). w.end) (put_other ws b w' c other);
-  line = λ c n apart. on_put ws b w' (λ c (w : Wire). w.line n ≡ (ws c).line n) (same n) (λ c. refl) c;
+  line = λ c n apart. line_put ws b w' same c n;
 }
 
 keeps_numbered : (x : View) (b : ℕ) (e : LinkEnd) (s : SessionEnd) → Keeps x.wires (numbered_view x b e s).wires b s.epoch
@@ -101,7 +99,7 @@ flush_did x y b e s h up =
     let after = told_all x' y b (flush_frames s) in (
       after,
       record {
-        acts = acts_then x y x' after (one x y x' act) (tells_all x' y b (flush_frames s) may);
+        acts = acts_then x y x' after (acts_one x y x' act) (tells_all x' y b (flush_frames s) may);
         up = record { end_is = on.end_is; up = on.up; session_is = on.session_is };
         node = refl;
         told = told_of_all x' y b (flush_frames s);
@@ -124,7 +122,7 @@ put_did x y b e s s' m h up put message =
     let next = flush_did x' y b (with_session e s') s' (acts_partners x y x' h act) on in (
       next.0,
       record {
-        acts = acts_then x y x' next.0 (one x y x' act) next.1.acts;
+        acts = acts_then x y x' next.0 (acts_one x y x' act) next.1.acts;
         up = next.1.up;
         node = next.1.node;
         told = next.1.told;
@@ -152,7 +150,7 @@ answer_did x y b e s shown up showable =
     let act : Acts told y after = works v (notes b e s s.shown s'.unanswered s'.owes (record { end_is = up.end_is; up = up.up; session_is = up.session_is })) in (
       after,
       record {
-        acts = acts_then x y told after (tells_all x y b (answer_frames s shown) may) (one told y after act);
+        acts = acts_then x y told after (tells_all x y b (answer_frames s shown) may) (acts_one told y after act);
         up = up_on told.view b e s' (with_going (told.view.wires b) e s') refl up.up;
         node = refl;
         told = λ k o is. (let t = told_of_all x y b (answer_frames s shown) k o is in record { place = t.place; recent = t.recent; frame = t.frame; there = t.there; bearer_is = t.bearer_is; bytes = t.bytes });
@@ -199,7 +197,7 @@ noted_did x y b e s shown unanswered owes h up =
     let act : Acts x y x' = works v (notes b e s shown unanswered owes up) in
     let on : IsUp (v.wires b) (with_session e s') s' = up_on x.view b e s' (with_going (x.view.wires b) e s') refl up.up in
     let next = flush_did x' y b (with_session e s') s' (acts_partners x y x' h act) on in
-    (next.0, record { acts = acts_then x y x' next.0 (one x y x' act) next.1.acts; up = next.1.up; node = next.1.node; told = next.1.told; keeps = keeps_then x.view.wires v.wires next.0.view.wires b s.epoch _ (flushed_epoch s') (keeps_wire x.view.wires b s.epoch (with_going (x.view.wires b) e s') (λ n. refl)) next.1.keeps }, next.2, next.3, next.4)
+    (next.0, record { acts = acts_then x y x' next.0 (acts_one x y x' act) next.1.acts; up = next.1.up; node = next.1.node; told = next.1.told; keeps = keeps_then x.view.wires v.wires next.0.view.wires b s.epoch _ (flushed_epoch s') (keeps_wire x.view.wires b s.epoch (with_going (x.view.wires b) e s') (λ n. refl)) next.1.keeps }, next.2, next.3, next.4)
 
 spoken_did : (x y : Partner) (b : ℕ) (e : LinkEnd) (s : SessionEnd) (again : List Kept) (next : ℕ) (probe : Bool) → ArePartners x y → IsUp (x.view.wires b) e s
     → (after : Partner) × Did x y after b (with_session e (flushed (noted (spoke s again) next probe))) (flushed (noted (spoke s again) next probe)) (flush_frames (noted (spoke s again) next probe))
@@ -233,7 +231,7 @@ shows_did x y b e s p by next missed probe h up a =
     let mid = told_all x' y b again in
     let tells = tells_all x' y b again (repeats_may (v.wires b) r p.acknowledgement missed (session_of_up (v.wires b) (with_session e r) r on)) in
     let first : Did x y mid b (with_session e r) r again = record {
-      acts = acts_then x y x' mid (one x y x' act) tells;
+      acts = acts_then x y x' mid (acts_one x y x' act) tells;
       up = record { end_is = on.end_is; up = on.up; session_is = on.session_is };
       node = refl;
       told = told_of_all x' y b again;
@@ -265,7 +263,7 @@ carries_did x y b e s p by number packet opened last h up a is brings =
     let next = flush_did x'' y b (with_session e (took r t)) (took r t) h'' on' in (
       next.0,
       record {
-        acts = acts_then x y x' next.0 (one x y x' act) (acts_then x' y x'' next.0 (one x' y x'' act') next.1.acts);
+        acts = acts_then x y x' next.0 (acts_one x y x' act) (acts_then x' y x'' next.0 (acts_one x' y x'' act') next.1.acts);
         up = next.1.up;
         node = next.1.node;
         told = next.1.told;

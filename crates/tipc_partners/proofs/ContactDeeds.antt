@@ -14,13 +14,13 @@ use Rattle.tipc_link_fsm.specs.declared.changes.Change.TheVariants.{Down}
 use Rattle.tipc_link_fsm.specs.Runs.{Call, ContactEnds, ForgetsPeer, outcome}
 use Rattle.tipc_link_fsm.specs.Table.{Fsm, contact_ended, forget_peer, fresh, is_last, is_up, next_epoch}
 use Rattle.tipc_pair.proofs.Ends.{ended-is, forgotten-is, not_last}
-use Rattle.tipc_pair.proofs.EndsTurns.{Falls, Turn, fall, is_quiet, learn, rise, stay}
-use Rattle.tipc_pair.proofs.PeeringLeads.{same_side}
+use Rattle.tipc_pair.proofs.EndsTurns.{Falls, Turn, fall, learn, rise, stay}
+use Rattle.tipc_pair.specs.Pairs.{is_quiet}
 use Rattle.tipc_partners.proofs.CallDeeds.{call_named}
-use Rattle.tipc_partners.proofs.Ends.{ended_end, forgot_end, made_end}
+use Rattle.tipc_partners.proofs.Ends.{ended_end, forgot_end, made_end, next_no_lower}
 use Rattle.tipc_partners.proofs.Growing.{Grows, frame_here, half_back}
 use Rattle.tipc_partners.proofs.SessionDeeds.{met_or_none}
-use Rattle.tipc_partners.proofs.Sides.{peers_called}
+use Rattle.tipc_partners.proofs.Sides.{peers_called, same_side}
 use Rattle.tipc_partners.proofs.Turns.{call_turns, shown_to}
 use Rattle.tipc_partners.proofs.WireDeeds.{agree_turned, wire_deed}
 use Rattle.tipc_partners.proofs.Wires.{epoch_of_end, epoch_of_none, is_up_of, map_at, none_some, prefix_same, put_other, put_same, same_some, session_of_down, session_of_none}
@@ -134,9 +134,6 @@ next_named x y b k f e h there bearer is own =
 pub mapped_end : (f : LinkEnd → LinkEnd) (o : Option LinkEnd) (e' : LinkEnd) → option_map f o ≡ Some e' → (e : LinkEnd) × (o ≡ Some e) × (f e ≡ e')
 mapped_end f None e' is = absurd (let wrong : ⊥ = cc in wrong)
 mapped_end f (Some e) e' is = (e, refl, (let same : f e ≡ e' = cc in same))
-
-pub next_no_lower : (epoch : ℕ) → epoch ≤ next_epoch epoch
-next_no_lower epoch = elim (is_last epoch) as (λ b. epoch ≤ (if b then epoch else epoch + 1)) [ true ↦ omega arith | false ↦ omega arith ]
 
 next_most : (epoch : ℕ) → next_epoch epoch ≤ epoch + 1
 next_most epoch = elim (is_last epoch) as (λ b. (if b then epoch else epoch + 1) ≤ epoch + 1) [ true ↦ omega arith | false ↦ omega arith ]

@@ -1,5 +1,5 @@
 -- Look-ups by contact.
-use Rattle.std.proofs.Common.{◌≡◌, ◌⊎◌, ℕ, Bool, true, false, ◌==◌, ◌&&◌, if◌then◌else◌, List, [], ◌∷◌, ◌++◌, refl, sym, ap, ◌∙◌, subst, inl, inr}
+use Rattle.std.proofs.Common.{◌≡◌, ℕ, true, false, ◌==◌, ◌&&◌, if◌then◌else◌, List, [], ◌∷◌, refl, sym, ap, ◌∙◌, subst, inl, inr, arith}
 use Rattle.std.specs.Prelude.{All}
 use Rattle.std.proofs.lemmas.Bool.{cases_eq}
 use Rattle.std.proofs.lemmas.Bool.Decides.{nat_tests}
@@ -15,15 +15,15 @@ abbrev pub IsElse : ℕ → ℕ → ℕ → ℕ → Type 0
 IsElse own theirs k l = k ≡ own → l ≡ theirs → ⊥
 
 pub in_same : {A : Type 0} (own theirs k l : ℕ) (u v : A) → k ≡ own → l ≡ theirs → (if (k == own) && (l == theirs) then u else v) ≡ u
-in_same own theirs k l u v a b = let test : ((k == own) && (l == theirs)) ≡ true = grind (Rattle.std.proofs.Common.arith, nat_tests, a, b) in rw test refl
+in_same own theirs k l u v a b = let test : ((k == own) && (l == theirs)) ≡ true = grind (arith, nat_tests, a, b) in rw test refl
 
 pub in_else : {A : Type 0} (own theirs k l : ℕ) (u v : A) → IsElse own theirs k l → (if (k == own) && (l == theirs) then u else v) ≡ v
 in_else own theirs k l u v other = elim (cases_eq k own) [
   | inl a ↦ elim (cases_eq l theirs) [
     | inl b ↦ absurd (other a b)
-    | inr b ↦ (let test : ((k == own) && (l == theirs)) ≡ false = grind (Rattle.std.proofs.Common.arith, nat_tests, b) in rw test refl)
+    | inr b ↦ (let test : ((k == own) && (l == theirs)) ≡ false = grind (arith, nat_tests, b) in rw test refl)
   ]
-  | inr a ↦ (let test : ((k == own) && (l == theirs)) ≡ false = grind (Rattle.std.proofs.Common.arith, nat_tests, a) in rw test refl)
+  | inr a ↦ (let test : ((k == own) && (l == theirs)) ≡ false = grind (arith, nat_tests, a) in rw test refl)
 ]
 
 pub put_here : {A : Type 0} (f : ℕ → ℕ → A) (own theirs : ℕ) (v : A) → put_in f own theirs v own theirs ≡ v

@@ -18,27 +18,23 @@ use Rattle.tipc_link_fsm.specs.declared.changes.Change.TheVariants.{Stay, Up, Do
 use Rattle.tipc_link_fsm.specs.Runs.{Call, ActivateArrives, BearerIsCut, ContactEnds, ForgetsPeer, Releases, ResetArrives, TickPasses, TrafficArrives, TunnelNames, outcome}
 use Rattle.tipc_link_fsm.specs.Table.{is_up}
 use Rattle.tipc_pair.proofs.Ends.{after-is}
-use Rattle.tipc_pair.proofs.EndsTurns.{Rises, Turn, fall, is_quiet, learn, rise, stay}
-use Rattle.tipc_pair.proofs.SessionsHeard.{same_packet}
-use Rattle.tipc_pair.specs.Paired.{IsShowable}
-use Rattle.tipc_pair.specs.Pairs.{parted as parted_end, settled, settled_frames}
+use Rattle.tipc_pair.proofs.EndsTurns.{Rises, Turn, fall, learn, rise, stay}
+use Rattle.tipc_partners.proofs.Frames.{same_packet}
+use Rattle.tipc_pair.specs.Pairs.{is_quiet, parted as parted_end, settled, settled_frames}
 use Rattle.tipc_partners.proofs.CallDeeds.{call_named}
-use Rattle.tipc_partners.proofs.PartnersLaw.{acts_all, acts_then}
+use Rattle.tipc_partners.proofs.PartnersLaw.{acts_all, acts_one, acts_then}
 use Rattle.tipc_partners.proofs.Tellings.{told_all, told_longer, told_of_all, told_on, told_since, tells_all}
 use Rattle.tipc_partners.proofs.TellDeeds.{notice_fits, shown_fits}
 use Rattle.tipc_partners.proofs.Turns.{call_turns, shown_to}
-use Rattle.tipc_partners.proofs.Wires.{none_some, on_put, put_other, put_same, same_some, session_of_up}
+use Rattle.tipc_partners.proofs.Wires.{line_put, none_some, put_other, put_same, same_some, session_of_up}
 use Rattle.tipc_partners.specs.Calls.{IsToldOn}
 use Rattle.tipc_partners.specs.Deeds.{MayCall, MayTell, activates, calls, ended_with, falls, parted, resets, rises, states, with_begun}
 use Rattle.tipc_partners.specs.EndCalls.{Became, EndCallsAreDeeds, HasEnd, IsNotice, partial_after}
-use Rattle.tipc_partners.specs.Partners.{Acts, ActsAll, ArePartners, Partner, changes, follows, nothing, renewed, viewed, works}
-use Rattle.tipc_partners.specs.Paired.{ArePaired}
+use Rattle.tipc_partners.specs.Partners.{ActsAll, ArePartners, Partner, changes, renewed, viewed, works}
+use Rattle.tipc_partners.specs.Paired.{ArePaired, IsShowable}
 use Rattle.tipc_partners.specs.Views.{IsApart, Node, View, Wire, said_by, with_end, with_wire}
 
 -- ---- one deed, and frames behind it
-
-one : (x y x' : Partner) → Acts x y x' → ActsAll x y x'
-one x y x' act = follows x x' nothing act
 
 -- the end on the bearer is another now, and there is none on another bearer
 pub end_on : (x : View) (b : ℕ) (e : LinkEnd) (w' : Wire) (e' : LinkEnd) → HasEnd x b e → w'.end ≡ Some e' → HasEnd (with_wire x b w') b e'
@@ -46,9 +42,6 @@ end_on x b e w' e' h is = record {
   end_is = ap (λ (w : Wire). w.end) (put_same x.wires b w') ∙ is;
   alone = λ c other. ap (λ (w : Wire). w.end) (put_other x.wires b w' c other) ∙ h.alone c other;
 }
-
-pub line_put : (x : View) (b : ℕ) (w' : Wire) → ((n : ℕ) → w'.line n ≡ (x.wires b).line n) → (c n : ℕ) → ((with_wire x b w').wires c).line n ≡ (x.wires c).line n
-line_put x b w' same c n = on_put x.wires b w' (λ c (w : Wire). w.line n ≡ (x.wires c).line n) (same n) (λ c. refl) c
 
 -- it became e', and then told frames
 pub tell_after : (x y mid : Partner) (b : ℕ) (e' : LinkEnd) (frames : List Outgoing) (partial : Joining) → Became x y mid b e' [] partial → Each (MayTell (mid.view.wires b)) frames → (mid.view.node ≡ x.view.node) ⊎ Each IsNotice frames
@@ -104,12 +97,12 @@ called x y b e call h may quiet =
     let v = with_wire x.view b (with_end (x.view.wires b) (after e o)) in (
       viewed x v,
       record {
-        acts = one x y (viewed x v) (works v (calls b e call h.end_is may quiet));
+        acts = acts_one x y (viewed x v) (works v (calls b e call h.end_is may quiet));
         end = end_on x.view b e (with_end (x.view.wires b) (after e o)) (after e o) h refl;
         told = λ k f there. absurd (let none : ⊥ = cc in none);
         whose = record { own = refl; peer = refl; boot = refl };
         steady = inl refl;
-        line = line_put x.view b (with_end (x.view.wires b) (after e o)) (λ n. refl);
+        line = line_put x.view.wires b (with_end (x.view.wires b) (after e o)) (λ n. refl);
         put = refl;
         given = refl;
         partial_is = quiet_partial o.change x.partial quiet;
@@ -194,7 +187,7 @@ fell_did x y b e call cause h end may down =
     let contact : d.contact ≡ x.view.node.contact = ap (λ (k : LinkEnd). k.contact) (after-is e o) ∙ (h.paired.here.ends b e end.end_is).contact in
     let same : ended_with (x.view.node.contact + 1) d ≡ parted_end d = ap (λ n. ended_with (n + 1) d) (sym contact) in
     let became : Became x y mid b (parted_end d) [] (partial_after o.change x.partial) = record {
-      acts = one x y mid (changes (parted v) (falls b e call cause end.end_is may down));
+      acts = acts_one x y mid (changes (parted v) (falls b e call cause end.end_is may down));
       end = record {
         end_is = ap (λ z. option_map (ended_with (x.view.node.contact + 1)) z) there.end_is ∙ ap Some same;
         alone = λ c other. ap (λ z. option_map (ended_with (x.view.node.contact + 1)) z) (there.alone c other);
@@ -202,7 +195,7 @@ fell_did x y b e call cause h end may down =
       told = λ k f is. absurd (let none : ⊥ = cc in none);
       whose = record { own = refl; peer = refl; boot = refl };
       steady = inr (Each-none IsNotice);
-      line = line_put x.view b (with_end (x.view.wires b) d) (λ n. refl);
+      line = line_put x.view.wires b (with_end (x.view.wires b) d) (λ n. refl);
       put = refl;
       given = refl;
       partial_is = ap (λ c. partial_after c x.partial) (sym down);
@@ -226,12 +219,12 @@ rose_did x y b e call shown h end may m showable =
     let mid = renewed x (with_wire x.view b w') in
     let there = end_on x.view b e w' d end refl in
     let became : Became x y mid b d [] (partial_after o.change x.partial) = record {
-      acts = one x y mid (changes (with_wire x.view b w') (rises b e call end.end_is may m.change apart));
+      acts = acts_one x y mid (changes (with_wire x.view b w') (rises b e call end.end_is may m.change apart));
       end = there;
       told = λ k f is. absurd (let none : ⊥ = cc in none);
       whose = record { own = refl; peer = refl; boot = refl };
       steady = inl refl;
-      line = line_put x.view b w' (λ n. refl);
+      line = line_put x.view.wires b w' (λ n. refl);
       put = refl;
       given = refl;
       partial_is = ap (λ c. partial_after c x.partial) (sym m.change);

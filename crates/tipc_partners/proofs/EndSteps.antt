@@ -11,25 +11,22 @@ use Rattle.tipc_link_fsm.specs.declared.changes.Change.{Change}
 use Rattle.tipc_link_fsm.specs.declared.changes.Change.TheVariants.{Down, Stay, Up}
 use Rattle.tipc_link_fsm.specs.Runs.{BearerIsCut, TickPasses}
 use Rattle.tipc_link_fsm.specs.Table.{Fsm, Outcome, gives, is_up, lowered, on_cut, on_tick}
-use Rattle.tipc_pair.specs.Paired.{IsShowable}
+use Rattle.tipc_partners.specs.Paired.{IsShowable}
 use Rattle.tipc_pair.specs.Pairs.{change_of, cut_pair, parted, settled, settled_frames, tick_frames, tick_pair, told_of}
 use Rattle.tipc_pair.specs.Partners.{IsMessage, begun_after, pieces_for}
 use Rattle.tipc_partners.proofs.Calls.{put_did}
-use Rattle.tipc_partners.proofs.EndCalls.{end_on, line_put, on_bearer_each, settled_did, tell_after}
-use Rattle.tipc_partners.proofs.PartnersLaw.{acts_all, acts_then}
+use Rattle.tipc_partners.proofs.EndCalls.{end_on, on_bearer_each, settled_did, tell_after}
+use Rattle.tipc_partners.proofs.PartnersLaw.{acts_all, acts_one, acts_then}
 use Rattle.tipc_partners.proofs.Steps.{Stepped, became_stepped, did_stepped, more_none, node_of_end, then_stepped}
-use Rattle.tipc_partners.proofs.Wires.{put_other, put_same}
+use Rattle.tipc_partners.proofs.Wires.{line_put, put_other, put_same}
 use Rattle.tipc_partners.specs.Deeds.{MayTell, made_on, makes, resets, turns}
 use Rattle.tipc_partners.specs.EndCalls.{Became, HasEnd, partial_after}
-use Rattle.tipc_partners.specs.Partners.{Acts, ActsAll, ArePartners, Partner, follows, nothing, viewed, works}
+use Rattle.tipc_partners.specs.Partners.{ArePartners, Partner, viewed, works}
 use Rattle.tipc_partners.specs.Views.{Wire, with_end, with_wire}
 
 -- a link end and what became of it, and the frames that left
 abbrev pub StepsTo : Partner → Partner → ℕ → LinkEnd → List Outgoing → List (List ℕ) → List (List ℕ) → Joining → Type 0
 StepsTo x y b e frames put given partial = (after : Partner) × Stepped x y after b e frames put given partial
-
-one : (x y x' : Partner) → Acts x y x' → ActsAll x y x'
-one x y x' act = follows x x' nothing act
 
 -- ---- a link end is made, and its bearer mended
 
@@ -39,7 +36,7 @@ made_became x y b none =
     let v = with_wire x.view b w' in (
       viewed x v,
       record {
-        acts = one x y (viewed x v) (works v (makes b (none b)));
+        acts = acts_one x y (viewed x v) (works v (makes b (none b)));
         end = record {
           end_is = ap (λ (w : Wire). w.end) (put_same x.view.wires b w');
           alone = λ c other. ap (λ (w : Wire). w.end) (put_other x.view.wires b w' c other) ∙ none c;
@@ -47,7 +44,7 @@ made_became x y b none =
         told = λ k o is. absurd (let wrong : ⊥ = cc in wrong);
         whose = record { own = refl; peer = refl; boot = refl };
         steady = inl refl;
-        line = line_put x.view b w' (λ n. refl);
+        line = line_put x.view.wires b w' (λ n. refl);
         put = refl;
         given = refl;
         partial_is = refl;
@@ -61,12 +58,12 @@ turned_became x y b e mended has =
     let v = with_wire x.view b w' in (
       viewed x v,
       record {
-        acts = one x y (viewed x v) (works v (turns b e mended has.end_is));
+        acts = acts_one x y (viewed x v) (works v (turns b e mended has.end_is));
         end = end_on x.view b e w' (record e { mended = mended }) has refl;
         told = λ k o is. absurd (let wrong : ⊥ = cc in wrong);
         whose = record { own = refl; peer = refl; boot = refl };
         steady = inl refl;
-        line = line_put x.view b w' (λ n. refl);
+        line = line_put x.view.wires b w' (λ n. refl);
         put = refl;
         given = refl;
         partial_is = refl;

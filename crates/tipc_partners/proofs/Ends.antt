@@ -1,5 +1,5 @@
 -- A link end keeps what holds of it, whatever is called.
-use Rattle.std.proofs.Common.{◌≡◌, ◌<◌, ◌≤◌, ◌^◌, ℕ, true, false, Some, None, refl, sym, ap, ◌∙◌, arith}
+use Rattle.std.proofs.Common.{◌≡◌, ◌<◌, ◌≤◌, ◌^◌, ℕ, true, false, Some, None, refl, sym, ap, ◌∙◌, arith, if◌then◌else◌, ◌+◌}
 use Rattle.std.proofs.lemmas.Bool.{true≢false}
 use Rattle.tipc_contact.specs.Sides.{boot_of}
 use Rattle.tipc_contact.proofs.Calls.{next_boot}
@@ -63,8 +63,8 @@ raised_end n b e e' h m seen peer = record {
       (ap (λ (t : SessionEnd). t.own) (sym same) ∙ m.own ∙ h.own, ap (λ (t : SessionEnd). t.peer) (sym same) ∙ m.peer ∙ h.peer, ap (λ (t : SessionEnd). t.bearer) (sym same) ∙ m.bearer ∙ h.bearer_is);
 }
 
-next_no_lower : (epoch : ℕ) → epoch ≤ next_epoch epoch
-next_no_lower epoch = elim (is_last epoch) as (λ b. epoch ≤ (Rattle.std.specs.Prelude.if◌then◌else◌ b epoch (Rattle.std.specs.Prelude.◌+◌ epoch 1))) [ true ↦ omega arith | false ↦ omega arith ]
+pub next_no_lower : (epoch : ℕ) → epoch ≤ next_epoch epoch
+next_no_lower epoch = elim (is_last epoch) as (λ b. epoch ≤ (if b then epoch else epoch + 1)) [ true ↦ omega arith | false ↦ omega arith ]
 
 -- the contact of a node ended, whose contact number isn't above this end's next epoch
 pub ended_end : (n n' : Node) (b : ℕ) (e : LinkEnd) → IsEnd n b e → n'.own ≡ n.own → n'.peer ≡ n.peer → n'.boot ≡ n.boot → n'.seen ≡ n.seen → n'.contact ≤ next_epoch e.fsm.own → IsEnd n' b (ended_with n'.contact e)

@@ -11,7 +11,7 @@ use Rattle.tipc_link.proofs.Directions.{slice_get-append}
 use Rattle.tipc_link_fsm.specs.declared.changes.Change.{Change}
 use Rattle.tipc_link_fsm.specs.declared.changes.Change.TheVariants.{Stay, Up, Down, Answer, Ignore}
 use Rattle.tipc_link_fsm.specs.Runs.{Call, outcome}
-use Rattle.tipc_pair.proofs.EndsTurns.{is_quiet}
+use Rattle.tipc_pair.specs.Pairs.{is_quiet}
 use Rattle.tipc_partners.proofs.ContactDeeds.{mapped_end}
 use Rattle.tipc_partners.proofs.PartnersLaw.{acts_all, acts_partners}
 use Rattle.tipc_partners.proofs.QuietDeeds.{restarts_leaves}
@@ -62,12 +62,16 @@ kept_session e Stay s apart has = (s, has, refl, refl)
 kept_session e (Ignore why) s apart has = (s, has, refl, refl)
 kept_session e (Down cause) s apart has = (s, has, refl, refl)
 
+-- a session of the same epoch that has sent the same
+still_counted : (w : Wire) (s t : SessionEnd) → s.epoch ≡ t.epoch → s.sending ≡ t.sending → length (w.line t.epoch) ≡ t.sending.numbered → length (w.line s.epoch) ≡ s.sending.numbered
+still_counted w s t epoch sending counted = ap (λ n. length (w.line n)) epoch ∙ counted ∙ ap (λ (z : Sending). z.numbered) (sym sending)
+
 called_counted : (w : Wire) (e : LinkEnd) (call : Call) → IsCounted w → w.end ≡ Some e → ((outcome e.fsm call).change ≡ Up → ⊥) → IsCounted (with_end w (after e (outcome e.fsm call)))
 called_counted w e call h is apart d s is_d has =
     let o = outcome e.fsm call in
     let same : after e o ≡ d = cc in
     let old = kept_session (with_fsm e o.after) o.change s apart (ap (λ (k : LinkEnd). k.session) same ∙ has) in
-    ap (λ n. length (w.line n)) old.2 ∙ h e old.0 is old.1 ∙ ap (λ (z : Sending). z.numbered) (sym old.3)
+    still_counted w s old.0 old.2 old.3 (h e old.0 is old.1)
 
 -- ends that keep their sessions
 mapped_counted : (f : LinkEnd → LinkEnd) (w : Wire) → ((e : LinkEnd) → (f e).session ≡ e.session) → IsCounted w → IsCounted (record w { end = option_map f w.end })

@@ -1,3 +1,6 @@
+pub mod Frames
+pub mod Packets
+pub mod Slots
 pub mod Wires
 pub mod Growing
 pub mod Turns

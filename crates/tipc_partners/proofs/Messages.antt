@@ -22,9 +22,8 @@ use Rattle.tipc_link.specs.Sessions.{Carries, IsPut, SessionEnd, brought, conten
 use Rattle.tipc_link.proofs.LinkLaw.{Each, Each-append, Each-one}
 use Rattle.tipc_pair.specs.Pairs.{packets_in}
 use Rattle.tipc_pair.specs.Partners.{IsMessage, pieces_for}
-use Rattle.tipc_pair.proofs.PartnersPackets.{message_inner}
-use Rattle.tipc_pair.proofs.PartnersPuts.{more_slots}
-use Rattle.tipc_pair.proofs.PartnersSends.{front_items}
+use Rattle.tipc_partners.proofs.Packets.{message_inner}
+use Rattle.tipc_partners.proofs.Slots.{front_items, more_slots}
 use Rattle.tipc_partners.proofs.Contacts.{all_of_each, by_contact, on_put_in, put_else, put_here}
 use Rattle.tipc_partners.proofs.EpochsKept.{session_is}
 use Rattle.tipc_partners.proofs.Numbers.{one_session}

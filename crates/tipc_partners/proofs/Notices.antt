@@ -21,27 +21,22 @@ use Rattle.tipc_link_fsm.specs.declared.changes.Change.TheVariants.{Answer, Down
 use Rattle.tipc_link_fsm.specs.Runs.{ActivateArrives, ResetArrives}
 use Rattle.tipc_link_fsm.specs.Table.{Fsm, Outcome, forget_peer, forgotten, is_held, is_in_reset, is_last, is_peer, is_session, is_up, on_activate, on_reset, told}
 use Rattle.tipc_link_fsm.proofs.Moves.{cases_on}
-use Rattle.tipc_pair.proofs.Ends.{ended-is, forgotten-is}
-use Rattle.tipc_pair.proofs.Frames.{er_of-frame, es_of-frame}
-use Rattle.tipc_pair.proofs.PeeringArrivals.{reset_leaves, settled_is_down}
-use Rattle.tipc_pair.proofs.PeeringFalls.{risen_is_down}
-use Rattle.tipc_pair.proofs.PeeringParts.{contact_after, seen_after}
-use Rattle.tipc_pair.proofs.SessionsHeard.{same_packet}
+use Rattle.tipc_pair.proofs.Ends.{contact_after, ended-is, forgotten-is, reset_leaves, risen_is_down, seen_after, settled_is_down}
+use Rattle.tipc_partners.proofs.Frames.{er_of-frame, es_of-frame, same_packet}
 use Rattle.tipc_pair.specs.declared.changes.PairChange.{PairChange}
 use Rattle.tipc_pair.specs.declared.changes.PairChange.TheVariants as pair
-use Rattle.tipc_pair.specs.Paired.{IsShowable, ShowsContact}
 use Rattle.tipc_pair.specs.Pairs.{Met, behind, by_number, change_of, link_met, packets_of, parted, passed_over, reset_down, reset_met, reset_up, risen, risen_activate, risen_change, risen_frames, risen_reset, settled, settled_frames}
 use Rattle.tipc_pair.specs.Partners.{begun_after}
 use Rattle.tipc_partners.proofs.ContactDeeds.{ended_down}
 use Rattle.tipc_partners.proofs.EndCalls.{on_bearer_each, reset_notice, settled_did, tell_after}
 use Rattle.tipc_partners.proofs.EndSteps.{StepsTo, partial_same}
-use Rattle.tipc_partners.proofs.PartnersLaw.{acts_all}
+use Rattle.tipc_partners.proofs.PartnersLaw.{acts_all, acts_one}
 use Rattle.tipc_partners.proofs.Steps.{Stepped, became_stepped, node_of_end, onward_lines, still_stepped, then_stepped}
 use Rattle.tipc_partners.proofs.Wires.{map_at, none_some, same_some}
 use Rattle.tipc_partners.specs.Deeds.{MayTell, ended_with, forgot_with, parted as parted_view, parts, resets, risen as risen_view, shows}
 use Rattle.tipc_partners.specs.EndCalls.{Became, HasEnd, IsNotice, partial_after}
-use Rattle.tipc_partners.specs.Paired.{ArePaired, IsShown}
-use Rattle.tipc_partners.specs.Partners.{Acts, ActsAll, ArePartners, Partner, changes, follows, nothing, renewed, viewed, works}
+use Rattle.tipc_partners.specs.Paired.{ArePaired, IsShowable, IsShown, ShowsContact}
+use Rattle.tipc_partners.specs.Partners.{ActsAll, ArePartners, Partner, changes, follows, renewed, viewed, works}
 use Rattle.tipc_partners.specs.Views.{Frame, IsApart, View, er_of, es_of, notice_of, said_by}
 
 -- ---- the frame
@@ -197,9 +192,6 @@ reset_quietly x y b e es shown h has told showable =
 
 -- ---- a higher contact number
 
-one : (x y x' : Partner) → Acts x y x' → ActsAll x y x'
-one x y x' act = follows x x' nothing act
-
 -- a part of a call that numbers, puts and gives nothing
 abbrev StillTo : Partner → Partner → ℕ → LinkEnd → List Outgoing → Joining → Type 0
 StillTo x y b e frames partial = (after : Partner) × Stepped x y after b e frames [] [] partial × ((c epoch : ℕ) → (after.view.wires c).line epoch ≡ (x.view.wires c).line epoch)
@@ -218,7 +210,7 @@ lonely_stepped x y b e number has down higher fits =
     let still = still_stepped x y b e has in (
       viewed x v,
       record {
-        acts = one x y (viewed x v) (works v (shows number higher fits (alone_apart x.view b e has down)));
+        acts = acts_one x y (viewed x v) (works v (shows number higher fits (alone_apart x.view b e has down)));
         end = record { end_is = ap (λ o. option_map (forgot_with number) o) has.end_is; alone = λ c other. ap (λ o. option_map (forgot_with number) o) (has.alone c other) };
         whose = record { own = refl; peer = refl; boot = refl };
         said = Each-none _;
@@ -238,7 +230,7 @@ ended_stepped x y b e number h has up higher fits =
     let e1 = ended_with (x.view.node.contact + 1) e in
     let mid = renewed x (parted_view x.view) in
     let has1 : HasEnd mid.view b e1 = record { end_is = ap (λ o. option_map (ended_with (x.view.node.contact + 1)) o) has.end_is; alone = λ c other. ap (λ o. option_map (ended_with (x.view.node.contact + 1)) o) (has.alone c other) } in
-    let first : ActsAll x y mid = one x y mid (changes (parted_view x.view) (parts b e has.end_is up)) in
+    let first : ActsAll x y mid = acts_one x y mid (changes (parted_view x.view) (parts b e has.end_is up)) in
     let v = risen_view mid.view number in
     let z = viewed mid v in
     let acts : ActsAll x y z = follows mid z first (works v (shows number higher fits (alone_apart mid.view b e1 has1 (ended_down (x.view.node.contact + 1) e)))) in

@@ -4,7 +4,7 @@ use Rattle.tipc_contact.specs.Peers.{ArePeers}
 use Rattle.tipc_contact.specs.Sides.{alone, boot_of, first_number}
 use Rattle.tipc_contact.proofs.Sessions.{start as start_peers, turned as turn_peers}
 use Rattle.tipc_link.specs.Laws.{IsPrefixOf}
-use Rattle.tipc_pair.proofs.PeeringLeads.{same_side}
+use Rattle.tipc_partners.proofs.Sides.{same_side}
 use Rattle.tipc_partners.proofs.CallDeeds.{calls_paired, turns_paired}
 use Rattle.tipc_partners.proofs.ContactDeeds.{falls_paired, makes_paired, parts_paired, restarts_paired, shows_paired}
 use Rattle.tipc_partners.proofs.RiseDeeds.{rises_paired}

@@ -13,8 +13,8 @@ use Rattle.tipc_reassembly.specs.declared.opening.Opened.{Opened}
 use Rattle.tipc_reassembly.specs.Opening.{BringsAll}
 use Rattle.tipc_link.specs.Sessions.{Carries, IsPut, SessionEnd, brought, content_of, due_with, flushed, moving, took}
 use Rattle.tipc_link_fsm.specs.Runs.{outcome}
-use Rattle.tipc_pair.proofs.PartnersPuts.{more_packets}
-use Rattle.tipc_pair.proofs.PartnersSends.{front_items}
+use Rattle.tipc_partners.proofs.Packets.{more_packets}
+use Rattle.tipc_partners.proofs.Slots.{front_items}
 use Rattle.tipc_pair.specs.Partners.{IsMessage, pieces_for}
 use Rattle.tipc_partners.proofs.Contacts.{all_of_each}
 use Rattle.tipc_partners.proofs.Messages.{put_view, put_waits, puts_crossed, puts_sends, taken_in, taken_view, takes_crossed, takes_receives, takes_sends}
@@ -170,6 +170,10 @@ acts_partners x y _ h (takes b e s p number by packet opened last up a is brings
 pub acts_all : (x y x' : Partner) → ArePartners x y → ActsAll x y x' → ArePartners x' y
 acts_all x y _ h nothing = h
 acts_all x y x'' h (follows x' _ all one) = acts_partners x' y x'' (acts_all x y x' h all) one
+
+-- one deed
+pub acts_one : (x y x' : Partner) → Acts x y x' → ActsAll x y x'
+acts_one x y x' act = follows x x' nothing act
 
 -- deeds after deeds
 pub acts_then : (x y z x' : Partner) → ActsAll x y z → ActsAll z y x' → ActsAll x y x'

@@ -3,7 +3,7 @@ use Rattle.std.proofs.Common.{◌≡◌, ◌<◌, ◌+◌, ℕ, true, List, Some
 use Rattle.tipc_link.specs.Links.{LinkEnd, after, with_session}
 use Rattle.tipc_link.specs.Sessions.{SessionEnd, released}
 use Rattle.tipc_send_window.specs.Sending.{Sending}
-use Rattle.tipc_link_fsm.specs.Runs.{outcome}
+use Rattle.tipc_link_fsm.specs.Runs.{Call, outcome}
 use Rattle.tipc_link_fsm.specs.Table.{Fsm, is_up}
 use Rattle.tipc_pair.proofs.Ends.{forgotten-is}
 use Rattle.tipc_partners.proofs.CallDeeds.{GoesOn, calls_on, session_back, session_onward, turns_on}
@@ -11,9 +11,11 @@ use Rattle.tipc_partners.proofs.ContactDeeds.{down_none, earlier, ended_down, ma
 use Rattle.tipc_partners.proofs.EpochsKept.{session_is}
 use Rattle.tipc_partners.proofs.Quiet.{Lasts, Leaves, Quietly}
 use Rattle.tipc_partners.proofs.Wires.{none_some, on_put, same_some, session_of_down, session_of_none, session_of_up}
-use Rattle.tipc_partners.specs.Deeds.{IsUp, ended_with, forgot_with, made_on, parted, restarted, risen, with_going}
+use Rattle.tipc_partners.specs.Deeds.{IsUp, MayCall, ended_with, forgot_with, made_on, parted, restarted, risen, with_going}
 use Rattle.tipc_partners.specs.Paired.{ArePaired}
 use Rattle.tipc_partners.specs.Views.{Frame, IsApart, View, Wire, put_at, session_on, with_end, with_told, with_wire}
+use Rattle.std.specs.Prelude.{Bool}
+use Rattle.tipc_pair.specs.Pairs.{is_quiet}
 
 -- ---- one wire
 
@@ -102,10 +104,10 @@ makes_quietly x b none = quietly_on x b (with_end (x.wires b) (made_on x.node b)
   waits = λ s s' on on'. absurd (none_some s _ (session_of_none (x.wires b) none) on);
 })
 
-pub turns_quietly : (x : View) (b : ℕ) (e : LinkEnd) (mended : Rattle.std.specs.Prelude.Bool) → (x.wires b).end ≡ Some e → Quietly x (with_wire x b (with_end (x.wires b) (record e { mended = mended })))
+pub turns_quietly : (x : View) (b : ℕ) (e : LinkEnd) (mended : Bool) → (x.wires b).end ≡ Some e → Quietly x (with_wire x b (with_end (x.wires b) (record e { mended = mended })))
 turns_quietly x b e mended is = quietly_on x b _ (goes_on_quietly (x.wires b) e (record e { mended = mended }) (turns_on (x.wires b) e mended is))
 
-pub calls_quietly : (x y : View) (b : ℕ) (e : LinkEnd) (call : Rattle.tipc_link_fsm.specs.Runs.Call) → (x.wires b).end ≡ Some e → Rattle.tipc_partners.specs.Deeds.MayCall x y b call → Rattle.tipc_pair.proofs.EndsTurns.is_quiet (outcome e.fsm call).change ≡ true
+pub calls_quietly : (x y : View) (b : ℕ) (e : LinkEnd) (call : Call) → (x.wires b).end ≡ Some e → MayCall x y b call → is_quiet (outcome e.fsm call).change ≡ true
     → Quietly x (with_wire x b (with_end (x.wires b) (after e (outcome e.fsm call))))
 calls_quietly x y b e call is may quiet = quietly_on x b _ (goes_on_quietly (x.wires b) e (after e (outcome e.fsm call)) (calls_on x y b e call is may quiet))
 
@@ -130,7 +132,7 @@ shows_quietly x number apart =
 pub releases_quietly : (x : View) (b : ℕ) (e : LinkEnd) (s : SessionEnd) (acknowledgement : ℕ) → IsUp (x.wires b) e s → Quietly x (with_wire x b (with_going (x.wires b) e (released s acknowledgement)))
 releases_quietly x b e s acknowledgement up = quietly_on x b _ (session_quietly (x.wires b) e s (released s acknowledgement) up refl refl)
 
-pub notes_quietly : (x : View) (b : ℕ) (e : LinkEnd) (s : SessionEnd) (shown unanswered : ℕ) (owes : Rattle.std.specs.Prelude.Bool) → IsUp (x.wires b) e s
+pub notes_quietly : (x : View) (b : ℕ) (e : LinkEnd) (s : SessionEnd) (shown unanswered : ℕ) (owes : Bool) → IsUp (x.wires b) e s
     → Quietly x (with_wire x b (with_going (x.wires b) e (record s { shown = shown; unanswered = unanswered; owes = owes })))
 notes_quietly x b e s shown unanswered owes up = quietly_on x b _ (session_quietly (x.wires b) e s (record s { shown = shown; unanswered = unanswered; owes = owes }) up refl refl)
 

@@ -3,7 +3,8 @@ use Rattle.std.proofs.Common.{◌≡◌, ◌⊎◌, ◌<◌, ◌≤◌, ◌^◌,
 use Rattle.std.specs.Prelude.{slice_get}
 use Rattle.std.proofs.lemmas.Bool.{cases_lt, true≢false}
 use Rattle.tipc_contact.specs.Peers.{ArePeers}
-use Rattle.tipc_contact.proofs.Sessions.{sent_in_contact}
+use Rattle.tipc_contact.proofs.Sessions.{sent_in_contact, turned}
+use Rattle.tipc_send_window.specs.Sending.{fresh as none_sent}
 use Rattle.tipc_link.specs.Direction.{IsDirection}
 use Rattle.tipc_link.specs.Links.{LinkEnd, after, known, session_of}
 use Rattle.tipc_link.specs.Sessions.{SessionEnd, begun}
@@ -12,7 +13,8 @@ use Rattle.tipc_link_fsm.specs.declared.changes.Change.TheVariants.{Up}
 use Rattle.tipc_link_fsm.specs.Runs.{Call, ActivateArrives, BearerIsCut, ContactEnds, ForgetsPeer, Releases, ResetArrives, TickPasses, TrafficArrives, TunnelNames, outcome}
 use Rattle.tipc_link_fsm.specs.Table.{Fsm, is_last}
 use Rattle.tipc_pair.proofs.Ends.{IsRaised, after-is, rises_raised}
-use Rattle.tipc_pair.proofs.EndsTurns.{Turn, fall, is_quiet, learn, rise, stay}
+use Rattle.tipc_pair.proofs.EndsTurns.{Turn, fall, learn, rise, stay}
+use Rattle.tipc_pair.specs.Pairs.{is_quiet}
 use Rattle.tipc_partners.proofs.CallDeeds.{call_named, shown_fits}
 use Rattle.tipc_partners.proofs.Ends.{raised_end}
 use Rattle.tipc_partners.proofs.Rises.{Goes}
@@ -65,9 +67,9 @@ none_taken x y b e e' es h m (inr met) =
     let back = met.epoch_is in
     absurd (let wrong : ⊥ = omega arith in wrong)
 
-new_direction : (taken : ℕ) (line got : List (List ℕ)) → line ≡ [] → got ≡ [] → IsDirection Rattle.tipc_send_window.specs.Sending.fresh (length got) line
-new_direction taken line got no_line no_got = subst (λ xs. IsDirection Rattle.tipc_send_window.specs.Sending.fresh (length got) xs) (sym no_line)
-    (subst (λ (xs : List (List ℕ)). IsDirection Rattle.tipc_send_window.specs.Sending.fresh (length xs) []) (sym no_got)
+new_direction : (taken : ℕ) (line got : List (List ℕ)) → line ≡ [] → got ≡ [] → IsDirection none_sent (length got) line
+new_direction taken line got no_line no_got = subst (λ xs. IsDirection none_sent (length got) xs) (sym no_line)
+    (subst (λ (xs : List (List ℕ)). IsDirection none_sent (length xs) []) (sym no_got)
     (record { window = omega arith; below = omega arith; count = refl; kept = refl; acked_taken = omega arith; taken_numbered = omega arith }))
 
 -- where nothing is begun now nothing was before
@@ -138,7 +140,7 @@ shown_in x y b e e' es h m goes_on =
     let t = m.shown in
     let f = t.frame in
     let w' = with_begun x.node (x.wires b) e' in
-    let peers = Rattle.tipc_contact.proofs.Sessions.turned _ _ _ _ m.peers in
+    let peers = turned _ _ _ _ m.peers in
     let end : fsm_in (put_at x.wires b w' f.bearer).end ≡ Some e'.fsm = ap (λ c. fsm_in (put_at x.wires b w' c).end) t.bearer_is ∙ ap (λ (w : Wire). fsm_in w.end) (put_same x.wires b w') in
     sent_in_contact (side_of y) (side_of (with_wire x b w')) (said_by y) (said_by x) peers t.place (notice_of f) e'.fsm (map_at notice_of y.told t.place f t.there) end
     (m.peer_is ∙ ap Some (sym t.es_is)) (t.er_is ∙ sym m.raised.epoch) (ap is_last t.es_is ∙ goes_on) (ap is_last m.raised.epoch ∙ m.raised.goes_on)

@@ -1,6 +1,5 @@
 -- What happens to a session: it reads an acknowledgement, takes packets, and numbers those that wait.
 use Rattle.std.proofs.Common.{◌≡◌, ◌⊎◌, ℕ, ◌<◌, ◌^◌, true, List, [], Option, Some, length, refl, sym, ap, ◌∙◌, subst, inl, inr, arith}
-use Rattle.std.specs.Prelude.{slice_get}
 use Rattle.tipc_header.specs.Frames.{frame_of}
 use Rattle.tipc_header.specs.Spelling.{Fields, spelling}
 use Rattle.tipc_link.specs.Direction.{IsDirection}
@@ -9,9 +8,7 @@ use Rattle.tipc_link.specs.Sessions.{SessionEnd, released}
 use Rattle.tipc_link.proofs.Directions.{releases as direction_releases}
 use Rattle.tipc_link.proofs.LinkLaw.{Each}
 use Rattle.tipc_pair.proofs.Ends.{Alike}
-use Rattle.tipc_pair.proofs.Frames.{er_of-frame, es_of-frame}
-use Rattle.tipc_pair.proofs.SessionsHeard.{same_packet}
-use Rattle.tipc_pair.specs.Paired.{IsPacket}
+use Rattle.tipc_partners.proofs.Frames.{er_of-frame, es_of-frame, same_packet}
 use Rattle.tipc_partners.proofs.Ends.{still_end}
 use Rattle.tipc_partners.proofs.EpochsKept.{epochs_steady, session_is, steady_session, still_session}
 use Rattle.tipc_partners.proofs.Growing.{Grows}
@@ -19,8 +16,11 @@ use Rattle.tipc_partners.proofs.Sides.{peers_still}
 use Rattle.tipc_partners.proofs.WireDeeds.{wire_deed}
 use Rattle.tipc_partners.proofs.Wires.{prefix_same, same_some, session_of_up}
 use Rattle.tipc_partners.specs.Deeds.{Hears, IsUp, with_going}
-use Rattle.tipc_partners.specs.Paired.{ArePaired, IsEnd, IsFrame, IsGoing, IsOfSession, IsWire, Met}
-use Rattle.tipc_partners.specs.Views.{Begun, Frame, View, Wire, er_of, es_of, put_at, session_on, with_end, with_wire}
+use Rattle.tipc_partners.specs.Paired.{ArePaired, IsEnd, IsFrame, IsGoing, IsOfSession, IsPacket, IsWire, Met}
+use Rattle.tipc_partners.specs.Views.{Frame, View, Wire, er_of, es_of, fsm_in, with_wire}
+use Rattle.std.specs.Prelude.{Bool}
+use Rattle.tipc_contact.specs.Sides.{boot_of}
+use Rattle.tipc_header.specs.Grammar.{Fits}
 
 alike_same : (s s' : SessionEnd) → s'.own ≡ s.own → s'.peer ≡ s.peer → s'.bearer ≡ s.bearer → s'.epoch ≡ s.epoch → s'.peer_epoch ≡ s.peer_epoch → Alike s s'
 alike_same s s' own peer bearer epoch peer_epoch = record { own = own; peer = peer; bearer = bearer; epoch = epoch; peer_epoch = peer_epoch }
@@ -42,7 +42,7 @@ session_step x y b e s s' line got h up alike grows wire =
       end = end;
       wire = wire;
       epochs = epochs_steady x.node b x.told y.told (x.wires b) w' (y.wires b) (h.here.epochs b) (steady_session x.node (x.wires b) e s s' line got up alike);
-      peers = peers_still x y b w' h (sym (ap (λ (o : Option LinkEnd). Rattle.tipc_partners.specs.Views.fsm_in o) up.end_is));
+      peers = peers_still x y b w' h (sym (ap (λ (o : Option LinkEnd). fsm_in o) up.end_is));
     })
 
 -- where nothing was numbered or taken
@@ -79,7 +79,7 @@ going_of x y b e s h up = (h.here.wires b).going s (session_of_up (x.wires b) e 
 
 -- ---- something is kept for the answers, and packets wait
 
-pub notes_paired : (x y : View) (b : ℕ) (e : LinkEnd) (s : SessionEnd) (shown unanswered : ℕ) (owes : Rattle.std.specs.Prelude.Bool) → ArePaired x y → IsUp (x.wires b) e s
+pub notes_paired : (x y : View) (b : ℕ) (e : LinkEnd) (s : SessionEnd) (shown unanswered : ℕ) (owes : Bool) → ArePaired x y → IsUp (x.wires b) e s
     → ArePaired (with_wire x b (with_going (x.wires b) e (record s { shown = shown; unanswered = unanswered; owes = owes }))) y
 notes_paired x y b e s shown unanswered owes h up =
     let w = x.wires b in
@@ -117,7 +117,7 @@ puts_paired x y b e s waiting h up packets =
 -- ---- a frame of the peer
 
 -- what was read of a frame is what was written
-pub of_session : (own : ℕ) (v w : Wire) (f : Frame) (es er : ℕ) (p : Fields) → IsFrame own v w f → es < 2 ^ 64 → er < 2 ^ 64 → Rattle.tipc_header.specs.Grammar.Fits p → f.bytes ≡ frame_of es er (spelling p) → is_traffic p.header ≡ true → IsOfSession v w f es er p
+pub of_session : (own : ℕ) (v w : Wire) (f : Frame) (es er : ℕ) (p : Fields) → IsFrame own v w f → es < 2 ^ 64 → er < 2 ^ 64 → Fits p → f.bytes ≡ frame_of es er (spelling p) → is_traffic p.header ≡ true → IsOfSession v w f es er p
 of_session own v w f es er p h es_fits er_fits fits bytes traffic =
     let same_es : h.es ≡ es = sym (es_of-frame h.es h.er (spelling h.packet) h.es_fits h.er_fits) ∙ ap es_of (sym h.bytes ∙ bytes) ∙ es_of-frame es er (spelling p) es_fits er_fits in
     let same_er : h.er ≡ er = sym (er_of-frame h.es h.er (spelling h.packet) h.es_fits h.er_fits) ∙ ap er_of (sym h.bytes ∙ bytes) ∙ er_of-frame es er (spelling p) es_fits er_fits in
@@ -126,7 +126,7 @@ of_session own v w f es er p h es_fits er_fits fits bytes traffic =
     subst (λ q. IsOfSession v w f es er q) same (subst (λ n. IsOfSession v w f es n h.packet) same_er (subst (λ n. IsOfSession v w f n h.er h.packet) same_es session))
 
 -- the epochs of a session have 64 bits
-pub epoch_small : (epoch boot : ℕ) → Rattle.tipc_contact.specs.Sides.boot_of epoch ≡ boot → boot < 2 ^ 32 → epoch < 2 ^ 64
+pub epoch_small : (epoch boot : ℕ) → boot_of epoch ≡ boot → boot < 2 ^ 32 → epoch < 2 ^ 64
 epoch_small epoch boot is fits = omega arith
 
 pub record FitsEpochs (s : SessionEnd) : Type 0 where

@@ -10,14 +10,13 @@ use Rattle.tipc_link.specs.Sessions.{Carries, SessionEnd, brought, content_of, d
 use Rattle.tipc_link.proofs.Directions.{moves_up, taken_recently}
 use Rattle.tipc_link.proofs.LinkLaw.{Each, Each-append}
 use Rattle.tipc_pair.proofs.Receivings.{received}
-use Rattle.tipc_pair.proofs.Sessions.{each_front}
-use Rattle.tipc_pair.specs.Paired.{IsPacket}
+use Rattle.tipc_partners.proofs.Packets.{each_front}
 use Rattle.tipc_pair.specs.Pairs.{packets_in}
 use Rattle.tipc_partners.proofs.EpochsKept.{session_is}
 use Rattle.tipc_partners.proofs.SessionDeeds.{hears_session, met_or_none, met_same, session_step}
 use Rattle.tipc_partners.proofs.Wires.{none_some, on_put, on_put_else, prefix_append, prefix_long, prefix_same, put_same, same_some, session_of_up}
 use Rattle.tipc_partners.specs.Deeds.{Hears, IsUp, with_going, with_taken}
-use Rattle.tipc_partners.specs.Paired.{ArePaired, IsGoing, Met}
+use Rattle.tipc_partners.specs.Paired.{ArePaired, IsGoing, IsPacket, Met}
 use Rattle.tipc_partners.specs.Views.{View, Wire, put_at, with_wire}
 
 -- ---- lists

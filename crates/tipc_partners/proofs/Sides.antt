@@ -1,15 +1,26 @@
 -- A node as a side of its contacts, through its deeds.
-use Rattle.std.proofs.Common.{◌≡◌, ℕ, ◌==◌, if◌then◌else◌, Some, refl, sym, ap, ◌∙◌, subst, inl, inr}
+use Rattle.std.proofs.Common.{◌==◌, ◌∙◌, ◌≡◌, Option, Some, ap, if◌then◌else◌, inl, inr, refl, subst, sym, ℕ}
+use Rattle.std.proofs.Math.Path.{fun_ext}
+use Rattle.tipc_link_fsm.specs.Runs.{ActivateArrives, BearerIsCut, Call, ContactEnds, ForgetsPeer, Releases, ResetArrives, TickPasses, TrafficArrives, TunnelNames, outcome}
+use Rattle.tipc_link_fsm.specs.Table.{Fsm}
 use Rattle.tipc_contact.specs.Peers.{ArePeers}
-use Rattle.tipc_contact.specs.Sides.{EndCalled, MayCall as MayCallEnd, acted, after_call}
+use Rattle.tipc_contact.specs.Sides.{EndCalled, MayCall as MayCallEnd, Side, acted, after_call}
 use Rattle.tipc_contact.proofs.Sessions.{acts}
 use Rattle.tipc_link.specs.Links.{LinkEnd}
-use Rattle.tipc_link_fsm.specs.Runs.{Call, ActivateArrives, BearerIsCut, ContactEnds, ForgetsPeer, Releases, ResetArrives, TickPasses, TrafficArrives, TunnelNames, outcome}
-use Rattle.tipc_pair.proofs.PeeringLeads.{same_side}
-use Rattle.tipc_partners.proofs.Wires.{on_put, put_other, put_same}
 use Rattle.tipc_partners.specs.Deeds.{MayCall}
 use Rattle.tipc_partners.specs.Paired.{ArePaired}
 use Rattle.tipc_partners.specs.Views.{View, Wire, fsm_in, put_at, said_by, side_of, with_wire}
+use Rattle.tipc_partners.proofs.Wires.{on_put, put_other, put_same}
+use Rattle.std.proofs.lemmas.Bool.{cases_eq}
+use Rattle.tipc_contact.proofs.Speaking.{at_other, at_same}
+
+-- sides of one link end are the same where what they keep is
+pub same_side : (own own' seen seen' : ℕ) (ends ends' : ℕ → Option Fsm) → own' ≡ own → seen' ≡ seen → ((x : ℕ) → ends x ≡ ends' x)
+    → ◌≡◌ {A = Side} (record { own = own; seen = seen; ends = ends }) (record { own = own'; seen = seen'; ends = ends' })
+same_side own own' seen seen' ends ends' same_own same_seen same_ends =
+    ap (λ o. record { own = o; seen = seen; ends = ends }) (sym same_own)
+    ∙ ap (λ n. record { own = own'; seen = n; ends = ends }) (sym same_seen)
+    ∙ ap (λ es. record { own = own'; seen = seen'; ends = es }) (fun_ext same_ends)
 
 -- a deed on one wire that leaves its link states as they were leaves the side as it was
 pub side_still : (x : View) (b : ℕ) (w' : Wire) → fsm_in w'.end ≡ fsm_in (x.wires b).end → side_of (with_wire x b w') ≡ side_of x
@@ -36,9 +47,9 @@ pub side_called : (x : View) (b : ℕ) (w' : Wire) (e : LinkEnd) (call : Call) �
 side_called x b w' e call is after =
     let here : (c : ℕ) → c ≡ b → after_call call (fsm_in (x.wires c).end) ≡ fsm_in w'.end = λ c same. ap (λ k. after_call call (fsm_in (x.wires k).end)) same ∙ ap (λ o. after_call call (fsm_in o)) is ∙ sym after in
     let at : (c : ℕ) → (if c == b then after_call call (fsm_in (x.wires c).end) else fsm_in (x.wires c).end) ≡ fsm_in (put_at x.wires b w' c).end =
-    λ c. elim (Rattle.std.proofs.lemmas.Bool.cases_eq c b) [
-      | inl same ↦ Rattle.tipc_contact.proofs.Speaking.at_same c b _ _ same ∙ here c same ∙ ap (λ (w : Wire). fsm_in w.end) (sym (ap (put_at x.wires b w') same ∙ put_same x.wires b w'))
-      | inr other ↦ Rattle.tipc_contact.proofs.Speaking.at_other c b _ _ other ∙ ap (λ (w : Wire). fsm_in w.end) (sym (put_other x.wires b w' c other))
+    λ c. elim (cases_eq c b) [
+      | inl same ↦ at_same c b _ _ same ∙ here c same ∙ ap (λ (w : Wire). fsm_in w.end) (sym (ap (put_at x.wires b w') same ∙ put_same x.wires b w'))
+      | inr other ↦ at_other c b _ _ other ∙ ap (λ (w : Wire). fsm_in w.end) (sym (put_other x.wires b w' c other))
     ] in
     same_side x.node.contact x.node.contact x.node.seen x.node.seen _ _ refl refl at
 

@@ -10,8 +10,7 @@ use Rattle.tipc_link.specs.Laws.{IsPrefixOf}
 use Rattle.tipc_link.specs.Links.{LinkEnd, answered_end, answered_frames, is_traffic, mend_frames, mended_end}
 use Rattle.tipc_link_fsm.specs.Table.{on_cut, on_tick}
 use Rattle.tipc_types.specs.declared.link_words.BroadcastState.{BroadcastState}
-use Rattle.tipc_pair.proofs.SessionsHeard.{same_packet}
-use Rattle.tipc_pair.specs.Paired.{IsShowable}
+use Rattle.tipc_partners.proofs.Frames.{same_packet}
 use Rattle.tipc_pair.specs.Pairs.{arrival, change_of, cut_pair, tick_frames, tick_pair}
 use Rattle.tipc_pair.specs.Partners.{IsMessage, OpensTo, begun_after, opened_in}
 use Rattle.tipc_partners.proofs.Arrivals.{arrival_met, arrival_stepped}
@@ -23,7 +22,7 @@ use Rattle.tipc_partners.proofs.Seeing.{only_end, stepped_seen, told_still}
 use Rattle.tipc_partners.proofs.Truth.{told_true}
 use Rattle.tipc_partners.proofs.Wires.{none_some}
 use Rattle.tipc_partners.specs.Deeds.{made_on, restarted as begun_again, restarts}
-use Rattle.tipc_partners.specs.Paired.{IsEnd, IsNew as IsNewView}
+use Rattle.tipc_partners.specs.Paired.{IsEnd, IsNew as IsNewView, IsShowable}
 use Rattle.tipc_partners.specs.Partners.{ActsAll, beginning, changes, follows, nothing, renewed}
 use Rattle.tipc_partners.specs.Sights.{ArrivesSeen, AreSeen, Comes, CutsSeen, GivesSeen, EndsSeen, FramesSeen, FrontsSeen, Goes, IsNew, IsSeen, KnowsSeen, MendsSeen, PutsSeen, RestartsSeen, Sight, StartsSeen, TicksSeen, TruthsSeen, TurnedSeen}
 use Rattle.tipc_partners.specs.Truth.{IsTold}

@@ -15,16 +15,14 @@ use Rattle.tipc_link.specs.Sessions.{SessionEnd, packet_frame, state_frame}
 use Rattle.tipc_link.proofs.Directions.{IsCarried-kept}
 use Rattle.tipc_link.proofs.LinkLaw.{Each-append, Each-one}
 use Rattle.tipc_link_fsm.specs.Table.{is_up}
-use Rattle.tipc_pair.proofs.Frames.{IsSaid, IsWorded, er_of-frame, es_of-frame, packet_said, state_said}
-use Rattle.tipc_pair.proofs.SpokenNotices.{packet_says, state_says, traffic_shows}
-use Rattle.tipc_pair.specs.Paired.{ShowsContact}
+use Rattle.tipc_partners.proofs.Frames.{IsSaid, IsWorded, er_of-frame, es_of-frame, packet_said, packet_says, state_said, state_says, traffic_shows}
 use Rattle.tipc_partners.proofs.Growing.{half_back}
 use Rattle.tipc_partners.proofs.Mutual.{taken_met}
 use Rattle.tipc_partners.proofs.SessionDeeds.{epoch_small, epochs_fit}
 use Rattle.tipc_partners.proofs.WireDeeds.{agree_turned, grows_same}
 use Rattle.tipc_partners.proofs.Wires.{epoch_of_end, is_up_of, none_some, same_some, session_of_down, session_of_up}
 use Rattle.tipc_partners.specs.Deeds.{IsUp, MayTell, activates, framed, resets, sends, states}
-use Rattle.tipc_partners.specs.Paired.{ArePaired, IsEnd, IsEpochs, IsFrame, IsGoing, IsNode}
+use Rattle.tipc_partners.specs.Paired.{ArePaired, IsEnd, IsEpochs, IsFrame, IsGoing, IsNode, ShowsContact}
 use Rattle.tipc_partners.specs.Views.{Begun, Frame, Node, View, Wire, epoch_on, er_of, es_of, fsm_in, notice_of, said_by, session_on, side_of, with_told}
 
 -- ---- what an end shows

@@ -10,7 +10,7 @@ use Rattle.tipc_link.specs.Direction.{IsDirection}
 use Rattle.tipc_link.specs.Sessions.{SessionEnd, advanced, flush_frames, flushed, moving, packet_frame, repeat_frames, repeated, room}
 use Rattle.tipc_link.proofs.Directions.{repeated_from, slice_get-append, slice_get-behind}
 use Rattle.tipc_link.proofs.LinkLaw.{Each}
-use Rattle.tipc_pair.proofs.Frames.{packet_frames-at}
+use Rattle.tipc_partners.proofs.Frames.{packet_frames-at}
 use Rattle.tipc_partners.proofs.PartnersLaw.{acts_then}
 use Rattle.tipc_partners.proofs.Wires.{map_at, mapped_at}
 use Rattle.tipc_partners.specs.Calls.{IsToldOn}

@@ -1,15 +1,13 @@
 -- What each call of a link end makes of its epochs, and whether the link is up.
 use Rattle.std.proofs.Common.{◌≡◌, ℕ, Bool, true, false, Option, Some, None, refl, sym, ap, ◌∙◌}
-use Rattle.std.specs.Prelude.{◌&&◌, ◌||◌, ◌==◌, nat_lt}
+use Rattle.std.specs.Prelude.{◌&&◌, ◌||◌, ◌==◌, nat_lt, nat_le, if◌then◌else◌}
 use Rattle.std.proofs.lemmas.Bool.{and_parts, ltb-false}
 use Rattle.tipc_types.specs.declared.link_words.LinkState.{LinkState}
 use Rattle.tipc_types.specs.declared.link_words.LinkState.TheVariants.{ResetUnknown, ResetReset, WorkingWorking, WorkingUnknown, Held}
-use Rattle.tipc_types.specs.declared.link_words.Reply.TheVariants as reply
-use Rattle.tipc_link_fsm.specs.declared.changes.Change.TheVariants.{Answer}
 use Rattle.tipc_link_fsm.specs.Runs.{Call, ActivateArrives, BearerIsCut, ContactEnds, ForgetsPeer, Releases, ResetArrives, TickPasses, TrafficArrives, TunnelNames, outcome}
 use Rattle.tipc_link_fsm.specs.Table.{Fsm, Outcome, is_held, is_peer, is_up, lowered, on_cut, on_peer_tunnel, on_reset, on_tick, release, tick_in, up_tick, unheard}
 use Rattle.tipc_link_fsm.proofs.Moves.{cases_on, is_up_held}
-use Rattle.tipc_pair.proofs.EndsTurns.{Turn, fall, is_quiet, learn, on_activate_turns, on_traffic_turns, stay}
+use Rattle.tipc_pair.proofs.EndsTurns.{Turn, fall, ignored, learn, on_activate_turns, on_traffic_turns, stay}
 
 -- the two epochs that a call's frame shows, where a link end reads them
 abbrev pub shown_to : Call → Option (ℕ × ℕ)
@@ -17,17 +15,6 @@ shown_to (ResetArrives es held) = Some (es, 0)
 shown_to (ActivateArrives es er) = Some (es, er)
 shown_to (TrafficArrives es er) = Some (es, er)
 shown_to other = None
-
--- a link end that stays as it was
-same : (f : Fsm) (shown : Option (ℕ × ℕ)) (o : Outcome) → o.after ≡ f → is_quiet o.change ≡ true → ((probe : Bool) → o.change ≡ Answer (reply.State probe) → is_up f.state ≡ true) → Turn f shown o
-same f shown o is quiet says = stay (record {
-  own = ap (λ (e : Fsm). e.own) is;
-  peer = ap (λ (e : Fsm). e.peer) is;
-  highest = ap (λ (e : Fsm). e.highest) is;
-  up = ap (λ (e : Fsm). is_up e.state) is;
-  quiet = quiet;
-  says = says;
-})
 
 lowered_down : (f : Fsm) (held : Bool) → is_up (lowered f held).state ≡ false
 lowered_down f true = refl
@@ -37,8 +24,8 @@ reset_turns : (f : Fsm) (es : ℕ) (held : Bool) → Turn f (Some (es, 0)) (on_r
 unfolding on_reset
 reset_turns f es held =
     let T : Outcome → Type 0 = Turn f (Some (es, 0)) in
-    cases_on T (is_held f.state) _ _ (λ _. same f _ _ refl refl (λ probe is. absurd (let wrong : ⊥ = cc in wrong)))
-    (λ _. cases_on T (nat_lt es f.highest || (is_up f.state && is_peer f.peer es)) _ _ (λ _. same f _ _ refl refl (λ probe is. absurd (let wrong : ⊥ = cc in wrong)))
+    cases_on T (is_held f.state) _ _ (λ _. ignored f _ _ refl refl (λ probe is. absurd (let wrong : ⊥ = cc in wrong)))
+    (λ _. cases_on T (nat_lt es f.highest || (is_up f.state && is_peer f.peer es)) _ _ (λ _. ignored f _ _ refl refl (λ probe is. absurd (let wrong : ⊥ = cc in wrong)))
     (λ high. cases_on T (is_up f.state) _ _
     (λ up. fall (record { cause = _; own = refl; peer = refl; highest = refl; was = up; down = lowered_down f held; change = refl }))
     (λ down. learn (record {
@@ -63,24 +50,24 @@ unfolding on_cut
 cut_turns f held shown =
     cases_on (Turn f shown) (is_up f.state) _ _
     (λ up. fall (record { cause = _; own = refl; peer = refl; highest = refl; was = up; down = lowered_down f held; change = refl }))
-    (λ _. same f _ _ refl refl (λ probe is. absurd (let wrong : ⊥ = cc in wrong)))
+    (λ _. ignored f _ _ refl refl (λ probe is. absurd (let wrong : ⊥ = cc in wrong)))
 
 tunnel_turns : (f : Fsm) (epoch : ℕ) (shown : Option (ℕ × ℕ)) → Turn f shown (on_peer_tunnel f epoch)
 unfolding on_peer_tunnel
 tunnel_turns f epoch shown =
     cases_on (Turn f shown) (is_up f.state && is_peer f.peer epoch) _ _
     (λ both. fall (record { cause = _; own = refl; peer = refl; highest = refl; was = (and_parts (is_up f.state) _ both).0; down = refl; change = refl }))
-    (λ _. same f _ _ refl refl (λ probe is. absurd (let wrong : ⊥ = cc in wrong)))
+    (λ _. ignored f _ _ refl refl (λ probe is. absurd (let wrong : ⊥ = cc in wrong)))
 
 release_turns : (f : Fsm) (shown : Option (ℕ × ℕ)) → Turn f shown (release f)
 unfolding release
 release_turns f shown =
     cases_on (Turn f shown) (is_held f.state) _ _
     (λ held. stay (record { own = refl; peer = refl; highest = refl; up = sym (is_up_held f.state held); quiet = refl; says = λ probe is. absurd (let wrong : ⊥ = cc in wrong) }))
-    (λ _. same f _ _ refl refl (λ probe is. absurd (let wrong : ⊥ = cc in wrong)))
+    (λ _. ignored f _ _ refl refl (λ probe is. absurd (let wrong : ⊥ = cc in wrong)))
 
 still_up : (f : Fsm) → is_up (unheard f).state ≡ true
-still_up f = elim (Rattle.std.specs.Prelude.nat_le 1 f.silent) as (λ b. is_up (Rattle.std.specs.Prelude.if◌then◌else◌ b WorkingUnknown WorkingWorking) ≡ true) [ true ↦ refl | false ↦ refl ]
+still_up f = elim (nat_le 1 f.silent) as (λ b. is_up (if b then WorkingUnknown else WorkingWorking) ≡ true) [ true ↦ refl | false ↦ refl ]
 
 up_tick_turns : (f : Fsm) (held : Bool) (shown : Option (ℕ × ℕ)) → is_up f.state ≡ true → Turn f shown (up_tick f held)
 up_tick_turns f held shown up =
@@ -89,9 +76,9 @@ up_tick_turns f held shown up =
     (λ _. stay (record { own = refl; peer = refl; highest = refl; up = still_up f ∙ sym up; quiet = refl; says = λ probe is. up }))
 
 tick_in_turns : (st : LinkState) (f : Fsm) (held : Bool) (shown : Option (ℕ × ℕ)) → f.state ≡ st → Turn f shown (tick_in st f held)
-tick_in_turns ResetUnknown f held shown is = same f _ _ refl refl (λ probe says. absurd (let wrong : ⊥ = cc in wrong))
-tick_in_turns ResetReset f held shown is = same f _ _ refl refl (λ probe says. absurd (let wrong : ⊥ = cc in wrong))
-tick_in_turns Held f held shown is = same f _ _ refl refl (λ probe says. absurd (let wrong : ⊥ = cc in wrong))
+tick_in_turns ResetUnknown f held shown is = ignored f _ _ refl refl (λ probe says. absurd (let wrong : ⊥ = cc in wrong))
+tick_in_turns ResetReset f held shown is = ignored f _ _ refl refl (λ probe says. absurd (let wrong : ⊥ = cc in wrong))
+tick_in_turns Held f held shown is = ignored f _ _ refl refl (λ probe says. absurd (let wrong : ⊥ = cc in wrong))
 tick_in_turns WorkingWorking f held shown is = up_tick_turns f held shown (ap is_up is)
 tick_in_turns WorkingUnknown f held shown is = up_tick_turns f held shown (ap is_up is)
 

@@ -1,9 +1,12 @@
 -- What holds of the two nodes of a pair at every moment, whatever either does and whatever arrives, by bearer and session.
-use Rattle.std.specs.Prelude.{◌≡◌, ◌≢◌, ◌<◌, ◌≤◌, ◌⊎◌, ℕ, ◌+◌, ◌^◌, true, false, List, [], Some, None, length, slice_get}
+use Rattle.std.specs.Prelude.{[], ◌+◌, ◌<◌, ◌^◌, ◌≡◌, ◌≢◌, ◌≤◌, ◌⊎◌, List, None, Some, false, length, slice_get, true, ℕ}
 use Rattle.tipc_types.specs.Position.{number_of}
-use Rattle.tipc_header.specs.Frames.{frame_of}
+use Rattle.tipc_types.specs.declared.link_words.BroadcastState.{BroadcastState}
+use Rattle.tipc_header.specs.Frames.{frame_of, sent_as}
 use Rattle.tipc_header.specs.Grammar.{Fits}
 use Rattle.tipc_header.specs.Spelling.{Fields, spelling}
+use Rattle.tipc_header.specs.declared.packet.Header.{Header}
+use Rattle.tipc_header.specs.declared.packet.Header.TheVariants as header
 use Rattle.tipc_link_fsm.specs.Table.{is_last, is_up}
 use Rattle.tipc_contact.specs.Peers.{ArePeers}
 use Rattle.tipc_contact.specs.Sides.{boot_of, first_number}
@@ -11,8 +14,29 @@ use Rattle.tipc_link.specs.Direction.{IsCarried, IsDirection, IsReceiver}
 use Rattle.tipc_link.specs.Laws.{IsPrefixOf}
 use Rattle.tipc_link.specs.Links.{LinkEnd, is_traffic}
 use Rattle.tipc_link.specs.Sessions.{Carries, SessionEnd, content_of}
-use Rattle.tipc_pair.specs.Paired.{IsPacket, ShowsContact}
 use Rattle.tipc_partners.specs.Views.{Begun, Frame, Node, View, Wire, epoch_on, er_of, es_of, said_by, session_on, side_of, unused}
+
+-- ---- packets, and what they show
+
+-- a packet that this node can put on a link: sent by it under any number, it is a packet with that number
+pub record IsPacket (own : ℕ) (bytes : List ℕ) : Type 0 where
+  pub packet : Fields
+  pub spelled : bytes ≡ spelling packet
+  pub fits : (acknowledgement number : ℕ) → acknowledgement < 2 ^ 16 → number < 2 ^ 16 → own < 2 ^ 32 → Fits (sent_as acknowledgement number own packet)
+  pub carried : (acknowledgement number : ℕ) → content_of (sent_as acknowledgement number own packet) ≡ Carries number bytes
+
+-- a RESET or an ACTIVATE shows these contact numbers
+abbrev pub ShowsContact : Header → ℕ → ℕ → Type 0
+ShowsContact (header.Reset r) own theirs = (r.contact ≡ own) × (r.peer_contact ≡ theirs)
+ShowsContact (header.Activate a) own theirs = (a.contact ≡ own) × (a.peer_contact ≡ theirs)
+ShowsContact other own theirs = Unit {0}
+
+-- what a STATE says of broadcast has 16 bits each
+pub record IsShowable (shown : BroadcastState) : Type 0 where
+  pub acknowledged : shown.acknowledged < 2 ^ 16
+  pub next : shown.next < 2 ^ 16
+  pub start : shown.start < 2 ^ 16
+  pub gap : shown.gap < 2 ^ 16
 
 -- ---- a node and its link ends
 

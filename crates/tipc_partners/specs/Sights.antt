@@ -15,11 +15,10 @@ use Rattle.tipc_link.specs.Links.{LinkEnd, answered_end, answered_frames, is_tra
 use Rattle.tipc_link.specs.Sessions.{IsPut, SessionEnd, flush_frames, flushed}
 use Rattle.tipc_link_fsm.specs.Table.{is_up, on_cut, on_tick}
 use Rattle.tipc_pair.specs.declared.changes.PairOutcome.{PairOutcome}
-use Rattle.tipc_pair.specs.Paired.{IsShowable}
 use Rattle.tipc_pair.specs.Pairs.{Met, arrival, change_of, cut_pair, tick_frames, tick_pair}
 use Rattle.tipc_pair.specs.Partners.{IsInContact, IsMessage, OpensTo, begun_after, opened_in, pieces_for}
 use Rattle.tipc_partners.specs.Deeds.{made_on}
-use Rattle.tipc_partners.specs.Paired.{IsEnd}
+use Rattle.tipc_partners.specs.Paired.{IsEnd, IsShowable}
 use Rattle.tipc_partners.specs.Partners.{ArePartners, Partner}
 use Rattle.tipc_partners.specs.Truth.{IsTold}
 use Rattle.tipc_partners.specs.Views.{Frame, Node, View, er_of, es_of}

@@ -1,25 +1,27 @@
--- The packets in which messages are sent can be put on a link.
-use Rattle.std.proofs.Common.{◌≡◌, ◌<◌, ◌≤◌, ◌^◌, ℕ, zero, suc, Bool, true, false, List, [], ◌∷◌, ◌++◌, length, map, nat_le, if◌then◌else◌, refl, sym, ap, ◌∙◌, subst, length-append, arith}
+-- The packets that can be put on a link: a message's own, bundles and fragments; and so all that waits after a message was put.
 use Rattle.std.specs.Prelude.{All}
-use Rattle.std.specs.List.{flat_map}
+use Rattle.std.proofs.Common.{[], ◌++◌, ◌-◌, ◌<◌, ◌∙◌, ◌∷◌, ◌≡◌, ◌≤◌, Bool, List, Some, ap, arith, false, get_or, if◌then◌else◌, length, length-append, map, nat_le, refl, subst, suc, sym, take, true, zero, ℕ}
 use Rattle.std.proofs.lemmas.Bool.Decides.{nat_tests}
-use Rattle.tipc_header.specs.declared.packet.Header.{Header}
-use Rattle.tipc_header.specs.declared.packet.Header.TheVariants as header
+use Rattle.std.proofs.lemmas.List.{get_or-take, length-map}
+use Rattle.std.proofs.lemmas.List.Elements.{All-append, All-tail}
+use Rattle.std.proofs.lemmas.Option.{get_or_from_slice_get, slice_get-get_or, slice_get_within}
 use Rattle.tipc_header.specs.Frames.{sent_as}
 use Rattle.tipc_header.specs.Grammar.{Fits, NumberingFits}
 use Rattle.tipc_header.specs.Spelling.{Fields, spelling}
+use Rattle.tipc_header.specs.declared.packet.Header.{Header}
+use Rattle.tipc_header.specs.declared.packet.Header.TheVariants as header
+use Rattle.tipc_fragments.specs.Cutting.{Piece, packet_of, packets_of, pieces_of}
+use Rattle.tipc_fragments.specs.Streams.{Single, items_of}
+use Rattle.tipc_fragments.proofs.CutLaws.{length-pieces_of, sent_fits}
 use Rattle.tipc_bundle.specs.Bundles.{IsInner, bundle_of, joined, may_stand_inside}
-use Rattle.std.proofs.lemmas.List.Elements.{All-append, All-map, All-tail}
 use Rattle.tipc_bundle.proofs.Bundling.{joined_several, several_fit}
 use Rattle.tipc_bundle.proofs.InnerLaws.{inner-most}
-use Rattle.tipc_fragments.specs.Cutting.{Piece, packet_of, packets_of, pieces_of}
-use Rattle.tipc_fragments.specs.Streams.{Part, Single, items_of}
-use Rattle.tipc_fragments.proofs.CutLaws.{all_pieces, is_piece, sent_fits}
-use Rattle.tipc_reassembly.specs.Slots.{Fragment, Group, IsCut, IsSlot, Slot, slot_bytes, slot_items}
-use Rattle.tipc_link.specs.Sessions.{Carries, as_waiting, content_by, content_of, previous_waiting}
-use Rattle.tipc_link.proofs.LinkLaw.{Each, Each-one}
-use Rattle.tipc_pair.specs.Paired.{IsPacket}
+use Rattle.tipc_reassembly.specs.Slots.{IsCut}
+use Rattle.tipc_link.specs.Sessions.{Carries, IsPut, SessionEnd, as_waiting, content_by, content_of, joins, previous_waiting, waits}
+use Rattle.tipc_link.proofs.LinkLaw.{Each, Each-append, Each-one}
 use Rattle.tipc_pair.specs.Partners.{IsMessage, pieces_for}
+use Rattle.tipc_pair.proofs.Pieces.{All-one, pieces_cut}
+use Rattle.tipc_partners.specs.Paired.{IsPacket}
 
 -- ---- a packet that can be put on a link
 
@@ -47,15 +49,15 @@ numbered_freely other acknowledgement sequence is = tt
 
 numbered_content : (own : ℕ) (p : Fields) (acknowledgement number : ℕ) → is_numbered p.header ≡ true → p ≡ as_waiting (sent_as 0 0 own p) → content_of (sent_as acknowledgement number own p) ≡ Carries number (spelling p)
 unfolding content_of
-numbered_content own p acknowledgement number is waits =
-    numbered_carries p.header number (spelling (as_waiting (sent_as 0 0 own p))) is ∙ ap (λ (q : Fields). Carries number (spelling q)) (sym waits)
+numbered_content own p acknowledgement number is waiting =
+    numbered_carries p.header number (spelling (as_waiting (sent_as 0 0 own p))) is ∙ ap (λ (q : Fields). Carries number (spelling q)) (sym waiting)
 
 can_be_put : (own : ℕ) (bytes : List ℕ) (p : Fields) → bytes ≡ spelling p → Fits p → p ≡ as_waiting (sent_as 0 0 own p) → is_numbered p.header ≡ true → IsPacket own bytes
-can_be_put own bytes p spelled f waits is = record {
+can_be_put own bytes p spelled f waiting is = record {
   packet = p;
   spelled = spelled;
   fits = λ acknowledgement number a n m. record { acknowledgement = a; sequence = n; previous = m; header = f.header; numbering = numbered_freely p.header acknowledgement number is; rest = f.rest; size = f.size };
-  carried = λ acknowledgement number. numbered_content own p acknowledgement number is waits ∙ ap (Carries number) (sym spelled);
+  carried = λ acknowledgement number. numbered_content own p acknowledgement number is waiting ∙ ap (Carries number) (sym spelled);
 }
 
 inside_numbered : (h : Header) → may_stand_inside h ≡ true → is_numbered h ≡ true
@@ -90,47 +92,10 @@ bundle_packet own packets inner several short = can_be_put own (joined packets) 
 fragment_packet : (own : ℕ) (piece : Piece) → IsCut piece → IsPacket own (spelling (packet_of piece))
 fragment_packet own piece h = can_be_put own (spelling (packet_of piece)) (packet_of piece) refl (sent_fits piece 0 0 0 h.first h.number h.some h.most (omega arith) (omega arith) (omega arith)) refl refl
 
--- ---- the slots of a message
-
--- what is put into the packets of a message
-unfoldable pub slots_for : List ℕ → List Slot
-slots_for m = if nat_le (length m) 1452 then Group (m ∷ []) ∷ [] else map Fragment (pieces_of m)
-
-cut_bytes : (pieces : List Piece) → map slot_bytes (map Fragment pieces) ≡ map (λ p. spelling (packet_of p)) pieces
-cut_bytes [] = refl
-cut_bytes (p ∷ pieces) = ap (λ xs. spelling (packet_of p) ∷ xs) (cut_bytes pieces)
-
-cut_items : (pieces : List Piece) → flat_map slot_items (map Fragment pieces) ≡ map Part pieces
-cut_items [] = refl
-cut_items (p ∷ pieces) = ap (λ xs. Part p ∷ xs) (cut_items pieces)
-
-pub slots_for-bytes : (m : List ℕ) → map slot_bytes (slots_for m) ≡ pieces_for m
-unfolding slots_for pieces_for joined
-slots_for-bytes m = elim (nat_le (length m) 1452) as (λ b. map slot_bytes (if b then Group (m ∷ []) ∷ [] else map Fragment (pieces_of m)) ≡ (if b then m ∷ [] else packets_of m)) [ true ↦ refl | false ↦ cut_bytes (pieces_of m) ]
-
-pub slots_for-items : (m : List ℕ) → flat_map slot_items (slots_for m) ≡ items_of m
-unfolding slots_for
-slots_for-items m = elim (nat_le (length m) 1452) as (λ b. flat_map slot_items (if b then Group (m ∷ []) ∷ [] else map Fragment (pieces_of m)) ≡ (if b then Single m ∷ [] else map Part (pieces_of m))) [ true ↦ refl | false ↦ cut_items (pieces_of m) ]
-
-pub All-one : {A : Type 0} (P : A → Type 0) (x : A) → P x → All P (x ∷ [])
-All-one P x h zero d within = h
-All-one P x h (suc k) d within = absurd (omega arith)
-
 each_cut : (own : ℕ) (pieces : List Piece) → All IsCut pieces → Each (IsPacket own) (map (λ p. spelling (packet_of p)) pieces)
 each_cut own [] h k bytes is = absurd (let none : ⊥ = cc in none)
 each_cut own (p ∷ pieces) h zero bytes is = let same : spelling (packet_of p) ≡ bytes = cc in subst (IsPacket own) same (fragment_packet own p (h 0 p (omega arith)))
 each_cut own (p ∷ pieces) h (suc k) bytes is = each_cut own pieces (All-tail IsCut p pieces h) k bytes is
-
-pub pieces_cut : (m : List ℕ) → length m < 2 ^ 17 → All IsCut (pieces_of m)
-pieces_cut m short = all_pieces IsCut m (λ before within. (let is = is_piece m before within in let number = is.number in record { first = omega arith; number = omega arith; some = is.some; most = is.most }))
-
-pub slots_for-sound : (m : List ℕ) → IsInner m → All IsSlot (slots_for m)
-unfolding slots_for joined
-slots_for-sound m h =
-    elim (nat_le (length m) 1452) as (λ b. nat_le (length m) 1452 ≡ b → All IsSlot (if b then Group (m ∷ []) ∷ [] else map Fragment (pieces_of m))) [
-      | true ↦ λ short. All-one IsSlot (Group (m ∷ [])) (record { some = omega arith; inner = All-one IsInner m (h); within = grind (arith, nat_tests, short) })
-      | false ↦ λ long. All-map IsSlot Fragment (pieces_of m) (pieces_cut m (inner-most m (h)))
-    ] refl
 
 -- each packet of a message can be put on a link
 pub pieces_packets : (own : ℕ) (m : List ℕ) → IsMessage own m → Each (IsPacket own) (pieces_for m)
@@ -145,3 +110,47 @@ pieces_packets own m h =
 pub joined_packet : (own : ℕ) (packets : List (List ℕ)) (m : List ℕ) → 0 < length packets → All IsInner packets → IsMessage own m → length (joined (packets ++ m ∷ [])) ≤ 1452 → IsPacket own (joined (packets ++ m ∷ []))
 joined_packet own packets m some inner h short =
     bundle_packet own (packets ++ m ∷ []) (All-append IsInner packets (m ∷ []) inner (All-one IsInner m (message_inner own m h))) (omega (arith, length-append packets (m ∷ []), some)) short
+
+-- ---- what waits
+
+pub length-take-most : {A : Type 0} (n : ℕ) (xs : List A) → length (take n xs) ≤ n
+length-take-most zero xs = omega arith
+length-take-most (suc n) [] = omega arith
+length-take-most (suc n) (x ∷ xs) = let h = length-take-most n xs in omega arith
+
+pub length-take-short : {A : Type 0} (n : ℕ) (xs : List A) → length (take n xs) ≤ length xs
+length-take-short zero xs = omega arith
+length-take-short (suc n) [] = omega arith
+length-take-short (suc n) (x ∷ xs) = let h = length-take-short n xs in omega arith
+
+-- of packets that can be sent, those that move up and those that don't can be sent
+pub each_front : {own : ℕ} (n : ℕ) (xs : List (List ℕ)) → Each (IsPacket own) xs → Each (IsPacket own) (take n xs)
+each_front n xs h k bytes is =
+    let within = slice_get_within (take n xs) k bytes is in
+    let most = length-take-most n xs in
+    let short = length-take-short n xs in
+    let value : get_or xs k bytes ≡ bytes = sym (get_or-take n xs k bytes (omega arith)) ∙ get_or_from_slice_get (take n xs) k bytes bytes is in
+    h k bytes (slice_get-get_or xs k bytes (omega arith) ∙ ap Some value)
+
+-- a message in one packet is that packet
+pub one_piece : (m packet : List ℕ) → pieces_for m ≡ packet ∷ [] → (m ≡ packet) × (items_of m ≡ Single m ∷ [])
+unfolding pieces_for
+one_piece m packet is =
+    elim (nat_le (length m) 1452) as (λ b. nat_le (length m) 1452 ≡ b → (if b then m ∷ [] else packets_of m) ≡ packet ∷ [] → (m ≡ packet) × (items_of m ≡ Single m ∷ [])) [
+      | true ↦ λ short same. (let one : m ≡ packet = cc in (one, rw short refl))
+      | false ↦ λ long same. absurd (
+          let many : length (packets_of m) ≡ 1 = ap (λ (xs : List (List ℕ)). length xs) same in
+          let count = length-map (pieces_of m) (λ (p : Piece). spelling (packet_of p)) in
+          let pieces = length-pieces_of m in
+          let over : 1452 < length m = grind (arith, nat_tests, long) in
+          omega arith)
+    ] refl is
+
+-- what waits then can be sent
+pub more_packets : (own : ℕ) (m : List ℕ) (s s' : SessionEnd) (pieces : List (List ℕ)) → pieces ≡ pieces_for m → IsPut s pieces s' → Each (IsPacket own) s.sending.waiting → IsMessage own m → Each (IsPacket own) s'.sending.waiting
+more_packets own m s _ _ is (joins packets packet may) before message =
+    let one = one_piece m packet (sym is) in
+    Each-append (IsPacket own) (take (length s.sending.waiting - 1) s.sending.waiting) (joined (packets ++ packet ∷ []) ∷ []) (each_front (length s.sending.waiting - 1) s.sending.waiting before)
+    (Each-one (IsPacket own) (joined (packets ++ packet ∷ [])) (subst (λ p. IsPacket own (joined (packets ++ p ∷ []))) one.0 (joined_packet own packets m may.last.some may.last.inner message (subst (λ p. length (joined (packets ++ p ∷ [])) ≤ 1452) (sym one.0) may.fits))))
+more_packets own m s _ _ is (waits pieces apart) before message =
+    Each-append (IsPacket own) s.sending.waiting pieces before (subst (Each (IsPacket own)) (sym is) (pieces_packets own m message))
