@@ -1,8 +1,10 @@
 pub mod ContactLaws
+pub mod CountLaws
 pub mod DueLaws
 pub mod FateLaws
 pub mod Following
 pub mod Insides
+pub mod LicenceLaws
 pub mod MatchLaws
 pub mod NameLaws
 pub mod PrefixLaws

@@ -65,7 +65,7 @@ stream_eq_false s t other =
     elim (stream_cases s t) as (λ _. stream_eq s t ≡ false) [ inl e ↦ absurd (other e) | inr e ↦ e ]
 
 -- one more item of a list that is read for some of its entries
-filter_map_more : {X Y : Type 0} (h : X → Option Y) (xs : List X) (x : X)
+pub filter_map_more : {X Y : Type 0} (h : X → Option Y) (xs : List X) (x : X)
     → filter_map h (xs ++ x ∷ []) ≡ list_with (filter_map h xs) (h x)
 filter_map_more {X} {Y} h xs x =
     let P : Option Y → Type 0 = λ o. filter_map h xs ++ cons_option o [] ≡ list_with (filter_map h xs) o in

@@ -1,10 +1,13 @@
 pub mod Contacts
+pub mod Counting
 pub mod Dues
 pub mod Fates
+pub mod Licensed
 pub mod Matches
 pub mod Names
 pub mod Prefixes
 pub mod Queues
+pub mod Refusals
 pub mod Room
 pub mod Steps
 pub mod Streams

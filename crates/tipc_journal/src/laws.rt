@@ -1,21 +1,24 @@
 //! Laws of what a journal is read for. Each says what one more entry, or one more step, changes, so that
 //! no caller has to look into a whole journal. They do nothing when they run.
 
-ghost use Rattle.std.specs.Prelude.{◌≡◌, ◌<◌, ◌+◌, ℕ, Bool, true, not, List, [], ◌∷◌, ◌++◌, if◌then◌else◌, drop, filter, length};
-ghost use Rattle.std.specs.List.{list_all, list_any};
+ghost use Rattle.std.specs.Prelude.{◌≡◌, ◌<◌, ◌+◌, ◌&&◌, nat_lt, ℕ, Bool, true, not, List, [], ◌∷◌, ◌++◌, if◌then◌else◌, drop, filter, length};
+ghost use Rattle.std.specs.List.{All, list_all, list_any};
 ghost use Rattle.tipc_types.specs.declared.services.Publication.{Publication};
 ghost use Rattle.tipc_name_table.specs.Tables.{is_of, put};
 ghost use Rattle.tipc_journal.specs.Contacts.{contact, contact_after, up_epochs, epochs_after};
+ghost use Rattle.tipc_journal.specs.Counting.{call_by, calls_of, is_sent_by_name, names_sent, names_sent_before, stamps, CallsCount, StampsRise};
 ghost use Rattle.tipc_journal.specs.Dues.{Due, due_after, due_behind, first_due};
 ghost use Rattle.tipc_journal.specs.Fates.{AllHaveFates, AllMayStand, HasFates, MayStand, scene_at};
+ghost use Rattle.tipc_journal.specs.Licensed.{events_taken, is_event_taken, is_send, sends_in, AllLicensed, IsLicensed};
 ghost use Rattle.tipc_journal.specs.Matches.{arranged, names, names_after};
 ghost use Rattle.tipc_journal.specs.Names.{live, live_after, learned, learned_after, table, is_at_home, AreAtHome};
 ghost use Rattle.tipc_journal.specs.Prefixes.{list_with};
 ghost use Rattle.tipc_journal.specs.Queues.{ever_queued, step_queued, queued_by, taken_count, is_taking, queue, queue_inside, IsFed, sockets, sockets_after};
+ghost use Rattle.tipc_journal.specs.Refusals.{is_subscribed, made_by, sockets_made, subscriptions_made};
 ghost use Rattle.tipc_journal.specs.Room.{message_bytes, entry_bytes};
 ghost use Rattle.tipc_journal.specs.Steps.{NodeStep, step_entries, steps, IsWhole, IsInside};
 ghost use Rattle.tipc_journal.specs.Streams.{Stream, accepted, accepted_message, delivered, delivered_message};
-ghost use Rattle.tipc_journal.specs.Subscriptions.{watching, watching_after, subscriptions, subscriptions_after, transitions, told};
+ghost use Rattle.tipc_journal.specs.Subscriptions.{watching, watching_after, subscriptions, subscriptions_after, transitions, told, AllTimely, IsTimely};
 
 use crate::entries::Entry;
 use tipc_types::Addr;
@@ -113,6 +116,9 @@ pub fn readings_follow_steps()
     ensures names { (J : List Entry) (s : NodeStep) → names (J ++ step_entries s) ≡ names (J ++ s.inside) }
     ensures contact { (J : List Entry) (s : NodeStep) (p : Addr) → contact (J ++ step_entries s) p ≡ contact (J ++ s.inside) p }
     ensures links { (J : List Entry) (s : NodeStep) (p : Addr) (x : ℕ) → up_epochs (J ++ step_entries s) p x ≡ up_epochs (J ++ s.inside) p x }
+    ensures subscriptions { (J : List Entry) (s : NodeStep) → subscriptions (J ++ step_entries s) ≡ subscriptions (J ++ s.inside) }
+    ensures watching { (J : List Entry) (s : NodeStep) (n : ℕ) → watching (J ++ step_entries s) n ≡ watching (J ++ s.inside) n }
+    ensures transitions { (J : List Entry) (s : NodeStep) (n : ℕ) → transitions (J ++ step_entries s) n ≡ transitions (J ++ s.inside) n }
     ensures accepted { (J : List Entry) (n : NodeStep) (s : Stream) → accepted (J ++ step_entries n) s ≡ accepted J s ++ accepted n.inside s }
     ensures delivered { (J : List Entry) (n : NodeStep) (s : Stream) → delivered (J ++ step_entries n) s ≡ delivered J s ++ delivered n.inside s }
 {}
@@ -140,4 +146,39 @@ pub fn fates_follow()
         MayStand (scene_at own J d front) (due_behind own d front) e → AllMayStand own J d (front ++ e ∷ []) }
     ensures step { (own : Addr) (J : List Entry) (s : NodeStep) → IsWhole J → IsInside s.inside → AllHaveFates own J →
         HasFates own (record { before = J; step = s }) → AllHaveFates own (J ++ step_entries s) }
+{}
+
+/// One more whole step adds what it counts for: a send by name, an event that was taken, a socket or subscriptions that were made.
+pub fn counts_follow()
+    ensures names { (J : List Entry) (s : NodeStep) → IsWhole J → IsInside s.inside →
+        names_sent (J ++ step_entries s) ≡ names_sent J + (if is_sent_by_name s.event s.answer then 1 else 0) }
+    ensures before { (J : List Entry) (s : NodeStep) (stamp : ℕ) → IsWhole J → IsInside s.inside →
+        names_sent_before (J ++ step_entries s) stamp ≡ names_sent_before J stamp + (if nat_lt s.by.stamp stamp && is_sent_by_name s.event s.answer then 1 else 0) }
+    ensures all { (J : List Entry) (stamp : ℕ) → All (λ x. x < stamp) (stamps J) → names_sent_before J stamp ≡ names_sent J }
+    ensures events { (J : List Entry) (s : NodeStep) (n : ℕ) → IsWhole J → IsInside s.inside →
+        events_taken (J ++ step_entries s) n ≡ events_taken J n + (if is_event_taken n s.event s.answer then 1 else 0) }
+    ensures sockets { (J : List Entry) (s : NodeStep) → IsWhole J → IsInside s.inside → sockets_made (J ++ step_entries s) ≡ list_with (sockets_made J) (made_by s.event s.answer) }
+    ensures subscriptions { (J : List Entry) (s : NodeStep) → subscriptions_made (J ++ step_entries s) ≡ subscriptions_made (J ++ s.inside) }
+    ensures subscribed { (J : List Entry) (e : Entry) → subscriptions_made (J ++ e ∷ []) ≡ subscriptions_made J + (if is_subscribed e then 1 else 0) }
+{}
+
+/// Stamps rise, and the calls of each caller are counted from 0, with one more whole step whose stamp is above all before and whose call is
+/// the next one of its caller.
+pub fn stamps_and_calls_follow()
+    ensures stamps { (J : List Entry) (s : NodeStep) → IsWhole J → IsInside s.inside → stamps (J ++ step_entries s) ≡ stamps J ++ s.by.stamp ∷ [] }
+    ensures rise { (J : List Entry) (s : NodeStep) → IsWhole J → IsInside s.inside → StampsRise J → All (λ x. x < s.by.stamp) (stamps J) → StampsRise (J ++ step_entries s) }
+    ensures calls { (J : List Entry) (s : NodeStep) (caller : ℕ) → IsWhole J → IsInside s.inside → calls_of (J ++ step_entries s) caller ≡ list_with (calls_of J caller) (call_by caller s) }
+    ensures count { (J : List Entry) (s : NodeStep) → IsWhole J → IsInside s.inside → CallsCount J → s.call ≡ length (calls_of J s.caller) → CallsCount (J ++ step_entries s) }
+{}
+
+/// One more licensed step leaves all licensed, and no more was received than was queued. One more entry of an unfinished step is a send or
+/// not, by its kind and what is due.
+pub fn licences_follow()
+    ensures step { (own : Addr) (J : List Entry) (s : NodeStep) → IsWhole J → IsInside s.inside → AllLicensed own J →
+        IsLicensed own (record { before = J; step = s }) → AllLicensed own (J ++ step_entries s) }
+    ensures fed { (own : Addr) (J : List Entry) (s : NodeStep) (port : ℕ) → IsWhole J → IsInside s.inside → IsFed own J port →
+        IsLicensed own (record { before = J; step = s }) → IsFed own (J ++ step_entries s) port }
+    ensures inside { (own : Addr) (d : Due) (front : List Entry) (e : Entry) →
+        sends_in own d (front ++ e ∷ []) ≡ sends_in own d front ++ (if is_send (due_behind own d front) e then e ∷ [] else []) }
+    ensures timely { (J : List Entry) (s : NodeStep) → IsWhole J → IsInside s.inside → AllTimely J → IsTimely (record { before = J; step = s }) → AllTimely (J ++ step_entries s) }
 {}

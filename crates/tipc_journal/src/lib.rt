@@ -10,10 +10,11 @@ mod laws;
 pub use entries::{Arrivals, Entry, PortList};
 pub use keeping::{Journal, JournalFault, MOST_ENTRIES, MOST_MESSAGE_BYTES};
 pub use laws::{
-    accepted_follows, bytes_add_up, contact_follows, delivered_follows, fates_follow,
-    learned_follows, links_follow, live_follows, look_ups_are_arranged, names_follow,
-    queues_follow, queues_follow_inside, readings_follow_inside, readings_follow_steps,
-    steps_follow, subscriptions_follow, transitions_follow,
+    accepted_follows, bytes_add_up, contact_follows, counts_follow, delivered_follows,
+    fates_follow, learned_follows, licences_follow, links_follow, live_follows,
+    look_ups_are_arranged, names_follow, queues_follow, queues_follow_inside,
+    readings_follow_inside, readings_follow_steps, stamps_and_calls_follow, steps_follow,
+    subscriptions_follow, transitions_follow,
 };
 
 #[cfg(test)]

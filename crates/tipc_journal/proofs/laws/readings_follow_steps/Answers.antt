@@ -1,4 +1,5 @@
 use Rattle.tipc_journal.proofs.StreamLaws.{accepted_step, delivered_step}
+use Rattle.tipc_journal.proofs.SubscriptionLaws.{subscriptions_step, transitions_step, watching_step}
 use Rattle.tipc_journal.proofs.WholeSteps.{live_step, learned_step, table_step, names_step, contact_step, up_epochs_step}
 use Rattle.tipc_journal.proofs.laws.readings_follow_steps.Goals as goal
 
@@ -19,6 +20,15 @@ returns-clause-contact c = contact_step
 
 pub returns-clause-links : goal.returns-clause-links
 returns-clause-links c = up_epochs_step
+
+pub returns-clause-subscriptions : goal.returns-clause-subscriptions
+returns-clause-subscriptions c = subscriptions_step
+
+pub returns-clause-watching : goal.returns-clause-watching
+returns-clause-watching c = watching_step
+
+pub returns-clause-transitions : goal.returns-clause-transitions
+returns-clause-transitions c = transitions_step
 
 pub returns-clause-accepted : goal.returns-clause-accepted
 returns-clause-accepted c = accepted_step

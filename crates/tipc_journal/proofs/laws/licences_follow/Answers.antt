@@ -1,0 +1,14 @@
+use Rattle.tipc_journal.proofs.LicenceLaws.{AllLicensed_step, IsFed_licensed, sends_in_more, AllTimely_step}
+use Rattle.tipc_journal.proofs.laws.licences_follow.Goals as goal
+
+pub returns-clause-step : goal.returns-clause-step
+returns-clause-step c = AllLicensed_step
+
+pub returns-clause-fed : goal.returns-clause-fed
+returns-clause-fed c = IsFed_licensed
+
+pub returns-clause-inside : goal.returns-clause-inside
+returns-clause-inside c = sends_in_more
+
+pub returns-clause-timely : goal.returns-clause-timely
+returns-clause-timely c = AllTimely_step
