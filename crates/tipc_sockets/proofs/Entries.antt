@@ -1,27 +1,27 @@
 -- One more entry that is no fate tells what the sockets hold after it.
-use Rattle.std.proofs.Common.{◌≡◌, ℕ, ◌+◌, ◌<◌, Bool, true, false, not, cond, ◌&&◌, ◌||◌, List, [], ◌∷◌, ◌++◌, Option, None, Some, append_assoc, filter, if◌then◌else◌, refl, sym, ap, subst, ◌∙◌, true≢false, eqb-true, arith}
+use Rattle.std.proofs.Common.{◌≡◌, ℕ, Bool, true, false, not, cond, ◌&&◌, List, [], ◌∷◌, ◌++◌, length, Option, None, Some, append_assoc, filter, if◌then◌else◌, refl, sym, ap, ◌∙◌, eqb-true}
 use Rattle.std.specs.Prelude.{nat_eq, ◌==◌}
-use Rattle.std.specs.List.{list_all, list_any}
+use Rattle.std.specs.List.{list_all}
 use Rattle.std.proofs.lemmas.Bool.{and_from, and_parts}
 use Rattle.std.proofs.lemmas.List.{append-nil}
 use Rattle.std.proofs.lemmas.List.Folds.{list_all-append}
 use Rattle.tipc_types.specs.declared.identity.Addr.{Addr}
 use Rattle.tipc_types.specs.declared.message_forms.Message.{Message}
 use Rattle.tipc_types.specs.declared.services.Publication.{Publication}
-use Rattle.tipc_name_table.specs.Tables.{is_named, is_of, put, without, without_node}
+use Rattle.tipc_name_table.specs.Tables.{is_named, is_of, without, without_node}
 use Rattle.tipc_journal.specs.declared.entries.Entry.{Entry}
 use Rattle.tipc_journal.specs.declared.entries.Entry.TheVariants.{Published, Withdrawn, Learned, Forgot, ContactDown}
 use Rattle.tipc_journal.specs.Dues.{Due, due_behind}
-use Rattle.tipc_journal.specs.Matches.{names, names_after}
-use Rattle.tipc_journal.specs.Names.{live, live_after, is_at_home, AreAtHome}
-use Rattle.tipc_journal.specs.Queues.{queue, queued_by, queue_inside, sockets}
+use Rattle.tipc_journal.specs.Matches.{names_after}
+use Rattle.tipc_journal.specs.Names.{live_after, is_at_home, AreAtHome}
+use Rattle.tipc_journal.specs.Queues.{queued_by, queue_inside}
+use Rattle.tipc_journal.proofs.CountLaws.{sockets_made_nil}
 use Rattle.tipc_journal.proofs.DueLaws.{queue_inside_more, queue_inside_nil}
 use Rattle.tipc_journal.proofs.Insides.{live_inside, names_inside}
 use Rattle.tipc_journal.proofs.MatchLaws.{live_at_home, names_nil, AreAtHome_more}
 use Rattle.tipc_journal.proofs.NameLaws.{live_nil}
 use Rattle.tipc_journal.proofs.QueueLaws.{queue_nil, sockets_nil, IsFed_nil}
-use Rattle.tipc_ports.specs.Numbers.{port_number}
-use Rattle.tipc_sockets.specs.SocketTables.{has_port, no_sockets, queue_at, SocketTable}
+use Rattle.tipc_sockets.specs.SocketTables.{has_port, no_sockets, SocketTable}
 use Rattle.tipc_sockets.specs.Telling.{after_entry, is_placed, AreTold}
 use Rattle.tipc_sockets.proofs.Closing.{eq_turned}
 
@@ -34,6 +34,7 @@ told_nil own boot d = record {
   live = sym live_nil;
   names = sym names_nil;
   ports = sym sockets_nil;
+  made = ap (λ (ps : List ℕ). length ps) (sym sockets_made_nil);
   queues = λ port waiting e. absurd (none_waits waiting e);
   placed = refl;
   unused = λ port above. queue_inside_nil own [] d port ∙ queue_nil own port;
@@ -109,6 +110,7 @@ module _ (own : Addr) (J : List Entry) (d : Due) (front : List Entry) (s : Socke
     live = lived ∙ ap (λ (qs : List Publication). live_after qs e) h.live ∙ sym (live_inside J front e);
     names = named ∙ ap (λ (qs : List Publication). names_after qs e) h.names ∙ sym (names_inside own J front e h.home home);
     ports = h.ports;
+    made = h.made;
     queues = λ port waiting found. h.queues port waiting found ∙ sym (quiet_queue e quiet port);
     placed = placed;
     unused = λ port above. quiet_queue e quiet port ∙ h.unused port above;

@@ -1,12 +1,12 @@
 -- The fate that the sockets give a message is one that may stand in the journal, and tells what they hold after it.
-use Rattle.std.proofs.Common.{◌≡◌, ◌≤◌, ◌<◌, ◌⊎◌, inl, inr, ℕ, ◌+◌, Bool, true, false, not, cond, ◌&&◌, ◌||◌, List, [], ◌∷◌, ◌++◌, length, get_or, add-one, Option, None, Some, is_some, filter, if◌then◌else◌, refl, sym, ap, subst, ◌∙◌, true≢false, eqb-true, arith}
+use Rattle.std.proofs.Common.{◌≡◌, ◌≤◌, ◌<◌, inl, inr, ℕ, ◌+◌, Bool, true, false, not, cond, ◌&&◌, ◌||◌, List, [], ◌∷◌, ◌++◌, length, get_or, add-one, Option, None, Some, is_some, if◌then◌else◌, refl, sym, ap, subst, ◌∙◌, true≢false, eqb-true, arith}
 use Rattle.std.specs.Prelude.{nat_eq, nat_le, nat_lt, option_map, unwrap_or, ◌==◌}
 use Rattle.std.specs.List.{list_all, list_any, AllByRecursion, AllPairs, IsDistinct}
 use Rattle.std.specs.List.Sorted.{IsStrictlySortedBy}
 use Rattle.std.specs.Ordering.{nat_cmp}
 use Rattle.std.specs.declared.cmp.Ordering.TheVariants.{Less}
-use Rattle.std.specs.Map.{keys_of, lookup, set_value}
-use Rattle.std.proofs.lemmas.Bool.{and_from, and_parts, leb-true}
+use Rattle.std.specs.Map.{lookup, set_value}
+use Rattle.std.proofs.lemmas.Bool.{and_parts, leb-true}
 use Rattle.std.proofs.lemmas.Bool.Decides.{eqb_tells, nat_tests, Decides-eqb}
 use Rattle.std.proofs.lemmas.List.{append-nil}
 use Rattle.std.proofs.lemmas.List.Elements.{recursion_from_All}
@@ -28,7 +28,7 @@ use Rattle.tipc_journal.specs.Contacts.{contact}
 use Rattle.tipc_journal.specs.Dues.{Due, FateDue, due_behind}
 use Rattle.tipc_journal.specs.Dues.{returned_message}
 use Rattle.tipc_journal.specs.Fates.{counts_for, has_room as room_at, inbox_size, is_aimed_at, is_named_by, no_name, no_port, overload, return_limit, scene_at, why_not_direct, why_not_named, AreReached, IsFate, IsSettled, IsUnqueued, Scene}
-use Rattle.tipc_journal.specs.Names.{is_clusterwide, live}
+use Rattle.tipc_journal.specs.Names.{is_clusterwide}
 use Rattle.tipc_journal.specs.Queues.{queued_by, queue_inside, sockets}
 use Rattle.tipc_journal.proofs.DueLaws.{queue_inside_more}
 use Rattle.tipc_journal.proofs.Insides.{live_inside, names_inside}
@@ -40,14 +40,14 @@ use Rattle.tipc_sockets.specs.Fates.{after_fate, aimed_at, fate, has_room, heare
 use Rattle.tipc_sockets.specs.Publishing.{is_at}
 use Rattle.tipc_sockets.specs.SocketTables.{has_port, queue_at, queued, queued_at_each, with_queues, AreSockets, SocketTable}
 use Rattle.tipc_sockets.specs.Telling.{fate_entry, is_for_one_there, is_payload, origin_of, AreTold}
-use Rattle.tipc_sockets.proofs.Closing.{and_false, eq_turned, or_false}
+use Rattle.tipc_sockets.proofs.Closing.{and_false, and_turned, eq_turned, list_any_filtered, or_false}
 use Rattle.tipc_sockets.proofs.Entries.{home_more, told_entry}
 use Rattle.tipc_sockets.proofs.Keeping.{and_right, and_true, keys-queued_at_each, lookup_elsewhere, not_true, port_there, queue_there}
 
 -- ---- a message at each of some ports
 
 -- what waits at a port to which one more message is queued
-lookup_here : (port : ℕ) (queues : List (ℕ × List Message)) (waiting : List Message) → lookup (nat_eq port) (set_value (nat_eq port) queues waiting) ≡ option_map (λ _. waiting) (lookup (nat_eq port) queues)
+pub lookup_here : (port : ℕ) (queues : List (ℕ × List Message)) (waiting : List Message) → lookup (nat_eq port) (set_value (nat_eq port) queues waiting) ≡ option_map (λ _. waiting) (lookup (nat_eq port) queues)
 lookup_here port [] waiting = refl
 lookup_here port (q ∷ qs) waiting = by (nat_eq port q.0) refl (lookup_here port qs waiting)
   where
@@ -81,11 +81,11 @@ pub queued_everywhere : (m : Message) (queues : List (ℕ × List Message)) (por
 unfolding IsDistinct
 queued_everywhere m queues [] port distinct = sym (none_more (lookup (nat_eq port) queues))
 queued_everywhere m queues (p ∷ ps) port distinct = elim (eqb_tells p port) as (λ _. lookup (nat_eq port) (queued_at_each m (queued m queues p) ps) ≡ option_map (λ (ms : List Message). ms ++ coming m (p ∷ ps) port) (lookup (nat_eq port) queues)) [
-    inl e ↦
+  | inl e ↦
       let no_more : coming m ps port ≡ [] = ap (λ (b : Bool). if b then m ∷ [] else []) (absent port ps (subst (λ (n : ℕ). AllByRecursion (λ q. nat_eq n q ≡ false) ps) e.1 distinct.0)) in
       let one : coming m (p ∷ ps) port ≡ m ∷ [] = ap (λ (b : Bool). if b || list_any (λ q. q == port) ps then m ∷ [] else []) e.0 in
       let here : lookup (nat_eq port) (queued m queues p) ≡ option_map (λ (ms : List Message). ms ++ m ∷ []) (lookup (nat_eq port) queues) =
-          ap (λ (n : ℕ). lookup (nat_eq port) (queued m queues n)) e.1 ∙ lookup_here port queues (unwrap_or (lookup (nat_eq port) queues) [] ++ m ∷ []) ∙ appended (lookup (nat_eq port) queues) m in
+      ap (λ (n : ℕ). lookup (nat_eq port) (queued m queues n)) e.1 ∙ lookup_here port queues (unwrap_or (lookup (nat_eq port) queues) [] ++ m ∷ []) ∙ appended (lookup (nat_eq port) queues) m in
       queued_everywhere m (queued m queues p) ps port distinct.1
       ∙ ap (λ (ns : List Message). option_map (λ (ms : List Message). ms ++ ns) (lookup (nat_eq port) (queued m queues p))) no_more
       ∙ none_more (lookup (nat_eq port) (queued m queues p))
@@ -100,25 +100,11 @@ queued_everywhere m queues (p ∷ ps) port distinct = elim (eqb_tells p port) as
 
 -- ---- lists of ports
 
-and_turned : (a b : Bool) → a && b ≡ b && a
-and_turned true true = refl
-and_turned true false = refl
-and_turned false true = refl
-and_turned false false = refl
-
 list_any_agree : {X : Type 0} (f g : X → Bool) → ((x : X) → f x ≡ g x) → (xs : List X) → list_any f xs ≡ list_any g xs
 list_any_agree f g same [] = refl
 list_any_agree f g same (x ∷ xs) = (λ i. same x i || list_any_agree f g same xs i)
 
-list_any_filtered : {X : Type 0} (test kept : X → Bool) (xs : List X) → list_any test (filter kept xs) ≡ list_any (λ x. test x && kept x) xs
-list_any_filtered test kept [] = refl
-list_any_filtered test kept (x ∷ xs) = by (kept x) (list_any_filtered test kept xs)
-  where
-    by : (b : Bool) → list_any test (filter kept xs) ≡ list_any (λ y. test y && kept y) xs → list_any test (cond b (x ∷ filter kept xs) (filter kept xs)) ≡ ((test x && b) || list_any (λ y. test y && kept y) xs)
-    by true later = (λ i. sym (and_true (test x)) i || later i)
-    by false later = later ∙ ap (λ (b : Bool). b || list_any (λ y. test y && kept y) xs) (sym (and_false (test x)))
-
-list_all_agree : {X : Type 0} (f g : X → Bool) → ((x : X) → f x ≡ g x) → (xs : List X) → list_all f xs ≡ list_all g xs
+pub list_all_agree : {X : Type 0} (f g : X → Bool) → ((x : X) → f x ≡ g x) → (xs : List X) → list_all f xs ≡ list_all g xs
 list_all_agree f g same [] = refl
 list_all_agree f g same (x ∷ xs) = (λ i. same x i && list_all_agree f g same xs i)
 
@@ -133,14 +119,14 @@ rising_sorted (x ∷ xs) h = (
   rising_sorted xs (λ i j d first last. subst (λ (n : ℕ). get_or xs i d < get_or (x ∷ xs) n d) (add-one j) (subst (λ (n : ℕ). get_or (x ∷ xs) n d < get_or (x ∷ xs) (j + 1) d) (add-one i) (h (i + 1) (j + 1) d (omega (arith, first)) (omega (arith, last))))),
 )
 
-rising_distinct : (xs : List ℕ) → AllPairs (λ a b. a < b) xs → IsDistinct nat_eq xs
+pub rising_distinct : (xs : List ℕ) → AllPairs (λ a b. a < b) xs → IsDistinct nat_eq xs
 rising_distinct xs h = IsDistinct-from_AllPairs Decides-eqb xs (λ i j d first last e. omega (arith, h i j d first last, e))
 
 one_distinct : (port : ℕ) → IsDistinct nat_eq (port ∷ [])
 unfolding IsDistinct
 one_distinct port = (tt, tt)
 
-some_is_none : {A : Type 0} (x : A) → ◌≡◌ {A = Option A} (Some x) None → ⊥
+pub some_is_none : {A : Type 0} (x : A) → ◌≡◌ {A = Option A} (Some x) None → ⊥
 some_is_none x e = cc
 
 -- ---- a message that isn't queued
@@ -237,6 +223,7 @@ module _ (own : Addr) (J : List Entry) (d : Due) (front : List Entry) (s : Socke
     where
       aimed : ℕ → Bool
       aimed n = list_any (is_at n) (aimed_at s.live arrived range)
+
       by : (found : Option (List Message)) → queue_at s port ≡ found → (aimed port && has_room found) && is_some found ≡ (is_aimed_at scene arrived range port && room_at scene port)
       by None e =
           and_false (aimed port && false)
@@ -263,6 +250,7 @@ module _ (own : Addr) (J : List Entry) (d : Due) (front : List Entry) (s : Socke
     where
       same : is_offered s.live port kind instance ≡ is_named_by scene kind instance port
       same = list_any_agree _ _ (λ p. ap (λ (b : Bool). is_at port p && b) (and_turned (is_clusterwide p.scope) (covers kind instance p))) s.live ∙ ap (λ (ps : List Publication). list_any (λ p. is_at port p && (covers kind instance p && is_clusterwide p.scope)) ps) h.live
+
       by : (b : Bool) → is_offered s.live port kind instance ≡ b → (if not b then Some no_name else room_refusal (queue_at s port)) ≡ (if not (is_named_by scene kind instance port) then Some no_name else (if room_at scene port then None else Some overload))
       by true e = room_refused port (some_at port _ e) ∙ ap (λ (b : Bool). if not b then Some no_name else (if room_at scene port then None else Some overload)) (sym e ∙ same)
       by false e = ap (λ (b : Bool). if not b then Some no_name else (if room_at scene port then None else Some overload)) (sym e ∙ same)
@@ -326,6 +314,7 @@ module _ (own : Addr) (J : List Entry) (d : Due) (front : List Entry) (s : Socke
       live = h.live ∙ sym (live_inside J front (entry.Queued ports));
       names = h.names ∙ sym (names_inside own J front (entry.Queued ports) h.home refl);
       ports = h.ports;
+      made = h.made;
       queues = λ port waiting found. by port waiting (queue_at s port) refl (sym (queued_everywhere m s.queues ports port distinct) ∙ found);
       placed = list_all_agree _ _ (λ (p : Publication). port_stays m ports p.at.port) s.live ∙ h.placed;
       unused = λ port above. queue_more ports port ∙ ap (λ (ms : List Message). queue_inside own J d front port ++ ms) (none_comes port above) ∙ append-nil (queue_inside own J d front port) ∙ h.unused port above;
@@ -337,6 +326,7 @@ module _ (own : Addr) (J : List Entry) (d : Due) (front : List Entry) (s : Socke
         by port waiting None e is = absurd cc
         by port waiting (Some ms) e is =
             sym (ap (λ (o : Option (List Message)). unwrap_or o []) is) ∙ ap (λ (xs : List Message). xs ++ coming m ports port) (h.queues port ms e) ∙ sym (queue_more ports port)
+
         none_comes : (port : ℕ) → port_number s.ports.boot s.ports.made < port → coming m ports port ≡ []
         none_comes port above =
             ap (λ (b : Bool). if b then m ∷ [] else []) (not_true (list_any (λ q. q == port) ports) (λ e. omega (arith, above, there_below port (present port e))))

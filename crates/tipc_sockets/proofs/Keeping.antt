@@ -1,10 +1,10 @@
 -- What always holds of a node's sockets stays so.
 use Rattle.std.proofs.lemmas.Bool.{leb-false}
 use Rattle.std.proofs.lemmas.Bool.Decides.{eqb_tells}
-use Rattle.std.proofs.Common.{◌≡◌, ◌⊎◌, inl, inr, ℕ, ◌+◌, ◌≤◌, ◌<◌, Bool, true, false, not, cond, ◌&&◌, ◌||◌, List, [], ◌∷◌, ◌++◌, length, take, get_or, map, Option, None, Some, is_some, Contains, filter, if◌then◌else◌, refl, sym, ap, subst, ◌∙◌, true≢false, eqb-true, arith}
+use Rattle.std.proofs.Common.{◌≡◌, inl, inr, ℕ, ◌+◌, ◌≤◌, ◌<◌, Bool, true, false, not, cond, ◌&&◌, ◌||◌, List, [], ◌∷◌, ◌++◌, length, take, get_or, Option, None, Some, is_some, Contains, filter, if◌then◌else◌, refl, sym, ap, subst, ◌∙◌, true≢false, eqb-true, arith}
 use Rattle.std.specs.Prelude.{count_by, find, nat_eq, nat_le, nat_lt, unwrap_or, is_ok, Err, Ok, Result, OnErr, OnOk}
 use Rattle.std.specs.List.{list_any, All, AllByRecursion}
-use Rattle.std.specs.Map.{keys_of, lookup, remove_entry, set_value}
+use Rattle.std.specs.Map.{keys_of, lookup, set_value}
 use Rattle.std.proofs.lemmas.List.{map-append, take_more}
 use Rattle.std.proofs.lemmas.List.Sums.{fold-append}
 use Rattle.std.proofs.lemmas.List.Elements.{recursion_from_All}
@@ -13,15 +13,15 @@ use Rattle.indexmap.specs.IndexSet.{remove_key}
 use Rattle.indexmap.proofs.CallerLemmas.{keys-shift_remove_entry}
 use Rattle.tipc_types.specs.declared.message_forms.Message.{Message}
 use Rattle.tipc_types.specs.declared.services.Publication.{Publication}
-use Rattle.tipc_name_table.specs.Tables.{is_named, is_of, put, without, without_node, IsTable}
+use Rattle.tipc_name_table.specs.Tables.{is_named, is_of, put, without, IsTable}
 use Rattle.tipc_name_table.proofs.Places.{count_by-put, filter-put}
 use Rattle.tipc_name_table.proofs.TableLaws.{table_kept}
-use Rattle.tipc_ports.specs.Numbers.{port_number, without as without_port, ArePresent, PortTable}
+use Rattle.tipc_ports.specs.Numbers.{port_number}
 use Rattle.tipc_ports.proofs.PortLaws.{found_there, port_removed, present_new, present_without}
 use Rattle.tipc_sockets.specs.Publishing.{closed, has_key, is_at, publish_refusal}
 use Rattle.tipc_sockets.specs.declared.publishing.PublishFault.TheVariants as refused
-use Rattle.tipc_sockets.specs.SocketTables.{has_port, no_sockets, queued, queued_at_each, with_queues, with_socket, AreSockets, SocketTable}
-use Rattle.tipc_sockets.proofs.Counting.{count_by-agree, count_by-all, count_by-append, count_by-filter, count_by-one, counted, counts_none, filter-filter, filter_none, found_none, none_counts}
+use Rattle.tipc_sockets.specs.SocketTables.{has_port, queued, queued_at_each, with_queues, with_socket, AreSockets, SocketTable}
+use Rattle.tipc_sockets.proofs.Counting.{count_by-agree, count_by-all, count_by-append, count_by-filter, count_by-one, counts_none, filter_none, found_none, none_counts}
 
 -- ---- queues
 

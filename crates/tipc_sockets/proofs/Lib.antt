@@ -4,3 +4,4 @@ pub mod Counting
 pub mod Entries
 pub mod FatesTold
 pub mod Keeping
+pub mod StepsTold

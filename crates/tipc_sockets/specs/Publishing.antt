@@ -1,11 +1,12 @@
 -- Publications: when one is refused at an own port, and what a publication, a withdrawal and a closing change.
-use Rattle.std.specs.Prelude.{ℕ, ◌==◌, ◌&&◌, Bool, not, nat_eq, nat_le, nat_lt, if◌then◌else◌, List, [], ◌∷◌, ◌++◌, Option, None, Some, filter, find, length}
+use Rattle.std.specs.Prelude.{ℕ, ◌==◌, ◌&&◌, Bool, not, nat_eq, nat_le, nat_lt, if◌then◌else◌, List, [], ◌∷◌, ◌++◌, Option, None, Some, filter, find, fold, length}
 use Rattle.std.specs.List.{list_any}
 use Rattle.std.specs.Map.{remove_entry}
 use Rattle.tipc_types.specs.Span.{Span}
 use Rattle.tipc_types.specs.declared.services.Publication.{Publication}
 use Rattle.tipc_types.specs.declared.services.Scope.{Scope}
 use Rattle.tipc_name_table.specs.Tables.{is_of, put, without as without_named, without_node}
+use Rattle.tipc_journal.specs.Refusals.{first_free_type, most_publications}
 use Rattle.tipc_ports.specs.Numbers.{without}
 use Rattle.tipc_sockets.specs.declared.publishing.PublishFault.{PublishFault}
 use Rattle.tipc_sockets.specs.declared.publishing.PublishFault.TheVariants as refused
@@ -23,14 +24,14 @@ has_key key p = p.key == key
 abbrev pub is_key_at : ℕ → List Publication → Publication → Bool
 is_key_at port live p = list_any (λ q. is_at port q && has_key q.key p) live
 
--- the first reason for which an own publication is refused: no such port, a reserved service type, a key that is live, or 1,024
--- that are live
+-- the first reason for which an own publication is refused: no such port, a reserved service type, a key that is
+-- live, or 1,024 that are live
 abbrev pub publish_refusal : SocketTable → ℕ → ℕ → ℕ → Option PublishFault
 publish_refusal s port kind key =
     if not (has_port s port) then Some refused.NoSocket
-    else (if nat_lt kind 64 then Some refused.Reserved
+    else (if nat_lt kind first_free_type then Some refused.Reserved
     else (if list_any (has_key key) s.live then Some (refused.Duplicate key)
-    else (if nat_le 1024 (length s.live) then Some refused.Full else None)))
+    else (if nat_le most_publications (length s.live) then Some refused.Full else None)))
 
 -- the publication of a key that is live at a port
 abbrev pub published_at : SocketTable → ℕ → ℕ → Option Publication
@@ -62,6 +63,10 @@ withdrawn s node key =
       ports = s.ports;
       queues = s.queues;
     }
+
+-- these publications are withdrawn, one after the other
+abbrev pub withdrawn_each : SocketTable → List Publication → SocketTable
+withdrawn_each s ps = fold (λ those p. withdrawn those p.at.node.word p.key) s ps
 
 -- all publications of a node are withdrawn
 abbrev pub purged : SocketTable → ℕ → SocketTable

@@ -1,14 +1,14 @@
 -- The sockets of one node: the publications that it knows, its ports, and the messages that wait at each of them.
-use Rattle.std.specs.Prelude.{◌≡◌, ◌+◌, ℕ, Bool, List, [], ◌∷◌, ◌++◌, Option, None, Some, is_some, nat_eq, drop, fold, filter, count_by, unwrap_or}
-use Rattle.std.specs.Map.{keys_of, lookup, remove_entry, set_value}
+use Rattle.std.specs.Prelude.{◌≡◌, ◌+◌, ℕ, Bool, List, [], ◌∷◌, ◌++◌, Option, is_some, nat_eq, drop, fold, filter, count_by, unwrap_or}
+use Rattle.std.specs.Map.{keys_of, lookup, set_value}
 use Rattle.tipc_types.specs.Address.{IsNodeWord}
 use Rattle.tipc_types.specs.declared.message_forms.Message.{Message}
 use Rattle.tipc_types.specs.declared.services.Publication.{Publication}
 use Rattle.tipc_name_table.specs.Tables.{is_of, IsTable}
 use Rattle.tipc_ports.specs.Numbers.{ArePresent, PortTable}
 
--- a node's sockets: its address word; every publication that it knows, in order of node, port and key; its own ones, in the
--- order of publishing; its ports; and each port with the messages that wait there
+-- a node's sockets: its address word; every publication that it knows, in order of node, port and key; its own ones,
+-- in the order of publishing; its ports; and each port with the messages that wait there
 pub record SocketTable : Type 0 where
   pub own : ℕ
   pub names : List Publication
@@ -56,8 +56,8 @@ queued_at_each m queues ports = fold (λ those port. queued m those port) queues
 abbrev pub taken_from : List (ℕ × List Message) → ℕ → List (ℕ × List Message)
 taken_from queues port = set_value (nat_eq port) queues (drop 1 (unwrap_or (lookup (nat_eq port) queues) []))
 
--- What always holds of a node's sockets: each port was made in this boot and has its queue; the names are in order; and of the own
--- ones among them as many pass any test as of the live ones, so these are the same publications.
+-- What always holds of a node's sockets: each port was made in this boot and has its queue; the names are in order;
+-- and of the own ones among them as many pass any test as of the live ones, so these are the same publications.
 pub record AreSockets (s : SocketTable) : Type 0 where
   pub node : IsNodeWord s.own
   pub present : ArePresent s.ports.boot s.ports.made s.ports.present

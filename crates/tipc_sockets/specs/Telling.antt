@@ -1,36 +1,36 @@
 -- What a node's sockets hold is what its journal tells.
-use Rattle.std.specs.Prelude.{◌≡◌, ◌<◌, ◌+◌, ◌||◌, ℕ, Bool, true, false, not, List, [], ◌++◌, Option, Some, length, unwrap_or}
-use Rattle.std.specs.List.{list_all, list_any}
+use Rattle.std.specs.Prelude.{◌≡◌, ◌<◌, ◌||◌, ℕ, Bool, true, false, not, List, [], ◌++◌, Some, length}
+use Rattle.std.specs.List.{list_all}
 use Rattle.tipc_types.specs.declared.identity.Addr.{Addr}
 use Rattle.tipc_types.specs.declared.message_forms.Message.{Message}
 use Rattle.tipc_types.specs.declared.message_forms.Message.TheVariants.{Payload, Items}
-use Rattle.tipc_types.specs.declared.node_calls.Answer.{Answer}
-use Rattle.tipc_types.specs.declared.node_calls.Answer.TheVariants.{Done, Socket as Made, Got}
-use Rattle.tipc_types.specs.declared.node_calls.EventNote.{EventNote}
-use Rattle.tipc_types.specs.declared.node_calls.EventNote.TheVariants.{Socket, Close, Receive}
 use Rattle.tipc_journal.specs.declared.entries.Entry.{Entry}
 use Rattle.tipc_journal.specs.declared.entries.Entry.TheVariants as entry
 use Rattle.tipc_journal.specs.Dues.{Due}
 use Rattle.tipc_journal.specs.Matches.{names}
 use Rattle.tipc_journal.specs.Names.{live, AreAtHome}
 use Rattle.tipc_journal.specs.Queues.{queue_inside, sockets, IsFed}
+use Rattle.tipc_journal.specs.Refusals.{sockets_made}
 use Rattle.tipc_ports.specs.Numbers.{port_number}
 use Rattle.tipc_sockets.specs.declared.fates.Fate.{Fate}
 use Rattle.tipc_sockets.specs.declared.fates.Fate.TheVariants.{Queued, Returned, ReturnDropped, Dropped}
 use Rattle.tipc_sockets.specs.Fates.{is_by_name}
-use Rattle.tipc_sockets.specs.Publishing.{closed, is_at, published, purged, withdrawn}
-use Rattle.tipc_sockets.specs.SocketTables.{has_port, queue_at, taken_from, with_queues, with_socket, SocketTable}
+use Rattle.tipc_sockets.specs.Publishing.{published, purged, withdrawn}
+use Rattle.tipc_sockets.specs.SocketTables.{has_port, queue_at, SocketTable}
 
--- In a step behind these whole steps, at whose beginning d was due, the entries so far tell what the sockets hold: the live
--- publications in the order of publishing, all publications in order, the ports, and what waits at each of them. Every own
--- publication is at a port that is there, and nothing waits at a port that isn't made yet.
+-- In a step behind these whole steps, at whose beginning d was due, the entries so far tell what the sockets hold:
+-- the live publications in the order of publishing, all publications in order, the ports and how many were made, and
+-- what waits at each of them. Every own publication is at a port that is there, and nothing waits at a port that
+-- isn't made yet.
 pub record AreTold (own : Addr) (before : List Entry) (d : Due) (front : List Entry) (s : SocketTable) : Type 0 where
   pub node : s.own ≡ own.word
   pub home : AreAtHome own (before ++ front)
   pub live : s.live ≡ live (before ++ front)
   pub names : s.names ≡ names (before ++ front)
   pub ports : s.ports.present ≡ sockets before
-  pub queues : (port : ℕ) (waiting : List Message) → queue_at s port ≡ Some waiting → waiting ≡ queue_inside own before d front port
+  pub made : s.ports.made ≡ length (sockets_made before)
+  pub queues : (port : ℕ) (waiting : List Message) → queue_at s port ≡ Some waiting
+      → waiting ≡ queue_inside own before d front port
   pub placed : list_all (λ p. has_port s p.at.port) s.live ≡ true
   pub unused : (port : ℕ) → port_number s.ports.boot s.ports.made < port → queue_inside own before d front port ≡ []
   pub fed : (port : ℕ) → IsFed own before port
@@ -55,11 +55,12 @@ origin_of (Items withdrawal items) = record { word = 0 }
 
 -- whether the port of a message by name is there
 abbrev pub is_for_one_there : SocketTable → Message → Bool
-is_for_one_there s (Payload importance form from to kind lower upper code droppable body) = not (is_by_name form) || has_port s to.port
+is_for_one_there s (Payload importance form from to kind lower upper code droppable body) =
+    not (is_by_name form) || has_port s to.port
 is_for_one_there s (Items withdrawal items) = true
 
--- what a node's sockets hold after an entry that is no fate: a publication is published, withdrawn, learned or forgotten, those of
--- a peer are purged where the contact ends, and nothing changes by any other
+-- what a node's sockets hold after an entry that is no fate: a publication is published, withdrawn, learned or
+-- forgotten, those of a peer are purged where the contact ends, and nothing changes by any other
 abbrev pub after_entry : SocketTable → Entry → SocketTable
 after_entry s (entry.Published p) = published s p
 after_entry s (entry.Withdrawn p) = withdrawn s p.at.node.word p.key
@@ -72,18 +73,3 @@ after_entry s _ = s
 abbrev pub is_placed : SocketTable → Entry → Bool
 is_placed s (entry.Published p) = has_port s p.at.port
 is_placed s _ = true
-
--- what a node's sockets hold after a call: one that made a socket, closed one, or took a message
-abbrev pub after_call : SocketTable → EventNote → Answer → SocketTable
-after_call s Socket (Made port) = with_socket s port
-after_call s (Close port) Done = closed s port
-after_call s (Receive port) Got = with_queues s (taken_from s.queues port)
-after_call s event answer = s
-
--- The answer is one that the sockets give: a socket that is made has the next port, a port that is closed has no publication left, and
--- a message is taken where one waits.
-abbrev pub IsGiven : SocketTable → EventNote → Answer → Type 0
-IsGiven s Socket (Made port) = port ≡ port_number s.ports.boot (s.ports.made + 1)
-IsGiven s (Close port) Done = list_any (is_at port) s.live ≡ false
-IsGiven s (Receive port) Got = 0 < length (unwrap_or (queue_at s port) [])
-IsGiven s event answer = Unit {0}

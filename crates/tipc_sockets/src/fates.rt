@@ -26,8 +26,8 @@ pub enum Fate {
     Dropped,
 }
 
-/// A message as it goes back to its sender: direct, from the port that it was for, with the reason, and at most its first 1,024
-/// bytes. It takes no memory.
+/// A message as it goes back to its sender: direct, from the port that it was for, with the reason, and at most its
+/// first 1,024 bytes. It takes no memory.
 pub(crate) fn returned(m: Message, why: u8) -> Message
     ensures { result ≡ returned_message why m }
 {

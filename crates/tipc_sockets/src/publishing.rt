@@ -103,7 +103,8 @@ pub(crate) fn aimed_at(
     lower: u32,
     upper: u32,
 ) -> Result<Vec<Publication>, AllocError>
-    ensures { IfOk result (λ ps. ps.items ≡ aimed_at live.now arrived (record { kind = kind; lower = lower; upper = upper })) }
+    ensures { IfOk result (λ ps. ps.items ≡
+        aimed_at live.now arrived (record { kind = kind; lower = lower; upper = upper })) }
 {
     live.iter()
         .copied()

@@ -37,7 +37,8 @@ const OVERLOAD: u8 = 4;
 /// The form in which the names are held.
 pub type Table = NameTable;
 
-/// The sockets of a node in one boot: the publications that it knows, its ports, and the messages that wait at each of them.
+/// The sockets of a node in one boot: the publications that it knows, its ports, and the messages that wait at each
+/// of them.
 #[derive(Drop)]
 pub struct Sockets {
     own: Addr,
@@ -56,7 +57,8 @@ impl Model for Sockets {
 
     ghost view = { λ s. record { own = s.own.word; names = s.names; live = s.live.items; ports = s.ports; queues = s.queues.entries } };
 
-    ghost invariant = { λ s. (s.made ≡ s.ports.made) × AreSockets (record { own = s.own.word; names = s.names; live = s.live.items; ports = s.ports; queues = s.queues.entries }) };
+    ghost invariant = { λ s. (s.made ≡ s.ports.made) ×
+        AreSockets (record { own = s.own.word; names = s.names; live = s.live.items; ports = s.ports; queues = s.queues.entries }) };
 }
 
 impl Sockets {
@@ -76,16 +78,18 @@ impl Sockets {
         }
     }
 
-    /// Makes a socket with an empty queue, and answers its port: `(boot - 1) mod 4096 * 1048576` and how many were made with it.
-    /// (This project's profile.)
+    /// Makes a socket with an empty queue, and answers its port: `(boot - 1) mod 4096 * 1048576` and how many were
+    /// made with it. (This project's profile.)
     ///
     /// # Errors
     ///
-    /// `Full` exactly where 256 ports are there or 1,048,575 were made in this boot; else `NoMemory` where memory runs out.
+    /// `Full` exactly where 256 ports are there or 1,048,575 were made in this boot; else `NoMemory` where memory
+    /// runs out.
     pub fn make(&mut self, alloc: Global) -> Result<u32, PortFault>
         ensures number { IfOk result (λ port. port ≡ port_number self.old.ports.boot (self.old.ports.made + 1)) }
         ensures ok { IfOk result (λ port. self.new ≡ with_socket self.old port) }
-        ensures full { (result ≡ Err PortFault.Full) ↔ ((256 ≤ length self.old.ports.present) ⊎ (1048575 ≤ self.old.ports.made)) }
+        ensures full { (result ≡ Err PortFault.Full) ↔
+            ((256 ≤ length self.old.ports.present) ⊎ (1048575 ≤ self.old.ports.made)) }
         ensures err { OnErr result (self.new ≡ self.old) }
     {
         if self.ports.as_slice().len() >= MOST_PORTS || self.made >= MOST_MADE {
@@ -192,8 +196,9 @@ impl Sockets {
         find_at(self.live.as_slice(), port, key)
     }
 
-    /// Why a publication of a service type and key would be refused at a port, the first that holds: `NoSocket`, the port isn't
-    /// there; `Reserved`, the type is below 64; `Duplicate`, the key is live at this node; `Full`, 1,024 own publications are live.
+    /// Why a publication of a service type and key would be refused at a port, the first that holds: `NoSocket`, the
+    /// port isn't there; `Reserved`, the type is below 64; `Duplicate`, the key is live at this node; `Full`, 1,024
+    /// own publications are live.
     pub fn publish_refusal(&self, port: u32, kind: u32, key: u32) -> Option<PublishFault>
         ensures { result ≡ publish_refusal self.now port kind key }
     {
@@ -226,7 +231,8 @@ impl Sockets {
     ) -> Result<(), PublishFault>
         ensures ok { OnOk result (self.new ≡ published self.old (own_publication self.old.own port range scope key)) }
         ensures refused { (f : PublishFault) → publish_refusal self.old port range.kind key ≡ Some f → result ≡ Err f }
-        ensures cause { IfErr result (λ f. (f ≡ PublishFault.NoMemory) ⊎ (publish_refusal self.old port range.kind key ≡ Some f)) }
+        ensures cause { IfErr result (λ f. (f ≡ PublishFault.NoMemory) ⊎
+            (publish_refusal self.old port range.kind key ≡ Some f)) }
         ensures err { OnErr result (self.new ≡ self.old) }
     {
         if let Some(fault) = self.publish_refusal(port, range.kind(), key) {
@@ -253,13 +259,14 @@ impl Sockets {
     ///
     /// # Errors
     ///
-    /// `NoSocket` exactly where the port isn't there; else `Unknown` exactly where the key isn't live at that port. An error changes
-    /// nothing.
+    /// `NoSocket` exactly where the port isn't there; else `Unknown` exactly where the key isn't live at that port.
+    /// An error changes nothing.
     pub fn withdraw_at(&mut self, port: u32, key: u32) -> Result<Publication, WithdrawFault>
         ensures ok { IfOk result (λ p. published_at self.old port key ≡ Some p) }
         ensures after { OnOk result (self.new ≡ withdrawn self.old self.old.own key) }
         ensures no_socket { (result ≡ Err WithdrawFault.NoSocket) ↔ (has_port self.old port ≡ false) }
-        ensures unknown { (result ≡ Err WithdrawFault.Unknown) ↔ ((has_port self.old port ≡ true) × (published_at self.old port key ≡ None)) }
+        ensures unknown { (result ≡ Err WithdrawFault.Unknown) ↔
+            ((has_port self.old port ≡ true) × (published_at self.old port key ≡ None)) }
         ensures err { OnErr result (self.new ≡ self.old) }
     {
         if !self.has(port) {
@@ -273,8 +280,9 @@ impl Sockets {
         Ok(p)
     }
 
-    /// The publications that a name finds, closest first: the own ones that cover the instance, where there are some, and else those
-    /// of all nodes, in order of node, port and key. (Order and preference are this project's profile.)
+    /// The publications that a name finds, closest first: the own ones that cover the instance, where there are some,
+    /// and else those of all nodes, in order of node, port and key. (Order and preference are this project's
+    /// profile.)
     pub fn closest(&self, alloc: Global, kind: u32, instance: u32) -> Result<List, NoMemory>
         ensures { IfOk result (λ ps. ps ≡ closest self.now.own (filter (covers kind instance) self.now.names)) }
     {
@@ -305,7 +313,8 @@ impl Sockets {
 
     /// The ports of these publications that have room, rising.
     fn hearers(&self, alloc: Global, aimed: &[Publication]) -> Result<PortList, NoMemory>
-        ensures { IfOk result (λ ports. ports ≡ filter (λ port. list_any (is_at port) aimed.now && has_room (queue_at self.now port)) self.now.ports.present) }
+        ensures { IfOk result (λ ports. ports ≡
+            filter (λ port. list_any (is_at port) aimed.now && has_room (queue_at self.now port)) self.now.ports.present) }
     {
         let ports = self
             .ports
@@ -340,7 +349,8 @@ impl Sockets {
         lower: u32,
         upper: u32,
     ) -> Result<Fate, NoMemory>
-        ensures fate { IfOk result (λ f. f ≡ Fate.Queued (hearers self.old arrived (record { kind = kind; lower = lower; upper = upper }))) }
+        ensures fate { IfOk result (λ f. f ≡
+            Fate.Queued (hearers self.old arrived (record { kind = kind; lower = lower; upper = upper }))) }
         ensures ok { IfOk result (λ f. self.new ≡ after_fate self.old m.now f) }
         ensures err { OnErr result (self.new ≡ self.old) }
     {
@@ -350,19 +360,21 @@ impl Sockets {
         Ok(Fate::Queued(ports))
     }
 
-    /// What becomes of a message that arrived (`arrived`, whatever origin it names), or that the own node sent to itself. `waiting`
-    /// is how many packets wait on the active link to its origin, and None without contact. The first row that fits:
+    /// What becomes of a message that arrived (`arrived`, whatever origin it names), or that the own node sent to
+    /// itself. `waiting` is how many packets wait on the active link to its origin, and None without contact. The
+    /// first row that fits:
     ///
-    /// - a multicast waits at each own port, rising, that has room and a publication that overlaps its range, of cluster or zone
-    ///   scope where the message arrived;
+    /// - a multicast waits at each own port, rising, that has room and a publication that overlaps its range, of
+    ///   cluster or zone scope where the message arrived;
     /// - a connected message, and a message of name items, is dropped;
-    /// - a message that arrived by name isn't queued (1, no name) where its port has no publication of cluster or zone scope that
-    ///   covers the instance;
+    /// - a message that arrived by name isn't queued (1, no name) where its port has no publication of cluster or
+    ///   zone scope that covers the instance;
     /// - it isn't queued where the port isn't there (2, no port), or 128 messages wait there (4, overload);
     /// - else it waits at its port.
     ///
-    /// A message that isn't queued is dropped where it is droppable or was returned before. Else it goes back to its sender: at the own
-    /// node always, at a peer where fewer than 200 packets wait. (TIPC 2.0 draft; limits and returns are this project's profile.)
+    /// A message that isn't queued is dropped where it is droppable or was returned before. Else it goes back to its
+    /// sender: at the own node always, at a peer where fewer than 200 packets wait. (TIPC 2.0 draft; limits and
+    /// returns are this project's profile.)
     ///
     /// # Errors
     ///
@@ -421,9 +433,11 @@ impl Names for Sockets {
     fn publish(&mut self, p: Publication) -> Result<(), NameFault>
         requires { IsNodeWord p.at.node.word }
         ensures ok { OnOk result (self.new ≡ published self.old p) }
-        ensures duplicate { (result ≡ Err NameFault.Duplicate) ↔ (list_any (is_named p.at.node.word p.key) self.old.names ≡ true) }
+        ensures duplicate { (result ≡ Err NameFault.Duplicate) ↔
+            (list_any (is_named p.at.node.word p.key) self.old.names ≡ true) }
         ensures full { (result ≡ Err NameFault.Full) ↔
-            ((list_any (is_named p.at.node.word p.key) self.old.names ≡ false) × (1024 ≤ count_by (is_of p.at.node.word) self.old.names)) }
+            ((list_any (is_named p.at.node.word p.key) self.old.names ≡ false) ×
+            (1024 ≤ count_by (is_of p.at.node.word) self.old.names)) }
         ensures err { OnErr result (self.new ≡ self.old) }
         ensures sound { IsTable self.new.names }
     {

@@ -1,4 +1,4 @@
-use Rattle.std.proofs.Common.{◌≡◌, List, is_some, refl, sym, ap, ◌∙◌}
+use Rattle.std.proofs.Common.{List, is_some, refl, sym, ap, ◌∙◌}
 use Rattle.tipc_types.specs.declared.services.Publication.{Publication}
 use Rattle.tipc_sockets.proofs.Closing.{left_at_last, names_left}
 use Rattle.tipc_sockets.proofs.Keeping.{port_there, sockets_closed}

@@ -1,8 +1,6 @@
-use Rattle.std.proofs.Common.{◌≡◌, List, not, refl}
+use Rattle.std.proofs.Common.{not, refl}
 use Rattle.tipc_types.specs.declared.services.Publication.{Publication}
-use Rattle.tipc_name_table.specs.Tables.{is_named, without}
-use Rattle.tipc_sockets.specs.Publishing.{withdrawn}
-use Rattle.tipc_sockets.specs.SocketTables.{SocketTable}
+use Rattle.tipc_name_table.specs.Tables.{is_named}
 use Rattle.tipc_sockets.proofs.Keeping.{sockets_kept, taken_out}
 use Rattle.tipc_sockets.proofs.sockets.Sockets.withdraw_at.Goals as goal
 
