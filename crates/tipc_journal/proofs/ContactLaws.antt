@@ -1,3 +1,4 @@
+-- Contacts and links behind one more entry, and behind later ones.
 use Rattle.std.proofs.Common.{◌≡◌, ℕ, List, [], ◌∷◌, ◌++◌, None, fold, refl}
 use Rattle.std.proofs.lemmas.List.Sums.{fold-append}
 use Rattle.tipc_types.specs.declared.identity.Addr.{Addr}

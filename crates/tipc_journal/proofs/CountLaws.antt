@@ -5,17 +5,16 @@ use Rattle.std.specs.Cmp.{nat_cmp_is}
 use Rattle.std.specs.Ordering.{nat_cmp}
 use Rattle.std.specs.Prelude.{count_by, nat_lt, ◌==◌, ◌&&◌}
 use Rattle.std.proofs.lemmas.Bool.Decides.{nat_tests}
-use Rattle.std.specs.declared.cmp.Ordering.{Ordering}
 use Rattle.std.specs.declared.cmp.Ordering.TheVariants.{Less}
 use Rattle.std.specs.List.{AllByRecursion}
 use Rattle.std.proofs.Common.{◌≡◌, ℕ, zero, suc, ◌+◌, ◌<◌, Bool, true, false, arith, List, [], ◌∷◌, ◌++◌, Option, Some, None, cond, length, length-append, map, sum_by, refl, sym, subst, ◌∙◌, ap, zero-add, eqb-true}
-use Rattle.std.proofs.lemmas.List.Elements.{recursion_from_All}
+use Rattle.std.proofs.lemmas.List.Elements.{All-push, recursion_from_All}
 use Rattle.std.proofs.lemmas.List.Sums.{sum_by-append, sum_by-cons}
 use Rattle.std.proofs.lemmas.List.{map-append}
 use Rattle.tipc_journal.specs.declared.entries.Entry.{Entry}
 use Rattle.tipc_journal.specs.declared.entries.Entry.TheVariants.{Step, Answered}
-use Rattle.tipc_journal.specs.Counting.{call_by, calls_of, is_sent_by_name, names_sent, names_sent_before, stamps, CallsCount, StampsRise}
-use Rattle.tipc_journal.specs.Licensed.{events_taken, is_event_taken}
+use Rattle.tipc_journal.specs.Counting.{call_by, calls_of, is_sent_by_name, names_sent, names_sent_before, stamps, AllAnsweredToCallers, CallsCount, IsAnsweredToCaller, StampsRise}
+use Rattle.tipc_journal.specs.Licensed.{event_given, events_given}
 use Rattle.tipc_journal.specs.Prefixes.{list_with}
 use Rattle.tipc_journal.specs.Refusals.{is_subscribed, made_by, sockets_made, subscriptions_made}
 use Rattle.tipc_journal.specs.Steps.{IsInside, IsWhole, NodeStep, PlacedStep, step_entries, steps}
@@ -86,16 +85,16 @@ names_sent_before_all J stamp below =
     below_tests : (a b : ℕ) → a < b → nat_lt a b ≡ true
     below_tests a b h = grind (arith, nat_tests)
 
--- in an empty journal no event was taken
-pub events_taken_nil : (n : ℕ) → events_taken [] n ≡ 0
-unfolding events_taken
-events_taken_nil n = ap (count_by (λ p. is_event_taken n p.step.event p.step.answer)) steps_nil
+-- in an empty journal no event was given
+pub events_given_nil : (n : ℕ) → events_given [] n ≡ []
+unfolding events_given
+events_given_nil n = ap (filter_map (λ p. event_given n p.step.event p.step.answer)) steps_nil
 
--- one more whole step counts where an event of the subscription was taken
-pub events_taken_step : (J : List Entry) (s : NodeStep) (n : ℕ) → IsWhole J → IsInside s.inside
-    → events_taken (J ++ step_entries s) n ≡ events_taken J n + cond (is_event_taken n s.event s.answer) 1 0
-unfolding events_taken
-events_taken_step J s n whole clean = count_step (λ p. is_event_taken n p.step.event p.step.answer) J s whole clean
+-- one more whole step adds the event of the subscription that it gave
+pub events_given_step : (J : List Entry) (s : NodeStep) (n : ℕ) → IsWhole J → IsInside s.inside
+    → events_given (J ++ step_entries s) n ≡ list_with (events_given J n) (event_given n s.event s.answer)
+unfolding events_given
+events_given_step J s n whole clean = read_step (λ p. event_given n p.step.event p.step.answer) J s whole clean
 
 -- in an empty journal no socket was made
 pub sockets_made_nil : sockets_made [] ≡ []
@@ -166,6 +165,17 @@ StampsRise_step J s whole clean rise below =
     (rising_more (stamps J) s.by.stamp rise (recursion_from_All (λ stamp. stamp < s.by.stamp) (stamps J) below))
 
 -- ---- calls
+
+-- each step of an empty journal is answered to its caller
+pub AllAnsweredToCallers_nil : AllAnsweredToCallers []
+AllAnsweredToCallers_nil = subst (λ (w : List PlacedStep). All (λ p. IsAnsweredToCaller p.step) w) (sym steps_nil) (λ i d within. absurd (omega (arith, within)))
+
+-- one more whole step that is answered to its caller
+pub AllAnsweredToCallers_step : (J : List Entry) (s : NodeStep) → IsWhole J → IsInside s.inside
+    → AllAnsweredToCallers J → IsAnsweredToCaller s → AllAnsweredToCallers (J ++ step_entries s)
+AllAnsweredToCallers_step J s whole clean all one =
+    subst (λ (w : List PlacedStep). All (λ p. IsAnsweredToCaller p.step) w) (sym (steps_more J s whole clean))
+    (All-push (λ p. IsAnsweredToCaller p.step) (steps J) (record { before = J; step = s }) all one)
 
 -- an empty journal has no calls
 pub calls_of_nil : (caller : ℕ) → calls_of [] caller ≡ []

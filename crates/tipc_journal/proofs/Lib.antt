@@ -1,6 +1,7 @@
 pub mod ContactLaws
 pub mod CountLaws
 pub mod DueLaws
+pub mod EventLaws
 pub mod FateLaws
 pub mod Following
 pub mod Insides
@@ -11,6 +12,8 @@ pub mod PrefixLaws
 pub mod QueueLaws
 pub mod RoomLaws
 pub mod StepLaws
+pub mod StoryLaws
 pub mod StreamLaws
 pub mod SubscriptionLaws
+pub mod VisitLaws
 pub mod WholeSteps

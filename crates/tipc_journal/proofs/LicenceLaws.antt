@@ -1,13 +1,13 @@
 -- Licensed answers behind one more entry and one more whole step.
 use Rattle.std.specs.List.{All, AllByRecursion}
-use Rattle.std.specs.Prelude.{◌==◌, ◌⊎◌, not}
-use Rattle.std.proofs.Common.{◌≡◌, inl, inr, ℕ, ◌<◌, Bool, true, false, arith, List, [], ◌∷◌, ◌++◌, Option, Some, None, cond, length, length-append, map, refl, sym, subst, ◌∙◌, ap, append_assoc, true≢false, eqb-true}
+use Rattle.std.specs.Prelude.{not}
+use Rattle.std.proofs.Common.{◌≡◌, inl, inr, ℕ, ◌<◌, Bool, true, false, arith, List, [], ◌∷◌, ◌++◌, Some, None, cond, length, length-append, map, refl, sym, subst, ◌∙◌, ap, append_assoc, true≢false, eqb-true}
 use Rattle.std.proofs.lemmas.List.{append-nil}
 use Rattle.std.proofs.lemmas.List.Elements.{All-from_recursion, All-push, recursion_from_All}
 use Rattle.tipc_types.specs.declared.identity.Addr.{Addr}
 use Rattle.tipc_types.specs.declared.message_forms.Message.{Message}
 use Rattle.tipc_types.specs.declared.node_calls.Answer.{Answer}
-use Rattle.tipc_types.specs.declared.node_calls.Answer.TheVariants.{Empty, Got, NoSocket}
+use Rattle.tipc_types.specs.declared.node_calls.Answer.TheVariants.{Got, NoSocket}
 use Rattle.tipc_types.specs.declared.node_calls.By.{By}
 use Rattle.tipc_types.specs.declared.node_calls.EventNote.{EventNote}
 use Rattle.tipc_types.specs.declared.node_calls.EventNote.TheVariants.{Receive}
@@ -15,7 +15,7 @@ use Rattle.tipc_journal.specs.declared.entries.Entry.{Entry}
 use Rattle.tipc_journal.specs.Counting.{stamps}
 use Rattle.tipc_journal.specs.Dues.{Due, due_after, due_behind, first_due}
 use Rattle.tipc_journal.specs.Licensed.{is_send, received, sends_in, AllLicensed, AllPicked, IsAnswered, IsLicensed, IsPicked}
-use Rattle.tipc_journal.specs.Queues.{queue, queue_inside, queued_in, sockets, is_taking, IsFed}
+use Rattle.tipc_journal.specs.Queues.{queue, queued_in, sockets, is_taking, IsFed}
 use Rattle.tipc_journal.specs.Refusals.{is_among, refusal}
 use Rattle.tipc_journal.specs.Steps.{IsInside, IsWhole, NodeStep, PlacedStep, step_entries, steps}
 use Rattle.tipc_journal.specs.Subscriptions.{AllTimely, IsTimely}

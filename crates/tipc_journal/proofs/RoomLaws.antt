@@ -1,3 +1,4 @@
+-- Message bytes behind one more entry, and behind later ones.
 use Rattle.std.proofs.Common.{◌≡◌, ◌+◌, List, [], ◌∷◌, ◌++◌, refl, ◌∙◌, ap, sum_by, zero-add}
 use Rattle.std.proofs.lemmas.List.Sums.{sum_by-append}
 use Rattle.tipc_journal.specs.declared.entries.Entry.{Entry}

@@ -1,3 +1,4 @@
+-- Streams behind one more entry, behind later ones, and behind one more step.
 use Rattle.std.specs.Prelude.{◌==◌, count_by, is_some}
 use Rattle.std.specs.List.{cons_option, filter_map}
 use Rattle.std.proofs.Common.{◌≡◌, ◌⊎◌, inl, inr, ℕ, Bool, true, false, List, [], ◌∷◌, ◌++◌, Option, Some, None, cond, length, ◌+◌, refl, ◌∙◌, ap, eq-eqb, eqb-true, arith}

@@ -1,3 +1,4 @@
+-- Subscriptions and what they are told, behind one more entry and behind one more step.
 use Rattle.std.specs.Prelude.{◌==◌}
 use Rattle.std.proofs.Common.{◌≡◌, ℕ, List, [], ◌∷◌, ◌++◌, Option, Some, None, cond, filter, refl, sym, ◌∙◌, ap, append_assoc}
 use Rattle.std.proofs.lemmas.List.{append-nil}
@@ -110,6 +111,11 @@ each_behind_append f before (x ∷ xs) ys =
     ap (λ w. f before x ++ w) (each_behind_append f (before ++ x ∷ []) xs ys)
     ∙ sym (append_assoc (f before x) (each_behind f (before ++ x ∷ []) xs) (each_behind f (before ++ x ∷ [] ++ xs) ys))
     ∙ ap (λ w. (f before x ++ each_behind f (before ++ x ∷ []) xs) ++ each_behind f w ys) (append_assoc before (x ∷ []) xs)
+
+-- later entries put what they tell behind the transitions
+pub transitions_append : (J es : List Entry) (n : ℕ) → transitions (J ++ es) n ≡ transitions J n ++ each_behind (told n) J es
+unfolding transitions
+transitions_append J es n = each_behind_append (told n) [] J es
 
 -- neither a Step nor an Answered tells a subscription anything
 quiet_events : (o : Option Subscription) (there : List Publication) (by : By) (event : EventNote) → events_at o there (Step by event) ≡ []

@@ -1,6 +1,6 @@
 -- What a journal counts: sends by name, stamps, and the calls of each caller.
 use Rattle.std.specs.Prelude.{◌≡◌, ◌==◌, ◌&&◌, if◌then◌else◌, nat_lt, ℕ, Bool, true, false, List, Option, Some, None, length, map, count_by}
-use Rattle.std.specs.List.{filter_map, range_with_len}
+use Rattle.std.specs.List.{All, filter_map, range_with_len}
 use Rattle.std.specs.List.Sorted.{IsStrictlySortedBy}
 use Rattle.std.specs.Ordering.{nat_cmp}
 use Rattle.tipc_types.specs.declared.node_calls.Answer.{Answer}
@@ -36,6 +36,10 @@ StampsRise entries = IsStrictlySortedBy nat_cmp (stamps entries)
 pub record IsAnsweredToCaller (s : NodeStep) : Type 0 where
   pub caller : s.caller ≡ s.by.caller
   pub call : s.call ≡ s.by.call
+
+-- each step of a journal is answered to its caller
+abbrev pub AllAnsweredToCallers : List Entry → Type 0
+AllAnsweredToCallers entries = All (λ p. IsAnsweredToCaller p.step) (steps entries)
 
 -- the number of a step's call, where the caller is this one
 abbrev pub call_by : ℕ → NodeStep → Option ℕ

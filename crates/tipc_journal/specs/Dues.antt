@@ -1,7 +1,8 @@
--- What is due in a step of a journal: a message that arrived, or that a node sent to itself, has its fate next, and a return to a
--- peer is accepted next.
+-- What is due in a step of a journal: a message that arrived, or that a node sent to itself, has its fate next, and
+-- a return to a peer is accepted next.
 use Rattle.std.specs.Prelude.{◌==◌, if◌then◌else◌, ℕ, Bool, true, false, List, Option, Some, None, fold, take}
 use Rattle.tipc_types.specs.declared.identity.Addr.{Addr}
+use Rattle.tipc_types.specs.declared.identity.PortId.{PortId}
 use Rattle.tipc_types.specs.declared.message_forms.Form.TheVariants.{Multicast as Many, Named, Direct}
 use Rattle.tipc_types.specs.declared.message_forms.Message.{Message}
 use Rattle.tipc_types.specs.declared.message_forms.Message.TheVariants.{Payload, Items}
@@ -21,6 +22,10 @@ pub data Due : Type 0 where
   -- that this return is accepted for a peer
   ReturnDue : (message : Message) → Due
 
+-- what a multicast names in place of a port that it is for
+abbrev pub nowhere : PortId
+nowhere = record { node = record { word = 0 }; port = 0 }
+
 -- the message that a call of a node makes of its arguments and its answer, where it sends one
 abbrev pub sent_message : Addr → EventNote → Answer → Option Message
 sent_message own (SendName port kind instance importance body) (SentTo to) =
@@ -28,7 +33,7 @@ sent_message own (SendName port kind instance importance body) (SentTo to) =
 sent_message own (SendPort port to importance body) Sent =
     Some (Payload importance Direct (record { node = own; port = port }) to 0 0 0 0 false body)
 sent_message own (Multicast port kind lower upper importance body) Sent =
-    Some (Payload importance Many (record { node = own; port = port }) (record { node = record { word = 0 }; port = 0 }) kind lower upper 0 true body)
+    Some (Payload importance Many (record { node = own; port = port }) nowhere kind lower upper 0 true body)
 sent_message own event answer = None
 
 -- a message as it is returned: direct, with the code and at most its first 1,024 bytes, from the port that it was for

@@ -10,5 +10,7 @@ pub mod Queues
 pub mod Refusals
 pub mod Room
 pub mod Steps
+pub mod Story
 pub mod Streams
 pub mod Subscriptions
+pub mod Visits

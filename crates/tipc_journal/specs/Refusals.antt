@@ -7,11 +7,10 @@ use Rattle.tipc_types.specs.declared.node_calls.Answer.TheVariants as answer
 use Rattle.tipc_types.specs.declared.node_calls.EventNote.{EventNote}
 use Rattle.tipc_types.specs.declared.node_calls.EventNote.TheVariants as event
 use Rattle.tipc_types.specs.declared.services.Publication.{Publication}
-use Rattle.tipc_name_table.specs.Matching.{overlaps}
 use Rattle.tipc_journal.specs.declared.entries.Entry.{Entry}
 use Rattle.tipc_journal.specs.declared.entries.Entry.TheVariants as entry
 use Rattle.tipc_journal.specs.Contacts.{contact}
-use Rattle.tipc_journal.specs.Matches.{matches}
+use Rattle.tipc_journal.specs.Matches.{matches, overlap}
 use Rattle.tipc_journal.specs.Names.{live, table}
 use Rattle.tipc_journal.specs.Queues.{sockets}
 use Rattle.tipc_journal.specs.Steps.{steps}
@@ -74,6 +73,17 @@ no_socket entries port = (not (is_among (sockets entries) port), answer.NoSocket
 abbrev pub too_long : List ℕ → Bool × Answer
 too_long body = (nat_lt longest_body (length body), answer.TooLong (length body))
 
+-- refusals at the limits: as many sockets, or subscriptions, are there as may be, or were made in this boot
+abbrev pub no_more_sockets : List Entry → Bool × Answer
+no_more_sockets entries =
+    let made = length (sockets_made entries) in
+    (nat_le most_sockets (length (sockets entries)) || nat_le most_sockets_made made, answer.Full most_sockets)
+
+abbrev pub no_more_subscriptions : List Entry → Bool × Answer
+no_more_subscriptions entries =
+    let made = subscriptions_made entries in
+    (nat_le most_subscriptions (length (subscriptions entries)) || nat_le most_subscriptions_made made, answer.Full most_subscriptions)
+
 -- whether nothing was found
 abbrev pub is_nothing : List Publication → Bool
 is_nothing [] = true
@@ -81,8 +91,7 @@ is_nothing (p ∷ ps) = false
 
 -- the refusals of a call in their order, each with its condition, behind a journal
 abbrev pub refusals : Addr → List Entry → EventNote → List (Bool × Answer)
-refusals own J event.Socket =
-    (nat_le most_sockets (length (sockets J)) || nat_le most_sockets_made (length (sockets_made J)), answer.Full most_sockets) ∷ []
+refusals own J event.Socket = no_more_sockets J ∷ []
 refusals own J (event.Close port) = no_socket J port ∷ []
 refusals own J (event.Publish port range scope key) =
     no_socket J port
@@ -90,22 +99,26 @@ refusals own J (event.Publish port range scope key) =
     ∷ (list_any (λ p. p.key == key) (live J), answer.Duplicate key)
     ∷ (nat_le most_publications (length (live J)), answer.Full most_publications)
     ∷ []
-refusals own J (event.Withdraw port key) = no_socket J port ∷ (not (list_any (is_offer port key) (live J)), answer.Unknown) ∷ []
+refusals own J (event.Withdraw port key) =
+    no_socket J port ∷ (not (list_any (is_offer port key) (live J)), answer.Unknown) ∷ []
 refusals own J (event.SendName port kind instance importance body) =
     no_socket J port ∷ too_long body ∷ (is_nothing (matches own (table J) kind instance), answer.NoName) ∷ []
 refusals own J (event.SendPort port to importance body) =
-    no_socket J port ∷ too_long body ∷ (not (to.node.word == own.word) && is_none (contact J to.node), answer.NoNode) ∷ []
+    no_socket J port
+    ∷ too_long body
+    ∷ (not (to.node.word == own.word) && is_none (contact J to.node), answer.NoNode)
+    ∷ []
 refusals own J (event.Multicast port kind lower upper importance body) =
     no_socket J port
     ∷ too_long body
     ∷ (nat_lt upper lower, answer.BadRange)
-    ∷ (not (list_any (overlaps (record { kind = kind; lower = lower; upper = upper })) (table J)), answer.NoName)
+    ∷ (is_nothing (overlap (table J) (record { kind = kind; lower = lower; upper = upper })), answer.NoName)
     ∷ []
 refusals own J (event.Receive port) = no_socket J port ∷ []
 refusals own J (event.Subscribe s) =
     (nat_lt s.upper s.lower, answer.BadRange)
     ∷ (not ((s.filter == 1) || (s.filter == 2)), answer.BadFilter)
-    ∷ (nat_le most_subscriptions (length (subscriptions J)) || nat_le most_subscriptions_made (subscriptions_made J), answer.Full most_subscriptions)
+    ∷ no_more_subscriptions J
     ∷ []
 refusals own J (event.Cancel number) = (not (is_among (subscriptions J) number), answer.Unknown) ∷ []
 refusals own J (event.NextEvent number) = (not (is_among (subscriptions J) number), answer.Unknown) ∷ []

@@ -1,3 +1,4 @@
+use Rattle.tipc_journal.proofs.EventLaws.{given_front}
 use Rattle.tipc_journal.proofs.LicenceLaws.{AllLicensed_step, IsFed_licensed, sends_in_more, AllTimely_step}
 use Rattle.tipc_journal.proofs.laws.licences_follow.Goals as goal
 
@@ -12,3 +13,6 @@ returns-clause-inside c = sends_in_more
 
 pub returns-clause-timely : goal.returns-clause-timely
 returns-clause-timely c = AllTimely_step
+
+pub returns-clause-told : goal.returns-clause-told
+returns-clause-told c = given_front
