@@ -1,0 +1,7 @@
+-- Lemmas on the sockets of a node.
+pub mod Closing
+pub mod Counting
+pub mod Entries
+pub mod FatesTold
+pub mod Keeping
+pub mod StepsTold

@@ -1,0 +1,14 @@
+use Rattle.std.proofs.Common.{◌≡◌, ◌+◌, ◌<◌, ◌≤◌, true, ℕ, length, take}
+use Rattle.std.specs.Prelude.{nat_eq, slice_index_or, All}
+use Rattle.std.specs.Map.{lookup}
+use Rattle.tipc_types.specs.declared.message_forms.Message.{Message}
+use Rattle.tipc_sockets.specs.Fates.{has_room}
+use Rattle.tipc_sockets.specs.SocketTables.{queued_at_each}
+use Rattle.tipc_sockets.proofs.queues.put_each.Given as goal
+
+abbrev pub invariant-loop-port : goal.invariant-loop-port
+invariant-loop-port l =
+    (length l.made.items + l.port-index ≡ length l.ports)
+    × All (λ (m : Message). m ≡ l.message) l.made.items
+    × (l.queues.entries ≡ queued_at_each l.message l.fn.queues.entries (take l.port-index l.ports))
+    × ((k d : ℕ) → l.port-index ≤ k → k < length l.ports → has_room (lookup (nat_eq (slice_index_or l.ports k d)) l.queues.entries) ≡ true)

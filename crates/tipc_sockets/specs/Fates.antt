@@ -1,0 +1,89 @@
+-- The fate of a message that arrived, or that the own node sent to itself: the first row that fits.
+use Rattle.std.specs.Prelude.{ℕ, ◌==◌, ◌&&◌, ◌||◌, Bool, true, false, not, nat_le, nat_lt, if◌then◌else◌, List, [], ◌∷◌, Option, None, Some, filter, length}
+use Rattle.std.specs.List.{list_any}
+use Rattle.tipc_types.specs.Span.{Span}
+use Rattle.tipc_types.specs.declared.message_forms.Form.{Form}
+use Rattle.tipc_types.specs.declared.message_forms.Form.TheVariants.{Connected, Multicast, Named}
+use Rattle.tipc_types.specs.declared.message_forms.Message.{Message}
+use Rattle.tipc_types.specs.declared.message_forms.Message.TheVariants.{Payload, Items}
+use Rattle.tipc_types.specs.declared.services.Publication.{Publication}
+use Rattle.tipc_name_table.specs.Matching.{covers, overlaps}
+use Rattle.tipc_journal.specs.Dues.{returned_message}
+use Rattle.tipc_journal.specs.Fates.{counts_for, inbox_size, no_name, no_port, overload, return_limit}
+use Rattle.tipc_journal.specs.Names.{is_clusterwide}
+use Rattle.tipc_sockets.specs.declared.fates.Fate.{Fate}
+use Rattle.tipc_sockets.specs.declared.fates.Fate.TheVariants.{Queued, Returned, ReturnDropped, Dropped}
+use Rattle.tipc_sockets.specs.Publishing.{is_at}
+use Rattle.tipc_sockets.specs.SocketTables.{queue_at, queued_at_each, with_queues, SocketTable}
+
+-- whether a port offers an instance to other nodes: it has a live publication of cluster or zone scope that covers it
+abbrev pub is_offered : List Publication → ℕ → ℕ → ℕ → Bool
+is_offered live port kind instance =
+    list_any (λ p. is_at port p && (is_clusterwide p.scope && covers kind instance p)) live
+
+-- the live publications that a multicast of a range is for: those that share an instance with it and count
+abbrev pub aimed_at : List Publication → Bool → Span → List Publication
+aimed_at live arrived range = filter (λ p. overlaps range p && counts_for arrived p) live
+
+-- whether one more message may wait at a port where these wait: the port is there, and its inbox isn't full
+abbrev pub has_room : Option (List Message) → Bool
+has_room None = false
+has_room (Some waiting) = nat_lt (length waiting) inbox_size
+
+-- the ports to which a multicast is queued, rising
+abbrev pub hearers : SocketTable → Bool → Span → List ℕ
+hearers s arrived range =
+    filter (λ port. list_any (is_at port) (aimed_at s.live arrived range) && has_room (queue_at s port)) s.ports.present
+
+abbrev pub is_by_name : Form → Bool
+is_by_name Named = true
+is_by_name _ = false
+
+-- why a message isn't queued to a port where these wait: the port isn't there, or its inbox is full
+abbrev pub room_refusal : Option (List Message) → Option ℕ
+room_refusal None = Some no_port
+room_refusal (Some waiting) = if nat_lt (length waiting) inbox_size then None else Some overload
+
+-- why a message isn't queued to the one port that it is for: it arrived by name and the port offers no such instance;
+-- else as above
+abbrev pub refusal : SocketTable → Bool → Form → ℕ → ℕ → ℕ → Option ℕ
+refusal s arrived form port kind instance =
+    if arrived && (is_by_name form && not (is_offered s.live port kind instance)) then Some no_name
+    else room_refusal (queue_at s port)
+
+-- what becomes of the return to a node: the own node gets it always; a peer, where fewer than 200 packets wait on the
+-- link to it; a node without contact never
+abbrev pub return_fate : Bool → Option ℕ → Message → Fate
+return_fate true waiting m = Returned m
+return_fate false None m = ReturnDropped 0
+return_fate false (Some waiting) m = if nat_le return_limit waiting then ReturnDropped waiting else Returned m
+
+-- what becomes of a message that isn't queued, with the reason: it is dropped where it may be, or was returned before;
+-- else it is to go back
+abbrev pub unqueued_fate : ℕ → Option ℕ → ℕ → Message → Fate
+unqueued_fate own waiting why (Payload importance form from to kind lower upper code droppable body) =
+    if droppable || not (code == 0) then Dropped
+    else return_fate (from.node.word == own) waiting
+    (returned_message why (Payload importance form from to kind lower upper code droppable body))
+unqueued_fate own waiting why (Items withdrawal items) = Dropped
+
+-- what becomes of a message for one port, where there is a reason against it or none
+abbrev pub one_port_fate : ℕ → Option ℕ → ℕ → Option ℕ → Message → Fate
+one_port_fate own waiting port None m = Queued (port ∷ [])
+one_port_fate own waiting port (Some why) m = unqueued_fate own waiting why m
+
+-- The fate of a message. `waiting` is how many packets wait on the active link to its origin, or none without contact.
+-- Connected messages, and name items, are dropped.
+abbrev pub fate : SocketTable → Bool → Option ℕ → Message → Fate
+fate s arrived waiting (Payload importance Connected from to kind lower upper code droppable body) = Dropped
+fate s arrived waiting (Payload importance Multicast from to kind lower upper code droppable body) =
+    Queued (hearers s arrived (record { kind = kind; lower = lower; upper = upper }))
+fate s arrived waiting (Payload importance form from to kind lower upper code droppable body) =
+    one_port_fate s.own waiting to.port (refusal s arrived form to.port kind lower)
+    (Payload importance form from to kind lower upper code droppable body)
+fate s arrived waiting (Items withdrawal items) = Dropped
+
+-- the sockets after a fate: the message waits at each port to which it was queued
+abbrev pub after_fate : SocketTable → Message → Fate → SocketTable
+after_fate s m (Queued ports) = with_queues s (queued_at_each m s.queues ports)
+after_fate s m _ = s

@@ -1,0 +1,78 @@
+//! Laws of what the sockets of a node hold, beside its journal: each is the contract of a function that does nothing.
+
+ghost use Rattle.std.specs.Prelude.{◌≡◌, ◌<◌, ◌+◌, ◌++◌, ◌∷◌, ℕ, Bool, List, Option, [], None, false, true, is_some, filter, length, unwrap_or};
+ghost use Rattle.std.specs.List.{list_any};
+ghost use Rattle.tipc_types.specs.declared.identity.Addr.{Addr};
+ghost use Rattle.tipc_journal.specs.declared.entries.Entry.{Entry};
+ghost use Rattle.tipc_types.specs.declared.message_forms.Message.{Message};
+ghost use Rattle.tipc_types.specs.declared.services.Publication.{Publication};
+ghost use Rattle.tipc_types.specs.declared.node_calls.Answer.TheVariants.{Done, Socket as Made, Got};
+ghost use Rattle.tipc_types.specs.declared.node_calls.EventNote.TheVariants.{Socket, Close, Receive};
+ghost use Rattle.tipc_journal.specs.Contacts.{contact};
+ghost use Rattle.tipc_journal.specs.Dues.{Due, FateDue, due_behind, first_due};
+ghost use Rattle.tipc_journal.specs.Fates.{scene_at, IsFate};
+ghost use Rattle.tipc_journal.specs.Names.{is_at_home};
+ghost use Rattle.tipc_journal.specs.Queues.{is_taking, queued_by, sockets_after};
+ghost use Rattle.tipc_journal.specs.Refusals.{made_by};
+ghost use Rattle.tipc_journal.specs.Steps.{NodeStep, step_entries, IsInside, IsWhole};
+ghost use Rattle.tipc_ports.specs.Numbers.{port_number};
+ghost use Rattle.tipc_sockets.specs.Fates.{after_fate, fate};
+ghost use Rattle.tipc_sockets.specs.Publishing.{closed, is_at, withdrawn_each};
+ghost use Rattle.tipc_sockets.specs.SocketTables.{no_sockets, queue_at, taken_from, with_queues, with_socket, AreSockets, SocketTable};
+ghost use Rattle.tipc_sockets.specs.Telling.{after_entry, fate_entry, is_for_one_there, is_payload, is_placed, origin_of, AreTold};
+
+/// An empty journal tells what new sockets hold.
+pub fn new_sockets_are_told()
+    ensures { (own : Addr) (boot : ℕ) (d : Due) → AreTold own [] d [] (no_sockets own.word boot) }
+{}
+
+/// One more entry that queues nothing tells what the sockets hold after it.
+pub fn entries_tell_of_sockets()
+    ensures { (own : Addr) (J : List Entry) (d : Due) (front : List Entry) (s : SocketTable) (e : Entry) →
+        AreTold own J d front s → is_at_home own e ≡ true → ((port : ℕ) → queued_by port (due_behind own d front) e ≡ []) →
+        is_placed s e ≡ true → AreTold own J d (front ++ e ∷ []) (after_entry s e) }
+{}
+
+/// The fate that the sockets give a user's message may stand where it is due, and tells what they hold after it. A
+/// message by name that didn't arrive is for a port that is there.
+pub fn fates_tell_of_sockets()
+    ensures may { (own : Addr) (J : List Entry) (d : Due) (front : List Entry) (s : SocketTable) (m : Message) →
+        (arrived : Bool) → (waiting : Option ℕ) → AreTold own J d front s → AreSockets s → is_payload m ≡ true →
+        is_some waiting ≡ is_some (contact (J ++ front) (origin_of m)) → (arrived ≡ false → is_for_one_there s m ≡ true) →
+        IsFate (scene_at own J d front) m arrived (fate_entry (fate s arrived waiting m)) }
+    ensures told { (own : Addr) (J : List Entry) (d : Due) (front : List Entry) (s : SocketTable) (m : Message) →
+        (arrived : Bool) → (waiting : Option ℕ) → AreTold own J d front s → AreSockets s → due_behind own d front ≡ FateDue m arrived →
+        AreTold own J d (front ++ fate_entry (fate s arrived waiting m) ∷ []) (after_fate s m (fate s arrived waiting m)) }
+{}
+
+/// Where the publications at a port are withdrawn one after the other, in the order of publishing, nothing is
+/// published there any more, and closing the port then leaves what closing it at once does.
+pub fn a_closing_withdraws_in_turn()
+    ensures sockets { (s : SocketTable) (ps : List Publication) → AreSockets s → AreSockets (withdrawn_each s ps) }
+    ensures bare { (s : SocketTable) (port : ℕ) → AreSockets s →
+        list_any (is_at port) (withdrawn_each s (filter (is_at port) s.live)).live ≡ false }
+    ensures same { (s : SocketTable) (port : ℕ) → AreSockets s →
+        closed (withdrawn_each s (filter (is_at port) s.live)) port ≡ closed s port }
+{}
+
+/// One more whole step tells what the sockets hold after its call: a socket that is made is there with an empty
+/// queue; one that is closed, where nothing is published there any more, isn't; a received message is taken; and by
+/// any other call nothing changes.
+pub fn steps_tell_of_sockets()
+    ensures made { (own : Addr) (J : List Entry) (st : NodeStep) (s : SocketTable) (later : Due) (port : ℕ) →
+        IsWhole J → IsInside st.inside → AreTold own J (first_due own st.event st.answer) st.inside s →
+        st.event ≡ Socket → st.answer ≡ Made port → port ≡ port_number s.ports.boot (s.ports.made + 1) →
+        AreTold own (J ++ step_entries st) later [] (with_socket s port) }
+    ensures closed { (own : Addr) (J : List Entry) (st : NodeStep) (s : SocketTable) (later : Due) (port : ℕ) →
+        IsWhole J → IsInside st.inside → AreTold own J (first_due own st.event st.answer) st.inside s →
+        st.event ≡ Close port → st.answer ≡ Done → AreSockets s → list_any (is_at port) s.live ≡ false →
+        AreTold own (J ++ step_entries st) later [] (closed s port) }
+    ensures taken { (own : Addr) (J : List Entry) (st : NodeStep) (s : SocketTable) (later : Due) (port : ℕ) →
+        IsWhole J → IsInside st.inside → AreTold own J (first_due own st.event st.answer) st.inside s →
+        st.event ≡ Receive port → st.answer ≡ Got → 0 < length (unwrap_or (queue_at s port) []) →
+        AreTold own (J ++ step_entries st) later [] (with_queues s (taken_from s.queues port)) }
+    ensures others { (own : Addr) (J : List Entry) (st : NodeStep) (s : SocketTable) (later : Due) →
+        IsWhole J → IsInside st.inside → AreTold own J (first_due own st.event st.answer) st.inside s →
+        ((ports : List ℕ) → sockets_after ports st.event st.answer ≡ ports) → made_by st.event st.answer ≡ None →
+        ((port : ℕ) → is_taking port st.event st.answer ≡ false) → AreTold own (J ++ step_entries st) later [] s }
+{}

@@ -1,0 +1,484 @@
+//! The sockets of one node, and the calls that they take.
+
+ghost use Rattle.std.specs.Prelude.{◌≡◌, ◌≤◌, ◌<◌, ◌+◌, ◌⊎◌, ◌↔◌, ◌&&◌, ℕ, List, [], ◌∷◌, false, true, Err, Ok, None, Some, count_by, filter, find, length, slice_get, unwrap_or, IfErr, IfOk, IfSome, IfNone, IsErr, OnErr, OnOk};
+ghost use Rattle.std.specs.List.{list_any};
+ghost use Rattle.tipc_types.specs.Address.{IsNodeWord};
+ghost use Rattle.tipc_types.specs.declared.message_forms.Message.{Message};
+ghost use Rattle.tipc_types.specs.declared.services.Publication.{Publication};
+ghost use Rattle.tipc_name_table.specs.Matching.{closest, covers, overlaps};
+ghost use Rattle.tipc_name_table.specs.Tables.{is_named, is_of, put, without, without_node, IsTable};
+ghost use Rattle.tipc_ports.specs.Numbers.{port_number, ArePresent};
+ghost use Rattle.tipc_sockets.specs.Fates.{after_fate, fate, has_room, hearers, refusal};
+ghost use Rattle.tipc_sockets.specs.Publishing.{closed, is_at, own_publication, published_at, publish_refusal, published, purged, withdrawn};
+ghost use Rattle.tipc_sockets.specs.SocketTables.{has_port, no_sockets, queue_at, queued, queued_at_each, taken_from, with_queues, with_socket, AreSockets};
+
+use crate::fates::{Fate, unqueued};
+use crate::publishing::{
+    FIRST_KIND, PublishFault, WithdrawFault, aimed_at, all_at, find_at, has_key, is_any_at, is_of,
+    is_offered, remove_at, remove_named, remove_node, those_of, withdraw_those_at,
+};
+use crate::queues::{Queue, Queues, has_room, put, put_each};
+use std::alloc::Global;
+use std::marker::Model;
+use tipc_journal::PortList;
+use tipc_name_table::{MOST_PUBLICATIONS, NameFault, NameTable, Names, Unknown as UnknownName};
+use tipc_ports::{MOST_MADE, MOST_PORTS, PortFault, Ports, Unknown};
+use tipc_types::{Addr, Form, List, Message, NoMemory, PortId, Publication, Scope, ServiceRange};
+
+/// Why a message isn't queued: the port has no such publication. (TIPC 2.0 draft.)
+const NO_NAME: u8 = 1;
+
+/// Why a message isn't queued: the port isn't there. (TIPC 2.0 draft.)
+const NO_PORT: u8 = 2;
+
+/// Why a message isn't queued: as many wait at the port as may. (TIPC 2.0 draft.)
+const OVERLOAD: u8 = 4;
+
+/// The form in which the names are held.
+pub type Table = NameTable;
+
+/// The sockets of a node in one boot: the publications that it knows, its ports, and the messages that wait at each
+/// of them.
+#[derive(Drop)]
+pub struct Sockets {
+    own: Addr,
+    names: Table,
+    live: Vec<Publication>,
+    ports: Ports,
+    made: u32,
+    queues: Queues,
+}
+
+impl Model for Sockets {
+    ghost use Rattle.std.specs.Prelude.{◌≡◌};
+    ghost use Rattle.tipc_sockets.specs.SocketTables.{AreSockets, SocketTable};
+
+    ghost Value = { SocketTable };
+
+    ghost view = { λ s. record { own = s.own.word; names = s.names; live = s.live.items; ports = s.ports; queues = s.queues.entries } };
+
+    ghost invariant = { λ s. (s.made ≡ s.ports.made) ×
+        AreSockets (record { own = s.own.word; names = s.names; live = s.live.items; ports = s.ports; queues = s.queues.entries }) };
+}
+
+impl Sockets {
+    /// The sockets of a node of this boot, before any is made. Nothing is published. Boots are counted from 1.
+    pub fn new(alloc: Global, own: Addr, boot: u32) -> Sockets
+        requires node { IsNodeWord own.word }
+        requires boot { 1 ≤ boot }
+        ensures { result ≡ no_sockets own.word boot }
+    {
+        Sockets {
+            own,
+            names: Table::new(alloc),
+            live: Vec::new(alloc),
+            ports: Ports::new(alloc, boot),
+            made: 0,
+            queues: Queues::new(alloc),
+        }
+    }
+
+    /// Makes a socket with an empty queue, and answers its port: `(boot - 1) mod 4096 * 1048576` and how many were
+    /// made with it. (This project's profile.)
+    ///
+    /// # Errors
+    ///
+    /// `Full` exactly where 256 ports are there or 1,048,575 were made in this boot; else `NoMemory` where memory
+    /// runs out.
+    pub fn make(&mut self, alloc: Global) -> Result<u32, PortFault>
+        ensures number { IfOk result (λ port. port ≡ port_number self.old.ports.boot (self.old.ports.made + 1)) }
+        ensures ok { IfOk result (λ port. self.new ≡ with_socket self.old port) }
+        ensures full { (result ≡ Err PortFault.Full) ↔
+            ((256 ≤ length self.old.ports.present) ⊎ (1048575 ≤ self.old.ports.made)) }
+        ensures err { OnErr result (self.new ≡ self.old) }
+    {
+        if self.ports.as_slice().len() >= MOST_PORTS || self.made >= MOST_MADE {
+            return Err(PortFault::Full);
+        }
+        let Ok(queue) = Queue::new(alloc) else {
+            return Err(PortFault::NoMemory);
+        };
+        let Ok(()) = self.queues.reserve(1) else {
+            return Err(PortFault::NoMemory);
+        };
+        let port = self.ports.make()?;
+        self.made += 1;
+        match self.queues.insert(port, queue) {
+            Ok(_) => Ok(port),
+            Err(_) => unreachable!(),
+        }
+    }
+
+    /// Whether the port is there.
+    pub fn has(&self, port: u32) -> bool
+        ensures { result ≡ has_port self.now port }
+    {
+        self.queues.contains_key(&port)
+    }
+
+    /// The ports that are there, in the order in which they were made, which is that of their numbers.
+    pub fn ports(&self) -> &[u32]
+        ensures ports { result.now ≡ self.now.ports.present }
+        ensures present { ArePresent self.now.ports.boot self.now.ports.made self.now.ports.present }
+    {
+        self.ports.as_slice()
+    }
+
+    /// How many messages wait at a port, 128 at most: 0 where it isn't there.
+    pub fn queued(&self, port: u32) -> u32
+        ensures count { result ≡ length (unwrap_or (queue_at self.now port) []) }
+        ensures most { result ≤ 128 }
+    {
+        match self.queues.get(&port) {
+            Some(queue) => queue.len(),
+            None => 0,
+        }
+    }
+
+    /// Takes the first message that waits at a port: None exactly where none waits. It takes no memory.
+    ///
+    /// # Errors
+    ///
+    /// `Unknown` exactly where the port isn't there. It changes nothing.
+    pub fn receive(&mut self, port: u32) -> Result<Option<Message>, Unknown>
+        ensures first { IfOk result (λ m. m ≡ slice_get (unwrap_or (queue_at self.old port) []) 0) }
+        ensures ok { OnOk result (self.new ≡ with_queues self.old (taken_from self.old.queues port)) }
+        ensures unknown { IsErr result ↔ (has_port self.old port ≡ false) }
+        ensures err { OnErr result (self.new ≡ self.old) }
+    {
+        let Some(queue) = self.queues.get_mut(&port) else {
+            return Err(Unknown);
+        };
+        Ok(queue.take())
+    }
+
+    /// Closes a port: its publications are withdrawn, and what waits there is dropped. It takes no memory.
+    ///
+    /// # Errors
+    ///
+    /// `Unknown` exactly where the port isn't there. It changes nothing.
+    pub fn close(&mut self, port: u32) -> Result<(), Unknown>
+        ensures ok { OnOk result (self.new ≡ closed self.old port) }
+        ensures unknown { IsErr result ↔ (has_port self.old port ≡ false) }
+        ensures err { OnErr result (self.new ≡ self.old) }
+    {
+        if self.queues.shift_remove(&port).is_none() {
+            return Err(Unknown);
+        }
+        match self.ports.close(port) {
+            Ok(()) => {}
+            Err(_) => unreachable!(),
+        }
+        withdraw_those_at(&mut self.names, self.live.as_slice(), self.own, port);
+        remove_at(&mut self.live, port);
+        Ok(())
+    }
+
+    /// The own publications, in the order of publishing, and what always holds of a node's sockets.
+    pub fn live(&self) -> &[Publication]
+        ensures live { result.now ≡ self.now.live }
+        ensures sound { AreSockets self.now }
+    {
+        self.live.as_slice()
+    }
+
+    /// The own publications at a port, in the order of publishing.
+    pub fn live_at(&self, alloc: Global, port: u32) -> Result<List, NoMemory>
+        ensures { IfOk result (λ ps. ps ≡ filter (is_at port) self.now.live) }
+    {
+        Ok(List::from_vec(all_at(alloc, self.live.as_slice(), port)?))
+    }
+
+    /// The own publication of a key at a port: None exactly where the key isn't live there.
+    pub fn published_at(&self, port: u32, key: u32) -> Option<Publication>
+        ensures { result ≡ published_at self.now port key }
+    {
+        find_at(self.live.as_slice(), port, key)
+    }
+
+    /// Why a publication of a service type and key would be refused at a port, the first that holds: `NoSocket`, the
+    /// port isn't there; `Reserved`, the type is below 64; `Duplicate`, the key is live at this node; `Full`, 1,024
+    /// own publications are live.
+    pub fn publish_refusal(&self, port: u32, kind: u32, key: u32) -> Option<PublishFault>
+        ensures { result ≡ publish_refusal self.now port kind key }
+    {
+        if !self.has(port) {
+            return Some(PublishFault::NoSocket);
+        }
+        if kind < FIRST_KIND {
+            return Some(PublishFault::Reserved);
+        }
+        if has_key(self.live.as_slice(), key) {
+            return Some(PublishFault::Duplicate(key));
+        }
+        if self.live.len() >= MOST_PUBLICATIONS {
+            return Some(PublishFault::Full);
+        }
+        None
+    }
+
+    /// Publishes a range at an own port, behind those that are live.
+    ///
+    /// # Errors
+    ///
+    /// Exactly what `publish_refusal` says; else `NoMemory` where memory runs out. An error changes nothing.
+    pub fn publish_at(
+        &mut self,
+        port: u32,
+        range: ServiceRange,
+        scope: Scope,
+        key: u32,
+    ) -> Result<(), PublishFault>
+        ensures ok { OnOk result (self.new ≡ published self.old (own_publication self.old.own port range scope key)) }
+        ensures refused { (f : PublishFault) → publish_refusal self.old port range.kind key ≡ Some f → result ≡ Err f }
+        ensures cause { IfErr result (λ f. (f ≡ PublishFault.NoMemory) ⊎
+            (publish_refusal self.old port range.kind key ≡ Some f)) }
+        ensures err { OnErr result (self.new ≡ self.old) }
+    {
+        if let Some(fault) = self.publish_refusal(port, range.kind(), key) {
+            return Err(fault);
+        }
+        let at = PortId {
+            node: self.own,
+            port,
+        };
+        match self.publish(Publication {
+            range,
+            scope,
+            at,
+            key,
+        }) {
+            Ok(()) => Ok(()),
+            Err(NameFault::NoMemory) => Err(PublishFault::NoMemory),
+            Err(NameFault::Duplicate) => unreachable!(),
+            Err(NameFault::Full) => unreachable!(),
+        }
+    }
+
+    /// Withdraws the own publication of a key at a port. It takes no memory.
+    ///
+    /// # Errors
+    ///
+    /// `NoSocket` exactly where the port isn't there; else `Unknown` exactly where the key isn't live at that port.
+    /// An error changes nothing.
+    pub fn withdraw_at(&mut self, port: u32, key: u32) -> Result<Publication, WithdrawFault>
+        ensures ok { IfOk result (λ p. published_at self.old port key ≡ Some p) }
+        ensures after { OnOk result (self.new ≡ withdrawn self.old self.old.own key) }
+        ensures no_socket { (result ≡ Err WithdrawFault.NoSocket) ↔ (has_port self.old port ≡ false) }
+        ensures unknown { (result ≡ Err WithdrawFault.Unknown) ↔
+            ((has_port self.old port ≡ true) × (published_at self.old port key ≡ None)) }
+        ensures err { OnErr result (self.new ≡ self.old) }
+    {
+        if !self.has(port) {
+            return Err(WithdrawFault::NoSocket);
+        }
+        let Some(p) = self.published_at(port, key) else {
+            return Err(WithdrawFault::Unknown);
+        };
+        let _ = self.names.withdraw(self.own, key);
+        remove_named(&mut self.live, self.own, key);
+        Ok(p)
+    }
+
+    /// The publications that a name finds, closest first: the own ones that cover the instance, where there are some,
+    /// and else those of all nodes, in order of node, port and key. (Order and preference are this project's
+    /// profile.)
+    pub fn closest(&self, alloc: Global, kind: u32, instance: u32) -> Result<List, NoMemory>
+        ensures { IfOk result (λ ps. ps ≡ closest self.now.own (filter (covers kind instance) self.now.names)) }
+    {
+        let all = self.names.matches(alloc, kind, instance)?;
+        let own = those_of(alloc, all.as_slice(), self.own)?;
+        if own.is_empty() {
+            return Ok(all);
+        }
+        Ok(List::from_vec(own))
+    }
+
+    /// Why a message isn't queued to the one port that it is for.
+    fn refusal(&self, arrived: bool, form: Form, port: u32, kind: u32, instance: u32) -> Option<u8>
+        ensures { result ≡ refusal self.now arrived form port kind instance }
+    {
+        if arrived
+            && form == Form::Named
+            && !is_offered(self.live.as_slice(), port, kind, instance)
+        {
+            return Some(NO_NAME);
+        }
+        match self.queues.get(&port) {
+            None => Some(NO_PORT),
+            Some(queue) if queue.has_room() => None,
+            Some(_) => Some(OVERLOAD),
+        }
+    }
+
+    /// The ports of these publications that have room, rising.
+    fn hearers(&self, alloc: Global, aimed: &[Publication]) -> Result<PortList, NoMemory>
+        ensures { IfOk result (λ ports. ports ≡
+            filter (λ port. list_any (is_at port) aimed.now && has_room (queue_at self.now port)) self.now.ports.present) }
+    {
+        let ports = self
+            .ports
+            .as_slice()
+            .iter()
+            .copied()
+            .filter(|port| is_any_at(aimed, *port) && has_room(&self.queues, *port))
+            .collect(alloc)?;
+        Ok(PortList::from_vec(ports))
+    }
+
+    /// Queues a message to a port that has room.
+    fn queue_to(&mut self, alloc: Global, port: u32, m: Message) -> Result<Fate, NoMemory>
+        requires { has_room (queue_at self.old port) ≡ true }
+        ensures fate { IfOk result (λ f. f ≡ Fate.Queued (port ∷ [])) }
+        ensures ok { OnOk result (self.new ≡ with_queues self.old (queued m self.old.queues port)) }
+        ensures err { OnErr result (self.new ≡ self.old) }
+    {
+        let mut ports = PortList::new(alloc);
+        ports.push(port)?;
+        put(&mut self.queues, port, m);
+        Ok(Fate::Queued(ports))
+    }
+
+    /// Queues a copy of a multicast to each port that hears it.
+    fn spread(
+        &mut self,
+        alloc: Global,
+        m: &Message,
+        arrived: bool,
+        kind: u32,
+        lower: u32,
+        upper: u32,
+    ) -> Result<Fate, NoMemory>
+        ensures fate { IfOk result (λ f. f ≡
+            Fate.Queued (hearers self.old arrived (record { kind = kind; lower = lower; upper = upper }))) }
+        ensures ok { IfOk result (λ f. self.new ≡ after_fate self.old m.now f) }
+        ensures err { OnErr result (self.new ≡ self.old) }
+    {
+        let aimed = aimed_at(alloc, self.live.as_slice(), arrived, kind, lower, upper)?;
+        let ports = self.hearers(alloc, aimed.as_slice())?;
+        put_each(alloc, &mut self.queues, ports.as_slice(), m)?;
+        Ok(Fate::Queued(ports))
+    }
+
+    /// What becomes of a message that arrived (`arrived`, whatever origin it names), or that the own node sent to
+    /// itself. `waiting` is how many packets wait on the active link to its origin, and None without contact. The
+    /// first row that fits:
+    ///
+    /// - a multicast waits at each own port, rising, that has room and a publication that overlaps its range, of
+    ///   cluster or zone scope where the message arrived;
+    /// - a connected message, and a message of name items, is dropped;
+    /// - a message that arrived by name isn't queued (1, no name) where its port has no publication of cluster or
+    ///   zone scope that covers the instance;
+    /// - it isn't queued where the port isn't there (2, no port), or 128 messages wait there (4, overload);
+    /// - else it waits at its port.
+    ///
+    /// A message that isn't queued is dropped where it is droppable or was returned before. Else it goes back to its
+    /// sender: at the own node always, at a peer where fewer than 200 packets wait. (TIPC 2.0 draft; limits and
+    /// returns are this project's profile.)
+    ///
+    /// # Errors
+    ///
+    /// `NoMemory` where memory runs out. Nothing is changed then, but the message is gone.
+    pub fn dispatch(
+        &mut self,
+        alloc: Global,
+        m: Message,
+        arrived: bool,
+        waiting: Option<u32>,
+    ) -> Result<Fate, NoMemory>
+        ensures fate { IfOk result (λ f. f ≡ fate self.old arrived waiting m) }
+        ensures ok { IfOk result (λ f. self.new ≡ after_fate self.old m f) }
+        ensures err { OnErr result (self.new ≡ self.old) }
+    {
+        let Message::Payload {
+            form,
+            to,
+            name_kind,
+            lower,
+            upper,
+            ..
+        } = &m
+        else {
+            return Ok(Fate::Dropped);
+        };
+        let (form, port, kind, lower, upper) = (*form, to.port, *name_kind, *lower, *upper);
+        match form {
+            Form::Connected => Ok(Fate::Dropped),
+            Form::Multicast => self.spread(alloc, &m, arrived, kind, lower, upper),
+            Form::Named | Form::Direct => match self.refusal(arrived, form, port, kind, lower) {
+                Some(why) => Ok(unqueued(self.own, waiting, why, m)),
+                None => self.queue_to(alloc, port, m),
+            },
+        }
+    }
+
+    /// The same sockets, with the same names, publications, queues, and number for the next port.
+    pub fn copy(&self) -> Result<Sockets, NoMemory>
+        ensures { IfOk result (λ copy. copy ≡ self.now) }
+    {
+        Ok(Sockets {
+            own: self.own,
+            names: self.names.copy()?,
+            live: self.live.clone()?,
+            ports: self.ports.copy()?,
+            made: self.made,
+            queues: self.queues.clone()?,
+        })
+    }
+}
+
+impl Names for Sockets {
+    ghost table = { λ s. s.names };
+
+    fn publish(&mut self, p: Publication) -> Result<(), NameFault>
+        requires { IsNodeWord p.at.node.word }
+        ensures ok { OnOk result (self.new ≡ published self.old p) }
+        ensures duplicate { (result ≡ Err NameFault.Duplicate) ↔
+            (list_any (is_named p.at.node.word p.key) self.old.names ≡ true) }
+        ensures full { (result ≡ Err NameFault.Full) ↔
+            ((list_any (is_named p.at.node.word p.key) self.old.names ≡ false) ×
+            (1024 ≤ count_by (is_of p.at.node.word) self.old.names)) }
+        ensures err { OnErr result (self.new ≡ self.old) }
+        ensures sound { IsTable self.new.names }
+    {
+        self.names.publish(p)?;
+        if !is_of(&p, self.own) {
+            return Ok(());
+        }
+        match self.live.push(p) {
+            Ok(()) => Ok(()),
+            Err(_) => {
+                let _ = self.names.withdraw(p.at.node, p.key);
+                Err(NameFault::NoMemory)
+            }
+        }
+    }
+
+    fn withdraw(&mut self, node: Addr, key: u32) -> Result<Publication, UnknownName>
+        ensures ok { IfOk result (λ p. find (is_named node.word key) self.old.names ≡ Some p) }
+        ensures after { OnOk result (self.new ≡ withdrawn self.old node.word key) }
+        ensures unknown { OnErr result (find (is_named node.word key) self.old.names ≡ None) }
+        ensures err { OnErr result (self.new ≡ self.old) }
+        ensures sound { IsTable self.new.names }
+    {
+        let p = self.names.withdraw(node, key)?;
+        remove_named(&mut self.live, node, key);
+        Ok(p)
+    }
+
+    fn matches(&self, alloc: Global, kind: u32, instance: u32) -> Result<List, NoMemory> {
+        self.names.matches(alloc, kind, instance)
+    }
+
+    fn overlapping(&self, alloc: Global, range: ServiceRange) -> Result<List, NoMemory> {
+        self.names.overlapping(alloc, range)
+    }
+
+    fn purge(&mut self, node: Addr)
+        ensures all { self.new ≡ purged self.old node.word }
+        ensures sound { IsTable self.new.names }
+    {
+        self.names.purge(node);
+        remove_node(&mut self.live, node);
+    }
+}
