@@ -12,7 +12,7 @@ use Rattle.tipc_fragments.specs.Joining.{Joining}
 use Rattle.tipc_reassembly.specs.Slots.{packets_in}
 use Rattle.tipc_link.specs.Links.{LinkEnd}
 use Rattle.tipc_pair.specs.declared.changes.PairOutcome.{PairOutcome}
-use Rattle.tipc_pair.specs.Paired.{IsShowable}
+use Rattle.tipc_partners.specs.Paired.{IsShowable}
 use Rattle.tipc_pair.specs.Pairs.{arrival}
 use Rattle.tipc_pair.specs.Partners.{OpensTo, begun_after, opened_in}
 use Rattle.tipc_partners.specs.Sights.{AreSeen, Comes, HasOnly, Sight}

@@ -14,7 +14,7 @@ use Rattle.tipc_link.specs.Links.{LinkEnd, followed, is_down, mend_frames, mende
 use Rattle.tipc_link.specs.Sessions.{SessionEnd, told}
 use Rattle.std.specs.Prelude.{unwrap_or}
 use Rattle.tipc_fragments.specs.Joining.{fresh}
-use Rattle.tipc_pair.specs.Paired.{IsShowable}
+use Rattle.tipc_partners.specs.Paired.{IsShowable}
 use Rattle.tipc_pair.specs.Pairs.{change_of, cut_pair, settled, tick_frames, tick_pair}
 use Rattle.tipc_pair.specs.Partners.{begun_after}
 use Rattle.tipc_partners.specs.Sights.{AreSeen, Goes, HasOnly, Sight}

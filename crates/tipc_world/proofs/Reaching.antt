@@ -19,8 +19,7 @@ use Rattle.tipc_header.specs.Spelling.{Fields, spelling}
 use Rattle.tipc_header.proofs.Again.{again}
 use Rattle.tipc_header.proofs.FrameWords.{length-envelope}
 use Rattle.tipc_link.specs.Links.{is_traffic}
-use Rattle.tipc_pair.proofs.SessionsHeard.{same_packet}
-use Rattle.tipc_pair.proofs.Spoken.{er_of-frame, es_of-frame}
+use Rattle.tipc_partners.proofs.Frames.{er_of-frame, es_of-frame, same_packet}
 use Rattle.tipc_partners.specs.Sights.{Comes}
 use Rattle.tipc_partners.specs.Views.{Frame, er_of, es_of}
 use Rattle.tipc_partners.proofs.Sights.{frames}
