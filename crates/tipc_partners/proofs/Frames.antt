@@ -33,18 +33,21 @@ envelope_word : (i a b : ℕ) (rest : List ℕ) → a < 2 ^ 64 → b < 2 ^ 64 �
 unfolding envelope
 envelope_word i a b rest fit_a fit_b low = word_at-words i (two_words a ++ two_words b) rest (are_words a b fit_a fit_b) low
 
+-- the first epoch of a frame is read back
 pub es_of-frame : (a b : ℕ) (rest : List ℕ) → a < 2 ^ 64 → b < 2 ^ 64 → es_of (frame_of a b rest) ≡ a
 es_of-frame a b rest fit_a fit_b =
     let high = envelope_word 0 a b rest fit_a fit_b (omega arith) in
     let low = envelope_word 1 a b rest fit_a fit_b (omega arith) in
     rw (high, low) (long-joined a)
 
+-- and so is the second
 pub er_of-frame : (a b : ℕ) (rest : List ℕ) → a < 2 ^ 64 → b < 2 ^ 64 → er_of (frame_of a b rest) ≡ b
 er_of-frame a b rest fit_a fit_b =
     let high = envelope_word 2 a b rest fit_a fit_b (omega arith) in
     let low = envelope_word 3 a b rest fit_a fit_b (omega arith) in
     rw (high, low) (long-joined b)
 
+-- a frame holds one packet
 pub same_packet : (es er es' er' : ℕ) (p q : Fields) → Fits p → Fits q → frame_of es er (spelling p) ≡ frame_of es' er' (spelling q) → p ≡ q
 same_packet es er es' er' p q p_fits q_fits same =
     one_packet p q p_fits q_fits (sym (drop_at (envelope es er) (spelling p) 16 (length-envelope es er)) ∙ ap (drop 16) same ∙ drop_at (envelope es' er') (spelling q) 16 (length-envelope es' er'))
@@ -136,6 +139,7 @@ state_traffic : (s : SessionEnd) (shown : BroadcastState) (probe : Bool) → is_
 unfolding state_fields
 state_traffic s shown probe = refl
 
+-- a STATE of a session says what was taken, and carries nothing
 pub state_said : (own numbered : ℕ) (s : SessionEnd) (put : List (List ℕ)) (shown : BroadcastState) (probe : Bool) → IsWorded own s → length s.held ≤ 50 → IsShowable shown → IsSaid own s.epoch s.peer_epoch s.taken numbered put (state_frame s shown probe).frame
 state_said own numbered s put shown probe words window showable = record {
   packet = state_fields s shown probe;
@@ -147,6 +151,7 @@ state_said own numbered s put shown probe words window showable = record {
   carried = λ number carries is. let shows = state_content s shown probe in absurd (let wrong : ⊥ = cc in wrong);
 }
 
+-- a STATE shows the epochs of its session
 pub state_says : (s : SessionEnd) (shown : BroadcastState) (probe : Bool) → s.epoch < 2 ^ 64 → s.peer_epoch < 2 ^ 64 → SaysIn s (state_frame s shown probe)
 state_says s shown probe fits peer_fits = record {
   es = es_of-frame s.epoch s.peer_epoch (spelling (state_fields s shown probe)) fits peer_fits;
@@ -170,6 +175,7 @@ content_traffic : (p : Fields) (number : ℕ) (carries : List ℕ) → content_o
 unfolding content_of
 content_traffic p number carries is = content_by_traffic p.header p.sequence number (spelling (as_waiting p)) carries is
 
+-- each of the frames of packets that move up has its packet and its number
 pub packet_frames-at : (s : SessionEnd) (before : ℕ) (qs : List (List ℕ)) (k : ℕ) (o : Outgoing) → slice_get (packet_frames s before qs) k ≡ Some o → (q : List ℕ) × (slice_get qs k ≡ Some q) × (o ≡ packet_frame s (number_of (before + k + 1)) q)
 packet_frames-at s before [] k o is = absurd (let none : ⊥ = cc in none)
 packet_frames-at s before (x ∷ qs) zero o is =
@@ -201,6 +207,7 @@ packet_said own numbered num s line q words h carried =
           subst (λ m. IsCarried line numbered m carries) same_number (subst (λ p. IsCarried line numbered num p) same_packet carried);
     }
 
+-- a packet that was numbered shows the epochs of its session
 pub packet_says : (s : SessionEnd) (number : ℕ) (packet : List ℕ) → s.epoch < 2 ^ 64 → s.peer_epoch < 2 ^ 64 → SaysIn s (packet_frame s number packet)
 packet_says s number packet fits peer_fits = record {
   es = es_of-frame s.epoch s.peer_epoch (stamped (number_of s.taken) number s.own packet) fits peer_fits;

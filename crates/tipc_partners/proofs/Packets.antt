@@ -79,10 +79,12 @@ inside_names (header.Changeover c) own is = absurd (let wrong : ⊥ = cc in wron
 inside_names (header.Fragmenter f) own is = absurd (let wrong : ⊥ = cc in wrong)
 inside_names (header.Discovery d) own is = absurd (let wrong : ⊥ = cc in wrong)
 
+-- a message's own packet can be put on a link
 pub message_packet : (own : ℕ) (m : List ℕ) → IsMessage own m → IsPacket own m
 message_packet own m h =
     can_be_put own m h.packet h.spelled h.fits (h.waits ∙ ap (λ n. sent_as 0 0 n h.packet) (sym (inside_names h.packet.header own h.inside))) (inside_numbered h.packet.header h.inside)
 
+-- a message may stand inside a bundle
 pub message_inner : (own : ℕ) (m : List ℕ) → IsMessage own m → IsInner m
 message_inner own m h = record { packet = h.packet; fits = h.fits; spelled = h.spelled; inside = h.inside }
 

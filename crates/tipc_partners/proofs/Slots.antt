@@ -37,14 +37,17 @@ cut_items : (pieces : List Piece) → flat_map slot_items (map Fragment pieces) 
 cut_items [] = refl
 cut_items (p ∷ pieces) = ap (λ xs. Part p ∷ xs) (cut_items pieces)
 
+-- they are the packets in which the message is sent
 pub slots_for-bytes : (m : List ℕ) → map slot_bytes (slots_for m) ≡ pieces_for m
 unfolding slots_for pieces_for joined
 slots_for-bytes m = elim (nat_le (length m) 1452) as (λ b. map slot_bytes (if b then Group (m ∷ []) ∷ [] else map Fragment (pieces_of m)) ≡ (if b then m ∷ [] else packets_of m)) [ true ↦ refl | false ↦ cut_bytes (pieces_of m) ]
 
+-- and what is sent of it
 pub slots_for-items : (m : List ℕ) → flat_map slot_items (slots_for m) ≡ items_of m
 unfolding slots_for
 slots_for-items m = elim (nat_le (length m) 1452) as (λ b. flat_map slot_items (if b then Group (m ∷ []) ∷ [] else map Fragment (pieces_of m)) ≡ (if b then Single m ∷ [] else map Part (pieces_of m))) [ true ↦ refl | false ↦ cut_items (pieces_of m) ]
 
+-- and each of them can be opened
 pub slots_for-sound : (m : List ℕ) → IsInner m → All IsSlot (slots_for m)
 unfolding slots_for joined
 slots_for-sound m h =
@@ -164,6 +167,7 @@ more_slots slots m line s _ _ is (waits pieces apart) sound bytes message =
 pub front_part : {A : Type 0} (xs ys zs : List A) → IsFrontOf (xs ++ ys) zs → IsFrontOf xs zs
 front_part xs ys zs h = (ys ++ h.0, h.1 ∙ append_assoc xs ys h.0)
 
+-- what is in the first slots is a front of what is in all
 pub front_items : (n : ℕ) (slots : List Slot) (zs : List Item) → IsFrontOf (flat_map slot_items slots) zs → IsFrontOf (flat_map slot_items (take n slots)) zs
 front_items n slots zs h =
     let parts : flat_map slot_items slots ≡ flat_map slot_items (take n slots) ++ flat_map slot_items (drop n slots) =
