@@ -11,3 +11,6 @@ pub use fates::Fate;
 pub use publishing::{PublishFault, WithdrawFault};
 pub use queues::MOST_MESSAGES;
 pub use sockets::{Sockets, Table};
+
+#[cfg(test)]
+mod tests;
