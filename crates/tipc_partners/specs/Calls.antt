@@ -59,7 +59,8 @@ pub record WasGiven (x after : Partner) (opened : List Opened) (last : Joining) 
 -- Messages are put one after the other, each in the packets that it takes; these frames leave as waiting packets move up.
 pub data PutsAll : SessionEnd → List (List ℕ) → List Outgoing → SessionEnd → Type 0 where
   none_put : (s : SessionEnd) → PutsAll s [] [] s
-  puts_one : (s s' last : SessionEnd) (m : List ℕ) (messages : List (List ℕ)) (frames : List Outgoing) → IsPut s (pieces_for m) s' → PutsAll (flushed s') messages frames last
+  puts_one : (s s' last : SessionEnd) (m : List ℕ) (messages : List (List ℕ)) (frames : List Outgoing)
+      → IsPut s (pieces_for m) s' → PutsAll (flushed s') messages frames last
       → PutsAll s (m ∷ messages) (flush_frames s' ++ frames) last
 
 -- What the three calls of a session do, and an arrival that is answered by messages and by the STATE that is due, each as deeds.
@@ -67,7 +68,9 @@ pub data PutsAll : SessionEnd → List (List ℕ) → List Outgoing → SessionE
 abbrev pub PutsAreDeeds : Type 0
 PutsAreDeeds = (x y : Partner) (bearer : ℕ) (e : LinkEnd) (s last : SessionEnd) (messages : List (List ℕ)) (frames : List Outgoing) → ArePartners x y → IsUp (x.view.wires bearer) e s → PutsAll s messages frames last
     → ((k : ℕ) (m : List ℕ) → slice_get messages k ≡ Some m → IsMessage x.view.node.own m)
-    → (after : Partner) × Did x y after bearer (with_session e last) last frames × ((own theirs : ℕ) → after.put own theirs ≡ put_more x messages own theirs) × (after.given ≡ x.given) × (after.partial ≡ x.partial)
+    → (after : Partner) × Did x y after bearer (with_session e last) last frames
+    × ((own theirs : ℕ) → after.put own theirs ≡ put_more x messages own theirs) × (after.given ≡ x.given)
+    × (after.partial ≡ x.partial)
 
 abbrev pub ArrivalsAreDeeds : Type 0
 ArrivalsAreDeeds = (x y : Partner) (bearer : ℕ) (e : LinkEnd) (s : SessionEnd) (p : Fields) (by : ℕ) (opened : List Opened) (last : Joining) → ArePartners x y → IsUp (x.view.wires bearer) e s → Hears x.view y.view bearer s p
@@ -75,11 +78,15 @@ ArrivalsAreDeeds = (x y : Partner) (bearer : ℕ) (e : LinkEnd) (s : SessionEnd)
     → (after : Partner) × Did x y after bearer (with_session e (arrived s by p.acknowledgement (content_of p))) (arrived s by p.acknowledgement (content_of p)) (arrival_frames s by p.acknowledgement (content_of p)) × WasGiven x after opened last
 
 abbrev pub AnswersAreDeeds : Type 0
-AnswersAreDeeds = (x y : Partner) (bearer : ℕ) (e : LinkEnd) (s : SessionEnd) (shown : BroadcastState) → IsUp (x.view.wires bearer) e s → IsShowable shown
-    → (after : Partner) × Did x y after bearer (with_session e (answered s)) (answered s) (answer_frames s shown) × (after.put ≡ x.put) × (after.given ≡ x.given) × (after.partial ≡ x.partial)
+AnswersAreDeeds = (x y : Partner) (bearer : ℕ) (e : LinkEnd) (s : SessionEnd) (shown : BroadcastState)
+    → IsUp (x.view.wires bearer) e s → IsShowable shown
+    → (after : Partner) × Did x y after bearer (with_session e (answered s)) (answered s) (answer_frames s shown)
+    × (after.put ≡ x.put) × (after.given ≡ x.given) × (after.partial ≡ x.partial)
 
 abbrev pub AnsweredArrivalsAreDeeds : Type 0
 AnsweredArrivalsAreDeeds = (x y : Partner) (bearer : ℕ) (e : LinkEnd) (s last : SessionEnd) (p : Fields) (by : ℕ) (opened : List Opened) (partial : Joining) (messages : List (List ℕ)) (frames : List Outgoing) (shown : BroadcastState)
-    → ArePartners x y → IsUp (x.view.wires bearer) e s → Hears x.view y.view bearer s p → Brings x.partial s by (content_of p) opened partial
-    → PutsAll (arrived s by p.acknowledgement (content_of p)) messages frames last → ((k : ℕ) (m : List ℕ) → slice_get messages k ≡ Some m → IsMessage x.view.node.own m) → IsShowable shown
+    → ArePartners x y → IsUp (x.view.wires bearer) e s → Hears x.view y.view bearer s p
+    → Brings x.partial s by (content_of p) opened partial
+    → PutsAll (arrived s by p.acknowledgement (content_of p)) messages frames last
+    → ((k : ℕ) (m : List ℕ) → slice_get messages k ≡ Some m → IsMessage x.view.node.own m) → IsShowable shown
     → (after : Partner) × Did x y after bearer (with_session e (answered last)) (answered last) (arrival_frames s by p.acknowledgement (content_of p) ++ (frames ++ answer_frames last shown)) × ArePartners after y

@@ -98,8 +98,10 @@ pub record Hears (x y : View) (bearer : ℕ) (s : SessionEnd) (p : Fields) : Typ
 pub data MayTell (w : Wire) : Outgoing → Type 0 where
   resets : (e : LinkEnd) → w.end ≡ Some e → MayTell w (notice e (header.Reset (shown_by e)))
   activates : (e : LinkEnd) → w.end ≡ Some e → MayTell w (notice e (header.Activate (shown_by e)))
-  states : (s : SessionEnd) (shown : BroadcastState) (probe : Bool) → session_on w ≡ Some s → IsShowable shown → MayTell w (state_frame s shown probe)
-  sends : (s : SessionEnd) (k : ℕ) (packet : Kept) → session_on w ≡ Some s → slice_get (kept_of s.sending) k ≡ Some packet → MayTell w (packet_frame s packet.number packet.packet)
+  states : (s : SessionEnd) (shown : BroadcastState) (probe : Bool) → session_on w ≡ Some s → IsShowable shown
+      → MayTell w (state_frame s shown probe)
+  sends : (s : SessionEnd) (k : ℕ) (packet : Kept) → session_on w ≡ Some s
+      → slice_get (kept_of s.sending) k ≡ Some packet → MayTell w (packet_frame s packet.number packet.packet)
 
 abbrev pub framed : View → View → ℕ → Outgoing → Frame
 framed x y bearer o = record {
@@ -126,8 +128,10 @@ pub data Works (x y : View) : View → Type 0 where
   -- a link end is made; its bearer is mended or cut; it is called without going up or down; and a higher contact number is shown while
   -- there is no contact
   makes : (b : ℕ) → (x.wires b).end ≡ None → Works x y (with_wire x b (with_end (x.wires b) (made_on x.node b)))
-  turns : (b : ℕ) (e : LinkEnd) (mended : Bool) → (x.wires b).end ≡ Some e → Works x y (with_wire x b (with_end (x.wires b) (record e { mended = mended })))
-  calls : (b : ℕ) (e : LinkEnd) (call : Call) → (x.wires b).end ≡ Some e → MayCall x y b call → is_quiet (outcome e.fsm call).change ≡ true
+  turns : (b : ℕ) (e : LinkEnd) (mended : Bool) → (x.wires b).end ≡ Some e
+      → Works x y (with_wire x b (with_end (x.wires b) (record e { mended = mended })))
+  calls : (b : ℕ) (e : LinkEnd) (call : Call) → (x.wires b).end ≡ Some e → MayCall x y b call
+      → is_quiet (outcome e.fsm call).change ≡ true
       → Works x y (with_wire x b (with_end (x.wires b) (after e (outcome e.fsm call))))
   shows : (number : ℕ) → x.node.seen < number → number < 2 ^ 64 → IsApart x → Works x y (risen x number)
   -- a session reads an acknowledgement, keeps something for its answers, and numbers packets that wait
@@ -143,9 +147,11 @@ pub data Works (x y : View) : View → Type 0 where
 -- A deed with which a contact begins or ends.
 pub data Changes (x y : View) : View → Type 0 where
   -- a link goes up where none is; a link goes down, and with it the contact; the contact ends of a link that is up; and the node is restarted
-  rises : (b : ℕ) (e : LinkEnd) (call : Call) → (x.wires b).end ≡ Some e → MayCall x y b call → (outcome e.fsm call).change ≡ Up → IsApart x
+  rises : (b : ℕ) (e : LinkEnd) (call : Call) → (x.wires b).end ≡ Some e → MayCall x y b call
+      → (outcome e.fsm call).change ≡ Up → IsApart x
       → Changes x y (with_wire x b (with_begun x.node (x.wires b) (after e (outcome e.fsm call))))
-  falls : (b : ℕ) (e : LinkEnd) (call : Call) (cause : Cause) → (x.wires b).end ≡ Some e → MayCall x y b call → (outcome e.fsm call).change ≡ Down cause
+  falls : (b : ℕ) (e : LinkEnd) (call : Call) (cause : Cause) → (x.wires b).end ≡ Some e → MayCall x y b call
+      → (outcome e.fsm call).change ≡ Down cause
       → Changes x y (parted (with_wire x b (with_end (x.wires b) (after e (outcome e.fsm call)))))
   parts : (b : ℕ) (e : LinkEnd) → (x.wires b).end ≡ Some e → is_up e.fsm.state ≡ true → Changes x y (parted x)
   restarts : (boot : ℕ) → x.node.boot < boot → boot < 2 ^ 32 → Changes x y (restarted x boot)
@@ -164,7 +170,9 @@ pub data Does (x y : View) : View → Type 0 where
   works : (x' : View) → Works x y x' → Does x y x'
   changes : (x' : View) → Changes x y x' → Does x y x'
   -- other packets wait; and what a packet frees is taken
-  puts : (b : ℕ) (e : LinkEnd) (s : SessionEnd) (waiting : List (List ℕ)) → IsUp (x.wires b) e s → ((k : ℕ) (bytes : List ℕ) → slice_get waiting k ≡ Some bytes → IsPacket x.node.own bytes)
+  puts : (b : ℕ) (e : LinkEnd) (s : SessionEnd) (waiting : List (List ℕ)) → IsUp (x.wires b) e s
+      → ((k : ℕ) (bytes : List ℕ) → slice_get waiting k ≡ Some bytes → IsPacket x.node.own bytes)
       → Does x y (with_wire x b (with_going (x.wires b) e (record s { sending = record s.sending { waiting = waiting } })))
-  takes : (b : ℕ) (e : LinkEnd) (s : SessionEnd) (p : Fields) (number by : ℕ) (packet : List ℕ) → IsUp (x.wires b) e s → Hears x y b s p → content_of p ≡ Carries number packet
+  takes : (b : ℕ) (e : LinkEnd) (s : SessionEnd) (p : Fields) (number by : ℕ) (packet : List ℕ) → IsUp (x.wires b) e s
+      → Hears x y b s p → content_of p ≡ Carries number packet
       → Does x y (with_wire x b (with_taken (x.wires b) e s (brought number packet by)))

@@ -54,5 +54,6 @@ pub record Became (x y after : Partner) (bearer : ℕ) (e : LinkEnd) (frames : L
 -- Whatever a call makes of the end is deeds, with the frames that it says: it stays up or down, goes up where a contact begins, or goes
 -- down, and with it the contact.
 abbrev pub EndCallsAreDeeds : Type 0
-EndCallsAreDeeds = (x y : Partner) (bearer : ℕ) (e : LinkEnd) (call : Call) (shown : BroadcastState) → ArePartners x y → HasEnd x.view bearer e → MayCall x.view y.view bearer call → IsShowable shown
+EndCallsAreDeeds = (x y : Partner) (bearer : ℕ) (e : LinkEnd) (call : Call) (shown : BroadcastState) → ArePartners x y
+    → HasEnd x.view bearer e → MayCall x.view y.view bearer call → IsShowable shown
     → (called : Partner) × Became x y called bearer (settled e (outcome e.fsm call)) (settled_frames e (outcome e.fsm call) shown) (partial_after (outcome e.fsm call).change x.partial)

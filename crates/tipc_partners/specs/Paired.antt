@@ -22,8 +22,10 @@ use Rattle.tipc_partners.specs.Views.{Begun, Frame, Node, View, Wire, epoch_on, 
 pub record IsPacket (own : ℕ) (bytes : List ℕ) : Type 0 where
   pub packet : Fields
   pub spelled : bytes ≡ spelling packet
-  pub fits : (acknowledgement number : ℕ) → acknowledgement < 2 ^ 16 → number < 2 ^ 16 → own < 2 ^ 32 → Fits (sent_as acknowledgement number own packet)
-  pub carried : (acknowledgement number : ℕ) → content_of (sent_as acknowledgement number own packet) ≡ Carries number bytes
+  pub fits : (acknowledgement number : ℕ) → acknowledgement < 2 ^ 16 → number < 2 ^ 16 → own < 2 ^ 32
+      → Fits (sent_as acknowledgement number own packet)
+  pub carried : (acknowledgement number : ℕ)
+      → content_of (sent_as acknowledgement number own packet) ≡ Carries number bytes
 
 -- a RESET or an ACTIVATE shows these contact numbers
 abbrev pub ShowsContact : Header → ℕ → ℕ → Type 0
@@ -60,7 +62,8 @@ pub record IsEnd (n : Node) (bearer : ℕ) (e : LinkEnd) : Type 0 where
   -- the epoch of the peer that it knows is the highest that it took
   pub peer_fits : (epoch : ℕ) → e.fsm.peer ≡ Some epoch → (epoch < 2 ^ 64) × (epoch ≡ e.fsm.highest)
   -- a link that is up has a session of its epochs, and isn't at the last epoch of its boot
-  pub going : is_up e.fsm.state ≡ true → (s : SessionEnd) × (e.session ≡ Some s) × (s.epoch ≡ e.fsm.own) × (e.fsm.peer ≡ Some s.peer_epoch) × (is_last e.fsm.own ≡ false)
+  pub going : is_up e.fsm.state ≡ true → (s : SessionEnd) × (e.session ≡ Some s) × (s.epoch ≡ e.fsm.own)
+      × (e.fsm.peer ≡ Some s.peer_epoch) × (is_last e.fsm.own ≡ false)
   -- and so was the last one
   pub session : (s : SessionEnd) → e.session ≡ Some s → (s.own ≡ n.own) × (s.peer ≡ n.peer) × (s.bearer ≡ bearer)
 
@@ -132,7 +135,8 @@ pub record IsOfSession (w v : Wire) (f : Frame) (es er : ℕ) (p : Fields) : Typ
   pub told_recent : f.peer_numbered ≤ told + 50
   pub told_met : (told ≡ 0) ⊎ IsWith v er es
   -- what it carries was numbered in the session, and but for 50 packets the receiver had taken what was numbered
-  pub carried : (number : ℕ) (bytes : List ℕ) → content_of p ≡ Carries number bytes → IsCarried (w.line es) f.numbered number bytes
+  pub carried : (number : ℕ) (bytes : List ℕ) → content_of p ≡ Carries number bytes
+      → IsCarried (w.line es) f.numbered number bytes
   pub recent : f.numbered ≤ length (v.got es) + 50
 
 -- a frame is an envelope and a packet of its node
@@ -161,16 +165,23 @@ pub record IsEpochs (n : Node) (bearer : ℕ) (told heard : List Frame) (w v : W
   -- none began at the last epoch of a boot
   pub lasts : (epoch : ℕ) (g : Begun) → w.begun epoch ≡ Some g → is_last epoch ≡ false
   -- the present session began in the present contact, by a frame that shows both its epochs
-  pub now : (s : SessionEnd) (g : Begun) → session_on w ≡ Some s → w.begun s.epoch ≡ Some g → (g.contact ≡ n.contact) × (g.peer_contact ≡ n.seen)
+  pub now : (s : SessionEnd) (g : Begun) → session_on w ≡ Some s → w.begun s.epoch ≡ Some g
+      → (g.contact ≡ n.contact) × (g.peer_contact ≡ n.seen)
   pub shown : (s : SessionEnd) → session_on w ≡ Some s → IsShown heard bearer s.peer_epoch s.epoch
   -- no frame of an epoch names a higher epoch of the peer than the highest that was taken, and that of its session
-  pub named : (k : ℕ) (f : Frame) (e : LinkEnd) → slice_get told k ≡ Some f → f.bearer ≡ bearer → w.end ≡ Some e → es_of f.bytes ≡ e.fsm.own → er_of f.bytes ≤ e.fsm.highest
-  pub bounded : (k : ℕ) (f : Frame) (g : Begun) → slice_get told k ≡ Some f → f.bearer ≡ bearer → w.begun (es_of f.bytes) ≡ Some g → er_of f.bytes ≤ g.peer_epoch
+  pub named : (k : ℕ) (f : Frame) (e : LinkEnd) → slice_get told k ≡ Some f → f.bearer ≡ bearer → w.end ≡ Some e
+      → es_of f.bytes ≡ e.fsm.own → er_of f.bytes ≤ e.fsm.highest
+  pub bounded : (k : ℕ) (f : Frame) (g : Begun) → slice_get told k ≡ Some f → f.bearer ≡ bearer
+      → w.begun (es_of f.bytes) ≡ Some g → er_of f.bytes ≤ g.peer_epoch
   -- each frame of a session's epoch was told in its contact, and the peer told its own epoch under the contact number that counts
-  pub told_in : (k : ℕ) (f : Frame) (g : Begun) → slice_get told k ≡ Some f → f.bearer ≡ bearer → w.begun (es_of f.bytes) ≡ Some g → f.contact ≡ g.contact
-  pub heard_in : (epoch : ℕ) (g : Begun) → w.begun epoch ≡ Some g → is_last g.peer_epoch ≡ false → (f : Frame) × (k : ℕ) × (slice_get heard k ≡ Some f) × (f.bearer ≡ bearer) × (es_of f.bytes ≡ g.peer_epoch) × (f.contact ≡ g.peer_contact)
+  pub told_in : (k : ℕ) (f : Frame) (g : Begun) → slice_get told k ≡ Some f → f.bearer ≡ bearer
+      → w.begun (es_of f.bytes) ≡ Some g → f.contact ≡ g.contact
+  pub heard_in : (epoch : ℕ) (g : Begun) → w.begun epoch ≡ Some g → is_last g.peer_epoch ≡ false
+      → (f : Frame) × (k : ℕ) × (slice_get heard k ≡ Some f) × (f.bearer ≡ bearer) × (es_of f.bytes ≡ g.peer_epoch)
+      × (f.contact ≡ g.peer_contact)
   -- two sessions with one another are in one contact
-  pub agree : (epoch : ℕ) (g h : Begun) → w.begun epoch ≡ Some g → v.begun g.peer_epoch ≡ Some h → h.peer_epoch ≡ epoch → (g.contact ≡ h.peer_contact) × (g.peer_contact ≡ h.contact)
+  pub agree : (epoch : ℕ) (g h : Begun) → w.begun epoch ≡ Some g → v.begun g.peer_epoch ≡ Some h
+      → h.peer_epoch ≡ epoch → (g.contact ≡ h.peer_contact) × (g.peer_contact ≡ h.contact)
 
 -- ---- two nodes
 
@@ -180,7 +191,8 @@ pub record IsHalf (x y : View) : Type 0 where
   pub ends : (bearer : ℕ) (e : LinkEnd) → (x.wires bearer).end ≡ Some e → IsEnd x.node bearer e
   pub wires : (bearer : ℕ) → IsWire x.node.own (x.wires bearer) (y.wires bearer)
   pub epochs : (bearer : ℕ) → IsEpochs x.node bearer x.told y.told (x.wires bearer) (y.wires bearer)
-  pub frames : (k : ℕ) (f : Frame) → slice_get x.told k ≡ Some f → IsFrame x.node.own (x.wires f.bearer) (y.wires f.bearer) f
+  pub frames : (k : ℕ) (f : Frame) → slice_get x.told k ≡ Some f
+      → IsFrame x.node.own (x.wires f.bearer) (y.wires f.bearer) f
 
 pub record ArePaired (x y : View) : Type 0 where
   pub peers : ArePeers (side_of x) (said_by x) (side_of y) (said_by y)

@@ -63,7 +63,8 @@ pub data Acts (x y : Partner) : Partner → Type 0 where
   works : (v : View) → Works x.view y.view v → Acts x y (viewed x v)
   changes : (v : View) → Changes x.view y.view v → Acts x y (renewed x v)
   -- a message is put on a link; and what is taken is opened
-  puts : (b : ℕ) (e : LinkEnd) (s s' : SessionEnd) (m : List ℕ) → IsUp (x.view.wires b) e s → IsPut s (pieces_for m) s' → IsMessage x.view.node.own m
+  puts : (b : ℕ) (e : LinkEnd) (s s' : SessionEnd) (m : List ℕ) → IsUp (x.view.wires b) e s
+      → IsPut s (pieces_for m) s' → IsMessage x.view.node.own m
       → Acts x y (with_put x (with_wire x.view b (with_going (x.view.wires b) e s')) m)
   takes : (b : ℕ) (e : LinkEnd) (s : SessionEnd) (p : Fields) (number by : ℕ) (packet : List ℕ) (opened : List Opened) (last : Joining) → IsUp (x.view.wires b) e s → Hears x.view y.view b s p
       → content_of p ≡ Carries number packet → BringsAll x.partial (due_with s (brought number packet by)) opened last
@@ -83,7 +84,8 @@ pub record Crossed : Type 0 where
 
 -- a contact of the node in which no session began
 abbrev pub IsAhead : View → ℕ → ℕ → Type 0
-IsAhead x own theirs = (b epoch : ℕ) (g : Begun) → (x.wires b).begun epoch ≡ Some g → g.contact ≡ own → g.peer_contact ≡ theirs → ⊥
+IsAhead x own theirs = (b epoch : ℕ) (g : Begun) → (x.wires b).begun epoch ≡ Some g → g.contact ≡ own
+    → g.peer_contact ≡ theirs → ⊥
 
 -- a contact of the node, which lasts
 pub record IsPresent (x : View) (own theirs : ℕ) : Type 0 where
@@ -95,18 +97,23 @@ pub record IsPresent (x : View) (own theirs : ℕ) : Type 0 where
 
 -- The packets of a contact are those of its session: each contact has one.
 pub record IsCrossed (x : View) (c d : Crossed) : Type 0 where
-  pub stream_is : (b epoch : ℕ) (g : Begun) → (x.wires b).begun epoch ≡ Some g → c.stream g.contact g.peer_contact ≡ (x.wires b).line epoch
-  pub taken_is : (b : ℕ) (s : SessionEnd) → session_on (x.wires b) ≡ Some s → c.taken x.node.contact x.node.seen ≡ (x.wires b).got s.peer_epoch
+  pub stream_is : (b epoch : ℕ) (g : Begun) → (x.wires b).begun epoch ≡ Some g
+      → c.stream g.contact g.peer_contact ≡ (x.wires b).line epoch
+  pub taken_is : (b : ℕ) (s : SessionEnd) → session_on (x.wires b) ≡ Some s
+      → c.taken x.node.contact x.node.seen ≡ (x.wires b).got s.peer_epoch
   -- a session that began did so in an earlier contact, or in the one that lasts
-  pub entered : (b epoch : ℕ) (g : Begun) → (x.wires b).begun epoch ≡ Some g → (g.contact < x.node.contact) ⊎ ((g.contact ≡ x.node.contact) × IsPresent x x.node.contact x.node.seen)
-  pub once : (b epoch b' epoch' : ℕ) (g g' : Begun) → (x.wires b).begun epoch ≡ Some g → (x.wires b').begun epoch' ≡ Some g' → g.contact ≡ g'.contact → (b ≡ b') × (epoch ≡ epoch')
+  pub entered : (b epoch : ℕ) (g : Begun) → (x.wires b).begun epoch ≡ Some g
+      → (g.contact < x.node.contact) ⊎ ((g.contact ≡ x.node.contact) × IsPresent x x.node.contact x.node.seen)
+  pub once : (b epoch b' epoch' : ℕ) (g g' : Begun) → (x.wires b).begun epoch ≡ Some g
+      → (x.wires b').begun epoch' ≡ Some g' → g.contact ≡ g'.contact → (b ≡ b') × (epoch ≡ epoch')
   pub ahead : (own theirs : ℕ) → IsAhead x own theirs → (c.stream own theirs ≡ []) × (c.taken own theirs ≡ [])
   -- what was taken is a prefix of what the peer numbered in the contact
   pub prefix : (own theirs : ℕ) → IsPrefixOf (c.taken own theirs) (d.stream theirs own)
 
 -- Of two sessions with one another, also of those that are over: what x took in their contact is what it took of the peer's session.
 abbrev pub IsPast : View → View → Crossed → Type 0
-IsPast x y c = (b epoch : ℕ) (g h : Begun) → (x.wires b).begun epoch ≡ Some g → (y.wires b).begun g.peer_epoch ≡ Some h → h.peer_epoch ≡ epoch
+IsPast x y c = (b epoch : ℕ) (g h : Begun) → (x.wires b).begun epoch ≡ Some g
+    → (y.wires b).begun g.peer_epoch ≡ Some h → h.peer_epoch ≡ epoch
     → c.taken g.contact g.peer_contact ≡ (x.wires b).got g.peer_epoch
 
 -- these messages came out of the packets that were taken, and this message is begun
@@ -123,7 +130,8 @@ pub record IsFlow (x : View) (stream put : ℕ → ℕ → List (List ℕ)) (y :
   pub slots : ℕ → ℕ → List Slot
   pub sound : (own theirs : ℕ) → All IsSlot (slots own theirs)
   pub bytes : (own theirs : ℕ) → IsPrefixOf (stream own theirs) (map slot_bytes (slots own theirs))
-  pub waits : (b : ℕ) (s : SessionEnd) → session_on (x.wires b) ≡ Some s → map slot_bytes (slots x.node.contact x.node.seen) ≡ stream x.node.contact x.node.seen ++ s.sending.waiting
+  pub waits : (b : ℕ) (s : SessionEnd) → session_on (x.wires b) ≡ Some s
+      → map slot_bytes (slots x.node.contact x.node.seen) ≡ stream x.node.contact x.node.seen ++ s.sending.waiting
   -- it is what is sent of the messages, one after the other
   pub whole : (own theirs : ℕ) → flat_map slot_items (slots own theirs) ≡ flat_map items_of (put own theirs)
   pub opens : (own theirs : ℕ) → IsGiven y theirs own (given theirs own) (take (length (taken theirs own)) (slots own theirs)) partial

@@ -46,7 +46,8 @@ pub record WasTold (x : View) (f : Frame) : Type 0 where
   pub bytes : frame.bytes ≡ f.bytes
   pub numbered : f.numbered ≤ frame.numbered + 50
   pub peer_numbered : f.peer_numbered ≤ frame.peer_numbered
-  pub contact : (es er : ℕ) (p : Fields) → Fits p → frame.bytes ≡ frame_of es er (spelling p) → is_traffic p.header ≡ true
+  pub contact : (es er : ℕ) (p : Fields) → Fits p → frame.bytes ≡ frame_of es er (spelling p)
+      → is_traffic p.header ≡ true
       → (frame.contact ≡ f.contact) × (frame.peer_contact ≡ f.peer_contact)
 
 pub record IsSeen (x : Partner) (v : Sight) : Type 0 where
@@ -57,7 +58,8 @@ pub record IsSeen (x : Partner) (v : Sight) : Type 0 where
   pub partial : x.partial ≡ v.partial
   pub numbered : (b epoch : ℕ) → v.numbered b epoch ≡ length ((x.view.wires b).line epoch)
   -- also of the last session of a link that is down
-  pub counts : (b : ℕ) (e : LinkEnd) (s : SessionEnd) → v.ends b ≡ Some e → e.session ≡ Some s → v.numbered b s.epoch ≡ s.sending.numbered
+  pub counts : (b : ℕ) (e : LinkEnd) (s : SessionEnd) → v.ends b ≡ Some e → e.session ≡ Some s
+      → v.numbered b s.epoch ≡ s.sending.numbered
   pub sent : (k : ℕ) (f : Frame) → slice_get v.sent k ≡ Some f → WasTold x.view f
 
 -- two nodes are partners
@@ -102,7 +104,8 @@ pub record Goes (v v' w : Sight) (bearer : ℕ) (e : LinkEnd) (frames : List Out
   pub given_is : (own theirs : ℕ) → v'.given own theirs ≡ v.given own theirs ++ come v given own theirs
   pub partial_is : v'.partial ≡ partial
   pub numbered_now : (s : SessionEnd) → e.session ≡ Some s → v'.numbered bearer s.epoch ≡ s.sending.numbered
-  pub numbered_else : (b epoch : ℕ) → ((s : SessionEnd) → e.session ≡ Some s → b ≡ bearer → s.epoch ≢ epoch) → v'.numbered b epoch ≡ v.numbered b epoch
+  pub numbered_else : (b epoch : ℕ) → ((s : SessionEnd) → e.session ≡ Some s → b ≡ bearer → s.epoch ≢ epoch)
+      → v'.numbered b epoch ≡ v.numbered b epoch
   pub count : ℕ
   pub sent : v'.sent ≡ v.sent ++ map (sent_as v' w bearer) (take count frames)
 
@@ -179,23 +182,29 @@ KnowsSeen = (v v' w : Sight) (bearer : ℕ) (mended : Bool) → AreSeen v w → 
     → Goes v v' w bearer (if mended then mended_end (made_on v.node bearer) else made_on v.node bearer) (if mended then mend_frames (made_on v.node bearer) else []) [] [] v.partial → AreSeen v' w
 
 abbrev pub MendsSeen : Type 0
-MendsSeen = (v v' w : Sight) (bearer : ℕ) (e : LinkEnd) → AreSeen v w → HasOnly v bearer e → Goes v v' w bearer (mended_end e) (mend_frames e) [] [] v.partial → AreSeen v' w
+MendsSeen = (v v' w : Sight) (bearer : ℕ) (e : LinkEnd) → AreSeen v w → HasOnly v bearer e
+    → Goes v v' w bearer (mended_end e) (mend_frames e) [] [] v.partial → AreSeen v' w
 
 abbrev pub CutsSeen : Type 0
 CutsSeen = (v v' w : Sight) (bearer : ℕ) (e : LinkEnd) → AreSeen v w → HasOnly v bearer e
-    → Goes v v' w bearer (cut_pair e) [] [] [] (begun_after (change_of e (on_cut e.fsm false) 0) v.partial) → AreSeen v' w
+    → Goes v v' w bearer (cut_pair e) [] [] [] (begun_after (change_of e (on_cut e.fsm false) 0) v.partial)
+    → AreSeen v' w
 
 abbrev pub TicksSeen : Type 0
-TicksSeen = (v v' w : Sight) (bearer : ℕ) (e : LinkEnd) (shown : BroadcastState) → AreSeen v w → HasOnly v bearer e → IsShowable shown
+TicksSeen = (v v' w : Sight) (bearer : ℕ) (e : LinkEnd) (shown : BroadcastState) → AreSeen v w → HasOnly v bearer e
+    → IsShowable shown
     → Goes v v' w bearer (tick_pair e) (tick_frames e shown) [] [] (begun_after (change_of e (on_tick e.fsm false) 0) v.partial) → AreSeen v' w
 
 abbrev pub PutsSeen : Type 0
-PutsSeen = (v v' w : Sight) (bearer : ℕ) (e : LinkEnd) (s s' : SessionEnd) (m : List ℕ) → AreSeen v w → HasOnly v bearer e → is_up e.fsm.state ≡ true → e.session ≡ Some s → IsPut s (pieces_for m) s' → IsMessage v.node.own m
+PutsSeen = (v v' w : Sight) (bearer : ℕ) (e : LinkEnd) (s s' : SessionEnd) (m : List ℕ) → AreSeen v w
+    → HasOnly v bearer e → is_up e.fsm.state ≡ true → e.session ≡ Some s → IsPut s (pieces_for m) s'
+    → IsMessage v.node.own m
     → Goes v v' w bearer (with_session e (flushed s')) (flush_frames s') (m ∷ []) [] v.partial → AreSeen v' w
 
 abbrev pub ArrivesSeen : Type 0
 ArrivesSeen = (v v' w : Sight) (bearer : ℕ) (e : LinkEnd) (es er : ℕ) (p : Fields) (by : ℕ) (shown shown' : BroadcastState) (out : PairOutcome) (last : Joining) → AreSeen v w → HasOnly v bearer e → Comes v w bearer es er p
-    → IsShowable shown → IsShowable shown' → OpensTo (begun_after (arrival e es er p by shown).change v.partial) (arrival e es er p by shown).outcome out last
+    → IsShowable shown → IsShowable shown'
+    → OpensTo (begun_after (arrival e es er p by shown).change v.partial) (arrival e es er p by shown).outcome out last
     → Goes v v' w bearer (answered_end (arrival e es er p by shown).after) ((arrival e es er p by shown).frames ++ answered_frames (arrival e es er p by shown).after shown') [] (packets_in (opened_in out)) last → AreSeen v' w
 
 -- what an arrival gives, before the node has taken it
@@ -214,5 +223,6 @@ FramesSeen = (v w : Sight) (k : ℕ) (f : Frame) → AreSeen v w → slice_get v
 
 -- a STATE or a numbered packet in the air says of the contact whose numbers stand beside it what is so
 abbrev pub TruthsSeen : Type 0
-TruthsSeen = (v w : Sight) (k : ℕ) (f : Frame) (es er : ℕ) (p : Fields) → AreSeen v w → slice_get v.sent k ≡ Some f → Fits p → f.bytes ≡ frame_of es er (spelling p) → is_traffic p.header ≡ true
+TruthsSeen = (v w : Sight) (k : ℕ) (f : Frame) (es er : ℕ) (p : Fields) → AreSeen v w → slice_get v.sent k ≡ Some f
+    → Fits p → f.bytes ≡ frame_of es er (spelling p) → is_traffic p.header ≡ true
     → IsTold (v.put f.contact f.peer_contact) (w.put f.peer_contact f.contact) (v.given f.contact f.peer_contact) p

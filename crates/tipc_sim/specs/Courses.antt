@@ -49,7 +49,8 @@ Takes asks number start came now = Maybe (asks start number) start came now
 -- The numbers from the first up to the next were taken in order, each in the world that the one before left, and so many events happened.
 pub data Goes (asks : Asks) (first : ℕ) (start : WorldState) : ℕ → ℕ → WorldState → Type 0 where
   begin : Goes asks first start first 0 start
-  go_on : (next count : ℕ) (before : WorldState) (made : Bool) (now : WorldState) → Goes asks first start next count before → Takes asks next before (Ok made) now
+  go_on : (next count : ℕ) (before : WorldState) (made : Bool) (now : WorldState)
+      → Goes asks first start next count before → Takes asks next before (Ok made) now
       → Goes asks first start (next + 1) (if made then count + 1 else count) now
 
 -- likewise, and a limit stopped the event that the next number asked for
@@ -72,5 +73,7 @@ Drains asks first start (Err limit) now = Halts asks first start limit now
 
 -- one course and then another
 abbrev pub Then : {A B : Type 0} → Course A → Course B → Course B
-Then {A} {B} first second start (Ok value) now = (between : WorldState) × (a : A) × first start (Ok a) between × second between (Ok value) now
-Then {A} {B} first second start (Err limit) now = first start (Err limit) now ⊎ ((between : WorldState) × (a : A) × first start (Ok a) between × second between (Err limit) now)
+Then {A} {B} first second start (Ok value) now = (between : WorldState) × (a : A) × first start (Ok a) between
+    × second between (Ok value) now
+Then {A} {B} first second start (Err limit) now = first start (Err limit) now
+    ⊎ ((between : WorldState) × (a : A) × first start (Ok a) between × second between (Err limit) now)

@@ -69,7 +69,8 @@ Repeated comes noted start (Err stop) now = comes start (Err stop) now
 
 -- it is told how many messages were moved, and noted how far frames are pumped
 abbrev pub Moves : Course (ℕ × ℕ) → NotesState → Course Outcome
-Moves comes notes start (Ok given) now = (count : ℕ) × (place : ℕ) × comes start (Ok (count, place)) now × (given ≡ (told.Answer (answer.Moved count), pumped notes place))
+Moves comes notes start (Ok given) now = (count : ℕ) × (place : ℕ) × comes start (Ok (count, place)) now
+    × (given ≡ (told.Answer (answer.Moved count), pumped notes place))
 Moves comes notes start (Err stop) now = comes start (Err stop) now
 
 -- what is told of a world that stays as it is, and what is noted
@@ -150,5 +151,7 @@ which_of limit.Journal = which.Journal
 -- numbered from 1
 pub data Runs (start : Scene) : List (List ℕ) → Scene → List ℕ → Type 0 where
   begin : Runs start [] start []
-  go_on : (lines : List (List ℕ)) (before : Scene) (report line : List ℕ) (after : Scene) (given : Told) → Runs start lines before report
-      → Happens (asked line) before after given → Runs start (lines ++ line ∷ []) after (report ++ told_line (length lines + 1) given)
+  go_on : (lines : List (List ℕ)) (before : Scene) (report line : List ℕ) (after : Scene) (given : Told)
+      → Runs start lines before report
+      → Happens (asked line) before after given
+      → Runs start (lines ++ line ∷ []) after (report ++ told_line (length lines + 1) given)

@@ -69,21 +69,24 @@ JoinsFrom place named first second = Then (Joins named first second) (Drains (ar
 -- two nodes are joined, and the frames that were sent since then arrive that are for one of the two
 abbrev pub Links : List (ℕ × ℕ) → ℕ → ℕ → Course Answer
 Links named first second start (Ok answer) now =
-    (count : ℕ) × JoinsFrom (length start.air) named first second start (Ok count) now × (answer ≡ link_answer now.members first second)
+    (count : ℕ) × JoinsFrom (length start.air) named first second start (Ok count) now
+    × (answer ≡ link_answer now.members first second)
 Links named first second start (Err limit) now = JoinsFrom (length start.air) named first second start (Err limit) now
 
 -- ---- frames
 
 -- the frames from a place on arrive, until none is left
 abbrev pub Pumps : ℕ → Course Answer
-Pumps place start (Ok answer) now = (count : ℕ) × Drains (arrival_asked Any) place start (Ok count) now × (answer ≡ Pumped count)
+Pumps place start (Ok answer) now = (count : ℕ) × Drains (arrival_asked Any) place start (Ok count) now
+    × (answer ≡ Pumped count)
 Pumps place start (Err limit) now = Drains (arrival_asked Any) place start (Err limit) now
 
 -- ---- rounds
 
 -- the frames from a place on arrive that are in the air at the beginning; the value is the place behind them
 abbrev pub Delivers : ℕ → Course ℕ
-Delivers place start (Ok end) now = (end ≡ length start.air) × TakesAll (arrival_asked Any) place end start (Ok tt) now
+Delivers place start (Ok end) now = (end ≡ length start.air)
+    × TakesAll (arrival_asked Any) place end start (Ok tt) now
 Delivers place start (Err limit) now = TakesAll (arrival_asked Any) place (length start.air) start (Err limit) now
 
 -- every node ticks, in order of address, and then the frames from a place on arrive that are in the air
@@ -93,7 +96,8 @@ Round place = Then (TakesAll tick_asked 1 33) (Delivers place)
 -- so many rounds were made, the first from the end of the air on, and each other from where the one before ended
 pub data Rounds (start : WorldState) : ℕ → ℕ → WorldState → Type 0 where
   begin : Rounds start 0 (length start.air) start
-  go_on : (done place : ℕ) (before : WorldState) (end : ℕ) (now : WorldState) → Rounds start done place before → Round place before (Ok end) now → Rounds start (done + 1) end now
+  go_on : (done place : ℕ) (before : WorldState) (end : ℕ) (now : WorldState) → Rounds start done place before
+      → Round place before (Ok end) now → Rounds start (done + 1) end now
 
 -- likewise, and a limit stopped an event of the next round
 pub record RoundHalts (rounds : ℕ) (start : WorldState) (limit : Limit) (now : WorldState) : Type 0 where
@@ -110,5 +114,6 @@ settled_answer load = if (load.0 == 0) && (load.1 == 0) then Quiet else Unsettle
 
 -- so many rounds are made
 abbrev pub Settles : ℕ → Course Answer
-Settles rounds start (Ok answer) now = (place : ℕ) × Rounds start rounds place now × (answer ≡ settled_answer (load_of now.members))
+Settles rounds start (Ok answer) now = (place : ℕ) × Rounds start rounds place now
+    × (answer ≡ settled_answer (load_of now.members))
 Settles rounds start (Err limit) now = RoundHalts rounds start limit now

@@ -31,7 +31,8 @@ is_send other = false
 -- an event happened so many times, one after the other, and each of its answers passed
 pub data Repeats (event : WorldEvent) (passes : Answer → Bool) (start : WorldState) : ℕ → WorldState → Type 0 where
   begin : Repeats event passes start 0 start
-  go_on : (count : ℕ) (before : WorldState) (answer : Answer) (now : WorldState) → Repeats event passes start count before → Once event before (Ok answer) now → passes answer ≡ true
+  go_on : (count : ℕ) (before : WorldState) (answer : Answer) (now : WorldState)
+      → Repeats event passes start count before → Once event before (Ok answer) now → passes answer ≡ true
       → Repeats event passes start (count + 1) now
 
 -- likewise, and then it happened once more, and that last answer didn't pass
@@ -53,8 +54,10 @@ pub record RepeatHalts (event : WorldEvent) (passes : Answer → Bool) (start : 
 -- A message is sent so many times at most, until it isn't. The value is how many times it was, and the last answer.
 abbrev pub SendsAgain : ℕ → WorldEvent → Course (ℕ × Answer)
 SendsAgain times send start (Ok value) now =
-    (Repeats send is_sent start times now × (value ≡ (times, Sent))) ⊎ (RepeatsUntil send is_sent start value.0 value.1 now × (value.0 < times))
-SendsAgain times send start (Err limit) now = (halts : RepeatHalts send is_sent start limit now) × (halts.count < times)
+    (Repeats send is_sent start times now × (value ≡ (times, Sent)))
+    ⊎ (RepeatsUntil send is_sent start value.0 value.1 now × (value.0 < times))
+SendsAgain times send start (Err limit) now = (halts : RepeatHalts send is_sent start limit now)
+    × (halts.count < times)
 
 -- ---- messages that are received
 
@@ -66,7 +69,8 @@ drained_answer count other = Drained count
 -- messages are received at a port until there is none
 abbrev pub ReceivesAll : ℕ → ℕ → Course Answer
 ReceivesAll node port start (Ok answer) now =
-    (count : ℕ) × (last : Answer) × RepeatsUntil (event.Receive node port) is_message start count last now × (answer ≡ drained_answer count last)
+    (count : ℕ) × (last : Answer) × RepeatsUntil (event.Receive node port) is_message start count last now
+    × (answer ≡ drained_answer count last)
 ReceivesAll node port start (Err limit) now = RepeatHalts (event.Receive node port) is_message start limit now
 
 -- ---- messages that are sent, pumped and received
@@ -79,7 +83,8 @@ low_message node port to_node to_port body = event.SendPort node port (port_at t
 -- pumped then.
 abbrev pub PumpsAndReceives : ℕ → WorldEvent → Course (Bool × ℕ)
 PumpsAndReceives place receive start (Ok value) now =
-    (between : WorldState) × (pumped : Answer) × (last : Answer) × Pumps place start (Ok pumped) between × Once receive between (Ok last) now × (value ≡ (is_message last, length between.air))
+    (between : WorldState) × (pumped : Answer) × (last : Answer) × Pumps place start (Ok pumped) between
+    × Once receive between (Ok last) now × (value ≡ (is_message last, length between.air))
 PumpsAndReceives place receive start (Err limit) now =
     Pumps place start (Err limit) now ⊎ ((between : WorldState) × (pumped : Answer) × Pumps place start (Ok pumped) between × Once receive between (Err limit) now)
 
@@ -92,14 +97,16 @@ Follows false place receive start (Err limit) now = ⊥
 -- A message is sent, and where it was, frames are pumped and a message is received. The value is whether one was, and up to which place frames
 -- are pumped then.
 abbrev pub Turn : WorldEvent → WorldEvent → ℕ → Course (Bool × ℕ)
-Turn send receive place start (Ok value) now = (between : WorldState) × (answer : Answer) × Once send start (Ok answer) between × Follows (is_sent answer) place receive between (Ok value) now
+Turn send receive place start (Ok value) now = (between : WorldState) × (answer : Answer)
+    × Once send start (Ok answer) between × Follows (is_sent answer) place receive between (Ok value) now
 Turn send receive place start (Err limit) now =
     Once send start (Err limit) now ⊎ ((between : WorldState) × (answer : Answer) × Once send start (Ok answer) between × Follows (is_sent answer) place receive between (Err limit) now)
 
 -- So many turns were made, one after the other, and a message was received in each. The frames before that place are pumped.
 pub data Turns (send receive : WorldEvent) (first : ℕ) (start : WorldState) : ℕ → ℕ → WorldState → Type 0 where
   begin : Turns send receive first start 0 first start
-  go_on : (count place : ℕ) (before : WorldState) (next : ℕ) (now : WorldState) → Turns send receive first start count place before → Turn send receive place before (Ok (true, next)) now
+  go_on : (count place : ℕ) (before : WorldState) (next : ℕ) (now : WorldState)
+      → Turns send receive first start count place before → Turn send receive place before (Ok (true, next)) now
       → Turns send receive first start (count + 1) next now
 
 -- likewise, and then one in which none was
@@ -122,5 +129,6 @@ pub record TurnHalts (send receive : WorldEvent) (times first : ℕ) (start : Wo
 -- then.
 abbrev pub Bursts : ℕ → WorldEvent → WorldEvent → ℕ → Course (ℕ × ℕ)
 Bursts times send receive first start (Ok value) now =
-    (Turns send receive first start times value.1 now × (value.0 ≡ times)) ⊎ (TurnsUntil send receive first start value.0 value.1 now × (value.0 < times))
+    (Turns send receive first start times value.1 now × (value.0 ≡ times))
+    ⊎ (TurnsUntil send receive first start value.0 value.1 now × (value.0 < times))
 Bursts times send receive first start (Err limit) now = TurnHalts send receive times first start limit now

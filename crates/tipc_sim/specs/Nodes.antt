@@ -33,7 +33,8 @@ fault_where there line = option_or (fault_of line) (node_fault there (nodes_of l
 
 -- each line is without fault where the nodes are there that the lines before it make
 abbrev pub AreSound : List (List ℕ) → Type 0
-AreSound lines = (i : ℕ) (line : List ℕ) → slice_get lines i ≡ Some line → fault_where (made_by (take i lines)) line ≡ None
+AreSound lines = (i : ℕ) (line : List ℕ) → slice_get lines i ≡ Some line
+    → fault_where (made_by (take i lines)) line ≡ None
 
 -- the line behind the first i is the first that isn't without fault
 pub record IsFirstBad (lines : List (List ℕ)) (i : ℕ) (fault : Fault) : Type 0 where
@@ -58,7 +59,8 @@ CanBeDone there (Repeat times node port to importance body) = (there node ≡ tr
 CanBeDone there (Arrive node bearer frame) = (there node ≡ true) × (bearer ≡ 0)
 CanBeDone there (Receive node port) = there node ≡ true
 CanBeDone there (Drain node port) = there node ≡ true
-CanBeDone there (Burst node port to_node to_port times body) = (there node ≡ true) × (there to_node ≡ true) × IsMessage node port (port_at to_node to_port) body × IsNode to_node
+CanBeDone there (Burst node port to_node to_port times body) = (there node ≡ true) × (there to_node ≡ true)
+    × IsMessage node port (port_at to_node to_port) body × IsNode to_node
 CanBeDone there (Pump bearer) = Unit {0}
 CanBeDone there (Settle rounds) = Unit {0}
 CanBeDone there (Air bearer) = Unit {0}

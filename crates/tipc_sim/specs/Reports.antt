@@ -18,7 +18,8 @@ use Rattle.tipc_sim.specs.Output.{AppendsFront}
 
 -- the closing line tells the first bad line, which follows the lines that were done
 abbrev pub EndsBadly : List ℕ → ℕ → List ℕ → Type 0
-EndsBadly script done closing = (fault : Fault) × IsFirstBad (lines_of script) done fault × (closing ≡ bad_line (done + 1) fault.0 fault.1)
+EndsBadly script done closing = (fault : Fault) × IsFirstBad (lines_of script) done fault
+    × (closing ≡ bad_line (done + 1) fault.0 fault.1)
 
 -- a script has too many bytes, or else too many lines; the closing line tells which, and nothing was done
 abbrev pub EndsOver : List ℕ → ℕ → List ℕ → Type 0
@@ -47,7 +48,8 @@ EndsEarly script done left now closing =
 abbrev pub Ends : Status → List ℕ → ℕ → Scene → WorldState → List ℕ → Type 0
 Ends status.Ok script done left now closing = (done ≡ length (lines_of script)) × (closing ≡ []) × (now ≡ left.world)
 Ends status.BadLine script done left now closing = EndsBadly script done closing × (now ≡ left.world)
-Ends status.Limit script done left now closing = (EndsOver script done closing × (now ≡ left.world)) ⊎ EndsLimited script done left now closing
+Ends status.Limit script done left now closing = (EndsOver script done closing × (now ≡ left.world))
+    ⊎ EndsLimited script done left now closing
 Ends status.NoMemory script done left now closing = (closing ≡ []) ⊎ EndsEarly script done left now closing
 Ends other script done left now closing = EndsEarly script done left now closing
 

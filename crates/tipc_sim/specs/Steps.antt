@@ -24,16 +24,19 @@ pub record IsAnswered (number : ℕ) (line : Line) (old new : Scene) (text : Lis
 
 -- a line without fault was done, and a text is its printed line
 abbrev pub TellsAnswer : ℕ → List ℕ → Scene → Scene → List ℕ → Type 0
-TellsAnswer number line old new text = (fault_where (is_there old.world) line ≡ None) × IsAnswered number (asked line) old new text
+TellsAnswer number line old new text = (fault_where (is_there old.world) line ≡ None)
+    × IsAnswered number (asked line) old new text
 
 -- a line has a fault, nothing was done, and a text tells the fault
 abbrev pub TellsFault : ℕ → List ℕ → Scene → Scene → List ℕ → Type 0
-TellsFault number line old new text = (fault : Fault) × (fault_where (is_there old.world) line ≡ Some fault) × (text ≡ bad_line number fault.0 fault.1) × (new ≡ old)
+TellsFault number line old new text = (fault : Fault) × (fault_where (is_there old.world) line ≡ Some fault)
+    × (text ≡ bad_line number fault.0 fault.1) × (new ≡ old)
 
 -- a line without fault was begun, a limit stopped one of its events, and a text tells the limit
 abbrev pub TellsLimit : ℕ → List ℕ → Scene → Scene → List ℕ → Type 0
 TellsLimit number line old new text =
-    (stop : Limit) × (fault_where (is_there old.world) line ≡ None) × IsLimited (asked line) old stop new.world × (text ≡ limit_line number (which_of stop))
+    (stop : Limit) × (fault_where (is_there old.world) line ≡ None) × IsLimited (asked line) old stop new.world
+    × (text ≡ limit_line number (which_of stop))
 
 pub record IsDone (number : ℕ) (line : List ℕ) (old new : Scene) (before after : Option (List ℕ)) : Type 0 where
   pub text : List ℕ
@@ -53,7 +56,8 @@ pub record IsHalted (number : ℕ) (line : List ℕ) (old new : Scene) (before a
 -- only a front was written of what a line comes to
 pub record IsCut (number : ℕ) (line : List ℕ) (old new : Scene) (before after : Option (List ℕ)) : Type 0 where
   pub text : List ℕ
-  pub told : TellsAnswer number line old new text ⊎ (TellsFault number line old new text ⊎ TellsLimit number line old new text)
+  pub told : TellsAnswer number line old new text
+      ⊎ (TellsFault number line old new text ⊎ TellsLimit number line old new text)
   pub written : AppendsFront before after text
 
 -- nothing was written of it, whether it was done or not
@@ -62,12 +66,14 @@ pub record IsUntold (old new : Scene) (before after : Option (List ℕ)) : Type 
   pub written : AppendsFront before after []
 
 -- what a line comes to, by what its run answers
-abbrev pub LineRuns : Result (Unit {0}) Status → ℕ → List ℕ → Scene → Scene → Option (List ℕ) → Option (List ℕ) → Type 0
+abbrev pub LineRuns : Result (Unit {0}) Status → ℕ → List ℕ → Scene → Scene → Option (List ℕ) → Option (List ℕ)
+    → Type 0
 LineRuns (Ok done) number line old new before after = IsDone number line old new before after
 LineRuns (Err status.BadLine) number line old new before after = IsRefused number line old new before after
 LineRuns (Err status.Limit) number line old new before after = IsHalted number line old new before after
 LineRuns (Err status.WriteFault) number line old new before after = IsCut number line old new before after
-LineRuns (Err status.NoMemory) number line old new before after = IsUntold old new before after ⊎ IsCut number line old new before after
+LineRuns (Err status.NoMemory) number line old new before after = IsUntold old new before after
+    ⊎ IsCut number line old new before after
 LineRuns (Err other) number line old new before after = ⊥
 
 -- so many lines of a script were done, and these bytes are left of it

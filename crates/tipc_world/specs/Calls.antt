@@ -28,14 +28,16 @@ node_of (Arrive node bearer frame) = node
 -- message goes to another of the 32 nodes.
 abbrev pub CanHappenAt : List (Option MemberState) → WorldEvent → Type 0
 CanHappenAt members (Know node peer) =
-    (is_some (slice_index_or members node None) ≡ true) × (is_some (slice_index_or members peer None) ≡ true) × (peer ≢ node) × (knows members node peer ≡ false)
+    (is_some (slice_index_or members node None) ≡ true) × (is_some (slice_index_or members peer None) ≡ true)
+    × (peer ≢ node) × (knows members node peer ≡ false)
 CanHappenAt members (Mend node bearer) = (is_some (slice_index_or members node None) ≡ true) × (bearer ≡ 0)
 CanHappenAt members (Cut node bearer) = (is_some (slice_index_or members node None) ≡ true) × (bearer ≡ 0)
 CanHappenAt members (Tick node) = is_some (slice_index_or members node None) ≡ true
 CanHappenAt members (Restart node) = is_some (slice_index_or members node None) ≡ true
 CanHappenAt members (Socket node) = is_some (slice_index_or members node None) ≡ true
 CanHappenAt members (SendPort node port to importance body) =
-    (is_some (slice_index_or members node None) ≡ true) × ((m : ℕ) × (1 ≤ m) × (m ≤ 32) × (m ≢ node) × (to.node.word ≡ node_word m))
+    (is_some (slice_index_or members node None) ≡ true)
+    × ((m : ℕ) × (1 ≤ m) × (m ≤ 32) × (m ≢ node) × (to.node.word ≡ node_word m))
 CanHappenAt members (Receive node port) = is_some (slice_index_or members node None) ≡ true
 CanHappenAt members (Arrive node bearer frame) = (is_some (slice_index_or members node None) ≡ true) × (bearer ≤ 1)
 

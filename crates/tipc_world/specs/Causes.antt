@@ -103,7 +103,8 @@ pub record IsTakenFrom (seen : Seen) (s : NodeStep) (peer : Addr) : Type 0 where
 
 -- At least so many ticks stand after each of these steps in which the link to the peer went up or took a frame of it.
 abbrev pub HasTicked : Seen → List PlacedStep → Addr → ℕ → Type 0
-HasTicked seen made peer least = (k : ℕ) (s : PlacedStep) → slice_get made k ≡ Some s → BringsUp s.step peer ⊎ IsTakenFrom seen s.step peer → least ≤ ticks (drop (k + 1) made)
+HasTicked seen made peer least = (k : ℕ) (s : PlacedStep) → slice_get made k ≡ Some s
+    → BringsUp s.step peer ⊎ IsTakenFrom seen s.step peer → least ≤ ticks (drop (k + 1) made)
 
 -- ---- why a link goes down
 
@@ -116,4 +117,5 @@ IsCaused seen earlier s peer theirs cause.PeerReset shown = IsResetOf seen s.ste
 IsCaused seen earlier s peer theirs cause.PeerTunnel shown = ⊥
 IsCaused seen earlier s peer theirs cause.ContactEnded shown =
     (place : ℕ) × (numbers : ℕ × ℕ) × (states : Option LinkState × Option LinkState) × (number : ℕ)
-    × (slice_get s.step.inside place ≡ Some (entry.ContactDown peer numbers states number)) × IsNumberOf seen s.step peer number × (numbers.1 < number)
+    × (slice_get s.step.inside place ≡ Some (entry.ContactDown peer numbers states number))
+    × IsNumberOf seen s.step peer number × (numbers.1 < number)

@@ -33,7 +33,8 @@ use Rattle.tipc_world.specs.States.{MemberState}
 
 -- something happens to all neighbours alike
 abbrev pub TakesPart : ℕ → Deed → MemberState → MemberState → List Outgoing → Answer → Type 0
-TakesPart stamp d m m' frames answered = (m' ≡ deed_member stamp m d) × (frames ≡ frames_all d m.node.neighbours) × (answered ≡ answer.Done)
+TakesPart stamp d m m' frames answered = (m' ≡ deed_member stamp m d) × (frames ≡ frames_all d m.node.neighbours)
+    × (answered ≡ answer.Done)
 
 -- a message is put on the link to a peer
 pub record Puts (stamp : ℕ) (event : EventNote) (peer : ℕ) (message : Message) (m m' : MemberState) (frames : List Outgoing) (answered : Answer) : Type 0 where
@@ -79,19 +80,24 @@ pub record Hears (stamp place : ℕ) (bytes : List ℕ) (m m' : MemberState) (fr
 -- a frame arrives on a bearer: it reaches no link, or it brings a packet
 pub record Arrives (stamp bearer place : ℕ) (bytes : List ℕ) (m m' : MemberState) (frames : List Outgoing) (answered : Answer) : Type 0 where
   pub stopped : (why : Why) → stop_of m.node bearer bytes ≡ Some why →
-      (m' ≡ stopped_member stamp m bearer place why) × (frames ≡ []) × (answered ≡ answer.Arrived (arrival.Ignored why))
+      (m' ≡ stopped_member stamp m bearer place why) × (frames ≡ [])
+      × (answered ≡ answer.Arrived (arrival.Ignored why))
   pub heard : stop_of m.node bearer bytes ≡ None → Hears stamp place bytes m m' frames answered
 
 -- An event happens at a node, as the recorded call of that stamp where it is one; of an arrival, these are the bytes of the frame.
 abbrev pub Does : ℕ → WorldEvent → List ℕ → MemberState → MemberState → List Outgoing → Answer → Type 0
-Does stamp (Know node peer) bytes m m' frames answered = (m' ≡ known_member m peer) × (frames ≡ known_frames m.node peer) × (answered ≡ answer.Done) × (peer < length m.node.neighbours)
+Does stamp (Know node peer) bytes m m' frames answered = (m' ≡ known_member m peer)
+    × (frames ≡ known_frames m.node peer) × (answered ≡ answer.Done) × (peer < length m.node.neighbours)
 Does stamp (Mend node bearer) bytes m m' frames answered = TakesPart stamp deed.Mend m m' frames answered
 Does stamp (Cut node bearer) bytes m m' frames answered = TakesPart stamp deed.Cut m m' frames answered
 Does stamp (Tick node) bytes m m' frames answered = TakesPart stamp deed.Tick m m' frames answered
 Does stamp (Restart node) bytes m m' frames answered = IsRestarted m m' × (frames ≡ []) × (answered ≡ answer.Done)
-Does stamp (Socket node) bytes m m' frames answered = (m' ≡ socket_member stamp m) × (frames ≡ []) × (answered ≡ socket_answer m.node)
-Does stamp (SendPort node port to importance body) bytes m m' frames answered = (peer : ℕ) × Sends stamp port peer to importance body m m' frames answered
-Does stamp (Receive node port) bytes m m' frames answered = (m' ≡ receive_member stamp m port) × (frames ≡ []) × (answered ≡ receive_answer m.node port)
+Does stamp (Socket node) bytes m m' frames answered = (m' ≡ socket_member stamp m) × (frames ≡ [])
+    × (answered ≡ socket_answer m.node)
+Does stamp (SendPort node port to importance body) bytes m m' frames answered = (peer : ℕ)
+    × Sends stamp port peer to importance body m m' frames answered
+Does stamp (Receive node port) bytes m m' frames answered = (m' ≡ receive_member stamp m port) × (frames ≡ [])
+    × (answered ≡ receive_answer m.node port)
 Does stamp (Arrive node bearer place) bytes m m' frames answered = Arrives stamp bearer place bytes m m' frames answered
 
 -- an event happened at a node, whose frames are in the box

@@ -54,7 +54,8 @@ pub record HasSession (bytes : List ℕ) (sender receiver : ℕ) : Type 0 where
 
 -- a frame is neither
 abbrev pub HasNoSession : List ℕ → Type 0
-HasNoSession bytes = (is_frame_size (length bytes) ≡ false) ⊎ (((fault : HeaderFault) × (fault_of (drop 16 bytes) ≡ Some fault)) ⊎ ((fault_of (drop 16 bytes) ≡ None) × (is_traffic (fields_at (drop 16 bytes)).header ≡ false)))
+HasNoSession bytes = (is_frame_size (length bytes) ≡ false)
+    ⊎ (((fault : HeaderFault) × (fault_of (drop 16 bytes) ≡ Some fault)) ⊎ ((fault_of (drop 16 bytes) ≡ None) × (is_traffic (fields_at (drop 16 bytes)).header ≡ false)))
 
 -- ---- an arrival that is none
 

@@ -50,7 +50,8 @@ pub record IsGood (w : WorldState) : Type 0 where
       IsPrefixOf (delivered_at w.members b a b_number a_number flow) (accepted_at w.members a b a_number b_number flow)
   -- Where anything was delivered in a contact, both nodes entered it: a contact that only one side entered has nothing delivered.
   pub entered : (a b a_number b_number : ℕ) (flow : Flow) → delivered_at w.members b a b_number a_number flow ≢ [] →
-      HasBegun (history_at w.members a) (record { word = node_word b }) (a_number, b_number) × HasBegun (history_at w.members b) (record { word = node_word a }) (b_number, a_number)
+      HasBegun (history_at w.members a) (record { word = node_word b }) (a_number, b_number)
+      × HasBegun (history_at w.members b) (record { word = node_word a }) (b_number, a_number)
   -- For each node, in all its boots: each message that was delivered is spelled by frames that arrived there in that step or before, and
   -- that the peer sent.
   pub spelled : (n : ℕ) (m : MemberState) → slice_index_or w.members n None ≡ Some m → AreSpelled w.air m

@@ -25,15 +25,18 @@ IsLawfulEntry seen earlier s (entry.LinkUp peer bearer own theirs) = bearer ≡ 
 IsLawfulEntry seen earlier s (entry.LinkDown peer bearer cause shown) =
     (bearer ≡ 0) × ((own : ℕ) × (theirs : ℕ) × (up_epochs s.before peer 0 ≡ Some (own, theirs)) × IsCaused seen earlier s peer theirs cause shown)
 IsLawfulEntry seen earlier s (entry.ContactDown peer numbers states number) =
-    (contact s.before peer ≡ Some numbers) × (up_epochs (after s) peer 0 ≡ None) × ((number ≡ 0) ⊎ (IsNumberOf seen s.step peer number × (numbers.1 < number)))
+    (contact s.before peer ≡ Some numbers) × (up_epochs (after s) peer 0 ≡ None)
+    × ((number ≡ 0) ⊎ (IsNumberOf seen s.step peer number × (numbers.1 < number)))
 IsLawfulEntry seen earlier s (entry.Accepted peer numbers flow message) = contact (after s) peer ≡ Some numbers
-IsLawfulEntry seen earlier s (entry.Delivered peer numbers flow message by) = (contact (after s) peer ≡ Some numbers) × IsSpelled seen s.step peer message by
+IsLawfulEntry seen earlier s (entry.Delivered peer numbers flow message by) = (contact (after s) peer ≡ Some numbers)
+    × IsSpelled seen s.step peer message by
 IsLawfulEntry seen earlier s other = Unit {0}
 
 -- one step of a journal, after those earlier ones
 pub record IsLawfulStep (seen : Seen) (earlier : List PlacedStep) (s : PlacedStep) : Type 0 where
   -- an arrival is of a frame in the air
-  pub arrives : (bearer number : ℕ) → s.step.event ≡ event.Arrive bearer number → (f : Sent) × (bearer ≡ 0) × (arrived_frame seen number ≡ Some f)
+  pub arrives : (bearer number : ℕ) → s.step.event ≡ event.Arrive bearer number
+      → (f : Sent) × (bearer ≡ 0) × (arrived_frame seen number ≡ Some f)
   pub entries : (place : ℕ) (e : Entry) → slice_get s.step.inside place ≡ Some e → IsLawfulEntry seen earlier s e
   -- the node is in contact with a node exactly where a link to it is up
   pub contacts : (n : ℕ) → is_some (contact (after s) (record { word = node_word n })) ≡ is_some (up_epochs (after s) (record { word = node_word n }) 0)
@@ -53,8 +56,10 @@ IsWithin journal other = Unit {0}
 pub record IsLawful (seen : Seen) (journal : List Entry) : Type 0 where
   pub whole : IsWhole journal
   pub within : (place : ℕ) (e : Entry) → slice_get journal place ≡ Some e → IsWithin journal e
-  pub steps_are : (k : ℕ) (s : PlacedStep) → slice_get (steps journal) k ≡ Some s → IsLawfulStep seen (take k (steps journal)) s
+  pub steps_are : (k : ℕ) (s : PlacedStep) → slice_get (steps journal) k ≡ Some s
+      → IsLawfulStep seen (take k (steps journal)) s
 
 -- the journals of all boots of a node are lawful
 abbrev pub AreLawful : List Sent → MemberState → Type 0
-AreLawful air m = (k : ℕ) (journal : List Entry) → slice_get (m.past ++ m.node.journal ∷ []) k ≡ Some journal → IsLawful (record { air = air; arrivals = m.arrivals }) journal
+AreLawful air m = (k : ℕ) (journal : List Entry) → slice_get (m.past ++ m.node.journal ∷ []) k ≡ Some journal
+    → IsLawful (record { air = air; arrivals = m.arrivals }) journal

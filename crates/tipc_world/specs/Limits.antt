@@ -22,8 +22,10 @@ pub record IsFree (members : List (Option MemberState)) (air : List Sent) (event
 
 -- a limit keeps it from happening
 abbrev pub IsStopped : List (Option MemberState) → List Sent → ℕ → WorldEvent → WorldFault → Type 0
-IsStopped members air events event (fault.Limit limit.Events) = (300000 ≤ events) × (counts_at members air event ≡ true)
-IsStopped members air events event (fault.Limit limit.Journal) = (events < 300000) × (is_call_at members air event ≡ true) × (has_room_at members (node_of event) ≡ false)
+IsStopped members air events event (fault.Limit limit.Events) = (300000 ≤ events)
+    × (counts_at members air event ≡ true)
+IsStopped members air events event (fault.Limit limit.Journal) = (events < 300000)
+    × (is_call_at members air event ≡ true) × (has_room_at members (node_of event) ≡ false)
 IsStopped members air events event (fault.Limit limit.Frames) = ⊥
 IsStopped members air events event fault.NoMemory = Unit {0}
 

@@ -36,16 +36,22 @@ pub record IsAirborne (f : Sent) : Type 0 where
 
 pub record IsSound (members : List (Option MemberState)) (air : List Sent) : Type 0 where
   -- a node has a number, and its address is that of its number
-  pub numbered : (n : ℕ) (m : MemberState) → slice_index_or members n None ≡ Some m → IsNumber n × (m.node.own ≡ node_word n)
+  pub numbered : (n : ℕ) (m : MemberState) → slice_index_or members n None ≡ Some m
+      → IsNumber n × (m.node.own ≡ node_word n)
   -- a node knows other nodes that are there
   pub apart : (a : ℕ) → link_at members a a ≡ None
   pub known : (a b : ℕ) → (IsNumber b → slice_index_or members b None ≡ None) → link_at members a b ≡ None
   -- each two nodes are partners
-  pub pairs : (a b : ℕ) → IsNumber a → IsNumber b → a ≢ b → AreSeen (sight_at members air a b) (sight_at members air b a)
+  pub pairs : (a b : ℕ) → IsNumber a → IsNumber b → a ≢ b
+      → AreSeen (sight_at members air a b) (sight_at members air b a)
   -- messages are accepted and delivered in flow Zero alone, and each can be sent
-  pub one_flow : (a b own theirs : ℕ) (flow : Flow) → flow ≢ Zero → (accepted_at members a b own theirs flow ≡ []) × (delivered_at members a b own theirs flow ≡ [])
-  pub accepted : (a b own theirs k : ℕ) (m : Message) → slice_get (accepted_at members a b own theirs Zero) k ≡ Some m → IsSendable m
-  pub delivered : (a b own theirs k : ℕ) (m : Message) → slice_get (delivered_at members a b own theirs Zero) k ≡ Some m → IsSendable m
+  pub one_flow : (a b own theirs : ℕ) (flow : Flow) → flow ≢ Zero
+      → (accepted_at members a b own theirs flow ≡ []) × (delivered_at members a b own theirs flow ≡ [])
+  pub accepted : (a b own theirs k : ℕ) (m : Message) → slice_get (accepted_at members a b own theirs Zero) k ≡ Some m
+      → IsSendable m
+  pub delivered : (a b own theirs k : ℕ) (m : Message)
+      → slice_get (delivered_at members a b own theirs Zero) k ≡ Some m → IsSendable m
   -- what concerns a number that no node has, or the node itself, is nothing
-  pub nothing : (a b own theirs : ℕ) → delivered_at members a b own theirs Zero ≢ [] → IsNumber a × IsNumber b × (a ≢ b)
+  pub nothing : (a b own theirs : ℕ) → delivered_at members a b own theirs Zero ≢ []
+      → IsNumber a × IsNumber b × (a ≢ b)
   pub frames : (k : ℕ) (f : Sent) → slice_get air k ≡ Some f → IsAirborne f

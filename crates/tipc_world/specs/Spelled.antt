@@ -45,6 +45,8 @@ IsSpelled seen s peer message by = IsTraced (λ number packet. HasBrought seen p
 -- each message that was delivered at a node, in all its boots, is spelled by the arrivals that stand beside it
 abbrev pub AreSpelled : List Sent → MemberState → Type 0
 AreSpelled air m =
-    (k : ℕ) (journal : List Entry) → slice_get (m.past ++ m.node.journal ∷ []) k ≡ Some journal → (i : ℕ) (s : PlacedStep) → slice_get (steps journal) i ≡ Some s
-    → (place : ℕ) (peer : Addr) (numbers : ℕ × ℕ) (flow : Flow) (message : Message) (by : List ℕ) → slice_get s.step.inside place ≡ Some (entry.Delivered peer numbers flow message by)
+    (k : ℕ) (journal : List Entry) → slice_get (m.past ++ m.node.journal ∷ []) k ≡ Some journal
+    → (i : ℕ) (s : PlacedStep) → slice_get (steps journal) i ≡ Some s
+    → (place : ℕ) (peer : Addr) (numbers : ℕ × ℕ) (flow : Flow) (message : Message) (by : List ℕ)
+    → slice_get s.step.inside place ≡ Some (entry.Delivered peer numbers flow message by)
     → IsSpelled (record { air = air; arrivals = m.arrivals }) s.step peer message by

@@ -36,9 +36,11 @@ pub record Happens (old new : Stage) (stamp : ℕ) (event : WorldEvent) (bytes :
 
 -- the frame of that place in a bearer's air arrives at a node, or there is none that does
 pub record IsArrival (old new : Stage) (stamp node bearer place : ℕ) (answered : Answer) (lost : Bool) : Type 0 where
-  pub none : (why : Answer) → unarrived old.members old.air node bearer place ≡ Some why → (answered ≡ why) × (new ≡ old) × (lost ≡ false)
+  pub none : (why : Answer) → unarrived old.members old.air node bearer place ≡ Some why
+      → (answered ≡ why) × (new ≡ old) × (lost ≡ false)
   pub arrives : unarrived old.members old.air node bearer place ≡ None →
-      (f : Sent) × (frame_for old.air node bearer place ≡ Some f) × Happens old new stamp (Arrive node bearer place) f.frame answered lost
+      (f : Sent) × (frame_for old.air node bearer place ≡ Some f)
+      × Happens old new stamp (Arrive node bearer place) f.frame answered lost
 
 -- what an event makes of the nodes and the air, what it answers, and whether a frame was lost for want of memory
 abbrev pub Becomes : Stage → ℕ → WorldEvent → Stage → Answer → Bool → Type 0

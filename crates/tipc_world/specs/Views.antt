@@ -34,7 +34,8 @@ numbered_with counts bearer epoch = if bearer == 0 then counts epoch else 0
 
 -- node a towards node b: its boot, its link end, the packets of the messages that it put and was given, the message that is begun, how
 -- many packets it numbered by epoch, and the frames that it sent
-abbrev pub sight_from : ℕ → ℕ → ℕ → Option LinkEnd → (ℕ → ℕ → List (List ℕ)) → (ℕ → ℕ → List (List ℕ)) → Joining → (ℕ → ℕ) → List Frame → Sight
+abbrev pub sight_from : ℕ → ℕ → ℕ → Option LinkEnd → (ℕ → ℕ → List (List ℕ)) → (ℕ → ℕ → List (List ℕ)) → Joining
+    → (ℕ → ℕ) → List Frame → Sight
 sight_from a b boot link put given partial counts sent = record {
   node = node_from a b boot link;
   ends = ends_with link;

@@ -44,7 +44,8 @@ pub record Mirrors (seen : Seen) (journal : List Entry) (p : ℕ) (link : Option
 
 -- what a node has of its peers and hasn't delivered yet was brought by frames that they sent
 abbrev pub AreTraced : Seen → List (Option Neighbour) → Type 0
-AreTraced seen xs = (p : ℕ) (x : Neighbour) → slice_index_or xs p None ≡ Some x → KeepsBy (HasBrought seen (addr_of p)) x.pair
+AreTraced seen xs = (p : ℕ) (x : Neighbour) → slice_index_or xs p None ≡ Some x
+    → KeepsBy (HasBrought seen (addr_of p)) x.pair
 
 pub record IsWatched (air : List Sent) (m : MemberState) : Type 0 where
   pub lawful : AreLawful air m
