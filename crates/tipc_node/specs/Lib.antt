@@ -3,3 +3,5 @@ pub mod Neighbours
 pub mod Nodes
 pub mod Calls
 pub mod Deliveries
+pub mod Turns
+pub mod Telling

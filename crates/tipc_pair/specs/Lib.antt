@@ -1,3 +1,4 @@
 pub mod Pairs
 pub mod Partners
 pub mod Held
+pub mod Turns

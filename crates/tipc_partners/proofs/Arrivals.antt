@@ -27,7 +27,8 @@ use Rattle.tipc_link_fsm.specs.Table.{Fsm, Outcome, gives, heard, is_last, is_pe
 use Rattle.tipc_link_fsm.proofs.Moves.{cases_on}
 use Rattle.tipc_pair.proofs.Receivings.{due_none}
 use Rattle.tipc_pair.specs.declared.changes.PairOutcome.{PairOutcome}
-use Rattle.tipc_partners.specs.Paired.{IsShowable, ShowsContact}
+use Rattle.tipc_pair.specs.Turns.{IsShowable}
+use Rattle.tipc_partners.specs.Paired.{ShowsContact}
 use Rattle.tipc_pair.specs.Pairs.{Met, arrival, arrival_of, link_met, packets_of, settled, settled_frames}
 use Rattle.tipc_pair.specs.Partners.{IsInContact, OpensTo, begun_after, deferred, ignored, opened_in, took}
 use Rattle.tipc_partners.proofs.Calls.{answer_did, heard_did}

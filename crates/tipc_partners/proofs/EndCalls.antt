@@ -31,7 +31,8 @@ use Rattle.tipc_partners.specs.Calls.{IsToldOn}
 use Rattle.tipc_partners.specs.Deeds.{MayCall, MayTell, activates, calls, ended_with, falls, parted, resets, rises, states, with_begun}
 use Rattle.tipc_partners.specs.EndCalls.{Became, EndCallsAreDeeds, HasEnd, IsNotice, partial_after}
 use Rattle.tipc_partners.specs.Partners.{ActsAll, ArePartners, Partner, changes, renewed, viewed, works}
-use Rattle.tipc_partners.specs.Paired.{ArePaired, IsShowable}
+use Rattle.tipc_pair.specs.Turns.{IsShowable}
+use Rattle.tipc_partners.specs.Paired.{ArePaired}
 use Rattle.tipc_partners.specs.Views.{IsApart, Node, View, Wire, said_by, with_end, with_wire}
 
 -- ---- one deed, and frames behind it

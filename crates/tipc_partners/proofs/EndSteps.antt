@@ -11,7 +11,7 @@ use Rattle.tipc_link_fsm.specs.declared.changes.Change.{Change}
 use Rattle.tipc_link_fsm.specs.declared.changes.Change.TheVariants.{Down, Stay, Up}
 use Rattle.tipc_link_fsm.specs.Runs.{BearerIsCut, TickPasses}
 use Rattle.tipc_link_fsm.specs.Table.{Fsm, Outcome, gives, is_up, lowered, on_cut, on_tick}
-use Rattle.tipc_partners.specs.Paired.{IsShowable}
+use Rattle.tipc_pair.specs.Turns.{IsShowable}
 use Rattle.tipc_pair.specs.Pairs.{change_of, cut_pair, parted, settled, settled_frames, tick_frames, tick_pair, told_of}
 use Rattle.tipc_pair.specs.Partners.{IsMessage, begun_after, pieces_for}
 use Rattle.tipc_partners.proofs.Calls.{put_did}

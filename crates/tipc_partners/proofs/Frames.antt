@@ -21,7 +21,8 @@ use Rattle.tipc_recv_window.specs.Receiving.{gap_of}
 use Rattle.tipc_link.specs.Direction.{IsCarried}
 use Rattle.tipc_link.specs.Links.{is_traffic}
 use Rattle.tipc_link.specs.Sessions.{Carries, SessionEnd, Shows, as_waiting, content_by, content_of, gap, missing, packet_frame, packet_frames, receiving, state_fields, state_frame}
-use Rattle.tipc_partners.specs.Paired.{IsPacket, IsShowable, ShowsContact}
+use Rattle.tipc_pair.specs.Turns.{IsShowable}
+use Rattle.tipc_partners.specs.Paired.{IsPacket, ShowsContact}
 use Rattle.tipc_partners.specs.Views.{er_of, es_of}
 
 -- ---- an envelope and its packet

@@ -35,7 +35,8 @@ use Rattle.tipc_partners.proofs.Steps.{Stepped, became_stepped, node_of_end, onw
 use Rattle.tipc_partners.proofs.Wires.{map_at, none_some, same_some}
 use Rattle.tipc_partners.specs.Deeds.{MayTell, ended_with, forgot_with, parted as parted_view, parts, resets, risen as risen_view, shows}
 use Rattle.tipc_partners.specs.EndCalls.{Became, HasEnd, IsNotice, partial_after}
-use Rattle.tipc_partners.specs.Paired.{ArePaired, IsShowable, IsShown, ShowsContact}
+use Rattle.tipc_pair.specs.Turns.{IsShowable}
+use Rattle.tipc_partners.specs.Paired.{ArePaired, IsShown, ShowsContact}
 use Rattle.tipc_partners.specs.Partners.{ActsAll, ArePartners, Partner, changes, follows, renewed, viewed, works}
 use Rattle.tipc_partners.specs.Views.{Frame, IsApart, View, er_of, es_of, notice_of, said_by}
 

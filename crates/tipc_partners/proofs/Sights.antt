@@ -22,7 +22,8 @@ use Rattle.tipc_partners.proofs.Seeing.{only_end, stepped_seen, told_still}
 use Rattle.tipc_partners.proofs.Truth.{told_true}
 use Rattle.tipc_partners.proofs.Wires.{none_some}
 use Rattle.tipc_partners.specs.Deeds.{made_on, restarted as begun_again, restarts}
-use Rattle.tipc_partners.specs.Paired.{IsEnd, IsNew as IsNewView, IsShowable}
+use Rattle.tipc_pair.specs.Turns.{IsShowable}
+use Rattle.tipc_partners.specs.Paired.{IsEnd, IsNew as IsNewView}
 use Rattle.tipc_partners.specs.Partners.{ActsAll, beginning, changes, follows, nothing, renewed}
 use Rattle.tipc_partners.specs.Sights.{ArrivesSeen, AreSeen, Comes, CutsSeen, GivesSeen, EndsSeen, FramesSeen, FrontsSeen, Goes, IsNew, IsSeen, KnowsSeen, MendsSeen, PutsSeen, RestartsSeen, Sight, StartsSeen, TicksSeen, TruthsSeen, TurnedSeen}
 use Rattle.tipc_partners.specs.Truth.{IsTold}

@@ -9,7 +9,7 @@ use Rattle.tipc_reassembly.specs.Opening.{BringsAll}
 use Rattle.tipc_reassembly.specs.Slots.{packets_in as messages_in}
 use Rattle.tipc_link.specs.Links.{LinkEnd, with_session}
 use Rattle.tipc_link.specs.Sessions.{Carries, Content, IsPut, Nothing, SessionEnd, Shows, answer_frames, answered, arrival_frames, arrived, brought, content_of, due_with, flush_frames, flushed}
-use Rattle.tipc_partners.specs.Paired.{IsShowable}
+use Rattle.tipc_pair.specs.Turns.{IsShowable, PutsAll}
 use Rattle.tipc_pair.specs.Partners.{IsMessage, pieces_for}
 use Rattle.tipc_partners.specs.Deeds.{Hears, IsUp}
 use Rattle.tipc_partners.specs.Partners.{ActsAll, ArePartners, Partner, put_in}
@@ -55,13 +55,6 @@ pub record WasGiven (x after : Partner) (opened : List Opened) (last : Joining) 
   pub given : (own theirs : ℕ) → after.given own theirs ≡ given_more x (messages_in opened) own theirs
   pub put : after.put ≡ x.put
   pub partial : after.partial ≡ last
-
--- Messages are put one after the other, each in the packets that it takes; these frames leave as waiting packets move up.
-pub data PutsAll : SessionEnd → List (List ℕ) → List Outgoing → SessionEnd → Type 0 where
-  none_put : (s : SessionEnd) → PutsAll s [] [] s
-  puts_one : (s s' last : SessionEnd) (m : List ℕ) (messages : List (List ℕ)) (frames : List Outgoing)
-      → IsPut s (pieces_for m) s' → PutsAll (flushed s') messages frames last
-      → PutsAll s (m ∷ messages) (flush_frames s' ++ frames) last
 
 -- What the three calls of a session do, and an arrival that is answered by messages and by the STATE that is due, each as deeds.
 

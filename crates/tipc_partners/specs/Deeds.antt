@@ -17,7 +17,8 @@ use Rattle.tipc_contact.specs.Sides.{IsTold, first_number}
 use Rattle.tipc_link.specs.Links.{LinkEnd, after, is_traffic, known, made, notice, shown_by, with_session}
 use Rattle.tipc_link.specs.Sessions.{Carries, SessionEnd, brought, content_of, due_with, flushed, moving, packet_frame, released, state_frame, took}
 use Rattle.tipc_pair.specs.Pairs.{is_quiet, packets_in}
-use Rattle.tipc_partners.specs.Paired.{IsPacket, IsShowable, IsShown}
+use Rattle.tipc_pair.specs.Turns.{IsShowable}
+use Rattle.tipc_partners.specs.Paired.{IsPacket, IsShown}
 use Rattle.tipc_partners.specs.Views.{Begun, Frame, IsApart, Node, View, Wire, er_of, es_of, put_at, said_by, session_on, with_end, with_told, with_wire}
 
 -- ---- link ends

@@ -10,7 +10,7 @@ use Rattle.tipc_link.specs.Links.{LinkEnd, is_traffic}
 use Rattle.tipc_link_fsm.specs.declared.changes.Change.{Change}
 use Rattle.tipc_link_fsm.specs.declared.changes.Change.TheVariants.{Down, Up}
 use Rattle.tipc_link_fsm.specs.Runs.{Call, outcome}
-use Rattle.tipc_partners.specs.Paired.{IsShowable}
+use Rattle.tipc_pair.specs.Turns.{IsShowable}
 use Rattle.tipc_pair.specs.Pairs.{settled, settled_frames}
 use Rattle.tipc_partners.specs.Calls.{IsToldOn}
 use Rattle.tipc_partners.specs.Deeds.{MayCall}

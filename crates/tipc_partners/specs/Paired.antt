@@ -33,13 +33,6 @@ ShowsContact (header.Reset r) own theirs = (r.contact ≡ own) × (r.peer_contac
 ShowsContact (header.Activate a) own theirs = (a.contact ≡ own) × (a.peer_contact ≡ theirs)
 ShowsContact other own theirs = Unit {0}
 
--- what a STATE says of broadcast has 16 bits each
-pub record IsShowable (shown : BroadcastState) : Type 0 where
-  pub acknowledged : shown.acknowledged < 2 ^ 16
-  pub next : shown.next < 2 ^ 16
-  pub start : shown.start < 2 ^ 16
-  pub gap : shown.gap < 2 ^ 16
-
 -- ---- a node and its link ends
 
 pub record IsNode (n : Node) : Type 0 where

@@ -11,14 +11,14 @@ use Rattle.tipc_reassembly.specs.declared.opening.Opened.{Opened}
 use Rattle.tipc_reassembly.specs.Slots.{IsWholePacket, packets_in}
 use Rattle.tipc_contact.specs.Sides.{first_number}
 use Rattle.tipc_link.specs.Laws.{IsPrefixOf}
-use Rattle.tipc_link.specs.Links.{LinkEnd, answered_end, answered_frames, is_traffic, mended_end, mend_frames, with_session}
-use Rattle.tipc_link.specs.Sessions.{IsPut, SessionEnd, flush_frames, flushed}
-use Rattle.tipc_link_fsm.specs.Table.{is_up, on_cut, on_tick}
-use Rattle.tipc_pair.specs.declared.changes.PairOutcome.{PairOutcome}
-use Rattle.tipc_pair.specs.Pairs.{Met, arrival, change_of, cut_pair, tick_frames, tick_pair}
-use Rattle.tipc_pair.specs.Partners.{IsInContact, IsMessage, OpensTo, begun_after, opened_in, pieces_for}
+use Rattle.tipc_link.specs.Links.{LinkEnd, is_traffic, mend_frames, mended_end}
+use Rattle.tipc_link.specs.Sessions.{SessionEnd}
+use Rattle.tipc_link_fsm.specs.Table.{is_up}
+use Rattle.tipc_pair.specs.Partners.{IsMessage, PairState, opened_in, pair_state}
+use Rattle.tipc_pair.specs.Turns.{Happened, Opening, Outset, PairTurn, ShowsAtLast, ShowsIn}
+use Rattle.tipc_pair.specs.Turns.Opening.{hears}
 use Rattle.tipc_partners.specs.Deeds.{made_on}
-use Rattle.tipc_partners.specs.Paired.{IsEnd, IsShowable}
+use Rattle.tipc_partners.specs.Paired.{IsEnd}
 use Rattle.tipc_partners.specs.Partners.{ArePartners, Partner}
 use Rattle.tipc_partners.specs.Truth.{IsTold}
 use Rattle.tipc_partners.specs.Views.{Frame, Node, View, er_of, es_of}
@@ -95,13 +95,13 @@ sent_as v w bearer o = record {
 abbrev pub node_with : Node → LinkEnd → Node
 node_with n e = record { own = n.own; peer = n.peer; boot = n.boot; contact = e.contact; seen = e.peer_contact }
 
--- The link end of v on the bearer became e. These messages were put, and these given, in the contact of before, and this message is begun.
--- The first of these frames, or all of them, came into the air.
+-- The link end of v on the bearer became e. These messages were put, and these given, in the contact whose numbers the node has after it, and
+-- this message is begun. The first of these frames, or all of them, came into the air.
 pub record Goes (v v' w : Sight) (bearer : ℕ) (e : LinkEnd) (frames : List Outgoing) (put given : List (List ℕ)) (partial : Joining) : Type 0 where
   pub node : v'.node ≡ node_with v.node e
   pub only : HasOnly v' bearer e
-  pub put_is : (own theirs : ℕ) → v'.put own theirs ≡ v.put own theirs ++ come v put own theirs
-  pub given_is : (own theirs : ℕ) → v'.given own theirs ≡ v.given own theirs ++ come v given own theirs
+  pub put_is : (own theirs : ℕ) → v'.put own theirs ≡ v.put own theirs ++ come v' put own theirs
+  pub given_is : (own theirs : ℕ) → v'.given own theirs ≡ v.given own theirs ++ come v' given own theirs
   pub partial_is : v'.partial ≡ partial
   pub numbered_now : (s : SessionEnd) → e.session ≡ Some s → v'.numbered bearer s.epoch ≡ s.sending.numbered
   pub numbered_else : (b epoch : ℕ) → ((s : SessionEnd) → e.session ≡ Some s → b ≡ bearer → s.epoch ≢ epoch)
@@ -147,12 +147,23 @@ pub record Comes (v w : Sight) (bearer es er : ℕ) (p : Fields) : Type 0 where
   pub own_fresh : is_traffic p.header ≡ true → v.numbered bearer er ≤ frame.peer_numbered + 30000
   pub peer_fresh : is_traffic p.header ≡ true → w.numbered bearer es ≤ frame.numbered + 30000
 
--- Everything that came is whole. It was given in the contact of before, and with what was given there before it is a front of what
--- the other node put.
-pub record GivesFront (v : Sight) (e : LinkEnd) (m : Met) (w : Sight) (opened : List Opened) : Type 0 where
+-- what is heard comes out of the air
+abbrev pub ComesIn : Sight → Sight → ℕ → Opening → Type 0
+ComesIn v w bearer (hears es er p by shown) = Comes v w bearer es er p
+ComesIn v w bearer other = Unit {0}
+
+-- an end that is up, in the contact in which another was
+pub record StaysUp (e e' : LinkEnd) : Type 0 where
+  pub up : is_up e'.fsm.state ≡ true
+  pub contact : e'.contact ≡ e.contact
+  pub seen : e'.peer_contact ≡ e.peer_contact
+
+-- Everything that came is whole. It was given in the contact that was and is, the end having become e', and with what was given there before
+-- it is a front of what the other node put.
+pub record GivesFront (v : Sight) (e e' : LinkEnd) (w : Sight) (opened : List Opened) : Type 0 where
   pub whole : All IsWholePacket opened
   pub front : IsPrefixOf (v.given v.node.contact v.node.seen ++ packets_in opened) (w.put v.node.seen v.node.contact)
-  pub contact : (opened ≡ []) ⊎ IsInContact e m
+  pub contact : (opened ≡ []) ⊎ StaysUp e e'
 
 -- a frame in the air is an envelope and a packet of its node
 pub record IsSpoken (own : ℕ) (f : Frame) : Type 0 where
@@ -181,36 +192,19 @@ abbrev pub KnowsSeen : Type 0
 KnowsSeen = (v v' w : Sight) (bearer : ℕ) (mended : Bool) → AreSeen v w → ((b : ℕ) → v.ends b ≡ None)
     → Goes v v' w bearer (if mended then mended_end (made_on v.node bearer) else made_on v.node bearer) (if mended then mend_frames (made_on v.node bearer) else []) [] [] v.partial → AreSeen v' w
 
-abbrev pub MendsSeen : Type 0
-MendsSeen = (v v' w : Sight) (bearer : ℕ) (e : LinkEnd) → AreSeen v w → HasOnly v bearer e
-    → Goes v v' w bearer (mended_end e) (mend_frames e) [] [] v.partial → AreSeen v' w
+-- the node takes a turn at the pair, whatever happens there first and whatever is put
+abbrev pub TurnsSeen : Type 0
+TurnsSeen = (v v' w : Sight) (bearer : ℕ) (e : LinkEnd) (opening : Opening) (messages : List (List ℕ)) (answer : Option BroadcastState) (x' : PairState) (frames : List Outgoing)
+    → AreSeen v w → HasOnly v bearer e → ComesIn v w bearer opening → ShowsIn opening → ShowsAtLast answer
+    → All (IsMessage v.node.own) messages
+    → (t : PairTurn (pair_state e v.partial) opening messages answer x' frames)
+    → Goes v v' w bearer x'.link frames messages (packets_in (opened_in t.first.given)) x'.begun → AreSeen v' w
 
-abbrev pub CutsSeen : Type 0
-CutsSeen = (v v' w : Sight) (bearer : ℕ) (e : LinkEnd) → AreSeen v w → HasOnly v bearer e
-    → Goes v v' w bearer (cut_pair e) [] [] [] (begun_after (change_of e (on_cut e.fsm false) 0) v.partial)
-    → AreSeen v' w
-
-abbrev pub TicksSeen : Type 0
-TicksSeen = (v v' w : Sight) (bearer : ℕ) (e : LinkEnd) (shown : BroadcastState) → AreSeen v w → HasOnly v bearer e
-    → IsShowable shown
-    → Goes v v' w bearer (tick_pair e) (tick_frames e shown) [] [] (begun_after (change_of e (on_tick e.fsm false) 0) v.partial) → AreSeen v' w
-
-abbrev pub PutsSeen : Type 0
-PutsSeen = (v v' w : Sight) (bearer : ℕ) (e : LinkEnd) (s s' : SessionEnd) (m : List ℕ) → AreSeen v w
-    → HasOnly v bearer e → is_up e.fsm.state ≡ true → e.session ≡ Some s → IsPut s (pieces_for m) s'
-    → IsMessage v.node.own m
-    → Goes v v' w bearer (with_session e (flushed s')) (flush_frames s') (m ∷ []) [] v.partial → AreSeen v' w
-
-abbrev pub ArrivesSeen : Type 0
-ArrivesSeen = (v v' w : Sight) (bearer : ℕ) (e : LinkEnd) (es er : ℕ) (p : Fields) (by : ℕ) (shown shown' : BroadcastState) (out : PairOutcome) (last : Joining) → AreSeen v w → HasOnly v bearer e → Comes v w bearer es er p
-    → IsShowable shown → IsShowable shown'
-    → OpensTo (begun_after (arrival e es er p by shown).change v.partial) (arrival e es er p by shown).outcome out last
-    → Goes v v' w bearer (answered_end (arrival e es er p by shown).after) ((arrival e es er p by shown).frames ++ answered_frames (arrival e es er p by shown).after shown') [] (packets_in (opened_in out)) last → AreSeen v' w
-
--- what an arrival gives, before the node has taken it
+-- what happens first in a turn gives this, before the node has taken it
 abbrev pub GivesSeen : Type 0
-GivesSeen = (v w : Sight) (bearer : ℕ) (e : LinkEnd) (es er : ℕ) (p : Fields) (by : ℕ) (shown : BroadcastState) (out : PairOutcome) (last : Joining) → AreSeen v w → HasOnly v bearer e → Comes v w bearer es er p → IsShowable shown
-    → OpensTo (begun_after (arrival e es er p by shown).change v.partial) (arrival e es er p by shown).outcome out last → GivesFront v e (arrival e es er p by shown) w (opened_in out)
+GivesSeen = (v w : Sight) (bearer : ℕ) (e : LinkEnd) (opening : Opening) (o : Outset) → AreSeen v w → HasOnly v bearer e
+    → ComesIn v w bearer opening → ShowsIn opening → Happened (pair_state e v.partial) opening o
+    → GivesFront v e o.pair.link w (opened_in o.given)
 
 abbrev pub FrontsSeen : Type 0
 FrontsSeen = (v w : Sight) → AreSeen v w → (own theirs : ℕ) → IsPrefixOf (v.given own theirs) (w.put theirs own)

@@ -20,7 +20,7 @@ ghost use Rattle.tipc_partners.specs.Deeds.{Does, Hears, IsUp};
 ghost use Rattle.tipc_partners.specs.EndCalls.{EndCallsAreDeeds};
 ghost use Rattle.tipc_partners.specs.Paired.{ArePaired, IsNew};
 ghost use Rattle.tipc_partners.specs.Partners.{Acts, ActsAll, ArePartners, Partner, beginning};
-ghost use Rattle.tipc_partners.specs.Sights.{ArrivesSeen, CutsSeen, EndsSeen, FramesSeen, FrontsSeen, GivesSeen, KnowsSeen, MendsSeen, PutsSeen, RestartsSeen, StartsSeen, TicksSeen, TruthsSeen, TurnedSeen};
+ghost use Rattle.tipc_partners.specs.Sights.{EndsSeen, FramesSeen, FrontsSeen, GivesSeen, KnowsSeen, RestartsSeen, StartsSeen, TruthsSeen, TurnedSeen, TurnsSeen};
 ghost use Rattle.tipc_partners.specs.Truth.{IsTrue};
 ghost use Rattle.tipc_partners.specs.Views.{Frame, View};
 
@@ -93,17 +93,13 @@ pub fn a_link_end_acts_by_deeds()
 {}
 
 /// Two nodes of a world stay partners, as the world tells of them: by what they keep, what their journals record, and the frames that came
-/// into the air. Each call of a pair leaves them so, whatever it sends is lost, and whatever of all that was ever sent arrives.
+/// into the air. Each turn of a node at the pair leaves them so, whatever it sends is lost, and whatever of all that was ever sent arrives.
 pub fn two_nodes_of_a_world_stay_partners()
     ensures starts { StartsSeen }
     ensures turned { TurnedSeen }
     ensures restarts { RestartsSeen }
     ensures knows { KnowsSeen }
-    ensures mends { MendsSeen }
-    ensures cuts { CutsSeen }
-    ensures ticks { TicksSeen }
-    ensures puts { PutsSeen }
-    ensures arrives { ArrivesSeen }
+    ensures turns { TurnsSeen }
 {}
 
 /// What holds of two partners of a world: what an arrival gives is whole, and a front of what the other put; so is what was given; each link

@@ -1,0 +1,214 @@
+-- What a node does in one event, in one form for all of them: it records a step, and at the pair to each peer it takes a turn, of which the
+-- step tells. What else changes (sockets, say) is beside it.
+use Rattle.std.specs.Prelude.{◌≡◌, ◌<◌, ◌^◌, ℕ, ◌==◌, Bool, true, false, List, [], ◌∷◌, ◌++◌, Option, Some, None, filter, is_some, map, option_map}
+use Rattle.std.specs.List.{All, flat_map}
+use Rattle.tipc_types.specs.Address.{node_word}
+use Rattle.tipc_types.specs.declared.identity.Addr.{Addr}
+use Rattle.tipc_types.specs.declared.identity.To.{To}
+use Rattle.tipc_types.specs.declared.identity.To.TheVariants as to
+use Rattle.tipc_types.specs.declared.link_words.BroadcastState.{BroadcastState}
+use Rattle.tipc_types.specs.declared.message_forms.Flow.TheVariants.{Zero}
+use Rattle.tipc_types.specs.declared.message_forms.Message.{Message}
+use Rattle.tipc_types.specs.declared.node_calls.Answer.TheVariants as answer
+use Rattle.tipc_types.specs.declared.node_calls.Arrival.{Arrival}
+use Rattle.tipc_types.specs.declared.node_calls.Arrival.TheVariants as arrival
+use Rattle.tipc_types.specs.declared.node_calls.EventNote.{EventNote}
+use Rattle.tipc_types.specs.declared.node_calls.EventNote.TheVariants as event
+use Rattle.tipc_outside.specs.declared.outgoing.Outgoing.{Outgoing}
+use Rattle.tipc_header.specs.Frames.{frame_of}
+use Rattle.tipc_header.specs.Grammar.{Fits}
+use Rattle.tipc_header.specs.Spelling.{Fields, spelling}
+use Rattle.tipc_message.specs.Wire.{IsPayload, packet_of}
+use Rattle.tipc_journal.specs.declared.entries.Entry.{Entry}
+use Rattle.tipc_journal.specs.declared.entries.Entry.TheVariants as entry
+use Rattle.tipc_journal.specs.Steps.{IsInside, NodeStep, step_entries}
+use Rattle.tipc_reassembly.specs.declared.opening.Opened.{Opened}
+use Rattle.tipc_reassembly.specs.declared.opening.Opened.TheVariants.{Passed, Whole}
+use Rattle.tipc_link.specs.Links.{LinkEnd}
+use Rattle.tipc_link.specs.Sessions.{SessionEnd}
+use Rattle.tipc_pair.specs.declared.changes.PairOutcome.{PairOutcome}
+use Rattle.tipc_pair.specs.declared.changes.PairOutcome.TheVariants as outcome
+use Rattle.tipc_pair.specs.Partners.{PairState, opened_in}
+use Rattle.tipc_pair.specs.Turns.{Opening, PairTurn, ShowsAtLast, ShowsIn}
+use Rattle.tipc_pair.specs.Turns.Opening.{rests, mends, cuts, ticks, hears}
+use Rattle.tipc_node.specs.declared.neighbours.Neighbour.{Neighbour}
+use Rattle.tipc_node.specs.Nodes.{NodeState, accepted_entry, change_entries, message_in, neighbour_of, shown_contact}
+
+abbrev pub addr_of : ℕ → Addr
+addr_of n = record { word = node_word n }
+
+-- the link end to a peer
+abbrev pub link_in : NodeState → ℕ → Option LinkEnd
+link_in n peer = option_map (λ x. x.pair.link) (neighbour_of n peer)
+
+-- ---- messages
+
+abbrev pub spelled : Option Fields → List ℕ
+spelled (Some p) = spelling p
+spelled None = []
+
+-- the bytes of a message's packet, as it waits to be sent
+unfoldable pub bytes_of : Message → List ℕ
+bytes_of message = spelled (packet_of message)
+
+-- a user's message that this node may send: a packet carries it
+pub record IsSendable (m : Message) : Type 0 where
+  pub packet : Fields
+  pub packet_is : packet_of m ≡ Some packet
+  pub fits : Fits packet
+  pub payload : IsPayload m
+
+-- the node from which a message is
+abbrev pub origin_of : Message → Option ℕ
+origin_of (Message.Payload importance form from to kind lower upper code droppable body) = Some from.node.word
+origin_of (Message.Items withdrawal items) = None
+
+-- ---- what a step tells of a peer
+
+-- an entry tells of the link to node b, or of the contact with it
+abbrev pub is_change_of : ℕ → Entry → Bool
+is_change_of b (entry.LinkUp peer bearer own theirs) = peer.word == node_word b
+is_change_of b (entry.LinkDown peer bearer cause shown) = peer.word == node_word b
+is_change_of b (entry.ContactUp peer numbers) = peer.word == node_word b
+is_change_of b (entry.ContactDown peer numbers states shown) = peer.word == node_word b
+is_change_of b other = false
+
+-- a message was accepted for node b
+abbrev pub is_accepted_for : ℕ → Entry → Bool
+is_accepted_for b (entry.Accepted peer numbers flow message) = peer.word == node_word b
+is_accepted_for b other = false
+
+-- a message was delivered from node b
+abbrev pub is_delivered_from : ℕ → Entry → Bool
+is_delivered_from b (entry.Delivered peer numbers flow message by) = peer.word == node_word b
+is_delivered_from b other = false
+
+-- the entries of what was given by node b in a contact: those of its messages
+abbrev pub delivered_message : ℕ → ℕ × ℕ → Option Message → List ℕ → List Entry
+delivered_message b contact (Some m) by = entry.Delivered (addr_of b) contact Zero m by ∷ []
+delivered_message b contact None by = []
+
+abbrev pub delivered_of : ℕ → ℕ × ℕ → Opened → List Entry
+delivered_of b contact (Whole packet by) = delivered_message b contact (message_in packet) by
+delivered_of b contact (Passed place) = []
+
+abbrev pub given_entries : ℕ → LinkEnd → PairOutcome → List Entry
+given_entries b e given = flat_map (delivered_of b (shown_contact e)) (opened_in given)
+
+-- ---- frames
+
+-- whether a frame is for node b alone
+abbrev pub is_to : ℕ → To → Bool
+is_to b (to.Node address) = address.word == node_word b
+is_to b to.All = false
+
+abbrev pub is_out_to : ℕ → Outgoing → Bool
+is_out_to b o = is_to b o.to
+
+-- those of these frames that are for node b
+abbrev pub frames_to : ℕ → List Outgoing → List Outgoing
+frames_to b frames = filter (is_out_to b) frames
+
+-- a link end whose frames are for the node with that address word
+pub record Names (word : ℕ) (e : LinkEnd) : Type 0 where
+  pub peer : e.peer ≡ word
+  pub session : (s : SessionEnd) → e.session ≡ Some s → s.peer ≡ word
+
+-- each link end of the node is for the peer under whose number it stands
+abbrev pub AreNamed : NodeState → Type 0
+AreNamed n = (b : ℕ) (x : Neighbour) → neighbour_of n b ≡ Some x → Names (node_word b) x.pair.link
+
+-- ---- the turn at one peer
+
+-- what happened at the pair first is the event of the step
+abbrev pub Suits : EventNote → Opening → Type 0
+Suits note rests = Unit {0}
+Suits note mends = note ≡ event.Mend 0
+Suits note cuts = note ≡ event.Cut 0
+Suits note (ticks shown) = note ≡ event.Tick
+Suits note (hears es er p by shown) = note ≡ event.Arrive 0 by
+
+-- a frame brings this packet, which names node b as its sender, under an envelope of these two epochs
+pub record IsFrom (b : ℕ) (bytes : List ℕ) (es er : ℕ) (p : Fields) : Type 0 where
+  pub es_fits : es < 2 ^ 64
+  pub er_fits : er < 2 ^ 64
+  pub fits : Fits p
+  pub frame_is : bytes ≡ frame_of es er (spelling p)
+  pub previous : p.previous ≡ node_word b
+
+-- what is heard came in the frame that arrived, from node b
+abbrev pub IsBrought : ℕ → List ℕ → Opening → Type 0
+IsBrought b bytes (hears es er p by shown) = IsFrom b bytes es er p
+IsBrought b bytes other = Unit {0}
+
+-- what an arrival answers that is of the link's session: its packet was taken, or waits until those before it were taken
+abbrev pub IsTakenIn : Arrival → Type 0
+IsTakenIn (arrival.Took messages) = Unit {0}
+IsTakenIn arrival.Deferred = Unit {0}
+IsTakenIn (arrival.Ignored reason) = ⊥
+
+-- the pair heard what arrived, and didn't ignore it
+abbrev pub IsTakenBy : Opening → PairOutcome → Type 0
+IsTakenBy (hears es er p by shown) (outcome.Took opened) = Unit {0}
+IsTakenBy (hears es er p by shown) outcome.Deferred = Unit {0}
+IsTakenBy other given = ⊥
+
+-- The node's turn at the pair to node b in this step, in which these bytes arrived, where a frame did; all frames that left are these.
+pub record PeerTurn (own : ℕ) (bytes : List ℕ) (s : NodeStep) (frames : List Outgoing) (b : ℕ) (x x' : PairState) : Type 0 where
+  pub opening : Opening
+  pub suits : Suits s.event opening
+  pub brought : IsBrought b bytes opening
+  pub shows : ShowsIn opening
+  -- what the node puts is its own
+  pub messages : List Message
+  pub sendable : All IsSendable messages
+  pub origin : All (λ m. origin_of m ≡ Some own) messages
+  pub answer : Option BroadcastState
+  pub shows_last : ShowsAtLast answer
+  pub own_frames : List Outgoing
+  pub turn : PairTurn x opening (map bytes_of messages) answer x' own_frames
+  pub frames_are : frames_to b frames ≡ own_frames
+  -- the step tells of it
+  pub changes : filter (is_change_of b) s.inside ≡ change_entries b turn.first.change
+  pub accepted : filter (is_accepted_for b) s.inside ≡ map (accepted_entry b turn.put) messages
+  pub delivered : filter (is_delivered_from b) s.inside ≡ given_entries b turn.first.pair.link turn.first.given
+  pub taken : (answered : Arrival) (es er : ℕ) (p : Fields) → s.answer ≡ answer.Arrived answered → IsTakenIn answered
+      → IsFrom b bytes es er p → IsTakenBy opening turn.first.given
+
+-- ---- the turn of the node
+
+-- a frame is for a neighbour of the node
+pub record IsRouted (n : NodeState) (o : Outgoing) : Type 0 where
+  pub peer : ℕ
+  pub there : is_some (neighbour_of n peer) ≡ true
+  pub to_is : o.to ≡ to.Node (addr_of peer)
+
+-- what an entry tells of a peer it tells of a neighbour
+abbrev pub IsOfNeighbour : NodeState → Addr → Type 0
+IsOfNeighbour n peer = (b : ℕ) × (is_some (neighbour_of n b) ≡ true) × (peer ≡ addr_of b)
+
+abbrev pub IsPlaced : NodeState → Entry → Type 0
+IsPlaced n (entry.LinkUp peer bearer own theirs) = IsOfNeighbour n peer
+IsPlaced n (entry.LinkDown peer bearer cause shown) = IsOfNeighbour n peer
+IsPlaced n (entry.ContactUp peer numbers) = IsOfNeighbour n peer
+IsPlaced n (entry.ContactDown peer numbers states shown) = IsOfNeighbour n peer
+IsPlaced n (entry.Accepted peer numbers flow message) = IsOfNeighbour n peer
+IsPlaced n (entry.Delivered peer numbers flow message by) = IsOfNeighbour n peer
+IsPlaced n other = Unit {0}
+
+-- the turn at a neighbour, which stays one
+pub record NeighbourTurn (n n' : NodeState) (bytes : List ℕ) (s : NodeStep) (frames : List Outgoing) (b : ℕ) (x : Neighbour) : Type 0 where
+  pub after : Neighbour
+  pub after_is : neighbour_of n' b ≡ Some after
+  pub turn : PeerTurn n.own bytes s frames b x.pair after.pair
+
+-- The node recorded this step and took a turn at each neighbour; these bytes arrived, where a frame did, and these frames left.
+pub record NodeTurn (n n' : NodeState) (bytes : List ℕ) (s : NodeStep) (frames : List Outgoing) : Type 0 where
+  pub own : n'.own ≡ n.own
+  pub boot : n'.boot ≡ n.boot
+  pub journal : n'.journal ≡ n.journal ++ step_entries s
+  pub inside : IsInside s.inside
+  pub turns : (b : ℕ) (x : Neighbour) → neighbour_of n b ≡ Some x → NeighbourTurn n n' bytes s frames b x
+  pub alone : (b : ℕ) → neighbour_of n b ≡ None → neighbour_of n' b ≡ None
+  pub routed : All (IsRouted n) frames
+  pub placed : All (IsPlaced n) s.inside
