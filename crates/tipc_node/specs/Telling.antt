@@ -1,5 +1,5 @@
 -- What a node's journal tells of the node: it is whole steps, and contacts and links that are up are what it says.
-use Rattle.std.specs.Prelude.{◌≡◌, ◌×◌, ℕ, ◌||◌, true, List, Option, Some, None, if◌then◌else◌, option_and_then}
+use Rattle.std.specs.Prelude.{◌≡◌, ℕ, ◌||◌, true, List, Option, Some, None, if◌then◌else◌, option_and_then}
 use Rattle.tipc_journal.specs.declared.entries.Entry.{Entry}
 use Rattle.tipc_journal.specs.Contacts.{contact, up_epochs}
 use Rattle.tipc_journal.specs.Steps.{IsWhole}

@@ -163,10 +163,10 @@ pub record PeerTurn (own : ℕ) (bytes : List ℕ) (s : NodeStep) (frames : List
   pub messages : List Message
   pub sendable : All IsSendable messages
   pub origin : All (λ m. origin_of m ≡ Some own) messages
-  pub answer : Option BroadcastState
-  pub shows_last : ShowsAtLast answer
+  pub reply : Option BroadcastState
+  pub shows_last : ShowsAtLast reply
   pub own_frames : List Outgoing
-  pub turn : PairTurn x opening (map bytes_of messages) answer x' own_frames
+  pub turn : PairTurn x opening (map bytes_of messages) reply x' own_frames
   pub frames_are : frames_to b frames ≡ own_frames
   -- the step tells of it
   pub changes : filter (is_change_of b) s.inside ≡ change_entries b turn.first.change
