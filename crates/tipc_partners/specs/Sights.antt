@@ -1,6 +1,6 @@
 -- The two nodes of a pair as a world tells of them: what each keeps, what its journals record of the other, and the frames that came
 -- into the air. That they are partners says what they did besides: their sessions, and frames that were lost.
-use Rattle.std.specs.Prelude.{◌≡◌, ◌≢◌, ◌<◌, ◌≤◌, ◌⊎◌, ℕ, ◌+◌, ◌^◌, ◌==◌, ◌&&◌, true, false, Bool, All, List, [], ◌∷◌, ◌++◌, Option, Some, None, length, map, take, slice_get, if◌then◌else◌}
+use Rattle.std.specs.Prelude.{◌≡◌, ◌≢◌, ◌<◌, ◌≤◌, ◌⊎◌, ℕ, ◌+◌, ◌^◌, ◌==◌, ◌&&◌, true, Bool, All, List, [], ◌++◌, Option, Some, None, length, map, take, slice_get, if◌then◌else◌}
 use Rattle.tipc_types.specs.declared.link_words.BroadcastState.{BroadcastState}
 use Rattle.tipc_outside.specs.declared.outgoing.Outgoing.{Outgoing}
 use Rattle.tipc_header.specs.Frames.{frame_of}
