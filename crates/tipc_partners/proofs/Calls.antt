@@ -114,7 +114,7 @@ flush_did x y b e s h up =
 
 -- ---- a message is put
 
-pub put_did : (x y : Partner) (b : ℕ) (e : LinkEnd) (s s' : SessionEnd) (m : List ℕ) → ArePartners x y → IsUp (x.view.wires b) e s → IsPut s (pieces_for m) s' → IsMessage x.view.node.own m
+put_did : (x y : Partner) (b : ℕ) (e : LinkEnd) (s s' : SessionEnd) (m : List ℕ) → ArePartners x y → IsUp (x.view.wires b) e s → IsPut s (pieces_for m) s' → IsMessage x.view.node.own m
     → (after : Partner) × Did x y after b (with_session e (flushed s')) (flushed s') (flush_frames s') × (after.put ≡ put_more x (m ∷ [])) × (after.given ≡ x.given) × (after.partial ≡ x.partial)
 put_did x y b e s s' m h up put message =
     let v = put_view x.view b e s' in
