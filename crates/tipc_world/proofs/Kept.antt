@@ -26,7 +26,8 @@ use Rattle.tipc_node.specs.Nodes.{after_all, after_one, change_entries, deed_not
 use Rattle.tipc_world.specs.declared.air.Sent.{Sent}
 use Rattle.tipc_world.specs.Causes.{tick_of, BringsUp, HasTicked, IsTakenFrom, Seen}
 use Rattle.tipc_world.specs.Lawful.{IsLawful, IsLawfulEntry}
-use Rattle.tipc_world.specs.States.{MemberState, link_in}
+use Rattle.tipc_node.specs.Turns.{link_in}
+use Rattle.tipc_world.specs.States.{MemberState}
 use Rattle.tipc_world.specs.Watched.{addr_of, epochs_of, silence_in, silence_of, AreTraced, IsAbreast, Mirrors, IsWatched}
 use Rattle.tipc_world.proofs.Moves.{IsDoneBy, done_moves}
 use Rattle.tipc_world.proofs.Shares.{after_at}

@@ -8,7 +8,8 @@ use Rattle.indexmap.specs.IndexMap.{insert_entry}
 use Rattle.tipc_link.specs.Sessions.{SessionEnd}
 use Rattle.tipc_world.specs.Members.{noted_session}
 use Rattle.tipc_fragments.specs.Joining.{fresh}
-use Rattle.tipc_world.specs.States.{MemberState, begun_at, begun_in, boot_at, count_at, count_in, history, history_at, link_at, link_in, member_at, same_session}
+use Rattle.tipc_node.specs.Turns.{link_in}
+use Rattle.tipc_world.specs.States.{MemberState, begun_at, begun_in, boot_at, count_at, count_in, history, history_at, link_at, member_at, same_session}
 
 -- a choice of the same
 pub either_way : {A : Type 0} (t : Bool) (x : A) → (if t then x else x) ≡ x

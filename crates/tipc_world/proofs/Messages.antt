@@ -12,8 +12,7 @@ use Rattle.tipc_message.specs.Wire.{message_of, packet_of, payload_of, payload_p
 use Rattle.tipc_message.proofs.WireLaws.{message_of-packet_of}
 use Rattle.tipc_pair.specs.Partners.{IsMessage}
 use Rattle.tipc_node.specs.Nodes.{direct}
-use Rattle.tipc_world.specs.Members.{bytes_of, spelled}
-use Rattle.tipc_world.specs.Sound.{IsSendable}
+use Rattle.tipc_node.specs.Turns.{IsSendable, bytes_of, spelled}
 use Rattle.tipc_world.proofs.Outcomes.{some_is}
 
 -- the bytes of a message are those of its packet

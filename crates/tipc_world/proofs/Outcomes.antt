@@ -24,8 +24,9 @@ use Rattle.tipc_node.specs.Neighbours.{heard_frames, met_by}
 use Rattle.tipc_node.specs.Nodes.{NodeState, accepted_entry, direct, has_port, heard_node, limit_of, neighbour_of, recorded, refusal, refusal_at, session_with, step_of, stop_of}
 use Rattle.tipc_world.specs.declared.air.Arrived.{Arrived}
 use Rattle.tipc_world.specs.Deeds.{ArrivesInto, HearsInto, SendsInto}
-use Rattle.tipc_world.specs.Members.{by_in, bytes_of, noted_link, refused_member, spelled, stopped_member}
-use Rattle.tipc_world.specs.States.{MemberState, link_in}
+use Rattle.tipc_node.specs.Turns.{bytes_of, link_in, spelled}
+use Rattle.tipc_world.specs.Members.{by_in, noted_link, refused_member, stopped_member}
+use Rattle.tipc_world.specs.States.{MemberState}
 use Rattle.tipc_world.proofs.Calls.{longer}
 
 pub if_ok : {T E : Type 0} {P Q : T → Type 0} (r : Result T E) → ((x : T) → P x → Q x) → IfOk r P → IfOk r Q

@@ -10,10 +10,10 @@ use Rattle.tipc_node.specs.declared.neighbours.Neighbour.{Neighbour}
 use Rattle.tipc_node.specs.Nodes.{neighbour_of}
 use Rattle.tipc_world.specs.Members.{noted_link, noted_session}
 use Rattle.tipc_world.specs.Sound.{IsNumber}
-use Rattle.tipc_world.specs.States.{MemberState, begun_in, count_in, link_in}
+use Rattle.tipc_node.specs.Turns.{frames_to, link_in}
+use Rattle.tipc_world.specs.States.{MemberState, begun_in, count_in}
 use Rattle.tipc_world.specs.Steps.{Stage, Turns}
 use Rattle.tipc_world.proofs.Addressing.{AreFor}
-use Rattle.tipc_world.proofs.Emissions.{frames_to}
 use Rattle.tipc_world.proofs.LookUps.{count_in-epoch, count_in-noted, count_in-peer, place_within}
 use Rattle.tipc_world.proofs.Shares.{frames_to-other, frames_to-own}
 use Rattle.tipc_world.proofs.Turning.{AllPaired, IsChanged, IsIdle, PartnersIn, Records, all_paired, goes, idle_pair, sight_in}

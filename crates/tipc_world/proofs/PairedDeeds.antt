@@ -27,10 +27,10 @@ use Rattle.tipc_node.specs.Nodes.{after_one, frames_all, frames_one, neighbour_o
 use Rattle.tipc_world.specs.Deeds.{TakesPart}
 use Rattle.tipc_world.specs.Members.{deed_member}
 use Rattle.tipc_world.specs.Sound.{IsNumber}
-use Rattle.tipc_world.specs.States.{MemberState, begun_in, count_in, link_in}
+use Rattle.tipc_node.specs.Turns.{Names, frames_to, link_in}
+use Rattle.tipc_world.specs.States.{MemberState, begun_in, count_in}
 use Rattle.tipc_world.specs.Steps.{Stage, Turns}
-use Rattle.tipc_world.proofs.Addressing.{AreFor, Names, either, mend_for, tick_for}
-use Rattle.tipc_world.proofs.Emissions.{frames_to}
+use Rattle.tipc_world.proofs.Addressing.{AreFor, either, mend_for, tick_for}
 use Rattle.tipc_world.proofs.Shares.{after_at, shares}
 use Rattle.tipc_world.proofs.Standing.{IsAcquainted, all_names, sight_counts, sight_only, sight_partial}
 use Rattle.tipc_world.proofs.Turning.{AllPaired, IsChanged, IsIdle, PartnersIn, Records, all_paired, goes, idle_pair, sight_in, was_there}

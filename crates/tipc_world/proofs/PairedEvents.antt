@@ -20,7 +20,8 @@ use Rattle.tipc_world.specs.declared.events.WorldEvent.TheVariants.{Know, Mend, 
 use Rattle.tipc_world.specs.Calls.{node_of}
 use Rattle.tipc_world.specs.Deeds.{Arrives, Does, Hears, Puts, Sends}
 use Rattle.tipc_world.specs.Due.{frame_for, unarrived}
-use Rattle.tipc_world.specs.Members.{bytes_of, receive_member, refused_member, socket_member, stopped_member}
+use Rattle.tipc_node.specs.Turns.{bytes_of}
+use Rattle.tipc_world.specs.Members.{receive_member, refused_member, socket_member, stopped_member}
 use Rattle.tipc_world.specs.Sound.{IsSound}
 use Rattle.tipc_world.specs.Views.{sight_at}
 use Rattle.tipc_world.specs.Numbers.{own_in, seen_in}

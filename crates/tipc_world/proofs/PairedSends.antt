@@ -15,7 +15,8 @@ use Rattle.tipc_node.specs.declared.neighbours.Neighbour.{Neighbour}
 use Rattle.tipc_node.specs.Neighbours.{neighbour}
 use Rattle.tipc_node.specs.Nodes.{session_with}
 use Rattle.tipc_world.specs.Deeds.{Puts}
-use Rattle.tipc_world.specs.Members.{bytes_of, sent_member}
+use Rattle.tipc_node.specs.Turns.{bytes_of}
+use Rattle.tipc_world.specs.Members.{sent_member}
 use Rattle.tipc_world.specs.Sound.{IsNumber}
 use Rattle.tipc_world.specs.States.{MemberState}
 use Rattle.tipc_world.specs.Steps.{Stage, Turns}

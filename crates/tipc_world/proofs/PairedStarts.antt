@@ -19,7 +19,7 @@ use Rattle.tipc_world.specs.States.{MemberState, boot_at, count_at, count_in, li
 use Rattle.tipc_world.specs.Steps.{Stage, Turns}
 use Rattle.tipc_world.specs.Views.{node_from, sight_at}
 use Rattle.tipc_world.proofs.Addressing.{AreFor, lonely_names, mend_for}
-use Rattle.tipc_world.proofs.Emissions.{frames_to}
+use Rattle.tipc_node.specs.Turns.{frames_to}
 use Rattle.tipc_world.proofs.LookUps.{begun_at-is, boot_at-is, link_at-is}
 use Rattle.tipc_world.proofs.Shares.{frames_to-other, frames_to-own}
 use Rattle.tipc_world.proofs.Standing.{link_is, sight_no_ends}

@@ -12,7 +12,7 @@ use Rattle.tipc_world.specs.Sound.{IsNumber}
 use Rattle.tipc_world.specs.States.{MemberState, count_in, link_at, member_at}
 use Rattle.tipc_world.specs.Steps.{Stage}
 use Rattle.tipc_world.specs.Views.{sight_at}
-use Rattle.tipc_world.proofs.Addressing.{Names}
+use Rattle.tipc_node.specs.Turns.{Names}
 use Rattle.tipc_world.proofs.LookUps.{begun_at-is, count_at-is, link_at-is}
 use Rattle.tipc_world.proofs.Turning.{AllPaired, end_apart, no_ends, sight_in}
 

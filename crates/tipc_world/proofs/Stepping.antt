@@ -19,7 +19,7 @@ use Rattle.tipc_world.specs.declared.air.Arrived.{Arrived}
 use Rattle.tipc_world.specs.declared.air.Sent.{Sent}
 use Rattle.tipc_world.specs.Causes.{arrived_frame, tick_of, ticks, BringsUp, HasTicked, IsArrivalOf, IsCaused, IsNumberOf, IsResetOf, IsTakenFrom, Seen}
 use Rattle.tipc_world.specs.Lawful.{IsLawful, IsLawfulEntry, IsLawfulStep}
-use Rattle.tipc_world.specs.Members.{bytes_of}
+use Rattle.tipc_node.specs.Turns.{bytes_of}
 use Rattle.tipc_world.specs.Spelled.{HasBrought, IsBy, IsSpelled}
 use Rattle.tipc_world.proofs.Within.{get_longer, within_more}
 

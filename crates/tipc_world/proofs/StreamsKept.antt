@@ -8,7 +8,8 @@ use Rattle.tipc_journal.specs.Streams.{accepted, delivered, flow_eq}
 use Rattle.tipc_journal.proofs.StreamLaws.{flow_eq_true}
 use Rattle.tipc_link.proofs.LinkLaw.{Each, Each-append, Each-none}
 use Rattle.tipc_world.specs.declared.air.Sent.{Sent}
-use Rattle.tipc_world.specs.Sound.{IsNumber, IsSendable, IsSound}
+use Rattle.tipc_node.specs.Turns.{IsSendable}
+use Rattle.tipc_world.specs.Sound.{IsNumber, IsSound}
 use Rattle.tipc_world.specs.States.{MemberState, accepted_at, delivered_at, history, history_at, stream_of}
 use Rattle.tipc_world.proofs.LookUps.{history_at-is, history_at-same, member_at-changed, member_at-is, member_at-other}
 use Rattle.tipc_world.proofs.Histories.{Grew, KeepsStreams, come_to, keeps_grew}

@@ -10,11 +10,12 @@ use Rattle.tipc_partners.specs.Sights.{AreSeen, Goes, Sight, come, sent_as}
 use Rattle.tipc_partners.proofs.Sights.{turned}
 use Rattle.tipc_world.specs.declared.air.Sent.{Sent}
 use Rattle.tipc_world.specs.Sound.{IsNumber}
-use Rattle.tipc_world.specs.States.{MemberState, begun_at, begun_in, count_at, count_in, history, history_at, link_at, link_in, member_at}
+use Rattle.tipc_node.specs.Turns.{frames_to, link_in}
+use Rattle.tipc_world.specs.States.{MemberState, begun_at, begun_in, count_at, count_in, history, history_at, link_at, member_at}
 use Rattle.tipc_world.specs.Steps.{Stage, Turns}
 use Rattle.tipc_world.specs.Views.{ends_with, given_in, node_from, numbered_with, put_in, sight_at, sight_from}
 use Rattle.tipc_world.specs.Air.{sent_between}
-use Rattle.tipc_world.proofs.Emissions.{frames_to, sent_adds, sent_same}
+use Rattle.tipc_world.proofs.Emissions.{sent_adds, sent_same}
 use Rattle.tipc_world.proofs.LookUps.{begun_at-is, begun_at-same, boot_at-is, boot_at-same, count_at-is, count_at-same, either_way, history_at-is, history_at-same, link_at-is, link_at-same, member_at-changed, member_at-is, member_at-other}
 
 -- two nodes of a stage as a pair

@@ -14,7 +14,8 @@ use Rattle.tipc_world.specs.declared.air.Sent.{Sent}
 use Rattle.tipc_world.specs.Causes.{HasTicked, Seen}
 use Rattle.tipc_world.specs.Lawful.{AreLawful}
 use Rattle.tipc_world.specs.Spelled.{HasBrought}
-use Rattle.tipc_world.specs.States.{MemberState, link_in}
+use Rattle.tipc_node.specs.Turns.{link_in}
+use Rattle.tipc_world.specs.States.{MemberState}
 
 abbrev pub addr_of : ℕ → Addr
 addr_of n = record { word = node_word n }

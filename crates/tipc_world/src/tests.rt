@@ -53,13 +53,13 @@ fn two_nodes(alloc: Global) -> Result<World, Fail>
     world.add_node(alloc, 2)?;
     know(alloc, &mut world, 1, 2)?;
     know(alloc, &mut world, 2, 1)?;
-    happen(alloc, &mut world, WorldEvent::Mend { node: 1, bearer: 0 })?;
-    happen(alloc, &mut world, WorldEvent::Mend { node: 2, bearer: 0 })?;
+    happen(alloc, &mut world, call(1, EventNote::Mend { bearer: 0 }))?;
+    happen(alloc, &mut world, call(2, EventNote::Mend { bearer: 0 }))?;
     arrive(alloc, &mut world, 2, 0)?;
     arrive(alloc, &mut world, 1, 2)?;
     arrive(alloc, &mut world, 2, 3)?;
-    happen(alloc, &mut world, WorldEvent::Socket { node: 1 })?;
-    happen(alloc, &mut world, WorldEvent::Socket { node: 2 })?;
+    happen(alloc, &mut world, call(1, EventNote::Socket))?;
+    happen(alloc, &mut world, call(2, EventNote::Socket))?;
     Ok(world)
 }
 
@@ -152,7 +152,7 @@ fn a_restarted_node_begins_anew(rt: HostRuntime) -> Result<(), Fail> {
     let cut = Answer::Arrived(Arrival::Ignored(Why::Cut));
     assert_eq!(rt; arrive(alloc, &mut world, 2, FRAMES_OF_THE_LINK)?, cut);
     assert_eq!(rt;
-        happen(alloc, &mut world, WorldEvent::Socket { node: 2 })?,
+        happen(alloc, &mut world, call(2, EventNote::Socket))?,
         Answer::Socket(1_048_577)
     );
     assert_eq!(rt; world.receiver(FRAMES_OF_THE_LINK), Some(2));
