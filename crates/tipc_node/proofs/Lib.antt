@@ -10,3 +10,9 @@ pub mod Faults
 pub mod Quiet
 pub mod Deliveries
 pub mod Heard
+pub mod Places
+pub mod Addressing
+pub mod Moves
+pub mod ArrivalMoves
+pub mod Shares
+pub mod Named
