@@ -16,3 +16,7 @@ pub mod Moves
 pub mod ArrivalMoves
 pub mod Shares
 pub mod Named
+pub mod Filters
+pub mod TurnMoves
+pub mod Telling
+pub mod Told

@@ -1,12 +1,14 @@
 -- A turn leaves each link end for the peer under whose number it stands, and its frames are for that peer.
-use Rattle.std.proofs.Common.{◌≡◌, ℕ, List, [], ◌∷◌, ◌++◌, Option, Some, None, refl, sym, ap, ◌∙◌, subst}
+use Rattle.std.proofs.Common.{◌≡◌, ℕ, false, List, [], ◌∷◌, ◌++◌, Option, Some, None, inl, inr, refl, sym, ap, ◌∙◌, subst}
 use Rattle.std.specs.Prelude.{if◌then◌else◌, slice_set}
-use Rattle.std.proofs.lemmas.List.{get_or-set_other, get_or-set_same}
+use Rattle.std.proofs.lemmas.Bool.{cases_eq}
+use Rattle.std.proofs.lemmas.List.{get_or-set_other}
 use Rattle.tipc_types.specs.Address.{node_word}
 use Rattle.tipc_types.specs.declared.link_words.BroadcastState.{BroadcastState}
 use Rattle.tipc_outside.specs.declared.outgoing.Outgoing.{Outgoing}
 use Rattle.tipc_link_fsm.specs.Table.{is_up, on_cut, on_tick}
-use Rattle.tipc_link.specs.Links.{LinkEnd, cut_end, is_down}
+use Rattle.tipc_fragments.specs.Joining.{fresh}
+use Rattle.tipc_link.specs.Links.{LinkEnd, cut_end, is_down, mended_end}
 use Rattle.tipc_link.specs.Sessions.{IsPut, SessionEnd, flush_frames, flushed, joins, waits}
 use Rattle.tipc_link.specs.Sessions as sessions
 use Rattle.tipc_pair.specs.Pairs.{parted}
@@ -16,10 +18,11 @@ use Rattle.tipc_pair.specs.Turns.Opening.{cuts, hears, mends, rests, ticks}
 use Rattle.tipc_pair.specs.Turns.PutsAll.{none_put, puts_one}
 use Rattle.tipc_journal.specs.Steps.{NodeStep}
 use Rattle.tipc_node.specs.declared.neighbours.Neighbour.{Neighbour}
+use Rattle.tipc_node.specs.Neighbours.{neighbour}
 use Rattle.tipc_node.specs.Nodes.{NodeState, known_node, neighbour_of, new_pair}
 use Rattle.tipc_node.specs.Turns.{AreNamed, Names, NodeTurn}
 use Rattle.tipc_node.proofs.Addressing.{AreFor, answers_for, arrival_names, either, flush_for, flushed_peer, for_both, lonely_names, mend_for, names_mapped, names_parted, names_settled, tick_for}
-use Rattle.tipc_node.proofs.Places.{is_within}
+use Rattle.tipc_node.proofs.Places.{set_either}
 
 -- ---- what happens first
 
@@ -103,9 +106,15 @@ turn_named n n' bytes s frames named t b x' there = by (neighbour_of n b) refl
         subst (λ (y : Neighbour). Names (node_word b) y.pair.link) same
         (turn_for (node_word b) x.pair at.after.pair at.turn.opening _ at.turn.reply at.turn.own_frames (named b x is) at.turn.turn).end_is
 
-new_named : (n : NodeState) (peer : ℕ) → Names (node_word peer) (new_pair n peer)
-new_named n peer = lonely_names n.own (node_word peer) n.boot
-
 -- a link end that is made is for its peer
 pub known_named : (n : NodeState) (peer : ℕ) → AreNamed n → AreNamed (known_node n peer)
-known_named n peer named b x there = ?
+known_named n peer named b x there =
+    let e = if n.mended then mended_end (new_pair n peer) else new_pair n peer in
+    let lonely = lonely_names n.own (node_word peer) n.boot in
+    let new : Names (node_word peer) e = either (Names (node_word peer)) n.mended (mended_end (new_pair n peer)) (new_pair n peer) (record { peer = lonely.peer; session = lonely.session }) lonely in
+    elim (cases_eq b peer) [
+      | inl here ↦
+          let made : neighbour e fresh false ≡ x = set_either n.neighbours peer x (neighbour e fresh false) (subst (λ k. neighbour_of (known_node n peer) k ≡ Some x) here there) in
+          subst (λ k. Names (node_word k) x.pair.link) (sym here) (subst (λ (y : Neighbour). Names (node_word peer) y.pair.link) made new)
+      | inr other ↦ named b x (sym (get_or-set_other n.neighbours peer b (Some (neighbour e fresh false)) None other) ∙ there)
+    ]
