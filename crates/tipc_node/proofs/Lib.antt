@@ -20,3 +20,5 @@ pub mod Filters
 pub mod TurnMoves
 pub mod Telling
 pub mod Told
+pub mod Entries
+pub mod Turning
