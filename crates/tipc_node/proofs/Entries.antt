@@ -24,7 +24,7 @@ use Rattle.tipc_node.specs.Turns.{IsOfNeighbour, IsPlaced, IsRouted, addr_of, de
 use Rattle.tipc_node.proofs.Addressing.{AreFor}
 use Rattle.tipc_node.proofs.Telling.{same_word}
 
-other_word : (b c : ℕ) → c ≢ b → (node_word c == node_word b) ≡ false
+pub other_word : (b c : ℕ) → c ≢ b → (node_word c == node_word b) ≡ false
 other_word b c apart = grind (arith, nat_tests, apart)
 
 -- ---- the entries of a change
@@ -68,7 +68,7 @@ changes_placed n peer (Ended because shown numbers number) there =
 
 -- ---- the entries of what was given
 
-abbrev given_in : ℕ → ℕ × ℕ → List Opened → List Entry
+abbrev pub given_in : ℕ → ℕ × ℕ → List Opened → List Entry
 given_in peer contact opened = entries_in (deliveries_of peer contact opened)
 
 pub given_changes : (b peer : ℕ) (contact : ℕ × ℕ) (opened : List Opened) → filter (is_change_of b) (given_in peer contact opened) ≡ []

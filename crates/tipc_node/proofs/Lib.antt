@@ -22,3 +22,5 @@ pub mod Telling
 pub mod Told
 pub mod Entries
 pub mod Turning
+pub mod Performing
+pub mod Arrivals

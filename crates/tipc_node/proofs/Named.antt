@@ -50,7 +50,7 @@ first_by word x (hears es er p by shown) o n is =
 
 -- ---- messages that are put
 
-put_peer : (s : SessionEnd) (pieces : List (List ℕ)) (s' : SessionEnd) → IsPut s pieces s' → s'.peer ≡ s.peer
+pub put_peer : (s : SessionEnd) (pieces : List (List ℕ)) (s' : SessionEnd) → IsPut s pieces s' → s'.peer ≡ s.peer
 put_peer s _ _ (joins packets packet may) = refl
 put_peer s _ _ (waits pieces apart) = refl
 
