@@ -1,29 +1,25 @@
 -- Each arrival is a turn of the node.
-use Rattle.std.proofs.Common.{◌≡◌, ◌≢◌, ◌==◌, ◌&&◌, ℕ, Bool, true, false, List, [], ◌∷◌, ◌++◌, Option, Some, None, drop, filter, is_some, length, refl, sym, ap, ◌∙◌, subst, append-nil, eqb-true, arith}
-use Rattle.std.specs.Prelude.{All, if◌then◌else◌}
-use Rattle.std.specs.List.{flat_map}
+use Rattle.std.proofs.Common.{◌≡◌, ◌≢◌, ◌==◌, ◌&&◌, ℕ, Bool, true, false, List, [], ◌++◌, Option, Some, None, drop, filter, is_some, refl, sym, ap, ◌∙◌, subst, append-nil, eqb-true, arith}
+use Rattle.std.specs.Prelude.{if◌then◌else◌}
 use Rattle.std.proofs.lemmas.Bool.{and_parts}
 use Rattle.std.proofs.lemmas.List.{drop_at}
 use Rattle.std.proofs.lemmas.List.Elements.{All-append, filter-append}
 use Rattle.tipc_types.specs.Address.{node_word}
 use Rattle.tipc_types.specs.declared.link_words.Why.{Why}
 use Rattle.tipc_types.specs.declared.link_words.Why.TheVariants as why
-use Rattle.tipc_types.specs.declared.node_calls.Answer.{Answer}
 use Rattle.tipc_types.specs.declared.node_calls.Answer.TheVariants as answer
 use Rattle.tipc_types.specs.declared.node_calls.Arrival.{Arrival}
 use Rattle.tipc_types.specs.declared.node_calls.Arrival.TheVariants as arrival
 use Rattle.tipc_types.specs.declared.node_calls.By.{By}
 use Rattle.tipc_types.specs.declared.node_calls.EventNote.TheVariants as event
 use Rattle.tipc_outside.specs.declared.outgoing.Outgoing.{Outgoing}
-use Rattle.tipc_header.specs.Frames.{envelope, frame_of}
-use Rattle.tipc_header.specs.Grammar.{Fits}
+use Rattle.tipc_header.specs.Frames.{envelope}
 use Rattle.tipc_header.specs.Spelling.{Fields, spelling}
 use Rattle.tipc_header.proofs.FrameWords.{length-envelope}
 use Rattle.tipc_header.proofs.RoundTrip.{one_packet}
 use Rattle.tipc_fragments.specs.Joining.{Joining}
 use Rattle.tipc_journal.specs.declared.entries.Entry.{Entry}
 use Rattle.tipc_journal.specs.Steps.{NodeStep}
-use Rattle.tipc_link.specs.Links.{LinkEnd}
 use Rattle.tipc_pair.specs.declared.changes.PairOutcome.{PairOutcome}
 use Rattle.tipc_pair.specs.Pairs.{Met}
 use Rattle.tipc_pair.specs.Partners.{OpensTo, begun_after, opened_in}
@@ -31,11 +27,11 @@ use Rattle.tipc_pair.specs.Turns.{heard}
 use Rattle.tipc_pair.specs.Turns.Opening.{hears}
 use Rattle.tipc_node.specs.declared.arriving.Delivery.{Delivery}
 use Rattle.tipc_node.specs.declared.neighbours.Neighbour.{Neighbour}
-use Rattle.tipc_node.specs.Calls.{Arrives, Hears, IsDue}
+use Rattle.tipc_node.specs.Calls.{Arrives, Hears}
 use Rattle.tipc_node.specs.Neighbours.{heard_frames, heard_neighbour, in_step_after, met_by, no_broadcast}
-use Rattle.tipc_node.specs.Nodes.{NodeState, arrival_answer, arrival_deliveries, change_entries, entries_in, heard_node, neighbour_of, shown_contact, step_of, stop_among, stop_by_fault, stop_of, stopped_node}
+use Rattle.tipc_node.specs.Nodes.{NodeState, arrival_answer, arrival_deliveries, change_entries, heard_node, neighbour_of, shown_contact, step_of, stop_among, stop_of, stopped_node}
 use Rattle.tipc_node.specs.Telling.{IsTold}
-use Rattle.tipc_node.specs.Turns.{AreNamed, IsFrom, IsPlaced, IsTakenBy, IsTakenIn, NodeTurn, PeerTurn, frames_to, is_accepted_for, is_change_of, is_delivered_from}
+use Rattle.tipc_node.specs.Turns.{AreNamed, IsFrom, IsPlaced, IsTakenBy, IsTakenIn, NodeTurn, PeerTurn, is_accepted_for, is_change_of, is_delivered_from}
 use Rattle.tipc_node.proofs.Addressing.{AreFor, heard_all_for}
 use Rattle.tipc_node.proofs.Entries.{changes_accept, changes_deliver, changes_inside, changes_other, changes_own, changes_placed, given_accept, given_changes, given_in, given_inside, given_other, given_own, given_placed, inside_both, routed_to}
 use Rattle.tipc_node.proofs.Shares.{frames_to-other, frames_to-own}
@@ -141,7 +137,7 @@ hearing_turn n by bytes number peer es er p x out last named h =
     let there : is_some (neighbour_of n peer) ≡ true = ap is_some h.was in
     let given = given_in peer (shown_contact m.after) (opened_in out) in
     let frames : AreFor (node_word peer) (heard_frames x p m) =
-        heard_all_for (node_word peer) x.pair.link es er p number (no_broadcast x.in_step) (no_broadcast (in_step_after x p m)) (named peer x h.was) in
+    heard_all_for (node_word peer) x.pair.link es er p number (no_broadcast x.in_step) (no_broadcast (in_step_after x p m)) (named peer x h.was) in
     let at : TurnsAt n n' bytes step (heard_frames x p m) peer x after = record {
       was = h.was;
       neighbours = refl;
@@ -167,12 +163,14 @@ hears_turn n n' by number bytes frames answered named h =
     let due = h.due in
     turn_as n n' (heard_node n by number h.peer x h.packet m h.out h.last) by 0 number bytes frames (heard_frames x h.packet m) answered (arrival_answer h.out (arrival_deliveries h.peer m.after h.out))
     (h.after ∙ ap (λ k. heard_node n by number h.peer x h.packet k h.out h.last) h.met_is) (h.frames_are ∙ ap (heard_frames x h.packet) h.met_is)
-    (h.answer_is ∙ ap (λ (k : Met). arrival_answer h.out (arrival_deliveries h.peer k.after h.out)) h.met_is)
-    (inside_of h.peer m h.out, hearing_turn n by bytes number h.peer h.first h.second h.packet x h.out h.last named (record {
-      was = h.was;
-      from = record { es_fits = due.first_fits; er_fits = due.second_fits; fits = due.fits; frame_is = due.opened; previous = due.previous };
-      opens = subst (λ (k : Met). OpensTo (begun_after k.change x.pair.begun) k.outcome h.out h.last) h.met_is h.opens;
-    }))
+    (h.answer_is ∙ ap (λ (k : Met). arrival_answer h.out (arrival_deliveries h.peer k.after h.out)) h.met_is) (
+      inside_of h.peer m h.out,
+      hearing_turn n by bytes number h.peer h.first h.second h.packet x h.out h.last named (record {
+        was = h.was;
+        from = record { es_fits = due.first_fits; er_fits = due.second_fits; fits = due.fits; frame_is = due.opened; previous = due.previous };
+        opens = subst (λ (k : Met). OpensTo (begun_after k.change x.pair.begun) k.outcome h.out h.last) h.met_is h.opens;
+      }),
+    )
 
 pub arrives_turn : (n n' : NodeState) (by : By) (bearer number : ℕ) (bytes : List ℕ) (frames : List Outgoing) (answered : Arrival) → AreNamed n → IsTold n → Arrives n n' by bearer number bytes frames answered
     → (inside : List Entry) × NodeTurn n n' bytes (step_of by (event.Arrive bearer number) inside (answer.Arrived answered)) frames

@@ -1,6 +1,6 @@
 -- Each call is a turn of the node.
-use Rattle.std.proofs.Common.{◌≡◌, ◌≢◌, ◌≤◌, ℕ, Bool, true, false, List, [], ◌∷◌, ◌++◌, Option, Some, None, filter, is_some, length, map, nat_le, nat_lt, slice_index_or, refl, sym, ap, ◌∙◌, subst, append-nil, arith}
-use Rattle.std.specs.Prelude.{All, if◌then◌else◌}
+use Rattle.std.proofs.Common.{◌≡◌, ℕ, Bool, true, false, List, [], ◌∷◌, ◌++◌, Option, Some, None, filter, is_some, length, nat_le, nat_lt, slice_index_or, refl, sym, ap, ◌∙◌, subst, append-nil, arith}
+use Rattle.std.specs.Prelude.{if◌then◌else◌}
 use Rattle.std.proofs.lemmas.List.Elements.{All-cons, All-nil}
 use Rattle.tipc_types.specs.Address.{node_word}
 use Rattle.tipc_types.specs.declared.identity.PortId.{PortId}
@@ -17,29 +17,29 @@ use Rattle.tipc_message.specs.Wire.{IsPayload, packet_of}
 use Rattle.tipc_journal.specs.declared.entries.Entry.{Entry}
 use Rattle.tipc_journal.specs.Steps.{NodeStep}
 use Rattle.tipc_link_fsm.specs.Table.{is_up, on_cut, on_tick}
-use Rattle.tipc_link.specs.Links.{LinkEnd, mend_frames, mended_end, with_session}
+use Rattle.tipc_link.specs.Links.{mend_frames, mended_end, with_session}
 use Rattle.tipc_link.specs.Sessions.{IsPut, SessionEnd, flush_frames, flushed}
 use Rattle.tipc_pair.specs.declared.changes.PairChange.TheVariants.{Stay}
 use Rattle.tipc_pair.specs.Pairs.{change_of, cut_pair, tick_frames, tick_pair}
-use Rattle.tipc_pair.specs.Partners.{PairState, pair_state, pieces_for}
-use Rattle.tipc_pair.specs.Turns.{Opening, Outset, PutsOnto, called}
+use Rattle.tipc_pair.specs.Partners.{pair_state, pieces_for}
+use Rattle.tipc_pair.specs.Turns.{called}
 use Rattle.tipc_pair.specs.Turns.Opening.{cuts, mends, rests, ticks}
 use Rattle.tipc_pair.specs.Turns.PutsAll.{none_put, puts_one}
 use Rattle.tipc_node.specs.declared.neighbours.Deed.{Deed}
 use Rattle.tipc_node.specs.declared.neighbours.Deed.TheVariants as deed
 use Rattle.tipc_node.specs.declared.neighbours.Neighbour.{Neighbour}
-use Rattle.tipc_node.specs.Calls.{CanPerform, IsSent, Performs, Sends, TakesPart}
+use Rattle.tipc_node.specs.Calls.{CanPerform, Performs, Sends, TakesPart}
 use Rattle.tipc_node.specs.Neighbours.{done, neighbour, no_broadcast}
 use Rattle.tipc_node.specs.Nodes.{NodeState, accepted_entry, after_one, change_entries, deed_node, deed_note, direct, entries_all, entries_one, first_answer, frames_all, frames_one, has_port, inbox_of, kept_answer, limit_of, neighbour_of, receive_answer, receive_inboxes, receive_node, recorded, refusal, refusal_at, refusal_of_body, sent_node, session_with, socket_answer, socket_inboxes, socket_node, step_of, with_inboxes}
 use Rattle.tipc_node.specs.Telling.{IsTold}
-use Rattle.tipc_node.specs.Turns.{AreNamed, IsOfNeighbour, IsPlaced, IsRouted, IsSendable, Names, NeighbourTurn, NodeTurn, PeerTurn, addr_of, bytes_of, frames_to, is_accepted_for, is_change_of, is_delivered_from, origin_of, spelled}
+use Rattle.tipc_node.specs.Turns.{AreNamed, IsOfNeighbour, IsPlaced, IsSendable, Names, NodeTurn, PeerTurn, addr_of, bytes_of, frames_to, is_accepted_for, is_change_of, is_delivered_from, origin_of, spelled}
 use Rattle.tipc_node.proofs.Addressing.{AreFor, flush_for, mend_for, tick_for}
 use Rattle.tipc_node.proofs.Entries.{all_accept, all_changes, all_deliver, all_inside, all_placed, all_routed, other_word, routed_to}
 use Rattle.tipc_node.proofs.Named.{put_peer}
 use Rattle.tipc_node.proofs.Refusals.{sendable}
 use Rattle.tipc_node.proofs.Shares.{after_at, frames_to-other, frames_to-own, shares}
 use Rattle.tipc_node.proofs.Telling.{same_word}
-use Rattle.tipc_node.proofs.Turning.{IsUntaken, Opens, TurnsAt, alone_at, opens_turn, rested, shows_none, turns_at}
+use Rattle.tipc_node.proofs.Turning.{IsUntaken, TurnsAt, alone_at, opens_turn, rested, shows_none, turns_at}
 
 -- a call was a turn in which such entries were recorded
 abbrev pub IsTurn : NodeState → NodeState → By → EventNote → List Outgoing → Answer → Type 0
@@ -207,9 +207,10 @@ sends_turn n n' by port to importance body frames answered named h = case (refus
         let put : IsPut w.session (pieces_for (bytes_of m)) w.put = subst (λ bytes. IsPut w.session (pieces_for bytes) w.put) (sym (message_bytes m w.packet w.packet_is)) w.put_is in
         let short = (sendable n port h.peer (limit_of importance) body is).short in
         let payload : IsPayload m = ((refl, refl, refl), omega arith, short) in
-        turn_as n n' (sent_node n by note h.peer w.neighbour w.put m) by note frames (flush_frames w.put) answered answer.Sent w.after w.frames_are r.1
-        (accepted_entry h.peer w.neighbour.pair.link m ∷ [],
-        sent_turn n by note h.peer w.neighbour w.session w.put m named w.was contact put (record { packet = w.packet; packet_is = w.packet_is; fits = w.fits; payload = payload }) refl)
+        turn_as n n' (sent_node n by note h.peer w.neighbour w.put m) by note frames (flush_frames w.put) answered answer.Sent w.after w.frames_are r.1 (
+          accepted_entry h.peer w.neighbour.pair.link m ∷ [],
+          sent_turn n by note h.peer w.neighbour w.session w.put m named w.was contact put (record { packet = w.packet; packet_is = w.packet_is; fits = w.fits; payload = payload }) refl,
+        )
 
 -- ---- what happens to all neighbours
 
@@ -302,15 +303,16 @@ takes_part_turn n n' by d call frames answered named is h =
 
 -- ---- every call
 
-pub performs_turn : (n n' : NodeState) (by : By) (call : EventNote) (frames : List Outgoing) (answered : Answer) → AreNamed n → CanPerform call → Performs n by call n' frames answered
+pub performs_turn : (n n' : NodeState) (by : By) (call : EventNote) (frames : List Outgoing) (answered : Answer) → AreNamed n → IsTold n → CanPerform call
+    → Performs n by call n' frames answered
     → (inside : List Entry) × NodeTurn n n' [] (step_of by call inside (kept_answer answered)) frames
-performs_turn n n' by event.Socket frames answered named can h =
+performs_turn n n' by event.Socket frames answered named told can h =
     turn_as n n' (socket_node n by) by event.Socket frames [] answered (socket_answer n) h.0 h.1 h.2 (plain_rests n by event.Socket (socket_answer n) (socket_inboxes n.inboxes) (socket_plain n))
-performs_turn n n' by (event.Receive port) frames answered named can h =
+performs_turn n n' by (event.Receive port) frames answered named told can h =
     turn_as n n' (receive_node n by port) by (event.Receive port) frames [] answered (receive_answer n port) h.0 h.1 h.2
     ([], rested n by (event.Receive port) [] (kept_answer (receive_answer n port)) (receive_inboxes n port) (received_untaken n port))
-performs_turn n n' by (event.SendPort port to importance body) frames answered named can h = sends_turn n n' by port to importance body frames answered named h
-performs_turn n n' by event.Tick frames answered named can h = takes_part_turn n n' by deed.Tick event.Tick frames answered named refl h
-performs_turn n n' by (event.Cut bearer) frames answered named can h = takes_part_turn n n' by deed.Cut (event.Cut bearer) frames answered named (ap event.Cut can) h
-performs_turn n n' by (event.Mend bearer) frames answered named can h = takes_part_turn n n' by deed.Mend (event.Mend bearer) frames answered named (ap event.Mend can) h
-performs_turn n n' by other frames answered named can h = absurd h
+performs_turn n n' by (event.SendPort port to importance body) frames answered named told can h = sends_turn n n' by port to importance body frames answered named h
+performs_turn n n' by event.Tick frames answered named told can h = takes_part_turn n n' by deed.Tick event.Tick frames answered named refl h
+performs_turn n n' by (event.Cut bearer) frames answered named told can h = takes_part_turn n n' by deed.Cut (event.Cut bearer) frames answered named (ap event.Cut can) h
+performs_turn n n' by (event.Mend bearer) frames answered named told can h = takes_part_turn n n' by deed.Mend (event.Mend bearer) frames answered named (ap event.Mend can) h
+performs_turn n n' by other frames answered named told can h = absurd h

@@ -1,6 +1,6 @@
 -- A node's journal tells of the node after each turn.
-use Rattle.std.proofs.Common.{◌≡◌, ◌<◌, ◌==◌, ℕ, zero, suc, Bool, true, false, List, [], ◌∷◌, ◌++◌, Option, Some, None, filter, is_some, option_map, inl, inr, refl, sym, ap, ◌∙◌, subst, arith}
-use Rattle.std.specs.Prelude.{◌⊎◌, All, if◌then◌else◌, option_and_then}
+use Rattle.std.proofs.Common.{◌≡◌, ◌==◌, ℕ, Bool, true, false, List, [], ◌++◌, Option, Some, None, filter, is_some, option_map, inl, inr, refl, sym, ap, ◌∙◌, subst, arith}
+use Rattle.std.specs.Prelude.{◌⊎◌, if◌then◌else◌, option_and_then}
 use Rattle.std.proofs.lemmas.Bool.{cases_eq}
 use Rattle.std.proofs.lemmas.Bool.Decides.{nat_tests}
 use Rattle.std.proofs.lemmas.List.{get_or-set_other}
@@ -11,7 +11,6 @@ use Rattle.tipc_outside.specs.declared.outgoing.Outgoing.{Outgoing}
 use Rattle.tipc_fragments.specs.Joining.{fresh}
 use Rattle.tipc_journal.specs.declared.entries.Entry.{Entry}
 use Rattle.tipc_journal.specs.declared.entries.Entry.TheVariants as entry
-use Rattle.tipc_journal.specs.Contacts.{contact, up_epochs}
 use Rattle.tipc_journal.specs.Steps.{IsWhole, NodeStep, step_entries}
 use Rattle.tipc_journal.proofs.StepLaws.{IsWhole_more}
 use Rattle.tipc_link_fsm.specs.Table.{is_up}
@@ -21,7 +20,7 @@ use Rattle.tipc_node.specs.declared.neighbours.Neighbour.{Neighbour}
 use Rattle.tipc_node.specs.Neighbours.{neighbour}
 use Rattle.tipc_node.specs.Nodes.{NodeState, known_node, neighbour_of, new_pair}
 use Rattle.tipc_node.specs.Telling.{IsAbreast, IsTold, TellsOf, epochs_of}
-use Rattle.tipc_node.specs.Turns.{IsOfNeighbour, IsPlaced, NeighbourTurn, NodeTurn, addr_of, is_change_of, link_in}
+use Rattle.tipc_node.specs.Turns.{IsPlaced, NodeTurn, is_change_of, link_in}
 use Rattle.tipc_node.proofs.Filters.{filter-none}
 use Rattle.tipc_node.proofs.Moves.{down_contact, down_epochs, unknown_abreast}
 use Rattle.tipc_node.proofs.Places.{set_either}

@@ -1,26 +1,25 @@
 -- What a turn tells of a link end is so, before it and after it, and has its cause.
-use Rattle.std.proofs.Common.{◌≡◌, ◌≤◌, ◌+◌, ◌||◌, ℕ, Bool, true, false, List, [], ◌∷◌, Option, Some, None, option_map, if◌then◌else◌, refl, sym, ap, ◌∙◌, subst, arith}
+use Rattle.std.proofs.Common.{◌≡◌, ◌≤◌, ◌+◌, ◌||◌, ℕ, true, false, List, [], ◌∷◌, Option, Some, None, option_map, if◌then◌else◌, refl, sym, ap, ◌∙◌, subst, arith}
 use Rattle.tipc_types.specs.declared.link_words.BroadcastState.{BroadcastState}
 use Rattle.tipc_types.specs.declared.link_words.Why.{Why}
-use Rattle.tipc_types.specs.declared.packet_lists.Taken.{Taken}
 use Rattle.tipc_outside.specs.declared.outgoing.Outgoing.{Outgoing}
 use Rattle.tipc_header.specs.Spelling.{Fields}
 use Rattle.tipc_fragments.specs.Joining.{Joining}
 use Rattle.tipc_recv_window.specs.declared.outcomes.LinkOutcome.{LinkOutcome}
-use Rattle.tipc_link_fsm.specs.Table.{Fsm, is_reset_reset, is_up, on_cut, on_tick}
+use Rattle.tipc_link_fsm.specs.Table.{Fsm, is_reset_reset, is_up}
 use Rattle.tipc_link.specs.Links.{LinkEnd, known}
 use Rattle.tipc_link.specs.Sessions.{answered}
 use Rattle.tipc_pair.specs.declared.changes.PairChange.{PairChange}
 use Rattle.tipc_pair.specs.declared.changes.PairChange.TheVariants.{Stay}
 use Rattle.tipc_pair.specs.declared.changes.PairOutcome.{PairOutcome}
-use Rattle.tipc_pair.specs.Pairs.{arrival, change_of, contact_of, cut_pair, tick_pair}
+use Rattle.tipc_pair.specs.Pairs.{arrival, contact_of, cut_pair}
 use Rattle.tipc_pair.specs.Partners.{OpensTo, PairState, deferred, ignored, took}
-use Rattle.tipc_pair.specs.Turns.{Happened, Opening, Outset, PairTurn, PutsOnto, answered_by, called, heard}
+use Rattle.tipc_pair.specs.Turns.{Happened, Opening, Outset, PairTurn, PutsOnto, answered_by, heard}
 use Rattle.tipc_pair.specs.Turns.Opening.{cuts, hears, mends, rests, ticks}
 use Rattle.tipc_node.specs.Telling.{IsAbreast, epochs_of, silence_of}
 use Rattle.tipc_node.specs.Turns.{IsTakenBy}
 use Rattle.tipc_node.proofs.ArrivalMoves.{IsAs, IsMet, arrival_met}
-use Rattle.tipc_node.proofs.Moves.{IsAlike, IsCutOff, IsSilenced, Tells, cut_moves, tick_moves}
+use Rattle.tipc_node.proofs.Moves.{IsCutOff, IsSilenced, Tells, cut_moves, tick_moves}
 
 -- ---- what a turn does
 

@@ -1,6 +1,6 @@
 -- How a turn of a node is put together: from the turns at its neighbours, at most of which nothing happens.
-use Rattle.std.proofs.Common.{◌≡◌, ◌≢◌, ◌<◌, ◌^◌, ℕ, Bool, true, false, List, [], ◌∷◌, ◌++◌, Option, Some, None, filter, inl, inr, refl, sym, ap, ◌∙◌, subst, append-nil, arith}
-use Rattle.std.specs.Prelude.{All, slice_index_or, slice_set}
+use Rattle.std.proofs.Common.{◌≡◌, ◌≢◌, ℕ, Bool, List, [], ◌++◌, Option, Some, None, filter, inl, inr, refl, sym, ap, ◌∙◌, subst, arith}
+use Rattle.std.specs.Prelude.{slice_index_or, slice_set}
 use Rattle.std.proofs.lemmas.Bool.{cases_eq}
 use Rattle.std.proofs.lemmas.List.{get_or-set_other}
 use Rattle.std.proofs.lemmas.List.Elements.{All-nil}
@@ -145,10 +145,10 @@ turns_at n n' bytes s frames peer x after h b y there =
             turn = h.turn;
           }))
       | inr other ↦ record {
-          after = y;
-          after_is = other_stays n n' peer b after h.neighbours other ∙ there;
-          turn = rests_turn n.own bytes s frames b y.pair (h.others b other);
-        }
+        after = y;
+        after_is = other_stays n n' peer b after h.neighbours other ∙ there;
+        turn = rests_turn n.own bytes s frames b y.pair (h.others b other);
+      }
     ]
 
 pub alone_at : (n n' : NodeState) (bytes : List ℕ) (s : NodeStep) (frames : List Outgoing) (peer : ℕ) (x after : Neighbour) → TurnsAt n n' bytes s frames peer x after

@@ -1,4 +1,5 @@
--- What a node's journal tells of the node: it is whole steps, and contacts and links that are up are what it says.
+-- What a node's journal tells of the node: it is whole steps, and contacts and links that are up are what it says. What a packet tells of
+-- its sender.
 use Rattle.std.specs.Prelude.{◌≡◌, ℕ, ◌||◌, Bool, true, false, List, Option, Some, None, if◌then◌else◌, option_and_then}
 use Rattle.tipc_header.specs.declared.packet.Header.{Header}
 use Rattle.tipc_header.specs.declared.packet.Header.TheVariants as header
@@ -37,7 +38,7 @@ pub record IsTold (n : NodeState) : Type 0 where
   pub whole : IsWhole n.journal
   pub links : (p : ℕ) → TellsOf n.journal p (link_in n p)
 
--- ---- what a packet shows
+-- ---- a packet
 
 -- the contact number that a packet shows
 abbrev pub shown_contact : Header → Option ℕ
