@@ -15,7 +15,13 @@ pub mod Coming
 pub mod Messages
 pub mod Standing
 pub mod Histories
+pub mod TurnStreams
+pub mod Bringing
 pub mod PairedStarts
 pub mod PairedTurns
-pub mod Stub
 pub mod PairedEvents
+pub mod Stepping
+pub mod Kept
+pub mod TurnKept
+pub mod TurnTraced
+pub mod StreamsKept
