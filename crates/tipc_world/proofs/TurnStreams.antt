@@ -32,11 +32,13 @@ use Rattle.tipc_pair.specs.Partners.{PairState, opened_in}
 use Rattle.tipc_node.specs.declared.neighbours.Neighbour.{Neighbour}
 use Rattle.tipc_node.specs.Nodes.{NodeState, accepted_entry, message_in, neighbour_of}
 use Rattle.tipc_node.specs.Turns.{IsOfNeighbour, IsPlaced, IsSendable, NodeTurn, PeerTurn, addr_of, bytes_of, given_entries, is_accepted_for, is_delivered_from, origin_of}
+use Rattle.tipc_node.proofs.ArrivalMoves.{IsAs}
+use Rattle.tipc_node.proofs.Filters.{filter-none}
+use Rattle.tipc_node.proofs.TurnMoves.{answered_as, turn_as}
 use Rattle.tipc_world.specs.States.{stream_of}
 use Rattle.tipc_world.specs.Views.{given_in, put_in}
 use Rattle.tipc_world.proofs.Histories.{accepted_grows, accepted_holds, come_to, delivered_grows, given_holds, messages_given}
 use Rattle.tipc_world.proofs.Messages.{bytes_are}
-use Rattle.tipc_world.proofs.TurnEnds.{turn_ends}
 
 -- ---- the messages of packets
 
@@ -89,29 +91,24 @@ given_messages (Passed place ∷ os) whole known = absurd (All-head IsWholePacke
 
 -- ---- what concerns no neighbour
 
-filter_none : {A : Type 0} (p : A → Bool) (P : A → Type 0) (xs : List A) → ((x : A) → P x → p x ≡ true → ⊥) → All P xs → filter p xs ≡ []
-filter_none p P [] never h = refl
-filter_none {A} p P (x ∷ xs) never h = case (filter_none p P xs never (All-tail P x xs h)) (p x) refl
-  where
-    case : filter p xs ≡ [] → (b : Bool) → p x ≡ b → (if b then x ∷ filter p xs else filter p xs) ≡ []
-    case rest true is = absurd (never x (All-head P x xs h) is)
-    case rest false is = rest
-
 -- a peer of which an entry tells is the neighbour of that number
-no_neighbour : (n : NodeState) (b : ℕ) (peer : Addr) → neighbour_of n b ≡ None → IsOfNeighbour n peer → (peer.word == node_word b) ≡ true → ⊥
-no_neighbour n b peer alone h is =
-    let words : node_word h.0 ≡ node_word b = ap (λ (a : Addr). a.word) (sym h.2) ∙ eqb-true peer.word (node_word b) is in
-    let same : h.0 ≡ b = omega (arith, words) in
-    let none : is_some (neighbour_of n h.0) ≡ false = ap (λ k. is_some (neighbour_of n k)) same ∙ ap is_some alone in
-    (let there = h.1 in let wrong : true ≡ false = sym there ∙ none in cc)
+no_neighbour : (n : NodeState) (b : ℕ) (peer : Addr) → neighbour_of n b ≡ None → IsOfNeighbour n peer → (peer.word == node_word b) ≡ false
+no_neighbour n b peer alone h = elim (cases_Bool (peer.word == node_word b)) [
+  | inl is ↦
+      let words : node_word h.0 ≡ node_word b = ap (λ (a : Addr). a.word) (sym h.2) ∙ eqb-true peer.word (node_word b) is in
+      let same : h.0 ≡ b = omega (arith, words) in
+      let none : is_some (neighbour_of n h.0) ≡ false = ap (λ k. is_some (neighbour_of n k)) same ∙ ap is_some alone in
+      absurd (let there = h.1 in let wrong : true ≡ false = sym there ∙ none in cc)
+  | inr other ↦ other
+]
 
-never_accepted : (n : NodeState) (b : ℕ) → neighbour_of n b ≡ None → (e : Entry) → IsPlaced n e → is_accepted_for b e ≡ true → ⊥
-never_accepted n b alone (entry.Accepted peer numbers flow message) h is = no_neighbour n b peer alone h is
-never_accepted n b alone other h is = absurd cc
+never_accepted : (n : NodeState) (b : ℕ) → neighbour_of n b ≡ None → (e : Entry) → IsPlaced n e → is_accepted_for b e ≡ false
+never_accepted n b alone (entry.Accepted peer numbers flow message) h = no_neighbour n b peer alone h
+never_accepted n b alone other h = refl
 
-never_delivered : (n : NodeState) (b : ℕ) → neighbour_of n b ≡ None → (e : Entry) → IsPlaced n e → is_delivered_from b e ≡ true → ⊥
-never_delivered n b alone (entry.Delivered peer numbers flow message by) h is = no_neighbour n b peer alone h is
-never_delivered n b alone other h is = absurd cc
+never_delivered : (n : NodeState) (b : ℕ) → neighbour_of n b ≡ None → (e : Entry) → IsPlaced n e → is_delivered_from b e ≡ false
+never_delivered n b alone (entry.Delivered peer numbers flow message by) h = no_neighbour n b peer alone h
+never_delivered n b alone other h = refl
 
 -- ---- the packets
 
@@ -136,14 +133,15 @@ more_packets old new ms c seen own theirs e c_is seen_is grew =
 pub turn_records : (old new : List Entry) (own : ℕ) (bytes : List ℕ) (s : NodeStep) (frames : List Outgoing) (b : ℕ) (x x' : PairState) (t : PeerTurn own bytes s frames b x x') → new ≡ old ++ step_entries s
     → Brings (opened_in t.turn.first.given) → Recorded old new b x'.link (map bytes_of t.messages) (packets_in (opened_in t.turn.first.given))
 turn_records old new own bytes s frames b x x' t is brings =
-    let ends = turn_ends x t.opening (map bytes_of t.messages) t.reply x' t.own_frames t.turn in
+    let whole = turn_as x x' t.opening (map bytes_of t.messages) t.reply t.own_frames t.turn in
+    let last : IsAs t.turn.put x'.link t.turn.put.fsm = subst (λ (y : PairState). IsAs t.turn.put y.link t.turn.put.fsm) (sym t.turn.after) (answered_as t.reply t.turn.put) in
     let e = t.turn.first.pair.link in
     let opened = opened_in t.turn.first.given in
     let given = given_messages opened brings.whole brings.known in
     record {
-      put_is = λ c seen. more_packets (accepted old (stream_of b c seen Zero)) (accepted new (stream_of b c seen Zero)) t.messages t.turn.put.contact t.turn.put.peer_contact c seen x'.link ends.answered.contact ends.answered.seen
+      put_is = λ c seen. more_packets (accepted old (stream_of b c seen Zero)) (accepted new (stream_of b c seen Zero)) t.messages t.turn.put.contact t.turn.put.peer_contact c seen x'.link last.contact last.seen
           (accepted_grows old new s b (map (accepted_entry b t.turn.put) t.messages) c seen Zero is t.accepted ∙ ap (λ ms. accepted old (stream_of b c seen Zero) ++ ms) (accepted_holds b t.turn.put t.messages c seen Zero));
-      given_is = λ c seen. more_packets (delivered old (stream_of b c seen Zero)) (delivered new (stream_of b c seen Zero)) (messages_given opened) e.contact e.peer_contact c seen x'.link ends.whole.contact ends.whole.seen
+      given_is = λ c seen. more_packets (delivered old (stream_of b c seen Zero)) (delivered new (stream_of b c seen Zero)) (messages_given opened) e.contact e.peer_contact c seen x'.link whole.contact whole.seen
           (delivered_grows old new s b (given_entries b e t.turn.first.given) c seen Zero is t.delivered ∙ ap (λ ms. delivered old (stream_of b c seen Zero) ++ ms) (given_holds b e t.turn.first.given c seen Zero))
           ∙ ap (λ ps. given_in old b c seen ++ (if (c == x'.link.contact) && (seen == x'.link.peer_contact) then ps else [])) given.packets;
     }
@@ -156,13 +154,13 @@ pub record Untold (old new : List Entry) (b : ℕ) : Type 0 where
 accepted_none : (old new : List Entry) (n : NodeState) (s : NodeStep) (b own theirs : ℕ) (flow : Flow) → neighbour_of n b ≡ None → All (IsPlaced n) s.inside → new ≡ old ++ step_entries s
     → accepted new (stream_of b own theirs flow) ≡ accepted old (stream_of b own theirs flow)
 accepted_none old new n s b own theirs flow alone placed is =
-    accepted_grows old new s b [] own theirs flow is (filter_none (is_accepted_for b) (IsPlaced n) s.inside (never_accepted n b alone) placed)
+    accepted_grows old new s b [] own theirs flow is (filter-none (is_accepted_for b) s.inside (IsPlaced n) (never_accepted n b alone) placed)
     ∙ ap (λ ms. accepted old (stream_of b own theirs flow) ++ ms) (accepted_nil (stream_of b own theirs flow)) ∙ append-nil (accepted old (stream_of b own theirs flow))
 
 delivered_none : (old new : List Entry) (n : NodeState) (s : NodeStep) (b own theirs : ℕ) (flow : Flow) → neighbour_of n b ≡ None → All (IsPlaced n) s.inside → new ≡ old ++ step_entries s
     → delivered new (stream_of b own theirs flow) ≡ delivered old (stream_of b own theirs flow)
 delivered_none old new n s b own theirs flow alone placed is =
-    delivered_grows old new s b [] own theirs flow is (filter_none (is_delivered_from b) (IsPlaced n) s.inside (never_delivered n b alone) placed)
+    delivered_grows old new s b [] own theirs flow is (filter-none (is_delivered_from b) s.inside (IsPlaced n) (never_delivered n b alone) placed)
     ∙ ap (λ ms. delivered old (stream_of b own theirs flow) ++ ms) (delivered_nil (stream_of b own theirs flow)) ∙ append-nil (delivered old (stream_of b own theirs flow))
 
 pub turn_untold : (old new : List Entry) (n : NodeState) (s : NodeStep) (b : ℕ) → neighbour_of n b ≡ None → All (IsPlaced n) s.inside → new ≡ old ++ step_entries s → Untold old new b
