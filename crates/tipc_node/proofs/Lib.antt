@@ -10,3 +10,17 @@ pub mod Faults
 pub mod Quiet
 pub mod Deliveries
 pub mod Heard
+pub mod Places
+pub mod Addressing
+pub mod Moves
+pub mod ArrivalMoves
+pub mod Shares
+pub mod Named
+pub mod Filters
+pub mod TurnMoves
+pub mod Telling
+pub mod Told
+pub mod Entries
+pub mod Turning
+pub mod Performing
+pub mod Arrivals

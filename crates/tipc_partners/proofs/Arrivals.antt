@@ -1,4 +1,4 @@
--- A frame arrives, and is answered: what it makes of a pair, as deeds; and what it gives.
+-- A frame arrives: what it makes of a pair, as deeds; and what it gives.
 use Rattle.std.proofs.Common.{◌≡◌, ◌⊎◌, ◌<◌, ◌^◌, ◌&&◌, ℕ, true, false, List, [], ◌∷◌, ◌++◌, Some, if◌then◌else◌, length, option_map, refl, sym, ap, ◌∙◌, subst, inl, inr, eqb-true, arith}
 use Rattle.std.specs.Prelude.{All, not}
 use Rattle.std.proofs.lemmas.Bool.{and_parts, cases_Bool}
@@ -30,18 +30,19 @@ use Rattle.tipc_pair.specs.declared.changes.PairOutcome.{PairOutcome}
 use Rattle.tipc_pair.specs.Turns.{IsShowable}
 use Rattle.tipc_partners.specs.Paired.{ShowsContact}
 use Rattle.tipc_pair.specs.Pairs.{Met, arrival, arrival_of, link_met, packets_of, settled, settled_frames}
-use Rattle.tipc_pair.specs.Partners.{IsInContact, OpensTo, begun_after, deferred, ignored, opened_in, took}
+use Rattle.tipc_pair.specs.Partners.{OpensTo, begun_after, deferred, ignored, opened_in, took}
 use Rattle.tipc_partners.proofs.Calls.{answer_did, heard_did}
 use Rattle.tipc_partners.proofs.EndCalls.{settled_did}
 use Rattle.tipc_partners.proofs.EndSteps.{StepsTo}
 use Rattle.tipc_partners.proofs.Notices.{MetQuietly, Reaches, activates_quietly, reached_contact, reached_shown, reached_told, resets_quietly, unheard_met}
 use Rattle.tipc_partners.proofs.PartnersLaw.{acts_all, whole_given}
-use Rattle.tipc_partners.proofs.Steps.{Stepped, did_stepped, more_none, node_of_end, onward_lines, said_became, still_stepped, stepped_then, then_stepped}
+use Rattle.tipc_partners.proofs.Steps.{Stepped, became_stepped, did_stepped, more_none, still_stepped, then_stepped}
 use Rattle.tipc_partners.proofs.Wires.{same_some, session_of_up}
 use Rattle.tipc_partners.specs.Calls.{Brings}
 use Rattle.tipc_partners.specs.Deeds.{Hears, IsUp}
 use Rattle.tipc_partners.specs.EndCalls.{Became, HasEnd, partial_after}
 use Rattle.tipc_partners.specs.Partners.{ArePartners, Partner}
+use Rattle.tipc_partners.specs.Sights.{StaysUp}
 use Rattle.tipc_partners.specs.Views.{View, session_on}
 use Rattle.tipc_pair.proofs.EndsTurns.{peer_is}
 
@@ -84,14 +85,14 @@ session_brings x y b s by (Carries number packet) partial last out h on o =
     let wants = ((h.paired.here.wires b).going s on).holds.wants in
     subst (λ ts. BringsAll partial ts (opened_in out) last) (taken_by_place (place_of s t) (due_with s t) (due_none s t wants)) (opens partial last (session_outcome s by (Carries number packet)) out o)
 
-none_whole : (opened : List Opened) → opened ≡ [] → All IsWholePacket opened
+pub none_whole : (opened : List Opened) → opened ≡ [] → All IsWholePacket opened
 none_whole opened none = subst (All IsWholePacket) (sym none) (λ k d within. absurd (let wrong : ⊥ = omega arith in wrong))
 
 -- ---- what becomes of a pair
 
 -- The pair becomes what it tells, gives what comes, and all of it is whole, in the contact of before.
 abbrev MetTo : Partner → Partner → ℕ → LinkEnd → Met → PairOutcome → Joining → Type 0
-MetTo x y b e m out last = StepsTo x y b m.after m.frames [] (given_in (opened_in out)) last × All IsWholePacket (opened_in out) × ((opened_in out ≡ []) ⊎ IsInContact e m)
+MetTo x y b e m out last = StepsTo x y b m.after m.frames [] (given_in (opened_in out)) last × All IsWholePacket (opened_in out) × ((opened_in out ≡ []) ⊎ StaysUp e m.after)
 
 -- an arrival that gives nothing
 quietly_met : (x y : Partner) (b : ℕ) (e : LinkEnd) (m : Met) (out : PairOutcome) (last : Joining) → MetQuietly x y b e m → OpensTo (begun_after m.change x.partial) m.outcome out last → MetTo x y b e m out last
@@ -162,18 +163,18 @@ front_stepped x y after b e first second put given partial h = record {
 
 -- what a session hears, once the link states have let it
 session_met : (x y mid : Partner) (b : ℕ) (e d : LinkEnd) (s : SessionEnd) (p : Fields) (by : ℕ) (first : List Outgoing) (partial last : Joining) (out : PairOutcome) → ArePartners x y → HasEnd x.view b e → Became x y mid b d first partial
-    → d.contact ≡ e.contact → d.peer_contact ≡ e.peer_contact → is_up d.fsm.state ≡ true → d.session ≡ Some s → Hears mid.view y.view b s p → OpensTo partial (session_outcome s by (content_of p)) out last
+    → is_up d.fsm.state ≡ true → d.session ≡ Some s → Hears mid.view y.view b s p → OpensTo partial (session_outcome s by (content_of p)) out last
     → StepsTo x y b (with_session d (arrived s by p.acknowledgement (content_of p))) (first ++ arrival_frames s by p.acknowledgement (content_of p)) [] (given_in (opened_in out)) last × All IsWholePacket (opened_in out)
-session_met x y mid b e d s p by first partial last out h has became contact seen up session hears o =
+session_met x y mid b e d s p by first partial last out h has became up session hears o =
     let c = content_of p in
     let h' = acts_all x y mid h became.acts in
     let is_up_now : IsUp (mid.view.wires b) d s = record { end_is = became.end.end_is; up = up; session_is = session } in
     let brings = subst (λ q. Brings q s by c (opened_in out) last) (sym became.partial_is) (session_brings mid y b s by c partial last out h' (session_of_up (mid.view.wires b) d s is_up_now) o) in
     let did = heard_did mid y b d s p by (opened_in out) last h' is_up_now hears brings in
     let second = did_stepped mid y did.0 b d d (arrived s by p.acknowledgement c) (arrival_frames s by p.acknowledgement c) [] (given_in (opened_in out)) last h' became.end did.1
-    (more_none mid.put did.0.put mid.view.node.contact mid.view.node.seen did.2.put) did.2.given did.2.partial in
-    let same = node_of_end x y mid b e d h h' has became.end became.whose contact seen in
-    let all = stepped_then x y mid did.0 b d (with_session d (arrived s by p.acknowledgement c)) first (arrival_frames s by p.acknowledgement c) [] (given_in (opened_in out)) partial last became (said_became x y mid b d first partial h became) second same did.1.node in
+    (more_none mid.put did.0.put mid.view.node did.2.put) did.2.given did.2.partial in
+    let all = then_stepped x y mid did.0 b d (with_session d (arrived s by p.acknowledgement c)) first (arrival_frames s by p.acknowledgement c) [] [] [] (given_in (opened_in out)) partial last (became_stepped x y mid b d first partial h became) second did.1.node
+    (λ k epoch apart. became.line k epoch) in
     ((did.0, all), whole_of c refl brings h' is_up_now) where
       whole_of : (c : Content) → content_of p ≡ c → Brings mid.partial s by c (opened_in out) last → ArePartners mid y → IsUp (mid.view.wires b) d s → All IsWholePacket (opened_in out)
       whole_of Nothing is brings h' on = none_whole (opened_in out) brings.0
@@ -197,7 +198,7 @@ kept_met x y b e es er p by shown out last h has r showable traffic peer own up 
     let hears = reached_session x.view y.view did.0.view b es er p s r traffic (going.2 ∙ sym own) peers (λ epoch. became.line b epoch) in
     let met = heard_met e stay p by shown (ap (λ t. t && true) traffic) in
     let o' = subst (λ k. OpensTo x.partial k out last) (met.2 ∙ ap (λ t. heard_outcome t by c) going.1) o in
-    let steps = session_met x y did.0 b e d s p by [] x.partial last out h has became refl refl refl going.1 hears o' in
+    let steps = session_met x y did.0 b e d s p by [] x.partial last out h has became refl going.1 hears o' in
     let end_is : arrival_end e stay p by ≡ with_session d (arrived s by p.acknowledgement c) = met.0 ∙ ap (λ t. record d { session = option_map (λ z. arrived z by p.acknowledgement c) t }) going.1 in
     let frames_are : link_frames e stay p by shown ≡ arrival_frames s by p.acknowledgement c = met.1 ∙ ap (λ t. heard_by t by p.acknowledgement c) going.1 in (
       subst (λ k. StepsTo x y b k (link_frames e stay p by shown) [] (given_in (opened_in out)) last) (sym end_is)
@@ -221,7 +222,7 @@ raised_met x y b e es er p by shown out last h has r showable traffic peer own i
     let hears = reached_session x.view y.view did.0.view b es er p s r traffic (sym own) (ap known peer) (λ epoch. became.line b epoch) in
     let met = heard_met e raise p by shown (ap (λ t. t && true) traffic) in
     let o' = subst (λ k. OpensTo fresh k out last) met.2 o in
-    let steps = session_met x y did.0 b e d s p by told fresh last out h has became refl refl refl refl hears o' in (
+    let steps = session_met x y did.0 b e d s p by told fresh last out h has became refl refl hears o' in (
       subst (λ k. StepsTo x y b k (link_frames e raise p by shown) [] (given_in (opened_in out)) last) (sym met.0)
           (subst (λ fs. StepsTo x y b (with_session d (arrived s by p.acknowledgement c)) fs [] (given_in (opened_in out)) last) (sym met.1)
           (steps.0.0, front_stepped x y steps.0.0 b (with_session d (arrived s by p.acknowledgement c)) told (arrival_frames s by p.acknowledgement c) [] (given_in (opened_in out)) last steps.0.1)),
@@ -275,49 +276,6 @@ header_met other x y b e es er p by shown out last is h has r showable o =
 
 pub arrival_met : (x y : Partner) (b : ℕ) (e : LinkEnd) (es er : ℕ) (p : Fields) (by : ℕ) (shown : BroadcastState) (out : PairOutcome) (last : Joining) → ArePartners x y → HasEnd x.view b e → Reaches x.view y.view b es er p → IsShowable shown
     → OpensTo (begun_after (arrival e es er p by shown).change x.partial) (arrival e es er p by shown).outcome out last
-    → StepsTo x y b (arrival e es er p by shown).after (arrival e es er p by shown).frames [] (given_in (opened_in out)) last × All IsWholePacket (opened_in out) × ((opened_in out ≡ []) ⊎ IsInContact e (arrival e es er p by shown))
+    → StepsTo x y b (arrival e es er p by shown).after (arrival e es er p by shown).frames [] (given_in (opened_in out)) last × All IsWholePacket (opened_in out) × ((opened_in out ≡ []) ⊎ StaysUp e (arrival e es er p by shown).after)
 unfolding arrival
 arrival_met x y b e es er p by shown out last h has r showable o = header_met p.header x y b e es er p by shown out last refl h has r showable o
-
--- ---- the STATE that is due
-
-answered_met : (mid y : Partner) (b : ℕ) (d : LinkEnd) (shown : BroadcastState) → ArePartners mid y → HasEnd mid.view b d → IsShowable shown → (after : Partner) × Stepped mid y after b (answered_end d) (answered_frames d shown) [] [] mid.partial × (after.view.node ≡ mid.view.node)
-    × ((s : SessionEnd) → d.session ≡ Some s → (t : SessionEnd) × ((answered_end d).session ≡ Some t) × (t.epoch ≡ s.epoch))
-answered_met mid y b d shown h has showable = elim (cases_Bool (is_up d.fsm.state)) [
-  | inl up ↦
-      let going = (h.paired.here.ends b d has.end_is).going up in
-      let s = going.0 in
-      let did = answer_did mid y b d s shown (record { end_is = has.end_is; up = up; session_is = going.1 }) showable in
-      let end_is : answered_end d ≡ with_session d (answered s) = ap (λ t. if t then record d { session = option_map answered d.session } else d) up ∙ ap (λ o. record d { session = option_map answered o }) going.1 in
-      let frames_are : answered_frames d shown ≡ answer_frames s shown = ap (λ t. if t then session_answer d.session shown else []) up ∙ ap (λ o. session_answer o shown) going.1 in
-      let stepped = did_stepped mid y did.0 b d d (answered s) (answer_frames s shown) [] [] mid.partial h has did.1 (more_none mid.put did.0.put mid.view.node.contact mid.view.node.seen did.2)
-      (more_none mid.given did.0.given mid.view.node.contact mid.view.node.seen did.3) did.4 in (
-        did.0,
-        subst (λ k. Stepped mid y did.0 b k (answered_frames d shown) [] [] mid.partial) (sym end_is) (subst (λ fs. Stepped mid y did.0 b (with_session d (answered s)) fs [] [] mid.partial) (sym frames_are) stepped),
-        did.1.node,
-        λ t is. (answered s, ap (λ (k : LinkEnd). k.session) end_is, (let same : s ≡ t = same_some s t d.session going.1 is in ap (λ (u : SessionEnd). u.epoch) same)),
-      )
-  | inr down ↦
-      let end_is : answered_end d ≡ d = ap (λ t. if t then record d { session = option_map answered d.session } else d) down in
-      let frames_are : answered_frames d shown ≡ [] = ap (λ t. if t then session_answer d.session shown else []) down in (
-        mid,
-        subst (λ k. Stepped mid y mid b k (answered_frames d shown) [] [] mid.partial) (sym end_is) (subst (λ fs. Stepped mid y mid b d fs [] [] mid.partial) (sym frames_are) (still_stepped mid y b d has)),
-        refl,
-        λ t is. (t, ap (λ (k : LinkEnd). k.session) end_is ∙ is, refl),
-      )
-]
-
--- a frame arrives, and the STATE that is due is sent
-pub arrival_stepped : (x y : Partner) (b : ℕ) (e : LinkEnd) (es er : ℕ) (p : Fields) (by : ℕ) (shown shown' : BroadcastState) (out : PairOutcome) (last : Joining) → ArePartners x y → HasEnd x.view b e → Reaches x.view y.view b es er p → IsShowable shown → IsShowable shown'
-    → OpensTo (begun_after (arrival e es er p by shown).change x.partial) (arrival e es er p by shown).outcome out last
-    → StepsTo x y b (answered_end (arrival e es er p by shown).after) ((arrival e es er p by shown).frames ++ answered_frames (arrival e es er p by shown).after shown') [] (given_in (opened_in out)) last
-arrival_stepped x y b e es er p by shown shown' out last h has r showable showable' o =
-    let m = arrival e es er p by shown in
-    let met = arrival_met x y b e es er p by shown out last h has r showable o in
-    let mid = met.0.0 in
-    let first = met.0.1 in
-    let second = answered_met mid y b m.after shown' (acts_all x y mid h first.acts) first.end showable' in (
-      second.0,
-      then_stepped x y mid second.0 b m.after (answered_end m.after) m.frames (answered_frames m.after shown') [] (given_in (opened_in out)) last last first
-          (subst (λ q. Stepped mid y second.0 b (answered_end m.after) (answered_frames m.after shown') [] [] q) first.partial_is second.1) second.2 (onward_lines x.view mid.view b m.after (answered_end m.after) first.line second.3),
-    )

@@ -17,7 +17,7 @@ use Rattle.tipc_link.proofs.LinkLaw.{Each, Each-append, Each-none, Each-one}
 use Rattle.tipc_pair.proofs.Receivings.{due_released}
 use Rattle.tipc_pair.specs.Turns.{IsShowable}
 use Rattle.tipc_pair.specs.Partners.{IsMessage, pieces_for}
-use Rattle.tipc_partners.proofs.Contacts.{by_contact, on_put_in, put_else, put_here}
+use Rattle.tipc_partners.proofs.Contacts.{more_twice, on_put_in, put_else, put_here}
 use Rattle.tipc_partners.proofs.Messages.{put_view, taken_view}
 use Rattle.tipc_partners.proofs.Numbers.{numbered_view, with_numbered}
 use Rattle.tipc_partners.proofs.PartnersLaw.{acts_all, acts_one, acts_partners, acts_then}
@@ -84,7 +84,7 @@ arrived_epoch s by acknowledgement Nothing = refl
 arrived_epoch s by acknowledgement (Shows next missed probe) = (let r = released s acknowledgement in spoken_epoch r (repeated r acknowledgement missed) next probe)
 arrived_epoch s by acknowledgement (Carries number packet) = flushed_epoch (took (released s acknowledgement) (brought number packet by))
 
-puts_epoch : (s : SessionEnd) (messages : List (List ℕ)) (frames : List Outgoing) (last : SessionEnd) → PutsAll s messages frames last → last.epoch ≡ s.epoch
+pub puts_epoch : (s : SessionEnd) (messages : List (List ℕ)) (frames : List Outgoing) (last : SessionEnd) → PutsAll s messages frames last → last.epoch ≡ s.epoch
 puts_epoch s _ _ _ (none_put _) = refl
 puts_epoch s _ _ last (puts_one _ s' _ m messages frames put all) = puts_epoch (flushed s') messages frames last all ∙ flushed_epoch s' ∙ put_epoch s (pieces_for m) s' put
 
@@ -309,15 +309,6 @@ put_none : (x : Partner) (own theirs : ℕ) → x.put own theirs ≡ put_more x 
 put_none x = on_put_in x.put x.view.node.contact x.view.node.seen (x.put x.view.node.contact x.view.node.seen ++ []) (λ k l ms. x.put k l ≡ ms)
     (sym (append-nil (x.put x.view.node.contact x.view.node.seen))) (λ k l other. refl)
 
--- one message, and then others
-put_twice : (f g h : ℕ → ℕ → List (List ℕ)) (own theirs : ℕ) (first second : List (List ℕ)) → g ≡ put_in f own theirs (f own theirs ++ first) → ((k l : ℕ) → h k l ≡ put_in g own theirs (g own theirs ++ second) k l)
-    → (k l : ℕ) → h k l ≡ put_in f own theirs (f own theirs ++ (first ++ second)) k l
-put_twice f g h own theirs first second g_is h_is = by_contact own theirs (λ k l. h k l ≡ put_in f own theirs (f own theirs ++ (first ++ second)) k l)
-    (h_is own theirs ∙ put_here g own theirs (g own theirs ++ second) ∙ ap (λ (z : ℕ → ℕ → List (List ℕ)). z own theirs ++ second) g_is ∙ ap (λ xs. xs ++ second) (put_here f own theirs (f own theirs ++ first))
-    ∙ append_assoc (f own theirs) first second ∙ sym (put_here f own theirs (f own theirs ++ (first ++ second))))
-    (λ k l other. h_is k l ∙ put_else g own theirs (g own theirs ++ second) k l other ∙ ap (λ (z : ℕ → ℕ → List (List ℕ)). z k l) g_is ∙ put_else f own theirs (f own theirs ++ first) k l other
-    ∙ sym (put_else f own theirs (f own theirs ++ (first ++ second)) k l other))
-
 pub puts_did : PutsAreDeeds
 puts_did x y b e s _ _ _ h up (none_put _) are =
     (x, record { acts = nothing; up = same_end (x.view.wires b) e s up; node = refl; told = λ k o there. absurd (let none : ⊥ = cc in none); keeps = keeps_same x.view.wires b s.epoch }, put_none x, refl, refl)
@@ -330,7 +321,7 @@ puts_did x y b e s last _ _ h up (puts_one _ s' _ m messages frames put all) are
     λ k l. rest.2 k l ∙ ap (λ (n : Node). put_in mid.put n.contact n.seen (mid.put n.contact n.seen ++ messages) k l) did.1.node in (
       rest.0,
       told_both x y mid rest.0 b (with_session e (flushed s')) (with_session e last) (flushed s') last (flush_frames s') frames (puts_epoch (flushed s') messages frames last all) did.1 rest.1,
-      put_twice x.put mid.put rest.0.put x.view.node.contact x.view.node.seen (m ∷ []) messages did.2 more,
+      more_twice x.put mid.put rest.0.put x.view.node.contact x.view.node.seen (m ∷ []) messages (λ k l. ap (λ (f : ℕ → ℕ → List (List ℕ)). f k l) did.2) more,
       rest.3 ∙ did.3,
       rest.4 ∙ did.4,
     )

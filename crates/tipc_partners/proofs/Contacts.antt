@@ -1,5 +1,5 @@
 -- Look-ups by contact.
-use Rattle.std.proofs.Common.{◌≡◌, ℕ, true, false, ◌==◌, ◌&&◌, if◌then◌else◌, List, [], ◌∷◌, refl, sym, ap, ◌∙◌, subst, inl, inr, arith}
+use Rattle.std.proofs.Common.{◌≡◌, ℕ, true, false, ◌==◌, ◌&&◌, if◌then◌else◌, List, [], ◌∷◌, ◌++◌, refl, sym, ap, ◌∙◌, subst, inl, inr, append_assoc, arith}
 use Rattle.std.specs.Prelude.{All}
 use Rattle.std.proofs.lemmas.Bool.{cases_eq}
 use Rattle.std.proofs.lemmas.Bool.Decides.{nat_tests}
@@ -50,6 +50,15 @@ by_contact own theirs P here others k l = elim (cases_eq k own) [
   ]
   | inr a ↦ others k l (λ same _. a same)
 ]
+
+-- more comes to a contact, and then more
+pub more_twice : (f g h : ℕ → ℕ → List (List ℕ)) (own theirs : ℕ) (first second : List (List ℕ)) → ((k l : ℕ) → g k l ≡ put_in f own theirs (f own theirs ++ first) k l) → ((k l : ℕ) → h k l ≡ put_in g own theirs (g own theirs ++ second) k l)
+    → (k l : ℕ) → h k l ≡ put_in f own theirs (f own theirs ++ (first ++ second)) k l
+more_twice f g h own theirs first second g_is h_is = by_contact own theirs (λ k l. h k l ≡ put_in f own theirs (f own theirs ++ (first ++ second)) k l)
+    (h_is own theirs ∙ put_here g own theirs (g own theirs ++ second) ∙ ap (λ xs. xs ++ second) (g_is own theirs ∙ put_here f own theirs (f own theirs ++ first))
+    ∙ append_assoc (f own theirs) first second ∙ sym (put_here f own theirs (f own theirs ++ (first ++ second))))
+    (λ k l other. h_is k l ∙ put_else g own theirs (g own theirs ++ second) k l other ∙ g_is k l ∙ put_else f own theirs (f own theirs ++ first) k l other
+    ∙ sym (put_else f own theirs (f own theirs ++ (first ++ second)) k l other))
 
 -- nothing came, so nothing is begun
 pub opened_fresh : (given : List (List ℕ)) (last : Joining) → HasOpened [] given last → last ≡ fresh

@@ -1,4 +1,4 @@
--- The calls of a pair but an arrival, as deeds: a link end is made, its bearer is mended or cut, a tick passes, a message is put.
+-- What happens at a pair but an arrival, as deeds: a link end is made, its bearer is mended or cut, a tick passes.
 use Rattle.std.proofs.Common.{◌≡◌, ℕ, Bool, true, false, List, [], ◌∷◌, Some, None, if◌then◌else◌, refl, ap, ◌∙◌, subst, inl}
 use Rattle.tipc_types.specs.declared.link_words.BroadcastState.{BroadcastState}
 use Rattle.tipc_types.specs.declared.link_words.Cause.TheVariants as cause
@@ -91,7 +91,7 @@ knows_stepped x y b true h none =
     let mended = mends_stepped made.0 y b e h' made.1.end in
     let second = subst (λ p. Stepped made.0 y mended.0 b (mended_end e) (mend_frames e) [] [] p) made.1.partial_is mended.1 in
     let same = node_of_end made.0 y mended.0 b e (mended_end e) h' (acts_all made.0 y mended.0 h' mended.1.acts) made.1.end mended.1.end mended.1.whose refl refl in
-    (mended.0, then_stepped x y made.0 mended.0 b e (mended_end e) [] (mend_frames e) [] [] x.partial x.partial first second same (λ c epoch apart. made.1.line c epoch))
+    (mended.0, then_stepped x y made.0 mended.0 b e (mended_end e) [] (mend_frames e) [] [] [] [] x.partial x.partial first second same (λ c epoch apart. made.1.line c epoch))
 
 -- ---- calls of the link states
 
@@ -138,19 +138,8 @@ cuts_stepped x y b e shown h has showable =
         whose = record { own = did.1.whose.own ∙ turned.1.whose.own; peer = did.1.whose.peer ∙ turned.1.whose.peer; boot = did.1.whose.boot ∙ turned.1.whose.boot };
         said = Each-none _;
         line = λ c epoch apart. did.1.line c epoch ∙ turned.1.line c epoch;
-        put_is = more_none x.put did.0.put x.view.node.contact x.view.node.seen (did.1.put ∙ turned.1.put);
-        given_is = more_none x.given did.0.given x.view.node.contact x.view.node.seen (did.1.given ∙ turned.1.given);
+        put_is = more_none x.put did.0.put did.0.view.node (did.1.put ∙ turned.1.put);
+        given_is = more_none x.given did.0.given did.0.view.node (did.1.given ∙ turned.1.given);
         partial_is = did.1.partial_is ∙ partial;
       },
-    )
-
--- ---- a message is put
-
-pub puts_stepped : (x y : Partner) (b : ℕ) (e : LinkEnd) (s s' : SessionEnd) (m : List ℕ) → ArePartners x y → HasEnd x.view b e → is_up e.fsm.state ≡ true → e.session ≡ Some s → IsPut s (pieces_for m) s' → IsMessage x.view.node.own m
-    → StepsTo x y b (with_session e (flushed s')) (flush_frames s') (m ∷ []) [] x.partial
-puts_stepped x y b e s s' m h has up session put message =
-    let did = put_did x y b e s s' m h (record { end_is = has.end_is; up = up; session_is = session }) put message in (
-      did.0,
-      did_stepped x y did.0 b e e (flushed s') (flush_frames s') (m ∷ []) [] x.partial h has did.1 (λ own theirs. ap (λ (f : ℕ → ℕ → List (List ℕ)). f own theirs) did.2)
-          (more_none x.given did.0.given x.view.node.contact x.view.node.seen did.3) did.4,
     )

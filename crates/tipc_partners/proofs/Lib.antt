@@ -34,4 +34,5 @@ pub mod Seeing
 pub mod EndSteps
 pub mod Notices
 pub mod Arrivals
+pub mod Chains
 pub mod Sights

@@ -31,7 +31,7 @@ use Rattle.tipc_partners.proofs.ContactDeeds.{ended_down}
 use Rattle.tipc_partners.proofs.EndCalls.{on_bearer_each, reset_notice, settled_did, tell_after}
 use Rattle.tipc_partners.proofs.EndSteps.{StepsTo, partial_same}
 use Rattle.tipc_partners.proofs.PartnersLaw.{acts_all, acts_one}
-use Rattle.tipc_partners.proofs.Steps.{Stepped, became_stepped, node_of_end, onward_lines, still_stepped, then_stepped}
+use Rattle.tipc_partners.proofs.Steps.{Stepped, became_stepped, more_none, node_of_end, onward_lines, still_stepped, then_stepped}
 use Rattle.tipc_partners.proofs.Wires.{map_at, none_some, same_some}
 use Rattle.tipc_partners.specs.Deeds.{MayTell, ended_with, forgot_with, parted as parted_view, parts, resets, risen as risen_view, shows}
 use Rattle.tipc_partners.specs.EndCalls.{Became, HasEnd, IsNotice, partial_after}
@@ -159,7 +159,7 @@ reset_behind x y mid b d es before shown h first told showable down =
     let seen = (h'.paired.here.ends b d first.end.end_is).seen in
     let second = reset_stepped mid y b d es shown h' first.end (subst (IsTold (said_by y.view) b es) seen told) showable (reset_leaves d.fsm es down).1 in
     let same = node_of_end mid y second.0 b d (after d o) h' (acts_all mid y second.0 h' second.1.acts) first.end second.1.end second.1.whose (contact_after d o) (seen_after d o) in
-    (second.0, then_stepped x y mid second.0 b d (after d o) before (frames d o shown) [] [] mid.partial mid.partial first second.1 same (onward_lines x.view mid.view b d (after d o) first.line (kept_epoch d (after d o) (reset_session d es down))))
+    (second.0, then_stepped x y mid second.0 b d (after d o) before (frames d o shown) [] [] [] [] mid.partial mid.partial first second.1 same (onward_lines x.view mid.view b d (after d o) first.line (kept_epoch d (after d o) (reset_session d es down))))
 
 settled_seen : (e : LinkEnd) (o : Outcome) → (settled e o).peer_contact ≡ e.peer_contact
 settled_seen e o = elim (is_down o.change) as (λ b. (if b then parted (after e o) else after e o).peer_contact ≡ e.peer_contact) [ true ↦ seen_after e o | false ↦ seen_after e o ]
@@ -207,8 +207,7 @@ alone_apart v b e has down c d is = elim (cases_eq c b) [
 -- there is no contact: the end forgets the peer's epoch
 lonely_stepped : (x y : Partner) (b : ℕ) (e : LinkEnd) (number : ℕ) → HasEnd x.view b e → is_up e.fsm.state ≡ false → x.view.node.seen < number → number < 2 ^ 64 → StillTo x y b (forgot_with number e) [] x.partial
 lonely_stepped x y b e number has down higher fits =
-    let v = risen_view x.view number in
-    let still = still_stepped x y b e has in (
+    let v = risen_view x.view number in (
       viewed x v,
       record {
         acts = acts_one x y (viewed x v) (works v (shows number higher fits (alone_apart x.view b e has down)));
@@ -216,8 +215,8 @@ lonely_stepped x y b e number has down higher fits =
         whose = record { own = refl; peer = refl; boot = refl };
         said = Each-none _;
         line = λ c epoch apart. refl;
-        put_is = still.put_is;
-        given_is = still.given_is;
+        put_is = more_none x.put x.put v.node refl;
+        given_is = more_none x.given x.given v.node refl;
         partial_is = refl;
       },
       λ c epoch. refl,
@@ -361,7 +360,7 @@ lonely_activate_quietly x y b e number es er p by shown h notice is told named s
     let second = activate_stepped first.0 y b d es er shown h' first.1.end (subst (IsTold (said_by y.view) b es) seen told) named showable in
     let same = node_of_end first.0 y second.0 b d (after d o) h' (acts_all first.0 y second.0 h' second.1.acts) first.1.end second.1.end second.1.whose (contact_after d o) (seen_after d o) in
     let partial : first.0.partial ≡ x.partial = first.1.partial_is ∙ ap (λ (c : PairChange). begun_after c x.partial) stays in
-    let all = then_stepped x y first.0 second.0 b d (after d o) (risen_frames e number) (frames d o shown) [] [] (begun_after (risen_change e number) x.partial) (begun_after (change_of d o 0) first.0.partial) first.1 second.1 same
+    let all = then_stepped x y first.0 second.0 b d (after d o) (risen_frames e number) (frames d o shown) [] [] [] [] (begun_after (risen_change e number) x.partial) (begun_after (change_of d o 0) first.0.partial) first.1 second.1 same
     (λ c epoch apart. first.2 c epoch) in
     let met = unheard_met d o p by shown (ap (λ t. t && is_taken o.change) notice) in
     let steps : StepsTo x y b (after d o) (frames d o shown) [] [] (begun_after (change_of d o 0) x.partial) = (

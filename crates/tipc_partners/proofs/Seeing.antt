@@ -128,8 +128,8 @@ seen_after x y after v v' w b e frames put given partial p h there st g =
         | inl here ↦ ap (λ k. (after.view.wires k).end) here ∙ st.end.end_is ∙ sym g.only.end_is ∙ ap v'.ends (sym here)
         | inr other ↦ st.end.alone c other ∙ sym (g.only.alone c other)
       ];
-      put = more_seen x.put v.put after.put v'.put x.view.node v put h.node h.put st.put_is g.put_is;
-      given = more_seen x.given v.given after.given v'.given x.view.node v given h.node h.given st.given_is g.given_is;
+      put = more_seen x.put v.put after.put v'.put after.view.node v' put node h.put st.put_is g.put_is;
+      given = more_seen x.given v.given after.given v'.given after.view.node v' given node h.given st.given_is g.given_is;
       partial = st.partial_is ∙ sym g.partial_is;
       numbered = numbers;
       counts = λ c d s is has. elim (cases_eq c b) [

@@ -1,31 +1,31 @@
 -- Two nodes stay partners as a world tells of them, whatever either does.
-use Rattle.std.proofs.Common.{◌≡◌, ℕ, ◌+◌, false, List, [], ◌++◌, Some, if◌then◌else◌, refl, sym, ap, ◌∙◌, subst, arith}
-use Rattle.std.specs.Prelude.{slice_get}
+use Rattle.std.proofs.Common.{◌≡◌, ◌⊎◌, ℕ, ◌+◌, List, [], ◌++◌, Some, if◌then◌else◌, refl, sym, ap, ◌∙◌, subst, inl, inr, append-nil, arith}
+use Rattle.std.specs.Prelude.{All, slice_get}
 use Rattle.tipc_outside.specs.declared.outgoing.Outgoing.{Outgoing}
 use Rattle.tipc_fragments.specs.Joining.{Joining}
 use Rattle.tipc_header.specs.Spelling.{Fields}
 use Rattle.tipc_reassembly.specs.Slots.{packets_in}
 use Rattle.tipc_contact.specs.Sides.{first_number}
 use Rattle.tipc_link.specs.Laws.{IsPrefixOf}
-use Rattle.tipc_link.specs.Links.{LinkEnd, answered_end, answered_frames, is_traffic, mend_frames, mended_end}
-use Rattle.tipc_link_fsm.specs.Table.{on_cut, on_tick}
-use Rattle.tipc_types.specs.declared.link_words.BroadcastState.{BroadcastState}
+use Rattle.tipc_link.specs.Links.{LinkEnd, is_traffic, mend_frames, mended_end}
 use Rattle.tipc_partners.proofs.Frames.{same_packet}
-use Rattle.tipc_pair.specs.Pairs.{arrival, change_of, cut_pair, tick_frames, tick_pair}
-use Rattle.tipc_pair.specs.Partners.{IsMessage, OpensTo, begun_after, opened_in}
-use Rattle.tipc_partners.proofs.Arrivals.{arrival_met, arrival_stepped}
+use Rattle.tipc_pair.specs.Partners.{IsMessage, PairState, opened_in, pair_state}
+use Rattle.tipc_pair.specs.Turns.{Happened, Opening, answers_by}
+use Rattle.tipc_pair.specs.Turns.Opening.{cuts, hears, mends, rests, ticks}
+use Rattle.tipc_partners.proofs.Chains.{ReachesIn, opening_stepped, turn_stepped}
 use Rattle.tipc_partners.proofs.Contacts.{put_here}
-use Rattle.tipc_partners.proofs.EndSteps.{StepsTo, cuts_stepped, knows_stepped, mends_stepped, puts_stepped, ticks_stepped}
+use Rattle.tipc_partners.proofs.EndSteps.{StepsTo, knows_stepped}
 use Rattle.tipc_partners.proofs.Notices.{Reaches}
 use Rattle.tipc_partners.proofs.PartnersLaw.{acts_all, front as front_law, start, turned as turn}
 use Rattle.tipc_partners.proofs.Seeing.{only_end, stepped_seen, told_still}
+use Rattle.tipc_partners.proofs.Steps.{Stepped, more_in, node_of_end}
 use Rattle.tipc_partners.proofs.Truth.{told_true}
 use Rattle.tipc_partners.proofs.Wires.{none_some}
 use Rattle.tipc_partners.specs.Deeds.{made_on, restarted as begun_again, restarts}
-use Rattle.tipc_pair.specs.Turns.{IsShowable}
+use Rattle.tipc_partners.specs.EndCalls.{HasEnd}
 use Rattle.tipc_partners.specs.Paired.{IsEnd, IsNew as IsNewView}
-use Rattle.tipc_partners.specs.Partners.{ActsAll, beginning, changes, follows, nothing, renewed}
-use Rattle.tipc_partners.specs.Sights.{ArrivesSeen, AreSeen, Comes, CutsSeen, GivesSeen, EndsSeen, FramesSeen, FrontsSeen, Goes, IsNew, IsSeen, KnowsSeen, MendsSeen, PutsSeen, RestartsSeen, Sight, StartsSeen, TicksSeen, TruthsSeen, TurnedSeen}
+use Rattle.tipc_partners.specs.Partners.{ActsAll, ArePartners, Partner, beginning, changes, follows, nothing, renewed}
+use Rattle.tipc_partners.specs.Sights.{AreSeen, Comes, ComesIn, EndsSeen, FramesSeen, FrontsSeen, GivesSeen, Goes, IsNew, IsSeen, KnowsSeen, RestartsSeen, Sight, StartsSeen, StaysUp, TruthsSeen, TurnedSeen, TurnsSeen}
 use Rattle.tipc_partners.specs.Truth.{IsTold}
 use Rattle.tipc_partners.specs.Views.{Frame, Node, View, unused}
 
@@ -91,7 +91,7 @@ restarted v v' w h r fits =
       seen_there = h.seen_there;
     }
 
--- ---- calls
+-- ---- a link end is made
 
 seen_by : (v v' w : Sight) (b : ℕ) (e : LinkEnd) (frames : List Outgoing) (put given : List (List ℕ)) (partial : Joining) → (h : AreSeen v w) → Goes v v' w b e frames put given partial → StepsTo h.here h.there b e frames put given partial → AreSeen v' w
 seen_by v v' w b e frames put given partial h g steps = stepped_seen v v' w b e frames put given partial h g steps.0 steps.1
@@ -105,41 +105,7 @@ knows v v' w b mended h none g =
     seen_by v v' w b (end v.node) (frames v.node) [] [] v.partial h g
     (subst (λ (n : Node). StepsTo x h.there b (end n) (frames n) [] [] v.partial) h.seen_here.node (subst (λ p. StepsTo x h.there b (end x.view.node) (frames x.view.node) [] [] p) h.seen_here.partial steps))
 
-pub mends : MendsSeen
-mends v v' w b e h only g =
-    let x = h.here in
-    seen_by v v' w b (mended_end e) (mend_frames e) [] [] v.partial h g
-    (subst (λ p. StepsTo x h.there b (mended_end e) (mend_frames e) [] [] p) h.seen_here.partial (mends_stepped x h.there b e h.partners (only_end x v b e h.seen_here only)))
-
--- what a STATE would show of broadcast, where none is sent
-nothing_shown : BroadcastState
-nothing_shown = record { acknowledged = 0; next = 0; start = 0; gap = 0; in_step = false }
-
-nothing_showable : IsShowable nothing_shown
-unfolding nothing_shown
-nothing_showable = record { acknowledged = omega arith; next = omega arith; start = omega arith; gap = omega arith }
-
-pub cuts : CutsSeen
-cuts v v' w b e h only g =
-    let x = h.here in
-    let change = change_of e (on_cut e.fsm false) 0 in
-    seen_by v v' w b (cut_pair e) [] [] [] (begun_after change v.partial) h g
-    (subst (λ p. StepsTo x h.there b (cut_pair e) [] [] [] (begun_after change p)) h.seen_here.partial (cuts_stepped x h.there b e nothing_shown h.partners (only_end x v b e h.seen_here only) nothing_showable))
-
-pub ticks : TicksSeen
-ticks v v' w b e shown h only showable g =
-    let x = h.here in
-    let change = change_of e (on_tick e.fsm false) 0 in
-    seen_by v v' w b (tick_pair e) (tick_frames e shown) [] [] (begun_after change v.partial) h g
-    (subst (λ p. StepsTo x h.there b (tick_pair e) (tick_frames e shown) [] [] (begun_after change p)) h.seen_here.partial (ticks_stepped x h.there b e shown h.partners (only_end x v b e h.seen_here only) showable))
-
-pub puts : PutsSeen
-puts v v' w b e s s' m h only up session put message g =
-    let x = h.here in
-    let steps = puts_stepped x h.there b e s s' m h.partners (only_end x v b e h.seen_here only) up session put (subst (λ (n : Node). IsMessage n.own m) (sym h.seen_here.node) message) in
-    seen_by v v' w b _ _ _ [] v.partial h g (subst (λ p. StepsTo x h.there b _ _ _ [] p) h.seen_here.partial steps)
-
--- ---- an arrival
+-- ---- a turn
 
 -- the frame in the air was told
 reached : (v w : Sight) (b es er : ℕ) (p : Fields) → (h : AreSeen v w) → Comes v w b es er p → Reaches h.here.view h.there.view b es er p
@@ -162,31 +128,55 @@ reached v w b es er p h c =
       peer_fresh = λ traffic. (let fresh = c.peer_fresh traffic in omega arith);
     }
 
-pub arrives : ArrivesSeen
-arrives v v' w b e es er p by shown shown' out last h only c showable showable' o g =
-    let m = arrival e es er p by shown in
-    let opens = subst (λ q. OpensTo (begun_after m.change q) m.outcome out last) (sym h.seen_here.partial) o in
-    seen_by v v' w b (answered_end m.after) (m.frames ++ answered_frames m.after shown') [] (packets_in (opened_in out)) last h g
-    (arrival_stepped h.here h.there b e es er p by shown shown' out last h.partners (only_end h.here v b e h.seen_here only) (reached v w b es er p h c) showable showable' opens)
+reached_in : (v w : Sight) (b : ℕ) (opening : Opening) → (h : AreSeen v w) → ComesIn v w b opening → ReachesIn h.here.view h.there.view b opening
+reached_in v w b (hears es er p by shown) h c = reached v w b es er p h c
+reached_in v w b rests h c = tt
+reached_in v w b mends h c = tt
+reached_in v w b cuts h c = tt
+reached_in v w b (ticks shown) h c = tt
 
--- what an arrival gives, with what was given before it, is a front of what the other put
-pub gives : GivesSeen
-gives v w b e es er p by shown out last h only c showable o =
+pub turns : TurnsSeen
+turns v v' w b e opening messages answer x' frames h only c showable showable' are t g =
     let x = h.here in
-    let m = arrival e es er p by shown in
+    let o = t.first in
+    let given = packets_in (opened_in o.given) in
+    let happened = subst (λ q. Happened (pair_state e q) opening o) (sym h.seen_here.partial) t.happened in
+    let are' = subst (λ (n : Node). All (IsMessage n.own) messages) (sym h.seen_here.node) are in
+    let steps = turn_stepped x h.there b e t.put opening o messages t.put_frames answer h.partners (only_end x v b e h.seen_here only) (reached_in v w b opening h c) showable showable' are' happened t.puts in
+    seen_by v v' w b x'.link frames messages given x'.begun h g
+    (subst (λ fs. StepsTo x h.there b x'.link fs messages given x'.begun) (sym t.frames_are)
+    (subst (λ (k : PairState). StepsTo x h.there b k.link (o.frames ++ (t.put_frames ++ answers_by answer t.put)) messages given k.begun) (sym t.after) steps))
+
+-- What is given with what was given before it in the contact of the node: nothing is given, or the node was and is in it.
+given_before : (x y after : Partner) (b : ℕ) (e d : LinkEnd) (frames : List Outgoing) (given : List (List ℕ)) (partial : Joining) → ArePartners x y → HasEnd x.view b e → Stepped x y after b d frames [] given partial → (given ≡ []) ⊎ StaysUp e d
+    → IsPrefixOf (x.given x.view.node.contact x.view.node.seen ++ given) (y.put x.view.node.seen x.view.node.contact)
+given_before x y after b e d frames given partial h has st contact =
     let n = x.view.node in
-    let opens = subst (λ q. OpensTo (begun_after m.change q) m.outcome out last) (sym h.seen_here.partial) o in
-    let met = arrival_met x h.there b e es er p by shown out last h.partners (only_end x v b e h.seen_here only) (reached v w b es er p h c) showable opens in
-    let after = met.0.0 in
-    let all : IsPrefixOf (after.given n.contact n.seen) (h.there.put n.seen n.contact) = front_law after h.there (acts_all x h.there after h.partners met.0.1.acts) n.contact n.seen in
-    let given : after.given n.contact n.seen ≡ x.given n.contact n.seen ++ packets_in (opened_in out) = met.0.1.given_is n.contact n.seen ∙ put_here x.given n.contact n.seen (x.given n.contact n.seen ++ packets_in (opened_in out)) in
-    let here : IsPrefixOf (v.given n.contact n.seen ++ packets_in (opened_in out)) (w.put n.seen n.contact) =
-    subst (λ ms. IsPrefixOf (ms ++ packets_in (opened_in out)) (w.put n.seen n.contact)) (h.seen_here.given n.contact n.seen)
-    (subst (λ ms. IsPrefixOf (x.given n.contact n.seen ++ packets_in (opened_in out)) ms) (h.seen_there.put n.seen n.contact) (subst (λ ms. IsPrefixOf ms (h.there.put n.seen n.contact)) given all)) in
+    elim contact [
+      | inl none ↦ subst (λ ms. IsPrefixOf ms (y.put n.seen n.contact)) (sym (ap (λ ms. x.given n.contact n.seen ++ ms) none ∙ append-nil (x.given n.contact n.seen))) (front_law x y h n.contact n.seen)
+      | inr stays ↦
+          let h' = acts_all x y after h st.acts in
+          let same = node_of_end x y after b e d h h' has st.end st.whose stays.contact stays.seen in
+          let came : after.given n.contact n.seen ≡ x.given n.contact n.seen ++ given =
+          st.given_is n.contact n.seen ∙ ap (λ (m : Node). more_in x.given m given n.contact n.seen) same ∙ put_here x.given n.contact n.seen (x.given n.contact n.seen ++ given) in
+          subst (λ ms. IsPrefixOf ms (y.put n.seen n.contact)) came (front_law after y h' n.contact n.seen)
+    ]
+
+pub gives : GivesSeen
+gives v w b e opening o h only c showable is =
+    let x = h.here in
+    let n = x.view.node in
+    let given = packets_in (opened_in o.given) in
+    let has = only_end x v b e h.seen_here only in
+    let opens = opening_stepped x h.there b e opening o h.partners has (reached_in v w b opening h c) showable (subst (λ q. Happened (pair_state e q) opening o) (sym h.seen_here.partial) is) in
+    let contact : (given ≡ []) ⊎ StaysUp e o.pair.link = elim opens.2 [ inl none ↦ inl (ap packets_in none) | inr stays ↦ inr stays ] in
+    let front = given_before x h.there opens.0.0 b e o.pair.link o.frames given o.pair.begun h.partners has opens.0.1 contact in
+    let seen : IsPrefixOf (v.given n.contact n.seen ++ given) (w.put n.seen n.contact) =
+    subst (λ ms. IsPrefixOf (ms ++ given) (w.put n.seen n.contact)) (h.seen_here.given n.contact n.seen) (subst (IsPrefixOf (x.given n.contact n.seen ++ given)) (h.seen_there.put n.seen n.contact) front) in
     record {
-      whole = met.1;
-      front = subst (λ (k : Node). IsPrefixOf (v.given k.contact k.seen ++ packets_in (opened_in out)) (w.put k.seen k.contact)) h.seen_here.node here;
-      contact = met.2;
+      whole = opens.1;
+      front = subst (λ (k : Node). IsPrefixOf (v.given k.contact k.seen ++ given) (w.put k.seen k.contact)) h.seen_here.node seen;
+      contact = opens.2;
     }
 
 -- ---- what holds of both

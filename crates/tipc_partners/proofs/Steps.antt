@@ -5,7 +5,7 @@ use Rattle.tipc_fragments.specs.Joining.{Joining}
 use Rattle.tipc_link.specs.Links.{LinkEnd, with_session}
 use Rattle.tipc_link.specs.Sessions.{SessionEnd}
 use Rattle.tipc_link.proofs.LinkLaw.{Each, Each-append}
-use Rattle.tipc_partners.proofs.Contacts.{by_contact, put_else, put_here}
+use Rattle.tipc_partners.proofs.Contacts.{by_contact, more_twice, put_else, put_here}
 use Rattle.tipc_partners.proofs.Later.{IsLater, later_still, told_front, told_now}
 use Rattle.tipc_partners.proofs.PartnersLaw.{acts_then}
 use Rattle.tipc_partners.proofs.Tellings.{told_longer}
@@ -19,16 +19,20 @@ pub record IsSaid (x after : View) (bearer : ℕ) (o : Outgoing) : Type 0 where
   pub told : IsToldOn (length x.told) after bearer o
   pub contact : IsNotice o ⊎ ((told.frame.contact ≡ after.node.contact) × (told.frame.peer_contact ≡ after.node.seen))
 
+-- what comes to the messages of a contact, under the contact numbers of the node
+abbrev pub more_in : (ℕ → ℕ → List (List ℕ)) → Node → List (List ℕ) → ℕ → ℕ → List (List ℕ)
+more_in f n more = put_in f n.contact n.seen (f n.contact n.seen ++ more)
+
 -- By deeds of x, the link end on the bearer became e, and these frames were told. These messages were put, and these given, in the contact
--- of before, and this message is begun. Nothing was numbered but in the session of the end.
+-- whose numbers the node has after them, and this message is begun. Nothing was numbered but in the session of the end.
 pub record Stepped (x y after : Partner) (bearer : ℕ) (e : LinkEnd) (frames : List Outgoing) (put given : List (List ℕ)) (partial : Joining) : Type 0 where
   pub acts : ActsAll x y after
   pub end : HasEnd after.view bearer e
   pub whose : IsSameNode x.view.node after.view.node
   pub said : Each (IsSaid x.view after.view bearer) frames
   pub line : (b epoch : ℕ) → ((s : SessionEnd) → e.session ≡ Some s → b ≡ bearer → s.epoch ≢ epoch) → (after.view.wires b).line epoch ≡ (x.view.wires b).line epoch
-  pub put_is : (own theirs : ℕ) → after.put own theirs ≡ put_more x put own theirs
-  pub given_is : (own theirs : ℕ) → after.given own theirs ≡ given_more x given own theirs
+  pub put_is : (own theirs : ℕ) → after.put own theirs ≡ more_in x.put after.view.node put own theirs
+  pub given_is : (own theirs : ℕ) → after.given own theirs ≡ more_in x.given after.view.node given own theirs
   pub partial_is : after.partial ≡ partial
 
 -- ---- one part of a call
@@ -37,10 +41,10 @@ same_node : (n m : Node) → m ≡ n → IsSameNode n m
 same_node n m same = record { own = ap (λ (k : Node). k.own) same; peer = ap (λ (k : Node). k.peer) same; boot = ap (λ (k : Node). k.boot) same }
 
 -- nothing came to the messages
-pub more_none : (f g : ℕ → ℕ → List (List ℕ)) (own theirs : ℕ) → g ≡ f → (k l : ℕ) → g k l ≡ put_in f own theirs (f own theirs ++ []) k l
-more_none f g own theirs same = by_contact own theirs (λ k l. g k l ≡ put_in f own theirs (f own theirs ++ []) k l)
-    (ap (λ (h : ℕ → ℕ → List (List ℕ)). h own theirs) same ∙ sym (append-nil (f own theirs)) ∙ sym (put_here f own theirs (f own theirs ++ [])))
-    (λ k l other. ap (λ (h : ℕ → ℕ → List (List ℕ)). h k l) same ∙ sym (put_else f own theirs (f own theirs ++ []) k l other))
+pub more_none : (f g : ℕ → ℕ → List (List ℕ)) (n : Node) → g ≡ f → (k l : ℕ) → g k l ≡ more_in f n [] k l
+more_none f g n same = by_contact n.contact n.seen (λ k l. g k l ≡ more_in f n [] k l)
+    (ap (λ (h : ℕ → ℕ → List (List ℕ)). h n.contact n.seen) same ∙ sym (append-nil (f n.contact n.seen)) ∙ sym (put_here f n.contact n.seen (f n.contact n.seen ++ [])))
+    (λ k l other. ap (λ (h : ℕ → ℕ → List (List ℕ)). h k l) same ∙ sym (put_else f n.contact n.seen (f n.contact n.seen ++ []) k l other))
 
 -- a frame that was told under the same contact numbers
 said_still : (x y after : Partner) (b : ℕ) (o : Outgoing) → ArePartners x y → ActsAll x y after → after.view.node ≡ x.view.node → IsToldOn (length x.view.told) after.view b o → IsSaid x.view after.view b o
@@ -63,8 +67,8 @@ became_stepped x y after b e frames partial p h = record {
   whose = h.whose;
   said = said_became x y after b e frames partial p h;
   line = λ c epoch apart. h.line c epoch;
-  put_is = more_none x.put after.put x.view.node.contact x.view.node.seen h.put;
-  given_is = more_none x.given after.given x.view.node.contact x.view.node.seen h.given;
+  put_is = more_none x.put after.put after.view.node h.put;
+  given_is = more_none x.given after.given after.view.node h.given;
   partial_is = h.partial_is;
 }
 
@@ -77,8 +81,8 @@ did_stepped x y after b d e s frames put given partial p has h put_is given_is p
   whose = same_node x.view.node after.view.node h.node;
   said = λ k o there. said_still x y after b o p h.acts h.node (h.told k o there);
   line = λ c epoch apart. h.keeps.line c epoch (λ here is. apart s refl here is);
-  put_is = put_is;
-  given_is = given_is;
+  put_is = λ own theirs. put_is own theirs ∙ ap (λ (n : Node). more_in x.put n put own theirs) (sym h.node);
+  given_is = λ own theirs. given_is own theirs ∙ ap (λ (n : Node). more_in x.given n given own theirs) (sym h.node);
   partial_is = partial_is;
 }
 
@@ -90,22 +94,9 @@ still_stepped x y b e has = record {
   whose = record { own = refl; peer = refl; boot = refl };
   said = λ k o there. absurd (let none : ⊥ = cc in none);
   line = λ c epoch apart. refl;
-  put_is = more_none x.put x.put x.view.node.contact x.view.node.seen refl;
-  given_is = more_none x.given x.given x.view.node.contact x.view.node.seen refl;
+  put_is = more_none x.put x.put x.view.node refl;
+  given_is = more_none x.given x.given x.view.node refl;
   partial_is = refl;
-}
-
--- fewer frames are told, too
-pub fewer_stepped : (x y after : Partner) (b : ℕ) (e : LinkEnd) (frames : List Outgoing) (put given : List (List ℕ)) (partial : Joining) → Stepped x y after b e frames put given partial → Stepped x y after b e [] put given partial
-fewer_stepped x y after b e frames put given partial h = record {
-  acts = h.acts;
-  end = h.end;
-  whose = h.whose;
-  said = λ k o there. absurd (let none : ⊥ = cc in none);
-  line = h.line;
-  put_is = h.put_is;
-  given_is = h.given_is;
-  partial_is = h.partial_is;
 }
 
 -- ---- one part behind another
@@ -155,41 +146,17 @@ pub onward_lines : (x mid : View) (b : ℕ) (d e : LinkEnd) → ((c epoch : ℕ)
     → (c epoch : ℕ) → ((s : SessionEnd) → e.session ≡ Some s → c ≡ b → s.epoch ≢ epoch) → (mid.wires c).line epoch ≡ (x.wires c).line epoch
 onward_lines x mid b d e first onward c epoch apart = first c epoch (λ s is here same. (let next = onward s is in apart next.0 next.1 here (next.2 ∙ same)))
 
--- what came to a contact, when nothing more came
-more_then : (f g h : ℕ → ℕ → List (List ℕ)) (own theirs own' theirs' : ℕ) (more : List (List ℕ)) → ((k l : ℕ) → g k l ≡ put_in f own theirs (f own theirs ++ more) k l)
-    → ((k l : ℕ) → h k l ≡ put_in g own' theirs' (g own' theirs' ++ []) k l) → (k l : ℕ) → h k l ≡ put_in f own theirs (f own theirs ++ more) k l
-more_then f g h own theirs own' theirs' more first second k l =
-    second k l ∙ by_contact own' theirs' (λ k l. put_in g own' theirs' (g own' theirs' ++ []) k l ≡ g k l)
-    (put_here g own' theirs' (g own' theirs' ++ []) ∙ append-nil (g own' theirs')) (λ k l other. put_else g own' theirs' (g own' theirs' ++ []) k l other) k l ∙ first k l
-
--- The first part, which numbered nothing but in the session of the end that comes, and then one that puts and gives nothing more, and leaves
--- the contact numbers as they are.
-pub then_stepped : (x y mid after : Partner) (b : ℕ) (d e : LinkEnd) (first second : List Outgoing) (put given : List (List ℕ)) (partial last : Joining) → Stepped x y mid b d first put given partial → Stepped mid y after b e second [] [] last
+-- The first part, which numbered nothing but in the session of the end that comes, and then one that leaves the contact numbers.
+pub then_stepped : (x y mid after : Partner) (b : ℕ) (d e : LinkEnd) (first second : List Outgoing) (put put' given given' : List (List ℕ)) (partial last : Joining) → Stepped x y mid b d first put given partial → Stepped mid y after b e second put' given' last
     → after.view.node ≡ mid.view.node → ((c epoch : ℕ) → ((s : SessionEnd) → e.session ≡ Some s → c ≡ b → s.epoch ≢ epoch) → (mid.view.wires c).line epoch ≡ (x.view.wires c).line epoch)
-    → Stepped x y after b e (first ++ second) put given last
-then_stepped x y mid after b d e first second put given partial last h k same lines = record {
+    → Stepped x y after b e (first ++ second) (put ++ put') (given ++ given') last
+then_stepped x y mid after b d e first second put put' given given' partial last h k same lines = record {
   acts = acts_then x y mid after h.acts k.acts;
   end = k.end;
   whose = record { own = k.whose.own ∙ h.whose.own; peer = k.whose.peer ∙ h.whose.peer; boot = k.whose.boot ∙ h.whose.boot };
   said = Each-append (IsSaid x.view after.view b) first second (λ i o is. said_on x y mid after b o k.acts same (h.said i o is)) (λ i o is. said_since x y mid after b o h.acts (k.said i o is));
   line = λ c epoch apart. k.line c epoch apart ∙ lines c epoch apart;
-  put_is = more_then x.put mid.put after.put x.view.node.contact x.view.node.seen mid.view.node.contact mid.view.node.seen put h.put_is k.put_is;
-  given_is = more_then x.given mid.given after.given x.view.node.contact x.view.node.seen mid.view.node.contact mid.view.node.seen given h.given_is k.given_is;
-  partial_is = k.partial_is;
-}
-
--- a part that puts and gives nothing and leaves the contact numbers, and then another
-pub stepped_then : (x y mid after : Partner) (b : ℕ) (d e : LinkEnd) (first second : List Outgoing) (put given : List (List ℕ)) (partial last : Joining) → Became x y mid b d first partial → Each (IsSaid x.view mid.view b) first
-    → Stepped mid y after b e second put given last → mid.view.node ≡ x.view.node → after.view.node ≡ mid.view.node → Stepped x y after b e (first ++ second) put given last
-stepped_then x y mid after b d e first second put given partial last h said k same same' = record {
-  acts = acts_then x y mid after h.acts k.acts;
-  end = k.end;
-  whose = record { own = k.whose.own ∙ h.whose.own; peer = k.whose.peer ∙ h.whose.peer; boot = k.whose.boot ∙ h.whose.boot };
-  said = Each-append (IsSaid x.view after.view b) first second (λ i o is. said_on x y mid after b o k.acts same' (said i o is)) (λ i o is. said_since x y mid after b o h.acts (k.said i o is));
-  line = λ c epoch apart. k.line c epoch apart ∙ h.line c epoch;
-  put_is = λ own theirs. k.put_is own theirs ∙ ap (λ (n : Node). put_in mid.put n.contact n.seen (mid.put n.contact n.seen ++ put) own theirs) same
-      ∙ ap (λ (f : ℕ → ℕ → List (List ℕ)). put_in f x.view.node.contact x.view.node.seen (f x.view.node.contact x.view.node.seen ++ put) own theirs) h.put;
-  given_is = λ own theirs. k.given_is own theirs ∙ ap (λ (n : Node). put_in mid.given n.contact n.seen (mid.given n.contact n.seen ++ given) own theirs) same
-      ∙ ap (λ (f : ℕ → ℕ → List (List ℕ)). put_in f x.view.node.contact x.view.node.seen (f x.view.node.contact x.view.node.seen ++ given) own theirs) h.given;
+  put_is = more_twice x.put mid.put after.put after.view.node.contact after.view.node.seen put put' (λ own theirs. h.put_is own theirs ∙ ap (λ (n : Node). more_in x.put n put own theirs) (sym same)) k.put_is;
+  given_is = more_twice x.given mid.given after.given after.view.node.contact after.view.node.seen given given' (λ own theirs. h.given_is own theirs ∙ ap (λ (n : Node). more_in x.given n given own theirs) (sym same)) k.given_is;
   partial_is = k.partial_is;
 }

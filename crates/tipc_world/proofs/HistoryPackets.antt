@@ -30,8 +30,7 @@ use Rattle.tipc_pair.specs.Pairs.{Met}
 use Rattle.tipc_pair.specs.Partners.{IsInContact, opened_in}
 use Rattle.tipc_partners.specs.Sights.{Sight, come}
 use Rattle.tipc_world.specs.Deeds.{Hears, Puts}
-use Rattle.tipc_world.specs.Members.{bytes_of}
-use Rattle.tipc_world.specs.Sound.{IsSendable}
+use Rattle.tipc_node.specs.Turns.{IsSendable, bytes_of}
 use Rattle.tipc_world.specs.States.{MemberState, history, stream_of}
 use Rattle.tipc_world.specs.Views.{given_in, put_in}
 use Rattle.std.specs.Prelude.{option_to_list}

@@ -41,7 +41,8 @@ use Rattle.tipc_node.specs.declared.neighbours.Neighbour.{Neighbour}
 use Rattle.tipc_node.specs.declared.arriving.Delivery.{Delivery}
 use Rattle.tipc_node.specs.Nodes.{accepted_entry, arrival_answer, arrival_deliveries, change_entries, delivered_by, deliveries_of, delivery_of, entries_in, message_in, shown_contact, step_of}
 use Rattle.tipc_world.specs.declared.air.Sent.{Sent}
-use Rattle.tipc_world.specs.Causes.{arrived_frame, BringsUp, IsNumberOf, IsTakenFrom, IsTakenIn, Seen}
+use Rattle.tipc_node.specs.Turns.{IsTakenIn}
+use Rattle.tipc_world.specs.Causes.{arrived_frame, BringsUp, IsNumberOf, IsTakenFrom, Seen}
 use Rattle.std.specs.Prelude.{All}
 use Rattle.std.proofs.lemmas.List.Elements.{All-head, All-tail}
 use Rattle.tipc_world.specs.Lawful.{after, IsLawful, IsLawfulEntry}

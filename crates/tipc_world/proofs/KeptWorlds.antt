@@ -34,10 +34,11 @@ use Rattle.tipc_world.specs.Calls.{CanHappenAt, node_of}
 use Rattle.tipc_world.specs.Deeds.{Arrives, Does, Hears, Puts, Sends}
 use Rattle.tipc_world.specs.Due.{frame_for, kept_for, unarrived}
 use Rattle.tipc_world.specs.Events.{JoinsAt}
-use Rattle.tipc_world.specs.Causes.{arrived_frame, Seen, IsTakenIn}
+use Rattle.tipc_node.specs.Turns.{IsTakenIn, link_in}
+use Rattle.tipc_world.specs.Causes.{arrived_frame, Seen}
 use Rattle.tipc_world.specs.Members.{by_in, deed_member, heard_member, known_member, receive_member, refused_member, sent_member, socket_member, stopped_member, IsNewcomer, IsRestarted}
 use Rattle.tipc_world.specs.Sound.{IsSound}
-use Rattle.tipc_world.specs.States.{MemberState, link_in, member_at}
+use Rattle.tipc_world.specs.States.{MemberState, member_at}
 use Rattle.tipc_world.specs.Steps.{Becomes, Happens, IsArrival, Stage, Turns}
 use Rattle.tipc_world.specs.Watched.{AreWatched, IsWatched}
 use Rattle.tipc_world.proofs.Growing.{prefix_same}

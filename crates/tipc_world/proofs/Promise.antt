@@ -9,8 +9,8 @@ use Rattle.tipc_link.proofs.LinkLaw.{Each}
 use Rattle.tipc_partners.proofs.Sights.{front}
 use Rattle.tipc_world.specs.declared.air.Sent.{Sent}
 use Rattle.tipc_world.specs.Good.{IsGood}
-use Rattle.tipc_world.specs.Members.{bytes_of}
-use Rattle.tipc_world.specs.Sound.{IsSendable, IsSound}
+use Rattle.tipc_node.specs.Turns.{IsSendable, bytes_of}
+use Rattle.tipc_world.specs.Sound.{IsSound}
 use Rattle.tipc_world.specs.States.{MemberState, WorldState, accepted_at, delivered_at}
 use Rattle.tipc_world.specs.Views.{sight_at}
 use Rattle.tipc_world.specs.Watched.{AreWatched}

@@ -11,7 +11,8 @@ use Rattle.tipc_node.specs.declared.neighbours.Neighbour.{Neighbour}
 use Rattle.tipc_node.specs.Neighbours.{done}
 use Rattle.tipc_node.specs.Nodes.{frames_all, frames_one}
 use Rattle.tipc_world.specs.declared.air.Sent.{Sent}
-use Rattle.tipc_world.specs.Air.{Leaves, airborne, is_to}
+use Rattle.tipc_node.specs.Turns.{is_to}
+use Rattle.tipc_world.specs.Air.{Leaves, airborne}
 use Rattle.tipc_world.specs.Sound.{IsAirborne, IsNumber}
 use Rattle.tipc_world.specs.States.{MemberState}
 use Rattle.tipc_world.proofs.Addressing.{AreFor}

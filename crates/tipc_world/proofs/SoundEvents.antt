@@ -22,7 +22,8 @@ use Rattle.tipc_world.specs.Calls.{node_of}
 use Rattle.tipc_world.specs.Deeds.{Arrives, Does, Hears, Puts, Sends, TakesPart}
 use Rattle.tipc_world.specs.Members.{IsRestarted, heard_member, known_member, receive_member, refused_member, sent_member, socket_member, stopped_member}
 use Rattle.tipc_world.specs.Sound.{IsNumber, IsSound}
-use Rattle.tipc_world.specs.States.{MemberState, link_at, link_in, member_at}
+use Rattle.tipc_node.specs.Turns.{link_in}
+use Rattle.tipc_world.specs.States.{MemberState, link_at, member_at}
 use Rattle.tipc_world.specs.Steps.{Happens, Stage, Turns}
 use Rattle.tipc_world.proofs.Addressing.{AreFor, flush_for, heard_all_for}
 use Rattle.tipc_world.proofs.HistoryPackets.{Brings}

@@ -21,7 +21,8 @@ use Rattle.tipc_world.specs.declared.events.WorldEvent.{WorldEvent}
 use Rattle.tipc_world.specs.declared.events.WorldEvent.TheVariants.{Know, Mend, Cut, Tick, Restart, Socket, SendPort, Receive, Arrive}
 use Rattle.tipc_world.specs.Deeds.{Arrives, Does, Hears, Puts, Sends}
 use Rattle.tipc_world.specs.Members.{IsNewcomer}
-use Rattle.tipc_world.specs.Sound.{IsNumber, IsSendable, IsSound}
+use Rattle.tipc_node.specs.Turns.{IsSendable}
+use Rattle.tipc_world.specs.Sound.{IsNumber, IsSound}
 use Rattle.tipc_pair.specs.Partners.{opened_in}
 use Rattle.tipc_world.specs.States.{MemberState, WorldState, accepted_at, delivered_at, history, history_at, link_at, member_at, stream_of}
 use Rattle.tipc_world.specs.Steps.{Happens, IsJoined, Stage}

@@ -22,7 +22,8 @@ use Rattle.tipc_reassembly.specs.Slots.{Fragment, Group, IsSlot, Slot, slot_byte
 use Rattle.tipc_partners.specs.Sights.{AreSeen}
 use Rattle.tipc_partners.proofs.Sights.{frames, truths}
 use Rattle.tipc_world.specs.declared.air.Sent.{Sent}
-use Rattle.tipc_world.specs.Air.{as_frame, is_to, sent_between}
+use Rattle.tipc_node.specs.Turns.{is_to}
+use Rattle.tipc_world.specs.Air.{as_frame, sent_between}
 use Rattle.tipc_world.specs.Good.{IsTrue, SpeaksTruth}
 use Rattle.tipc_world.specs.Sound.{IsSound}
 use Rattle.tipc_world.specs.States.{MemberState, accepted_at, delivered_at}

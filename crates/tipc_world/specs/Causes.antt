@@ -6,7 +6,6 @@ use Rattle.tipc_types.specs.declared.link_words.Cause.TheVariants as cause
 use Rattle.tipc_types.specs.declared.link_words.LinkState.{LinkState}
 use Rattle.tipc_types.specs.declared.node_calls.Answer.TheVariants as answer
 use Rattle.tipc_types.specs.declared.node_calls.Arrival.{Arrival}
-use Rattle.tipc_types.specs.declared.node_calls.Arrival.TheVariants as arrival
 use Rattle.tipc_types.specs.declared.node_calls.EventNote.{EventNote}
 use Rattle.tipc_types.specs.declared.node_calls.EventNote.TheVariants as event
 use Rattle.tipc_header.specs.declared.packet.Header.{Header}
@@ -16,6 +15,7 @@ use Rattle.tipc_header.specs.Grammar.{Fits}
 use Rattle.tipc_header.specs.Spelling.{Fields, spelling}
 use Rattle.tipc_journal.specs.declared.entries.Entry.TheVariants as entry
 use Rattle.tipc_journal.specs.Steps.{NodeStep, PlacedStep}
+use Rattle.tipc_node.specs.Turns.{IsTakenIn}
 use Rattle.tipc_world.specs.declared.air.Arrived.{Arrived}
 use Rattle.tipc_world.specs.declared.air.Sent.{Sent}
 
@@ -86,12 +86,6 @@ pub record BringsUp (s : NodeStep) (peer : Addr) : Type 0 where
   pub own : ℕ
   pub theirs : ℕ
   pub entry_is : slice_get s.inside place ≡ Some (entry.LinkUp peer 0 own theirs)
-
--- what an arrival answers that is of the link's session: its packet was taken, or waits until those before it were taken
-abbrev pub IsTakenIn : Arrival → Type 0
-IsTakenIn (arrival.Took messages) = Unit {0}
-IsTakenIn arrival.Deferred = Unit {0}
-IsTakenIn (arrival.Ignored reason) = ⊥
 
 -- a step is the arrival of a frame of the peer that the link took
 pub record IsTakenFrom (seen : Seen) (s : NodeStep) (peer : Addr) : Type 0 where

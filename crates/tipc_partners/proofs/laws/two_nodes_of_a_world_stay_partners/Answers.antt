@@ -1,4 +1,4 @@
-use Rattle.tipc_partners.proofs.Sights.{arrives, cuts, knows, mends, puts, restarted, starts, ticks, turned}
+use Rattle.tipc_partners.proofs.Sights.{knows, restarted, starts, turned, turns}
 use Rattle.tipc_partners.proofs.laws.two_nodes_of_a_world_stay_partners.Goals as goal
 
 pub returns-clause-starts : goal.returns-clause-starts
@@ -13,17 +13,5 @@ returns-clause-restarts c = restarted
 pub returns-clause-knows : goal.returns-clause-knows
 returns-clause-knows c = knows
 
-pub returns-clause-mends : goal.returns-clause-mends
-returns-clause-mends c = mends
-
-pub returns-clause-cuts : goal.returns-clause-cuts
-returns-clause-cuts c = cuts
-
-pub returns-clause-ticks : goal.returns-clause-ticks
-returns-clause-ticks c = ticks
-
-pub returns-clause-puts : goal.returns-clause-puts
-returns-clause-puts c = puts
-
-pub returns-clause-arrives : goal.returns-clause-arrives
-returns-clause-arrives c = arrives
+pub returns-clause-turns : goal.returns-clause-turns
+returns-clause-turns c = turns
