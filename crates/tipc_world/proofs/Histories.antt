@@ -197,11 +197,3 @@ pub delivered_grows : (old new : List Entry) (s : NodeStep) (b : ℕ) (es : List
 delivered_grows old new s b es own theirs flow is of_peer =
     let x = stream_of b own theirs flow in
     ap (λ l. delivered l x) is ∙ delivered_step old s x ∙ ap (λ ms. delivered old x ++ ms) (sym (delivered_here b own theirs flow s.inside) ∙ ap (λ l. delivered l x) of_peer)
-
--- nothing came to any stream
-pub record KeepsStreams (old new : List Entry) : Type 0 where
-  pub accepted_same : (s : Stream) → accepted new s ≡ accepted old s
-  pub delivered_same : (s : Stream) → delivered new s ≡ delivered old s
-
-pub same_streams : (old new : List Entry) → new ≡ old → KeepsStreams old new
-same_streams old new same = record { accepted_same = λ s. ap (λ es. accepted es s) same; delivered_same = λ s. ap (λ es. delivered es s) same }

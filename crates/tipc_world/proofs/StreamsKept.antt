@@ -1,7 +1,7 @@
 -- What a sound world says of the messages that were accepted and delivered, after each event.
 use Rattle.std.specs.Prelude.{is_some}
-use Rattle.std.proofs.Common.{◌≡◌, ◌≢◌, ◌⊎◌, ◌≤◌, ℕ, Bool, true, false, List, [], ◌∷◌, ◌++◌, Option, Some, None, inl, inr, option_map, slice_get, slice_index_or, slice_set, refl, sym, ap, subst, ◌∙◌, append-nil, arith}
-use Rattle.std.proofs.lemmas.Bool.{cases_eq, cases_lt}
+use Rattle.std.proofs.Common.{◌≡◌, ◌≢◌, ◌⊎◌, ℕ, true, false, List, [], ◌++◌, Option, Some, None, inl, inr, slice_index_or, slice_set, refl, sym, ap, subst, ◌∙◌}
+use Rattle.std.proofs.lemmas.Bool.{cases_eq}
 use Rattle.tipc_types.specs.Address.{node_word}
 use Rattle.tipc_types.specs.declared.message_forms.Flow.{Flow}
 use Rattle.tipc_types.specs.declared.message_forms.Flow.TheVariants.{Zero}
@@ -12,13 +12,14 @@ use Rattle.tipc_journal.specs.Streams.{accepted, delivered}
 use Rattle.tipc_link.proofs.LinkLaw.{Each, Each-append}
 use Rattle.tipc_node.specs.declared.neighbours.Neighbour.{Neighbour}
 use Rattle.tipc_node.specs.Nodes.{neighbour_of}
-use Rattle.tipc_node.specs.Turns.{IsSendable, NodeTurn, origin_of}
+use Rattle.tipc_node.specs.Turns.{IsSendable, NodeTurn}
 use Rattle.tipc_world.specs.declared.air.Sent.{Sent}
 use Rattle.tipc_world.specs.Sound.{IsNumber, IsSound}
-use Rattle.tipc_world.specs.States.{MemberState, accepted_at, delivered_at, history, history_at, link_at, stream_of}
-use Rattle.tipc_world.proofs.Histories.{KeepsStreams}
-use Rattle.tipc_world.proofs.LookUps.{history_at-is, history_at-same, link_at-is, member_at-changed, member_at-is, member_at-other}
-use Rattle.tipc_world.proofs.TurnStreams.{AreBrought, Gains, IsOwn, turn_accepts, turn_delivers}
+use Rattle.tipc_world.specs.States.{MemberState, accepted_at, delivered_at, history, history_at, stream_of}
+use Rattle.tipc_world.specs.Steps.{stage}
+use Rattle.tipc_world.proofs.LookUps.{history_at-is, history_at-same, member_at-changed, member_at-is, member_at-other}
+use Rattle.tipc_world.proofs.Standing.{acquainted, neighbour_apart}
+use Rattle.tipc_world.proofs.TurnStreams.{AreBrought, IsOwn, turn_accepts, turn_delivers}
 
 -- what a sound world says of messages
 pub record StreamsSound (members : List (Option MemberState)) : Type 0 where
@@ -106,31 +107,15 @@ streams_same members members' a m m' h was is same =
 
 -- ---- a turn
 
--- a number is that of a node, or not
-number_or_not : (b : ℕ) → IsNumber b ⊎ (IsNumber b → ⊥)
-number_or_not b = elim (cases_lt b 1) [
-  | inl below ↦ inr (λ is. omega (arith, below, is.0))
-  | inr some ↦ elim (cases_lt 32 b) [ | inl above ↦ inr (λ is. omega (arith, above, is.1)) | inr within ↦ inl (some, within) ]
-]
-
 -- a neighbour of a node of a sound world is another node, and has a number
-pub neighbour_number : (members : List (Option MemberState)) (air : List Sent) (a b : ℕ) (m : MemberState) → IsSound members air → slice_index_or members a None ≡ Some m → is_some (neighbour_of m.node b) ≡ true → IsNumber b × (a ≢ b)
+neighbour_number : (members : List (Option MemberState)) (air : List Sent) (a b : ℕ) (m : MemberState) → IsSound members air → slice_index_or members a None ≡ Some m → is_some (neighbour_of m.node b) ≡ true → IsNumber b × (a ≢ b)
 neighbour_number members air a b m sound was there = case (neighbour_of m.node b) refl
   where
-    apart : (x : Neighbour) → link_at members a b ≡ Some x.pair.link → a ≢ b
-    apart x link same = (let none : link_at members a b ≡ None = subst (λ k. link_at members a k ≡ None) same (sound.apart a) in let wrong : None ≡ Some x.pair.link = sym none ∙ link in cc)
-
-    number : (x : Neighbour) → link_at members a b ≡ Some x.pair.link → IsNumber b
-    number x link = elim (number_or_not b) [
-      | inl is ↦ is
-      | inr isnt ↦ absurd (let none : link_at members a b ≡ None = sound.known a b (λ is. absurd (isnt is)) in let wrong : None ≡ Some x.pair.link = sym none ∙ link in cc)
-    ]
-
     case : (o : Option Neighbour) → neighbour_of m.node b ≡ o → IsNumber b × (a ≢ b)
     case None alone = absurd (let wrong : true ≡ false = sym there ∙ ap is_some alone in cc)
     case (Some x) is =
-        let link = link_at-is members a b m (member_at-is members a m was) ∙ ap (option_map (λ (y : Neighbour). y.pair.link)) is in
-        (number x link, apart x link)
+        let other = neighbour_apart (stage members air) a m (acquainted members air a m sound was) (member_at-is members a m was) b x is in
+        (other.0, λ same. other.1 (sym same))
 
 gained : {A : Type 0} (old new more : List A) → new ≡ old ++ more → old ≡ [] → more ≡ [] → new ≡ []
 gained old new more is none nothing = is ∙ ap (λ xs. xs ++ more) none ∙ nothing
