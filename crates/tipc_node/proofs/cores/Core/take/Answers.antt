@@ -5,14 +5,14 @@ use Rattle.tipc_journal.specs.Steps.{step_entries}
 use Rattle.tipc_types.specs.declared.node_calls.Answer.TheVariants.{Arrived}
 use Rattle.tipc_types.specs.declared.node_calls.EventNote.TheVariants.{Arrive}
 use Rattle.tipc_pair.specs.Partners.{opened_in}
-use Rattle.tipc_node.specs.contracts.nodes.Node.{the_view}
+use Rattle.tipc_node.specs.contracts.cores.Core.{the_view}
 use Rattle.tipc_node.specs.Neighbours.{met_by}
 use Rattle.tipc_node.specs.Nodes.{NodeState, arrival_answer, deliveries_of, inboxes_after, neighbour_of, step_of}
 use Rattle.tipc_node.proofs.Heard.{heard_kept, node_heard, same_neighbour, some_entries}
 use Rattle.tipc_node.proofs.Hearings.{told_contact, told_opens}
 use Rattle.tipc_node.proofs.Parts.{put_back}
 use Rattle.tipc_node.proofs.Refusals.{at_error, same_node}
-use Rattle.tipc_node.proofs.nodes.Node.take.Goals as goal
+use Rattle.tipc_node.proofs.cores.Core.take.Goals as goal
 
 pub returns-in_err-reserve-clause-err : goal.returns-in_err-reserve-clause-err
 returns-in_err-reserve-clause-err c =

@@ -4,12 +4,12 @@ use Rattle.tipc_journal.specs.Room.{JournalState}
 use Rattle.tipc_journal.specs.Steps.{step_entries}
 use Rattle.tipc_types.specs.declared.node_calls.Answer.TheVariants.{Arrived}
 use Rattle.tipc_types.specs.declared.node_calls.EventNote.TheVariants.{Arrive}
-use Rattle.tipc_node.specs.contracts.nodes.Node.{the_view}
+use Rattle.tipc_node.specs.contracts.cores.Core.{the_view}
 use Rattle.tipc_node.specs.Neighbours.{met_by, no_broadcast}
 use Rattle.tipc_node.specs.Nodes.{NodeState, neighbour_of, port_base, shown_contact, step_of}
 use Rattle.tipc_node.proofs.Heard.{no_answer, no_entries, no_inboxes, node_heard, same_neighbour}
 use Rattle.tipc_node.proofs.Quiet.{gives_nothing}
-use Rattle.tipc_node.proofs.nodes.Node.notice.Goals as goal
+use Rattle.tipc_node.proofs.cores.Core.notice.Goals as goal
 
 pub returns-clause-heard : goal.returns-clause-heard
 returns-clause-heard c = λ x is.
