@@ -10,3 +10,5 @@ pub mod Faults
 pub mod Quiet
 pub mod Deliveries
 pub mod Heard
+pub mod Keeping
+pub mod Stub

@@ -1,6 +1,6 @@
 //! The parts of a node, and what each call makes of them.
 
-ghost use Rattle.std.specs.Prelude.{◌≡◌, ℕ, ◌+◌, ◌<◌, ◌≤◌, [], true, false, None, Some, Err, length, slice_index_or, is_some, option_map, unwrap_or, IfErr, IfOk, IfSome, IfNone, OnErr, OnOk};
+ghost use Rattle.std.specs.Prelude.{◌≡◌, ℕ, ◌+◌, ◌<◌, ◌≤◌, List, [], true, false, None, Some, Err, length, slice_index_or, is_some, option_map, unwrap_or, IfErr, IfOk, IfSome, IfNone, OnErr, OnOk};
 ghost use Rattle.tipc_types.specs.Address.{node_word};
 ghost use Rattle.tipc_outside.specs.Frames.{Adds};
 ghost use Rattle.tipc_header.specs.Spelling.{view};
@@ -486,13 +486,13 @@ impl Core {
         requires there { is_some (neighbour_of self.old due.peer) ≡ true }
         ensures heard { (bytes : List ℕ) → IsDue self.old bytes due.entry.peer due.entry.first due.entry.second (view due.entry.packet) →
             IfOk result (λ a. (frames : List Outgoing)
-                × Hears self.old self.new by number bytes frames a × Adds out.old out.new frames) }
+            × Hears self.old self.new by number bytes frames a × Adds out.old out.new frames) }
         ensures room { OnOk result (has_room self.old.journal ≡ true) }
         ensures full { has_room self.old.journal ≡ false → result ≡ Err NodeFault.JournalFull }
         ensures only { result ≡ Err NodeFault.JournalFull → has_room self.old.journal ≡ false }
         ensures err { OnErr result ((self.new ≡ self.old) × (out.new ≡ out.old)) }
     {
-        if !self.has_room() {
+        if !has_room(&self.journal) {
             return Err(NodeFault::JournalFull);
         }
         let arrived = if shows_contact(&due.packet.header) {
@@ -518,7 +518,7 @@ impl Core {
         requires shows { shows_contact due.packet.header ≡ true }
         ensures heard { (bytes : List ℕ) → IsDue self.old bytes due.entry.peer due.entry.first due.entry.second (view due.entry.packet) →
             IfOk result (λ a. (frames : List Outgoing)
-                × Hears self.old self.new by number bytes frames a × Adds out.old out.new frames) }
+            × Hears self.old self.new by number bytes frames a × Adds out.old out.new frames) }
         ensures err { OnErr result ((self.new ≡ self.old) × (out.new ≡ out.old)) }
     {
         self.journal.reserve(4)?;
@@ -550,7 +550,7 @@ impl Core {
         requires plain { shows_contact due.packet.header ≡ false }
         ensures heard { (bytes : List ℕ) → IsDue self.old bytes due.entry.peer due.entry.first due.entry.second (view due.entry.packet) →
             IfOk result (λ a. (frames : List Outgoing)
-                × Hears self.old self.new by number bytes frames a × Adds out.old out.new frames) }
+            × Hears self.old self.new by number bytes frames a × Adds out.old out.new frames) }
         ensures err { OnErr result ((self.new ≡ self.old) × (out.new ≡ out.old)) }
     {
         let Some(neighbour) = &mut self.neighbours[due.peer as usize] else {
