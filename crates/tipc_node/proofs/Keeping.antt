@@ -9,19 +9,22 @@ use Rattle.tipc_types.specs.declared.node_calls.By.{By}
 use Rattle.tipc_types.specs.declared.node_calls.EventNote.{EventNote}
 use Rattle.tipc_types.specs.declared.node_calls.EventNote.TheVariants as event
 use Rattle.tipc_outside.specs.declared.outgoing.Outgoing.{Outgoing}
-use Rattle.tipc_outside.specs.Frames.{Adds, Out}
+use Rattle.tipc_outside.specs.Frames.{Out}
 use Rattle.tipc_journal.specs.declared.entries.Entry.{Entry}
+use Rattle.tipc_journal.specs.Contacts.{contact, up_epochs}
 use Rattle.tipc_link.specs.Links.{LinkEnd}
 use Rattle.tipc_node.specs.declared.neighbours.Neighbour.{Neighbour}
-use Rattle.tipc_node.specs.Calls.{Arrived, Arrives, CallTurn, CanPerform, Performed, Performs}
+use Rattle.tipc_node.specs.Calls.{Arrived, CallTurn, CanPerform, Performed}
 use Rattle.tipc_node.specs.Nodes.{NodeState, kept_answer, neighbour_of, step_of}
 use Rattle.tipc_node.specs.Telling.{IsTold, TellsOf}
 use Rattle.tipc_node.specs.Turns.{AreNamed, NodeTurn, addr_of, link_in}
+use Rattle.tipc_node.proofs.Doing.{IsDone, IsMet}
 use Rattle.tipc_node.proofs.Stub.{arrives_turn, performs_turn, turn_named, turn_told}
 
 -- ---- a node that knows nobody
 
 none_told : (p : ℕ) (link : Option LinkEnd) → link ≡ None → TellsOf [] p link
+unfolding contact up_epochs
 none_told p None is = record { contact_is = refl; epochs_are = refl; abreast = λ e has. absurd (let wrong : ⊥ = cc in wrong) }
 none_told p (Some e) is = absurd cc
 
@@ -39,10 +42,6 @@ new_named n alone b x is = absurd (let none = alone b in let wrong : ⊥ = cc in
 -- both facts of a node
 abbrev pub IsKept : NodeState → Type 0
 IsKept n = IsTold n × AreNamed n
-
--- a call was performed at the node's parts, and these frames left
-abbrev pub IsDone : NodeState → By → EventNote → NodeState → Out → Out → Answer → Type 0
-IsDone n by call n' box box' answered = (frames : List Outgoing) × Performs n by call n' frames answered × Adds box box' frames
 
 call_turned : (n n' : NodeState) (by : By) (note : EventNote) (bytes : List ℕ) (kept : Answer) (frames : List Outgoing) → IsKept n
     → ((inside : List Entry) × NodeTurn n n' bytes (step_of by note inside kept) frames) → CallTurn n n' by note bytes kept frames
@@ -70,10 +69,6 @@ call_kept n n' by call box box' (Ok a) held can done same =
 call_kept n n' by call box box' (Err e) held can done same = subst IsKept (sym same.0) held
 
 -- ---- an arrival
-
--- a frame arrived at the node's parts, and these frames left
-abbrev pub IsMet : NodeState → By → ℕ → ℕ → List ℕ → NodeState → Out → Out → Arrival → Type 0
-IsMet n by bearer number bytes n' box box' answered = (frames : List Outgoing) × Arrives n n' by bearer number bytes frames answered × Adds box box' frames
 
 arrived_by : (n n' : NodeState) (by : By) (bearer number : ℕ) (bytes : List ℕ) (box box' : Out) (answered : Arrival) → IsKept n → IsMet n by bearer number bytes n' box box' answered
     → Arrived n by bearer number bytes n' box box' answered

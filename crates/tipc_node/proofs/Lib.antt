@@ -10,5 +10,6 @@ pub mod Faults
 pub mod Quiet
 pub mod Deliveries
 pub mod Heard
+pub mod Doing
 pub mod Keeping
 pub mod Stub
