@@ -27,12 +27,16 @@ IsSend n by port to importance body n' box box' answered = (frames : List Outgoi
 
 pub refused_send : (n n' : NodeState) (by : By) (port : ℕ) (to : PortId) (importance : Importance) (body : List ℕ) (box : Out) (peer : ℕ) (why : Answer) → to.node.word ≡ node_word peer
     → refusal n port peer (limit_of importance) body ≡ Some why → n' ≡ recorded n by (event.SendPort port to importance body) [] why → IsSend n by port to importance body n' box box why
-refused_send n n' by port to importance body box peer why named refused after = ([], record {
-  peer = peer;
-  named = named;
-  refused = λ reason is. (let same : why ≡ reason = (let both : Some why ≡ Some reason = sym refused ∙ is in cc) in (after ∙ ap (recorded n by (event.SendPort port to importance body) []) same, refl, same));
-  sent = λ none. absurd (let wrong : Some why ≡ None = sym refused ∙ none in cc);
-}, adds_none box)
+refused_send n n' by port to importance body box peer why named refused after = (
+  [],
+  record {
+    peer = peer;
+    named = named;
+    refused = λ reason is. (let same : why ≡ reason = (let both : Some why ≡ Some reason = sym refused ∙ is in cc) in (after ∙ ap (recorded n by (event.SendPort port to importance body) []) same, refl, same));
+    sent = λ none. absurd (let wrong : Some why ≡ None = sym refused ∙ none in cc);
+  },
+  adds_none box,
+)
 
 -- ---- a call
 
@@ -52,10 +56,14 @@ stopped_met n n' by bearer number bytes box why r stopped ok =
     IfOk-weaker r (λ a. (a ≡ arrival.Ignored why) × (n' ≡ stopped_node n by bearer number why) × (has_room n.journal ≡ true)) (IsMet n by bearer number bytes n' box box) met ok
   where
     met : (a : Arrival) → (a ≡ arrival.Ignored why) × (n' ≡ stopped_node n by bearer number why) × (has_room n.journal ≡ true) → IsMet n by bearer number bytes n' box box a
-    met a h = ([], record {
-      stopped = λ reason is. (let same : why ≡ reason = (let both : Some why ≡ Some reason = sym stopped ∙ is in cc) in (h.1 ∙ ap (stopped_node n by bearer number) same, refl, h.0 ∙ ap arrival.Ignored same));
-      heard = λ none. absurd (let wrong : Some why ≡ None = sym stopped ∙ none in cc);
-    }, adds_none box)
+    met a h = (
+      [],
+      record {
+        stopped = λ reason is. (let same : why ≡ reason = (let both : Some why ≡ Some reason = sym stopped ∙ is in cc) in (h.1 ∙ ap (stopped_node n by bearer number) same, refl, h.0 ∙ ap arrival.Ignored same));
+        heard = λ none. absurd (let wrong : Some why ≡ None = sym stopped ∙ none in cc);
+      },
+      adds_none box,
+    )
 
 pub heard_met : {E : Type 0} (n n' : NodeState) (by : By) (bearer number : ℕ) (bytes : List ℕ) (box box' : Out) (r : Result Arrival E) → stop_of n bearer bytes ≡ None
     → IfOk r (IsHeard n n' box box' by number bytes) → IfOk r (IsMet n by bearer number bytes n' box box')

@@ -57,28 +57,32 @@ pub record IsSender (n : NodeState) (bytes : List ℕ) (peer first second : ℕ)
 made_heard : (n : NodeState) (boxes : List (List Message)) (es : List Entry) (box box' : Out) (by : By) (number peer first second : ℕ) (bytes : List ℕ) (y after : Neighbour) (p : Fields) (answered : Arrival) (inside : List Entry) (out : PairOutcome) (last : Joining)
     → IsSender n bytes peer first second y p → IsMade n boxes box box' number peer first second y after p answered inside out last → es ≡ told n by number inside answered
     → IsHeard n (the_node n (slice_set n.neighbours peer (Some after)) boxes es) box box' by number bytes answered
-made_heard n boxes es box box' by number peer first second bytes y after p answered inside out last from h is = (heard_frames y p (met_by y first second p number), record {
-  peer = peer;
-  first = first;
-  second = second;
-  packet = p;
-  due = from.due;
-  neighbour = y;
-  was = from.was;
-  met = met_by y first second p number;
-  met_is = refl;
-  out = out;
-  last = last;
-  opens = h.opens;
-  after =
-      ap (λ a. the_node n (slice_set n.neighbours peer (Some a)) boxes es) h.after_is
-      ∙ ap (λ b. the_node n (slice_set n.neighbours peer (Some (heard_neighbour y p (met_by y first second p number) last))) b es) h.inboxes
-      ∙ ap (λ e. the_node n (slice_set n.neighbours peer (Some (heard_neighbour y p (met_by y first second p number) last))) (inboxes_after (port_base n.boot) n.inboxes (arrival_deliveries peer (met_by y first second p number).after out)) e)
-      (is ∙ ap (λ i. told n by number i answered) h.inside_is
-      ∙ ap (told n by number (change_entries peer (met_by y first second p number).change ++ entries_in (arrival_deliveries peer (met_by y first second p number).after out))) h.answer);
-  frames_are = refl;
-  answer_is = h.answer;
-}, h.frames)
+made_heard n boxes es box box' by number peer first second bytes y after p answered inside out last from h is = (
+  heard_frames y p (met_by y first second p number),
+  record {
+    peer = peer;
+    first = first;
+    second = second;
+    packet = p;
+    due = from.due;
+    neighbour = y;
+    was = from.was;
+    met = met_by y first second p number;
+    met_is = refl;
+    out = out;
+    last = last;
+    opens = h.opens;
+    after =
+        ap (λ a. the_node n (slice_set n.neighbours peer (Some a)) boxes es) h.after_is
+        ∙ ap (λ b. the_node n (slice_set n.neighbours peer (Some (heard_neighbour y p (met_by y first second p number) last))) b es) h.inboxes
+        ∙ ap (λ e. the_node n (slice_set n.neighbours peer (Some (heard_neighbour y p (met_by y first second p number) last))) (inboxes_after (port_base n.boot) n.inboxes (arrival_deliveries peer (met_by y first second p number).after out)) e)
+        (is ∙ ap (λ i. told n by number i answered) h.inside_is
+        ∙ ap (told n by number (change_entries peer (met_by y first second p number).change ++ entries_in (arrival_deliveries peer (met_by y first second p number).after out))) h.answer);
+    frames_are = refl;
+    answer_is = h.answer;
+  },
+  h.frames,
+)
 
 -- the same of the node as it is known
 pub node_heard : (n m : NodeState) (boxes : List (List Message)) (es : List Entry) (box box' : Out) (by : By) (number peer first second : ℕ) (bytes : List ℕ) (x y after : Neighbour) (p : Fields) (answered : Arrival) (inside : List Entry) (out : PairOutcome) (last : Joining)
