@@ -31,7 +31,6 @@ use Rattle.tipc_node.specs.declared.neighbours.Neighbour.{Neighbour}
 use Rattle.tipc_node.specs.Calls.{CanPerform, Performs, Sends, TakesPart}
 use Rattle.tipc_node.specs.Neighbours.{done, neighbour, no_broadcast}
 use Rattle.tipc_node.specs.Nodes.{NodeState, accepted_entry, after_one, change_entries, deed_node, deed_note, direct, entries_all, entries_one, first_answer, frames_all, frames_one, has_port, inbox_of, kept_answer, limit_of, neighbour_of, receive_answer, receive_inboxes, receive_node, recorded, refusal, refusal_at, refusal_of_body, sent_node, session_with, socket_answer, socket_inboxes, socket_node, step_of, with_inboxes}
-use Rattle.tipc_node.specs.Telling.{IsTold}
 use Rattle.tipc_node.specs.Turns.{AreNamed, IsOfNeighbour, IsPlaced, IsSendable, Names, NodeTurn, PeerTurn, addr_of, bytes_of, frames_to, is_accepted_for, is_change_of, is_delivered_from, origin_of, spelled}
 use Rattle.tipc_node.proofs.Addressing.{AreFor, flush_for, mend_for, tick_for}
 use Rattle.tipc_node.proofs.Entries.{all_accept, all_changes, all_deliver, all_inside, all_placed, all_routed, other_word, routed_to}
@@ -303,16 +302,15 @@ takes_part_turn n n' by d call frames answered named is h =
 
 -- ---- every call
 
-pub performs_turn : (n n' : NodeState) (by : By) (call : EventNote) (frames : List Outgoing) (answered : Answer) → AreNamed n → IsTold n → CanPerform call
-    → Performs n by call n' frames answered
+pub performs_turn : (n n' : NodeState) (by : By) (call : EventNote) (frames : List Outgoing) (answered : Answer) → AreNamed n → CanPerform call → Performs n by call n' frames answered
     → (inside : List Entry) × NodeTurn n n' [] (step_of by call inside (kept_answer answered)) frames
-performs_turn n n' by event.Socket frames answered named told can h =
+performs_turn n n' by event.Socket frames answered named can h =
     turn_as n n' (socket_node n by) by event.Socket frames [] answered (socket_answer n) h.0 h.1 h.2 (plain_rests n by event.Socket (socket_answer n) (socket_inboxes n.inboxes) (socket_plain n))
-performs_turn n n' by (event.Receive port) frames answered named told can h =
+performs_turn n n' by (event.Receive port) frames answered named can h =
     turn_as n n' (receive_node n by port) by (event.Receive port) frames [] answered (receive_answer n port) h.0 h.1 h.2
     ([], rested n by (event.Receive port) [] (kept_answer (receive_answer n port)) (receive_inboxes n port) (received_untaken n port))
-performs_turn n n' by (event.SendPort port to importance body) frames answered named told can h = sends_turn n n' by port to importance body frames answered named h
-performs_turn n n' by event.Tick frames answered named told can h = takes_part_turn n n' by deed.Tick event.Tick frames answered named refl h
-performs_turn n n' by (event.Cut bearer) frames answered named told can h = takes_part_turn n n' by deed.Cut (event.Cut bearer) frames answered named (ap event.Cut can) h
-performs_turn n n' by (event.Mend bearer) frames answered named told can h = takes_part_turn n n' by deed.Mend (event.Mend bearer) frames answered named (ap event.Mend can) h
-performs_turn n n' by other frames answered named told can h = absurd h
+performs_turn n n' by (event.SendPort port to importance body) frames answered named can h = sends_turn n n' by port to importance body frames answered named h
+performs_turn n n' by event.Tick frames answered named can h = takes_part_turn n n' by deed.Tick event.Tick frames answered named refl h
+performs_turn n n' by (event.Cut bearer) frames answered named can h = takes_part_turn n n' by deed.Cut (event.Cut bearer) frames answered named (ap event.Cut can) h
+performs_turn n n' by (event.Mend bearer) frames answered named can h = takes_part_turn n n' by deed.Mend (event.Mend bearer) frames answered named (ap event.Mend can) h
+performs_turn n n' by other frames answered named can h = absurd h
