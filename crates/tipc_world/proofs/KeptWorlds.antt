@@ -32,14 +32,14 @@ use Rattle.tipc_world.specs.declared.events.WorldEvent.{WorldEvent}
 use Rattle.tipc_world.specs.declared.events.WorldEvent.TheVariants.{Know, Restart, Call, Arrive}
 use Rattle.tipc_world.specs.Air.{airborne, as_frame}
 use Rattle.tipc_world.specs.Calls.{CanHappenAt, node_of}
-use Rattle.tipc_world.specs.Causes.{arrived_frame, Seen}
+use Rattle.tipc_world.specs.Causes.{arrived_frame}
 use Rattle.tipc_world.specs.Deeds.{Does, Makes, Meets}
 use Rattle.tipc_world.specs.Due.{frame_for, kept_for, unarrived}
 use Rattle.tipc_world.specs.Events.{JoinsAt}
 use Rattle.tipc_world.specs.Members.{IsNewcomer, IsRestarted, known_member}
 use Rattle.tipc_world.specs.Sound.{IsNumber, IsSound}
 use Rattle.tipc_world.specs.Spelled.{HasBrought}
-use Rattle.tipc_world.specs.States.{MemberState, member_at}
+use Rattle.tipc_world.specs.States.{MemberState}
 use Rattle.tipc_world.specs.Steps.{Becomes, Happens, IsArrival, Stage, Turns}
 use Rattle.tipc_world.specs.Views.{sight_at}
 use Rattle.tipc_world.specs.Watched.{AreTraced, AreWatched, IsWatched}
