@@ -25,3 +25,13 @@ pub mod Kept
 pub mod TurnKept
 pub mod TurnTraced
 pub mod StreamsKept
+pub mod StreamsEvents
+pub mod Routes
+pub mod SoundEvents
+pub mod SoundWorlds
+pub mod Advancing
+pub mod Boots
+pub mod Growing
+pub mod Staying
+pub mod Flows
+pub mod Within

@@ -19,18 +19,12 @@ use Rattle.tipc_world.specs.Members.{by_in}
 use Rattle.tipc_world.specs.Sound.{IsSound}
 use Rattle.tipc_world.specs.States.{MemberState, knows, member_at}
 use Rattle.tipc_world.specs.Steps.{Happens, Stage, Turns}
+use Rattle.tipc_world.proofs.Bringing.{are_brought}
 use Rattle.tipc_world.proofs.Coming.{ComesOut, comes, nothing_out}
 use Rattle.tipc_world.proofs.LookUps.{link_at-is}
 use Rattle.tipc_world.proofs.PairedStarts.{know_pairs, restart_pairs}
 use Rattle.tipc_world.proofs.PairedTurns.{TakesTurn, turn_pairs}
-use Rattle.tipc_world.proofs.Standing.{IsAcquainted}
-use Rattle.tipc_world.proofs.Stub.{are_moved}
 use Rattle.tipc_world.proofs.Turning.{AllPaired, was_there}
-
--- ---- what a sound world has
-
-pub acquainted : (members : List (Option MemberState)) (air : List Sent) (a : ℕ) (m : MemberState) → IsSound members air → slice_index_or members a None ≡ Some m → IsAcquainted members a
-acquainted members air a m sound was = record { number = (sound.numbered a m was).0; apart = sound.apart a; only = λ b none. sound.known a b (λ is. absurd (none is)) }
 
 -- a node that doesn't know another has no neighbour there
 pub unknown : (s : Stage) (a peer : ℕ) (m : MemberState) → member_at s.members a ≡ Some m → knows s.members a peer ≡ false → neighbour_of m.node peer ≡ None
@@ -58,13 +52,13 @@ pub met_turn : (stamp bearer place : ℕ) (bytes : List ℕ) (m m' : MemberState
 met_turn stamp bearer place bytes m m' frames answered h = record { turn = h.turn.turn; past = ap (λ (n : MemberState). n.past) h.after; counts = ap (λ (n : MemberState). n.counts) h.after }
 
 -- what arrives came out of the air
-pub comes_out : (s : Stage) (a bearer place : ℕ) (f : Sent) → IsSound s.members s.air → frame_for s.air a bearer place ≡ Some f → unarrived s.members s.air a bearer place ≡ None → ComesOut s a f.frame
+comes_out : (s : Stage) (a bearer place : ℕ) (f : Sent) → IsSound s.members s.air → frame_for s.air a bearer place ≡ Some f → unarrived s.members s.air a bearer place ≡ None → ComesOut s a f.frame
 comes_out s a bearer place f sound there free b es er p from = comes s a bearer place f b es er p sound there free from
 
 taken_pairs : (old new : Stage) (a : ℕ) (m m' : MemberState) (bytes : List ℕ) (s : NodeStep) (frames : List Outgoing) (lost : Bool) → IsSound old.members old.air → Turns old new a m m' frames lost
     → TakesTurn m m' bytes s frames → ComesOut old a bytes → AllPaired new
 taken_pairs old new a m m' bytes s frames lost sound t turn out =
-    turn_pairs old new a m m' bytes s frames lost sound t turn out (are_moved old a m m' bytes s frames sound t.was turn out)
+    turn_pairs old new a m m' bytes s frames lost sound t turn out (are_brought old a m m' bytes s frames sound t.was turn.turn out)
 
 -- ---- all events
 
@@ -76,6 +70,9 @@ IsReady members air (Restart node) bytes m = m.node.boot + 1 < 2 ^ 32
 IsReady members air (Call node call) bytes m = Unit {0}
 IsReady members air (Arrive node bearer place) bytes m = (f : Sent) × (frame_for air node bearer place ≡ Some f) × (unarrived members air node bearer place ≡ None) × (bytes ≡ f.frame)
 
+pub ready_out : (s : Stage) (a bearer place : ℕ) (bytes : List ℕ) (m : MemberState) → IsSound s.members s.air → IsReady s.members s.air (Arrive a bearer place) bytes m → ComesOut s a bytes
+ready_out s a bearer place bytes m sound ready = subst (ComesOut s a) (sym ready.3) (comes_out s a bearer place ready.0 sound ready.1 ready.2)
+
 pub does_pair : (old new : Stage) (stamp : ℕ) (event : WorldEvent) (bytes : List ℕ) (before after : MemberState) (frames : List Outgoing) (answered : Answer) (lost : Bool) → IsSound old.members old.air
     → Turns old new (node_of event) before after frames lost → IsReady old.members old.air event bytes before → Does stamp event bytes before after frames answered → AllPaired new
 does_pair old new stamp (Know a peer) bytes before after frames answered lost sound t ready h =
@@ -85,7 +82,7 @@ does_pair old new stamp (Call a call) bytes before after frames answered lost so
     taken_pairs old new a before after [] (made_step stamp call before after frames answered h) frames lost sound t (made_turn stamp call before after frames answered h) (nothing_out old a)
 does_pair old new stamp (Arrive a bearer place) bytes before after frames answered lost sound t ready h =
     taken_pairs old new a before after bytes (met_step stamp bearer place bytes before after frames answered h) frames lost sound t (met_turn stamp bearer place bytes before after frames answered h)
-    (subst (ComesOut old a) (sym ready.3) (comes_out old a bearer place ready.0 sound ready.1 ready.2))
+    (ready_out old a bearer place bytes before sound ready)
 
 -- after every event each two nodes are paired
 pub happens_pairs : (old new : Stage) (stamp : ℕ) (event : WorldEvent) (bytes : List ℕ) (answered : Answer) (lost : Bool) → IsSound old.members old.air → (h : Happens old new stamp event bytes answered lost)

@@ -27,14 +27,16 @@ use Rattle.tipc_world.specs.Members.{noted, over_with, sender_of}
 use Rattle.tipc_world.specs.Sound.{IsNumber, IsSound}
 use Rattle.tipc_world.specs.States.{MemberState, begun_in, count_in, count_of, history}
 use Rattle.tipc_world.specs.Steps.{Stage, Turns}
-use Rattle.tipc_world.specs.Views.{given_in, put_in, sight_at}
+use Rattle.tipc_world.specs.Views.{sight_at}
 use Rattle.tipc_world.proofs.Coming.{ComesOut, comes_in}
 use Rattle.tipc_world.proofs.Counts.{HasNone, count_alone, count_here, count_noted, sender_else, sender_here, session_cases}
+use Rattle.tipc_world.proofs.Histories.{history_longer}
 use Rattle.tipc_world.proofs.LastSessions.{IsSteady, last_epoch, turn_last}
 use Rattle.tipc_world.proofs.Messages.{messages_are}
 use Rattle.tipc_world.proofs.Senders.{sender_is}
 use Rattle.tipc_world.proofs.Standing.{sight_only, sight_partial}
-use Rattle.tipc_world.proofs.Turning.{AllPaired, IsChanged, IsIdle, PartnersIn, all_paired, come_in, goes, idle_pair, sight_in, was_there}
+use Rattle.tipc_world.proofs.TurnStreams.{AreBrought, Recorded, Untold, turn_records, turn_untold}
+use Rattle.tipc_world.proofs.Turning.{AllPaired, IsChanged, IsIdle, PartnersIn, all_paired, goes, idle_pair, sight_in, was_there}
 
 -- The node of a member took a turn. The journals of the boots before stay, and the last session with the sender of these bytes was noted.
 pub record TakesTurn (m m' : MemberState) (bytes : List ℕ) (s : NodeStep) (frames : List Outgoing) : Type 0 where
@@ -42,25 +44,9 @@ pub record TakesTurn (m m' : MemberState) (bytes : List ℕ) (s : NodeStep) (fra
   pub past : m'.past ≡ m.past
   pub counts : m'.counts ≡ noted m.counts (over_with m (sender_of bytes))
 
--- ---- what was put and given
-
--- what a turn at the pair to a peer put and gave there, in the contact of after
-pub record HasMoved (m m' : MemberState) (b : ℕ) (e : LinkEnd) (put given : List (List ℕ)) : Type 0 where
-  pub put_is : (own theirs : ℕ) → put_in (history m') b own theirs ≡ put_in (history m) b own theirs ++ come_in e.contact e.peer_contact put own theirs
-  pub given_is : (own theirs : ℕ) → given_in (history m') b own theirs ≡ given_in (history m) b own theirs ++ come_in e.contact e.peer_contact given own theirs
-
-abbrev pub MovesAt : MemberState → MemberState → List ℕ → NodeStep → List Outgoing → ℕ → Type 0
-MovesAt m m' bytes s frames b = (x : Neighbour) → neighbour_of m.node b ≡ Some x → (n : NeighbourTurn m.node m'.node bytes s frames b x)
-    → HasMoved m m' b n.after.pair.link (map bytes_of n.turn.messages) (packets_in (opened_in n.turn.turn.first.given))
-
-pub record HasStayed (m m' : MemberState) (b : ℕ) : Type 0 where
-  pub put_is : (own theirs : ℕ) → put_in (history m') b own theirs ≡ put_in (history m) b own theirs
-  pub given_is : (own theirs : ℕ) → given_in (history m') b own theirs ≡ given_in (history m) b own theirs
-
--- what a turn adds to the messages of each other node: those of its turn at the pair to that, or none
-pub record AreMoved (a : ℕ) (m m' : MemberState) (bytes : List ℕ) (s : NodeStep) (frames : List Outgoing) : Type 0 where
-  pub moved : (b : ℕ) → IsNumber b → b ≢ a → MovesAt m m' bytes s frames b
-  pub stayed : (b : ℕ) → neighbour_of m.node b ≡ None → HasStayed m m' b
+-- the step stands last in all that ever happened at the node
+pub turn_history : (m m' : MemberState) (bytes : List ℕ) (s : NodeStep) (frames : List Outgoing) → TakesTurn m m' bytes s frames → history m' ≡ history m ++ step_entries s
+turn_history m m' bytes s frames t = history_longer m m' (step_entries s) t.past t.turn.journal
 
 -- ---- how many packets were numbered
 
@@ -115,7 +101,7 @@ linked : (n : NodeState) (b : ℕ) (x : Neighbour) → neighbour_of n b ≡ Some
 linked n b x is = ap (λ o. option_map (λ (y : Neighbour). y.pair.link) o) is
 
 changed : (m m' : MemberState) (bytes : List ℕ) (s : NodeStep) (frames : List Outgoing) (b : ℕ) (x : Neighbour) → IsNumber b → TakesTurn m m' bytes s frames → neighbour_of m.node b ≡ Some x → (n : NeighbourTurn m.node m'.node bytes s frames b x)
-    → HasMoved m m' b n.after.pair.link (map bytes_of n.turn.messages) (packets_in (opened_in n.turn.turn.first.given))
+    → Recorded (history m) (history m') b n.after.pair.link (map bytes_of n.turn.messages) (packets_in (opened_in n.turn.turn.first.given))
     → IsChanged m m' frames b n.after.pair.link n.turn.own_frames (map bytes_of n.turn.messages) (packets_in (opened_in n.turn.turn.first.given)) n.after.pair.begun
 changed m m' bytes s frames b x number t is n h = record {
   boot = t.turn.boot;
@@ -141,7 +127,7 @@ turned_by v v' w x x' opening messages reply frames begun h only comes shows sho
 
 neighbour_pair : (old new : Stage) (a : ℕ) (m m' : MemberState) (bytes : List ℕ) (s : NodeStep) (frames : List Outgoing) (lost : Bool) (b : ℕ) (x : Neighbour) → IsSound old.members old.air → Turns old new a m m' frames lost
     → IsNumber b → TakesTurn m m' bytes s frames → ComesOut old a bytes → b ≢ a → neighbour_of m.node b ≡ Some x → (n : NeighbourTurn m.node m'.node bytes s frames b x)
-    → HasMoved m m' b n.after.pair.link (map bytes_of n.turn.messages) (packets_in (opened_in n.turn.turn.first.given)) → PartnersIn old old a b → PartnersIn new old a b
+    → Recorded (history m) (history m') b n.after.pair.link (map bytes_of n.turn.messages) (packets_in (opened_in n.turn.turn.first.given)) → PartnersIn old old a b → PartnersIn new old a b
 neighbour_pair old new a m m' bytes s frames lost b x sound t number turn out apart is n moved h =
     let p = n.turn in
     let v = sight_in old a b in
@@ -165,7 +151,7 @@ none_for n b (o ∷ os) none routed =
     let apart : b ≢ r.peer = λ same. (let there = r.there in let gone : neighbour_of n r.peer ≡ None = ap (neighbour_of n) (sym same) ∙ none in let wrong : false ≡ true = ap is_some (sym gone) ∙ there in cc) in
     ap (λ t. if t then o ∷ frames_to b os else frames_to b os) (word_apart b r.peer o r.to_is apart) ∙ none_for n b os none (All-tail (IsRouted n) o os routed)
 
-idle : (m m' : MemberState) (bytes : List ℕ) (s : NodeStep) (frames : List Outgoing) (b : ℕ) → TakesTurn m m' bytes s frames → neighbour_of m.node b ≡ None → HasStayed m m' b → IsIdle m m' frames b
+idle : (m m' : MemberState) (bytes : List ℕ) (s : NodeStep) (frames : List Outgoing) (b : ℕ) → TakesTurn m m' bytes s frames → neighbour_of m.node b ≡ None → Untold (history m) (history m') b → IsIdle m m' frames b
 idle m m' bytes s frames b t none h =
     let none' = t.turn.alone b none in
     let was : link_in m.node b ≡ None = ap (λ o. option_map (λ (y : Neighbour). y.pair.link) o) none in
@@ -175,8 +161,8 @@ idle m m' bytes s frames b t none h =
       link = is ∙ sym was;
       begun = ap (λ o. unwrap_or (option_map (λ (y : Neighbour). y.pair.begun) o) fresh) (none' ∙ sym none);
       frames_are = none_for m.node b frames none t.turn.routed;
-      put_is = h.put_is;
-      given_is = h.given_is;
+      put_is = λ own theirs. ap (λ f. f own theirs) h.put_same;
+      given_is = λ own theirs. ap (λ f. f own theirs) h.given_same;
       numbered = λ epoch. count_alone m' b epoch is ∙ ap (λ cs. count_in cs b epoch) t.counts
           ∙ sender_else m (sender_of bytes) b epoch (λ e link. absurd (let wrong : None ≡ Some e = sym was ∙ link in cc)) ∙ sym (count_alone m b epoch was);
     }
@@ -184,10 +170,16 @@ idle m m' bytes s frames b t none h =
 -- ---- all pairs
 
 pub turn_pairs : (old new : Stage) (a : ℕ) (m m' : MemberState) (bytes : List ℕ) (s : NodeStep) (frames : List Outgoing) (lost : Bool) → IsSound old.members old.air → Turns old new a m m' frames lost
-    → TakesTurn m m' bytes s frames → ComesOut old a bytes → AreMoved a m m' bytes s frames → AllPaired new
-turn_pairs old new a m m' bytes s frames lost sound t turn out moved =
+    → (turn : TakesTurn m m' bytes s frames) → ComesOut old a bytes → AreBrought m.node m'.node bytes s frames turn.turn → AllPaired new
+turn_pairs old new a m m' bytes s frames lost sound t turn out brought =
     all_paired old new a m m' frames lost sound.pairs t (λ b a_is b_is apart h. by b b_is apart h (neighbour_of m.node b) refl)
   where
+    longer : history m' ≡ history m ++ step_entries s
+    longer = turn_history m m' bytes s frames turn
+
     by : (b : ℕ) → IsNumber b → b ≢ a → PartnersIn old old a b → (o : Option Neighbour) → neighbour_of m.node b ≡ o → PartnersIn new old a b
-    by b b_is apart h None none = idle_pair old new a m m' frames lost b t (idle m m' bytes s frames b turn none (moved.stayed b none)) h
-    by b b_is apart h (Some x) is = let n = turn.turn.turns b x is in neighbour_pair old new a m m' bytes s frames lost b x sound t b_is turn out apart is n (moved.moved b b_is apart x is n) h
+    by b b_is apart h None none = idle_pair old new a m m' frames lost b t (idle m m' bytes s frames b turn none (turn_untold (history m) (history m') m.node s b none turn.turn.placed longer)) h
+    by b b_is apart h (Some x) is =
+        let n = turn.turn.turns b x is in
+        neighbour_pair old new a m m' bytes s frames lost b x sound t b_is turn out apart is n
+        (turn_records (history m) (history m') m.node.own bytes s frames b x.pair n.after.pair n.turn longer (brought b x is)) h

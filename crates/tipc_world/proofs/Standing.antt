@@ -1,11 +1,12 @@
 -- What a sound world says of a node and its neighbours.
-use Rattle.std.proofs.Common.{◌⊎◌, ◌≡◌, ◌≢◌, ℕ, List, Option, Some, None, option_map, unwrap_or, sym, ap, ◌∙◌, inl, inr, arith}
+use Rattle.std.proofs.Common.{◌⊎◌, ◌≡◌, ◌≢◌, ℕ, List, Option, Some, None, option_map, slice_index_or, unwrap_or, sym, ap, ◌∙◌, inl, inr, arith}
 use Rattle.std.proofs.lemmas.Bool.{cases_lt}
 use Rattle.tipc_fragments.specs.Joining.{fresh}
 use Rattle.tipc_partners.specs.Sights.{HasOnly}
 use Rattle.tipc_node.specs.declared.neighbours.Neighbour.{Neighbour}
 use Rattle.tipc_node.specs.Nodes.{neighbour_of}
-use Rattle.tipc_world.specs.Sound.{IsNumber}
+use Rattle.tipc_world.specs.declared.air.Sent.{Sent}
+use Rattle.tipc_world.specs.Sound.{IsNumber, IsSound}
 use Rattle.tipc_world.specs.States.{MemberState, link_at, member_at}
 use Rattle.tipc_world.specs.Steps.{Stage}
 use Rattle.tipc_world.specs.Views.{sight_at}
@@ -46,6 +47,9 @@ pub record IsAcquainted (members : List (Option MemberState)) (a : ℕ) : Type 0
   pub number : IsNumber a
   pub apart : link_at members a a ≡ None
   pub only : (b : ℕ) → (IsNumber b → ⊥) → link_at members a b ≡ None
+
+pub acquainted : (members : List (Option MemberState)) (air : List Sent) (a : ℕ) (m : MemberState) → IsSound members air → slice_index_or members a None ≡ Some m → IsAcquainted members a
+acquainted members air a m sound was = record { number = (sound.numbered a m was).0; apart = sound.apart a; only = λ b none. sound.known a b (λ is. absurd (none is)) }
 
 -- each neighbour of a node is another one
 pub neighbour_apart : (s : Stage) (a : ℕ) (m : MemberState) → IsAcquainted s.members a → member_at s.members a ≡ Some m → (k : ℕ) (x : Neighbour) → neighbour_of m.node k ≡ Some x → IsNumber k × (k ≢ a)
