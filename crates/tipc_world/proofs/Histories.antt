@@ -1,6 +1,6 @@
 -- The history of a node, and what a step adds to what was ever accepted and delivered at it.
 use Rattle.std.specs.List.{cons_option, filter, filter_map, flat_map}
-use Rattle.std.proofs.Common.{◌≡◌, ◌==◌, ◌&&◌, ℕ, zero, suc, Bool, true, false, if◌then◌else◌, List, [], ◌∷◌, ◌++◌, Option, Some, None, map, slice_get, refl, sym, ap, ◌∙◌, append-nil, append_assoc, arith}
+use Rattle.std.proofs.Common.{◌≡◌, ◌==◌, ◌&&◌, ℕ, Bool, true, false, if◌then◌else◌, List, [], ◌∷◌, ◌++◌, Option, Some, None, map, refl, sym, ap, ◌∙◌, append-nil, append_assoc, arith}
 use Rattle.std.specs.Prelude.{option_to_list}
 use Rattle.std.proofs.lemmas.Bool.Decides.{nat_tests}
 use Rattle.std.proofs.lemmas.List.Concat.{flat_map-append}
@@ -12,7 +12,7 @@ use Rattle.tipc_types.specs.declared.message_forms.Message.{Message}
 use Rattle.tipc_journal.specs.declared.entries.Entry.{Entry}
 use Rattle.tipc_journal.specs.declared.entries.Entry.TheVariants as entry
 use Rattle.tipc_journal.specs.Steps.{NodeStep, step_entries}
-use Rattle.tipc_journal.specs.Streams.{Stream, accepted, accepted_message, delivered, delivered_message, flow_eq, stream_eq}
+use Rattle.tipc_journal.specs.Streams.{accepted, accepted_message, delivered, delivered_message, flow_eq, stream_eq}
 use Rattle.tipc_journal.proofs.StreamLaws.{accepted_step, delivered_step}
 use Rattle.tipc_reassembly.specs.declared.opening.Opened.{Opened}
 use Rattle.tipc_reassembly.specs.declared.opening.Opened.TheVariants.{Whole, Passed}
@@ -20,7 +20,7 @@ use Rattle.tipc_link.specs.Links.{LinkEnd}
 use Rattle.tipc_pair.specs.declared.changes.PairOutcome.{PairOutcome}
 use Rattle.tipc_pair.specs.Partners.{opened_in}
 use Rattle.tipc_node.specs.Nodes.{accepted_entry, message_in, shown_contact}
-use Rattle.tipc_node.specs.Turns.{addr_of, delivered_message as delivery_of, delivered_of, given_entries, is_accepted_for, is_delivered_from}
+use Rattle.tipc_node.specs.Turns.{delivered_message as delivery_of, delivered_of, given_entries, is_accepted_for, is_delivered_from}
 use Rattle.tipc_world.specs.Members.{IsRestarted}
 use Rattle.tipc_world.specs.States.{MemberState, history, stream_of}
 

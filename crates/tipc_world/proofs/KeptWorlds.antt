@@ -32,14 +32,14 @@ use Rattle.tipc_world.specs.declared.events.WorldEvent.{WorldEvent}
 use Rattle.tipc_world.specs.declared.events.WorldEvent.TheVariants.{Know, Restart, Call, Arrive}
 use Rattle.tipc_world.specs.Air.{airborne, as_frame}
 use Rattle.tipc_world.specs.Calls.{CanHappenAt, node_of}
-use Rattle.tipc_world.specs.Causes.{arrived_frame, Seen}
+use Rattle.tipc_world.specs.Causes.{arrived_frame}
 use Rattle.tipc_world.specs.Deeds.{Does, Makes, Meets}
 use Rattle.tipc_world.specs.Due.{frame_for, kept_for, unarrived}
 use Rattle.tipc_world.specs.Events.{JoinsAt}
 use Rattle.tipc_world.specs.Members.{IsNewcomer, IsRestarted, known_member}
 use Rattle.tipc_world.specs.Sound.{IsNumber, IsSound}
 use Rattle.tipc_world.specs.Spelled.{HasBrought}
-use Rattle.tipc_world.specs.States.{MemberState, member_at}
+use Rattle.tipc_world.specs.States.{MemberState}
 use Rattle.tipc_world.specs.Steps.{Becomes, Happens, IsArrival, Stage, Turns}
 use Rattle.tipc_world.specs.Views.{sight_at}
 use Rattle.tipc_world.specs.Watched.{AreTraced, AreWatched, IsWatched}
@@ -48,7 +48,7 @@ use Rattle.tipc_world.proofs.Coming.{ComesOut, nothing_out}
 use Rattle.tipc_world.proofs.Growing.{prefix_same}
 use Rattle.tipc_world.proofs.Kept.{IsKept, get_last, kept_of, kept_wider, made_kept, restarted_kept, seen_by, started_kept, watched_of}
 use Rattle.tipc_world.proofs.LookUps.{place_within}
-use Rattle.tipc_world.proofs.PairedEvents.{IsReady, comes_out, made_step, met_step}
+use Rattle.tipc_world.proofs.PairedEvents.{IsReady, made_step, met_step, ready_out}
 use Rattle.tipc_world.proofs.Reaching.{goes_there, placed, same_receiver, sent_at}
 use Rattle.tipc_world.proofs.SoundWorlds.{HaveNextBoots}
 use Rattle.tipc_world.proofs.Stepping.{Widens, get_prefix}
@@ -182,12 +182,12 @@ are_carried s air' a bearer place f arrivals arrivals' step sound longer there m
     )
 
 meet_watched : (s : Stage) (air' : List Sent) (a stamp bearer place : ℕ) (f : Sent) (m m' : MemberState) (frames : List Outgoing) (answered : Answer) → IsSound s.members s.air → IsPrefixOf s.air air' → slice_index_or s.members a None ≡ Some m
-    → IsWatched s.air m → frame_for s.air a bearer place ≡ Some f → unarrived s.members s.air a bearer place ≡ None → Meets stamp bearer place f.frame m m' frames answered → IsWatched air' m'
-meet_watched s air' a stamp bearer place f m m' frames answered sound longer was w there free h =
+    → IsWatched s.air m → frame_for s.air a bearer place ≡ Some f → ComesOut s a f.frame → Meets stamp bearer place f.frame m m' frames answered → IsWatched air' m'
+meet_watched s air' a stamp bearer place f m m' frames answered sound longer was w there out h =
     let step = met_step stamp bearer place f.frame m m' frames answered h in
     let more : m'.arrivals ≡ m.arrivals ++ record { bearer = bearer; frame = place } ∷ [] = ap (λ (x : MemberState). x.arrivals) h.after in
     turn_watched s.air air' m m' f.frame step frames longer (record { bearer = bearer; frame = place } ∷ [], more) (ap (λ (x : MemberState). x.past) h.after) w h.turn.told_before h.turn.told h.turn.turn
-    (are_carried s air' a bearer place f m.arrivals m'.arrivals step sound longer there more refl) (are_brought s a m m' f.frame step frames sound was h.turn.turn (comes_out s a bearer place f sound there free))
+    (are_carried s air' a bearer place f m.arrivals m'.arrivals step sound longer there more refl) (are_brought s a m m' f.frame step frames sound was h.turn.turn out)
 
 -- ---- a link end is made, and a boot begins
 
@@ -236,7 +236,7 @@ does_watched s air' stamp (Know a peer) bytes m m' frames answered sound longer 
 does_watched s air' stamp (Restart a) bytes m m' frames answered sound longer here w ready h = restart_watched s.air air' m m' longer w h.0
 does_watched s air' stamp (Call a call) bytes m m' frames answered sound longer here w ready h = make_watched s air' a stamp call m m' frames answered sound longer here w h
 does_watched s air' stamp (Arrive a bearer place) bytes m m' frames answered sound longer here w ready h =
-    meet_watched s air' a stamp bearer place ready.0 m m' frames answered sound longer here w ready.1 ready.2 (subst (λ bs. Meets stamp bearer place bs m m' frames answered) ready.3 h)
+    meet_watched s air' a stamp bearer place ready.0 m m' frames answered sound longer here w ready.1 (subst (ComesOut s a) ready.3 (ready_out s a bearer place bytes m sound ready)) (subst (λ bs. Meets stamp bearer place bs m m' frames answered) ready.3 h)
 
 -- ---- the world
 

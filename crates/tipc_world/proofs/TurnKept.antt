@@ -1,7 +1,7 @@
 -- A node's journals stay lawful with a turn, and tell how long its links were silent.
 use Rattle.std.specs.Prelude.{◌⊎◌, All, is_some, option_map}
 use Rattle.std.specs.List.{filter, flat_map}
-use Rattle.std.proofs.Common.{◌≡◌, ◌<◌, ◌≤◌, ◌+◌, ◌==◌, ◌^◌, ℕ, zero, suc, Bool, true, false, List, [], ◌∷◌, ◌++◌, Option, Some, None, map, slice_get, refl, sym, ap, ◌∙◌, subst, inl, inr, arith}
+use Rattle.std.proofs.Common.{◌≡◌, ◌<◌, ◌≤◌, ◌+◌, ◌==◌, ◌^◌, ℕ, zero, suc, true, false, List, [], ◌∷◌, ◌++◌, Option, Some, None, map, slice_get, refl, sym, ap, ◌∙◌, subst, inl, inr, arith}
 use Rattle.std.proofs.lemmas.Bool.Decides.{nat_tests}
 use Rattle.std.proofs.lemmas.List.Elements.{All-head, All-tail}
 use Rattle.std.proofs.lemmas.Option.{get_or_from_slice_get, slice_get_within}
@@ -36,17 +36,17 @@ use Rattle.tipc_pair.specs.Turns.Opening.{cuts, hears, mends, rests, ticks}
 use Rattle.tipc_node.specs.declared.neighbours.Neighbour.{Neighbour}
 use Rattle.tipc_node.specs.Nodes.{NodeState, accepted_entry, change_entries, message_in, neighbour_of, shown_contact}
 use Rattle.tipc_node.specs.Telling.{IsAbreast, IsTold, TellsOf, epochs_of, shown_contact as shown_number, silence_in, silence_of}
-use Rattle.tipc_node.specs.Turns.{IsBrought, IsFrom, IsOfNeighbour, IsPlaced, IsTakenBy, NodeTurn, PeerTurn, Suits, addr_of, bytes_of, delivered_message, delivered_of, given_entries, is_accepted_for, is_change_of, is_delivered_from, link_in}
+use Rattle.tipc_node.specs.Turns.{IsBrought, IsFrom, IsPlaced, IsTakenBy, NodeTurn, PeerTurn, Suits, addr_of, bytes_of, delivered_message, delivered_of, is_accepted_for, is_change_of, is_delivered_from, link_in}
 use Rattle.tipc_node.proofs.ArrivalMoves.{IsAs, IsTakenDown, arrival_met}
 use Rattle.tipc_node.proofs.Moves.{IsCutOff, IsSilenced, Tells, down_epochs, up_contact, up_epochs_are}
 use Rattle.tipc_node.proofs.TurnMoves.{TurnMoves, answered_as, puts_as, turn_as, turn_moves}
 use Rattle.tipc_world.specs.declared.air.Sent.{Sent}
-use Rattle.tipc_world.specs.Causes.{arrived_frame, tick_of, BringsUp, HasTicked, IsCaused, IsNumberOf, IsTakenFrom, Seen}
+use Rattle.tipc_world.specs.Causes.{tick_of, BringsUp, HasTicked, IsCaused, IsNumberOf, IsTakenFrom, Seen}
 use Rattle.tipc_world.specs.Lawful.{after, IsLawfulEntry}
 use Rattle.tipc_world.specs.Spelled.{IsSpelled}
 use Rattle.tipc_world.proofs.Kept.{IsKept, IsTimed, kept_step}
 use Rattle.tipc_world.proofs.Stepping.{Arrives, passed, passes}
-use Rattle.tipc_world.proofs.TurnTraced.{AreCarried, AreGivenSpelled, IsCarried, IsGivenSpelled, sender_is}
+use Rattle.tipc_world.proofs.TurnTraced.{AreCarried, AreGivenSpelled, IsGivenSpelled, sender_is}
 
 -- ---- lists of entries
 

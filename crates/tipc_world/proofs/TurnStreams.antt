@@ -1,7 +1,6 @@
 -- What a turn of a node adds to what it ever accepted for each peer and delivered from it.
 use Rattle.std.specs.Prelude.{All, is_some, option_to_list}
-use Rattle.std.specs.List.{filter}
-use Rattle.std.proofs.Common.{◌≡◌, ◌≢◌, ◌⊎◌, ◌==◌, ◌&&◌, ℕ, zero, suc, Bool, true, false, if◌then◌else◌, List, [], ◌∷◌, ◌++◌, Option, Some, None, inl, inr, map, option_map, slice_get, refl, sym, ap, subst, ◌∙◌, append-nil, eqb-true, arith}
+use Rattle.std.proofs.Common.{◌≡◌, ◌≢◌, ◌⊎◌, ◌==◌, ◌&&◌, ℕ, suc, Bool, true, false, if◌then◌else◌, List, [], ◌∷◌, ◌++◌, Option, Some, None, inl, inr, map, option_map, slice_get, refl, sym, ap, subst, ◌∙◌, append-nil, eqb-true, arith}
 use Rattle.std.proofs.Math.Path.{fun_ext}
 use Rattle.std.proofs.lemmas.Bool.{cases_Bool}
 use Rattle.std.proofs.lemmas.List.{map-append}
@@ -31,7 +30,7 @@ use Rattle.tipc_link.proofs.LinkLaw.{Each, Each-append, Each-none, Each-one}
 use Rattle.tipc_pair.specs.Partners.{PairState, opened_in}
 use Rattle.tipc_node.specs.declared.neighbours.Neighbour.{Neighbour}
 use Rattle.tipc_node.specs.Nodes.{NodeState, accepted_entry, message_in, neighbour_of}
-use Rattle.tipc_node.specs.Turns.{IsOfNeighbour, IsPlaced, IsSendable, NodeTurn, PeerTurn, addr_of, bytes_of, given_entries, is_accepted_for, is_delivered_from, origin_of}
+use Rattle.tipc_node.specs.Turns.{IsOfNeighbour, IsPlaced, IsSendable, NodeTurn, PeerTurn, bytes_of, given_entries, is_accepted_for, is_delivered_from, origin_of}
 use Rattle.tipc_node.proofs.ArrivalMoves.{IsAs}
 use Rattle.tipc_node.proofs.Filters.{filter-none}
 use Rattle.tipc_node.proofs.TurnMoves.{answered_as, turn_as}

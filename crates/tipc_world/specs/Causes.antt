@@ -1,5 +1,5 @@
 -- Why a link goes down, as the journals, the arrivals and the air show it.
-use Rattle.std.specs.Prelude.{◌≡◌, ◌⊎◌, ◌<◌, ◌^◌, ◌≤◌, ℕ, ◌+◌, true, List, Option, Some, None, drop, option_and_then, slice_get, sum_by}
+use Rattle.std.specs.Prelude.{◌≡◌, ◌⊎◌, ◌<◌, ◌^◌, ◌≤◌, ℕ, ◌+◌, true, List, Option, Some, drop, option_and_then, slice_get, sum_by}
 use Rattle.tipc_types.specs.declared.identity.Addr.{Addr}
 use Rattle.tipc_types.specs.declared.link_words.Cause.{Cause}
 use Rattle.tipc_types.specs.declared.link_words.Cause.TheVariants as cause
