@@ -6,8 +6,6 @@ pub mod Happening
 pub mod LookUps
 pub mod Emissions
 pub mod Turning
-pub mod Addressing
-pub mod Shares
 pub mod Standing
 pub mod PairedDeeds
 pub mod PairedChanges
@@ -16,8 +14,6 @@ pub mod PairedStarts
 pub mod Reaching
 pub mod PairedArrivals
 pub mod Messages
-pub mod Moves
-pub mod Heard
 pub mod Within
 pub mod Stepping
 pub mod Telling

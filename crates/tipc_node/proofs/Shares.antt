@@ -11,9 +11,8 @@ use Rattle.tipc_node.specs.declared.neighbours.Deed.{Deed}
 use Rattle.tipc_node.specs.declared.neighbours.Neighbour.{Neighbour}
 use Rattle.tipc_node.specs.Neighbours.{done}
 use Rattle.tipc_node.specs.Nodes.{after_all, after_one, frames_all, frames_one}
-use Rattle.tipc_world.specs.Air.{is_to}
-use Rattle.tipc_world.proofs.Addressing.{AreFor}
-use Rattle.tipc_world.proofs.Emissions.{frames_to, is_out_to}
+use Rattle.tipc_node.specs.Turns.{frames_to, is_out_to, is_to}
+use Rattle.tipc_node.proofs.Addressing.{AreFor}
 
 -- ---- frames that are all for one node
 

@@ -23,9 +23,8 @@ use Rattle.tipc_link.specs.Sessions.{content_of}
 use Rattle.tipc_pair.specs.declared.changes.PairChange.{PairChange}
 use Rattle.tipc_pair.specs.declared.changes.PairChange.TheVariants.{Stay, Began, Ended}
 use Rattle.tipc_pair.specs.Pairs.{Met, arrival, arrival_of, by_number, contact_of, link_met, parted, passed_over, reset_down, reset_met, reset_up, risen, risen_activate, risen_change, risen_frames, risen_reset}
-use Rattle.tipc_world.specs.Causes.{is_reset, shown_contact}
-use Rattle.tipc_world.specs.Watched.{IsAbreast, epochs_of, silence_of}
-use Rattle.tipc_world.proofs.Moves.{IsAlike, Tells, both_down, both_up, down_silence, parted_abreast, parted_down, parted_unknown, tested, unknown_abreast, up_contact, up_epochs_are, up_silence}
+use Rattle.tipc_node.specs.Telling.{IsAbreast, epochs_of, is_reset, shown_contact, silence_of}
+use Rattle.tipc_node.proofs.Moves.{IsAlike, Tells, both_down, both_up, down_silence, parted_abreast, parted_down, parted_unknown, tested, unknown_abreast, up_contact, up_epochs_are, up_silence}
 
 -- what takes a link down at an arrival of a packet with this header under the epoch es
 abbrev pub IsTakenDown : LinkEnd → ℕ → Header → PairChange → Type 0
@@ -80,7 +79,7 @@ traffic_works f es er abreast =
     or_right true b is = refl
     or_right false b is = is
 
--- ---- a packet goes to the link
+-- ---- a packet goes to an end that tells of another
 
 -- an end that tells what another does, and was silent for no longer
 pub record GoesOn (e0 e : LinkEnd) : Type 0 where

@@ -11,13 +11,7 @@ use Rattle.tipc_link.specs.Links.{LinkEnd, after, is_down, known}
 use Rattle.tipc_pair.specs.declared.changes.PairChange.{PairChange}
 use Rattle.tipc_pair.specs.declared.changes.PairChange.TheVariants.{Stay, Began, Ended}
 use Rattle.tipc_pair.specs.Pairs.{change_of, contact_of, cut_pair, parted, settled, tick_pair}
-use Rattle.tipc_node.specs.declared.neighbours.Deed.{Deed}
-use Rattle.tipc_node.specs.declared.neighbours.Deed.TheVariants as deed
-use Rattle.tipc_node.specs.declared.neighbours.Neighbour.{Neighbour}
-use Rattle.tipc_node.specs.Neighbours.{done}
-use Rattle.tipc_node.specs.Nodes.{deed_note}
-use Rattle.tipc_world.specs.Causes.{tick_of}
-use Rattle.tipc_world.specs.Watched.{IsAbreast, epochs_of, silence_of}
+use Rattle.tipc_node.specs.Telling.{IsAbreast, epochs_of, silence_of}
 
 -- a value by a test, of which each side knows how the test went
 pub tested : {A : Type 0} (P : A → Type 0) (b : Bool) (x y : A) → (b ≡ true → P x) → (b ≡ false → P y) → P (if b then x else y)
@@ -151,14 +145,3 @@ cut_moves e abreast = tested (Cuts e) (is_up e.fsm.state) _ _
     let low : LinkEnd = record e { mended = false; fsm = lowered e.fsm false } in
     (ended_move e (parted low) cause.Cut 0 0 0 up (parted_down low) (parted_abreast low), (refl, refl)))
     (λ down. (record { tells = (refl, refl); silence = omega arith; abreast = record { peer_is = abreast.peer_is } }, tt))
-
--- what takes a link down where something happens to all neighbours
-abbrev pub IsDoneBy : Deed → LinkEnd → PairChange → Type 0
-IsDoneBy deed.Mend e change = change ≡ Stay
-IsDoneBy deed.Cut e change = IsCutOff change
-IsDoneBy deed.Tick e change = IsSilenced e change
-
-pub done_moves : (d : Deed) (x : Neighbour) → IsAbreast x.pair.link → IsMove x.pair.link (done d x).after.pair.link (done d x).change (tick_of (deed_note d)) × IsDoneBy d x.pair.link (done d x).change
-done_moves deed.Mend x abreast = (record { tells = (refl, refl); silence = omega arith; abreast = record { peer_is = abreast.peer_is } }, refl)
-done_moves deed.Cut x abreast = cut_moves x.pair.link abreast
-done_moves deed.Tick x abreast = tick_moves x.pair.link abreast

@@ -15,16 +15,12 @@ use Rattle.tipc_link_fsm.specs.Table.{Fsm, Outcome, is_up, on_reset, on_tick, fo
 use Rattle.tipc_link.specs.Links.{LinkEnd, after, answered_frames, followed, follow_frames, frames, heard_by, heard_frames, is_down, is_heard, is_reset_unknown, mend_frames, mended_end, outcome_of, reset_frames, session_answer, state_frames, with_fsm}
 use Rattle.tipc_link.specs.Sessions.{Content, Shows, Carries, Nothing, SessionEnd, arrival_frames, arrived, content_of, flush_frames, flushed, heard, is_due, packet_frame, packet_frames, released, repeat_frames, repeated, spoke, told}
 use Rattle.tipc_pair.specs.Pairs.{Met, arrival, arrival_of, by_number, link_met, lonely, parted, reset_down, reset_met, reset_up, risen, risen_activate, risen_frames, risen_reset, settled, settled_frames, tick_frames}
+use Rattle.tipc_node.specs.Turns.{Names}
 
 -- each of these frames is for the node with that address word
 abbrev pub AreFor : ℕ → List Outgoing → Type 0
 AreFor word [] = Unit {0}
 AreFor word (o ∷ os) = (o.to ≡ to.Node (record { word = word })) × AreFor word os
-
--- an end whose frames are for that node
-pub record Names (word : ℕ) (e : LinkEnd) : Type 0 where
-  pub peer : e.peer ≡ word
-  pub session : (s : SessionEnd) → e.session ≡ Some s → s.peer ≡ word
 
 -- ---- lists of frames
 
@@ -37,7 +33,7 @@ pub for_both : (word : ℕ) (xs ys : List Outgoing) → AreFor word xs → AreFo
 for_both word [] ys hx hy = hy
 for_both word (x ∷ xs) ys hx hy = (hx.0, for_both word xs ys hx.1 hy)
 
-to_same : (word peer : ℕ) → peer ≡ word → to.Node (record { word = peer }) ≡ to.Node (record { word = word })
+pub to_same : (word peer : ℕ) → peer ≡ word → to.Node (record { word = peer }) ≡ to.Node (record { word = word })
 to_same word peer is = ap (λ w. to.Node (record { word = w })) is
 
 -- ---- a session
@@ -59,7 +55,7 @@ heard_peer s by acknowledgement (Shows next gap probe) = spoke_peer (released s 
 heard_peer s by acknowledgement (Carries number packet) = refl
 heard_peer s by acknowledgement Nothing = refl
 
-flushed_peer : (s : SessionEnd) → (flushed s).peer ≡ s.peer
+pub flushed_peer : (s : SessionEnd) → (flushed s).peer ≡ s.peer
 unfolding flushed
 flushed_peer s = refl
 
@@ -85,7 +81,7 @@ arrival_for word s by acknowledgement Nothing is = tt
 
 -- ---- a link end
 
-names_fsm : (word : ℕ) (e : LinkEnd) (fsm : Fsm) → Names word e → Names word (with_fsm e fsm)
+pub names_fsm : (word : ℕ) (e : LinkEnd) (fsm : Fsm) → Names word e → Names word (with_fsm e fsm)
 names_fsm word e fsm n = record { peer = n.peer; session = n.session }
 
 pub names_session : (word : ℕ) (e : LinkEnd) (session : Option SessionEnd) → Names word e → ((s : SessionEnd) → session ≡ Some s → s.peer ≡ word) → Names word (record e { session = session })
@@ -96,7 +92,7 @@ mapped_peer : (word : ℕ) (f : SessionEnd → SessionEnd) (session : Option Ses
 mapped_peer word f None keeps is s has = absurd cc
 mapped_peer word f (Some t) keeps is s has = let same : f t ≡ s = cc in ap (λ (u : SessionEnd). u.peer) (sym same) ∙ keeps t ∙ is t refl
 
-names_mapped : (word : ℕ) (e : LinkEnd) (f : SessionEnd → SessionEnd) → Names word e → ((s : SessionEnd) → (f s).peer ≡ s.peer) → Names word (record e { session = option_map f e.session })
+pub names_mapped : (word : ℕ) (e : LinkEnd) (f : SessionEnd → SessionEnd) → Names word e → ((s : SessionEnd) → (f s).peer ≡ s.peer) → Names word (record e { session = option_map f e.session })
 names_mapped word e f n keeps = names_session word e _ n (mapped_peer word f e.session keeps n.session)
 
 begun_names : (word : ℕ) (e : LinkEnd) (s t : SessionEnd) → Names word e → s.peer ≡ e.peer → Some s ≡ Some t → t.peer ≡ word
@@ -110,7 +106,7 @@ names_followed word e other n = n
 names_after : (word : ℕ) (e : LinkEnd) (o : Outcome) → Names word e → Names word (after e o)
 names_after word e o n = names_followed word (with_fsm e o.after) o.change (names_fsm word e o.after n)
 
-names_parted : (word : ℕ) (e : LinkEnd) → Names word e → Names word (parted e)
+pub names_parted : (word : ℕ) (e : LinkEnd) → Names word e → Names word (parted e)
 names_parted word e n = record { peer = n.peer; session = n.session }
 
 pub reset_for : (word : ℕ) (e : LinkEnd) → Names word e → AreFor word (reset_frames e)
@@ -130,7 +126,7 @@ follow_for word e other shown n = tt
 frames_for : (word : ℕ) (e : LinkEnd) (o : Outcome) (shown : BroadcastState) → Names word e → AreFor word (frames e o shown)
 frames_for word e o shown n = follow_for word (with_fsm e o.after) o.change shown (names_fsm word e o.after n)
 
-names_settled : (word : ℕ) (e : LinkEnd) (o : Outcome) → Names word e → Names word (settled e o)
+pub names_settled : (word : ℕ) (e : LinkEnd) (o : Outcome) → Names word e → Names word (settled e o)
 names_settled word e o n = either (Names word) (is_down o.change) _ _ (names_parted word (after e o) (names_after word e o n)) (names_after word e o n)
 
 settled_for : (word : ℕ) (e : LinkEnd) (o : Outcome) (shown : BroadcastState) → Names word e → AreFor word (settled_frames e o shown)
@@ -149,7 +145,7 @@ lonely_names own peer boot = record { peer = refl; session = λ s has. absurd cc
 
 -- ---- an arrival
 
-record MetNames (word : ℕ) (m : Met) : Type 0 where
+pub record MetNames (word : ℕ) (m : Met) : Type 0 where
   pub after : Names word m.after
   pub frames : AreFor word m.frames
 
@@ -206,7 +202,7 @@ arrival_of_names word (header.Activate a) e es er p by shown n =
     number_names word e a.contact _ _ n (link_names word e (outcome_of e.fsm p.header es er false) p by shown n) (risen_activate_names word e a.contact es er p by shown n)
 arrival_of_names word other e es er p by shown n = link_names word e (outcome_of e.fsm p.header es er false) p by shown n
 
-arrival_names : (word : ℕ) (e : LinkEnd) (es er : ℕ) (p : Fields) (by : ℕ) (shown : BroadcastState) → Names word e → MetNames word (arrival e es er p by shown)
+pub arrival_names : (word : ℕ) (e : LinkEnd) (es er : ℕ) (p : Fields) (by : ℕ) (shown : BroadcastState) → Names word e → MetNames word (arrival e es er p by shown)
 unfolding arrival
 arrival_names word e es er p by shown n = arrival_of_names word p.header e es er p by shown n
 
@@ -214,7 +210,7 @@ answer_for : (word : ℕ) (session : Option SessionEnd) (shown : BroadcastState)
 answer_for word None shown is = tt
 answer_for word (Some s) shown is = either (AreFor word) (is_due s) _ _ (to_same word s.peer (is s refl), tt) tt
 
-answers_for : (word : ℕ) (e : LinkEnd) (shown : BroadcastState) → Names word e → AreFor word (answered_frames e shown)
+pub answers_for : (word : ℕ) (e : LinkEnd) (shown : BroadcastState) → Names word e → AreFor word (answered_frames e shown)
 answers_for word e shown n = either (AreFor word) (is_up e.fsm.state) _ _ (answer_for word e.session shown n.session) tt
 
 -- the frames that leave at an arrival
