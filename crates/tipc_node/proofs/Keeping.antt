@@ -19,7 +19,10 @@ use Rattle.tipc_node.specs.Nodes.{NodeState, kept_answer, neighbour_of, step_of}
 use Rattle.tipc_node.specs.Telling.{IsTold, TellsOf}
 use Rattle.tipc_node.specs.Turns.{AreNamed, NodeTurn, addr_of, link_in}
 use Rattle.tipc_node.proofs.Doing.{IsDone, IsMet}
-use Rattle.tipc_node.proofs.Stub.{arrives_turn, performs_turn, turn_named, turn_told}
+use Rattle.tipc_node.proofs.Arrivals.{arrives_turn}
+use Rattle.tipc_node.proofs.Named.{turn_named}
+use Rattle.tipc_node.proofs.Performing.{performs_turn}
+use Rattle.tipc_node.proofs.Told.{turn_told}
 
 -- ---- a node that knows nobody
 

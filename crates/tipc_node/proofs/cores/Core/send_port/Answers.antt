@@ -1,5 +1,4 @@
-use Rattle.std.proofs.Common.{◌∙◌, ◌++◌, [], ap, sym, rules}
-use Rattle.tipc_node.specs.contracts.cores.Core.{the_view}
+use Rattle.std.proofs.Common.{◌∙◌, sym, rules}
 use Rattle.tipc_node.proofs.Doing.{refused_send}
 use Rattle.tipc_node.proofs.Refusals.{sendable}
 use Rattle.tipc_node.proofs.cores.Core.send_port.Goals as goal
@@ -12,5 +11,4 @@ direct-message-requires c = (sendable _ c.args.port c.in-Some.peer c.limit-most.
 
 pub returns-in-Some-refusal-clause-ok : goal.returns-in-Some-refusal-clause-ok
 returns-in-Some-refusal-clause-ok c =
-    let n = the_view c.self.inside in
     refused_send c.args.self.now _ c.args.by c.args.port c.args.to c.args.importance c.args.body c.args.out.now c.in-Some.peer c.in-Some-refusal.refusal c.in-Some.ensures.some.2 (search rules) (search rules)

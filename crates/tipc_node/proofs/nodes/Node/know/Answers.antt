@@ -2,7 +2,8 @@ use Rattle.std.proofs.Common.{◌∙◌, ap, sym, subst}
 use Rattle.tipc_node.specs.Nodes.{NodeState, neighbour_of}
 use Rattle.tipc_node.specs.Telling.{IsTold}
 use Rattle.tipc_node.specs.Turns.{AreNamed}
-use Rattle.tipc_node.proofs.Stub.{known_named, known_told}
+use Rattle.tipc_node.proofs.Named.{known_named}
+use Rattle.tipc_node.proofs.Told.{known_told}
 use Rattle.tipc_node.proofs.nodes.Node.know.Goals as goal
 
 pub invariant_of-self : goal.invariant_of-self
