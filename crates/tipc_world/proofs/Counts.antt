@@ -130,9 +130,6 @@ sender_here m sender peer epoch e s from link down is same =
 
 -- ---- all sessions
 
-pub noted_start : (counts : List ((ℕ × ℕ) × ℕ)) (n : NodeState) → AreNoted counts counts n 0
-noted_start counts n = record { here = λ peer epoch below. absurd (omega arith); else_ = λ peer epoch from. refl }
-
 -- the last session of a link, up or down
 abbrev pub last_in : ℕ → Option LinkEnd → Option ((ℕ × ℕ) × ℕ)
 last_in peer link = option_and_then (λ e. option_map (tally peer) e.session) link

@@ -55,10 +55,6 @@ becomes_sound old new stamp (Restart node) answered lost sound boots can h =
 becomes_sound old new stamp (Call node call) answered lost sound boots can h = happens_sound old new stamp (Call node call) [] answered lost sound h tt
 becomes_sound old new stamp (Arrive node bearer place) answered lost sound boots can h = arrival_sound old new stamp node bearer place answered lost sound h
 
--- after one step
-pub step_sound : (old : WorldState) (event : WorldEvent) (new : WorldState) (answered : Answer) → IsSound old.members old.air → HaveNextBoots old.members → CanHappenAt old.members event → IsStep old event new answered → IsSound new.members new.air
-step_sound old event new answered sound boots can s = becomes_sound (stage old.members old.air) (stage new.members new.air) old.stamps event answered s.lost sound boots can s.becomes
-
 -- ---- a node comes in
 
 absent_boot : (members : List (Option MemberState)) (n : ℕ) → slice_index_or members n None ≡ None → boot_at members n ≡ 1

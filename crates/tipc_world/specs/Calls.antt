@@ -1,9 +1,10 @@
 -- What an event needs, and what it counts for.
-use Rattle.std.specs.Prelude.{◌≡◌, ◌≢◌, ◌≤◌, ℕ, Bool, true, false, ◌&&◌, List, Option, None, is_none, is_some, slice_index_or}
+use Rattle.std.specs.Prelude.{◌≡◌, ◌≢◌, ◌≤◌, ℕ, Bool, true, false, ◌&&◌, List, Option, Some, None, is_none, is_some, slice_index_or}
 use Rattle.tipc_types.specs.Address.{node_word}
 use Rattle.tipc_types.specs.declared.node_calls.EventNote.{EventNote}
 use Rattle.tipc_types.specs.declared.node_calls.EventNote.TheVariants.{SendPort}
 use Rattle.tipc_node.specs.Calls.{CanPerform}
+use Rattle.tipc_node.specs.Nodes.{NodeState, neighbour_of}
 use Rattle.tipc_node.specs.declared.recording.NodeFault.{NodeFault}
 use Rattle.tipc_node.specs.declared.recording.NodeFault.TheVariants.{JournalFull, NoMemory}
 use Rattle.tipc_world.specs.declared.events.Limit.TheVariants as limit
@@ -41,12 +42,16 @@ CanHappenAt members (Arrive node bearer frame) = (is_some (slice_index_or member
 abbrev pub CanHappen : WorldState → WorldEvent → Type 0
 CanHappen w event = CanHappenAt w.members event
 
--- what an event needs of itself alone; an arrival is none of these
-abbrev pub CanDo : WorldEvent → Type 0
-CanDo (Know node peer) = (1 ≤ peer) × (peer ≤ 32)
-CanDo (Restart node) = Unit {0}
-CanDo (Call node call) = CanPerform call
-CanDo (Arrive node bearer frame) = ⊥
+-- what an event needs of its node alone; an arrival is none of these
+abbrev pub CanDo : NodeState → WorldEvent → Type 0
+CanDo n (Know node peer) = (1 ≤ peer) × (peer ≤ 32) × (neighbour_of n peer ≡ None)
+CanDo n (Restart node) = Unit {0}
+CanDo n (Call node call) = CanPerform call
+CanDo n (Arrive node bearer frame) = ⊥
+
+abbrev pub CanDoAt : List (Option MemberState) → WorldEvent → Type 0
+CanDoAt members event =
+    (m : MemberState) → slice_index_or members (node_of event) None ≡ Some m → CanDo m.node event
 
 -- whether a journal records the event as a call: coming to know a peer isn't one, and a restart isn't
 abbrev pub is_recorded : WorldEvent → Bool

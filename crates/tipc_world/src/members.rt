@@ -1,13 +1,13 @@
 //! A node of a world, with the journals of all its boots.
 
-ghost use Rattle.std.specs.Prelude.{◌≡◌, ◌+◌, ◌<◌, ◌≤◌, [], ℕ, true, false, length, map, option_and_then, option_map, IfErr, IfOk, OnErr, OnOk};
+ghost use Rattle.std.specs.Prelude.{◌≡◌, ◌+◌, ◌<◌, ◌≤◌, [], ℕ, true, false, None, length, map, option_and_then, option_map, IfErr, IfOk, OnErr, OnOk};
 ghost use Rattle.indexmap.specs.IndexMap.{spare};
 ghost use Rattle.tipc_header.specs.Reading.{word_at};
 ghost use Rattle.tipc_journal.specs.Streams.{accepted, delivered};
 ghost use Rattle.tipc_link.specs.Links.{numbered_in};
 ghost use Rattle.tipc_pair.specs.Pairs.{contact_of};
 ghost use Rattle.tipc_node.specs.Calls.{CanPerform};
-ghost use Rattle.tipc_node.specs.Nodes.{has_room, load_of};
+ghost use Rattle.tipc_node.specs.Nodes.{has_room, load_of, neighbour_of};
 ghost use Rattle.tipc_node.specs.Turns.{link_in};
 ghost use Rattle.tipc_world.specs.Calls.{is_recorded, CallStops, CanDo, RecordStops};
 ghost use Rattle.tipc_world.specs.Deeds.{Did};
@@ -291,6 +291,7 @@ impl Member {
     /// Comes to know a peer.
     pub fn know(&mut self, alloc: Global, peer: u8, out: &mut Outbox) -> Answer
         requires peer { (1 ≤ peer) × (peer ≤ 32) }
+        requires alone { neighbour_of self.old.node peer ≡ None }
         ensures { (stamp node : ℕ) →
             Did stamp (WorldEvent.Know node peer) [] self.old self.new out.old out.new result }
     {
@@ -392,7 +393,7 @@ impl Member {
         event: WorldEvent,
         out: &mut Outbox,
     ) -> Result<Answer, WorldFault>
-        requires can { CanDo event }
+        requires can { CanDo self.old.node event }
         requires settled { (n : ℕ) × IsSettledAt self.old n }
         ensures did { IfOk result (λ a. Did stamp event [] self.old self.new out.old out.new a) }
         ensures room { is_recorded event ≡ true → OnOk result (has_room self.old.node.journal ≡ true) }
