@@ -113,7 +113,8 @@ pub struct Delivery {
     pub message: Option<Message>,
 }
 
-/// The entry of a whole packet that was given in a contact: its message is delivered, or the packet is dropped where it carries none.
+/// The entry of a whole packet that was given in a contact: its message is delivered, or the packet is dropped
+/// where it carries none.
 fn delivered_entry(
     peer: u8,
     contact: (u64, u64),
@@ -237,10 +238,12 @@ fn delivered_bytes(entry: &Entry) -> u64
     }
 }
 
-/// Whether the deliveries of one arrival have room in the step that tells of it, beside its begin, its end, and two changes.
+/// Whether the deliveries of one arrival have room in the step that tells of it, beside its begin, its end, and two
+/// changes.
 ///
-/// They always have: what is given at once came in the packets that were held, 50 at most, and in this one. A frame has at most
-/// 1,516 bytes, so these are some thousand messages at most, and some 80,000 bytes beside the 66,044 of a message that was begun.
+/// They always have: what is given at once came in the packets that were held, 50 at most, and in this one. A frame
+/// has at most 1,516 bytes, so these are some thousand messages at most, and some 80,000 bytes beside the 66,044 of
+/// a message that was begun.
 pub fn fits(deliveries: &[Delivery]) -> bool
     ensures { result ≡ true → (length deliveries.now ≤ free_entries - 6) ×
         (sum_by entry_bytes (entries_in deliveries.now) ≤ free_message_bytes) }
@@ -291,7 +294,8 @@ pub fn arrival_answer(outcome: &PairOutcome, deliveries: &[Delivery]) -> Arrival
     }
 }
 
-/// What a packet that shows no contact number will make of a neighbour, what it delivers, and what will have become of it.
+/// What a packet that shows no contact number will make of a neighbour, what it delivers, and what will have become
+/// of it.
 #[derive(Drop)]
 pub struct Hearing {
     /// What it will make of the pair.
@@ -302,8 +306,8 @@ pub struct Hearing {
     pub answer: Arrival,
 }
 
-/// What a packet that shows no contact number will make of a neighbour; `number` is the arrival's number at this node. Nothing is
-/// changed yet.
+/// What a packet that shows no contact number will make of a neighbour; `number` is the arrival's number at this
+/// node. Nothing is changed yet.
 pub fn prepare(
     alloc: Global,
     neighbour: &Neighbour,
@@ -312,8 +316,10 @@ pub fn prepare(
 ) -> Result<Hearing, NoMemory>
     requires peer { (1 ≤ due.now.peer) × (due.now.peer ≤ 32) }
     requires fits { Fits (view due.now.packet) }
-    ensures arriving { IfOk result (λ h. IsPairArriving neighbour.now.pair due.now.first due.now.second (view due.now.packet) number h.arriving) }
-    ensures deliveries { IfOk result (λ h. h.deliveries.items ≡ deliveries_of due.now.peer (shown_contact neighbour.now.pair.link) (opened_in h.arriving.outcome)) }
+    ensures arriving { IfOk result (λ h.
+        IsPairArriving neighbour.now.pair due.now.first due.now.second (view due.now.packet) number h.arriving) }
+    ensures deliveries { IfOk result (λ h. h.deliveries.items ≡
+        deliveries_of due.now.peer (shown_contact neighbour.now.pair.link) (opened_in h.arriving.outcome)) }
     ensures answer { IfOk result (λ h. h.answer ≡ arrival_answer h.arriving.outcome h.deliveries.items) }
     ensures few { IfOk result (λ h. length h.deliveries.items ≤ free_entries - 6) }
     ensures bytes { IfOk result (λ h. sum_by entry_bytes (entries_in h.deliveries.items) ≤ free_message_bytes) }
@@ -334,7 +340,8 @@ pub fn prepare(
     })
 }
 
-/// Tells of the deliveries of an arrival, in a list that has room, and puts their messages into the inboxes of their ports.
+/// Tells of the deliveries of an arrival, in a list that has room, and puts their messages into the inboxes of
+/// their ports.
 pub fn deliver(
     inside: &mut Vec<Entry>,
     inboxes: &mut Vec<Inbox>,

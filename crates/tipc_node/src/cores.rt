@@ -50,9 +50,17 @@ impl Model for Core {
 
     ghost Value = { NodeState };
 
-    ghost view = { λ n. record { own = n.own.word; boot = n.boot; mended = n.mended; neighbours = n.neighbours.items; inboxes = n.inboxes.items; journal = n.journal.entries } };
+    ghost view = { λ n. record {
+      own = n.own.word;
+      boot = n.boot;
+      mended = n.mended;
+      neighbours = n.neighbours.items;
+      inboxes = n.inboxes.items;
+      journal = n.journal.entries;
+    } };
 
-    ghost invariant = { λ n. (length n.neighbours.items ≡ 33) × (length n.inboxes.items ≤ most_sockets) × (1 ≤ n.boot) × (slice_index_or n.neighbours.items 0 None ≡ None) };
+    ghost invariant = { λ n. (length n.neighbours.items ≡ 33) × (length n.inboxes.items ≤ most_sockets) ×
+        (1 ≤ n.boot) × (slice_index_or n.neighbours.items 0 None ≡ None) };
 }
 
 /// A table without neighbours.
@@ -199,8 +207,8 @@ impl Core {
         }
     }
 
-    /// A frame arrives on a bearer; `number` is its number among all that arrived at this node. A packet that it brings to a link is
-    /// heard there; another frame is ignored for the first reason that holds.
+    /// A frame arrives on a bearer; `number` is its number among all that arrived at this node. A packet that it
+    /// brings to a link is heard there; another frame is ignored for the first reason that holds.
     ///
     /// # Errors
     ///
@@ -264,8 +272,8 @@ impl Core {
         base < port && port - base <= self.inboxes.len() as u32
     }
 
-    /// Takes the first message of a port's inbox: NoSocket exactly where the port isn't there, Empty exactly where its
-    /// inbox is empty.
+    /// Takes the first message of a port's inbox: NoSocket exactly where the port isn't there, Empty exactly where
+    /// its inbox is empty.
     ///
     /// # Errors
     ///
@@ -298,7 +306,8 @@ impl Core {
         Ok(answer)
     }
 
-    /// The numbers of packets unacknowledged and waiting on the link to the peer: None exactly where there is no contact.
+    /// The numbers of packets unacknowledged and waiting on the link to the peer: None exactly where there is no
+    /// contact.
     fn load_to(&self, peer: u8) -> Option<(u32, u32)>
         ensures some { IfSome result (λ counts. (s : SessionEnd) ×
             (session_with (neighbour_of self.now peer) ≡ Some s) × (counts.0 ≡ length s.sending.unacked) ×
@@ -331,10 +340,10 @@ impl Core {
         None
     }
 
-    /// Sends a message to a port of another of the 32 nodes. NoSocket exactly where the sending port isn't there, else TooLong
-    /// exactly where the body has more than 66,000 bytes, else NoNode exactly where there is no contact with that node, else
-    /// Congested exactly where as many packets wait on the link as the limit of the importance. At Sent the message is recorded as
-    /// accepted.
+    /// Sends a message to a port of another of the 32 nodes. NoSocket exactly where the sending port isn't there,
+    /// else TooLong exactly where the body has more than 66,000 bytes, else NoNode exactly where there is no
+    /// contact with that node, else Congested exactly where as many packets wait on the link as the limit of the
+    /// importance. At Sent the message is recorded as accepted.
     ///
     /// # Errors
     ///
@@ -374,8 +383,8 @@ impl Core {
         Ok(Answer::Sent)
     }
 
-    /// Puts a message on the link to the peer, with which there is a contact and on whose link fewer packets than the limit
-    /// wait, and records that.
+    /// Puts a message on the link to the peer, with which there is a contact and on whose link fewer packets than
+    /// the limit wait, and records that.
     fn put(
         &mut self,
         alloc: Global,
@@ -434,8 +443,8 @@ impl Core {
         Ok(Answer::Done)
     }
 
-    /// The packet of a frame that arrives on a bearer, which is due at the link of the node that it names as its sender; or the first
-    /// reason why it reaches no link.
+    /// The packet of a frame that arrives on a bearer, which is due at the link of the node that it names as its
+    /// sender; or the first reason why it reaches no link.
     fn due<'a>(&self, bearer: u8, frame: &'a [u8]) -> Result<Due<'a>, Why>
         ensures due { IfOk result (λ d. IsDue self.now frame.now d.peer d.first d.second (view d.packet)) }
         ensures clear { OnOk result (stop_of self.now bearer frame.now ≡ None) }
@@ -476,9 +485,9 @@ impl Core {
         Ok(Arrival::Ignored(why))
     }
 
-    /// A frame arrives whose packet is due at the link of a peer; `number` is its number among all that arrived at this node. The link
-    /// makes of it what its states and the contact numbers say. A message that is given is recorded as delivered and put into the
-    /// inbox of its port. A STATE that is due is sent last.
+    /// A frame arrives whose packet is due at the link of a peer; `number` is its number among all that arrived at
+    /// this node. The link makes of it what its states and the contact numbers say. A message that is given is
+    /// recorded as delivered and put into the inbox of its port. A STATE that is due is sent last.
     ///
     /// # Errors
     ///
@@ -494,7 +503,8 @@ impl Core {
         requires peer { (1 ≤ due.peer) × (due.peer ≤ 32) }
         requires fits { Fits (view due.packet) }
         requires there { is_some (neighbour_of self.old due.peer) ≡ true }
-        ensures heard { (bytes : List ℕ) → IsDue self.old bytes due.entry.peer due.entry.first due.entry.second (view due.entry.packet) →
+        ensures heard { (bytes : List ℕ) →
+            IsDue self.old bytes due.entry.peer due.entry.first due.entry.second (view due.entry.packet) →
             IfOk result (λ a. (frames : List Outgoing)
             × Hears self.old self.new by number bytes frames a × Adds out.old out.new frames) }
         ensures room { OnOk result (has_room self.old.journal ≡ true) }
@@ -526,7 +536,8 @@ impl Core {
         requires there { is_some (neighbour_of self.old due.peer) ≡ true }
         requires room { has_room self.old.journal ≡ true }
         requires shows { shows_contact due.packet.header ≡ true }
-        ensures heard { (bytes : List ℕ) → IsDue self.old bytes due.entry.peer due.entry.first due.entry.second (view due.entry.packet) →
+        ensures heard { (bytes : List ℕ) →
+            IsDue self.old bytes due.entry.peer due.entry.first due.entry.second (view due.entry.packet) →
             IfOk result (λ a. (frames : List Outgoing)
             × Hears self.old self.new by number bytes frames a × Adds out.old out.new frames) }
         ensures err { OnErr result ((self.new ≡ self.old) × (out.new ≡ out.old)) }
@@ -558,7 +569,8 @@ impl Core {
         requires there { is_some (neighbour_of self.old due.peer) ≡ true }
         requires room { has_room self.old.journal ≡ true }
         requires plain { shows_contact due.packet.header ≡ false }
-        ensures heard { (bytes : List ℕ) → IsDue self.old bytes due.entry.peer due.entry.first due.entry.second (view due.entry.packet) →
+        ensures heard { (bytes : List ℕ) →
+            IsDue self.old bytes due.entry.peer due.entry.first due.entry.second (view due.entry.packet) →
             IfOk result (λ a. (frames : List Outgoing)
             × Hears self.old self.new by number bytes frames a × Adds out.old out.new frames) }
         ensures err { OnErr result ((self.new ≡ self.old) × (out.new ≡ out.old)) }

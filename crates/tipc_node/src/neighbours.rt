@@ -139,7 +139,8 @@ impl Neighbour {
         ensures change { (p : Fields) (by : ℕ) → p.header ≡ header →
             result.change ≡ (met_by self.old es er p by).change }
         ensures opens { (p : Fields) (by : ℕ) → p.header ≡ header →
-            OpensTo (begun_after (met_by self.old es er p by).change self.old.pair.begun) (met_by self.old es er p by).outcome result.outcome self.new.pair.begun }
+            OpensTo (begun_after (met_by self.old es er p by).change self.old.pair.begun)
+            (met_by self.old es er p by).outcome result.outcome self.new.pair.begun }
         ensures after { (p : Fields) (by : ℕ) → p.header ≡ header →
             self.new ≡ heard_neighbour self.old p (met_by self.old es er p by) self.new.pair.begun }
         ensures frames { (p : Fields) (by : ℕ) → p.header ≡ header →
@@ -152,8 +153,8 @@ impl Neighbour {
         arrival
     }
 
-    /// Takes a packet that shows no contact number, as its pair told of it when it was as it is, and then sends the STATE that is
-    /// due.
+    /// Takes a packet that shows no contact number, as its pair told of it when it was as it is, and then sends the
+    /// STATE that is due.
     pub fn take(
         &mut self,
         alloc: Global,
@@ -167,9 +168,11 @@ impl Neighbour {
         ensures change { (es er by : ℕ) → IsPairArriving self.old.pair es er (view packet.now) by arriving →
             result ≡ (met_by self.old es er (view packet.now) by).change }
         ensures after { (es er by : ℕ) → IsPairArriving self.old.pair es er (view packet.now) by arriving →
-            self.new ≡ heard_neighbour self.old (view packet.now) (met_by self.old es er (view packet.now) by) arriving.begun }
+            self.new ≡ heard_neighbour self.old (view packet.now)
+            (met_by self.old es er (view packet.now) by) arriving.begun }
         ensures frames { (es er by : ℕ) → IsPairArriving self.old.pair es er (view packet.now) by arriving →
-            Adds out.old out.new (heard_frames self.old (view packet.now) (met_by self.old es er (view packet.now) by)) }
+            Adds out.old out.new (heard_frames self.old (view packet.now)
+            (met_by self.old es er (view packet.now) by)) }
     {
         let gets_in_step = gets_in_step(&packet.header, arriving.outcome());
         let shown = no_broadcast(self.in_step);
@@ -225,7 +228,8 @@ impl Neighbour {
         requires pieces { All IsWaiting pieces }
         ensures ok { (s : SessionEnd) → session_with (Some self.old) ≡ Some s →
             OnOk result ((put : SessionEnd) × IsPut s pieces put ×
-            (self.new ≡ neighbour (with_session self.old.pair.link (flushed put)) self.old.pair.begun self.old.in_step) × Adds out.old out.new (flush_frames put)) }
+            (self.new ≡ neighbour (with_session self.old.pair.link (flushed put)) self.old.pair.begun
+            self.old.in_step) × Adds out.old out.new (flush_frames put)) }
         ensures err { OnErr result ((self.new ≡ self.old) × (out.new ≡ out.old)) }
     {
         match self.pair.send(alloc, pieces, limit, out) {
@@ -257,7 +261,8 @@ pub fn mended_by(deed: Deed, mended: bool) -> bool
     }
 }
 
-/// Lets something happen to the neighbour of that number, where there is one, and tells what became of the link to it.
+/// Lets something happen to the neighbour of that number, where there is one, and tells what became of the link to
+/// it.
 fn take_part_at(
     place: &mut Option<Neighbour>,
     alloc: Global,

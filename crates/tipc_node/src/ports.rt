@@ -22,7 +22,8 @@ pub fn port_base(boot: u32) -> u32
 /// The answer to a call for a socket, where so many are there.
 pub fn socket_answer(boot: u32, made: usize) -> Answer
     requires { 1 ≤ boot }
-    ensures { result ≡ (if nat_lt made most_sockets then Answer.Socket (port_base boot + made + 1) else Answer.Full most_sockets) }
+    ensures { result ≡ (if nat_lt made most_sockets
+        then Answer.Socket (port_base boot + made + 1) else Answer.Full most_sockets) }
 {
     if made < MOST_SOCKETS {
         Answer::Socket(port_base(boot) + made as u32 + 1)
@@ -34,7 +35,8 @@ pub fn socket_answer(boot: u32, made: usize) -> Answer
 /// Takes the first message of an inbox: Empty exactly where there is none.
 pub fn take_first(inboxes: &mut Vec<Inbox>, place: usize) -> Answer
     requires { place < length inboxes.old.items }
-    ensures inboxes { inboxes.new.items ≡ without_first inboxes.old.items place (slice_index_or inboxes.old.items place []) }
+    ensures inboxes { inboxes.new.items ≡
+        without_first inboxes.old.items place (slice_index_or inboxes.old.items place []) }
     ensures answer { result ≡ first_answer (slice_index_or inboxes.old.items place []) }
 {
     match inboxes[place].take() {

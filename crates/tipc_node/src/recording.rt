@@ -22,7 +22,8 @@ pub const FREE_MESSAGE_BYTES: u64 = 4_194_304;
 /// Why a call of a node wasn't made. Nothing is changed then.
 #[derive(Clone, Copy, Debug, PartialEq, Eq)]
 pub enum NodeFault {
-    /// The journal has no room for a call: fewer than 65,536 free entries, or fewer than 4,194,304 free message bytes.
+    /// The journal has no room for a call: fewer than 65,536 free entries, or fewer than 4,194,304 free message
+    /// bytes.
     JournalFull,
     /// Memory ran out.
     NoMemory,
