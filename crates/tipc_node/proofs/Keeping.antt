@@ -1,5 +1,5 @@
 -- What every call of a node keeps: its journal tells of it, and its link ends are for their peers.
-use Rattle.std.proofs.Common.{◌≡◌, ℕ, List, [], Option, Some, None, Result, Ok, Err, option_map, refl, sym, ap, ◌∙◌, subst}
+use Rattle.std.proofs.Common.{◌≡◌, ℕ, List, [], Option, Some, None, Result, Ok, Err, option_map, refl, sym, ap, subst}
 use Rattle.std.specs.Prelude.{IfOk, OnErr}
 use Rattle.std.proofs.lemmas.Result.{IfOk-weaker}
 use Rattle.tipc_types.specs.declared.node_calls.Answer.{Answer}
@@ -17,7 +17,7 @@ use Rattle.tipc_node.specs.declared.neighbours.Neighbour.{Neighbour}
 use Rattle.tipc_node.specs.Calls.{Arrived, CallTurn, CanPerform, Performed}
 use Rattle.tipc_node.specs.Nodes.{NodeState, kept_answer, neighbour_of, step_of}
 use Rattle.tipc_node.specs.Telling.{IsTold, TellsOf}
-use Rattle.tipc_node.specs.Turns.{AreNamed, NodeTurn, addr_of, link_in}
+use Rattle.tipc_node.specs.Turns.{AreNamed, NodeTurn, link_in}
 use Rattle.tipc_node.proofs.Doing.{IsDone, IsMet}
 use Rattle.tipc_node.proofs.Arrivals.{arrives_turn}
 use Rattle.tipc_node.proofs.Named.{turn_named}

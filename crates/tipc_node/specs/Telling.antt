@@ -9,7 +9,7 @@ use Rattle.tipc_journal.specs.Steps.{IsWhole}
 use Rattle.tipc_link_fsm.specs.Table.{is_reset_reset, is_up}
 use Rattle.tipc_link.specs.Links.{LinkEnd, known}
 use Rattle.tipc_pair.specs.Pairs.{contact_of}
-use Rattle.tipc_node.specs.Nodes.{NodeState, neighbour_of}
+use Rattle.tipc_node.specs.Nodes.{NodeState}
 use Rattle.tipc_node.specs.Turns.{addr_of, link_in}
 
 -- the two epochs of a link that is up

@@ -11,6 +11,7 @@ ghost use Rattle.tipc_link.specs.Sessions.{SessionEnd};
 ghost use Rattle.tipc_pair.specs.Pairs.{shows_contact};
 ghost use Rattle.tipc_outside.specs.declared.outgoing.Outgoing.{Outgoing};
 ghost use Rattle.tipc_node.specs.Calls.{Arrives, CanPerform, Hears, IsDue, IsSent, Performs, Sends, TakesPart};
+ghost use Rattle.tipc_node.specs.Limits.{most_body_bytes};
 ghost use Rattle.tipc_node.specs.Nodes.{contact_with, deed_node, direct, frames_all, has_port, has_room, known_frames, known_node, limit_of, load_of, neighbour_of, receive_answer, receive_node, recorded, refusal, session_with, socket_answer, socket_node, stop_of, stopped_node};
 
 use crate::arriving::{Due, arrival_answer, deliver, is_known, look, prepare};
@@ -44,18 +45,28 @@ pub struct Core {
 
 impl Model for Core {
     ghost use Rattle.std.specs.Prelude.{◌≡◌, ◌≤◌, None, length, slice_index_or};
+    ghost use Rattle.tipc_node.specs.Limits.{most_sockets};
     ghost use Rattle.tipc_node.specs.Nodes.{NodeState};
 
     ghost Value = { NodeState };
 
-    ghost view = { λ n. record { own = n.own.word; boot = n.boot; mended = n.mended; neighbours = n.neighbours.items; inboxes = n.inboxes.items; journal = n.journal.entries } };
+    ghost view = { λ n. record {
+      own = n.own.word;
+      boot = n.boot;
+      mended = n.mended;
+      neighbours = n.neighbours.items;
+      inboxes = n.inboxes.items;
+      journal = n.journal.entries;
+    } };
 
-    ghost invariant = { λ n. (length n.neighbours.items ≡ 33) × (length n.inboxes.items ≤ 256) × (1 ≤ n.boot) × (slice_index_or n.neighbours.items 0 None ≡ None) };
+    ghost invariant = { λ n. (length n.neighbours.items ≡ 33) × (length n.inboxes.items ≤ most_sockets) ×
+        (1 ≤ n.boot) × (slice_index_or n.neighbours.items 0 None ≡ None) };
 }
 
 /// A table without neighbours.
 fn no_neighbours(alloc: Global) -> Result<Vec<Option<Neighbour>>, NoMemory>
-    ensures { IfOk result (λ table. (length table.items ≡ 33) × ((peer : ℕ) → slice_index_or table.items peer None ≡ None)) }
+    ensures { IfOk result (λ table. (length table.items ≡ 33) ×
+        ((peer : ℕ) → slice_index_or table.items peer None ≡ None)) }
 {
     let mut table = Vec::new(alloc);
     for _ in 0..NUMBERS {
@@ -165,7 +176,8 @@ impl Core {
         out: &mut Outbox,
     ) -> Result<Answer, NodeFault>
         requires can { CanPerform call }
-        ensures ok { IfOk result (λ a. (frames : List Outgoing) × Performs self.old by call self.new frames a × Adds out.old out.new frames) }
+        ensures ok { IfOk result (λ a. (frames : List Outgoing) × Performs self.old by call self.new frames a ×
+            Adds out.old out.new frames) }
         ensures room { OnOk result (has_room self.old.journal ≡ true) }
         ensures full { has_room self.old.journal ≡ false → result ≡ Err NodeFault.JournalFull }
         ensures only { result ≡ Err NodeFault.JournalFull → has_room self.old.journal ≡ false }
@@ -195,8 +207,8 @@ impl Core {
         }
     }
 
-    /// A frame arrives on a bearer; `number` is its number among all that arrived at this node. A packet that it brings to a link is
-    /// heard there; another frame is ignored for the first reason that holds.
+    /// A frame arrives on a bearer; `number` is its number among all that arrived at this node. A packet that it
+    /// brings to a link is heard there; another frame is ignored for the first reason that holds.
     ///
     /// # Errors
     ///
@@ -230,7 +242,8 @@ impl Core {
     /// JournalFull exactly where the journal has no room for a call, else NoMemory. Neither changes anything.
     #[tactic(auto, unfolding(crate::specs::Nodes::socket_inboxes, crate::specs::Nodes::socket_answer))]
     fn socket(&mut self, alloc: Global, by: By) -> Result<Answer, NodeFault>
-        ensures ok { IfOk result (λ a. (self.new ≡ socket_node self.old by) × (a ≡ socket_answer self.old) × (has_room self.old.journal ≡ true)) }
+        ensures ok { IfOk result (λ a. (self.new ≡ socket_node self.old by) × (a ≡ socket_answer self.old) ×
+            (has_room self.old.journal ≡ true)) }
         ensures full { has_room self.old.journal ≡ false → result ≡ Err NodeFault.JournalFull }
         ensures only { result ≡ Err NodeFault.JournalFull → has_room self.old.journal ≡ false }
         ensures err { OnErr result (self.new ≡ self.old) }
@@ -259,15 +272,16 @@ impl Core {
         base < port && port - base <= self.inboxes.len() as u32
     }
 
-    /// Takes the first message of a port's inbox: NoSocket exactly where the port isn't there, Empty exactly where its
-    /// inbox is empty.
+    /// Takes the first message of a port's inbox: NoSocket exactly where the port isn't there, Empty exactly where
+    /// its inbox is empty.
     ///
     /// # Errors
     ///
     /// JournalFull exactly where the journal has no room for a call, else NoMemory. Neither changes anything.
     #[tactic(auto, unfolding(crate::specs::Nodes::receive_inboxes, crate::specs::Nodes::receive_answer))]
     fn receive(&mut self, alloc: Global, by: By, port: u32) -> Result<Answer, NodeFault>
-        ensures ok { IfOk result (λ a. (self.new ≡ receive_node self.old by port) × (a ≡ receive_answer self.old port) × (has_room self.old.journal ≡ true)) }
+        ensures ok { IfOk result (λ a. (self.new ≡ receive_node self.old by port) ×
+            (a ≡ receive_answer self.old port) × (has_room self.old.journal ≡ true)) }
         ensures full { has_room self.old.journal ≡ false → result ≡ Err NodeFault.JournalFull }
         ensures only { result ≡ Err NodeFault.JournalFull → has_room self.old.journal ≡ false }
         ensures err { OnErr result (self.new ≡ self.old) }
@@ -292,9 +306,12 @@ impl Core {
         Ok(answer)
     }
 
-    /// The numbers of packets unacknowledged and waiting on the link to the peer: None exactly where there is no contact.
+    /// The numbers of packets unacknowledged and waiting on the link to the peer: None exactly where there is no
+    /// contact.
     fn load_to(&self, peer: u8) -> Option<(u32, u32)>
-        ensures some { IfSome result (λ counts. (s : SessionEnd) × (session_with (neighbour_of self.now peer) ≡ Some s) × (counts.0 ≡ length s.sending.unacked) × (counts.1 ≡ length s.sending.waiting)) }
+        ensures some { IfSome result (λ counts. (s : SessionEnd) ×
+            (session_with (neighbour_of self.now peer) ≡ Some s) × (counts.0 ≡ length s.sending.unacked) ×
+            (counts.1 ≡ length s.sending.waiting)) }
         ensures none { IfNone result (session_with (neighbour_of self.now peer) ≡ None) }
     {
         match self.neighbours.get(peer as usize) {
@@ -323,10 +340,10 @@ impl Core {
         None
     }
 
-    /// Sends a message to a port of another of the 32 nodes. NoSocket exactly where the sending port isn't there, else TooLong
-    /// exactly where the body has more than 66,000 bytes, else NoNode exactly where there is no contact with that node, else
-    /// Congested exactly where as many packets wait on the link as the limit of the importance. At Sent the message is recorded as
-    /// accepted.
+    /// Sends a message to a port of another of the 32 nodes. NoSocket exactly where the sending port isn't there,
+    /// else TooLong exactly where the body has more than 66,000 bytes, else NoNode exactly where there is no
+    /// contact with that node, else Congested exactly where as many packets wait on the link as the limit of the
+    /// importance. At Sent the message is recorded as accepted.
     ///
     /// # Errors
     ///
@@ -366,8 +383,8 @@ impl Core {
         Ok(Answer::Sent)
     }
 
-    /// Puts a message on the link to the peer, with which there is a contact and on whose link fewer packets than the limit
-    /// wait, and records that.
+    /// Puts a message on the link to the peer, with which there is a contact and on whose link fewer packets than
+    /// the limit wait, and records that.
     fn put(
         &mut self,
         alloc: Global,
@@ -380,9 +397,10 @@ impl Core {
     ) -> Result<(), NoMemory>
         requires peer { (1 ≤ peer) × (peer ≤ 32) }
         requires payload { IsPayload message }
-        requires small { counted_bytes message ≤ 66000 }
+        requires small { counted_bytes message ≤ most_body_bytes }
         requires room { has_room self.old.journal ≡ true }
-        requires link { (s : SessionEnd) × (session_with (neighbour_of self.old peer) ≡ Some s) × (length s.sending.waiting < limit) }
+        requires link { (s : SessionEnd) × (session_with (neighbour_of self.old peer) ≡ Some s) ×
+            (length s.sending.waiting < limit) }
         ensures sent { OnOk result ((frames : List Outgoing)
             × IsSent self.old self.new by note peer message frames × Adds out.old out.new frames) }
         ensures err { OnErr result ((self.new ≡ self.old) × (out.new ≡ out.old)) }
@@ -425,8 +443,8 @@ impl Core {
         Ok(Answer::Done)
     }
 
-    /// The packet of a frame that arrives on a bearer, which is due at the link of the node that it names as its sender; or the first
-    /// reason why it reaches no link.
+    /// The packet of a frame that arrives on a bearer, which is due at the link of the node that it names as its
+    /// sender; or the first reason why it reaches no link.
     fn due<'a>(&self, bearer: u8, frame: &'a [u8]) -> Result<Due<'a>, Why>
         ensures due { IfOk result (λ d. IsDue self.now frame.now d.peer d.first d.second (view d.packet)) }
         ensures clear { OnOk result (stop_of self.now bearer frame.now ≡ None) }
@@ -454,7 +472,8 @@ impl Core {
         number: u64,
         why: Why,
     ) -> Result<Arrival, NodeFault>
-        ensures ok { IfOk result (λ a. (a ≡ Arrival.Ignored why) × (self.new ≡ stopped_node self.old by bearer number why) × (has_room self.old.journal ≡ true)) }
+        ensures ok { IfOk result (λ a. (a ≡ Arrival.Ignored why) ×
+            (self.new ≡ stopped_node self.old by bearer number why) × (has_room self.old.journal ≡ true)) }
         ensures full { has_room self.old.journal ≡ false → result ≡ Err NodeFault.JournalFull }
         ensures only { result ≡ Err NodeFault.JournalFull → has_room self.old.journal ≡ false }
         ensures err { OnErr result (self.new ≡ self.old) }
@@ -466,9 +485,9 @@ impl Core {
         Ok(Arrival::Ignored(why))
     }
 
-    /// A frame arrives whose packet is due at the link of a peer; `number` is its number among all that arrived at this node. The link
-    /// makes of it what its states and the contact numbers say. A message that is given is recorded as delivered and put into the
-    /// inbox of its port. A STATE that is due is sent last.
+    /// A frame arrives whose packet is due at the link of a peer; `number` is its number among all that arrived at
+    /// this node. The link makes of it what its states and the contact numbers say. A message that is given is
+    /// recorded as delivered and put into the inbox of its port. A STATE that is due is sent last.
     ///
     /// # Errors
     ///
@@ -484,7 +503,8 @@ impl Core {
         requires peer { (1 ≤ due.peer) × (due.peer ≤ 32) }
         requires fits { Fits (view due.packet) }
         requires there { is_some (neighbour_of self.old due.peer) ≡ true }
-        ensures heard { (bytes : List ℕ) → IsDue self.old bytes due.entry.peer due.entry.first due.entry.second (view due.entry.packet) →
+        ensures heard { (bytes : List ℕ) →
+            IsDue self.old bytes due.entry.peer due.entry.first due.entry.second (view due.entry.packet) →
             IfOk result (λ a. (frames : List Outgoing)
             × Hears self.old self.new by number bytes frames a × Adds out.old out.new frames) }
         ensures room { OnOk result (has_room self.old.journal ≡ true) }
@@ -516,7 +536,8 @@ impl Core {
         requires there { is_some (neighbour_of self.old due.peer) ≡ true }
         requires room { has_room self.old.journal ≡ true }
         requires shows { shows_contact due.packet.header ≡ true }
-        ensures heard { (bytes : List ℕ) → IsDue self.old bytes due.entry.peer due.entry.first due.entry.second (view due.entry.packet) →
+        ensures heard { (bytes : List ℕ) →
+            IsDue self.old bytes due.entry.peer due.entry.first due.entry.second (view due.entry.packet) →
             IfOk result (λ a. (frames : List Outgoing)
             × Hears self.old self.new by number bytes frames a × Adds out.old out.new frames) }
         ensures err { OnErr result ((self.new ≡ self.old) × (out.new ≡ out.old)) }
@@ -548,7 +569,8 @@ impl Core {
         requires there { is_some (neighbour_of self.old due.peer) ≡ true }
         requires room { has_room self.old.journal ≡ true }
         requires plain { shows_contact due.packet.header ≡ false }
-        ensures heard { (bytes : List ℕ) → IsDue self.old bytes due.entry.peer due.entry.first due.entry.second (view due.entry.packet) →
+        ensures heard { (bytes : List ℕ) →
+            IsDue self.old bytes due.entry.peer due.entry.first due.entry.second (view due.entry.packet) →
             IfOk result (λ a. (frames : List Outgoing)
             × Hears self.old self.new by number bytes frames a × Adds out.old out.new frames) }
         ensures err { OnErr result ((self.new ≡ self.old) × (out.new ≡ out.old)) }

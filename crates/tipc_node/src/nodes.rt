@@ -17,7 +17,8 @@ use tipc_journal::{Entry, Journal};
 use tipc_outside::Outbox;
 use tipc_types::{Addr, Answer, Arrival, By, EventNote, Flow, LinkState, NoMemory};
 
-/// A node in one boot. Its journal tells of its contacts and its links, and its frames are for the peers whose numbers they name.
+/// A node in one boot. Its journal tells of its contacts and its links, and its frames are for the peers whose
+/// numbers they name.
 #[derive(Drop)]
 pub struct Node {
     core: Core,
@@ -121,7 +122,8 @@ impl Node {
             .delivered_count(Addr::node(peer), contact, Flow::Zero)
     }
 
-    /// The contact with the peer: this node's contact number, then the peer's. None exactly where it isn't in contact with it.
+    /// The contact with the peer: this node's contact number, then the peer's. None exactly where it isn't in
+    /// contact with it.
     pub fn contact(&self, peer: u8) -> Option<(u64, u64)>
         ensures { result ≡ contact_with self.now peer }
     {
@@ -161,8 +163,8 @@ impl Node {
         self.core.know(alloc, peer, out);
     }
 
-    /// Performs a call, and answers it: a socket is made, a message is taken from an inbox, or sent to a port of another node; a
-    /// bearer is mended or cut; a tick passes. The call is one step of the journal.
+    /// Performs a call, and answers it: a socket is made, a message is taken from an inbox, or sent to a port of
+    /// another node; a bearer is mended or cut; a tick passes. The call is one step of the journal.
     ///
     /// # Errors
     ///
@@ -184,10 +186,10 @@ impl Node {
         self.core.perform(alloc, by, call, out)
     }
 
-    /// A frame arrives on a bearer; `number` is its number among all that arrived at this node. A packet that it brings is taken by
-    /// the link of the node that it names as its sender; a message that is given is recorded as delivered and put into the inbox of
-    /// its port; a STATE that is due is sent last. A frame that reaches no link is ignored for the first reason that holds. The
-    /// arrival is one step of the journal.
+    /// A frame arrives on a bearer; `number` is its number among all that arrived at this node. A packet that it
+    /// brings is taken by the link of the node that it names as its sender; a message that is given is recorded as
+    /// delivered and put into the inbox of its port; a STATE that is due is sent last. A frame that reaches no link
+    /// is ignored for the first reason that holds. The arrival is one step of the journal.
     ///
     /// # Errors
     ///

@@ -7,6 +7,7 @@ ghost use Rattle.tipc_journal.specs.Room.{counted_bytes};
 ghost use Rattle.tipc_link.specs.Sessions.{IsWaiting};
 ghost use Rattle.tipc_pair.specs.Partners.{pieces_for};
 ghost use Rattle.tipc_message.specs.Wire.{packet_of, IsPayload};
+ghost use Rattle.tipc_node.specs.Limits.{most_body_bytes};
 ghost use Rattle.tipc_node.specs.Nodes.{direct, limit_of};
 
 use std::alloc::Global;
@@ -19,10 +20,10 @@ pub const MOST_BODY_BYTES: usize = 66_000;
 
 /// A user's message to a port of another node.
 pub fn direct(own: Addr, port: u32, to: PortId, importance: Importance, body: Bytes) -> Message
-    requires { length body ≤ 66000 }
+    requires { length body ≤ most_body_bytes }
     ensures value { result ≡ direct own.word port to importance body }
     ensures payload { IsPayload result }
-    ensures small { counted_bytes result ≤ 66000 }
+    ensures small { counted_bytes result ≤ most_body_bytes }
 {
     Message::Payload {
         importance,
@@ -65,7 +66,8 @@ pub fn limit(importance: Importance) -> u32
 /// The packets in which a user's message is sent: its own, or its fragments where that is too long for one packet.
 pub fn pieces(alloc: Global, message: &Message) -> Result<Pieces, NoMemory>
     requires { IsPayload message.now }
-    ensures spelled { IfOk result (λ pieces. (p : Fields) × (packet_of message.now ≡ Some p) × Fits p × (pieces ≡ pieces_for (spelling p))) }
+    ensures spelled { IfOk result (λ pieces. (p : Fields) × (packet_of message.now ≡ Some p) × Fits p ×
+        (pieces ≡ pieces_for (spelling p))) }
     ensures waiting { IfOk result (All IsWaiting) }
 {
     let packet = packet_bytes(alloc, message)?;

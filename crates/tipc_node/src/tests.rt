@@ -83,7 +83,8 @@ fn the_ports_of_the_second_boot_are_new_ones(rt: HostRuntime) -> Result<(), Fail
     Ok(())
 }
 
-/// Frames that leave the left node arrive at the right one, those that leave there then at the left one, and so on four times.
+/// Frames that leave the left node arrive at the right one, those that leave there then at the left one, and so on
+/// four times.
 fn settle(alloc: Global, left: &mut Node, right: &mut Node, first: Outbox) -> Result<(), Fail> {
     let mut leaving = first;
     for _ in 0..4 {
