@@ -35,3 +35,6 @@ pub mod Growing
 pub mod Staying
 pub mod Flows
 pub mod Within
+pub mod KeptWorlds
+pub mod Entered
+pub mod Promise
