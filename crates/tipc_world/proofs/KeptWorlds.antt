@@ -139,11 +139,10 @@ are_carried s air' a bearer place f arrivals arrivals' step sound longer there m
     let both : note.Arrive bearer (length arrivals) ≡ note.Arrive bearer' number = sym call ∙ is in
     let bearers : bearer ≡ bearer' = cc in
     let numbers : length arrivals ≡ number = cc in
-    let last : Arrived = record { bearer = bearer; frame = place } in
-    (
+    let last : Arrived = record { bearer = bearer; frame = place } in (
       sym bearers ∙ bearer_is s.air a bearer place f there,
       subst (λ k. IsCarried (record { air = air'; arrivals = arrivals' }) k f.frame) numbers
-      (subst (λ zs. IsCarried (record { air = air'; arrivals = zs }) (length arrivals) f.frame) (sym more) (frame_carried s air' a bearer place f arrivals sound longer there)),
+          (subst (λ zs. IsCarried (record { air = air'; arrivals = zs }) (length arrivals) f.frame) (sym more) (frame_carried s air' a bearer place f arrivals sound longer there)),
       ap length more ∙ length-append arrivals (last ∷ []) ∙ ap (λ k. k + 1) numbers,
     )
 
