@@ -30,7 +30,6 @@ use Rattle.tipc_node.specs.declared.neighbours.Neighbour.{Neighbour}
 use Rattle.tipc_node.specs.Calls.{Arrives, Hears}
 use Rattle.tipc_node.specs.Neighbours.{heard_frames, heard_neighbour, in_step_after, met_by, no_broadcast}
 use Rattle.tipc_node.specs.Nodes.{NodeState, arrival_answer, arrival_deliveries, change_entries, heard_node, neighbour_of, shown_contact, step_of, stop_among, stop_of, stopped_node}
-use Rattle.tipc_node.specs.Telling.{IsTold}
 use Rattle.tipc_node.specs.Turns.{AreNamed, IsFrom, IsPlaced, IsTakenBy, IsTakenIn, NodeTurn, PeerTurn, is_accepted_for, is_change_of, is_delivered_from}
 use Rattle.tipc_node.proofs.Addressing.{AreFor, heard_all_for}
 use Rattle.tipc_node.proofs.Entries.{changes_accept, changes_deliver, changes_inside, changes_other, changes_own, changes_placed, given_accept, given_changes, given_in, given_inside, given_other, given_own, given_placed, inside_both, routed_to}
@@ -172,9 +171,9 @@ hears_turn n n' by number bytes frames answered named h =
       }),
     )
 
-pub arrives_turn : (n n' : NodeState) (by : By) (bearer number : ℕ) (bytes : List ℕ) (frames : List Outgoing) (answered : Arrival) → AreNamed n → IsTold n → Arrives n n' by bearer number bytes frames answered
+pub arrives_turn : (n n' : NodeState) (by : By) (bearer number : ℕ) (bytes : List ℕ) (frames : List Outgoing) (answered : Arrival) → AreNamed n → Arrives n n' by bearer number bytes frames answered
     → (inside : List Entry) × NodeTurn n n' bytes (step_of by (event.Arrive bearer number) inside (answer.Arrived answered)) frames
-arrives_turn n n' by bearer number bytes frames answered named told h = case (stop_of n bearer bytes) refl
+arrives_turn n n' by bearer number bytes frames answered named h = case (stop_of n bearer bytes) refl
   where
     case : (o : Option Why) → stop_of n bearer bytes ≡ o → IsTurn n n' by bearer number bytes frames answered
     case (Some reason) is =

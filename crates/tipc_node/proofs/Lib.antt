@@ -24,3 +24,5 @@ pub mod Entries
 pub mod Turning
 pub mod Performing
 pub mod Arrivals
+pub mod Doing
+pub mod Keeping

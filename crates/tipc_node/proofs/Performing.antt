@@ -16,13 +16,12 @@ use Rattle.tipc_header.specs.Spelling.{Fields, spelling}
 use Rattle.tipc_message.specs.Wire.{IsPayload, packet_of}
 use Rattle.tipc_journal.specs.declared.entries.Entry.{Entry}
 use Rattle.tipc_journal.specs.Steps.{NodeStep}
-use Rattle.tipc_link_fsm.specs.Table.{is_up, on_cut, on_tick}
-use Rattle.tipc_link.specs.Links.{mend_frames, mended_end, with_session}
+use Rattle.tipc_link_fsm.specs.Table.{is_up}
+use Rattle.tipc_link.specs.Links.{with_session}
 use Rattle.tipc_link.specs.Sessions.{IsPut, SessionEnd, flush_frames, flushed}
 use Rattle.tipc_pair.specs.declared.changes.PairChange.TheVariants.{Stay}
-use Rattle.tipc_pair.specs.Pairs.{change_of, cut_pair, tick_frames, tick_pair}
 use Rattle.tipc_pair.specs.Partners.{pair_state, pieces_for}
-use Rattle.tipc_pair.specs.Turns.{called}
+use Rattle.tipc_pair.specs.Turns.{Happened, Opening, Outset, ShowsIn, called}
 use Rattle.tipc_pair.specs.Turns.Opening.{cuts, mends, rests, ticks}
 use Rattle.tipc_pair.specs.Turns.PutsAll.{none_put, puts_one}
 use Rattle.tipc_node.specs.declared.neighbours.Deed.{Deed}
@@ -31,8 +30,7 @@ use Rattle.tipc_node.specs.declared.neighbours.Neighbour.{Neighbour}
 use Rattle.tipc_node.specs.Calls.{CanPerform, Performs, Sends, TakesPart}
 use Rattle.tipc_node.specs.Neighbours.{done, neighbour, no_broadcast}
 use Rattle.tipc_node.specs.Nodes.{NodeState, accepted_entry, after_one, change_entries, deed_node, deed_note, direct, entries_all, entries_one, first_answer, frames_all, frames_one, has_port, inbox_of, kept_answer, limit_of, neighbour_of, receive_answer, receive_inboxes, receive_node, recorded, refusal, refusal_at, refusal_of_body, sent_node, session_with, socket_answer, socket_inboxes, socket_node, step_of, with_inboxes}
-use Rattle.tipc_node.specs.Telling.{IsTold}
-use Rattle.tipc_node.specs.Turns.{AreNamed, IsOfNeighbour, IsPlaced, IsSendable, Names, NodeTurn, PeerTurn, addr_of, bytes_of, frames_to, is_accepted_for, is_change_of, is_delivered_from, origin_of, spelled}
+use Rattle.tipc_node.specs.Turns.{AreNamed, IsBrought, IsOfNeighbour, IsPlaced, IsSendable, Names, NodeTurn, PeerTurn, Suits, addr_of, bytes_of, frames_to, is_accepted_for, is_change_of, is_delivered_from, origin_of, spelled}
 use Rattle.tipc_node.proofs.Addressing.{AreFor, flush_for, mend_for, tick_for}
 use Rattle.tipc_node.proofs.Entries.{all_accept, all_changes, all_deliver, all_inside, all_placed, all_routed, other_word, routed_to}
 use Rattle.tipc_node.proofs.Named.{put_peer}
@@ -228,47 +226,29 @@ record IsDone (d : Deed) (s : NodeStep) (frames : List Outgoing) (b : ℕ) (x : 
   pub accepted : filter (is_accepted_for b) s.inside ≡ []
   pub delivered : filter (is_delivered_from b) s.inside ≡ []
 
+-- what came of it there
+abbrev outset_of : Deed → Neighbour → Outset
+outset_of d x = called x.pair (done d x).after.pair.link (done d x).frames (done d x).change
+
+opened_turn : (own : ℕ) (d : Deed) (s : NodeStep) (frames : List Outgoing) (b : ℕ) (x : Neighbour) (opening : Opening) → IsDone d s frames b x → Suits s.event opening → IsBrought b [] opening → ShowsIn opening → Happened x.pair opening (outset_of d x)
+    → PeerTurn own [] s frames b x.pair (outset_of d x).pair
+opened_turn own d s frames b x opening h suits brought shows happened = opens_turn own [] s frames b x.pair opening (outset_of d x) None (record {
+  suits = suits;
+  brought = brought;
+  shows = shows;
+  shows_last = tt;
+  happened = happened;
+  frames_are = h.frames_are ∙ sym (append-nil (done d x).frames);
+  changes = h.changes;
+  accepted = h.accepted;
+  delivered = h.delivered;
+  taken = λ answered es er p is taken from. absurd (let wrong : answer.Done ≡ answer.Arrived answered = sym h.answer_is ∙ is in cc);
+})
+
 done_turn : (own : ℕ) (d : Deed) (s : NodeStep) (frames : List Outgoing) (b : ℕ) (x : Neighbour) → IsDone d s frames b x → PeerTurn own [] s frames b x.pair (done d x).after.pair
-done_turn own deed.Mend s frames b x h =
-    opens_turn own [] s frames b x.pair mends (called x.pair (mended_end x.pair.link) (mend_frames x.pair.link) Stay) None (record {
-      suits = h.event_is;
-      brought = tt;
-      shows = tt;
-      shows_last = tt;
-      happened = refl;
-      frames_are = h.frames_are ∙ sym (append-nil _);
-      changes = h.changes;
-      accepted = h.accepted;
-      delivered = h.delivered;
-      taken = λ answered es er p is taken from. absurd (let wrong : answer.Done ≡ answer.Arrived answered = sym h.answer_is ∙ is in cc);
-    })
-done_turn own deed.Cut s frames b x h =
-    opens_turn own [] s frames b x.pair cuts (called x.pair (cut_pair x.pair.link) [] (change_of x.pair.link (on_cut x.pair.link.fsm false) 0)) None (record {
-      suits = h.event_is;
-      brought = tt;
-      shows = tt;
-      shows_last = tt;
-      happened = refl;
-      frames_are = h.frames_are;
-      changes = h.changes;
-      accepted = h.accepted;
-      delivered = h.delivered;
-      taken = λ answered es er p is taken from. absurd (let wrong : answer.Done ≡ answer.Arrived answered = sym h.answer_is ∙ is in cc);
-    })
-done_turn own deed.Tick s frames b x h =
-    opens_turn own [] s frames b x.pair (ticks (no_broadcast x.in_step))
-    (called x.pair (tick_pair x.pair.link) (tick_frames x.pair.link (no_broadcast x.in_step)) (change_of x.pair.link (on_tick x.pair.link.fsm false) 0)) None (record {
-      suits = h.event_is;
-      brought = tt;
-      shows = shows_none x.in_step;
-      shows_last = tt;
-      happened = refl;
-      frames_are = h.frames_are ∙ sym (append-nil _);
-      changes = h.changes;
-      accepted = h.accepted;
-      delivered = h.delivered;
-      taken = λ answered es er p is taken from. absurd (let wrong : answer.Done ≡ answer.Arrived answered = sym h.answer_is ∙ is in cc);
-    })
+done_turn own deed.Mend s frames b x h = opened_turn own deed.Mend s frames b x mends h h.event_is tt tt refl
+done_turn own deed.Cut s frames b x h = opened_turn own deed.Cut s frames b x cuts h h.event_is tt tt refl
+done_turn own deed.Tick s frames b x h = opened_turn own deed.Tick s frames b x (ticks (no_broadcast x.in_step)) h h.event_is tt (shows_none x.in_step) refl
 
 deed_turn : (n : NodeState) (by : By) (d : Deed) → AreNamed n → NodeTurn n (deed_node n by d) [] (step_of by (deed_note d) (entries_all d 0 n.neighbours) answer.Done) (frames_all d n.neighbours)
 deed_turn n by d named = record {
@@ -303,16 +283,15 @@ takes_part_turn n n' by d call frames answered named is h =
 
 -- ---- every call
 
-pub performs_turn : (n n' : NodeState) (by : By) (call : EventNote) (frames : List Outgoing) (answered : Answer) → AreNamed n → IsTold n → CanPerform call
-    → Performs n by call n' frames answered
+pub performs_turn : (n n' : NodeState) (by : By) (call : EventNote) (frames : List Outgoing) (answered : Answer) → AreNamed n → CanPerform call → Performs n by call n' frames answered
     → (inside : List Entry) × NodeTurn n n' [] (step_of by call inside (kept_answer answered)) frames
-performs_turn n n' by event.Socket frames answered named told can h =
+performs_turn n n' by event.Socket frames answered named can h =
     turn_as n n' (socket_node n by) by event.Socket frames [] answered (socket_answer n) h.0 h.1 h.2 (plain_rests n by event.Socket (socket_answer n) (socket_inboxes n.inboxes) (socket_plain n))
-performs_turn n n' by (event.Receive port) frames answered named told can h =
+performs_turn n n' by (event.Receive port) frames answered named can h =
     turn_as n n' (receive_node n by port) by (event.Receive port) frames [] answered (receive_answer n port) h.0 h.1 h.2
     ([], rested n by (event.Receive port) [] (kept_answer (receive_answer n port)) (receive_inboxes n port) (received_untaken n port))
-performs_turn n n' by (event.SendPort port to importance body) frames answered named told can h = sends_turn n n' by port to importance body frames answered named h
-performs_turn n n' by event.Tick frames answered named told can h = takes_part_turn n n' by deed.Tick event.Tick frames answered named refl h
-performs_turn n n' by (event.Cut bearer) frames answered named told can h = takes_part_turn n n' by deed.Cut (event.Cut bearer) frames answered named (ap event.Cut can) h
-performs_turn n n' by (event.Mend bearer) frames answered named told can h = takes_part_turn n n' by deed.Mend (event.Mend bearer) frames answered named (ap event.Mend can) h
-performs_turn n n' by other frames answered named told can h = absurd h
+performs_turn n n' by (event.SendPort port to importance body) frames answered named can h = sends_turn n n' by port to importance body frames answered named h
+performs_turn n n' by event.Tick frames answered named can h = takes_part_turn n n' by deed.Tick event.Tick frames answered named refl h
+performs_turn n n' by (event.Cut bearer) frames answered named can h = takes_part_turn n n' by deed.Cut (event.Cut bearer) frames answered named (ap event.Cut can) h
+performs_turn n n' by (event.Mend bearer) frames answered named can h = takes_part_turn n n' by deed.Mend (event.Mend bearer) frames answered named (ap event.Mend can) h
+performs_turn n n' by other frames answered named can h = absurd h

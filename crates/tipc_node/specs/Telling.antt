@@ -1,5 +1,5 @@
--- What a node's journal tells of the node: it is whole steps, and contacts and links that are up are what it says. What a packet tells of
--- its sender.
+-- What a node's journal tells of the node: it is whole steps, and contacts and links that are up are what it says.
+-- What a packet tells of its sender.
 use Rattle.std.specs.Prelude.{◌≡◌, ℕ, ◌||◌, Bool, true, false, List, Option, Some, None, if◌then◌else◌, option_and_then}
 use Rattle.tipc_header.specs.declared.packet.Header.{Header}
 use Rattle.tipc_header.specs.declared.packet.Header.TheVariants as header

@@ -12,7 +12,7 @@ ghost use Rattle.tipc_node.specs.Nodes.{direct, limit_of};
 use std::alloc::Global;
 use tipc_fragments::{LEAST_CUT, cut};
 use tipc_message::packet_bytes;
-use tipc_types::{Addr, Bytes, Form, Importance, Message, NoMemory, Pieces, PortId};
+use tipc_types::{Addr, Bytes, EventNote, Form, Importance, Message, NoMemory, Pieces, PortId};
 
 /// The most bytes of a body. (This project's profile.)
 pub const MOST_BODY_BYTES: usize = 66_000;
@@ -34,6 +34,18 @@ pub fn direct(own: Addr, port: u32, to: PortId, importance: Importance, body: By
         upper: 0,
         code: 0,
         droppable: false,
+        body,
+    }
+}
+
+/// What the journal keeps of a call that sends a message to a port.
+pub fn send_note(port: u32, to: PortId, importance: Importance, body: Bytes) -> EventNote
+    ensures { result ≡ EventNote.SendPort port to importance body }
+{
+    EventNote::SendPort {
+        port,
+        to,
+        importance,
         body,
     }
 }

@@ -1,7 +1,7 @@
 -- A frame arrives: what it makes of a pair, as deeds; and what it gives.
-use Rattle.std.proofs.Common.{◌≡◌, ◌⊎◌, ◌<◌, ◌^◌, ◌&&◌, ℕ, true, false, List, [], ◌∷◌, ◌++◌, Some, if◌then◌else◌, length, option_map, refl, sym, ap, ◌∙◌, subst, inl, inr, eqb-true, arith}
+use Rattle.std.proofs.Common.{◌≡◌, ◌⊎◌, ◌<◌, ◌^◌, ◌&&◌, ℕ, true, false, List, [], ◌∷◌, ◌++◌, Some, length, option_map, refl, sym, ap, ◌∙◌, subst, inl, inr, eqb-true, arith}
 use Rattle.std.specs.Prelude.{All, not}
-use Rattle.std.proofs.lemmas.Bool.{and_parts, cases_Bool}
+use Rattle.std.proofs.lemmas.Bool.{and_parts}
 use Rattle.tipc_types.specs.declared.link_words.BroadcastState.{BroadcastState}
 use Rattle.tipc_types.specs.declared.link_words.Why.TheVariants as why
 use Rattle.tipc_types.specs.declared.packet_lists.Taken.{Taken}
@@ -18,8 +18,8 @@ use Rattle.tipc_recv_window.specs.declared.outcomes.Place.TheVariants.{Deferred,
 use Rattle.tipc_reassembly.specs.declared.opening.Opened.{Opened}
 use Rattle.tipc_reassembly.specs.Opening.{BringsAll, go_on, none as brings_none}
 use Rattle.tipc_reassembly.specs.Slots.{IsWholePacket, packets_in as given_in}
-use Rattle.tipc_link.specs.Links.{LinkEnd, after, answered_end, answered_frames, arrival_end, frames, heard_by, heard_end, heard_frames, heard_outcome, is_heard, is_traffic, known, link_frames, link_outcome, outcome_of, session_answer, session_of, with_fsm, with_session}
-use Rattle.tipc_link.specs.Sessions.{Carries, Content, Nothing, SessionEnd, Shows, answer_frames, answered, arrival_frames, arrived, brought, content_of, due_with, outcome as session_outcome, place_of, placed, state_frame}
+use Rattle.tipc_link.specs.Links.{LinkEnd, after, arrival_end, frames, heard_by, heard_end, heard_frames, heard_outcome, is_heard, is_traffic, known, link_frames, link_outcome, outcome_of, session_of, with_fsm, with_session}
+use Rattle.tipc_link.specs.Sessions.{Carries, Content, Nothing, SessionEnd, Shows, arrival_frames, arrived, brought, content_of, due_with, outcome as session_outcome, place_of, placed, state_frame}
 use Rattle.tipc_link.proofs.Directions.{slice_get-append}
 use Rattle.tipc_link_fsm.specs.declared.changes.Change.TheVariants.{Ignore, Stay, Up}
 use Rattle.tipc_link_fsm.specs.Runs.{TrafficArrives}
@@ -31,13 +31,13 @@ use Rattle.tipc_pair.specs.Turns.{IsShowable}
 use Rattle.tipc_partners.specs.Paired.{ShowsContact}
 use Rattle.tipc_pair.specs.Pairs.{Met, arrival, arrival_of, link_met, packets_of, settled, settled_frames}
 use Rattle.tipc_pair.specs.Partners.{OpensTo, begun_after, deferred, ignored, opened_in, took}
-use Rattle.tipc_partners.proofs.Calls.{answer_did, heard_did}
+use Rattle.tipc_partners.proofs.Calls.{heard_did}
 use Rattle.tipc_partners.proofs.EndCalls.{settled_did}
 use Rattle.tipc_partners.proofs.EndSteps.{StepsTo}
 use Rattle.tipc_partners.proofs.Notices.{MetQuietly, Reaches, activates_quietly, reached_contact, reached_shown, reached_told, resets_quietly, unheard_met}
 use Rattle.tipc_partners.proofs.PartnersLaw.{acts_all, whole_given}
 use Rattle.tipc_partners.proofs.Steps.{Stepped, became_stepped, did_stepped, more_none, still_stepped, then_stepped}
-use Rattle.tipc_partners.proofs.Wires.{same_some, session_of_up}
+use Rattle.tipc_partners.proofs.Wires.{session_of_up}
 use Rattle.tipc_partners.specs.Calls.{Brings}
 use Rattle.tipc_partners.specs.Deeds.{Hears, IsUp}
 use Rattle.tipc_partners.specs.EndCalls.{Became, HasEnd, partial_after}

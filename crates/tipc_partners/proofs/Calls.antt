@@ -1,5 +1,5 @@
 -- What a session does in one call or at one arrival, as deeds.
-use Rattle.std.proofs.Common.{◌≡◌, inl, inr, ℕ, suc, Bool, true, false, if◌then◌else◌, List, [], ◌∷◌, ◌++◌, Some, length, refl, sym, ap, ◌∙◌, subst, append_assoc, append-nil, arith}
+use Rattle.std.proofs.Common.{◌≡◌, inl, inr, ℕ, suc, Bool, true, false, if◌then◌else◌, List, [], ◌∷◌, ◌++◌, Some, length, refl, sym, ap, ◌∙◌, subst, append-nil, arith}
 use Rattle.std.proofs.lemmas.Bool.{cases_eq}
 use Rattle.tipc_types.specs.declared.link_words.BroadcastState.{BroadcastState}
 use Rattle.tipc_types.specs.declared.packet_lists.Kept.{Kept}
@@ -17,7 +17,7 @@ use Rattle.tipc_link.proofs.LinkLaw.{Each, Each-append, Each-none, Each-one}
 use Rattle.tipc_pair.proofs.Receivings.{due_released}
 use Rattle.tipc_pair.specs.Turns.{IsShowable}
 use Rattle.tipc_pair.specs.Partners.{IsMessage, pieces_for}
-use Rattle.tipc_partners.proofs.Contacts.{more_twice, on_put_in, put_else, put_here}
+use Rattle.tipc_partners.proofs.Contacts.{more_twice, on_put_in}
 use Rattle.tipc_partners.proofs.Messages.{put_view, taken_view}
 use Rattle.tipc_partners.proofs.Numbers.{numbered_view, with_numbered}
 use Rattle.tipc_partners.proofs.PartnersLaw.{acts_all, acts_one, acts_partners, acts_then}
@@ -114,7 +114,7 @@ flush_did x y b e s h up =
 
 -- ---- a message is put
 
-pub put_did : (x y : Partner) (b : ℕ) (e : LinkEnd) (s s' : SessionEnd) (m : List ℕ) → ArePartners x y → IsUp (x.view.wires b) e s → IsPut s (pieces_for m) s' → IsMessage x.view.node.own m
+put_did : (x y : Partner) (b : ℕ) (e : LinkEnd) (s s' : SessionEnd) (m : List ℕ) → ArePartners x y → IsUp (x.view.wires b) e s → IsPut s (pieces_for m) s' → IsMessage x.view.node.own m
     → (after : Partner) × Did x y after b (with_session e (flushed s')) (flushed s') (flush_frames s') × (after.put ≡ put_more x (m ∷ [])) × (after.given ≡ x.given) × (after.partial ≡ x.partial)
 put_did x y b e s s' m h up put message =
     let v = put_view x.view b e s' in

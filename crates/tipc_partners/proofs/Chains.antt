@@ -12,9 +12,8 @@ use Rattle.tipc_link.specs.Sessions.{SessionEnd, answer_frames, answered}
 use Rattle.tipc_link.proofs.LinkLaw.{Each}
 use Rattle.tipc_link_fsm.specs.Table.{is_up}
 use Rattle.tipc_pair.specs.declared.changes.PairChange.{PairChange}
-use Rattle.tipc_pair.specs.Pairs.{arrival}
 use Rattle.tipc_pair.specs.Partners.{IsMessage, begun_after, opened_in, pair_state}
-use Rattle.tipc_pair.specs.Turns.{Happened, IsShowable, Opening, Outset, PutsOn, PutsOnto, ShowsAtLast, ShowsIn, answered_by, answers_by, called, heard}
+use Rattle.tipc_pair.specs.Turns.{Happened, IsShowable, Opening, Outset, PutsOn, PutsOnto, ShowsAtLast, ShowsIn, answered_by, answers_by, called}
 use Rattle.tipc_pair.specs.Turns.Opening.{cuts, hears, mends, rests, ticks}
 use Rattle.tipc_partners.proofs.Arrivals.{arrival_met, none_whole}
 use Rattle.tipc_partners.proofs.Calls.{answer_did, puts_did, puts_epoch}

@@ -1,11 +1,10 @@
 -- What happens at a pair but an arrival, as deeds: a link end is made, its bearer is mended or cut, a tick passes.
-use Rattle.std.proofs.Common.{◌≡◌, ℕ, Bool, true, false, List, [], ◌∷◌, Some, None, if◌then◌else◌, refl, ap, ◌∙◌, subst, inl}
+use Rattle.std.proofs.Common.{◌≡◌, ℕ, Bool, true, false, List, [], None, if◌then◌else◌, refl, ap, ◌∙◌, subst, inl}
 use Rattle.tipc_types.specs.declared.link_words.BroadcastState.{BroadcastState}
 use Rattle.tipc_types.specs.declared.link_words.Cause.TheVariants as cause
 use Rattle.tipc_outside.specs.declared.outgoing.Outgoing.{Outgoing}
 use Rattle.tipc_fragments.specs.Joining.{Joining}
-use Rattle.tipc_link.specs.Links.{LinkEnd, followed, is_down, is_reset_unknown, mend_frames, mended_end, reset_frames, with_fsm, with_session}
-use Rattle.tipc_link.specs.Sessions.{IsPut, SessionEnd, flush_frames, flushed}
+use Rattle.tipc_link.specs.Links.{LinkEnd, followed, is_down, is_reset_unknown, mend_frames, mended_end, reset_frames, with_fsm}
 use Rattle.tipc_link.proofs.LinkLaw.{Each, Each-none}
 use Rattle.tipc_link_fsm.specs.declared.changes.Change.{Change}
 use Rattle.tipc_link_fsm.specs.declared.changes.Change.TheVariants.{Down, Stay, Up}
@@ -13,11 +12,10 @@ use Rattle.tipc_link_fsm.specs.Runs.{BearerIsCut, TickPasses}
 use Rattle.tipc_link_fsm.specs.Table.{Fsm, Outcome, gives, is_up, lowered, on_cut, on_tick}
 use Rattle.tipc_pair.specs.Turns.{IsShowable}
 use Rattle.tipc_pair.specs.Pairs.{change_of, cut_pair, parted, settled, settled_frames, tick_frames, tick_pair, told_of}
-use Rattle.tipc_pair.specs.Partners.{IsMessage, begun_after, pieces_for}
-use Rattle.tipc_partners.proofs.Calls.{put_did}
+use Rattle.tipc_pair.specs.Partners.{begun_after}
 use Rattle.tipc_partners.proofs.EndCalls.{end_on, on_bearer_each, settled_did, tell_after}
 use Rattle.tipc_partners.proofs.PartnersLaw.{acts_all, acts_one, acts_then}
-use Rattle.tipc_partners.proofs.Steps.{Stepped, became_stepped, did_stepped, more_none, node_of_end, then_stepped}
+use Rattle.tipc_partners.proofs.Steps.{Stepped, became_stepped, more_none, node_of_end, then_stepped}
 use Rattle.tipc_partners.proofs.Wires.{line_put, put_other, put_same}
 use Rattle.tipc_partners.specs.Deeds.{MayTell, made_on, makes, resets, turns}
 use Rattle.tipc_partners.specs.EndCalls.{Became, HasEnd, partial_after}

@@ -98,11 +98,6 @@ change_packets : (change : Change) → packets_of (change_outcome change) ≡ []
 change_packets (Ignore reason) = refl
 change_packets other = refl
 
-partial_fresh : (c : Change) → partial_after c fresh ≡ fresh
-partial_fresh Up = refl
-partial_fresh (Down cause) = refl
-partial_fresh other = refl
-
 -- a RESET lets no link go up
 reset_partial : (f : Fsm) (es : ℕ) (partial : Joining) → is_down (on_reset f es false).change ≡ false → partial_after (on_reset f es false).change partial ≡ partial
 unfolding on_reset

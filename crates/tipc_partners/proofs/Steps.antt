@@ -54,7 +54,7 @@ said_still x y after b o h acts same t =
     (subst (λ (n : Node). IsLater t.frame.contact t.frame.peer_contact n.contact n.seen) same now.till) in
     record { told = t; contact = inr (contact.0 ∙ ap (λ (n : Node). n.contact) (sym same), contact.1 ∙ ap (λ (n : Node). n.seen) (sym same)) }
 
-pub said_became : (x y after : Partner) (b : ℕ) (e : LinkEnd) (frames : List Outgoing) (partial : Joining) → ArePartners x y → (h : Became x y after b e frames partial) → Each (IsSaid x.view after.view b) frames
+said_became : (x y after : Partner) (b : ℕ) (e : LinkEnd) (frames : List Outgoing) (partial : Joining) → ArePartners x y → (h : Became x y after b e frames partial) → Each (IsSaid x.view after.view b) frames
 said_became x y after b e frames partial p h k o there = elim h.steady [
   | inl same ↦ said_still x y after b o p h.acts same (h.told k o there)
   | inr notices ↦ record { told = h.told k o there; contact = inl (notices k o there) }

@@ -70,10 +70,6 @@ kept_behind before [] more = ap (λ n. kept_after n more) (let same : before ≡
 kept_behind before (x ∷ unacked) more =
     ap (λ (ks : List Kept). record { number = number_of (before + 1); packet = x } ∷ ks) (kept_behind (before + 1) unacked more ∙ ap (λ n. kept_after (before + 1) unacked ++ kept_after n more) (let same : before + 1 + length unacked ≡ before + suc (length unacked) = omega arith in same))
 
-kept_long : (before : ℕ) (packets : List (List ℕ)) → length (kept_after before packets) ≡ length packets
-kept_long before [] = refl
-kept_long before (x ∷ packets) = ap suc (kept_long (before + 1) packets)
-
 kept_one : (before : ℕ) (packets : List (List ℕ)) (k : ℕ) (q : List ℕ) → slice_get packets k ≡ Some q → slice_get (kept_after before packets) k ≡ Some (record { number = number_of (before + k + 1); packet = q })
 kept_one before [] k q is = absurd (let none : ⊥ = cc in none)
 kept_one before (x ∷ packets) zero q is = (let same : x ≡ q = cc in ap (λ n. Some (record { number = number_of n; packet = x })) (let sum : before + 1 ≡ before + 0 + 1 = omega arith in sum) ∙ ap (λ (y : List ℕ). Some (record { number = number_of (before + 0 + 1); packet = y })) same)

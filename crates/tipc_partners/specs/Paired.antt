@@ -1,7 +1,6 @@
 -- What holds of the two nodes of a pair at every moment, whatever either does and whatever arrives, by bearer and session.
 use Rattle.std.specs.Prelude.{[], ◌+◌, ◌<◌, ◌^◌, ◌≡◌, ◌≢◌, ◌≤◌, ◌⊎◌, List, None, Some, false, length, slice_get, true, ℕ}
 use Rattle.tipc_types.specs.Position.{number_of}
-use Rattle.tipc_types.specs.declared.link_words.BroadcastState.{BroadcastState}
 use Rattle.tipc_header.specs.Frames.{frame_of, sent_as}
 use Rattle.tipc_header.specs.Grammar.{Fits}
 use Rattle.tipc_header.specs.Spelling.{Fields, spelling}

@@ -1,6 +1,6 @@
 -- The two nodes of a pair as a world tells of them: what each keeps, what its journals record of the other, and the frames that came
 -- into the air. That they are partners says what they did besides: their sessions, and frames that were lost.
-use Rattle.std.specs.Prelude.{◌≡◌, ◌≢◌, ◌<◌, ◌≤◌, ◌⊎◌, ℕ, ◌+◌, ◌^◌, ◌==◌, ◌&&◌, true, false, Bool, All, List, [], ◌∷◌, ◌++◌, Option, Some, None, length, map, take, slice_get, if◌then◌else◌}
+use Rattle.std.specs.Prelude.{◌≡◌, ◌≢◌, ◌<◌, ◌≤◌, ◌⊎◌, ℕ, ◌+◌, ◌^◌, ◌==◌, ◌&&◌, true, Bool, All, List, [], ◌++◌, Option, Some, None, length, map, take, slice_get, if◌then◌else◌}
 use Rattle.tipc_types.specs.declared.link_words.BroadcastState.{BroadcastState}
 use Rattle.tipc_outside.specs.declared.outgoing.Outgoing.{Outgoing}
 use Rattle.tipc_header.specs.Frames.{frame_of}
@@ -95,9 +95,10 @@ sent_as v w bearer o = record {
 abbrev pub node_with : Node → LinkEnd → Node
 node_with n e = record { own = n.own; peer = n.peer; boot = n.boot; contact = e.contact; seen = e.peer_contact }
 
--- The link end of v on the bearer became e. These messages were put, and these given, in the contact whose numbers the node has after it, and
--- this message is begun. The first of these frames, or all of them, came into the air.
-pub record Goes (v v' w : Sight) (bearer : ℕ) (e : LinkEnd) (frames : List Outgoing) (put given : List (List ℕ)) (partial : Joining) : Type 0 where
+-- The link end of v on the bearer became e. These messages were put, and these given, in the contact whose numbers the
+-- node has after it, and this message is begun. The first of these frames, or all of them, came into the air.
+pub record Goes (v v' w : Sight) (bearer : ℕ) (e : LinkEnd) (frames : List Outgoing) (put given : List (List ℕ))
+    (partial : Joining) : Type 0 where
   pub node : v'.node ≡ node_with v.node e
   pub only : HasOnly v' bearer e
   pub put_is : (own theirs : ℕ) → v'.put own theirs ≡ v.put own theirs ++ come v' put own theirs
@@ -158,8 +159,8 @@ pub record StaysUp (e e' : LinkEnd) : Type 0 where
   pub contact : e'.contact ≡ e.contact
   pub seen : e'.peer_contact ≡ e.peer_contact
 
--- Everything that came is whole. It was given in the contact that was and is, the end having become e', and with what was given there before
--- it is a front of what the other node put.
+-- Everything that came is whole. It was given in the contact that was and is, the end having become e', and with what
+-- was given there before it is a front of what the other node put.
 pub record GivesFront (v : Sight) (e e' : LinkEnd) (w : Sight) (opened : List Opened) : Type 0 where
   pub whole : All IsWholePacket opened
   pub front : IsPrefixOf (v.given v.node.contact v.node.seen ++ packets_in opened) (w.put v.node.seen v.node.contact)
@@ -190,20 +191,25 @@ RestartsSeen = (v v' w : Sight) → AreSeen v w → Restarts v v' → v.node.boo
 -- a link end is made, on a bearer that is mended or cut
 abbrev pub KnowsSeen : Type 0
 KnowsSeen = (v v' w : Sight) (bearer : ℕ) (mended : Bool) → AreSeen v w → ((b : ℕ) → v.ends b ≡ None)
-    → Goes v v' w bearer (if mended then mended_end (made_on v.node bearer) else made_on v.node bearer) (if mended then mend_frames (made_on v.node bearer) else []) [] [] v.partial → AreSeen v' w
+    → Goes v v' w bearer (if mended then mended_end (made_on v.node bearer) else made_on v.node bearer)
+    (if mended then mend_frames (made_on v.node bearer) else []) [] [] v.partial
+    → AreSeen v' w
 
 -- the node takes a turn at the pair, whatever happens there first and whatever is put
 abbrev pub TurnsSeen : Type 0
-TurnsSeen = (v v' w : Sight) (bearer : ℕ) (e : LinkEnd) (opening : Opening) (messages : List (List ℕ)) (answer : Option BroadcastState) (x' : PairState) (frames : List Outgoing)
+TurnsSeen = (v v' w : Sight) (bearer : ℕ) (e : LinkEnd) (opening : Opening) (messages : List (List ℕ))
+    (answer : Option BroadcastState) (x' : PairState) (frames : List Outgoing)
     → AreSeen v w → HasOnly v bearer e → ComesIn v w bearer opening → ShowsIn opening → ShowsAtLast answer
     → All (IsMessage v.node.own) messages
     → (t : PairTurn (pair_state e v.partial) opening messages answer x' frames)
-    → Goes v v' w bearer x'.link frames messages (packets_in (opened_in t.first.given)) x'.begun → AreSeen v' w
+    → Goes v v' w bearer x'.link frames messages (packets_in (opened_in t.first.given)) x'.begun
+    → AreSeen v' w
 
 -- what happens first in a turn gives this, before the node has taken it
 abbrev pub GivesSeen : Type 0
-GivesSeen = (v w : Sight) (bearer : ℕ) (e : LinkEnd) (opening : Opening) (o : Outset) → AreSeen v w → HasOnly v bearer e
-    → ComesIn v w bearer opening → ShowsIn opening → Happened (pair_state e v.partial) opening o
+GivesSeen = (v w : Sight) (bearer : ℕ) (e : LinkEnd) (opening : Opening) (o : Outset)
+    → AreSeen v w → HasOnly v bearer e → ComesIn v w bearer opening → ShowsIn opening
+    → Happened (pair_state e v.partial) opening o
     → GivesFront v e o.pair.link w (opened_in o.given)
 
 abbrev pub FrontsSeen : Type 0

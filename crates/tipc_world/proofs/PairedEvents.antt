@@ -52,7 +52,7 @@ pub met_turn : (stamp bearer place : ℕ) (bytes : List ℕ) (m m' : MemberState
 met_turn stamp bearer place bytes m m' frames answered h = record { turn = h.turn.turn; past = ap (λ (n : MemberState). n.past) h.after; counts = ap (λ (n : MemberState). n.counts) h.after }
 
 -- what arrives came out of the air
-comes_out : (s : Stage) (a bearer place : ℕ) (f : Sent) → IsSound s.members s.air → frame_for s.air a bearer place ≡ Some f → unarrived s.members s.air a bearer place ≡ None → ComesOut s a f.frame
+pub comes_out : (s : Stage) (a bearer place : ℕ) (f : Sent) → IsSound s.members s.air → frame_for s.air a bearer place ≡ Some f → unarrived s.members s.air a bearer place ≡ None → ComesOut s a f.frame
 comes_out s a bearer place f sound there free b es er p from = comes s a bearer place f b es er p sound there free from
 
 taken_pairs : (old new : Stage) (a : ℕ) (m m' : MemberState) (bytes : List ℕ) (s : NodeStep) (frames : List Outgoing) (lost : Bool) → IsSound old.members old.air → Turns old new a m m' frames lost

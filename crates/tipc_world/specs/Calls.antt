@@ -27,8 +27,8 @@ abbrev pub IsForAnother : ℕ → EventNote → Type 0
 IsForAnother node (SendPort port to importance body) = to.node.word ≢ node_word node
 IsForAnother node other = Unit {0}
 
--- The node that a node comes to know is another one that is there and that it doesn't know yet. A call is one that nodes perform, and a
--- message is for another node.
+-- The node that a node comes to know is another one that is there and that it doesn't know yet. A call is one that nodes
+-- perform, and a message is for another node.
 abbrev pub CanHappenAt : List (Option MemberState) → WorldEvent → Type 0
 CanHappenAt members (Know node peer) =
     (is_some (slice_index_or members node None) ≡ true) × (is_some (slice_index_or members peer None) ≡ true)

@@ -15,20 +15,24 @@ use Rattle.tipc_world.specs.Members.{arrived_member, by_in, called, known_member
 use Rattle.tipc_world.specs.States.{MemberState}
 
 -- the node performs a call, which is recorded
-pub record Makes (stamp : ℕ) (call : EventNote) (m m' : MemberState) (frames : List Outgoing) (answered : Answer) : Type 0 where
+pub record Makes (stamp : ℕ) (call : EventNote) (m m' : MemberState) (frames : List Outgoing) (answered : Answer)
+    : Type 0 where
   pub performs : Performs m.node (by_in stamp m) call m'.node frames answered
   pub turn : CallTurn m.node m'.node (by_in stamp m) call [] (kept_answer answered) frames
   pub after : m' ≡ called m m'.node
 
 -- these bytes arrive at the node, those of the frame of that place in a bearer's air
-pub record Meets (stamp bearer place : ℕ) (bytes : List ℕ) (m m' : MemberState) (frames : List Outgoing) (answered : Answer) : Type 0 where
+pub record Meets (stamp bearer place : ℕ) (bytes : List ℕ) (m m' : MemberState) (frames : List Outgoing)
+    (answered : Answer) : Type 0 where
   pub arrived : Arrival
   pub arrives : Arrives m.node m'.node (by_in stamp m) bearer (length m.arrivals) bytes frames arrived
-  pub turn : CallTurn m.node m'.node (by_in stamp m) (note.Arrive bearer (length m.arrivals)) bytes (answer.Arrived arrived) frames
+  pub turn : CallTurn m.node m'.node (by_in stamp m) (note.Arrive bearer (length m.arrivals)) bytes
+      (answer.Arrived arrived) frames
   pub answer_is : answered ≡ answer.Arrived arrived
   pub after : m' ≡ arrived_member m m'.node (sender_of bytes) bearer place
 
--- An event happens at a node, as the recorded call of that stamp where it is one; of an arrival, these are the bytes of the frame.
+-- An event happens at a node, as the recorded call of that stamp where it is one; of an arrival, these are the bytes of
+-- the frame.
 abbrev pub Does : ℕ → WorldEvent → List ℕ → MemberState → MemberState → List Outgoing → Answer → Type 0
 Does stamp (Know node peer) bytes m m' frames answered = (m' ≡ known_member m peer)
     × (frames ≡ known_frames m.node peer) × (answered ≡ answer.Done) × (peer < length m.node.neighbours)
@@ -37,7 +41,8 @@ Does stamp (Call node call) bytes m m' frames answered = Makes stamp call m m' f
 Does stamp (Arrive node bearer place) bytes m m' frames answered = Meets stamp bearer place bytes m m' frames answered
 
 -- an event happened at a node, whose frames are in the box
-pub record Did (stamp : ℕ) (event : WorldEvent) (bytes : List ℕ) (m m' : MemberState) (box box' : Out) (answered : Answer) : Type 0 where
+pub record Did (stamp : ℕ) (event : WorldEvent) (bytes : List ℕ) (m m' : MemberState) (box box' : Out)
+    (answered : Answer) : Type 0 where
   pub frames : List Outgoing
   pub does : Does stamp event bytes m m' frames answered
   pub adds : Adds box box' frames

@@ -11,7 +11,8 @@ use Rattle.tipc_world.specs.Members.{IsNewcomer}
 use Rattle.tipc_world.specs.States.{MemberState}
 
 -- an event happened at its node, whose frames are in the box; every other node is as it was
-pub record DidAt (old new : List (Option MemberState)) (stamp : ℕ) (event : WorldEvent) (bytes : List ℕ) (box box' : Out) (answered : Answer) : Type 0 where
+pub record DidAt (old new : List (Option MemberState)) (stamp : ℕ) (event : WorldEvent) (bytes : List ℕ)
+    (box box' : Out) (answered : Answer) : Type 0 where
   pub before : MemberState
   pub after : MemberState
   pub was : slice_index_or old (node_of event) None ≡ Some before

@@ -41,16 +41,19 @@ noted counts (Some last) = insert_entry same_session counts last.0 last.1
 
 -- of the peers below that number every session is noted, and nothing else is
 pub record AreNoted (counts counts' : List ((ℕ × ℕ) × ℕ)) (n : NodeState) (below : ℕ) : Type 0 where
-  pub here : (peer epoch : ℕ) → peer < below → count_in counts' peer epoch ≡ count_with counts (link_in n peer) peer epoch
+  pub here : (peer epoch : ℕ) → peer < below
+      → count_in counts' peer epoch ≡ count_with counts (link_in n peer) peer epoch
   pub else_ : (peer epoch : ℕ) → below ≤ peer → count_in counts' peer epoch ≡ count_in counts peer epoch
 
 -- ---- an arrival
 
--- the number of the node that a frame names as its sender, in word 3 of its packet behind the four words of the envelope
+-- the number of the node that a frame names as its sender, in word 3 of its packet, behind the four words of the
+-- envelope
 abbrev pub sender_of : List ℕ → Option ℕ
 sender_of bytes = if nat_le 32 (length bytes) then node_number (word_at 7 bytes) else None
 
--- A frame arrived, which left the node so. Before, the last session with its sender was noted, in whose place a new one may begin.
+-- A frame arrived, which left the node so. The last session with its sender was noted before, since a new one may begin
+-- in its place.
 abbrev pub arrived_member : MemberState → NodeState → Option ℕ → ℕ → ℕ → MemberState
 arrived_member m n sender bearer frame = record {
   node = n;
@@ -63,7 +66,8 @@ arrived_member m n sender bearer frame = record {
 -- ---- a node comes to know a peer, is restarted, or comes in
 
 abbrev pub known_member : MemberState → ℕ → MemberState
-known_member m peer = record { node = known_node m.node peer; past = m.past; calls = m.calls; arrivals = m.arrivals; counts = m.counts }
+known_member m peer =
+    record { node = known_node m.node peer; past = m.past; calls = m.calls; arrivals = m.arrivals; counts = m.counts }
 
 -- a node at the beginning of a boot: it knows nobody, and has no sockets and no history
 pub record IsFresh (n : NodeState) (own boot : ℕ) : Type 0 where
@@ -74,7 +78,8 @@ pub record IsFresh (n : NodeState) (own boot : ℕ) : Type 0 where
   pub no_sockets : n.inboxes ≡ []
   pub no_history : n.journal ≡ []
 
--- A node was restarted: its journal is kept, and it begins its next boot. How many packets it ever numbered stays known.
+-- A node was restarted: its journal is kept, and it begins its next boot. How many packets it ever numbered stays
+-- known.
 pub record IsRestarted (m m' : MemberState) : Type 0 where
   pub node : IsFresh m'.node m.node.own (m.node.boot + 1)
   pub past : m'.past ≡ m.past ++ m.node.journal ∷ []

@@ -20,8 +20,9 @@ use Rattle.tipc_node.specs.Turns.{link_in}
 use Rattle.tipc_world.specs.declared.air.Arrived.{Arrived}
 use Rattle.tipc_world.specs.declared.air.Sent.{Sent}
 
--- A node over all its boots: the present one, the journals of those before it, how many calls the present boot has recorded, every frame
--- that ever arrived, and how many packets were numbered in sessions that are over, by peer and own epoch.
+-- A node over all its boots: the present one, the journals of those before it, how many calls the present boot has
+-- recorded, every frame that ever arrived, and how many packets were numbered in sessions that are over, by peer and own
+-- epoch.
 pub record MemberState : Type 0 where
   pub node : NodeState
   pub past : List (List Entry)
@@ -70,9 +71,11 @@ same_session s t = (s.0 == t.0) && (s.1 == t.1)
 unfoldable pub count_in : List ((ℕ × ℕ) × ℕ) → ℕ → ℕ → ℕ
 count_in counts peer epoch = unwrap_or (lookup (same_session (peer, epoch)) counts) 0
 
--- how many packets were numbered for a peer under an epoch: in the session of the link end to it, where that is its epoch, or as it is noted
+-- how many packets were numbered for a peer under an epoch: in the session of the link end to it, where that is its
+-- epoch, or as it is noted
 abbrev pub count_with : List ((ℕ × ℕ) × ℕ) → Option LinkEnd → ℕ → ℕ → ℕ
-count_with counts link peer epoch = unwrap_or (option_and_then (λ e. numbered_in e.session epoch) link) (count_in counts peer epoch)
+count_with counts link peer epoch =
+    unwrap_or (option_and_then (λ e. numbered_in e.session epoch) link) (count_in counts peer epoch)
 
 unfoldable pub count_of : MemberState → ℕ → ℕ → ℕ
 count_of m peer epoch = count_with m.counts (link_in m.node peer) peer epoch

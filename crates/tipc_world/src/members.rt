@@ -46,7 +46,9 @@ impl Model for Member {
 
     ghost Value = { MemberState };
 
-    ghost view = { λ m. record { node = m.node; past = map (λ j. j.entries) m.past.items; calls = m.calls; arrivals = m.arrivals.items; counts = m.counts.entries } };
+    ghost view = { λ m. record {
+        node = m.node; past = map (λ j. j.entries) m.past.items; calls = m.calls;
+        arrivals = m.arrivals.items; counts = m.counts.entries } };
 
     ghost invariant = { λ m. m.calls ≤ length m.node.journal };
 }
@@ -118,10 +120,12 @@ fn sender_of(frame: &[u8]) -> Option<u8>
     })
 }
 
-/// How many messages were accepted for a peer in a contact, in these journals: the count stops at the last number of 64 bits.
+/// How many messages were accepted for a peer in a contact, in these journals: the count stops at the last number of
+/// 64 bits.
 fn accepted_in(journals: &[Journal], peer: u8, contact: (u64, u64)) -> u64
     requires { (1 ≤ peer) × (peer ≤ 32) }
-    ensures { result ≡ counted (length (accepted (joined journals.now) (stream_of peer contact.0 contact.1 Flow.Zero))) }
+    ensures { result ≡
+        counted (length (accepted (joined journals.now) (stream_of peer contact.0 contact.1 Flow.Zero))) }
 {
     let mut count = 0_u64;
     for journal in journals {
@@ -130,10 +134,12 @@ fn accepted_in(journals: &[Journal], peer: u8, contact: (u64, u64)) -> u64
     count
 }
 
-/// How many messages were delivered from a peer in a contact, in these journals: the count stops at the last number of 64 bits.
+/// How many messages were delivered from a peer in a contact, in these journals: the count stops at the last number of
+/// 64 bits.
 fn delivered_in(journals: &[Journal], peer: u8, contact: (u64, u64)) -> u64
     requires { (1 ≤ peer) × (peer ≤ 32) }
-    ensures { result ≡ counted (length (delivered (joined journals.now) (stream_of peer contact.0 contact.1 Flow.Zero))) }
+    ensures { result ≡
+        counted (length (delivered (joined journals.now) (stream_of peer contact.0 contact.1 Flow.Zero))) }
 {
     let mut count = 0_u64;
     for journal in journals {
@@ -220,7 +226,8 @@ impl Member {
     #[tactic(auto, using(crate::proofs::Calls::call_fits))]
     fn begin(&self) -> Result<u64, WorldFault>
         ensures ok { IfOk result (λ calls. (calls ≡ self.now.calls + 1) × (has_room self.now.node.journal ≡ true)) }
-        ensures full { IfErr result (λ fault. (fault ≡ WorldFault.Limit Limit.Journal) × (has_room self.now.node.journal ≡ false)) }
+        ensures full { IfErr result (λ fault.
+            (fault ≡ WorldFault.Limit Limit.Journal) × (has_room self.now.node.journal ≡ false)) }
     {
         if self.node.has_room() {
             Ok(self.calls + 1)
@@ -229,20 +236,24 @@ impl Member {
         }
     }
 
-    /// How many messages it accepted for a peer in a contact, in all its boots: the count stops at the last number of 64 bits.
+    /// How many messages it accepted for a peer in a contact, in all its boots: the count stops at the last number of
+    /// 64 bits.
     pub fn accepted_count(&self, peer: u8, contact: (u64, u64)) -> u64
         requires { (1 ≤ peer) × (peer ≤ 32) }
-        ensures { result ≡ counted (length (accepted (history self.now) (stream_of peer contact.0 contact.1 Flow.Zero))) }
+        ensures { result ≡
+            counted (length (accepted (history self.now) (stream_of peer contact.0 contact.1 Flow.Zero))) }
     {
         accepted_in(self.past.as_slice(), peer, contact).saturating_add(
             self.node.accepted_count(peer, contact),
         )
     }
 
-    /// How many messages were delivered at it from a peer in a contact, in all its boots: the count stops at the last number of 64 bits.
+    /// How many messages were delivered at it from a peer in a contact, in all its boots: the count stops at the last
+    /// number of 64 bits.
     pub fn delivered_count(&self, peer: u8, contact: (u64, u64)) -> u64
         requires { (1 ≤ peer) × (peer ≤ 32) }
-        ensures { result ≡ counted (length (delivered (history self.now) (stream_of peer contact.0 contact.1 Flow.Zero))) }
+        ensures { result ≡
+            counted (length (delivered (history self.now) (stream_of peer contact.0 contact.1 Flow.Zero))) }
     {
         delivered_in(self.past.as_slice(), peer, contact).saturating_add(
             self.node.delivered_count(peer, contact),
@@ -280,7 +291,8 @@ impl Member {
     /// Comes to know a peer.
     pub fn know(&mut self, alloc: Global, peer: u8, out: &mut Outbox) -> Answer
         requires peer { (1 ≤ peer) × (peer ≤ 32) }
-        ensures { (stamp node : ℕ) → Did stamp (WorldEvent.Know node peer) [] self.old self.new out.old out.new result }
+        ensures { (stamp node : ℕ) →
+            Did stamp (WorldEvent.Know node peer) [] self.old self.new out.old out.new result }
     {
         self.node.know(alloc, peer, out);
         Answer::Done
@@ -295,7 +307,8 @@ impl Member {
         out: &mut Outbox,
     ) -> Result<Answer, WorldFault>
         requires can { CanPerform call }
-        ensures did { IfOk result (λ a. (node : ℕ) → Did stamp (WorldEvent.Call node call) [] self.old self.new out.old out.new a) }
+        ensures did { IfOk result (λ a. (node : ℕ) →
+            Did stamp (WorldEvent.Call node call) [] self.old self.new out.old out.new a) }
         ensures room { OnOk result (has_room self.old.node.journal ≡ true) }
         ensures full { IfErr result (λ fault. RecordStops (has_room self.old.node.journal) fault) }
         ensures err { OnErr result ((self.new ≡ self.old) × (out.new ≡ out.old)) }
@@ -338,8 +351,8 @@ impl Member {
         over_with(&self.node, sender_of(frame)?)
     }
 
-    /// A frame arrives on a bearer, which is the one at that place of the bearer's air. A session that is over is noted, since a new one
-    /// may begin in its place.
+    /// A frame arrives on a bearer, which is the one at that place of the bearer's air. The last session with its sender is
+    /// noted where the link is down, since a new one may begin in its place.
     pub fn arrive(
         &mut self,
         alloc: Global,
@@ -349,7 +362,8 @@ impl Member {
         frame: &[u8],
         out: &mut Outbox,
     ) -> Result<Answer, WorldFault>
-        ensures did { IfOk result (λ a. (node : ℕ) → Did stamp (WorldEvent.Arrive node bearer place) frame.now self.old self.new out.old out.new a) }
+        ensures did { IfOk result (λ a. (node : ℕ) →
+            Did stamp (WorldEvent.Arrive node bearer place) frame.now self.old self.new out.old out.new a) }
         ensures room { OnOk result (has_room self.old.node.journal ≡ true) }
         ensures full { IfErr result (λ fault. RecordStops (has_room self.old.node.journal) fault) }
         ensures err { OnErr result ((self.new ≡ self.old) × (out.new ≡ out.old)) }

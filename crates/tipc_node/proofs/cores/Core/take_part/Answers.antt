@@ -2,7 +2,7 @@ use Rattle.std.proofs.Common.{◌∙◌, ap, sym, subst, length, None, sum_by, s
 use Rattle.tipc_journal.specs.Room.{entry_bytes}
 use Rattle.tipc_node.proofs.Parts.{all_nobody, all_wide}
 use Rattle.tipc_node.proofs.Sizes.{all_few, all_size}
-use Rattle.tipc_node.proofs.nodes.Node.take_part.Goals as goal
+use Rattle.tipc_node.proofs.cores.Core.take_part.Goals as goal
 
 pub record-requires-clause-few : goal.record-requires-clause-few
 record-requires-clause-few c =

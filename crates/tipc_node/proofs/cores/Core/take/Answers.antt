@@ -5,14 +5,14 @@ use Rattle.tipc_journal.specs.Steps.{step_entries}
 use Rattle.tipc_types.specs.declared.node_calls.Answer.TheVariants.{Arrived}
 use Rattle.tipc_types.specs.declared.node_calls.EventNote.TheVariants.{Arrive}
 use Rattle.tipc_pair.specs.Partners.{opened_in}
-use Rattle.tipc_node.specs.contracts.nodes.Node.{the_view}
+use Rattle.tipc_node.specs.contracts.cores.Core.{the_view}
 use Rattle.tipc_node.specs.Neighbours.{met_by}
 use Rattle.tipc_node.specs.Nodes.{NodeState, arrival_answer, deliveries_of, inboxes_after, neighbour_of, step_of}
-use Rattle.tipc_node.proofs.Heard.{heard_kept, node_heard, same_neighbour, some_entries}
+use Rattle.tipc_node.proofs.Heard.{heard_kept, node_heard, same_neighbour, sender_of, some_entries}
 use Rattle.tipc_node.proofs.Hearings.{told_contact, told_opens}
 use Rattle.tipc_node.proofs.Parts.{put_back}
 use Rattle.tipc_node.proofs.Refusals.{at_error, same_node}
-use Rattle.tipc_node.proofs.nodes.Node.take.Goals as goal
+use Rattle.tipc_node.proofs.cores.Core.take.Goals as goal
 
 pub returns-in_err-reserve-clause-err : goal.returns-in_err-reserve-clause-err
 returns-in_err-reserve-clause-err c =
@@ -31,7 +31,10 @@ invariant_of-self-2 c =
     c.requires.peer.0 c.deliver.ensures.inboxes
 
 pub returns-clause-heard : goal.returns-clause-heard
-returns-clause-heard c = λ x is.
+returns-clause-heard c = λ bytes due.
+    let from = sender_of _ bytes c.args.due.peer _ _ _ due in
+    let x = from.0 in
+    let is = from.1 in
     let n = the_view c.self.inside in
     let d = c.args.due in
     let p = view d.packet in
@@ -47,8 +50,8 @@ returns-clause-heard c = λ x is.
     let contact = told_contact y d.first d.second c.args.number p h.arriving told c.requires.plain in
     let given = c.in_ok-heard.ensures.deliveries ∙ ap (λ k. deliveries_of d.peer k (opened_in out)) (sym contact) in
     let entries = c.record.ensures ∙ ap (λ es. es ++ step_entries (step_of c.args.by (Arrive 0 c.args.number) c.deliver.new.inside.items (Arrived h.answer))) (ap (λ (j : JournalState). j.entries) c.in_ok-reserve.ensures.ok) in
-    node_heard n c.args.self.now c.deliver.new.inboxes.items c.record.new.journal.entries c.args.out.now c.take-change.new.out c.args.by c.args.number d.peer d.first d.second x y c.take-change.new.self p h.answer
-    c.deliver.new.inside.items out h.arriving.begun c.self.view_is same (record {
+    node_heard n c.args.self.now c.deliver.new.inboxes.items c.record.new.journal.entries c.args.out.now c.take-change.new.out c.args.by c.args.number d.peer d.first d.second bytes x y c.take-change.new.self p h.answer
+    c.deliver.new.inside.items out h.arriving.begun c.self.view_is is same due (record {
       opens = told_opens y d.first d.second c.args.number p h.arriving told c.requires.plain;
       answer = c.in_ok-heard.ensures.answer ∙ ap (arrival_answer out) given;
       after_is = c.take-change.ensures.after d.first d.second c.args.number told;
