@@ -1,12 +1,11 @@
 -- A frame that is heard was sent by the peer, and isn't too old.
-use Rattle.std.proofs.Common.{◌≡◌, ◌≢◌, ◌≤◌, ◌<◌, ◌+◌, ◌^◌, ℕ, true, List, [], Some, None, refl, length, sym, ap, ◌∙◌, subst, arith}
+use Rattle.std.proofs.Common.{◌≡◌, ◌≢◌, ◌≤◌, ◌+◌, ℕ, true, List, [], Some, None, refl, length, sym, ap, ◌∙◌, subst, arith}
 use Rattle.std.specs.Prelude.{drop, slice_get}
 use Rattle.std.proofs.lemmas.List.{drop_at, length-append}
 use Rattle.std.proofs.lemmas.Bool.Decides.{nat_tests}
 use Rattle.tipc_types.specs.Address.{node_word}
 use Rattle.tipc_header.specs.Faults.{fault_of}
-use Rattle.tipc_header.specs.Frames.{envelope, frame_of}
-use Rattle.tipc_header.specs.Grammar.{Fits}
+use Rattle.tipc_header.specs.Frames.{envelope}
 use Rattle.tipc_header.specs.Reading.{fields_at}
 use Rattle.tipc_header.specs.Spelling.{Fields, spelling}
 use Rattle.tipc_header.proofs.Again.{again, no_fault}
@@ -17,7 +16,6 @@ use Rattle.tipc_pair.specs.Turns.Opening.{cuts, hears, mends, rests, ticks}
 use Rattle.tipc_partners.proofs.Frames.{same_packet}
 use Rattle.tipc_partners.proofs.Sights.{frames}
 use Rattle.tipc_partners.specs.Sights.{Comes, ComesIn, Sight}
-use Rattle.tipc_partners.specs.Views.{Frame}
 use Rattle.tipc_node.specs.Nodes.{is_frame_size}
 use Rattle.tipc_node.specs.Turns.{IsBrought, IsFrom, is_to}
 use Rattle.tipc_world.specs.declared.air.Sent.{Sent}
@@ -28,7 +26,7 @@ use Rattle.tipc_world.specs.Steps.{Stage}
 use Rattle.tipc_world.specs.Views.{sight_at}
 use Rattle.tipc_world.proofs.Reaching.{IsYoung, age_is, goes_there, placed, same_receiver, sent_at, young, young_session}
 use Rattle.tipc_world.proofs.Truth.{frame_is_true}
-use Rattle.tipc_world.proofs.Turning.{PartnersIn, sight_in}
+use Rattle.tipc_world.proofs.Turning.{sight_in}
 
 -- it was sent by the peer
 pub record IsFromPeer (s : Stage) (a : ℕ) (f : Sent) (peer : ℕ) : Type 0 where
@@ -38,16 +36,18 @@ pub record IsFromPeer (s : Stage) (a : ℕ) (f : Sent) (peer : ℕ) : Type 0 whe
   pub place : ℕ
   pub there : slice_get (sent_between s.air peer a) place ≡ Some (as_frame f)
 
-spoken_by : (s : Stage) (from a : ℕ) (f : Frame) (place es er : ℕ) (p : Fields) → PartnersIn s s from a → slice_get (sent_between s.air from a) place ≡ Some f
-    → Fits p → f.bytes ≡ frame_of es er (spelling p) → p.previous ≡ node_word from
-unfolding sight_at
-spoken_by s from a f place es er p h there fits bytes =
-    let spoken = frames (sight_in s from a) (sight_in s a from) place f h there in
-    let same : spoken.packet ≡ p = same_packet spoken.es spoken.er es er spoken.packet p spoken.fits fits (sym spoken.bytes ∙ bytes) in
-    ap (λ (q : Fields). q.previous) (sym same) ∙ spoken.previous
+-- a frame for node a is a packet of the node that sent it, under an envelope
+pub record IsSpokenTo (s : Stage) (a : ℕ) (f : Sent) : Type 0 where
+  pub sender : ℕ
+  pub sent : IsFromPeer s a f sender
+  pub es : ℕ
+  pub er : ℕ
+  pub packet : Fields
+  pub is_from : IsFrom sender f.frame es er packet
 
-pub from_peer : (s : Stage) (a bearer place : ℕ) (f : Sent) (peer es er : ℕ) (p : Fields) → IsSound s.members s.air → frame_for s.air a bearer place ≡ Some f → IsFrom peer f.frame es er p → IsFromPeer s a f peer
-from_peer s a bearer place f peer es er p sound found b =
+pub spoken_to : (s : Stage) (a bearer place : ℕ) (f : Sent) → IsSound s.members s.air → frame_for s.air a bearer place ≡ Some f → IsSpokenTo s a f
+unfolding sight_at
+spoken_to s a bearer place f sound found =
     let at = placed s.air a bearer place f found in
     let flown = sound.frames place f at.0 in
     let from = flown.from in
@@ -55,11 +55,27 @@ from_peer s a bearer place f peer es er p sound found b =
     let apart : from ≢ a = λ e. flown.apart (e ∙ sym here) in
     let sent = sent_at s.air from a place f at.0 (goes_there from a f flown.from_is (subst (λ n. is_to n f.to ≡ true) here flown.to_is)) in
     let h = sound.pairs from a flown.from_number (subst IsNumber here flown.receiver_number) apart in
-    let said = spoken_by s from a (as_frame f) sent.0 es er p h sent.1 b.fits b.frame_is in
-    let named = b.previous in
-    let same : from ≡ peer = omega (arith, said, named) in
-    let there : IsFromPeer s a f from = record { number = flown.from_number; apart = apart; from = flown.from_is; place = sent.0; there = sent.1 } in
-    subst (λ n. IsFromPeer s a f n) same there
+    let spoken = frames (sight_in s from a) (sight_in s a from) sent.0 (as_frame f) h sent.1 in
+    record {
+      sender = from;
+      sent = record { number = flown.from_number; apart = apart; from = flown.from_is; place = sent.0; there = sent.1 };
+      es = spoken.es;
+      er = spoken.er;
+      packet = spoken.packet;
+      is_from = record { es_fits = spoken.es_fits; er_fits = spoken.er_fits; fits = spoken.fits; frame_is = spoken.bytes; previous = spoken.previous };
+    }
+
+-- a packet of a frame names the node that sent it
+pub same_sender : (b c : ℕ) (bytes : List ℕ) (es er es' er' : ℕ) (p q : Fields) → IsFrom b bytes es er p → IsFrom c bytes es' er' q → b ≡ c
+same_sender b c bytes es er es' er' p q h k =
+    let same : p ≡ q = same_packet es er es' er' p q h.fits k.fits (sym h.frame_is ∙ k.frame_is) in
+    let words : node_word b ≡ node_word c = sym h.previous ∙ ap (λ (r : Fields). r.previous) same ∙ k.previous in
+    omega (arith, words)
+
+from_peer : (s : Stage) (a bearer place : ℕ) (f : Sent) (peer es er : ℕ) (p : Fields) → IsSound s.members s.air → frame_for s.air a bearer place ≡ Some f → IsFrom peer f.frame es er p → IsFromPeer s a f peer
+from_peer s a bearer place f peer es er p sound found b =
+    let spoken = spoken_to s a bearer place f sound found in
+    subst (IsFromPeer s a f) (same_sender spoken.sender peer f.frame spoken.es spoken.er es er spoken.packet p spoken.is_from b) spoken.sent
 
 -- a frame in the air has a frame's size
 sized : (s : Stage) (place : ℕ) (f : Sent) (peer es er : ℕ) (p : Fields) → IsSound s.members s.air → slice_get s.air place ≡ Some f → IsFrom peer f.frame es er p → is_frame_size (length f.frame) ≡ true

@@ -21,6 +21,7 @@ use Rattle.tipc_pair.specs.declared.changes.PairOutcome.{PairOutcome}
 use Rattle.tipc_pair.specs.Partners.{opened_in}
 use Rattle.tipc_node.specs.Nodes.{accepted_entry, message_in, shown_contact}
 use Rattle.tipc_node.specs.Turns.{delivered_message as delivery_of, delivered_of, given_entries, is_accepted_for, is_delivered_from}
+use Rattle.tipc_node.proofs.Telling.{same_word}
 use Rattle.tipc_world.specs.Members.{IsRestarted}
 use Rattle.tipc_world.specs.States.{MemberState, history, stream_of}
 
@@ -56,9 +57,6 @@ same_test false false there back = refl
 turned : (m n : ℕ) → (m == n) ≡ (n == m)
 turned m n = same_test (m == n) (n == m) (λ e. grind (arith, nat_tests)) (λ e. grind (arith, nat_tests))
 
-same_number : (n : ℕ) → (n == n) ≡ true
-same_number n = grind (arith, nat_tests)
-
 flows_turned : (flow : Flow) → flow_eq Zero flow ≡ flow_eq flow Zero
 flows_turned Zero = refl
 flows_turned One = refl
@@ -80,7 +78,7 @@ order false c false = refl
 stream_test : (peer own theirs own' theirs' : ℕ) (flow : Flow) → stream_eq (stream_of peer own theirs Zero) (stream_of peer own' theirs' flow) ≡ (flow_eq flow Zero && ((own' == own) && (theirs' == theirs)))
 unfolding stream_eq
 stream_test peer own theirs own' theirs' flow =
-    ap (λ t. t && ((own == own') && ((theirs == theirs') && flow_eq Zero flow))) (same_number (node_word peer))
+    ap (λ t. t && ((own == own') && ((theirs == theirs') && flow_eq Zero flow))) (same_word peer)
     ∙ order (own == own') (theirs == theirs') (flow_eq Zero flow)
     ∙ ap (λ t. t && ((own == own') && (theirs == theirs'))) (flows_turned flow)
     ∙ ap (λ t. flow_eq flow Zero && (t && (theirs == theirs'))) (turned own own')

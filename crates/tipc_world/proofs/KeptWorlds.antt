@@ -1,14 +1,12 @@
 -- Every event keeps the journals of all nodes lawful, and tells how long their links were silent.
-use Rattle.std.proofs.Common.{length-append, ◌≡◌, ◌≢◌, ◌<◌, ◌+◌, ◌==◌, ℕ, Bool, true, false, List, [], ◌∷◌, ◌++◌, Option, Some, None, if◌then◌else◌, length, map, take, slice_get, slice_index_or, slice_set, refl, sym, ap, ◌∙◌, subst, inl, inr, eqb-true, get_or-set_same, get_or-set_other, arith}
+use Rattle.std.proofs.Common.{length-append, ◌≡◌, ◌<◌, ◌+◌, ◌==◌, ℕ, Bool, true, false, List, [], ◌∷◌, ◌++◌, Option, Some, None, if◌then◌else◌, length, map, take, slice_get, slice_index_or, slice_set, refl, sym, ap, ◌∙◌, subst, inl, inr, eqb-true, get_or-set_same, get_or-set_other, arith}
 use Rattle.std.specs.Prelude.{option_and_then, option_map}
 use Rattle.std.proofs.lemmas.Bool.{cases_eq}
-use Rattle.tipc_types.specs.Address.{node_word}
 use Rattle.tipc_types.specs.declared.node_calls.Answer.{Answer}
 use Rattle.tipc_types.specs.declared.node_calls.By.{By}
 use Rattle.tipc_types.specs.declared.node_calls.EventNote.{EventNote}
 use Rattle.tipc_types.specs.declared.node_calls.EventNote.TheVariants as note
 use Rattle.tipc_outside.specs.declared.outgoing.Outgoing.{Outgoing}
-use Rattle.tipc_header.specs.Spelling.{Fields}
 use Rattle.tipc_fragments.specs.Joining.{fresh}
 use Rattle.tipc_journal.specs.declared.entries.Entry.{Entry}
 use Rattle.tipc_journal.specs.Prefixes.{IsPrefixOf}
@@ -18,41 +16,38 @@ use Rattle.tipc_link.specs.Sessions.{SessionEnd}
 use Rattle.tipc_link_fsm.specs.Table.{is_up}
 use Rattle.tipc_reassembly.proofs.TraceLaws.{begun_none}
 use Rattle.tipc_pair.specs.Held.{KeepsBy}
-use Rattle.tipc_partners.proofs.Sights.{frames as frames_seen}
 use Rattle.tipc_node.specs.declared.neighbours.Neighbour.{Neighbour}
 use Rattle.tipc_node.specs.Calls.{Performs}
 use Rattle.tipc_node.specs.Neighbours.{neighbour}
 use Rattle.tipc_node.specs.Nodes.{NodeState, neighbour_of, new_pair}
 use Rattle.tipc_node.specs.Telling.{IsTold}
-use Rattle.tipc_node.specs.Turns.{IsFrom, NodeTurn, addr_of, is_to, link_in}
+use Rattle.tipc_node.specs.Turns.{NodeTurn, addr_of, link_in}
 use Rattle.tipc_node.proofs.Moves.{tested}
 use Rattle.tipc_world.specs.declared.air.Arrived.{Arrived}
 use Rattle.tipc_world.specs.declared.air.Sent.{Sent}
 use Rattle.tipc_world.specs.declared.events.WorldEvent.{WorldEvent}
 use Rattle.tipc_world.specs.declared.events.WorldEvent.TheVariants.{Know, Restart, Call, Arrive}
-use Rattle.tipc_world.specs.Air.{airborne, as_frame}
+use Rattle.tipc_world.specs.Air.{airborne}
 use Rattle.tipc_world.specs.Calls.{CanHappenAt, node_of}
 use Rattle.tipc_world.specs.Causes.{arrived_frame}
 use Rattle.tipc_world.specs.Deeds.{Does, Makes, Meets}
 use Rattle.tipc_world.specs.Due.{frame_for, kept_for, unarrived}
 use Rattle.tipc_world.specs.Events.{JoinsAt}
 use Rattle.tipc_world.specs.Members.{IsNewcomer, IsRestarted, known_member}
-use Rattle.tipc_world.specs.Sound.{IsNumber, IsSound}
+use Rattle.tipc_world.specs.Sound.{IsSound}
 use Rattle.tipc_world.specs.Spelled.{HasBrought}
 use Rattle.tipc_world.specs.States.{MemberState}
 use Rattle.tipc_world.specs.Steps.{Becomes, Happens, IsArrival, Stage, Turns}
-use Rattle.tipc_world.specs.Views.{sight_at}
 use Rattle.tipc_world.specs.Watched.{AreTraced, AreWatched, IsWatched}
 use Rattle.tipc_world.proofs.Bringing.{are_brought}
-use Rattle.tipc_world.proofs.Coming.{ComesOut, nothing_out}
+use Rattle.tipc_world.proofs.Coming.{ComesOut, nothing_out, spoken_to}
 use Rattle.tipc_world.proofs.Growing.{prefix_same}
 use Rattle.tipc_world.proofs.Kept.{IsKept, get_last, kept_of, kept_wider, made_kept, restarted_kept, seen_by, started_kept, watched_of}
 use Rattle.tipc_world.proofs.LookUps.{place_within}
 use Rattle.tipc_world.proofs.PairedEvents.{IsReady, made_step, met_step, ready_out}
-use Rattle.tipc_world.proofs.Reaching.{goes_there, placed, same_receiver, sent_at}
+use Rattle.tipc_world.proofs.Reaching.{placed}
 use Rattle.tipc_world.proofs.SoundWorlds.{HaveNextBoots}
 use Rattle.tipc_world.proofs.Stepping.{Widens, get_prefix}
-use Rattle.tipc_world.proofs.Turning.{sight_in}
 use Rattle.tipc_world.proofs.TurnKept.{turn_kept}
 use Rattle.tipc_world.proofs.TurnStreams.{AreBrought}
 use Rattle.tipc_world.proofs.TurnTraced.{AreCarried, IsCarried, traced_set, traced_wider, turn_spelled, turn_traced}
@@ -121,46 +116,17 @@ bearer_is air n bearer k f there = case (bearer == 0) refl there
     case true is e = eqb-true _ _ is
     case false is e = absurd cc
 
--- a frame of the air is a packet of the node that sent it, under an envelope
-record IsSpokenBy (f : Sent) : Type 0 where
-  sender : ℕ
-  from : f.from.word ≡ node_word sender
-  es : ℕ
-  er : ℕ
-  packet : Fields
-  is_from : IsFrom sender f.frame es er packet
-
-frame_spoken : (s : Stage) (a bearer place : ℕ) (f : Sent) → IsSound s.members s.air → frame_for s.air a bearer place ≡ Some f → IsSpokenBy f
-unfolding sight_at
-frame_spoken s a bearer place f sound there =
-    let at = placed s.air a bearer place f there in
-    let flown = sound.frames place f at.0 in
-    let from = flown.from in
-    let here : flown.receiver ≡ a = sym (same_receiver a flown.receiver f.to at.1 flown.to_is) in
-    let apart : from ≢ a = λ e. flown.apart (e ∙ sym here) in
-    let sent = sent_at s.air from a place f at.0 (goes_there from a f flown.from_is (subst (λ n. is_to n f.to ≡ true) here flown.to_is)) in
-    let h = sound.pairs from a flown.from_number (subst IsNumber here flown.receiver_number) apart in
-    let spoken = frames_seen (sight_in s from a) (sight_in s a from) sent.0 (as_frame f) h sent.1 in
-    record {
-      sender = from;
-      from = flown.from_is;
-      es = spoken.es;
-      er = spoken.er;
-      packet = spoken.packet;
-      is_from = record { es_fits = spoken.es_fits; er_fits = spoken.er_fits; fits = spoken.fits; frame_is = spoken.bytes; previous = spoken.previous };
-    }
-
 -- the frame of that place arrived at a node
 frame_carried : (s : Stage) (air' : List Sent) (a bearer place : ℕ) (f : Sent) (arrivals : List Arrived) → IsSound s.members s.air → IsPrefixOf s.air air' → frame_for s.air a bearer place ≡ Some f
     → IsCarried (record { air = air'; arrivals = arrivals ++ record { bearer = bearer; frame = place } ∷ [] }) (length arrivals) f.frame
 frame_carried s air' a bearer place f arrivals sound longer there =
-    let spoken = frame_spoken s a bearer place f sound there in
+    let spoken = spoken_to s a bearer place f sound there in
     record {
       frame = f;
       arrived = arrived_last s.air air' arrivals bearer place f longer (placed s.air a bearer place f there).0;
       bytes_are = refl;
       sender = spoken.sender;
-      from = spoken.from;
+      from = spoken.sent.from;
       es = spoken.es;
       er = spoken.er;
       packet = spoken.packet;
@@ -173,11 +139,10 @@ are_carried s air' a bearer place f arrivals arrivals' step sound longer there m
     let both : note.Arrive bearer (length arrivals) ≡ note.Arrive bearer' number = sym call ∙ is in
     let bearers : bearer ≡ bearer' = cc in
     let numbers : length arrivals ≡ number = cc in
-    let last : Arrived = record { bearer = bearer; frame = place } in
-    (
+    let last : Arrived = record { bearer = bearer; frame = place } in (
       sym bearers ∙ bearer_is s.air a bearer place f there,
       subst (λ k. IsCarried (record { air = air'; arrivals = arrivals' }) k f.frame) numbers
-      (subst (λ zs. IsCarried (record { air = air'; arrivals = zs }) (length arrivals) f.frame) (sym more) (frame_carried s air' a bearer place f arrivals sound longer there)),
+          (subst (λ zs. IsCarried (record { air = air'; arrivals = zs }) (length arrivals) f.frame) (sym more) (frame_carried s air' a bearer place f arrivals sound longer there)),
       ap length more ∙ length-append arrivals (last ∷ []) ∙ ap (λ k. k + 1) numbers,
     )
 

@@ -1,5 +1,5 @@
 -- The frame that arrives among those that its sender sent, and its age.
-use Rattle.std.proofs.Common.{◌≡◌, ◌≢◌, ◌≤◌, ◌<◌, ◌+◌, ◌-◌, ◌^◌, ◌==◌, ◌&&◌, ℕ, zero, suc, Bool, true, false, List, [], ◌∷◌, Option, Some, None, length, max, option_map, if◌then◌else◌, refl, sym, ap, ◌∙◌, subst, eqb-true, arith}
+use Rattle.std.proofs.Common.{◌≡◌, ◌≤◌, ◌<◌, ◌+◌, ◌-◌, ◌^◌, ◌==◌, ℕ, Bool, true, false, List, Option, Some, None, length, max, option_map, if◌then◌else◌, refl, sym, ap, ◌∙◌, subst, eqb-true, arith}
 use Rattle.std.specs.Prelude.{drop, nat_lt, slice_get}
 use Rattle.std.specs.List.{filter}
 use Rattle.std.proofs.lemmas.Option.{slice_get-map}
@@ -21,22 +21,14 @@ use Rattle.tipc_node.specs.Turns.{is_to}
 use Rattle.tipc_world.specs.Air.{as_frame, goes, number_of_node, sent_between}
 use Rattle.tipc_world.specs.Due.{age_by_fault, age_of, frame_for, is_for, kept_for, session_age, stopped_by_age, unarrived}
 use Rattle.tipc_world.specs.States.{MemberState, count_at}
+use Rattle.tipc_world.proofs.Stepping.{passes}
 
 -- ---- the frame among those that its sender sent
-
-filtered_at : {A : Type 0} (p : A → Bool) (xs : List A) (k : ℕ) (x : A) → slice_get xs k ≡ Some x → p x ≡ true → (j : ℕ) × (slice_get (filter p xs) j ≡ Some x)
-filtered_at p [] k x there passes = absurd cc
-filtered_at p (y ∷ ys) zero x there passes = (0, (let same : y ≡ x = cc in rw (ap p same ∙ passes) there))
-filtered_at p (y ∷ ys) (suc k) x there passes = case (filtered_at p ys k x there passes) (p y) refl
-  where
-    case : (j : ℕ) × (slice_get (filter p ys) j ≡ Some x) → (b : Bool) → p y ≡ b → (j : ℕ) × (slice_get (if b then y ∷ filter p ys else filter p ys) j ≡ Some x)
-    case later true is = (suc later.0, later.1)
-    case later false is = later
 
 pub sent_at : (air : List Sent) (a b place : ℕ) (f : Sent) → slice_get air place ≡ Some f → goes a b f ≡ true → (j : ℕ) × (slice_get (sent_between air a b) j ≡ Some (as_frame f))
 unfolding sent_between
 sent_at air a b place f there is =
-    let found = filtered_at (goes a b) air place f there is in
+    let found = passes (goes a b) air place f there is in
     (found.0, slice_get-map as_frame (filter (goes a b) air) found.0 ∙ ap (option_map as_frame) found.1)
 
 -- ---- the frame that arrives

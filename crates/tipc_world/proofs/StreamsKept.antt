@@ -64,12 +64,12 @@ changed members members' a m m' was is = record {
   is = subst (λ ms. history_at ms a ≡ history m') (sym is) (history_at-is (slice_set members a (Some m')) a m' (member_at-changed members a m m' was));
 }
 
--- what holds of a stream of node a, and of those of every other node, holds of all
-pub record OneStream (members' : List (Option MemberState)) (n b own theirs : ℕ) : Type 0 where
-  pub one_flow : (flow : Flow) → flow ≢ Zero → (accepted_at members' n b own theirs flow ≡ []) × (delivered_at members' n b own theirs flow ≡ [])
-  pub accepted : Each (IsOwn (node_word n)) (accepted_at members' n b own theirs Zero)
-  pub delivered : Each IsSendable (delivered_at members' n b own theirs Zero)
-  pub nothing : delivered_at members' n b own theirs Zero ≢ [] → IsNumber n × IsNumber b × (n ≢ b)
+-- what a sound world says of the messages of node n with node b in a contact
+record OneStream (members' : List (Option MemberState)) (n b own theirs : ℕ) : Type 0 where
+  one_flow : (flow : Flow) → flow ≢ Zero → (accepted_at members' n b own theirs flow ≡ []) × (delivered_at members' n b own theirs flow ≡ [])
+  accepted : Each (IsOwn (node_word n)) (accepted_at members' n b own theirs Zero)
+  delivered : Each IsSendable (delivered_at members' n b own theirs Zero)
+  nothing : delivered_at members' n b own theirs Zero ≢ [] → IsNumber n × IsNumber b × (n ≢ b)
 
 same_stream : (members members' : List (Option MemberState)) (n b own theirs : ℕ) → StreamsSound members → history_at members' n ≡ history_at members n → OneStream members' n b own theirs
 same_stream members members' n b own theirs h same = record {

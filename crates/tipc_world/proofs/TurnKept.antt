@@ -2,7 +2,6 @@
 use Rattle.std.specs.Prelude.{◌⊎◌, All, is_some, option_map}
 use Rattle.std.specs.List.{filter, flat_map}
 use Rattle.std.proofs.Common.{◌≡◌, ◌<◌, ◌≤◌, ◌+◌, ◌==◌, ◌^◌, ℕ, zero, suc, true, false, List, [], ◌∷◌, ◌++◌, Option, Some, None, map, slice_get, refl, sym, ap, ◌∙◌, subst, inl, inr, arith}
-use Rattle.std.proofs.lemmas.Bool.Decides.{nat_tests}
 use Rattle.std.proofs.lemmas.List.Elements.{All-head, All-tail}
 use Rattle.std.proofs.lemmas.Option.{get_or_from_slice_get, slice_get_within}
 use Rattle.tipc_types.specs.Address.{node_word}
@@ -39,6 +38,7 @@ use Rattle.tipc_node.specs.Telling.{IsAbreast, IsTold, TellsOf, epochs_of, shown
 use Rattle.tipc_node.specs.Turns.{IsBrought, IsFrom, IsPlaced, IsTakenBy, NodeTurn, PeerTurn, Suits, addr_of, bytes_of, delivered_message, delivered_of, is_accepted_for, is_change_of, is_delivered_from, link_in}
 use Rattle.tipc_node.proofs.ArrivalMoves.{IsAs, IsTakenDown, arrival_met}
 use Rattle.tipc_node.proofs.Moves.{IsCutOff, IsSilenced, Tells, down_epochs, up_contact, up_epochs_are}
+use Rattle.tipc_node.proofs.Telling.{same_word}
 use Rattle.tipc_node.proofs.TurnMoves.{TurnMoves, answered_as, puts_as, turn_as, turn_moves}
 use Rattle.tipc_world.specs.declared.air.Sent.{Sent}
 use Rattle.tipc_world.specs.Causes.{tick_of, BringsUp, HasTicked, IsCaused, IsNumberOf, IsTakenFrom, Seen}
@@ -67,9 +67,6 @@ all_at P xs k x all there = subst P (get_or_from_slice_get xs k x x there) (all 
 
 same_in : {A : Type 0} {a b : A} → Some a ≡ Some b → a ≡ b
 same_in is = cc
-
-same_word : (n : ℕ) → (node_word n == node_word n) ≡ true
-same_word n = grind (arith, nat_tests)
 
 named : (peer : Addr) (b : ℕ) → peer ≡ addr_of b → (peer.word == node_word b) ≡ true
 named peer b is = ap (λ (a : Addr). a.word == node_word b) is ∙ same_word b

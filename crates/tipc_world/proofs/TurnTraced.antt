@@ -37,12 +37,12 @@ use Rattle.tipc_pair.proofs.Holding.{BringsBy, TakenBy, arrival_by, holds_answer
 use Rattle.tipc_node.specs.declared.neighbours.Neighbour.{Neighbour}
 use Rattle.tipc_node.specs.Nodes.{NodeState, message_in, neighbour_of}
 use Rattle.tipc_node.specs.Turns.{IsBrought, IsFrom, NodeTurn, PeerTurn, Suits, addr_of}
-use Rattle.tipc_partners.proofs.Frames.{same_packet}
 use Rattle.tipc_world.specs.declared.air.Arrived.{Arrived}
 use Rattle.tipc_world.specs.declared.air.Sent.{Sent}
 use Rattle.tipc_world.specs.Causes.{arrived_frame, Seen}
 use Rattle.tipc_world.specs.Spelled.{HasBrought, IsBy, IsSpelled}
 use Rattle.tipc_world.specs.Watched.{AreTraced}
+use Rattle.tipc_world.proofs.Coming.{same_sender}
 use Rattle.tipc_world.proofs.Stepping.{Widens, brought_wider}
 use Rattle.tipc_world.proofs.TurnStreams.{AreBrought, Brings, IsOfMessage, message_is_in}
 
@@ -66,9 +66,7 @@ AreCarried seen s bytes = (bearer number : ℕ) → s.event ≡ event.Arrive bea
 
 -- the node that a packet names as its sender sent it
 pub sender_is : (seen : Seen) (number : ℕ) (bytes : List ℕ) (b es er : ℕ) (p : Fields) → (c : IsCarried seen number bytes) → IsFrom b bytes es er p → c.frame.from.word ≡ node_word b
-sender_is seen number bytes b es er p c h =
-    let same : c.packet ≡ p = same_packet c.es c.er es er c.packet p c.is_from.fits h.fits (sym c.is_from.frame_is ∙ h.frame_is) in
-    c.from ∙ sym c.is_from.previous ∙ ap (λ (q : Fields). q.previous) same ∙ h.previous
+sender_is seen number bytes b es er p c h = c.from ∙ ap node_word (same_sender c.sender b bytes c.es c.er es er c.packet p c.is_from h)
 
 -- and its packet was brought
 pub carried_brings : (seen : Seen) (number : ℕ) (bytes : List ℕ) (b es er : ℕ) (p : Fields) → IsCarried seen number bytes → IsFrom b bytes es er p → HasBrought seen (addr_of b) number (spelling (as_waiting p))
