@@ -183,7 +183,7 @@ arrival_last e es er p by shown up = arrival_by p.header e es er p by shown up
 -- what is heard is heard by a link that is up
 abbrev pub IsSteady : LinkEnd → Opening → Type 0
 IsSteady e (hears es er p by shown) = is_up e.fsm.state ≡ true
-IsSteady e rest = Unit {0}
+IsSteady e _ = Unit {0}
 
 opening_last : (x : PairState) (opening : Opening) (o : Outset) → IsSteady x.link opening → Happened x opening o → IsLastOf x.link o.pair.link
 opening_last x rests o steady is = ap (λ (u : Outset). last_epoch u.pair.link) is

@@ -7,8 +7,7 @@ use Rattle.tipc_types.specs.declared.node_calls.EventNote.{EventNote}
 use Rattle.tipc_types.specs.declared.node_calls.EventNote.TheVariants as note
 use Rattle.tipc_outside.specs.declared.outgoing.Outgoing.{Outgoing}
 use Rattle.tipc_journal.specs.Steps.{NodeStep}
-use Rattle.tipc_node.specs.declared.neighbours.Neighbour.{Neighbour}
-use Rattle.tipc_node.specs.Nodes.{kept_answer, neighbour_of, step_of}
+use Rattle.tipc_node.specs.Nodes.{kept_answer, step_of}
 use Rattle.tipc_world.specs.declared.air.Sent.{Sent}
 use Rattle.tipc_world.specs.declared.events.WorldEvent.{WorldEvent}
 use Rattle.tipc_world.specs.declared.events.WorldEvent.TheVariants.{Know, Restart, Call, Arrive}
@@ -17,22 +16,14 @@ use Rattle.tipc_world.specs.Deeds.{Does, Makes, Meets}
 use Rattle.tipc_world.specs.Due.{frame_for, unarrived}
 use Rattle.tipc_world.specs.Members.{by_in}
 use Rattle.tipc_world.specs.Sound.{IsSound}
-use Rattle.tipc_world.specs.States.{MemberState, knows, member_at}
+use Rattle.tipc_world.specs.States.{MemberState, knows}
 use Rattle.tipc_world.specs.Steps.{Happens, Stage, Turns}
 use Rattle.tipc_world.proofs.Bringing.{are_brought}
 use Rattle.tipc_world.proofs.Coming.{ComesOut, comes, nothing_out}
-use Rattle.tipc_world.proofs.LookUps.{link_at-is}
+use Rattle.tipc_world.proofs.Happening.{not_known}
 use Rattle.tipc_world.proofs.PairedStarts.{know_pairs, restart_pairs}
 use Rattle.tipc_world.proofs.PairedTurns.{TakesTurn, turn_pairs}
-use Rattle.tipc_world.proofs.Turning.{AllPaired, was_there}
-
--- a node that doesn't know another has no neighbour there
-pub unknown : (s : Stage) (a peer : ℕ) (m : MemberState) → member_at s.members a ≡ Some m → knows s.members a peer ≡ false → neighbour_of m.node peer ≡ None
-unknown s a peer m was not_known = case (neighbour_of m.node peer) (ap is_some (sym (link_at-is s.members a peer m was)) ∙ not_known)
-  where
-    case : (o : Option Neighbour) → is_some (option_map (λ (x : Neighbour). x.pair.link) o) ≡ false → o ≡ None
-    case None none = refl
-    case (Some x) none = absurd cc
+use Rattle.tipc_world.proofs.Turning.{AllPaired}
 
 -- ---- a call, and an arrival
 
@@ -76,7 +67,7 @@ ready_out s a bearer place bytes m sound ready = subst (ComesOut s a) (sym ready
 pub does_pair : (old new : Stage) (stamp : ℕ) (event : WorldEvent) (bytes : List ℕ) (before after : MemberState) (frames : List Outgoing) (answered : Answer) (lost : Bool) → IsSound old.members old.air
     → Turns old new (node_of event) before after frames lost → IsReady old.members old.air event bytes before → Does stamp event bytes before after frames answered → AllPaired new
 does_pair old new stamp (Know a peer) bytes before after frames answered lost sound t ready h =
-    know_pairs old new a peer before after frames lost sound.pairs t h.0 h.1 (sound.numbered a before t.was).1 (unknown old a peer before (was_there old new a before after frames lost t) ready.2) h.3
+    know_pairs old new a peer before after frames lost sound.pairs t h.0 h.1 (sound.numbered a before t.was).1 (not_known old.members a peer before t.was ready.2) h.3
 does_pair old new stamp (Restart a) bytes before after frames answered lost sound t ready h = restart_pairs old new a before after frames lost sound.pairs t h.0 h.1 ready
 does_pair old new stamp (Call a call) bytes before after frames answered lost sound t ready h =
     taken_pairs old new a before after [] (made_step stamp call before after frames answered h) frames lost sound t (made_turn stamp call before after frames answered h) (nothing_out old a)
