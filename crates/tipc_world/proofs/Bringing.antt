@@ -1,5 +1,5 @@
 -- What a turn gives was put by the peer.
-use Rattle.std.proofs.Common.{◌≡◌, ◌≢◌, ◌+◌, ◌<◌, ℕ, List, ◌++◌, Option, Some, None, length, slice_get, slice_index_or, sym, ap, subst, ◌∙◌, length-append, arith}
+use Rattle.std.proofs.Common.{◌≡◌, ◌+◌, ◌<◌, ℕ, List, ◌++◌, Option, Some, None, length, slice_get, slice_index_or, sym, ap, subst, ◌∙◌, length-append, arith}
 use Rattle.std.proofs.lemmas.List.{get_or-append-add}
 use Rattle.std.proofs.lemmas.Option.{get_or_from_slice_get, slice_get-get_or, slice_get_within}
 use Rattle.std.proofs.Math.ListN.{get_or-append}
@@ -14,12 +14,10 @@ use Rattle.tipc_pair.specs.Partners.{PairState, opened_in, pair_state}
 use Rattle.tipc_pair.specs.Turns.{Happened, Opening, Outset, ShowsIn}
 use Rattle.tipc_partners.specs.Sights.{AreSeen, ComesIn, HasOnly, Sight}
 use Rattle.tipc_partners.proofs.Sights.{gives}
-use Rattle.tipc_node.specs.declared.neighbours.Neighbour.{Neighbour}
-use Rattle.tipc_node.specs.Nodes.{neighbour_of}
-use Rattle.tipc_node.specs.Turns.{IsSendable, NodeTurn}
+use Rattle.tipc_node.specs.Turns.{NodeTurn}
 use Rattle.tipc_world.specs.declared.air.Sent.{Sent}
-use Rattle.tipc_world.specs.Sound.{IsNumber, IsSound}
-use Rattle.tipc_world.specs.States.{MemberState, accepted_at, member_at}
+use Rattle.tipc_world.specs.Sound.{IsSound}
+use Rattle.tipc_world.specs.States.{MemberState, accepted_at}
 use Rattle.tipc_world.specs.Steps.{Stage}
 use Rattle.tipc_world.specs.Views.{sight_at}
 use Rattle.tipc_world.proofs.Coming.{ComesOut, comes_in}

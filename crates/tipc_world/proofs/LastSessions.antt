@@ -12,7 +12,7 @@ use Rattle.tipc_header.specs.Spelling.{Fields}
 use Rattle.tipc_link_fsm.specs.declared.changes.Change.{Change}
 use Rattle.tipc_link_fsm.specs.declared.changes.Change.TheVariants.{Up, Answer}
 use Rattle.tipc_link_fsm.specs.Table.{Fsm, Outcome, forget_peer, is_held, is_in_reset, is_last, is_peer, is_reset_reset, is_session, is_up, on_activate, on_cut, on_reset, on_tick, on_traffic, tick_in, up_tick}
-use Rattle.tipc_link.specs.Links.{LinkEnd, after, cut_end, followed, heard_end, is_down, is_heard, outcome_of, with_fsm, with_session}
+use Rattle.tipc_link.specs.Links.{LinkEnd, after, cut_end, followed, heard_end, is_down, is_heard, outcome_of, with_fsm}
 use Rattle.tipc_link.specs.Sessions.{Carries, Content, IsPut, Nothing, SessionEnd, Shows, answered, arrived, content_of, flushed, heard, joins, released, repeated, spoke, told, waits}
 use Rattle.tipc_pair.specs.Pairs.{Met, arrival, arrival_of, by_number, link_met, parted, reset_down, reset_met, reset_up, risen, risen_activate, risen_reset, settled}
 use Rattle.tipc_pair.specs.Partners.{PairState, pieces_for}

@@ -1,7 +1,6 @@
 -- Look-ups through the nodes of a world of which one changed.
-use Rattle.std.proofs.Common.{◌≡◌, ◌≢◌, ℕ, ◌<◌, Bool, true, false, List, [], ◌∷◌, Option, Some, None, length, option_map, option_and_then, unwrap_or, slice_index_or, slice_set, if◌then◌else◌, refl, ap, ◌∙◌, inl, inr, get_or-set_same, get_or-set_other, arith}
+use Rattle.std.proofs.Common.{◌≡◌, ◌≢◌, ℕ, ◌<◌, Bool, true, false, List, [], Option, Some, None, length, option_map, option_and_then, unwrap_or, slice_index_or, slice_set, if◌then◌else◌, refl, ap, inl, inr, get_or-set_same, get_or-set_other}
 use Rattle.std.proofs.lemmas.Bool.{cases_lt}
-use Rattle.std.proofs.lemmas.Bool.Decides.{nat_tests}
 use Rattle.std.proofs.lemmas.List.{get_or_past}
 use Rattle.tipc_fragments.specs.Joining.{fresh}
 use Rattle.tipc_node.specs.Turns.{link_in}

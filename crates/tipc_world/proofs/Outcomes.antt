@@ -1,5 +1,5 @@
 -- What calls come to.
-use Rattle.std.proofs.Common.{◌≡◌, ◌<◌, ◌+◌, ◌++◌, ◌∷◌, ℕ, List, None, [], Option, Some, Result, Ok, Err, refl, sym, ap, subst, arith}
+use Rattle.std.proofs.Common.{◌≡◌, ◌<◌, ◌+◌, ◌++◌, ◌∷◌, ℕ, List, None, [], Some, Result, Ok, Err, refl, sym, ap, subst, arith}
 use Rattle.std.specs.Prelude.{IfOk, unwrap_or}
 use Rattle.std.proofs.lemmas.List.{append-nil}
 use Rattle.tipc_outside.specs.Frames.{Adds, Out}

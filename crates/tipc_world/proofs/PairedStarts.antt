@@ -14,7 +14,6 @@ use Rattle.tipc_partners.proofs.Sights.{knows, restarted}
 use Rattle.tipc_node.specs.declared.neighbours.Neighbour.{Neighbour}
 use Rattle.tipc_node.specs.Nodes.{known_frames, neighbour_of}
 use Rattle.tipc_world.specs.Members.{IsRestarted, known_member}
-use Rattle.tipc_world.specs.Sound.{IsNumber}
 use Rattle.tipc_world.specs.States.{MemberState, boot_at, count_at, history, link_at, member_at}
 use Rattle.tipc_world.specs.Steps.{Stage, Turns}
 use Rattle.tipc_world.specs.Views.{given_in, node_from, put_in, sight_at}

@@ -1,5 +1,5 @@
 -- A node's turn leaves it paired with each other node.
-use Rattle.std.proofs.Common.{◌⊎◌, ◌≡◌, ◌≢◌, ℕ, Bool, true, false, List, [], ◌∷◌, ◌++◌, Option, Some, None, map, option_map, unwrap_or, slice_index_or, refl, sym, ap, ◌∙◌, subst, inl, inr, arith}
+use Rattle.std.proofs.Common.{◌⊎◌, ◌≡◌, ◌≢◌, ℕ, Bool, true, false, List, [], ◌∷◌, ◌++◌, Option, Some, None, map, option_map, unwrap_or, refl, sym, ap, ◌∙◌, subst, inl, inr, arith}
 use Rattle.std.specs.Prelude.{if◌then◌else◌, is_some}
 use Rattle.std.proofs.lemmas.Bool.Decides.{nat_tests}
 use Rattle.std.proofs.lemmas.List.Elements.{All-head, All-tail}
@@ -18,20 +18,20 @@ use Rattle.tipc_link.specs.Sessions.{SessionEnd}
 use Rattle.tipc_pair.specs.Partners.{IsMessage, PairState, opened_in, pair_state}
 use Rattle.tipc_pair.specs.Turns.{Opening, PairTurn, ShowsAtLast, ShowsIn}
 use Rattle.tipc_pair.specs.Turns.Opening.{cuts, hears, mends, rests, ticks}
-use Rattle.tipc_partners.specs.Sights.{AreSeen, ComesIn, Goes, HasOnly, Sight, TurnsSeen}
+use Rattle.tipc_partners.specs.Sights.{AreSeen, ComesIn, Goes, HasOnly, Sight}
 use Rattle.tipc_partners.proofs.Sights.{turns}
 use Rattle.tipc_node.specs.declared.neighbours.Neighbour.{Neighbour}
 use Rattle.tipc_node.specs.Nodes.{NodeState, neighbour_of}
-use Rattle.tipc_node.specs.Turns.{IsBrought, IsFrom, IsRouted, NeighbourTurn, NodeTurn, PeerTurn, addr_of, bytes_of, frames_to, is_out_to, is_to, link_in}
+use Rattle.tipc_node.specs.Turns.{IsBrought, IsRouted, NeighbourTurn, NodeTurn, PeerTurn, addr_of, bytes_of, frames_to, is_out_to, is_to, link_in}
 use Rattle.tipc_world.specs.Members.{noted, over_with, sender_of}
 use Rattle.tipc_world.specs.Sound.{IsNumber, IsSound}
-use Rattle.tipc_world.specs.States.{MemberState, begun_in, count_in, count_of, history}
+use Rattle.tipc_world.specs.States.{MemberState, count_in, count_of, history}
 use Rattle.tipc_world.specs.Steps.{Stage, Turns}
 use Rattle.tipc_world.specs.Views.{sight_at}
 use Rattle.tipc_world.proofs.Coming.{ComesOut, comes_in}
 use Rattle.tipc_world.proofs.Counts.{HasNone, count_alone, count_here, count_noted, sender_else, sender_here, session_cases}
 use Rattle.tipc_world.proofs.Histories.{history_longer}
-use Rattle.tipc_world.proofs.LastSessions.{IsSteady, last_epoch, turn_last}
+use Rattle.tipc_world.proofs.LastSessions.{IsSteady, turn_last}
 use Rattle.tipc_world.proofs.Messages.{messages_are}
 use Rattle.tipc_world.proofs.Senders.{sender_is}
 use Rattle.tipc_world.proofs.Standing.{sight_only, sight_partial}

@@ -23,7 +23,7 @@ use Rattle.tipc_world.specs.Members.{IsNewcomer}
 use Rattle.tipc_world.specs.Numbers.{own_in, seen_in}
 use Rattle.tipc_world.specs.Sound.{IsAirborne, IsNumber, IsSound}
 use Rattle.tipc_world.specs.States.{MemberState, WorldState, boot_at, count_at, count_in, count_of, history, history_at, link_at, member_at, same_session, stream_of, begun_at, begun_in}
-use Rattle.tipc_world.specs.Steps.{Becomes, IsArrival, IsJoined, IsStep, Stage, stage}
+use Rattle.tipc_world.specs.Steps.{Becomes, IsArrival, IsJoined, Stage}
 use Rattle.tipc_world.specs.Views.{given_in, put_in, sight_at, sight_from}
 use Rattle.tipc_world.proofs.Counts.{count_alone}
 use Rattle.tipc_world.proofs.LookUps.{begun_at-is, begun_at-same, boot_at-is, boot_at-same, count_at-is, count_at-same, either_way, history_at-is, history_at-same, link_at-is, link_at-same, member_at-is}

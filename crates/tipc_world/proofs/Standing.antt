@@ -1,5 +1,5 @@
 -- What a sound world says of a node and its neighbours.
-use Rattle.std.proofs.Common.{◌⊎◌, ◌≡◌, ◌≢◌, ℕ, List, Option, Some, None, option_map, slice_index_or, unwrap_or, sym, ap, ◌∙◌, inl, inr, arith}
+use Rattle.std.proofs.Common.{◌⊎◌, ◌≡◌, ◌≢◌, ℕ, List, Option, Some, None, option_map, slice_index_or, unwrap_or, ap, ◌∙◌, inl, inr, arith}
 use Rattle.std.proofs.lemmas.Bool.{cases_lt}
 use Rattle.tipc_fragments.specs.Joining.{fresh}
 use Rattle.tipc_partners.specs.Sights.{HasOnly}

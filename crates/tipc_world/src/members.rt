@@ -47,8 +47,12 @@ impl Model for Member {
     ghost Value = { MemberState };
 
     ghost view = { λ m. record {
-        node = m.node; past = map (λ j. j.entries) m.past.items; calls = m.calls;
-        arrivals = m.arrivals.items; counts = m.counts.entries } };
+      node = m.node;
+      past = map (λ j. j.entries) m.past.items;
+      calls = m.calls;
+      arrivals = m.arrivals.items;
+      counts = m.counts.entries;
+    } };
 
     ghost invariant = { λ m. m.calls ≤ length m.node.journal };
 }

@@ -1,4 +1,4 @@
-use Rattle.std.proofs.Common.{◌≤◌, ◌+◌, ℕ}
+use Rattle.std.proofs.Common.{◌≤◌, ◌+◌}
 use Rattle.indexmap.specs.IndexMap.{spare}
 use Rattle.tipc_world.specs.Members.{AreNoted}
 use Rattle.tipc_world.proofs.members.note_all.Given as goal

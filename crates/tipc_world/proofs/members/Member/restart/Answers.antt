@@ -1,6 +1,5 @@
-use Rattle.std.proofs.Common.{◌≡◌, ◌<◌, ◌+◌, ◌++◌, ◌∷◌, ◌∙◌, ℕ, List, [], None, map, ap, refl, sym, subst}
+use Rattle.std.proofs.Common.{◌≡◌, ◌<◌, ◌+◌, ◌++◌, ◌∷◌, ◌∙◌, ℕ, [], None, map, ap, refl, sym, subst}
 use Rattle.std.proofs.lemmas.List.{map-append}
-use Rattle.tipc_journal.specs.declared.entries.Entry.{Entry}
 use Rattle.tipc_node.specs.Turns.{link_in}
 use Rattle.tipc_world.specs.Members.{IsFresh, IsRestarted}
 use Rattle.tipc_world.specs.States.{MemberState}
