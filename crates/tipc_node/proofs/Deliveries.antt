@@ -3,6 +3,7 @@ use Rattle.std.proofs.Common.{◌≡◌, ◌+◌, ◌≤◌, ℕ, List, [], ◌�
 use Rattle.std.proofs.lemmas.List.Sums.{sum_by-cons}
 use Rattle.tipc_journal.specs.Room.{entry_bytes}
 use Rattle.tipc_node.specs.declared.arriving.Delivery.{Delivery}
+use Rattle.tipc_node.specs.Limits.{free_message_bytes}
 use Rattle.tipc_node.specs.Nodes.{entries_in, taken_count}
 
 -- so many of the first i have a message
@@ -12,7 +13,7 @@ pub record IsCounted (ds : List Delivery) (i count : ℕ) : Type 0 where
 
 -- so many message bytes are left beside the entries of the first i
 pub record IsLeft (ds : List Delivery) (i left : ℕ) : Type 0 where
-  pub left_is : sum_by (λ (d : Delivery). entry_bytes d.entry) (take i ds) + left ≡ 4194304
+  pub left_is : sum_by (λ (d : Delivery). entry_bytes d.entry) (take i ds) + left ≡ free_message_bytes
 
 pub weighs : (ds : List Delivery) → sum_by entry_bytes (entries_in ds) ≡ sum_by (λ (d : Delivery). entry_bytes d.entry) ds
 weighs [] = refl

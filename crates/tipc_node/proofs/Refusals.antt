@@ -7,6 +7,7 @@ use Rattle.tipc_types.specs.declared.node_calls.Answer.TheVariants as answer
 use Rattle.tipc_link.specs.Sessions.{SessionEnd}
 use Rattle.tipc_journal.specs.declared.entries.Entry.{Entry}
 use Rattle.tipc_node.specs.declared.neighbours.Neighbour.{Neighbour}
+use Rattle.tipc_node.specs.Limits.{most_body_bytes}
 use Rattle.tipc_node.specs.Nodes.{NodeState, has_port, neighbour_of, refusal, refusal_at, refusal_of_body, session_with}
 
 -- there is a contact on whose link fewer packets than the limit wait
@@ -24,7 +25,7 @@ place_within false session limit long none = absurd cc
 -- a send that isn't refused has its place, and its body isn't too long
 pub record IsSendable (n : NodeState) (peer limit : ℕ) (body : List ℕ) : Type 0 where
   pub place : HasPlace (session_with (neighbour_of n peer)) limit
-  pub short : length body ≤ 66000
+  pub short : length body ≤ most_body_bytes
 
 short_at : (within : Bool) (session : Option SessionEnd) (limit long : ℕ) → (if within then refusal_at session limit else Some (answer.TooLong long)) ≡ None → within ≡ true
 short_at true session limit long none = refl
@@ -32,8 +33,8 @@ short_at false session limit long none = absurd cc
 
 body_at : (n : NodeState) (peer limit : ℕ) (body : List ℕ) → refusal_of_body n peer limit body ≡ None → IsSendable n peer limit body
 body_at n peer limit body none = record {
-  place = place_within (nat_le (length body) 66000) (session_with (neighbour_of n peer)) limit (length body) none;
-  short = (let within = short_at (nat_le (length body) 66000) (session_with (neighbour_of n peer)) limit (length body) none in grind (arith, nat_tests, within));
+  place = place_within (nat_le (length body) most_body_bytes) (session_with (neighbour_of n peer)) limit (length body) none;
+  short = (let within = short_at (nat_le (length body) most_body_bytes) (session_with (neighbour_of n peer)) limit (length body) none in grind (arith, nat_tests, within));
 }
 
 sendable_by : (port : Bool) (n : NodeState) (peer limit : ℕ) (body : List ℕ) → (if port then refusal_of_body n peer limit body else Some answer.NoSocket) ≡ None → IsSendable n peer limit body

@@ -1,14 +1,15 @@
 -- The room of a journal for a whole step, and the journal while the step is recorded.
-use Rattle.std.proofs.Common.{◌≡◌, ◌+◌, ◌≤◌, true, List, [], ◌∷◌, ◌++◌, length, sym, ap, ◌∙◌, append_assoc, append-nil, length-append, sum_by, arith}
+use Rattle.std.proofs.Common.{◌≡◌, ◌+◌, ◌-◌, ◌≤◌, true, List, [], ◌∷◌, ◌++◌, length, sym, ap, ◌∙◌, append_assoc, append-nil, length-append, sum_by, arith}
 use Rattle.std.proofs.lemmas.Bool.Decides.{nat_tests}
 use Rattle.std.proofs.lemmas.List.Sums.{sum_by-append, sum_by-cons}
 use Rattle.tipc_journal.specs.declared.entries.Entry.{Entry}
 use Rattle.tipc_journal.specs.Room.{HasRoom, entry_bytes, message_bytes}
+use Rattle.tipc_node.specs.Limits.{free_entries, free_message_bytes}
 use Rattle.tipc_node.specs.Nodes.{has_room}
 
 record Room (entries : List Entry) : Type 0 where
-  free : length entries + 65536 ≤ 1048576
-  bytes : message_bytes entries + 4194304 ≤ 67108864
+  free : length entries + free_entries ≤ 1048576
+  bytes : message_bytes entries + free_message_bytes ≤ 67108864
 
 -- what the test of a journal says
 room_of : (entries : List Entry) → has_room entries ≡ true → Room entries
@@ -22,8 +23,8 @@ IsUnder now waiting old first inside = now ++ waiting ≡ old ++ first ∷ insid
 -- what may be recorded in one step
 pub record IsSmall (old inside : List Entry) : Type 0 where
   pub room : has_room old ≡ true
-  pub few : length inside ≤ 65534
-  pub bytes : sum_by entry_bytes inside ≤ 4194304
+  pub few : length inside ≤ free_entries - 2
+  pub bytes : sum_by entry_bytes inside ≤ free_message_bytes
 
 -- the journal has room for the first entry of the step
 pub first_room : (old inside : List Entry) (first : Entry) → IsSmall old inside → entry_bytes first ≡ 0 → HasRoom old first

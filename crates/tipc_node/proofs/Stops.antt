@@ -12,10 +12,11 @@ use Rattle.tipc_header.specs.Reading.{fields_at, word_at}
 use Rattle.tipc_header.specs.Spelling.{Fields}
 use Rattle.tipc_header.proofs.FrameWords.{length-envelope}
 use Rattle.tipc_node.specs.declared.neighbours.Neighbour.{Neighbour}
+use Rattle.tipc_node.specs.Limits.{most_frame_bytes}
 use Rattle.tipc_node.specs.Nodes.{is_frame_size, is_other, stop_among, stop_by_fault, stop_by_sender}
 
 abbrev pub IsBadSize : ℕ → Type 0
-IsBadSize n = (n < 16) ⊎ (1516 < n)
+IsBadSize n = (n < 16) ⊎ (most_frame_bytes < n)
 
 good_size : (n : ℕ) → (IsBadSize n → ⊥) → is_frame_size n ≡ true
 good_size n not_bad = grind (arith, nat_tests, not_bad)

@@ -1,10 +1,11 @@
 -- The inboxes of a node's ports.
 use Rattle.std.specs.Prelude.{ℕ, ◌-◌, List, [], ◌∷◌, ◌++◌, length, nat_lt, nat_le, ◌&&◌, slice_set, slice_index_or, if◌then◌else◌}
 use Rattle.tipc_types.specs.declared.message_forms.Message.{Message}
+use Rattle.tipc_node.specs.Limits.{most_messages}
 
--- a message is put last where fewer than 128 wait, and is dropped else
+-- a message is put last where fewer than the most wait, and is dropped else
 abbrev pub enqueued : List Message → Message → List Message
-enqueued queue m = if nat_lt (length queue) 128 then queue ++ m ∷ [] else queue
+enqueued queue m = if nat_lt (length queue) most_messages then queue ++ m ∷ [] else queue
 
 -- a message is put into the inbox of a port, and is dropped where the port isn't there
 abbrev pub inboxes_with : List (List Message) → ℕ → Message → List (List Message)

@@ -1,3 +1,4 @@
+pub mod Limits
 pub mod Inboxes
 pub mod Neighbours
 pub mod Nodes

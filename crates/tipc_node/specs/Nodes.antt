@@ -45,6 +45,7 @@ use Rattle.tipc_node.specs.declared.neighbours.Neighbour.{Neighbour}
 use Rattle.tipc_node.specs.declared.neighbours.Deed.{Deed}
 use Rattle.tipc_node.specs.declared.neighbours.Deed.TheVariants as deed
 use Rattle.tipc_node.specs.Inboxes.{inboxes_with}
+use Rattle.tipc_node.specs.Limits.{free_entries, free_message_bytes, most_body_bytes, most_frame_bytes, most_sockets}
 use Rattle.tipc_node.specs.Neighbours.{done, heard_neighbour, neighbour}
 
 -- a node: its address word, its boot number, whether bearer 0 is mended, its neighbours by number, the inboxes of its ports from
@@ -76,9 +77,9 @@ with_mended n mended = record { own = n.own; boot = n.boot; mended = mended; nei
 
 -- ---- the journal
 
--- there are at least 65,536 free entries and 4,194,304 free message bytes
+-- as many entries and message bytes are free as a call needs
 unfoldable pub has_room : List Entry → Bool
-has_room entries = nat_le (length entries + 65536) 1048576 && nat_le (message_bytes entries + 4194304) 67108864
+has_room entries = nat_le (length entries + free_entries) 1048576 && nat_le (message_bytes entries + free_message_bytes) 67108864
 
 -- a call is recorded: who made it, the call itself, what happened in it, and its answer
 abbrev pub step_of : By → EventNote → List Entry → Answer → NodeStep
@@ -141,12 +142,12 @@ has_port n port = nat_lt (port_base n.boot) port && nat_le port (port_base n.boo
 abbrev pub inbox_place : ℕ → ℕ → ℕ
 inbox_place boot port = port - port_base boot - 1
 
--- a node is asked for a socket: one more, with an empty inbox, where fewer than 256 are there
+-- a node is asked for a socket: one more, with an empty inbox, where fewer than the most are there
 unfoldable pub socket_inboxes : List (List Message) → List (List Message)
-socket_inboxes inboxes = if nat_lt (length inboxes) 256 then inboxes ++ [] ∷ [] else inboxes
+socket_inboxes inboxes = if nat_lt (length inboxes) most_sockets then inboxes ++ [] ∷ [] else inboxes
 
 unfoldable pub socket_answer : NodeState → Answer
-socket_answer n = if nat_lt (length n.inboxes) 256 then answer.Socket (port_base n.boot + length n.inboxes + 1) else answer.Full 256
+socket_answer n = if nat_lt (length n.inboxes) most_sockets then answer.Socket (port_base n.boot + length n.inboxes + 1) else answer.Full most_sockets
 
 abbrev pub socket_node : NodeState → By → NodeState
 socket_node n by = recorded (with_inboxes n (socket_inboxes n.inboxes)) by event.Socket [] (socket_answer n)
@@ -216,9 +217,9 @@ abbrev pub refusal_at : Option SessionEnd → ℕ → Option Answer
 refusal_at None limit = Some answer.NoNode
 refusal_at (Some s) limit = if nat_le limit (length s.sending.waiting) then Some (answer.Congested (length s.sending.unacked) (length s.sending.waiting)) else None
 
--- a body has at most 66,000 bytes
+-- the body is too long, or as refusal_at says
 abbrev pub refusal_of_body : NodeState → ℕ → ℕ → List ℕ → Option Answer
-refusal_of_body n peer limit body = if nat_le (length body) 66000 then refusal_at (session_with (neighbour_of n peer)) limit else Some (answer.TooLong (length body))
+refusal_of_body n peer limit body = if nat_le (length body) most_body_bytes then refusal_at (session_with (neighbour_of n peer)) limit else Some (answer.TooLong (length body))
 
 -- why a send is refused: the first reason that holds
 unfoldable pub refusal : NodeState → ℕ → ℕ → ℕ → List ℕ → Option Answer
@@ -327,7 +328,7 @@ heard_node n by number peer x p m out last =
 -- ---- an arrival that reaches no link
 
 abbrev pub is_frame_size : ℕ → Bool
-is_frame_size bytes = nat_le 16 bytes && nat_le bytes 1516
+is_frame_size bytes = nat_le 16 bytes && nat_le bytes most_frame_bytes
 
 -- whether an address word is of another of the 32 nodes
 unfoldable pub is_other : ℕ → ℕ → Bool

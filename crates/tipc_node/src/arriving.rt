@@ -10,11 +10,12 @@ ghost use Rattle.tipc_journal.specs.Room.{counted_bytes, entry_bytes};
 ghost use Rattle.tipc_reassembly.specs.declared.opening.Opened.TheVariants.{Whole};
 ghost use Rattle.tipc_pair.specs.Partners.{IsPairArriving, opened_in};
 ghost use Rattle.tipc_node.specs.Deliveries.{HasNoFault};
+ghost use Rattle.tipc_node.specs.Limits.{free_entries, free_message_bytes};
 ghost use Rattle.tipc_node.specs.Nodes.{arrival_answer, deliveries_of, delivered_by, delivery_of, entries_in, inboxes_after, is_other, message_count, port_of, shown_contact, stop_among, taken_count, taken_inboxes};
 
 use crate::inboxes::Inbox;
 use crate::neighbours::Neighbour;
-use crate::recording::FREE_MESSAGE_BYTES;
+use crate::recording::{FREE_ENTRIES, FREE_MESSAGE_BYTES};
 use std::alloc::Global;
 use std::collections::VecDeque;
 use tipc_header::{Packet, decode, open_frame};
@@ -24,8 +25,8 @@ use tipc_pair::{PairArriving, PairOutcome};
 use tipc_reassembly::Opened;
 use tipc_types::{Addr, Arrival, Flow, Message, NoMemory, Why};
 
-/// The most deliveries of one arrival, of the 65,536 free entries that a call needs.
-const MOST_DELIVERIES: usize = 65_530;
+/// The most deliveries of one arrival, of the free entries that a call needs.
+const MOST_DELIVERIES: usize = FREE_ENTRIES as usize - 6;
 
 /// A packet that is due at the link of the node that it names as its sender, and the two numbers of its envelope.
 #[derive(Clone, Copy)]
@@ -49,7 +50,9 @@ pub fn look<'a>(
     bearer: u8,
     frame: &'a [u8],
 ) -> Result<Due<'a>, Why>
-    ensures due { IfOk result (λ d. (1 ≤ d.peer) × (d.peer ≤ 32) × Fits (view d.packet) × (frame.now ≡ frame_of d.first d.second (spelling (view d.packet))) × (d.packet.previous ≡ node_word d.peer) × (is_some (slice_index_or neighbours.now d.peer None) ≡ true)) }
+    ensures due { IfOk result (λ d. (1 ≤ d.peer) × (d.peer ≤ 32) × Fits (view d.packet) ×
+        (frame.now ≡ frame_of d.first d.second (spelling (view d.packet))) × (d.packet.previous ≡ node_word d.peer) ×
+        (is_some (slice_index_or neighbours.now d.peer None) ≡ true)) }
     ensures clear { IfOk result (λ d. stop_among own.word mended neighbours.now bearer frame.now ≡ None) }
     ensures stopped { IfErr result (λ why. stop_among own.word mended neighbours.now bearer frame.now ≡ Some why) }
 {
@@ -80,7 +83,8 @@ pub fn look<'a>(
 /// The number of the node that a packet names as its sender: None exactly where it names no other of the 32.
 #[tactic(auto, unfolding(crate::specs::Nodes::is_other))]
 fn sender_of(own: Addr, previous: u32) -> Option<u8>
-    ensures other { IfSome result (λ peer. (1 ≤ peer) × (peer ≤ 32) × (previous ≡ node_word peer) × (is_other own.word previous ≡ true)) }
+    ensures other { IfSome result (λ peer. (1 ≤ peer) × (peer ≤ 32) × (previous ≡ node_word peer) ×
+        (is_other own.word previous ≡ true)) }
     ensures own { IfNone result (is_other own.word previous ≡ false) }
 {
     let previous = Addr { word: previous };
@@ -109,7 +113,8 @@ pub struct Delivery {
     pub message: Option<Message>,
 }
 
-/// The entry of a whole packet that was given in a contact: its message is delivered, or the packet is dropped where it carries none.
+/// The entry of a whole packet that was given in a contact: its message is delivered, or the packet is dropped
+/// where it carries none.
 fn delivered_entry(
     peer: u8,
     contact: (u64, u64),
@@ -233,12 +238,15 @@ fn delivered_bytes(entry: &Entry) -> u64
     }
 }
 
-/// Whether the deliveries of one arrival have room in the step that tells of it, beside its begin, its end, and two changes.
+/// Whether the deliveries of one arrival have room in the step that tells of it, beside its begin, its end, and two
+/// changes.
 ///
-/// They always have: what is given at once came in the packets that were held, 50 at most, and in this one. A frame has at most
-/// 1,516 bytes, so these are some thousand messages at most, and some 80,000 bytes beside the 66,044 of a message that was begun.
+/// They always have: what is given at once came in the packets that were held, 50 at most, and in this one. A frame
+/// has at most 1,516 bytes, so these are some thousand messages at most, and some 80,000 bytes beside the 66,044 of
+/// a message that was begun.
 pub fn fits(deliveries: &[Delivery]) -> bool
-    ensures { result ≡ true → (length deliveries.now ≤ 65530) × (sum_by entry_bytes (entries_in deliveries.now) ≤ 4194304) }
+    ensures { result ≡ true → (length deliveries.now ≤ free_entries - 6) ×
+        (sum_by entry_bytes (entries_in deliveries.now) ≤ free_message_bytes) }
 {
     let mut left = FREE_MESSAGE_BYTES;
     for delivery in deliveries {
@@ -264,7 +272,7 @@ fn taken_count(message: &Option<Message>) -> u32
 
 /// How many messages there are.
 fn message_count(deliveries: &[Delivery]) -> u32
-    requires { length deliveries.now ≤ 65530 }
+    requires { length deliveries.now ≤ free_entries - 6 }
     ensures { result ≡ message_count deliveries.now }
 {
     let mut count = 0;
@@ -276,7 +284,7 @@ fn message_count(deliveries: &[Delivery]) -> u32
 
 /// What became of an arrival that gives this, with these deliveries.
 pub fn arrival_answer(outcome: &PairOutcome, deliveries: &[Delivery]) -> Arrival
-    requires { length deliveries.now ≤ 65530 }
+    requires { length deliveries.now ≤ free_entries - 6 }
     ensures { result ≡ arrival_answer outcome.now deliveries.now }
 {
     match outcome {
@@ -286,7 +294,8 @@ pub fn arrival_answer(outcome: &PairOutcome, deliveries: &[Delivery]) -> Arrival
     }
 }
 
-/// What a packet that shows no contact number will make of a neighbour, what it delivers, and what will have become of it.
+/// What a packet that shows no contact number will make of a neighbour, what it delivers, and what will have become
+/// of it.
 #[derive(Drop)]
 pub struct Hearing {
     /// What it will make of the pair.
@@ -297,8 +306,8 @@ pub struct Hearing {
     pub answer: Arrival,
 }
 
-/// What a packet that shows no contact number will make of a neighbour; `number` is the arrival's number at this node. Nothing is
-/// changed yet.
+/// What a packet that shows no contact number will make of a neighbour; `number` is the arrival's number at this
+/// node. Nothing is changed yet.
 pub fn prepare(
     alloc: Global,
     neighbour: &Neighbour,
@@ -307,11 +316,13 @@ pub fn prepare(
 ) -> Result<Hearing, NoMemory>
     requires peer { (1 ≤ due.now.peer) × (due.now.peer ≤ 32) }
     requires fits { Fits (view due.now.packet) }
-    ensures arriving { IfOk result (λ h. IsPairArriving neighbour.now.pair due.now.first due.now.second (view due.now.packet) number h.arriving) }
-    ensures deliveries { IfOk result (λ h. h.deliveries.items ≡ deliveries_of due.now.peer (shown_contact neighbour.now.pair.link) (opened_in h.arriving.outcome)) }
+    ensures arriving { IfOk result (λ h.
+        IsPairArriving neighbour.now.pair due.now.first due.now.second (view due.now.packet) number h.arriving) }
+    ensures deliveries { IfOk result (λ h. h.deliveries.items ≡
+        deliveries_of due.now.peer (shown_contact neighbour.now.pair.link) (opened_in h.arriving.outcome)) }
     ensures answer { IfOk result (λ h. h.answer ≡ arrival_answer h.arriving.outcome h.deliveries.items) }
-    ensures few { IfOk result (λ h. length h.deliveries.items ≤ 65530) }
-    ensures bytes { IfOk result (λ h. sum_by entry_bytes (entries_in h.deliveries.items) ≤ 4194304) }
+    ensures few { IfOk result (λ h. length h.deliveries.items ≤ free_entries - 6) }
+    ensures bytes { IfOk result (λ h. sum_by entry_bytes (entries_in h.deliveries.items) ≤ free_message_bytes) }
 {
     let arriving = neighbour
         .pair
@@ -329,7 +340,8 @@ pub fn prepare(
     })
 }
 
-/// Tells of the deliveries of an arrival, in a list that has room, and puts their messages into the inboxes of their ports.
+/// Tells of the deliveries of an arrival, in a list that has room, and puts their messages into the inboxes of
+/// their ports.
 pub fn deliver(
     inside: &mut Vec<Entry>,
     inboxes: &mut Vec<Inbox>,

@@ -21,12 +21,13 @@ impl Model for Inbox {
     ghost use Rattle.std.specs.Prelude.{◌≤◌, List};
     ghost use Rattle.std.specs.VecDeque.{deque_capacity};
     ghost use Rattle.tipc_types.specs.declared.message_forms.Message.{Message};
+    ghost use Rattle.tipc_node.specs.Limits.{most_messages};
 
     ghost Value = { List Message };
 
     ghost view = { λ i. i.queue.items };
 
-    ghost invariant = { λ i. 128 ≤ deque_capacity i.queue };
+    ghost invariant = { λ i. most_messages ≤ deque_capacity i.queue };
 }
 
 impl Inbox {

@@ -2,6 +2,7 @@
 #![tactic(auto)]
 
 mod arriving;
+mod cores;
 mod inboxes;
 mod neighbours;
 mod nodes;
@@ -11,7 +12,6 @@ mod sending;
 #[cfg(test)]
 mod tests;
 
-pub use arriving::Due;
-pub use neighbours::{Deed, Neighbour};
+pub use neighbours::Neighbour;
 pub use nodes::Node;
 pub use recording::NodeFault;

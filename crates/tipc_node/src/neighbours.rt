@@ -136,10 +136,15 @@ impl Neighbour {
         out: &mut Outbox,
     ) -> PairArrival
         requires { shows_contact header ≡ true }
-        ensures change { (p : Fields) (by : ℕ) → p.header ≡ header → result.change ≡ (met_by self.old es er p by).change }
-        ensures opens { (p : Fields) (by : ℕ) → p.header ≡ header → OpensTo (begun_after (met_by self.old es er p by).change self.old.pair.begun) (met_by self.old es er p by).outcome result.outcome self.new.pair.begun }
-        ensures after { (p : Fields) (by : ℕ) → p.header ≡ header → self.new ≡ heard_neighbour self.old p (met_by self.old es er p by) self.new.pair.begun }
-        ensures frames { (p : Fields) (by : ℕ) → p.header ≡ header → Adds out.old out.new (heard_frames self.old p (met_by self.old es er p by)) }
+        ensures change { (p : Fields) (by : ℕ) → p.header ≡ header →
+            result.change ≡ (met_by self.old es er p by).change }
+        ensures opens { (p : Fields) (by : ℕ) → p.header ≡ header →
+            OpensTo (begun_after (met_by self.old es er p by).change self.old.pair.begun)
+            (met_by self.old es er p by).outcome result.outcome self.new.pair.begun }
+        ensures after { (p : Fields) (by : ℕ) → p.header ≡ header →
+            self.new ≡ heard_neighbour self.old p (met_by self.old es er p by) self.new.pair.begun }
+        ensures frames { (p : Fields) (by : ℕ) → p.header ≡ header →
+            Adds out.old out.new (heard_frames self.old p (met_by self.old es er p by)) }
     {
         let shown = no_broadcast(self.in_step);
         let arrival = self.pair.notice(alloc, es, er, header, shown, out);
@@ -148,8 +153,8 @@ impl Neighbour {
         arrival
     }
 
-    /// Takes a packet that shows no contact number, as its pair told of it when it was as it is, and then sends the STATE that is
-    /// due.
+    /// Takes a packet that shows no contact number, as its pair told of it when it was as it is, and then sends the
+    /// STATE that is due.
     pub fn take(
         &mut self,
         alloc: Global,
@@ -158,12 +163,16 @@ impl Neighbour {
         out: &mut Outbox,
     ) -> PairChange
         requires plain { shows_contact packet.now.header ≡ false }
-        requires arriving { (es : ℕ) × (er : ℕ) × (by : ℕ) × IsPairArriving self.old.pair es er (view packet.now) by arriving }
-        ensures change { (es er by : ℕ) → IsPairArriving self.old.pair es er (view packet.now) by arriving → result ≡ (met_by self.old es er (view packet.now) by).change }
+        requires arriving { (es : ℕ) × (er : ℕ) × (by : ℕ) ×
+            IsPairArriving self.old.pair es er (view packet.now) by arriving }
+        ensures change { (es er by : ℕ) → IsPairArriving self.old.pair es er (view packet.now) by arriving →
+            result ≡ (met_by self.old es er (view packet.now) by).change }
         ensures after { (es er by : ℕ) → IsPairArriving self.old.pair es er (view packet.now) by arriving →
-            self.new ≡ heard_neighbour self.old (view packet.now) (met_by self.old es er (view packet.now) by) arriving.begun }
+            self.new ≡ heard_neighbour self.old (view packet.now)
+            (met_by self.old es er (view packet.now) by) arriving.begun }
         ensures frames { (es er by : ℕ) → IsPairArriving self.old.pair es er (view packet.now) by arriving →
-            Adds out.old out.new (heard_frames self.old (view packet.now) (met_by self.old es er (view packet.now) by)) }
+            Adds out.old out.new (heard_frames self.old (view packet.now)
+            (met_by self.old es er (view packet.now) by)) }
     {
         let gets_in_step = gets_in_step(&packet.header, arriving.outcome());
         let shown = no_broadcast(self.in_step);
@@ -175,7 +184,8 @@ impl Neighbour {
 
     /// The numbers of packets unacknowledged and waiting on the link: None exactly where there is no contact.
     pub fn load(&self) -> Option<(u32, u32)>
-        ensures some { IfSome result (λ counts. (s : SessionEnd) × (session_with (Some self.now) ≡ Some s) × (counts.0 ≡ length s.sending.unacked) × (counts.1 ≡ length s.sending.waiting)) }
+        ensures some { IfSome result (λ counts. (s : SessionEnd) × (session_with (Some self.now) ≡ Some s) ×
+            (counts.0 ≡ length s.sending.unacked) × (counts.1 ≡ length s.sending.waiting)) }
         ensures none { IfNone result (session_with (Some self.now) ≡ None) }
     {
         if self.pair.is_up() {
@@ -213,10 +223,13 @@ impl Neighbour {
         limit: u32,
         out: &mut Outbox,
     ) -> Result<(), NoMemory>
-        requires link { (s : SessionEnd) × (session_with (Some self.old) ≡ Some s) × (length s.sending.waiting < limit) }
+        requires link { (s : SessionEnd) × (session_with (Some self.old) ≡ Some s) ×
+            (length s.sending.waiting < limit) }
         requires pieces { All IsWaiting pieces }
         ensures ok { (s : SessionEnd) → session_with (Some self.old) ≡ Some s →
-            OnOk result ((put : SessionEnd) × IsPut s pieces put × (self.new ≡ neighbour (with_session self.old.pair.link (flushed put)) self.old.pair.begun self.old.in_step) × Adds out.old out.new (flush_frames put)) }
+            OnOk result ((put : SessionEnd) × IsPut s pieces put ×
+            (self.new ≡ neighbour (with_session self.old.pair.link (flushed put)) self.old.pair.begun
+            self.old.in_step) × Adds out.old out.new (flush_frames put)) }
         ensures err { OnErr result ((self.new ≡ self.old) × (out.new ≡ out.old)) }
     {
         match self.pair.send(alloc, pieces, limit, out) {
@@ -248,7 +261,8 @@ pub fn mended_by(deed: Deed, mended: bool) -> bool
     }
 }
 
-/// Lets something happen to the neighbour of that number, where there is one, and tells what became of the link to it.
+/// Lets something happen to the neighbour of that number, where there is one, and tells what became of the link to
+/// it.
 fn take_part_at(
     place: &mut Option<Neighbour>,
     alloc: Global,

@@ -1,68 +1,39 @@
-//! The node, and its calls.
+//! The node, its calls, and what arrives at it.
 
-ghost use Rattle.std.specs.Prelude.{◌≡◌, ℕ, ◌+◌, ◌<◌, ◌≤◌, [], true, false, None, Some, Err, length, slice_index_or, is_some, option_map, unwrap_or, IfErr, IfOk, IfSome, IfNone, OnErr, OnOk};
+ghost use Rattle.std.specs.Prelude.{◌≡◌, ℕ, ◌<◌, ◌≤◌, [], true, false, None, Some, Err, length, is_some, option_map, IfOk, IfSome, IfNone, OnErr, OnOk};
 ghost use Rattle.tipc_types.specs.Address.{node_word};
 ghost use Rattle.tipc_outside.specs.Frames.{Adds};
-ghost use Rattle.tipc_header.specs.Spelling.{view};
-ghost use Rattle.tipc_header.specs.Grammar.{Fits};
-ghost use Rattle.tipc_journal.specs.Room.{counted_bytes};
 ghost use Rattle.tipc_journal.specs.Streams.{accepted, delivered};
-ghost use Rattle.tipc_message.specs.Wire.{IsPayload};
-ghost use Rattle.tipc_link.specs.Sessions.{SessionEnd};
-ghost use Rattle.tipc_pair.specs.Pairs.{shows_contact};
-ghost use Rattle.tipc_node.specs.Calls.{IsDue, IsHeard, IsSent};
-ghost use Rattle.tipc_node.specs.Nodes.{contact_with, deed_node, direct, frames_all, has_port, has_room, known_frames, known_node, limit_of, load_of, neighbour_of, receive_answer, receive_node, recorded, refusal, session_with, socket_answer, socket_node, stop_of, stopped_node};
+ghost use Rattle.tipc_node.specs.Calls.{Arrived, CanPerform, Performed};
+ghost use Rattle.tipc_node.specs.Nodes.{contact_with, has_room, known_frames, known_node, load_of, neighbour_of};
+ghost use Rattle.tipc_node.specs.Telling.{IsTold};
 
-use crate::arriving::{Due, arrival_answer, deliver, is_known, look, prepare};
-use crate::inboxes::Inbox;
-use crate::neighbours::{Deed, NUMBERS, Neighbour, deed_note, load_all, mended_by, take_part_all};
-use crate::ports::{MOST_SOCKETS, kept_answer, port_base, socket_answer, take_first};
-use crate::recording::{NodeFault, begin, has_room, note_change, record};
-use crate::sending::{MOST_BODY_BYTES, direct, limit, pieces};
+use crate::cores::Core;
+use crate::neighbours::Neighbour;
+use crate::recording::{NodeFault, has_room};
 use std::alloc::Global;
 use std::marker::Model;
 use tipc_journal::{Entry, Journal};
 use tipc_outside::Outbox;
-use tipc_pair::{Pair, shows_contact};
-use tipc_types::{
-    Addr, Answer, Arrival, By, Bytes, EventNote, Flow, Importance, LinkState, Message, NoMemory,
-    PortId, Why,
-};
+use tipc_types::{Addr, Answer, Arrival, By, EventNote, Flow, LinkState, NoMemory};
 
-/// The most changes of links that one call tells of: two for each peer.
-const MOST_CHANGES: u64 = 64;
-
-/// A node in one boot.
+/// A node in one boot. Its journal tells of its contacts and its links, and its frames are for the peers whose
+/// numbers they name.
 #[derive(Drop)]
 pub struct Node {
-    own: Addr,
-    boot: u32,
-    mended: bool,
-    neighbours: Vec<Option<Neighbour>>,
-    inboxes: Vec<Inbox>,
-    journal: Journal,
+    core: Core,
 }
 
 impl Model for Node {
-    ghost use Rattle.std.specs.Prelude.{◌≡◌, ◌≤◌, None, length, slice_index_or};
     ghost use Rattle.tipc_node.specs.Nodes.{NodeState};
+    ghost use Rattle.tipc_node.specs.Telling.{IsTold};
+    ghost use Rattle.tipc_node.specs.Turns.{AreNamed};
 
     ghost Value = { NodeState };
 
-    ghost view = { λ n. record { own = n.own.word; boot = n.boot; mended = n.mended; neighbours = n.neighbours.items; inboxes = n.inboxes.items; journal = n.journal.entries } };
+    ghost view = { λ n. n.core };
 
-    ghost invariant = { λ n. (length n.neighbours.items ≡ 33) × (length n.inboxes.items ≤ 256) × (1 ≤ n.boot) × (slice_index_or n.neighbours.items 0 None ≡ None) };
-}
-
-/// A table without neighbours.
-fn no_neighbours(alloc: Global) -> Result<Vec<Option<Neighbour>>, NoMemory>
-    ensures { IfOk result (λ table. (length table.items ≡ 33) × ((peer : ℕ) → slice_index_or table.items peer None ≡ None)) }
-{
-    let mut table = Vec::new(alloc);
-    for _ in 0..NUMBERS {
-        table.push(None)?;
-    }
-    Ok(table)
+    ghost invariant = { λ n. IsTold n.core × AreNamed n.core };
 }
 
 impl Node {
@@ -72,14 +43,10 @@ impl Node {
         ensures own { IfOk result (λ n. (n.own ≡ own.word) × (n.boot ≡ boot) × (n.mended ≡ false)) }
         ensures alone { IfOk result (λ n. (peer : ℕ) → neighbour_of n peer ≡ None) }
         ensures empty { IfOk result (λ n. (n.inboxes ≡ []) × (n.journal ≡ [])) }
+        ensures told { IfOk result (λ n. IsTold n) }
     {
         Ok(Node {
-            own,
-            boot,
-            mended: false,
-            neighbours: no_neighbours(alloc)?,
-            inboxes: Vec::new(alloc),
-            journal: Journal::new(alloc),
+            core: Core::new(alloc, own, boot)?,
         })
     }
 
@@ -87,7 +54,7 @@ impl Node {
     pub fn knows(&self, peer: u8) -> bool
         ensures { result ≡ is_some (neighbour_of self.now peer) }
     {
-        is_known(self.neighbours.as_slice(), peer)
+        self.core.neighbour(peer).is_some()
     }
 
     /// What it keeps of the peer: None exactly where it has no link end to it.
@@ -95,66 +62,68 @@ impl Node {
         ensures some { IfSome result (λ x. neighbour_of self.now peer ≡ Some x.now) }
         ensures none { IfNone result (neighbour_of self.now peer ≡ None) }
     {
-        match self.neighbours.get(peer as usize) {
-            Some(Some(neighbour)) => Some(neighbour),
-            _ => None,
-        }
+        self.core.neighbour(peer)
     }
 
     /// Whether bearer 0 is mended.
     pub fn is_mended(&self) -> bool
         ensures { result ≡ self.now.mended }
     {
-        self.mended
+        self.core.is_mended()
     }
 
     /// Its address.
     pub fn own(&self) -> Addr
         ensures { result.word ≡ self.now.own }
     {
-        self.own
+        self.core.own()
     }
 
     /// Its boot number.
     pub fn boot(&self) -> u32
         ensures { result ≡ self.now.boot }
     {
-        self.boot
+        self.core.boot()
     }
 
     /// Whether its journal has room for a call: 65,536 free entries and 4,194,304 free message bytes.
     pub fn has_room(&self) -> bool
         ensures { result ≡ has_room self.now.journal }
     {
-        has_room(&self.journal)
+        has_room(self.core.journal())
     }
 
     /// Its journal.
     pub fn journal(&self) -> &[Entry]
         ensures { result.now ≡ self.now.journal }
     {
-        self.journal.entries()
+        self.core.journal().entries()
     }
 
     /// How many messages were accepted for the peer in a contact: this node's contact number, then the peer's.
     pub fn accepted_count(&self, peer: u8, contact: (u64, u64)) -> u64
         requires { (1 ≤ peer) × (peer ≤ 32) }
-        ensures { result ≡ length (accepted self.now.journal (record { peer = record { word = node_word peer }; contact = contact; flow = Flow.Zero })) }
+        ensures { result ≡ length (accepted self.now.journal
+            (record { peer = record { word = node_word peer }; contact = contact; flow = Flow.Zero })) }
     {
-        self.journal
+        self.core
+            .journal()
             .accepted_count(Addr::node(peer), contact, Flow::Zero)
     }
 
     /// How many messages were delivered from the peer in a contact: this node's contact number, then the peer's.
     pub fn delivered_count(&self, peer: u8, contact: (u64, u64)) -> u64
         requires { (1 ≤ peer) × (peer ≤ 32) }
-        ensures { result ≡ length (delivered self.now.journal (record { peer = record { word = node_word peer }; contact = contact; flow = Flow.Zero })) }
+        ensures { result ≡ length (delivered self.now.journal
+            (record { peer = record { word = node_word peer }; contact = contact; flow = Flow.Zero })) }
     {
-        self.journal
+        self.core
+            .journal()
             .delivered_count(Addr::node(peer), contact, Flow::Zero)
     }
 
-    /// The contact with the peer: this node's contact number, then the peer's. None exactly where it isn't in contact with it.
+    /// The contact with the peer: this node's contact number, then the peer's. None exactly where it isn't in
+    /// contact with it.
     pub fn contact(&self, peer: u8) -> Option<(u64, u64)>
         ensures { result ≡ contact_with self.now peer }
     {
@@ -165,7 +134,7 @@ impl Node {
     pub fn load(&self) -> (u64, u64)
         ensures { result ≡ load_of self.now }
     {
-        load_all(self.neighbours.as_slice())
+        self.core.load()
     }
 
     /// The state of the link end to the peer on bearer 0: None exactly where there is none.
@@ -179,374 +148,67 @@ impl Node {
     pub fn into_journal(self) -> Journal
         ensures { result.entries ≡ self.journal }
     {
-        self.journal
+        self.core.into_journal()
     }
 
     /// Makes the link end to a peer that isn't known, on bearer 0.
     pub fn know(&mut self, alloc: Global, peer: u8, out: &mut Outbox)
         requires peer { (1 ≤ peer) × (peer ≤ 32) }
+        requires alone { neighbour_of self.old peer ≡ None }
         ensures after { self.new ≡ known_node self.old peer }
         ensures frames { Adds out.old out.new (known_frames self.old peer) }
         ensures within { peer < length self.old.neighbours }
+        ensures told { IsTold self.new }
     {
-        let mut pair = Pair::new(alloc, self.own, Addr::node(peer), self.boot);
-        if self.mended {
-            pair.mend(alloc, out);
-        }
-        self.neighbours[peer as usize] = Some(Neighbour {
-            pair,
-            in_step: false,
-        });
+        self.core.know(alloc, peer, out);
     }
 
-    /// Makes a socket: its port, or Full where 256 are there.
+    /// Performs a call, and answers it: a socket is made, a message is taken from an inbox, or sent to a port of
+    /// another node; a bearer is mended or cut; a tick passes. The call is one step of the journal.
     ///
     /// # Errors
     ///
     /// JournalFull exactly where the journal has no room for a call, else NoMemory. Neither changes anything.
-    #[tactic(auto, unfolding(crate::specs::Nodes::socket_inboxes, crate::specs::Nodes::socket_answer))]
-    pub fn socket(&mut self, alloc: Global, by: By) -> Result<Answer, NodeFault>
-        ensures ok { IfOk result (λ a. (self.new ≡ socket_node self.old by) × (a ≡ socket_answer self.old) × (has_room self.old.journal ≡ true)) }
-        ensures full { has_room self.old.journal ≡ false → result ≡ Err NodeFault.JournalFull }
-        ensures only { result ≡ Err NodeFault.JournalFull → has_room self.old.journal ≡ false }
-        ensures err { OnErr result (self.new ≡ self.old) }
-    {
-        begin(&mut self.journal, 0)?;
-        let answer = socket_answer(self.boot, self.inboxes.len());
-        let kept = answer.clone()?;
-        if self.inboxes.len() < MOST_SOCKETS {
-            self.inboxes.push(Inbox::new(alloc)?)?;
-        }
-        record(
-            &mut self.journal,
-            by,
-            EventNote::Socket,
-            Vec::new(alloc),
-            kept,
-        );
-        Ok(answer)
-    }
-
-    /// Whether the port is there.
-    fn has_port(&self, port: u32) -> bool
-        ensures there { result ≡ has_port self.now port }
-    {
-        let base = port_base(self.boot);
-        base < port && port - base <= self.inboxes.len() as u32
-    }
-
-    /// Takes the first message of a port's inbox: NoSocket exactly where the port isn't there, Empty exactly where its
-    /// inbox is empty.
-    ///
-    /// # Errors
-    ///
-    /// JournalFull exactly where the journal has no room for a call, else NoMemory. Neither changes anything.
-    #[tactic(auto, unfolding(crate::specs::Nodes::receive_inboxes, crate::specs::Nodes::receive_answer))]
-    pub fn receive(&mut self, alloc: Global, by: By, port: u32) -> Result<Answer, NodeFault>
-        ensures ok { IfOk result (λ a. (self.new ≡ receive_node self.old by port) × (a ≡ receive_answer self.old port) × (has_room self.old.journal ≡ true)) }
-        ensures full { has_room self.old.journal ≡ false → result ≡ Err NodeFault.JournalFull }
-        ensures only { result ≡ Err NodeFault.JournalFull → has_room self.old.journal ≡ false }
-        ensures err { OnErr result (self.new ≡ self.old) }
-    {
-        begin(&mut self.journal, 0)?;
-        let answer = if self.has_port(port) {
-            take_first(
-                &mut self.inboxes,
-                (port - port_base(self.boot)) as usize - 1,
-            )
-        } else {
-            Answer::NoSocket
-        };
-        let kept = kept_answer(&answer);
-        record(
-            &mut self.journal,
-            by,
-            EventNote::Receive { port },
-            Vec::new(alloc),
-            kept,
-        );
-        Ok(answer)
-    }
-
-    /// The numbers of packets unacknowledged and waiting on the link to the peer: None exactly where there is no contact.
-    fn load_to(&self, peer: u8) -> Option<(u32, u32)>
-        ensures some { IfSome result (λ counts. (s : SessionEnd) × (session_with (neighbour_of self.now peer) ≡ Some s) × (counts.0 ≡ length s.sending.unacked) × (counts.1 ≡ length s.sending.waiting)) }
-        ensures none { IfNone result (session_with (neighbour_of self.now peer) ≡ None) }
-    {
-        match self.neighbours.get(peer as usize) {
-            Some(Some(neighbour)) => neighbour.load(),
-            _ => None,
-        }
-    }
-
-    /// Why a message to the peer isn't sent: the first reason that holds.
-    #[tactic(auto, unfolding(crate::specs::Nodes::refusal))]
-    fn refusal(&self, port: u32, peer: u8, limit: u32, body: &Bytes) -> Option<Answer>
-        ensures { result ≡ refusal self.now port peer limit body.now }
-    {
-        if !self.has_port(port) {
-            return Some(Answer::NoSocket);
-        }
-        if body.len() > MOST_BODY_BYTES {
-            return Some(Answer::TooLong(body.len() as u64));
-        }
-        let Some((in_flight, waiting)) = self.load_to(peer) else {
-            return Some(Answer::NoNode);
-        };
-        if waiting >= limit {
-            return Some(Answer::Congested { in_flight, waiting });
-        }
-        None
-    }
-
-    /// Sends a message to a port of the peer. NoSocket exactly where the sending port isn't there, else TooLong exactly where the
-    /// body has more than 66,000 bytes, else NoNode exactly where there is no contact with the peer, else Congested exactly where
-    /// as many packets wait on the link as the limit of the importance. At Sent the message is recorded as accepted.
-    ///
-    /// # Errors
-    ///
-    /// JournalFull exactly where the journal has no room for a call, else NoMemory. Neither changes anything.
-    pub fn send_port(
+    pub fn perform(
         &mut self,
         alloc: Global,
         by: By,
-        port: u32,
-        to: PortId,
-        peer: u8,
-        importance: Importance,
-        body: Bytes,
+        call: EventNote,
         out: &mut Outbox,
     ) -> Result<Answer, NodeFault>
-        requires peer { (1 ≤ peer) × (peer ≤ 32) }
-        ensures answer { IfOk result (λ a. a ≡ unwrap_or (refusal self.old port peer (limit_of importance) body) Answer.Sent) }
-        ensures refused { (why : Answer) → refusal self.old port peer (limit_of importance) body ≡ Some why →
-            OnOk result ((self.new ≡ recorded self.old by (EventNote.SendPort port to importance body) [] why) × (out.new ≡ out.old)) }
-        ensures sent { refusal self.old port peer (limit_of importance) body ≡ None →
-            OnOk result (IsSent self.old self.new out.old out.new by (EventNote.SendPort port to importance body) peer (direct self.old.own port to importance body)) }
+        requires can { CanPerform call }
+        ensures ok { IfOk result (λ a. Performed self.old by call self.new out.old out.new a) }
         ensures room { OnOk result (has_room self.old.journal ≡ true) }
         ensures full { has_room self.old.journal ≡ false → result ≡ Err NodeFault.JournalFull }
         ensures only { result ≡ Err NodeFault.JournalFull → has_room self.old.journal ≡ false }
         ensures err { OnErr result ((self.new ≡ self.old) × (out.new ≡ out.old)) }
     {
-        begin(&mut self.journal, 1)?;
-        let note = EventNote::SendPort {
-            port,
-            to,
-            importance,
-            body: body.clone()?,
-        };
-        let most = limit(importance);
-        if let Some(refusal) = self.refusal(port, peer, most, &body) {
-            let kept = refusal.copy()?;
-            record(&mut self.journal, by, note, Vec::new(alloc), kept);
-            return Ok(refusal);
-        }
-        let message = direct(self.own, port, to, importance, body);
-        self.put(alloc, by, note, peer, message, most, out)?;
-        Ok(Answer::Sent)
+        self.core.perform(alloc, by, call, out)
     }
 
-    /// Puts a message on the link to the peer, with which there is a contact and on whose link fewer packets than the limit
-    /// wait, and records that.
-    fn put(
-        &mut self,
-        alloc: Global,
-        by: By,
-        note: EventNote,
-        peer: u8,
-        message: Message,
-        limit: u32,
-        out: &mut Outbox,
-    ) -> Result<(), NoMemory>
-        requires peer { (1 ≤ peer) × (peer ≤ 32) }
-        requires payload { IsPayload message }
-        requires small { counted_bytes message ≤ 66000 }
-        requires room { has_room self.old.journal ≡ true }
-        requires link { (s : SessionEnd) × (session_with (neighbour_of self.old peer) ≡ Some s) × (length s.sending.waiting < limit) }
-        ensures sent { OnOk result (IsSent self.old self.new out.old out.new by note peer message) }
-        ensures err { OnErr result ((self.new ≡ self.old) × (out.new ≡ out.old)) }
-    {
-        let pieces = pieces(alloc, &message)?;
-        let mut inside = Vec::with_capacity(alloc, 1)?;
-        self.journal.reserve(3)?;
-        let Some(neighbour) = &mut self.neighbours[peer as usize] else {
-            unreachable!()
-        };
-        inside.push_reserved(neighbour.accepted(peer, message));
-        neighbour.send(alloc, pieces, limit, out)?;
-        record(&mut self.journal, by, note, inside, Answer::Sent);
-        Ok(())
-    }
-
-    /// Lets something happen to all neighbours: the bearer is mended or cut, or a tick passes.
+    /// A frame arrives on a bearer; `number` is its number among all that arrived at this node. A packet that it
+    /// brings is taken by the link of the node that it names as its sender; a message that is given is recorded as
+    /// delivered and put into the inbox of its port; a STATE that is due is sent last. A frame that reaches no link
+    /// is ignored for the first reason that holds. The arrival is one step of the journal.
     ///
     /// # Errors
     ///
     /// JournalFull exactly where the journal has no room for a call, else NoMemory. Neither changes anything.
-    pub fn take_part(
-        &mut self,
-        alloc: Global,
-        by: By,
-        deed: Deed,
-        out: &mut Outbox,
-    ) -> Result<(), NodeFault>
-        ensures ok { OnOk result ((self.new ≡ deed_node self.old by deed) × Adds out.old out.new (frames_all deed self.old.neighbours) × (has_room self.old.journal ≡ true)) }
-        ensures full { has_room self.old.journal ≡ false → result ≡ Err NodeFault.JournalFull }
-        ensures only { result ≡ Err NodeFault.JournalFull → has_room self.old.journal ≡ false }
-        ensures err { OnErr result ((self.new ≡ self.old) × (out.new ≡ out.old)) }
-    {
-        begin(&mut self.journal, MOST_CHANGES)?;
-        let mut inside = Vec::with_capacity(alloc, MOST_CHANGES as usize)?;
-        take_part_all(&mut self.neighbours, alloc, deed, &mut inside, out);
-        self.mended = mended_by(deed, self.mended);
-        record(&mut self.journal, by, deed_note(deed), inside, Answer::Done);
-        Ok(())
-    }
-
-    /// The packet of a frame that arrives on a bearer, which is due at the link of the node that it names as its sender; or the first
-    /// reason why it reaches no link.
-    pub fn due<'a>(&self, bearer: u8, frame: &'a [u8]) -> Result<Due<'a>, Why>
-        ensures due { IfOk result (λ d. IsDue self.now frame.now d.peer d.first d.second (view d.packet)) }
-        ensures clear { OnOk result (stop_of self.now bearer frame.now ≡ None) }
-        ensures stopped { IfErr result (λ why. stop_of self.now bearer frame.now ≡ Some why) }
-    {
-        look(
-            self.own,
-            self.mended,
-            self.neighbours.as_slice(),
-            bearer,
-            frame,
-        )
-    }
-
-    /// A frame arrives that reaches no link; `number` is its number among all that arrived at this node.
-    ///
-    /// # Errors
-    ///
-    /// JournalFull exactly where the journal has no room for a call, else NoMemory. Neither changes anything.
-    pub fn ignore(
+    pub fn arrive(
         &mut self,
         alloc: Global,
         by: By,
         bearer: u8,
         number: u64,
-        why: Why,
-    ) -> Result<Arrival, NodeFault>
-        ensures ok { IfOk result (λ a. (a ≡ Arrival.Ignored why) × (self.new ≡ stopped_node self.old by bearer number why) × (has_room self.old.journal ≡ true)) }
-        ensures full { has_room self.old.journal ≡ false → result ≡ Err NodeFault.JournalFull }
-        ensures only { result ≡ Err NodeFault.JournalFull → has_room self.old.journal ≡ false }
-        ensures err { OnErr result (self.new ≡ self.old) }
-    {
-        begin(&mut self.journal, 0)?;
-        let note = EventNote::Arrive { bearer, number };
-        let kept = Answer::Arrived(Arrival::Ignored(why));
-        record(&mut self.journal, by, note, Vec::new(alloc), kept);
-        Ok(Arrival::Ignored(why))
-    }
-
-    /// A frame arrives whose packet is due at the link of a peer; `number` is its number among all that arrived at this node. The link
-    /// makes of it what its states and the contact numbers say. A message that is given is recorded as delivered and put into the
-    /// inbox of its port. A STATE that is due is sent last.
-    ///
-    /// # Errors
-    ///
-    /// JournalFull exactly where the journal has no room for a call, else NoMemory. Neither changes anything.
-    pub fn hear(
-        &mut self,
-        alloc: Global,
-        by: By,
-        number: u64,
-        due: Due<'_>,
+        frame: &[u8],
         out: &mut Outbox,
     ) -> Result<Arrival, NodeFault>
-        requires peer { (1 ≤ due.peer) × (due.peer ≤ 32) }
-        requires fits { Fits (view due.packet) }
-        requires there { is_some (neighbour_of self.old due.peer) ≡ true }
-        ensures heard { (x : Neighbour) → neighbour_of self.old due.entry.peer ≡ Some x →
-            IfOk result (λ a. IsHeard self.old self.new out.old out.new by number due.entry.peer due.entry.first due.entry.second x (view due.entry.packet) a) }
+        ensures ok { IfOk result (λ a. Arrived self.old by bearer number frame.now self.new out.old out.new a) }
         ensures room { OnOk result (has_room self.old.journal ≡ true) }
         ensures full { has_room self.old.journal ≡ false → result ≡ Err NodeFault.JournalFull }
         ensures only { result ≡ Err NodeFault.JournalFull → has_room self.old.journal ≡ false }
         ensures err { OnErr result ((self.new ≡ self.old) × (out.new ≡ out.old)) }
     {
-        if !self.has_room() {
-            return Err(NodeFault::JournalFull);
-        }
-        let arrived = if shows_contact(&due.packet.header) {
-            self.notice(alloc, by, number, due, out)?
-        } else {
-            self.take(alloc, by, number, due, out)?
-        };
-        Ok(arrived)
-    }
-
-    /// A RESET or an ACTIVATE arrives, and there is room for the call: as [`Node::hear`].
-    fn notice(
-        &mut self,
-        alloc: Global,
-        by: By,
-        number: u64,
-        due: Due<'_>,
-        out: &mut Outbox,
-    ) -> Result<Arrival, NoMemory>
-        requires peer { (1 ≤ due.peer) × (due.peer ≤ 32) }
-        requires there { is_some (neighbour_of self.old due.peer) ≡ true }
-        requires room { has_room self.old.journal ≡ true }
-        requires shows { shows_contact due.packet.header ≡ true }
-        ensures heard { (x : Neighbour) → neighbour_of self.old due.entry.peer ≡ Some x →
-            IfOk result (λ a. IsHeard self.old self.new out.old out.new by number due.entry.peer due.entry.first due.entry.second x (view due.entry.packet) a) }
-        ensures err { OnErr result ((self.new ≡ self.old) × (out.new ≡ out.old)) }
-    {
-        self.journal.reserve(4)?;
-        let mut inside = Vec::with_capacity(alloc, 2)?;
-        let Some(neighbour) = &mut self.neighbours[due.peer as usize] else {
-            unreachable!()
-        };
-        let arrival = neighbour.notice(alloc, due.first, due.second, due.packet.header, out);
-        note_change(&mut inside, due.peer, arrival.change);
-        let answer = arrival_answer(&arrival.outcome, &[]);
-        let note = EventNote::Arrive { bearer: 0, number };
-        record(&mut self.journal, by, note, inside, Answer::Arrived(answer));
-        Ok(answer)
-    }
-
-    /// A packet arrives that shows no contact number, and there is room for the call: as [`Node::hear`].
-    fn take(
-        &mut self,
-        alloc: Global,
-        by: By,
-        number: u64,
-        due: Due<'_>,
-        out: &mut Outbox,
-    ) -> Result<Arrival, NoMemory>
-        requires peer { (1 ≤ due.peer) × (due.peer ≤ 32) }
-        requires fits { Fits (view due.packet) }
-        requires there { is_some (neighbour_of self.old due.peer) ≡ true }
-        requires room { has_room self.old.journal ≡ true }
-        requires plain { shows_contact due.packet.header ≡ false }
-        ensures heard { (x : Neighbour) → neighbour_of self.old due.entry.peer ≡ Some x →
-            IfOk result (λ a. IsHeard self.old self.new out.old out.new by number due.entry.peer due.entry.first due.entry.second x (view due.entry.packet) a) }
-        ensures err { OnErr result ((self.new ≡ self.old) × (out.new ≡ out.old)) }
-    {
-        let Some(neighbour) = &mut self.neighbours[due.peer as usize] else {
-            unreachable!()
-        };
-        let heard = prepare(alloc, neighbour, number, &due)?;
-        let count = heard.deliveries.len();
-        self.journal.reserve(count as u64 + 4)?;
-        let mut inside = Vec::with_capacity(alloc, count + 2)?;
-        let change = neighbour.take(alloc, heard.arriving, &due.packet, out);
-        note_change(&mut inside, due.peer, change);
-        let base = port_base(self.boot);
-        deliver(&mut inside, &mut self.inboxes, base, heard.deliveries);
-        let note = EventNote::Arrive { bearer: 0, number };
-        record(
-            &mut self.journal,
-            by,
-            note,
-            inside,
-            Answer::Arrived(heard.answer),
-        );
-        Ok(heard.answer)
+        self.core.arrive(alloc, by, bearer, number, frame, out)
     }
 }

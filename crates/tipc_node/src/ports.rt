@@ -1,6 +1,7 @@
 //! The numbers of sockets, and the answers of the calls that make and read them.
 
 ghost use Rattle.std.specs.Prelude.{◌≡◌, ◌+◌, ◌<◌, ◌≤◌, [], nat_lt, length, slice_index_or, if◌then◌else◌};
+ghost use Rattle.tipc_node.specs.Limits.{most_sockets};
 ghost use Rattle.tipc_node.specs.Nodes.{first_answer, kept_answer, port_base, without_first, IsReceived};
 
 use crate::inboxes::Inbox;
@@ -21,19 +22,21 @@ pub fn port_base(boot: u32) -> u32
 /// The answer to a call for a socket, where so many are there.
 pub fn socket_answer(boot: u32, made: usize) -> Answer
     requires { 1 ≤ boot }
-    ensures { result ≡ (if nat_lt made 256 then Answer.Socket (port_base boot + made + 1) else Answer.Full 256) }
+    ensures { result ≡ (if nat_lt made most_sockets
+        then Answer.Socket (port_base boot + made + 1) else Answer.Full most_sockets) }
 {
     if made < MOST_SOCKETS {
         Answer::Socket(port_base(boot) + made as u32 + 1)
     } else {
-        Answer::Full(256)
+        Answer::Full(MOST_SOCKETS as u32)
     }
 }
 
 /// Takes the first message of an inbox: Empty exactly where there is none.
 pub fn take_first(inboxes: &mut Vec<Inbox>, place: usize) -> Answer
     requires { place < length inboxes.old.items }
-    ensures inboxes { inboxes.new.items ≡ without_first inboxes.old.items place (slice_index_or inboxes.old.items place []) }
+    ensures inboxes { inboxes.new.items ≡
+        without_first inboxes.old.items place (slice_index_or inboxes.old.items place []) }
     ensures answer { result ≡ first_answer (slice_index_or inboxes.old.items place []) }
 {
     match inboxes[place].take() {

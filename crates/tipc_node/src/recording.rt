@@ -1,9 +1,10 @@
 //! How a step is recorded in the journal, and when the journal has room for it.
 
-ghost use Rattle.std.specs.Prelude.{◌≡◌, ◌+◌, ◌≤◌, ◌++◌, true, false, length, OnOk, Err, sum_by, None, Some, vec_len, vec_capacity};
+ghost use Rattle.std.specs.Prelude.{◌≡◌, ◌+◌, ◌-◌, ◌≤◌, ◌++◌, true, false, length, OnOk, Err, sum_by, None, Some, vec_len, vec_capacity};
 ghost use Rattle.tipc_types.specs.Address.{node_word};
 ghost use Rattle.tipc_journal.specs.Room.{entry_bytes, message_bytes};
 ghost use Rattle.tipc_journal.specs.Steps.{step_entries};
+ghost use Rattle.tipc_node.specs.Limits.{free_entries, free_message_bytes};
 ghost use Rattle.tipc_node.specs.Nodes.{change_entries, has_room, step_of};
 
 use std::alloc::{AllocError, AllocFailed, Global};
@@ -21,7 +22,8 @@ pub const FREE_MESSAGE_BYTES: u64 = 4_194_304;
 /// Why a call of a node wasn't made. Nothing is changed then.
 #[derive(Clone, Copy, Debug, PartialEq, Eq)]
 pub enum NodeFault {
-    /// The journal has no room for a call: fewer than 65,536 free entries, or fewer than 4,194,304 free message bytes.
+    /// The journal has no room for a call: fewer than 65,536 free entries, or fewer than 4,194,304 free message
+    /// bytes.
     JournalFull,
     /// Memory ran out.
     NoMemory,
@@ -68,7 +70,7 @@ pub fn has_room(journal: &Journal) -> bool
 
 /// Makes a journal ready for a step with at most so many entries inside.
 pub fn begin(journal: &mut Journal, inside: u64) -> Result<(), NodeFault>
-    requires { inside ≤ 65534 }
+    requires { inside ≤ free_entries - 2 }
     ensures ok { OnOk result ((inside + 2 ≤ journal.new.spare) × (has_room journal.old.entries ≡ true)) }
     ensures full { has_room journal.old.entries ≡ false → result ≡ Err NodeFault.JournalFull }
     ensures only { result ≡ Err NodeFault.JournalFull → has_room journal.old.entries ≡ false }
@@ -84,9 +86,9 @@ pub fn begin(journal: &mut Journal, inside: u64) -> Result<(), NodeFault>
 /// Records a step: who made the call, the call, what happened in it, and its answer.
 pub fn record(journal: &mut Journal, by: By, event: EventNote, inside: Vec<Entry>, answer: Answer)
     requires room { has_room journal.old.entries ≡ true }
-    requires few { length inside.items ≤ 65534 }
+    requires few { length inside.items ≤ free_entries - 2 }
     requires spare { length inside.items + 2 ≤ journal.old.spare }
-    requires bytes { sum_by entry_bytes inside.items ≤ 4194304 }
+    requires bytes { sum_by entry_bytes inside.items ≤ free_message_bytes }
     ensures { journal.new.entries ≡ journal.old.entries ++ step_entries (step_of by event inside.items answer) }
 {
     journal.commit(Entry::Step { by, event });

@@ -3,15 +3,11 @@ use Rattle.std.proofs.Common.{◌≡◌, ◌≤◌, ◌+◌, ℕ, Bool, true, fa
 use Rattle.std.specs.Prelude.{if◌then◌else◌, ◌&&◌, is_none}
 use Rattle.tipc_types.specs.declared.node_calls.Answer.{Answer}
 use Rattle.tipc_outside.specs.declared.outgoing.Outgoing.{Outgoing}
-use Rattle.tipc_types.specs.declared.identity.PortId.{PortId}
-use Rattle.tipc_types.specs.declared.link_words.Why.{Why}
-use Rattle.tipc_types.specs.declared.message_forms.Importance.{Importance}
-use Rattle.tipc_node.specs.Nodes.{limit_of, refusal, stop_of}
 use Rattle.tipc_world.specs.declared.air.Sent.{Sent}
 use Rattle.tipc_world.specs.declared.events.WorldEvent.{WorldEvent}
-use Rattle.tipc_world.specs.declared.events.WorldEvent.TheVariants.{Know, Mend, Cut, Tick, Restart, Socket, SendPort, Receive, Arrive}
+use Rattle.tipc_world.specs.declared.events.WorldEvent.TheVariants.{Know, Restart, Call, Arrive}
 use Rattle.tipc_world.specs.Calls.{counts_at}
-use Rattle.tipc_world.specs.Deeds.{Arrives, Does, Sends}
+use Rattle.tipc_world.specs.Deeds.{Does}
 use Rattle.tipc_world.specs.Due.{unarrived}
 use Rattle.tipc_world.specs.Events.{AreSettled, IsSteady, JoinsAt}
 use Rattle.tipc_world.specs.Sound.{IsSound}
@@ -20,7 +16,7 @@ use Rattle.tipc_world.specs.States.{MemberState, WorldState, member_at}
 use Rattle.tipc_world.specs.Steps.{stage, Becomes, Happens, IsArrival, Stage}
 use Rattle.std.proofs.lemmas.Bool.{cases_eq}
 use Rattle.tipc_world.proofs.Advancing.{Counts}
-use Rattle.tipc_world.proofs.LookUps.{member_at-changed, member_at-is, member_at-other}
+use Rattle.tipc_world.proofs.LookUps.{link_at-is, member_at-changed, member_at-is, member_at-other}
 use Rattle.tipc_world.proofs.Outcomes.{some_is}
 use Rattle.tipc_world.proofs.SoundWorlds.{HaveNextBoots}
 
@@ -31,30 +27,11 @@ IsNext m m' = m'.node.boot ≤ m.node.boot + 1
 stays : (m m' : MemberState) → m'.node.boot ≡ m.node.boot → IsNext m m'
 stays m m' same = omega (arith, same)
 
-sends_boot : (stamp port peer : ℕ) (to : PortId) (importance : Importance) (body : List ℕ) (m m' : MemberState) (frames : List Outgoing) (answered : Answer) → Sends stamp port peer to importance body m m' frames answered → IsNext m m'
-sends_boot stamp port peer to importance body m m' frames answered h = by (refusal m.node port peer (limit_of importance) body) refl
-  where
-    by : (r : Option Answer) → refusal m.node port peer (limit_of importance) body ≡ r → IsNext m m'
-    by None free = stays m m' (ap (λ (x : MemberState). x.node.boot) (h.sent free).after)
-    by (Some why) stops = stays m m' (ap (λ (x : MemberState). x.node.boot) (h.refused why stops).0)
-
-arrives_boot : (stamp bearer place : ℕ) (bytes : List ℕ) (m m' : MemberState) (frames : List Outgoing) (answered : Answer) → Arrives stamp bearer place bytes m m' frames answered → IsNext m m'
-arrives_boot stamp bearer place bytes m m' frames answered h = by (stop_of m.node bearer bytes) refl
-  where
-    by : (r : Option Why) → stop_of m.node bearer bytes ≡ r → IsNext m m'
-    by None clear = stays m m' (ap (λ (x : MemberState). x.node.boot) (h.heard clear).after)
-    by (Some why) stops = stays m m' (ap (λ (x : MemberState). x.node.boot) (h.stopped why stops).0)
-
 does_boot : (stamp : ℕ) (event : WorldEvent) (bytes : List ℕ) (m m' : MemberState) (frames : List Outgoing) (answered : Answer) → Does stamp event bytes m m' frames answered → IsNext m m'
 does_boot stamp (Know node peer) bytes m m' frames answered h = stays m m' (ap (λ (x : MemberState). x.node.boot) h.0)
-does_boot stamp (Mend node bearer) bytes m m' frames answered h = stays m m' (ap (λ (x : MemberState). x.node.boot) h.0)
-does_boot stamp (Cut node bearer) bytes m m' frames answered h = stays m m' (ap (λ (x : MemberState). x.node.boot) h.0)
-does_boot stamp (Tick node) bytes m m' frames answered h = stays m m' (ap (λ (x : MemberState). x.node.boot) h.0)
 does_boot stamp (Restart node) bytes m m' frames answered h = let next = h.0.node.boot_is in omega (arith, next)
-does_boot stamp (Socket node) bytes m m' frames answered h = stays m m' (ap (λ (x : MemberState). x.node.boot) h.0)
-does_boot stamp (SendPort node port to importance body) bytes m m' frames answered h = sends_boot stamp port h.0 to importance body m m' frames answered h.1
-does_boot stamp (Receive node port) bytes m m' frames answered h = stays m m' (ap (λ (x : MemberState). x.node.boot) h.0)
-does_boot stamp (Arrive node bearer place) bytes m m' frames answered h = arrives_boot stamp bearer place bytes m m' frames answered h
+does_boot stamp (Call node call) bytes m m' frames answered h = stays m m' h.turn.turn.boot
+does_boot stamp (Arrive node bearer place) bytes m m' frames answered h = stays m m' h.turn.turn.boot
 
 -- ---- the counts stay within their bounds
 
@@ -118,13 +95,8 @@ arrival_boots old new stamp node bearer place answered lost most None e h below 
 becomes_boots : (old new : Stage) (stamp : ℕ) (event : WorldEvent) (answered : Answer) (lost : Bool) (most : ℕ) → Becomes old stamp event new answered lost → BootsBelow old.members most → BootsBelow new.members (most + 1)
 becomes_boots old new stamp (Arrive node bearer place) answered lost most h below = arrival_boots old new stamp node bearer place answered lost most _ refl h below
 becomes_boots old new stamp (Know node peer) answered lost most h below = happens_boots old new stamp (Know node peer) [] answered lost most h below
-becomes_boots old new stamp (Mend node bearer) answered lost most h below = happens_boots old new stamp (Mend node bearer) [] answered lost most h below
-becomes_boots old new stamp (Cut node bearer) answered lost most h below = happens_boots old new stamp (Cut node bearer) [] answered lost most h below
-becomes_boots old new stamp (Tick node) answered lost most h below = happens_boots old new stamp (Tick node) [] answered lost most h below
 becomes_boots old new stamp (Restart node) answered lost most h below = happens_boots old new stamp (Restart node) [] answered lost most h below
-becomes_boots old new stamp (Socket node) answered lost most h below = happens_boots old new stamp (Socket node) [] answered lost most h below
-becomes_boots old new stamp (SendPort node port to importance body) answered lost most h below = happens_boots old new stamp (SendPort node port to importance body) [] answered lost most h below
-becomes_boots old new stamp (Receive node port) answered lost most h below = happens_boots old new stamp (Receive node port) [] answered lost most h below
+becomes_boots old new stamp (Call node call) answered lost most h below = happens_boots old new stamp (Call node call) [] answered lost most h below
 
 -- what isn't counted leaves the nodes as they were
 arrival_still : (old new : Stage) (stamp node bearer place : ℕ) (answered : Answer) (lost : Bool) (why : Option Answer) → unarrived old.members old.air node bearer place ≡ why → is_none why ≡ false
@@ -135,13 +107,8 @@ arrival_still old new stamp node bearer place answered lost (Some why) e none h 
 becomes_still : (old new : Stage) (stamp : ℕ) (event : WorldEvent) (answered : Answer) (lost : Bool) → Becomes old stamp event new answered lost → counts_at old.members old.air event ≡ false → new.members ≡ old.members
 becomes_still old new stamp (Arrive node bearer place) answered lost h none = arrival_still old new stamp node bearer place answered lost _ refl none h
 becomes_still old new stamp (Know node peer) answered lost h none = absurd cc
-becomes_still old new stamp (Mend node bearer) answered lost h none = absurd cc
-becomes_still old new stamp (Cut node bearer) answered lost h none = absurd cc
-becomes_still old new stamp (Tick node) answered lost h none = absurd cc
 becomes_still old new stamp (Restart node) answered lost h none = absurd cc
-becomes_still old new stamp (Socket node) answered lost h none = absurd cc
-becomes_still old new stamp (SendPort node port to importance body) answered lost h none = absurd cc
-becomes_still old new stamp (Receive node port) answered lost h none = absurd cc
+becomes_still old new stamp (Call node call) answered lost h none = absurd cc
 
 pub steady_after : (old : WorldState) (event : WorldEvent) (members : List (Option MemberState)) (air : List Sent) (events stamps : ℕ) (lost counted : Bool) (answered : Answer)
     → Becomes (stage old.members old.air) old.stamps event (stage members air) answered lost → Counts old event counted events stamps → IsFree old.members old.air old.events event
@@ -156,7 +123,13 @@ settled_of members air events stamps sound steady n m there =
     let number = sound.numbered n m there in
     let boot = steady.boots n m there in
     let few = steady.few in
-    record { from_one = number.0.0; to_32 = number.0.1; own = number.1; boot = omega (arith, boot, few) }
+    record {
+      from_one = number.0.0;
+      to_32 = number.0.1;
+      own = number.1;
+      known = λ peer above. sym (link_at-is members n peer m (member_at-is members n m there)) ∙ sound.known n peer (λ is. absurd (let most = is.1 in omega (arith, above, most)));
+      boot = omega (arith, boot, few);
+    }
 
 pub next_boots : (members : List (Option MemberState)) (air : List Sent) (events stamps : ℕ) → IsSound members air → IsSteady members events stamps → HaveNextBoots members
 next_boots members air events stamps sound steady n m there =

@@ -10,7 +10,8 @@ use Rattle.tipc_types.specs.declared.identity.To.TheVariants as to
 use Rattle.tipc_outside.specs.declared.outgoing.Outgoing.{Outgoing}
 use Rattle.tipc_partners.specs.Sights.{sent_as}
 use Rattle.tipc_world.specs.declared.air.Sent.{Sent}
-use Rattle.tipc_world.specs.Air.{Leaves, airborne, as_frame, goes, is_to, receiver_of, sent_between}
+use Rattle.tipc_node.specs.Turns.{is_to}
+use Rattle.tipc_world.specs.Air.{Leaves, airborne, as_frame, goes, receiver_of, sent_between}
 use Rattle.tipc_world.specs.States.{MemberState}
 use Rattle.tipc_world.specs.Views.{sight_at}
 

@@ -14,7 +14,7 @@ use Rattle.tipc_journal.proofs.StreamLaws.{stream_eq_true}
 use Rattle.tipc_world.specs.declared.air.Sent.{Sent}
 use Rattle.tipc_world.specs.Lawful.{AreLawful, HasBegun, IsWithin}
 use Rattle.tipc_world.specs.States.{MemberState, accepted_at, delivered_at, history, history_at, member_at, stream_of}
-use Rattle.tipc_world.specs.Watched.{addr_of}
+use Rattle.tipc_node.specs.Turns.{addr_of}
 use Rattle.tipc_world.proofs.Within.{get_longer, of_either, of_later}
 
 -- ---- the journals of all boots

@@ -1,24 +1,33 @@
 -- A world only grows.
-use Rattle.std.proofs.Common.{◌≡◌, ℕ, Bool, List, [], ◌++◌, Option, Some, None, inl, inr, map, take, slice_index_or, slice_set, refl, sym, ap, subst, ◌∙◌, append-nil, append_assoc}
+use Rattle.std.proofs.Common.{◌≡◌, ℕ, Bool, List, [], Option, Some, None, inl, inr, map, take, slice_index_or, slice_set, refl, sym, ap, subst, ◌∙◌, append-nil}
 use Rattle.std.proofs.lemmas.Bool.{cases_eq}
 use Rattle.tipc_types.specs.declared.node_calls.Answer.{Answer}
 use Rattle.tipc_journal.specs.Prefixes.{IsPrefixOf}
+use Rattle.tipc_outside.specs.declared.outgoing.Outgoing.{Outgoing}
+use Rattle.tipc_journal.specs.Steps.{step_entries}
 use Rattle.tipc_world.specs.declared.events.WorldEvent.{WorldEvent}
-use Rattle.tipc_world.specs.declared.events.WorldEvent.TheVariants.{Arrive}
+use Rattle.tipc_world.specs.declared.events.WorldEvent.TheVariants.{Know, Restart, Call, Arrive}
 use Rattle.tipc_world.specs.Air.{airborne}
 use Rattle.tipc_world.specs.Calls.{node_of}
+use Rattle.tipc_world.specs.Deeds.{Does}
 use Rattle.tipc_world.specs.Due.{unarrived}
 use Rattle.tipc_world.specs.Growth.{Grows}
 use Rattle.tipc_world.specs.States.{MemberState, WorldState, history, history_at}
 use Rattle.tipc_world.specs.Steps.{Becomes, Happens, IsArrival, IsStep, Stage, stage}
 use Rattle.tipc_world.proofs.LookUps.{history_at-is, history_at-same, member_at-changed, member_at-is, member_at-other}
-use Rattle.tipc_world.proofs.HistoryEvents.{does_grow}
+use Rattle.tipc_world.proofs.Histories.{history_restarted, history_same}
+use Rattle.tipc_world.proofs.PairedEvents.{made_step, made_turn, met_step, met_turn}
+use Rattle.tipc_world.proofs.PairedTurns.{turn_history}
 
 pub prefix_same : {A : Type 0} (xs ys : List A) → ys ≡ xs → IsPrefixOf xs ys
 prefix_same xs ys same = ([], same ∙ sym (append-nil xs))
 
-pub prefix_trans : {A : Type 0} (xs ys zs : List A) → IsPrefixOf xs ys → IsPrefixOf ys zs → IsPrefixOf xs zs
-prefix_trans xs ys zs p q = (p.0 ++ q.0, q.1 ∙ ap (λ l. l ++ q.0) p.1 ∙ append_assoc xs p.0 q.0)
+-- all that ever happened at a node
+does_grow : (stamp : ℕ) (event : WorldEvent) (bytes : List ℕ) (m m' : MemberState) (frames : List Outgoing) (answered : Answer) → Does stamp event bytes m m' frames answered → IsPrefixOf (history m) (history m')
+does_grow stamp (Know node peer) bytes m m' frames answered h = prefix_same (history m) (history m') (history_same m m' (ap (λ (n : MemberState). n.past) h.0) (ap (λ (n : MemberState). n.node.journal) h.0))
+does_grow stamp (Restart node) bytes m m' frames answered h = prefix_same (history m) (history m') (history_restarted m m' h.0)
+does_grow stamp (Call node call) bytes m m' frames answered h = (step_entries (made_step stamp call m m' frames answered h), turn_history m m' [] _ frames (made_turn stamp call m m' frames answered h))
+does_grow stamp (Arrive node bearer place) bytes m m' frames answered h = (step_entries (met_step stamp bearer place bytes m m' frames answered h), turn_history m m' bytes _ frames (met_turn stamp bearer place bytes m m' frames answered h))
 
 -- the air and each node's history grew
 pub record StageGrows (old new : Stage) : Type 0 where

@@ -1,20 +1,24 @@
 -- An event among the nodes and in the air, put together from what its calls say.
-use Rattle.std.proofs.Common.{◌≡◌, ◌≤◌, ℕ, suc, zero, Bool, true, false, List, Option, Some, None, [], ◌∷◌, ◌++◌, map, take, refl, ap, ◌∙◌}
-use Rattle.std.specs.Prelude.{slice_get}
+use Rattle.std.proofs.Common.{◌≡◌, ◌≤◌, ℕ, suc, zero, Bool, true, false, List, Option, Some, None, [], ◌∷◌, ◌++◌, map, take, refl, sym, ap, ◌∙◌}
+use Rattle.std.specs.Prelude.{is_some, option_map, slice_get, slice_index_or}
 use Rattle.tipc_types.specs.Address.{node_word}
 use Rattle.tipc_types.specs.declared.node_calls.Answer.{Answer}
 use Rattle.tipc_outside.specs.declared.outgoing.Outgoing.{Outgoing}
 use Rattle.tipc_outside.specs.Frames.{Adds, Out}
+use Rattle.tipc_node.specs.declared.neighbours.Neighbour.{Neighbour}
+use Rattle.tipc_node.specs.Nodes.{neighbour_of}
 use Rattle.tipc_world.specs.declared.air.Sent.{Sent}
 use Rattle.tipc_world.specs.declared.events.WorldEvent.{WorldEvent}
-use Rattle.tipc_world.specs.declared.events.WorldEvent.TheVariants.{Arrive}
+use Rattle.tipc_world.specs.declared.events.WorldEvent.TheVariants.{Know, Restart, Call, Arrive}
 use Rattle.tipc_world.specs.Air.{airborne, Emits, Leaves}
-use Rattle.tipc_world.specs.Calls.{node_of}
+use Rattle.tipc_world.specs.Calls.{CanDoAt, CanHappenAt, node_of}
 use Rattle.tipc_world.specs.Due.{frame_for, unarrived}
-use Rattle.tipc_world.specs.Events.{DidAt}
+use Rattle.tipc_world.specs.Events.{AreSettled, DidAt}
 use Rattle.tipc_world.specs.Sound.{IsSound}
-use Rattle.tipc_world.specs.States.{MemberState}
+use Rattle.tipc_world.specs.States.{MemberState, knows}
 use Rattle.tipc_world.specs.Steps.{stage, Happens, IsArrival}
+use Rattle.tipc_world.proofs.Calls.{the_some}
+use Rattle.tipc_world.proofs.LookUps.{link_at-is, member_at-is}
 
 -- a front of a front is a front
 front_of_front : {A : Type 0} (k n : ℕ) (xs : List A) → (m : ℕ) × (take k (take n xs) ≡ take m xs)
@@ -74,3 +78,42 @@ arrival_of old new air air' stamp node bearer place f answered lost there arrive
 pub senders_of : (members : List (Option MemberState)) (air : List Sent) → IsSound members air → (k : ℕ) (f : Sent) → slice_get air k ≡ Some f
     → (n : ℕ) × (1 ≤ n) × (n ≤ 32) × (f.from.word ≡ node_word n)
 senders_of members air sound k f there = let flies = sound.frames k f there in (flies.from, flies.from_number.0, flies.from_number.1, flies.from_is)
+
+-- ---- what an event needs of its node
+
+there_settled : (members : List (Option MemberState)) (n : ℕ) → AreSettled members → is_some (slice_index_or members n None) ≡ true → (1 ≤ n) × (n ≤ 32)
+there_settled members n settled there =
+    let m = the_some (slice_index_or members n None) there in
+    let is = settled n m.0 m.1 in
+    (is.from_one, is.to_32)
+
+-- a node that doesn't know another has no neighbour there
+pub not_known : (members : List (Option MemberState)) (a peer : ℕ) (m : MemberState) → slice_index_or members a None ≡ Some m → knows members a peer ≡ false → neighbour_of m.node peer ≡ None
+not_known members a peer m was unknown = case (neighbour_of m.node peer) (ap is_some (sym (link_at-is members a peer m (member_at-is members a m was))) ∙ unknown)
+  where
+    case : (o : Option Neighbour) → is_some (option_map (λ (x : Neighbour). x.pair.link) o) ≡ false → o ≡ None
+    case None none = refl
+    case (Some x) none = absurd cc
+
+-- an event that can happen and is no arrival, at the node where it happens
+pub can_do : (members : List (Option MemberState)) (event : WorldEvent) → AreSettled members → ((node bearer frame : ℕ) → event ≡ Arrive node bearer frame → ⊥) → CanHappenAt members event → CanDoAt members event
+can_do members (Know node peer) settled other can m was =
+    let number = there_settled members peer settled can.1 in (number.0, number.1, not_known members node peer m was can.3)
+can_do members (Restart node) settled other can m was = tt
+can_do members (Call node call) settled other can m was = can.1
+can_do members (Arrive node bearer frame) settled other can m was = absurd (other node bearer frame refl)
+
+pub at_its_node : (members : List (Option MemberState)) (event : WorldEvent) → ((node bearer frame : ℕ) → event ≡ Arrive node bearer frame → ⊥) → CanHappenAt members event → is_some (slice_index_or members (node_of event) None) ≡ true
+at_its_node members (Know node peer) other can = can.0
+at_its_node members (Restart node) other can = can
+at_its_node members (Call node call) other can = can.0
+at_its_node members (Arrive node bearer frame) other can = can.0
+
+-- what stands at a place, whatever would stand beyond the end
+pub stands_at : {A : Type 0} (xs : List (Option A)) (k n : ℕ) (o : Option A) → k ≡ n → is_some (slice_index_or xs n None) ≡ true → o ≡ slice_index_or xs k o → slice_index_or xs n None ≡ o
+stands_at {A = A} xs k n o same there is = by xs n there (is ∙ ap (λ i. slice_index_or xs i o) same)
+  where
+    by : (xs : List (Option A)) (n : ℕ) → is_some (slice_index_or xs n None) ≡ true → o ≡ slice_index_or xs n o → slice_index_or xs n None ≡ o
+    by [] n there is = absurd cc
+    by (x ∷ xs) zero there is = sym is
+    by (x ∷ xs) (suc n) there is = by xs n there is

@@ -1,9 +1,10 @@
--- What an event adds to what was ever accepted and delivered at its node.
-use Rattle.std.specs.List.{cons_option, flat_map}
-use Rattle.std.proofs.Common.{◌≡◌, ◌==◌, ◌&&◌, ◌+◌, ℕ, Bool, true, false, if◌then◌else◌, List, [], ◌∷◌, ◌++◌, Option, Some, None, refl, sym, ap, ◌∙◌, append-nil, append_assoc, arith}
+-- The history of a node, and what a step adds to what was ever accepted and delivered at it.
+use Rattle.std.specs.List.{cons_option, filter, filter_map, flat_map}
+use Rattle.std.proofs.Common.{◌≡◌, ◌==◌, ◌&&◌, ℕ, Bool, true, false, if◌then◌else◌, List, [], ◌∷◌, ◌++◌, Option, Some, None, map, refl, sym, ap, ◌∙◌, append-nil, append_assoc, arith}
 use Rattle.std.specs.Prelude.{option_to_list}
 use Rattle.std.proofs.lemmas.Bool.Decides.{nat_tests}
 use Rattle.std.proofs.lemmas.List.Concat.{flat_map-append}
+use Rattle.std.proofs.lemmas.List.Elements.{filter_map-append}
 use Rattle.tipc_types.specs.Address.{node_word}
 use Rattle.tipc_types.specs.declared.message_forms.Flow.{Flow}
 use Rattle.tipc_types.specs.declared.message_forms.Flow.TheVariants.{Zero, One, Broadcast}
@@ -11,17 +12,16 @@ use Rattle.tipc_types.specs.declared.message_forms.Message.{Message}
 use Rattle.tipc_journal.specs.declared.entries.Entry.{Entry}
 use Rattle.tipc_journal.specs.declared.entries.Entry.TheVariants as entry
 use Rattle.tipc_journal.specs.Steps.{NodeStep, step_entries}
-use Rattle.tipc_journal.specs.Streams.{Stream, accepted, delivered, flow_eq, stream_eq}
-use Rattle.tipc_journal.proofs.StreamLaws.{accepted_append, accepted_step, delivered_append, delivered_step}
+use Rattle.tipc_journal.specs.Streams.{accepted, accepted_message, delivered, delivered_message, flow_eq, stream_eq}
+use Rattle.tipc_journal.proofs.StreamLaws.{accepted_step, delivered_step}
 use Rattle.tipc_reassembly.specs.declared.opening.Opened.{Opened}
 use Rattle.tipc_reassembly.specs.declared.opening.Opened.TheVariants.{Whole, Passed}
 use Rattle.tipc_link.specs.Links.{LinkEnd}
-use Rattle.tipc_pair.specs.declared.changes.PairChange.{PairChange}
-use Rattle.tipc_pair.specs.declared.changes.PairChange.TheVariants.{Stay, Began, Ended}
-use Rattle.tipc_node.specs.declared.neighbours.Deed.{Deed}
-use Rattle.tipc_node.specs.declared.neighbours.Neighbour.{Neighbour}
-use Rattle.tipc_node.specs.Neighbours.{done}
-use Rattle.tipc_node.specs.Nodes.{accepted_entry, change_entries, delivered_by, deliveries_of, delivery_of, entries_all, entries_in, entries_one, message_in, shown_contact}
+use Rattle.tipc_pair.specs.declared.changes.PairOutcome.{PairOutcome}
+use Rattle.tipc_pair.specs.Partners.{opened_in}
+use Rattle.tipc_node.specs.Nodes.{accepted_entry, message_in, shown_contact}
+use Rattle.tipc_node.specs.Turns.{delivered_message as delivery_of, delivered_of, given_entries, is_accepted_for, is_delivered_from}
+use Rattle.tipc_node.proofs.Telling.{same_word}
 use Rattle.tipc_world.specs.Members.{IsRestarted}
 use Rattle.tipc_world.specs.States.{MemberState, history, stream_of}
 
@@ -47,19 +47,7 @@ history_restarted m m' r =
     let one : history m' ≡ whole (m.past ++ m.node.journal ∷ []) ++ [] = ap (λ p. whole p ++ m'.node.journal) r.past ∙ ap (λ j. whole (m.past ++ m.node.journal ∷ []) ++ j) r.node.no_history in
     one ∙ append-nil (whole (m.past ++ m.node.journal ∷ [])) ∙ flat_map-append (λ entries. entries) m.past (m.node.journal ∷ []) ∙ ap (λ j. whole m.past ++ j) (append-nil m.node.journal)
 
--- ---- the streams that grow
-
--- The messages that come to flow Zero of the contact with a peer, where the stream asked for is that: it is of node b, the contact
--- (own', theirs') and a flow.
-abbrev pub come_to : ℕ → ℕ → ℕ → List Message → ℕ → ℕ → ℕ → Flow → List Message
-come_to peer own theirs messages b own' theirs' flow = if (b == peer) && (flow_eq flow Zero && ((own' == own) && (theirs' == theirs))) then messages else []
-
--- A node's history grew: in the contact (own, theirs) with a peer messages were accepted and delivered.
-pub record Grew (old new : List Entry) (peer own theirs : ℕ) (accepts delivers : List Message) : Type 0 where
-  pub accepted_is : (b own' theirs' : ℕ) (flow : Flow) →
-      accepted new (stream_of b own' theirs' flow) ≡ accepted old (stream_of b own' theirs' flow) ++ come_to peer own theirs accepts b own' theirs' flow
-  pub delivered_is : (b own' theirs' : ℕ) (flow : Flow) →
-      delivered new (stream_of b own' theirs' flow) ≡ delivered old (stream_of b own' theirs' flow) ++ come_to peer own theirs delivers b own' theirs' flow
+-- ---- tests
 
 same_test : (p q : Bool) → (p ≡ true → q ≡ true) → (q ≡ true → p ≡ true) → p ≡ q
 same_test true q there back = sym (there refl)
@@ -69,131 +57,89 @@ same_test false false there back = refl
 turned : (m n : ℕ) → (m == n) ≡ (n == m)
 turned m n = same_test (m == n) (n == m) (λ e. grind (arith, nat_tests)) (λ e. grind (arith, nat_tests))
 
-words_turned : (m n : ℕ) → (node_word m == node_word n) ≡ (n == m)
-words_turned m n = same_test (node_word m == node_word n) (n == m) (λ e. grind (arith, nat_tests)) (λ e. grind (arith, nat_tests))
-
 flows_turned : (flow : Flow) → flow_eq Zero flow ≡ flow_eq flow Zero
 flows_turned Zero = refl
 flows_turned One = refl
 flows_turned Broadcast = refl
 
--- the test of a stream, in the order in which come_to asks
-order : (a b c d : Bool) → (a && (b && (c && d))) ≡ (a && (d && (b && c)))
-order true true true true = refl
-order true true true false = refl
-order true true false true = refl
-order true true false false = refl
-order true false c true = refl
-order true false c false = refl
-order false b c d = refl
+-- the messages that come to a stream of the contact (own, theirs): those of flow Zero
+abbrev pub come_to : ℕ → ℕ → List Message → ℕ → ℕ → Flow → List Message
+come_to own theirs messages own' theirs' flow = if flow_eq flow Zero && ((own' == own) && (theirs' == theirs)) then messages else []
 
-stream_test : (peer own theirs b own' theirs' : ℕ) (flow : Flow) → stream_eq (stream_of peer own theirs Zero) (stream_of b own' theirs' flow) ≡ ((b == peer) && (flow_eq flow Zero && ((own' == own) && (theirs' == theirs))))
+-- the test of a stream of the peer itself, in the order in which come_to asks
+order : (b c d : Bool) → (b && (c && d)) ≡ (d && (b && c))
+order true true true = refl
+order true true false = refl
+order true false true = refl
+order true false false = refl
+order false c true = refl
+order false c false = refl
+
+stream_test : (peer own theirs own' theirs' : ℕ) (flow : Flow) → stream_eq (stream_of peer own theirs Zero) (stream_of peer own' theirs' flow) ≡ (flow_eq flow Zero && ((own' == own) && (theirs' == theirs)))
 unfolding stream_eq
-stream_test peer own theirs b own' theirs' flow =
-    order (node_word peer == node_word b) (own == own') (theirs == theirs') (flow_eq Zero flow)
-    ∙ ap (λ t. t && (flow_eq Zero flow && ((own == own') && (theirs == theirs')))) (words_turned peer b)
-    ∙ ap (λ t. (b == peer) && (t && ((own == own') && (theirs == theirs')))) (flows_turned flow)
-    ∙ ap (λ t. (b == peer) && (flow_eq flow Zero && (t && (theirs == theirs')))) (turned own own')
-    ∙ ap (λ t. (b == peer) && (flow_eq flow Zero && ((own' == own) && t))) (turned theirs theirs')
+stream_test peer own theirs own' theirs' flow =
+    ap (λ t. t && ((own == own') && ((theirs == theirs') && flow_eq Zero flow))) (same_word peer)
+    ∙ order (own == own') (theirs == theirs') (flow_eq Zero flow)
+    ∙ ap (λ t. t && ((own == own') && (theirs == theirs'))) (flows_turned flow)
+    ∙ ap (λ t. flow_eq flow Zero && (t && (theirs == theirs'))) (turned own own')
+    ∙ ap (λ t. flow_eq flow Zero && ((own' == own) && t)) (turned theirs theirs')
 
--- ---- what entries hold
+-- ---- entries that concern a peer
 
--- In these entries, messages were accepted and delivered in the contact (own, theirs) with a peer.
-pub record Holds (entries : List Entry) (peer own theirs : ℕ) (accepts delivers : List Message) : Type 0 where
-  pub accepted_is : (b own' theirs' : ℕ) (flow : Flow) → accepted entries (stream_of b own' theirs' flow) ≡ come_to peer own theirs accepts b own' theirs' flow
-  pub delivered_is : (b own' theirs' : ℕ) (flow : Flow) → delivered entries (stream_of b own' theirs' flow) ≡ come_to peer own theirs delivers b own' theirs' flow
+-- what is taken of a list is of those alone for which something is taken
+filter_map_filtered : {X Y : Type 0} (h : X → Option Y) (p : X → Bool) (xs : List X) → ((x : X) → p x ≡ false → h x ≡ None) → filter_map h (filter p xs) ≡ filter_map h xs
+filter_map_filtered h p [] none = refl
+filter_map_filtered {X} {Y} h p (x ∷ xs) none = case (filter_map_filtered h p xs none) (p x) refl
+  where
+    case : filter_map h (filter p xs) ≡ filter_map h xs → (b : Bool) → p x ≡ b → filter_map h (if b then x ∷ filter p xs else filter p xs) ≡ filter_map h (x ∷ xs)
+    case rest true is = ap (λ ys. cons_option (h x) ys) rest
+    case rest false is = rest ∙ ap (λ o. cons_option o (filter_map h xs)) (sym (none x is))
 
--- in these nothing was
-pub record IsQuiet (entries : List Entry) : Type 0 where
-  pub accepted_none : (s : Stream) → accepted entries s ≡ []
-  pub delivered_none : (s : Stream) → delivered entries s ≡ []
+other_peer : (word other : ℕ) (c d : ℕ × ℕ) (flow flow' : Flow) → (word == other) ≡ false
+    → stream_eq (record { peer = record { word = word }; contact = c; flow = flow }) (record { peer = record { word = other }; contact = d; flow = flow' }) ≡ false
+unfolding stream_eq
+other_peer word other c d flow flow' apart = ap (λ t. t && ((c.0 == d.0) && ((c.1 == d.1) && flow_eq flow flow'))) apart
+
+accepted_elsewhere : (b own theirs : ℕ) (flow : Flow) (e : Entry) → is_accepted_for b e ≡ false → accepted_message (stream_of b own theirs flow) e ≡ None
+accepted_elsewhere b own theirs flow (entry.Accepted peer numbers flow' message) apart =
+    ap (λ t. if t then Some message else None) (other_peer peer.word (node_word b) numbers (own, theirs) flow' flow apart)
+accepted_elsewhere b own theirs flow other apart = refl
+
+delivered_elsewhere : (b own theirs : ℕ) (flow : Flow) (e : Entry) → is_delivered_from b e ≡ false → delivered_message (stream_of b own theirs flow) e ≡ None
+delivered_elsewhere b own theirs flow (entry.Delivered peer numbers flow' message by) apart =
+    ap (λ t. if t then Some message else None) (other_peer peer.word (node_word b) numbers (own, theirs) flow' flow apart)
+delivered_elsewhere b own theirs flow other apart = refl
+
+accepted_here : (b own theirs : ℕ) (flow : Flow) (entries : List Entry) → accepted (filter (is_accepted_for b) entries) (stream_of b own theirs flow) ≡ accepted entries (stream_of b own theirs flow)
+unfolding accepted
+accepted_here b own theirs flow entries = filter_map_filtered (accepted_message (stream_of b own theirs flow)) (is_accepted_for b) entries (accepted_elsewhere b own theirs flow)
+
+delivered_here : (b own theirs : ℕ) (flow : Flow) (entries : List Entry) → delivered (filter (is_delivered_from b) entries) (stream_of b own theirs flow) ≡ delivered entries (stream_of b own theirs flow)
+unfolding delivered
+delivered_here b own theirs flow entries = filter_map_filtered (delivered_message (stream_of b own theirs flow)) (is_delivered_from b) entries (delivered_elsewhere b own theirs flow)
+
+-- ---- what a peer's entries hold
+
+come_more : (t : Bool) (m : Message) (ms : List Message) → cons_option (if t then Some m else None) (if t then ms else []) ≡ (if t then m ∷ ms else [])
+come_more true m ms = refl
+come_more false m ms = refl
+
+chosen : (t : Bool) (m : Message) → cons_option (if t then Some m else None) [] ≡ (if t then m ∷ [] else [])
+chosen true m = refl
+chosen false m = refl
 
 either_way : (t : Bool) (ms : List Message) → (if t then ms else ms) ≡ ms
 either_way true ms = refl
 either_way false ms = refl
 
--- no message comes to no stream
-pub come_none : (peer own theirs b own' theirs' : ℕ) (flow : Flow) → come_to peer own theirs [] b own' theirs' flow ≡ []
-come_none peer own theirs b own' theirs' flow = either_way ((b == peer) && (flow_eq flow Zero && ((own' == own) && (theirs' == theirs)))) []
-
-pub quiet_holds : (entries : List Entry) (peer own theirs : ℕ) → IsQuiet entries → Holds entries peer own theirs [] []
-quiet_holds entries peer own theirs q = record {
-  accepted_is = λ b own' theirs' flow. q.accepted_none (stream_of b own' theirs' flow) ∙ sym (come_none peer own theirs b own' theirs' flow);
-  delivered_is = λ b own' theirs' flow. q.delivered_none (stream_of b own' theirs' flow) ∙ sym (come_none peer own theirs b own' theirs' flow);
-}
-
-pub quiet_none : IsQuiet []
-unfolding accepted delivered
-quiet_none = record { accepted_none = λ s. refl; delivered_none = λ s. refl }
-
-pub holds_behind : (quiet entries : List Entry) (peer own theirs : ℕ) (accepts delivers : List Message) → IsQuiet quiet → Holds entries peer own theirs accepts delivers → Holds (quiet ++ entries) peer own theirs accepts delivers
-holds_behind quiet entries peer own theirs accepts delivers q h = record {
-  accepted_is = λ b own' theirs' flow. let s = stream_of b own' theirs' flow in accepted_append quiet entries s ∙ ap (λ ms. ms ++ accepted entries s) (q.accepted_none s) ∙ h.accepted_is b own' theirs' flow;
-  delivered_is = λ b own' theirs' flow. let s = stream_of b own' theirs' flow in delivered_append quiet entries s ∙ ap (λ ms. ms ++ delivered entries s) (q.delivered_none s) ∙ h.delivered_is b own' theirs' flow;
-}
-
-quiet_both : (xs ys : List Entry) → IsQuiet xs → IsQuiet ys → IsQuiet (xs ++ ys)
-quiet_both xs ys q r = record {
-  accepted_none = λ s. accepted_append xs ys s ∙ ap (λ ms. ms ++ accepted ys s) (q.accepted_none s) ∙ r.accepted_none s;
-  delivered_none = λ s. delivered_append xs ys s ∙ ap (λ ms. ms ++ delivered ys s) (q.delivered_none s) ∙ r.delivered_none s;
-}
-
--- the entries of a change of a link
-pub change_quiet : (peer : ℕ) (change : PairChange) → IsQuiet (change_entries peer change)
-unfolding accepted delivered
-change_quiet peer Stay = record { accepted_none = λ s. refl; delivered_none = λ s. refl }
-change_quiet peer (Began own theirs contact) = record { accepted_none = λ s. refl; delivered_none = λ s. refl }
-change_quiet peer (Ended cause shown contact shown_contact) = record { accepted_none = λ s. refl; delivered_none = λ s. refl }
-
-one_quiet : (d : Deed) (number : ℕ) (x : Option Neighbour) → IsQuiet (entries_one d number x)
-one_quiet d number None = quiet_none
-one_quiet d number (Some x) = change_quiet number (done d x).change
-
--- those of what happens to all neighbours
-pub all_quiet : (d : Deed) (number : ℕ) (xs : List (Option Neighbour)) → IsQuiet (entries_all d number xs)
-unfolding entries_all
-all_quiet d number [] = quiet_none
-all_quiet d number (x ∷ xs) = quiet_both (entries_one d number x) (entries_all d (number + 1) xs) (one_quiet d number x) (all_quiet d (number + 1) xs)
-
-chosen : (m : Message) (t : Bool) → cons_option (if t then Some m else None) [] ≡ (if t then m ∷ [] else [])
-chosen m true = refl
-chosen m false = refl
-
--- the entry of a message that was put on the link to a peer
-pub accepted_holds : (peer : ℕ) (e : LinkEnd) (m : Message) → Holds (accepted_entry peer e m ∷ []) peer e.contact e.peer_contact (m ∷ []) []
-unfolding accepted delivered
-accepted_holds peer e m = record {
-  accepted_is = λ b own theirs flow. chosen m (stream_eq (stream_of peer e.contact e.peer_contact Zero) (stream_of b own theirs flow)) ∙ ap (λ t. if t then m ∷ [] else []) (stream_test peer e.contact e.peer_contact b own theirs flow);
-  delivered_is = λ b own theirs flow. sym (come_none peer e.contact e.peer_contact b own theirs flow);
-}
-
-delivered_holds : (peer : ℕ) (e : LinkEnd) (m : Option Message) (by : List ℕ) → Holds (delivered_by peer (e.contact, e.peer_contact) m by ∷ []) peer e.contact e.peer_contact [] (option_to_list m)
-unfolding accepted delivered
-delivered_holds peer e (Some m) by = record {
-  accepted_is = λ b own theirs flow. sym (come_none peer e.contact e.peer_contact b own theirs flow);
-  delivered_is = λ b own theirs flow. chosen m (stream_eq (stream_of peer e.contact e.peer_contact Zero) (stream_of b own theirs flow)) ∙ ap (λ t. if t then m ∷ [] else []) (stream_test peer e.contact e.peer_contact b own theirs flow);
-}
-delivered_holds peer e None by = record {
-  accepted_is = λ b own theirs flow. sym (come_none peer e.contact e.peer_contact b own theirs flow);
-  delivered_is = λ b own theirs flow. sym (come_none peer e.contact e.peer_contact b own theirs flow);
-}
-
-come_both : (t : Bool) (ms ns : List Message) → (if t then ms else []) ++ (if t then ns else []) ≡ (if t then ms ++ ns else [])
-come_both true ms ns = refl
-come_both false ms ns = refl
-
-holds_both : (xs ys : List Entry) (peer own theirs : ℕ) (accepts accepts' delivers delivers' : List Message) → Holds xs peer own theirs accepts delivers → Holds ys peer own theirs accepts' delivers'
-    → Holds (xs ++ ys) peer own theirs (accepts ++ accepts') (delivers ++ delivers')
-holds_both xs ys peer own theirs accepts accepts' delivers delivers' h k = record {
-  accepted_is = λ b own' theirs' flow. let s = stream_of b own' theirs' flow in accepted_append xs ys s ∙ ap (λ ms. ms ++ accepted ys s) (h.accepted_is b own' theirs' flow)
-      ∙ ap (λ ms. come_to peer own theirs accepts b own' theirs' flow ++ ms) (k.accepted_is b own' theirs' flow) ∙ come_both ((b == peer) && (flow_eq flow Zero && ((own' == own) && (theirs' == theirs)))) accepts accepts';
-  delivered_is = λ b own' theirs' flow. let s = stream_of b own' theirs' flow in delivered_append xs ys s ∙ ap (λ ms. ms ++ delivered ys s) (h.delivered_is b own' theirs' flow)
-      ∙ ap (λ ms. come_to peer own theirs delivers b own' theirs' flow ++ ms) (k.delivered_is b own' theirs' flow) ∙ come_both ((b == peer) && (flow_eq flow Zero && ((own' == own) && (theirs' == theirs)))) delivers delivers';
-}
-
-dropped_quiet : (place : ℕ) → IsQuiet (entry.Dropped place ∷ [])
-unfolding accepted delivered
-dropped_quiet place = record { accepted_none = λ s. refl; delivered_none = λ s. refl }
+-- those of messages that were put on the link to a peer
+pub accepted_holds : (b : ℕ) (e : LinkEnd) (ms : List Message) (own theirs : ℕ) (flow : Flow) → accepted (map (accepted_entry b e) ms) (stream_of b own theirs flow) ≡ come_to e.contact e.peer_contact ms own theirs flow
+unfolding accepted
+accepted_holds b e [] own theirs flow = sym (either_way (flow_eq flow Zero && ((own == e.contact) && (theirs == e.peer_contact))) [])
+accepted_holds b e (m ∷ ms) own theirs flow =
+    ap (λ xs. cons_option (accepted_message (stream_of b own theirs flow) (accepted_entry b e m)) xs) (accepted_holds b e ms own theirs flow)
+    ∙ ap (λ t. cons_option (if t then Some m else None) (come_to e.contact e.peer_contact ms own theirs flow)) (stream_test b e.contact e.peer_contact own theirs flow)
+    ∙ come_more (flow_eq flow Zero && ((own == e.contact) && (theirs == e.peer_contact))) m ms
 
 -- the messages of what was given
 abbrev pub message_given : Opened → Option Message
@@ -204,43 +150,48 @@ abbrev pub messages_given : List Opened → List Message
 messages_given [] = []
 messages_given (o ∷ os) = option_to_list (message_given o) ++ messages_given os
 
-one_given : (o : Opened) (peer : ℕ) (e : LinkEnd) → Holds ((delivery_of peer (shown_contact e) o).entry ∷ []) peer e.contact e.peer_contact [] (option_to_list (message_given o))
-one_given (Whole packet by) peer e = delivered_holds peer e (message_in packet) by
-one_given (Passed place) peer e = quiet_holds (entry.Dropped place ∷ []) peer e.contact e.peer_contact (dropped_quiet place)
+come_front : (t : Bool) (o : Option Message) (ms : List Message) → (if t then option_to_list o else []) ++ (if t then ms else []) ≡ (if t then option_to_list o ++ ms else [])
+come_front true o ms = refl
+come_front false o ms = refl
 
--- the entries of what was given
-pub given_holds : (opened : List Opened) (peer : ℕ) (e : LinkEnd) → Holds (entries_in (deliveries_of peer (shown_contact e) opened)) peer e.contact e.peer_contact [] (messages_given opened)
-given_holds [] peer e = quiet_holds [] peer e.contact e.peer_contact quiet_none
-given_holds (o ∷ os) peer e =
-    holds_both ((delivery_of peer (shown_contact e) o).entry ∷ []) (entries_in (deliveries_of peer (shown_contact e) os)) peer e.contact e.peer_contact [] [] (option_to_list (message_given o)) (messages_given os)
-    (one_given o peer e) (given_holds os peer e)
+one_message : (b : ℕ) (e : LinkEnd) (o : Option Message) (by : List ℕ) (own theirs : ℕ) (flow : Flow)
+    → filter_map (delivered_message (stream_of b own theirs flow)) (delivery_of b (shown_contact e) o by) ≡ come_to e.contact e.peer_contact (option_to_list o) own theirs flow
+one_message b e (Some m) by own theirs flow =
+    ap (λ t. cons_option (if t then Some m else None) []) (stream_test b e.contact e.peer_contact own theirs flow) ∙ chosen (flow_eq flow Zero && ((own == e.contact) && (theirs == e.peer_contact))) m
+one_message b e None by own theirs flow = sym (either_way (flow_eq flow Zero && ((own == e.contact) && (theirs == e.peer_contact))) [])
 
--- ---- a recorded call
+one_given : (b : ℕ) (e : LinkEnd) (o : Opened) (own theirs : ℕ) (flow : Flow)
+    → filter_map (delivered_message (stream_of b own theirs flow)) (delivered_of b (shown_contact e) o) ≡ come_to e.contact e.peer_contact (option_to_list (message_given o)) own theirs flow
+one_given b e (Whole packet by) own theirs flow = one_message b e (message_in packet) by own theirs flow
+one_given b e (Passed place) own theirs flow = sym (either_way (flow_eq flow Zero && ((own == e.contact) && (theirs == e.peer_contact))) [])
 
--- nothing came to any stream
-pub record KeepsStreams (old new : List Entry) : Type 0 where
-  pub accepted_same : (s : Stream) → accepted new s ≡ accepted old s
-  pub delivered_same : (s : Stream) → delivered new s ≡ delivered old s
+all_given : (b : ℕ) (e : LinkEnd) (opened : List Opened) (own theirs : ℕ) (flow : Flow)
+    → filter_map (delivered_message (stream_of b own theirs flow)) (flat_map (delivered_of b (shown_contact e)) opened) ≡ come_to e.contact e.peer_contact (messages_given opened) own theirs flow
+all_given b e [] own theirs flow = sym (either_way (flow_eq flow Zero && ((own == e.contact) && (theirs == e.peer_contact))) [])
+all_given b e (o ∷ os) own theirs flow =
+    let h = delivered_message (stream_of b own theirs flow) in
+    filter_map-append h (delivered_of b (shown_contact e) o) (flat_map (delivered_of b (shown_contact e)) os)
+    ∙ ap (λ xs. xs ++ filter_map h (flat_map (delivered_of b (shown_contact e)) os)) (one_given b e o own theirs flow)
+    ∙ ap (λ xs. come_to e.contact e.peer_contact (option_to_list (message_given o)) own theirs flow ++ xs) (all_given b e os own theirs flow)
+    ∙ come_front (flow_eq flow Zero && ((own == e.contact) && (theirs == e.peer_contact))) (message_given o) (messages_given os)
 
-pub same_streams : (old new : List Entry) → new ≡ old → KeepsStreams old new
-same_streams old new same = record { accepted_same = λ s. ap (λ es. accepted es s) same; delivered_same = λ s. ap (λ es. delivered es s) same }
+-- those of what a peer gave
+pub given_holds : (b : ℕ) (e : LinkEnd) (given : PairOutcome) (own theirs : ℕ) (flow : Flow)
+    → delivered (given_entries b e given) (stream_of b own theirs flow) ≡ come_to e.contact e.peer_contact (messages_given (opened_in given)) own theirs flow
+unfolding delivered
+given_holds b e given own theirs flow = all_given b e (opened_in given) own theirs flow
 
-pub quiet_call : (old new : List Entry) (step : NodeStep) → new ≡ old ++ step_entries step → IsQuiet step.inside → KeepsStreams old new
-quiet_call old new step is q = record {
-  accepted_same = λ s. ap (λ es. accepted es s) is ∙ accepted_step old step s ∙ ap (λ ms. accepted old s ++ ms) (q.accepted_none s) ∙ append-nil (accepted old s);
-  delivered_same = λ s. ap (λ es. delivered es s) is ∙ delivered_step old step s ∙ ap (λ ms. delivered old s ++ ms) (q.delivered_none s) ∙ append-nil (delivered old s);
-}
+-- ---- a step
 
-pub call_grew : (old new : List Entry) (step : NodeStep) (peer own theirs : ℕ) (accepts delivers : List Message) → new ≡ old ++ step_entries step
-    → Holds step.inside peer own theirs accepts delivers → Grew old new peer own theirs accepts delivers
-call_grew old new step peer own theirs accepts delivers is h = record {
-  accepted_is = λ b own' theirs' flow. let s = stream_of b own' theirs' flow in ap (λ es. accepted es s) is ∙ accepted_step old step s ∙ ap (λ ms. accepted old s ++ ms) (h.accepted_is b own' theirs' flow);
-  delivered_is = λ b own' theirs' flow. let s = stream_of b own' theirs' flow in ap (λ es. delivered es s) is ∙ delivered_step old step s ∙ ap (λ ms. delivered old s ++ ms) (h.delivered_is b own' theirs' flow);
-}
+-- what a step adds to the streams of a peer, where these entries of it are of the peer
+pub accepted_grows : (old new : List Entry) (s : NodeStep) (b : ℕ) (es : List Entry) (own theirs : ℕ) (flow : Flow) → new ≡ old ++ step_entries s → filter (is_accepted_for b) s.inside ≡ es
+    → accepted new (stream_of b own theirs flow) ≡ accepted old (stream_of b own theirs flow) ++ accepted es (stream_of b own theirs flow)
+accepted_grows old new s b es own theirs flow is of_peer =
+    let x = stream_of b own theirs flow in
+    ap (λ l. accepted l x) is ∙ accepted_step old s x ∙ ap (λ ms. accepted old x ++ ms) (sym (accepted_here b own theirs flow s.inside) ∙ ap (λ l. accepted l x) of_peer)
 
--- what grew by no message, and what kept its streams, are the same
-pub keeps_grew : (old new : List Entry) (peer own theirs : ℕ) → KeepsStreams old new → Grew old new peer own theirs [] []
-keeps_grew old new peer own theirs k = record {
-  accepted_is = λ b own' theirs' flow. let s = stream_of b own' theirs' flow in k.accepted_same s ∙ sym (append-nil (accepted old s)) ∙ ap (λ ms. accepted old s ++ ms) (sym (come_none peer own theirs b own' theirs' flow));
-  delivered_is = λ b own' theirs' flow. let s = stream_of b own' theirs' flow in k.delivered_same s ∙ sym (append-nil (delivered old s)) ∙ ap (λ ms. delivered old s ++ ms) (sym (come_none peer own theirs b own' theirs' flow));
-}
+pub delivered_grows : (old new : List Entry) (s : NodeStep) (b : ℕ) (es : List Entry) (own theirs : ℕ) (flow : Flow) → new ≡ old ++ step_entries s → filter (is_delivered_from b) s.inside ≡ es
+    → delivered new (stream_of b own theirs flow) ≡ delivered old (stream_of b own theirs flow) ++ delivered es (stream_of b own theirs flow)
+delivered_grows old new s b es own theirs flow is of_peer =
+    let x = stream_of b own theirs flow in
+    ap (λ l. delivered l x) is ∙ delivered_step old s x ∙ ap (λ ms. delivered old x ++ ms) (sym (delivered_here b own theirs flow s.inside) ∙ ap (λ l. delivered l x) of_peer)

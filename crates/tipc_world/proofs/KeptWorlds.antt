@@ -1,68 +1,56 @@
--- Every event keeps the journals of all nodes lawful, and each link as its node's journal tells it.
-use Rattle.std.proofs.Common.{length-append, ◌≡◌, ◌<◌, ◌==◌, ℕ, Bool, true, false, List, [], ◌∷◌, ◌++◌, Option, Some, None, if◌then◌else◌, length, map, take, slice_get, slice_index_or, slice_set, refl, sym, ap, ◌∙◌, subst, inl, inr, eqb-true, get_or-set_same, get_or-set_other, arith}
+-- Every event keeps the journals of all nodes lawful, and tells how long their links were silent.
+use Rattle.std.proofs.Common.{length-append, ◌≡◌, ◌<◌, ◌+◌, ◌==◌, ℕ, Bool, true, false, List, [], ◌∷◌, ◌++◌, Option, Some, None, if◌then◌else◌, length, map, take, slice_get, slice_index_or, slice_set, refl, sym, ap, ◌∙◌, subst, inl, inr, eqb-true, get_or-set_same, get_or-set_other, arith}
 use Rattle.std.specs.Prelude.{option_and_then, option_map}
 use Rattle.std.proofs.lemmas.Bool.{cases_eq}
-use Rattle.tipc_types.specs.declared.identity.PortId.{PortId}
-use Rattle.tipc_types.specs.declared.link_words.LinkState.TheVariants.{ResetUnknown}
-use Rattle.tipc_types.specs.declared.link_words.Why.{Why}
-use Rattle.tipc_types.specs.declared.message_forms.Importance.{Importance}
-use Rattle.tipc_types.specs.declared.message_forms.Message.{Message}
 use Rattle.tipc_types.specs.declared.node_calls.Answer.{Answer}
-use Rattle.tipc_types.specs.declared.node_calls.Answer.TheVariants as answer
-use Rattle.tipc_types.specs.declared.node_calls.Arrival.{Arrival}
-use Rattle.tipc_types.specs.declared.node_calls.Arrival.TheVariants as arrival
+use Rattle.tipc_types.specs.declared.node_calls.By.{By}
 use Rattle.tipc_types.specs.declared.node_calls.EventNote.{EventNote}
 use Rattle.tipc_types.specs.declared.node_calls.EventNote.TheVariants as note
 use Rattle.tipc_outside.specs.declared.outgoing.Outgoing.{Outgoing}
+use Rattle.tipc_fragments.specs.Joining.{fresh}
 use Rattle.tipc_journal.specs.declared.entries.Entry.{Entry}
 use Rattle.tipc_journal.specs.Prefixes.{IsPrefixOf}
-use Rattle.tipc_link.specs.Links.{LinkEnd, answered_end, mended_end}
-use Rattle.tipc_link.specs.Sessions.{as_waiting, SessionEnd}
+use Rattle.tipc_journal.specs.Steps.{NodeStep}
+use Rattle.tipc_link.specs.Links.{LinkEnd, mended_end}
+use Rattle.tipc_link.specs.Sessions.{SessionEnd}
 use Rattle.tipc_link_fsm.specs.Table.{is_up}
-use Rattle.tipc_node.specs.declared.neighbours.Deed.{Deed}
-use Rattle.tipc_node.specs.declared.neighbours.Deed.TheVariants as deed
-use Rattle.tipc_node.specs.declared.neighbours.Neighbour.{Neighbour}
-use Rattle.tipc_node.specs.Neighbours.{heard_neighbour, no_broadcast}
-use Rattle.tipc_node.specs.Nodes.{direct, limit_of, neighbour_of, new_pair, refusal, stop_of}
-use Rattle.tipc_world.specs.declared.air.Arrived.{Arrived}
-use Rattle.tipc_pair.specs.Partners.{begun_after}
-use Rattle.tipc_world.specs.declared.air.Sent.{Sent}
-use Rattle.tipc_world.specs.declared.events.WorldEvent.{WorldEvent}
-use Rattle.tipc_world.specs.declared.events.WorldEvent.TheVariants.{Know, Mend, Cut, Tick, Restart, Socket, SendPort, Receive, Arrive}
-use Rattle.tipc_world.specs.Air.{airborne}
-use Rattle.tipc_world.specs.Calls.{CanHappenAt, node_of}
-use Rattle.tipc_world.specs.Deeds.{Arrives, Does, Hears, Puts, Sends}
-use Rattle.tipc_world.specs.Due.{frame_for, kept_for, unarrived}
-use Rattle.tipc_world.specs.Events.{JoinsAt}
-use Rattle.tipc_world.specs.Causes.{arrived_frame, Seen, IsTakenIn}
-use Rattle.tipc_world.specs.Members.{by_in, deed_member, heard_member, known_member, receive_member, refused_member, sent_member, socket_member, stopped_member, IsNewcomer, IsRestarted}
-use Rattle.tipc_world.specs.Sound.{IsSound}
-use Rattle.tipc_world.specs.States.{MemberState, link_in, member_at}
-use Rattle.tipc_world.specs.Steps.{Becomes, Happens, IsArrival, Stage, Turns}
-use Rattle.tipc_world.specs.Watched.{AreWatched, IsWatched}
-use Rattle.tipc_world.proofs.Growing.{prefix_same}
-use Rattle.tipc_world.proofs.Heard.{IsAs, IsMet, arrival_met}
-use Rattle.tipc_world.proofs.HistoryEvents.{receive_step, refused_step, socket_step, stopped_step}
-use Rattle.tipc_world.proofs.Kept.{IsKept, deed_kept, get_last, kept_of, kept_wider, quiet_kept, seen_by, watched_of}
-use Rattle.tipc_world.proofs.KeptLinks.{IsArrived, heard_kept, heard_step, made_kept, put_kept, restarted_kept, started_kept}
-use Rattle.tipc_world.proofs.LookUps.{place_within}
-use Rattle.tipc_world.proofs.Moves.{tested}
-use Rattle.tipc_world.proofs.PairedEvents.{IsReady, reached_brings, unknown}
-use Rattle.tipc_world.proofs.Reaching.{IsReached, from_peer, placed}
-use Rattle.tipc_world.proofs.SoundWorlds.{HaveNextBoots}
-use Rattle.tipc_header.specs.Spelling.{spelling}
-use Rattle.tipc_fragments.specs.Joining.{fresh}
 use Rattle.tipc_reassembly.proofs.TraceLaws.{begun_none}
 use Rattle.tipc_pair.specs.Held.{KeepsBy}
-use Rattle.tipc_pair.specs.Partners.{opened_in}
-use Rattle.tipc_pair.proofs.Holding.{MetBy, arrival_by}
+use Rattle.tipc_node.specs.declared.neighbours.Neighbour.{Neighbour}
+use Rattle.tipc_node.specs.Calls.{Performs}
 use Rattle.tipc_node.specs.Neighbours.{neighbour}
+use Rattle.tipc_node.specs.Nodes.{NodeState, neighbour_of, new_pair}
+use Rattle.tipc_node.specs.Telling.{IsTold}
+use Rattle.tipc_node.specs.Turns.{NodeTurn, addr_of, link_in}
+use Rattle.tipc_node.proofs.Moves.{tested}
+use Rattle.tipc_world.specs.declared.air.Arrived.{Arrived}
+use Rattle.tipc_world.specs.declared.air.Sent.{Sent}
+use Rattle.tipc_world.specs.declared.events.WorldEvent.{WorldEvent}
+use Rattle.tipc_world.specs.declared.events.WorldEvent.TheVariants.{Know, Restart, Call, Arrive}
+use Rattle.tipc_world.specs.Air.{airborne}
+use Rattle.tipc_world.specs.Calls.{CanHappenAt, node_of}
+use Rattle.tipc_world.specs.Causes.{arrived_frame}
+use Rattle.tipc_world.specs.Deeds.{Does, Makes, Meets}
+use Rattle.tipc_world.specs.Due.{frame_for, kept_for, unarrived}
+use Rattle.tipc_world.specs.Events.{JoinsAt}
+use Rattle.tipc_world.specs.Members.{IsNewcomer, IsRestarted, known_member}
+use Rattle.tipc_world.specs.Sound.{IsSound}
 use Rattle.tipc_world.specs.Spelled.{HasBrought}
-use Rattle.tipc_world.specs.Watched.{addr_of, AreTraced}
-use Rattle.tipc_world.proofs.PairedSends.{session_there, session_up}
-use Rattle.tipc_world.proofs.Traced.{brings_packet, given_spelled, hears_by, put_keeps, traced_deed, traced_set, traced_wider}
+use Rattle.tipc_world.specs.States.{MemberState}
+use Rattle.tipc_world.specs.Steps.{Becomes, Happens, IsArrival, Stage, Turns}
+use Rattle.tipc_world.specs.Watched.{AreTraced, AreWatched, IsWatched}
+use Rattle.tipc_world.proofs.Bringing.{are_brought}
+use Rattle.tipc_world.proofs.Coming.{ComesOut, nothing_out, spoken_to}
+use Rattle.tipc_world.proofs.Growing.{prefix_same}
+use Rattle.tipc_world.proofs.Kept.{IsKept, get_last, kept_of, kept_wider, made_kept, restarted_kept, seen_by, started_kept, watched_of}
+use Rattle.tipc_world.proofs.LookUps.{place_within}
+use Rattle.tipc_world.proofs.PairedEvents.{IsReady, made_step, met_step, ready_out}
+use Rattle.tipc_world.proofs.Reaching.{placed}
+use Rattle.tipc_world.proofs.SoundWorlds.{HaveNextBoots}
 use Rattle.tipc_world.proofs.Stepping.{Widens, get_prefix}
-use Rattle.tipc_world.proofs.Turning.{was_there}
+use Rattle.tipc_world.proofs.TurnKept.{turn_kept}
+use Rattle.tipc_world.proofs.TurnStreams.{AreBrought}
+use Rattle.tipc_world.proofs.TurnTraced.{AreCarried, IsCarried, traced_set, traced_wider, turn_spelled, turn_traced}
 
 -- ---- the air and the arrivals
 
@@ -86,22 +74,38 @@ watched_wider air air' m longer w =
 kept_in : (air air' : List Sent) (m : MemberState) → IsPrefixOf air air' → IsWatched air m → IsKept (seen_by air' m) m.past m.node.journal (link_in m.node)
 kept_in air air' m longer w = kept_wider (seen_by air m) (seen_by air' m) m.past m.node.journal (link_in m.node) (air_widens air air' m longer) (kept_of air m w)
 
--- and one more frame arrives
-abbrev seen_with : List Sent → MemberState → ℕ → ℕ → Seen
-seen_with air m bearer place = record { air = air; arrivals = m.arrivals ++ record { bearer = bearer; frame = place } ∷ [] }
+-- ---- a turn
 
-kept_with : (air air' : List Sent) (m : MemberState) (bearer place : ℕ) → IsPrefixOf air air' → IsWatched air m → IsKept (seen_with air' m bearer place) m.past m.node.journal (link_in m.node)
-kept_with air air' m bearer place longer w =
-    kept_wider (seen_by air m) (seen_with air' m bearer place) m.past m.node.journal (link_in m.node) (record { air = longer; arrivals = (record { bearer = bearer; frame = place } ∷ [], refl) }) (kept_of air m w)
+-- a node took a turn while the air and its arrivals grew
+pub turn_watched : (air air' : List Sent) (m m' : MemberState) (bytes : List ℕ) (s : NodeStep) (frames : List Outgoing) → IsPrefixOf air air' → IsPrefixOf m.arrivals m'.arrivals → m'.past ≡ m.past → IsWatched air m → IsTold m.node → IsTold m'.node
+    → (t : NodeTurn m.node m'.node bytes s frames) → AreCarried (seen_by air' m') s bytes → AreBrought m.node m'.node bytes s frames t → IsWatched air' m'
+turn_watched air air' m m' bytes s frames longer more past w told told' t carried brings =
+    let seen = seen_by air' m' in
+    let grown : Widens (seen_by air m) seen = record { air = longer; arrivals = more } in
+    let traced = traced_wider (seen_by air m) seen m.node.neighbours grown w.traced in
+    let kept = kept_wider (seen_by air m) seen m.past m.node.journal (link_in m.node) grown (kept_of air m w) in
+    watched_of air' m' (subst (λ js. IsKept seen js m'.node.journal (link_in m'.node)) (sym past)
+    (turn_kept seen m.past m.node m'.node bytes s frames t kept told told' carried (turn_spelled seen m.node m'.node bytes s frames t traced carried brings)))
+    (turn_traced seen m.node m'.node bytes s frames t traced carried brings)
 
-traced_with : (air air' : List Sent) (m : MemberState) (bearer place : ℕ) → IsPrefixOf air air' → IsWatched air m → AreTraced (seen_with air' m bearer place) m.node.neighbours
-traced_with air air' m bearer place longer w =
-    traced_wider (seen_by air m) (seen_with air' m bearer place) m.node.neighbours (record { air = longer; arrivals = (record { bearer = bearer; frame = place } ∷ [], refl) }) w.traced
+-- an arrival isn't performed as a call
+never_arrives : (n n' : NodeState) (by : By) (call : EventNote) (frames : List Outgoing) (answered : Answer) → Performs n by call n' frames answered → (bearer number : ℕ) → call ≡ note.Arrive bearer number → ⊥
+never_arrives n n' by call frames answered h bearer number is = subst (λ c. Performs n by c n' frames answered) is h
 
-arrived_last : (air air' : List Sent) (m : MemberState) (bearer place : ℕ) (f : Sent) → IsPrefixOf air air' → slice_get air place ≡ Some f → arrived_frame (seen_with air' m bearer place) (length m.arrivals) ≡ Some f
+make_watched : (s : Stage) (air' : List Sent) (a stamp : ℕ) (call : EventNote) (m m' : MemberState) (frames : List Outgoing) (answered : Answer) → IsSound s.members s.air → IsPrefixOf s.air air' → slice_index_or s.members a None ≡ Some m
+    → IsWatched s.air m → Makes stamp call m m' frames answered → IsWatched air' m'
+make_watched s air' a stamp call m m' frames answered sound longer was w h =
+    let step = made_step stamp call m m' frames answered h in
+    turn_watched s.air air' m m' [] step frames longer (prefix_same m.arrivals m'.arrivals (ap (λ (x : MemberState). x.arrivals) h.after)) (ap (λ (x : MemberState). x.past) h.after) w h.turn.told_before h.turn.told h.turn.turn
+    (λ bearer number is. absurd (never_arrives m.node m'.node _ call frames answered h.performs bearer number is)) (are_brought s a m m' [] step frames sound was h.turn.turn (nothing_out s a))
+
+-- ---- an arrival
+
+arrived_last : (air air' : List Sent) (arrivals : List Arrived) (bearer place : ℕ) (f : Sent) → IsPrefixOf air air' → slice_get air place ≡ Some f
+    → arrived_frame (record { air = air'; arrivals = arrivals ++ record { bearer = bearer; frame = place } ∷ [] }) (length arrivals) ≡ Some f
 unfolding arrived_frame
-arrived_last air air' m bearer place f longer there =
-    ap (option_and_then (λ (x : Arrived). slice_get air' x.frame)) (get_last m.arrivals (record { bearer = bearer; frame = place })) ∙ get_prefix air air' place f longer there
+arrived_last air air' arrivals bearer place f longer there =
+    ap (option_and_then (λ (x : Arrived). slice_get air' x.frame)) (get_last arrivals (record { bearer = bearer; frame = place })) ∙ get_prefix air air' place f longer there
 
 -- a frame arrives on bearer 0 alone
 bearer_is : (air : List Sent) (n bearer k : ℕ) (f : Sent) → frame_for air n bearer k ≡ Some f → bearer ≡ 0
@@ -112,64 +116,43 @@ bearer_is air n bearer k f there = case (bearer == 0) refl there
     case true is e = eqb-true _ _ is
     case false is e = absurd cc
 
--- ---- calls that concern no link
+-- the frame of that place arrived at a node
+frame_carried : (s : Stage) (air' : List Sent) (a bearer place : ℕ) (f : Sent) (arrivals : List Arrived) → IsSound s.members s.air → IsPrefixOf s.air air' → frame_for s.air a bearer place ≡ Some f
+    → IsCarried (record { air = air'; arrivals = arrivals ++ record { bearer = bearer; frame = place } ∷ [] }) (length arrivals) f.frame
+frame_carried s air' a bearer place f arrivals sound longer there =
+    let spoken = spoken_to s a bearer place f sound there in
+    record {
+      frame = f;
+      arrived = arrived_last s.air air' arrivals bearer place f longer (placed s.air a bearer place f there).0;
+      bytes_are = refl;
+      sender = spoken.sender;
+      from = spoken.sent.from;
+      es = spoken.es;
+      er = spoken.er;
+      packet = spoken.packet;
+      is_from = spoken.is_from;
+    }
 
-socket_watched : (air air' : List Sent) (stamp : ℕ) (m : MemberState) → IsPrefixOf air air' → IsWatched air m → IsWatched air' (socket_member stamp m)
-socket_watched air air' stamp m longer w =
-    watched_of air' (socket_member stamp m) (quiet_kept (seen_by air' m) m.past m.node.journal (link_in m.node) (socket_step stamp m) (kept_in air air' m longer w) refl (λ bearer number e. absurd cc)
-    (λ p taken. (let is = taken.arrives.event_is in cc))) (traced_in air air' m longer w)
+are_carried : (s : Stage) (air' : List Sent) (a bearer place : ℕ) (f : Sent) (arrivals arrivals' : List Arrived) (step : NodeStep) → IsSound s.members s.air → IsPrefixOf s.air air' → frame_for s.air a bearer place ≡ Some f
+    → arrivals' ≡ arrivals ++ record { bearer = bearer; frame = place } ∷ [] → step.event ≡ note.Arrive bearer (length arrivals) → AreCarried (record { air = air'; arrivals = arrivals' }) step f.frame
+are_carried s air' a bearer place f arrivals arrivals' step sound longer there more call bearer' number is =
+    let both : note.Arrive bearer (length arrivals) ≡ note.Arrive bearer' number = sym call ∙ is in
+    let bearers : bearer ≡ bearer' = cc in
+    let numbers : length arrivals ≡ number = cc in
+    let last : Arrived = record { bearer = bearer; frame = place } in (
+      sym bearers ∙ bearer_is s.air a bearer place f there,
+      subst (λ k. IsCarried (record { air = air'; arrivals = arrivals' }) k f.frame) numbers
+          (subst (λ zs. IsCarried (record { air = air'; arrivals = zs }) (length arrivals) f.frame) (sym more) (frame_carried s air' a bearer place f arrivals sound longer there)),
+      ap length more ∙ length-append arrivals (last ∷ []) ∙ ap (λ k. k + 1) numbers,
+    )
 
-receive_watched : (air air' : List Sent) (stamp : ℕ) (m : MemberState) (port : ℕ) → IsPrefixOf air air' → IsWatched air m → IsWatched air' (receive_member stamp m port)
-receive_watched air air' stamp m port longer w =
-    watched_of air' (receive_member stamp m port) (quiet_kept (seen_by air' m) m.past m.node.journal (link_in m.node) (receive_step stamp m port) (kept_in air air' m longer w) refl (λ bearer number e. absurd cc)
-    (λ p taken. (let is = taken.arrives.event_is in cc))) (traced_in air air' m longer w)
-
-refused_watched : (air air' : List Sent) (stamp : ℕ) (m : MemberState) (port : ℕ) (to : PortId) (importance : Importance) (body : List ℕ) (reason : Answer) → IsPrefixOf air air' → IsWatched air m
-    → IsWatched air' (refused_member stamp m port to importance body reason)
-refused_watched air air' stamp m port to importance body reason longer w =
-    watched_of air' (refused_member stamp m port to importance body reason) (quiet_kept (seen_by air' m) m.past m.node.journal (link_in m.node) (refused_step stamp m port to importance body reason) (kept_in air air' m longer w) refl
-    (λ bearer number e. absurd cc) (λ p taken. (let is = taken.arrives.event_is in cc))) (traced_in air air' m longer w)
-
--- what is ignored isn't taken
-never_taken : (reason : Why) (answered : Arrival) → answer.Arrived (arrival.Ignored reason) ≡ answer.Arrived answered → IsTakenIn answered → ⊥
-never_taken reason (arrival.Took messages) is taken = absurd cc
-never_taken reason arrival.Deferred is taken = absurd cc
-never_taken reason (arrival.Ignored other) is taken = taken
-
-stopped_watched : (air air' : List Sent) (a stamp : ℕ) (m : MemberState) (bearer place : ℕ) (reason : Why) (f : Sent) → IsPrefixOf air air' → frame_for air a bearer place ≡ Some f → IsWatched air m
-    → IsWatched air' (stopped_member stamp m bearer place reason)
-stopped_watched air air' a stamp m bearer place reason f longer there w =
-    let seen = seen_with air' m bearer place in
-    let found = arrived_last air air' m bearer place f longer (placed air a bearer place f there).0 in
-    watched_of air' (stopped_member stamp m bearer place reason) (quiet_kept seen m.past m.node.journal (link_in m.node) (stopped_step stamp m bearer reason) (kept_with air air' m bearer place longer w) refl
-    (λ bearer' number e. (f, (let same : bearer' ≡ bearer = cc in same) ∙ bearer_is air a bearer place f there, ap (arrived_frame seen) (let same : number ≡ length m.arrivals = cc in same) ∙ found))
-    (λ p taken. never_taken reason taken.answered taken.answer_is taken.taken)) (traced_with air air' m bearer place longer w)
-
--- ---- deeds, and a message that is put
-
-deed_watched : (air air' : List Sent) (stamp : ℕ) (m : MemberState) (d : Deed) → IsPrefixOf air air' → IsWatched air m → IsWatched air' (deed_member stamp m d)
-deed_watched air air' stamp m d longer w =
-    watched_of air' (deed_member stamp m d) (deed_kept (seen_by air' m) m.past m.node.journal (by_in stamp m) d m.node.neighbours (kept_in air air' m longer w)) (traced_deed (seen_by air' m) d m.node.neighbours (traced_in air air' m longer w))
-
-put_watched : (air air' : List Sent) (stamp : ℕ) (event : EventNote) (peer : ℕ) (message : Message) (m m' : MemberState) (frames : List Outgoing) (answered : Answer) → IsPrefixOf air air' → IsWatched air m
-    → Puts stamp event peer message m m' frames answered → ((bearer number : ℕ) → event ≡ note.Arrive bearer number → ⊥) → IsWatched air' m'
-put_watched air air' stamp event peer message m m' frames answered longer w p other =
-    let x = p.neighbour in
-    subst (IsWatched air') (sym p.after)
-    (watched_of air' (sent_member stamp m event peer x p.put message)
-    (put_kept (seen_by air' m) m.past m.node.journal (by_in stamp m) event peer m.node.neighbours x _ message (kept_in air air' m longer w) p.neighbour_is (session_up x p.session p.session_is)
-    (record { fsm = refl; contact = refl; seen = refl }) other)
-    (traced_set (seen_by air' m) m.node.neighbours peer _ (place_within m.node.neighbours peer x p.neighbour_is) (traced_in air air' m longer w)
-    (put_keeps (HasBrought (seen_by air' m) (addr_of peer)) x p.session p.put _ (traced_in air air' m longer w peer x p.neighbour_is) (session_there x p.session p.session_is) p.put_is)))
-
-send_watched : (air air' : List Sent) (stamp port peer : ℕ) (to : PortId) (importance : Importance) (body : List ℕ) (m m' : MemberState) (frames : List Outgoing) (answered : Answer) → IsPrefixOf air air' → IsWatched air m
-    → Sends stamp port peer to importance body m m' frames answered → IsWatched air' m'
-send_watched air air' stamp port peer to importance body m m' frames answered longer w h = case (refusal m.node port peer (limit_of importance) body) refl
-  where
-    case : (o : Option Answer) → refusal m.node port peer (limit_of importance) body ≡ o → IsWatched air' m'
-    case None free =
-        put_watched air air' stamp (note.SendPort port to importance body) peer (direct m.node.own port to importance body) m m' frames answered longer w (h.sent free) (λ bearer number e. (let wrong : ⊥ = cc in wrong))
-    case (Some reason) stops = subst (IsWatched air') (sym (h.refused reason stops).0) (refused_watched air air' stamp m port to importance body reason longer w)
+meet_watched : (s : Stage) (air' : List Sent) (a stamp bearer place : ℕ) (f : Sent) (m m' : MemberState) (frames : List Outgoing) (answered : Answer) → IsSound s.members s.air → IsPrefixOf s.air air' → slice_index_or s.members a None ≡ Some m
+    → IsWatched s.air m → frame_for s.air a bearer place ≡ Some f → ComesOut s a f.frame → Meets stamp bearer place f.frame m m' frames answered → IsWatched air' m'
+meet_watched s air' a stamp bearer place f m m' frames answered sound longer was w there out h =
+    let step = met_step stamp bearer place f.frame m m' frames answered h in
+    let more : m'.arrivals ≡ m.arrivals ++ record { bearer = bearer; frame = place } ∷ [] = ap (λ (x : MemberState). x.arrivals) h.after in
+    turn_watched s.air air' m m' f.frame step frames longer (record { bearer = bearer; frame = place } ∷ [], more) (ap (λ (x : MemberState). x.past) h.after) w h.turn.told_before h.turn.told h.turn.turn
+    (are_carried s air' a bearer place f m.arrivals m'.arrivals step sound longer there more refl) (are_brought s a m m' f.frame step frames sound was h.turn.turn out)
 
 -- ---- a link end is made, and a boot begins
 
@@ -184,11 +167,11 @@ new_keeps P m peer = record {
     no_session true s has = cc
     no_session false s has = cc
 
-know_watched : (air air' : List Sent) (m m' : MemberState) (peer : ℕ) → IsPrefixOf air air' → IsWatched air m → m' ≡ known_member m peer → neighbour_of m.node peer ≡ None → peer < length m.node.neighbours → IsWatched air' m'
-know_watched air air' m m' peer longer w is none within =
-    let reset = tested (λ (e : LinkEnd). e.fsm.state ≡ ResetUnknown) m.node.mended (mended_end (new_pair m.node peer)) (new_pair m.node peer) (λ _. refl) (λ _. refl) in
+know_watched : (air air' : List Sent) (m m' : MemberState) (peer : ℕ) → IsPrefixOf air air' → IsWatched air m → m' ≡ known_member m peer → peer < length m.node.neighbours → IsWatched air' m'
+know_watched air air' m m' peer longer w is within =
+    let down = tested (λ (e : LinkEnd). is_up e.fsm.state ≡ false) m.node.mended (mended_end (new_pair m.node peer)) (new_pair m.node peer) (λ _. refl) (λ _. refl) in
     subst (IsWatched air') (sym is)
-    (watched_of air' (known_member m peer) (made_kept (seen_by air' m) m.past m.node.journal peer m.node.neighbours _ (kept_in air air' m longer w) none within reset)
+    (watched_of air' (known_member m peer) (made_kept (seen_by air' m) m.past m.node.journal peer m.node.neighbours _ (kept_in air air' m longer w) within down)
     (traced_set (seen_by air' m) m.node.neighbours peer _ within (traced_in air air' m longer w) (new_keeps (HasBrought (seen_by air' m) (addr_of peer)) m peer)))
 
 -- a node whose parts are these
@@ -210,81 +193,15 @@ newcomer_watched air m n c =
     watched_as air m [] [] [] c.arrivals c.past c.node.no_history
     (started_kept (record { air = air; arrivals = [] }) [] (link_in m.node) (λ k j there. absurd cc) (λ p. ap (λ o. option_map (λ (x : Neighbour). x.pair.link) o) (c.node.alone p))) c.node.alone
 
--- ---- a frame is heard
-
-answered_as : (e : LinkEnd) → IsAs e (answered_end e) e.fsm
-answered_as e = tested (λ (x : LinkEnd). IsAs e x e.fsm) (is_up e.fsm.state) _ _ (λ _. record { fsm = refl; contact = refl; seen = refl }) (λ _. record { fsm = refl; contact = refl; seen = refl })
-
-hear_watched : (s : Stage) (air' : List Sent) (a stamp bearer place : ℕ) (f : Sent) (m m' : MemberState) (frames : List Outgoing) (answered : Answer) → IsSound s.members s.air → IsPrefixOf s.air air' → slice_index_or s.members a None ≡ Some m → IsWatched s.air m
-    → frame_for s.air a bearer place ≡ Some f → unarrived s.members s.air a bearer place ≡ None → stop_of m.node bearer f.frame ≡ None → Hears stamp place f.frame m m' frames answered → IsWatched air' m'
-hear_watched s air' a stamp bearer place f m m' frames answered sound longer was w there free clear h =
-    let x = h.neighbour in
-    let p = h.packet in
-    let at = (placed s.air a bearer place f there).0 in
-    let reached : IsReached s a bearer place f m h.peer h.first h.second p = record { there = there; free = free; clear = clear; due = h.due; airborne = sound.frames place f at } in
-    let sender = from_peer s a bearer place f m h.peer h.first h.second p sound.pairs reached in
-    let kept = kept_with s.air air' m 0 place longer w in
-    let abreast = (w.told h.peer).abreast x.pair.link (ap (λ o. option_map (λ (y : Neighbour). y.pair.link) o) h.neighbour_is) in
-    let met : IsMet x.pair.link h.first p.header h.met = subst (IsMet x.pair.link h.first p.header) (sym h.met_is) (arrival_met x.pair.link h.first h.second p (length m.arrivals) (no_broadcast x.in_step) abreast) in
-    let arrived : IsArrived (seen_with air' m 0 place) h.peer (length m.arrivals) x.pair.link h.first h.second p h.met h.out = record {
-      frame = f;
-      arrived = arrived_last s.air air' m 0 place f longer at;
-      from = sender.from;
-      es_fits = h.due.first_fits;
-      fits = h.due.fits;
-      bytes = h.due.opened;
-      met = met;
-      begun = begun_after h.met.change x.pair.begun;
-      last = h.last;
-      opens = h.opens;
-    } in
-    let seen = seen_with air' m 0 place in
-    let P = HasBrought seen (addr_of h.peer) in
-    let step = heard_step (by_in stamp m) (length m.arrivals) h.peer h.met h.out in
-    let traced = traced_with s.air air' m 0 place longer w in
-    let brought : P (length m.arrivals) (spelling (as_waiting p)) = record {
-      frame = f;
-      arrived = arrived.arrived;
-      from = sender.from;
-      es = h.first;
-      er = h.second;
-      packet = p;
-      fits = h.due.fits;
-      frame_is = h.due.opened;
-      bytes_is = refl;
-    } in
-    let keeps = traced h.peer x h.neighbour_is in
-    let came = arrival_by P x.pair.link h.first h.second p (length m.arrivals) (no_broadcast x.in_step) keeps.held (brings_packet P p (length m.arrivals) brought) in
-    let hears = hears_by P x p h.met h.out h.last keeps (subst (MetBy P) (sym h.met_is) came) h.opens in
-    let brings = reached_brings s a stamp bearer place place f m m' frames answered sound was there free clear h in
-    let spelled = given_spelled seen step h.peer (length m.arrivals) (opened_in h.out) refl (length-append m.arrivals (record { bearer = 0; frame = place } ∷ [])) hears.opened brings.known in
-    subst (IsWatched air') (sym h.after)
-    (watched_of air' (heard_member stamp m place h.peer x p h.met h.out h.last)
-    (heard_kept seen m.past m.node.journal (by_in stamp m) (length m.arrivals) h.peer h.first h.second m.node.neighbours x (heard_neighbour x p h.met h.last) p h.met h.out kept h.neighbour_is arrived spelled (answered_as h.met.after))
-    (traced_set seen m.node.neighbours h.peer _ (place_within m.node.neighbours h.peer x h.neighbour_is) traced hears.keeps))
-
-arrive_watched : (s : Stage) (air' : List Sent) (a stamp bearer place : ℕ) (f : Sent) (m m' : MemberState) (frames : List Outgoing) (answered : Answer) → IsSound s.members s.air → IsPrefixOf s.air air' → slice_index_or s.members a None ≡ Some m → IsWatched s.air m
-    → frame_for s.air a bearer place ≡ Some f → unarrived s.members s.air a bearer place ≡ None → Arrives stamp bearer place f.frame m m' frames answered → IsWatched air' m'
-arrive_watched s air' a stamp bearer place f m m' frames answered sound longer was w there free h = case (stop_of m.node bearer f.frame) refl
-  where
-    case : (o : Option Why) → stop_of m.node bearer f.frame ≡ o → IsWatched air' m'
-    case None clear = hear_watched s air' a stamp bearer place f m m' frames answered sound longer was w there free clear (h.heard clear)
-    case (Some reason) stops = subst (IsWatched air') (sym (h.stopped reason stops).0) (stopped_watched s.air air' a stamp m bearer place reason f longer there w)
-
 -- ---- all events
 
 does_watched : (s : Stage) (air' : List Sent) (stamp : ℕ) (event : WorldEvent) (bytes : List ℕ) (m m' : MemberState) (frames : List Outgoing) (answered : Answer) → IsSound s.members s.air → IsPrefixOf s.air air'
-    → slice_index_or s.members (node_of event) None ≡ Some m → member_at s.members (node_of event) ≡ Some m → IsWatched s.air m → IsReady s.members s.air event bytes m → Does stamp event bytes m m' frames answered → IsWatched air' m'
-does_watched s air' stamp (Know a peer) bytes m m' frames answered sound longer here was w ready h = know_watched s.air air' m m' peer longer w h.0 (unknown s a peer m was ready.2) h.3
-does_watched s air' stamp (Mend a bearer) bytes m m' frames answered sound longer here was w ready h = subst (IsWatched air') (sym h.0) (deed_watched s.air air' stamp m deed.Mend longer w)
-does_watched s air' stamp (Cut a bearer) bytes m m' frames answered sound longer here was w ready h = subst (IsWatched air') (sym h.0) (deed_watched s.air air' stamp m deed.Cut longer w)
-does_watched s air' stamp (Tick a) bytes m m' frames answered sound longer here was w ready h = subst (IsWatched air') (sym h.0) (deed_watched s.air air' stamp m deed.Tick longer w)
-does_watched s air' stamp (Restart a) bytes m m' frames answered sound longer here was w ready h = restart_watched s.air air' m m' longer w h.0
-does_watched s air' stamp (Socket a) bytes m m' frames answered sound longer here was w ready h = subst (IsWatched air') (sym h.0) (socket_watched s.air air' stamp m longer w)
-does_watched s air' stamp (SendPort a port to importance body) bytes m m' frames answered sound longer here was w ready h = send_watched s.air air' stamp port h.0 to importance body m m' frames answered longer w h.1
-does_watched s air' stamp (Receive a port) bytes m m' frames answered sound longer here was w ready h = subst (IsWatched air') (sym h.0) (receive_watched s.air air' stamp m port longer w)
-does_watched s air' stamp (Arrive a bearer place) bytes m m' frames answered sound longer here was w ready h =
-    arrive_watched s air' a stamp bearer place ready.0 m m' frames answered sound longer here w ready.1 ready.2 (subst (λ bs. Arrives stamp bearer place bs m m' frames answered) ready.3 h)
+    → slice_index_or s.members (node_of event) None ≡ Some m → IsWatched s.air m → IsReady s.members s.air event bytes m → Does stamp event bytes m m' frames answered → IsWatched air' m'
+does_watched s air' stamp (Know a peer) bytes m m' frames answered sound longer here w ready h = know_watched s.air air' m m' peer longer w h.0 h.3
+does_watched s air' stamp (Restart a) bytes m m' frames answered sound longer here w ready h = restart_watched s.air air' m m' longer w h.0
+does_watched s air' stamp (Call a call) bytes m m' frames answered sound longer here w ready h = make_watched s air' a stamp call m m' frames answered sound longer here w h
+does_watched s air' stamp (Arrive a bearer place) bytes m m' frames answered sound longer here w ready h =
+    meet_watched s air' a stamp bearer place ready.0 m m' frames answered sound longer here w ready.1 (subst (ComesOut s a) ready.3 (ready_out s a bearer place bytes m sound ready)) (subst (λ bs. Meets stamp bearer place bs m m' frames answered) ready.3 h)
 
 -- ---- the world
 
@@ -305,7 +222,7 @@ happens_watched old new stamp event bytes answered lost sound all h ready =
     let longer = air_longer old new a h.before h.after h.frames lost h.turns in
     subst (λ ms. AreWatched ms new.air) (sym h.turns.members)
     (set_watched old.members old.air new.air a h.before h.after h.turns.was all longer
-    (does_watched old new.air stamp event bytes h.before h.after h.frames answered sound longer h.turns.was (was_there old new a h.before h.after h.frames lost h.turns) (all a h.before h.turns.was) ready h.does))
+    (does_watched old new.air stamp event bytes h.before h.after h.frames answered sound longer h.turns.was (all a h.before h.turns.was) ready h.does))
 
 arrival_watched : (old new : Stage) (stamp node bearer place : ℕ) (answered : Answer) (lost : Bool) → IsSound old.members old.air → AreWatched old.members old.air → IsArrival old new stamp node bearer place answered lost
     → AreWatched new.members new.air
@@ -321,14 +238,9 @@ arrival_watched old new stamp node bearer place answered lost sound all h = case
 pub becomes_watched : (old new : Stage) (stamp : ℕ) (event : WorldEvent) (answered : Answer) (lost : Bool) → IsSound old.members old.air → AreWatched old.members old.air → HaveNextBoots old.members → CanHappenAt old.members event
     → Becomes old stamp event new answered lost → AreWatched new.members new.air
 becomes_watched old new stamp (Know node peer) answered lost sound all boots can h = happens_watched old new stamp (Know node peer) [] answered lost sound all h (can.2, can.1, can.3)
-becomes_watched old new stamp (Mend node bearer) answered lost sound all boots can h = happens_watched old new stamp (Mend node bearer) [] answered lost sound all h tt
-becomes_watched old new stamp (Cut node bearer) answered lost sound all boots can h = happens_watched old new stamp (Cut node bearer) [] answered lost sound all h tt
-becomes_watched old new stamp (Tick node) answered lost sound all boots can h = happens_watched old new stamp (Tick node) [] answered lost sound all h tt
 becomes_watched old new stamp (Restart node) answered lost sound all boots can h =
     happens_watched old new stamp (Restart node) [] answered lost sound all h (let next = boots node h.before h.turns.was in omega arith)
-becomes_watched old new stamp (Socket node) answered lost sound all boots can h = happens_watched old new stamp (Socket node) [] answered lost sound all h tt
-becomes_watched old new stamp (SendPort node port to importance body) answered lost sound all boots can h = happens_watched old new stamp (SendPort node port to importance body) [] answered lost sound all h tt
-becomes_watched old new stamp (Receive node port) answered lost sound all boots can h = happens_watched old new stamp (Receive node port) [] answered lost sound all h tt
+becomes_watched old new stamp (Call node call) answered lost sound all boots can h = happens_watched old new stamp (Call node call) [] answered lost sound all h tt
 becomes_watched old new stamp (Arrive node bearer place) answered lost sound all boots can h = arrival_watched old new stamp node bearer place answered lost sound all h
 
 -- where no nodes are

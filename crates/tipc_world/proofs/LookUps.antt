@@ -1,14 +1,10 @@
 -- Look-ups through the nodes of a world of which one changed.
-use Rattle.std.proofs.Common.{◌≡◌, ◌≢◌, ℕ, ◌<◌, Bool, true, false, List, [], ◌∷◌, Option, Some, None, length, option_map, option_and_then, unwrap_or, slice_index_or, slice_set, if◌then◌else◌, refl, ap, ◌∙◌, inl, inr, get_or-set_same, get_or-set_other, arith}
-use Rattle.std.specs.Map.{lookup}
+use Rattle.std.proofs.Common.{◌≡◌, ◌≢◌, ℕ, ◌<◌, Bool, true, false, List, [], Option, Some, None, length, option_map, option_and_then, unwrap_or, slice_index_or, slice_set, if◌then◌else◌, refl, ap, inl, inr, get_or-set_same, get_or-set_other}
 use Rattle.std.proofs.lemmas.Bool.{cases_lt}
-use Rattle.std.proofs.lemmas.Bool.Decides.{nat_tests}
 use Rattle.std.proofs.lemmas.List.{get_or_past}
-use Rattle.indexmap.specs.IndexMap.{insert_entry}
-use Rattle.tipc_link.specs.Sessions.{SessionEnd}
-use Rattle.tipc_world.specs.Members.{noted_session}
 use Rattle.tipc_fragments.specs.Joining.{fresh}
-use Rattle.tipc_world.specs.States.{MemberState, begun_at, begun_in, boot_at, count_at, count_in, history, history_at, link_at, link_in, member_at, same_session}
+use Rattle.tipc_node.specs.Turns.{link_in}
+use Rattle.tipc_world.specs.States.{MemberState, begun_at, begun_in, boot_at, count_at, count_of, history, history_at, link_at, member_at}
 
 -- a choice of the same
 pub either_way : {A : Type 0} (t : Bool) (x : A) → (if t then x else x) ≡ x
@@ -56,9 +52,9 @@ pub history_at-is : (members : List (Option MemberState)) (a : ℕ) (m : MemberS
 unfolding history_at
 history_at-is members a m is = ap (λ o. unwrap_or (option_map history o) []) is
 
-pub count_at-is : (members : List (Option MemberState)) (a b epoch : ℕ) (m : MemberState) → member_at members a ≡ Some m → count_at members a b epoch ≡ count_in m.counts b epoch
+pub count_at-is : (members : List (Option MemberState)) (a b epoch : ℕ) (m : MemberState) → member_at members a ≡ Some m → count_at members a b epoch ≡ count_of m b epoch
 unfolding count_at
-count_at-is members a b epoch m is = ap (λ o. unwrap_or (option_map (λ (n : MemberState). count_in n.counts b epoch) o) 0) is
+count_at-is members a b epoch m is = ap (λ o. unwrap_or (option_map (λ (n : MemberState). count_of n b epoch) o) 0) is
 
 pub boot_at-same : (members members' : List (Option MemberState)) (a : ℕ) → member_at members' a ≡ member_at members a → boot_at members' a ≡ boot_at members a
 unfolding boot_at
@@ -78,44 +74,4 @@ history_at-same members members' a is = ap (λ o. unwrap_or (option_map history 
 
 pub count_at-same : (members members' : List (Option MemberState)) (a b epoch : ℕ) → member_at members' a ≡ member_at members a → count_at members' a b epoch ≡ count_at members a b epoch
 unfolding count_at
-count_at-same members members' a b epoch is = ap (λ o. unwrap_or (option_map (λ (n : MemberState). count_in n.counts b epoch) o) 0) is
-
--- ---- counts of which one was noted
-
-lookup_inserted : (counts : List ((ℕ × ℕ) × ℕ)) (key : ℕ × ℕ) (count : ℕ) → lookup (same_session key) (insert_entry same_session counts key count) ≡ Some count
-lookup_inserted [] key count = grind (arith, nat_tests)
-lookup_inserted (e ∷ es) key count = case (lookup_inserted es key count) (same_session key e.0) refl
-  where
-    case : lookup (same_session key) (insert_entry same_session es key count) ≡ Some count → (b : Bool) → same_session key e.0 ≡ b → lookup (same_session key) (if b then (e.0, count) ∷ es else e ∷ insert_entry same_session es key count) ≡ Some count
-    case later true is = rw is refl
-    case later false is = rw is later
-
--- two sessions that are the same to a third
-same_both : (s t u : ℕ × ℕ) → same_session s t ≡ true → same_session u t ≡ same_session u s
-same_both s t u same = grind (arith, nat_tests)
-
-lookup_apart : (counts : List ((ℕ × ℕ) × ℕ)) (key other : ℕ × ℕ) (count : ℕ) → same_session other key ≡ false → lookup (same_session other) (insert_entry same_session counts key count) ≡ lookup (same_session other) counts
-lookup_apart [] key other count apart = rw apart refl
-lookup_apart (e ∷ es) key other count apart = case (lookup_apart es key other count apart) (same_session key e.0) refl
-  where
-    case : lookup (same_session other) (insert_entry same_session es key count) ≡ lookup (same_session other) es → (b : Bool) → same_session key e.0 ≡ b → lookup (same_session other) (if b then (e.0, count) ∷ es else e ∷ insert_entry same_session es key count) ≡ lookup (same_session other) (e ∷ es)
-    case later true is = let not_here : same_session other e.0 ≡ false = same_both key e.0 other is ∙ apart in rw not_here refl
-    case later false is = ap (λ o. if same_session other e.0 then Some e.1 else o) later
-
-pub count_in-noted : (counts : List ((ℕ × ℕ) × ℕ)) (peer : ℕ) (s : SessionEnd) → count_in (noted_session counts peer (Some s)) peer s.epoch ≡ s.sending.numbered
-unfolding count_in
-count_in-noted counts peer s = ap (λ o. unwrap_or o 0) (lookup_inserted counts (peer, s.epoch) s.sending.numbered)
-
-pub count_in-apart : (counts : List ((ℕ × ℕ) × ℕ)) (peer other epoch : ℕ) (session : Option SessionEnd) → ((s : SessionEnd) → session ≡ Some s → same_session (other, epoch) (peer, s.epoch) ≡ false)
-    → count_in (noted_session counts peer session) other epoch ≡ count_in counts other epoch
-unfolding count_in
-count_in-apart counts peer other epoch None apart = refl
-count_in-apart counts peer other epoch (Some s) apart = ap (λ o. unwrap_or o 0) (lookup_apart counts (peer, s.epoch) (other, epoch) s.sending.numbered (apart s refl))
-
--- the counts of another epoch, and those of another peer
-pub count_in-epoch : (counts : List ((ℕ × ℕ) × ℕ)) (peer epoch : ℕ) (session : Option SessionEnd) → ((s : SessionEnd) → session ≡ Some s → s.epoch ≢ epoch)
-    → count_in (noted_session counts peer session) peer epoch ≡ count_in counts peer epoch
-count_in-epoch counts peer epoch session apart = count_in-apart counts peer peer epoch session (λ s is. let other = apart s is in grind (arith, nat_tests, other))
-
-pub count_in-peer : (counts : List ((ℕ × ℕ) × ℕ)) (peer other epoch : ℕ) (session : Option SessionEnd) → other ≢ peer → count_in (noted_session counts peer session) other epoch ≡ count_in counts other epoch
-count_in-peer counts peer other epoch session apart = count_in-apart counts peer other epoch session (λ s is. grind (arith, nat_tests, apart))
+count_at-same members members' a b epoch is = ap (λ o. unwrap_or (option_map (λ (n : MemberState). count_of n b epoch) o) 0) is

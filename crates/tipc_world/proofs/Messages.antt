@@ -1,19 +1,16 @@
 -- Messages that can be sent, and their packets.
-use Rattle.std.proofs.Common.{◌≡◌, ℕ, false, List, Some, refl, sym, ap, subst, ◌∙◌, arith}
-use Rattle.tipc_types.specs.declared.identity.PortId.{PortId}
-use Rattle.tipc_types.specs.declared.message_forms.Form.TheVariants as form
-use Rattle.tipc_types.specs.declared.message_forms.Importance.{Importance}
+use Rattle.std.proofs.Common.{◌≡◌, ℕ, List, [], ◌∷◌, Some, map, refl, sym, ap, subst, ◌∙◌}
+use Rattle.std.specs.Prelude.{All}
+use Rattle.std.proofs.lemmas.List.Elements.{All-cons, All-head, All-nil, All-tail}
 use Rattle.tipc_types.specs.declared.message_forms.Message.{Message}
-use Rattle.tipc_header.specs.declared.packet.Payload.{Payload as Words}
+use Rattle.tipc_types.specs.declared.message_forms.Message.TheVariants.{Items, Payload}
 use Rattle.tipc_header.specs.Grammar.{Fits}
 use Rattle.tipc_header.specs.Spelling.{Fields, spelling}
 use Rattle.tipc_header.proofs.RoundTrip.{one_packet}
 use Rattle.tipc_message.specs.Wire.{message_of, packet_of, payload_of, payload_packet}
 use Rattle.tipc_message.proofs.WireLaws.{message_of-packet_of}
 use Rattle.tipc_pair.specs.Partners.{IsMessage}
-use Rattle.tipc_node.specs.Nodes.{direct}
-use Rattle.tipc_world.specs.Members.{bytes_of, spelled}
-use Rattle.tipc_world.specs.Sound.{IsSendable}
+use Rattle.tipc_node.specs.Turns.{IsSendable, bytes_of, origin_of, spelled}
 use Rattle.tipc_world.proofs.Outcomes.{some_is}
 
 -- the bytes of a message are those of its packet
@@ -28,26 +25,27 @@ same_bytes m m' h h' same =
     let packets = one_packet h.packet h'.packet h.fits h'.fits spellings in
     some_is m m' (sym (message_of-packet_of m h.packet h.payload h.packet_is) ∙ ap message_of packets ∙ message_of-packet_of m' h'.packet h'.payload h'.packet_is)
 
--- the packet of a user's message is one
-words_message : (own : ℕ) (w : Words) (body : List ℕ) → Fits (payload_packet own w body) → IsMessage own (spelling (payload_packet own w body))
-words_message own w body f = record { packet = payload_packet own w body; spelled = refl; fits = f; waits = refl; inside = refl }
-
-direct_message : (own port : ℕ) (to : PortId) (importance : Importance) (body : List ℕ) (p : Fields) → packet_of (direct own port to importance body) ≡ Some p → Fits p → IsMessage own (spelling p)
+-- the packet of a user's message is one of its node
+pub message_is : (own : ℕ) (m : Message) → IsSendable m → origin_of m ≡ Some own → IsMessage own (bytes_of m)
 unfolding packet_of
-direct_message own port to importance body p is fits =
-    let w = payload_of importance form.Direct (record { node = record { word = own }; port = port }) to 0 0 0 0 false in
-    let same = some_is (payload_packet own w body) p is in
-    subst (λ q. IsMessage own (spelling q)) same (words_message own w body (subst Fits (sym same) fits))
+message_is own (Payload importance form from to kind lower upper code droppable body) h origin =
+    let m = Payload importance form from to kind lower upper code droppable body in
+    let w = payload_of importance form from to kind lower upper code droppable in
+    let same : payload_packet from.node.word w body ≡ h.packet = some_is _ h.packet h.packet_is in
+    let is : from.node.word ≡ own = some_is from.node.word own origin in
+    let one : IsMessage from.node.word (bytes_of m) = record {
+      packet = payload_packet from.node.word w body;
+      spelled = bytes_are m h.packet h.packet_is ∙ ap spelling (sym same);
+      fits = subst Fits (sym same) h.fits;
+      waits = refl;
+      inside = refl;
+    } in
+    subst (λ n. IsMessage n (bytes_of m)) is one
+message_is own (Items withdrawal items) h origin = absurd h.payload
 
-pub message_is : (own port : ℕ) (to : PortId) (importance : Importance) (body : List ℕ) → (let m = direct own port to importance body in IsSendable m → IsMessage own (bytes_of m))
-message_is own port to importance body h =
-    let m = direct own port to importance body in
-    subst (IsMessage own) (sym (bytes_are m h.packet h.packet_is)) (direct_message own port to importance body h.packet h.packet_is h.fits)
-
--- a user's message to a port that fits a packet can be sent
-pub direct_sendable : (own port : ℕ) (to : PortId) (importance : Importance) (body : List ℕ) (p : Fields) → packet_of (direct own port to importance body) ≡ Some p → Fits p → IsSendable (direct own port to importance body)
-unfolding packet_of
-direct_sendable own port to importance body p is fits =
-    let w = payload_of importance form.Direct (record { node = record { word = own }; port = port }) to 0 0 0 0 false in
-    let rest = (subst Fits (sym (some_is (payload_packet own w body) p is)) fits).rest in
-    record { packet = p; packet_is = is; fits = fits; payload = ((refl, refl, refl), omega arith, rest) }
+pub messages_are : (own : ℕ) (ms : List Message) → All IsSendable ms → All (λ m. origin_of m ≡ Some own) ms → All (IsMessage own) (map bytes_of ms)
+messages_are own [] sendable origin = All-nil (IsMessage own)
+messages_are own (m ∷ ms) sendable origin =
+    let mine : Message → Type 0 = λ n. origin_of n ≡ Some own in
+    All-cons (IsMessage own) (bytes_of m) (map bytes_of ms) (message_is own m (All-head IsSendable m ms sendable) (All-head mine m ms origin))
+    (messages_are own ms (All-tail IsSendable m ms sendable) (All-tail mine m ms origin))

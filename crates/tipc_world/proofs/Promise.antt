@@ -9,8 +9,8 @@ use Rattle.tipc_link.proofs.LinkLaw.{Each}
 use Rattle.tipc_partners.proofs.Sights.{front}
 use Rattle.tipc_world.specs.declared.air.Sent.{Sent}
 use Rattle.tipc_world.specs.Good.{IsGood}
-use Rattle.tipc_world.specs.Members.{bytes_of}
-use Rattle.tipc_world.specs.Sound.{IsSendable, IsSound}
+use Rattle.tipc_node.specs.Turns.{IsSendable, bytes_of}
+use Rattle.tipc_world.specs.Sound.{IsSound}
 use Rattle.tipc_world.specs.States.{MemberState, WorldState, accepted_at, delivered_at}
 use Rattle.tipc_world.specs.Views.{sight_at}
 use Rattle.tipc_world.specs.Watched.{AreWatched}
@@ -39,7 +39,7 @@ pair_promise : (members : List (Option MemberState)) (air : List Sent) (a b own 
 unfolding sight_at accepted_at delivered_at
 pair_promise members air a b own theirs h some =
     let numbers = h.nothing b a own theirs some in
-    messages_in_front (delivered_at members b a own theirs Zero) (accepted_at members a b theirs own Zero) (h.delivered b a own theirs) (h.accepted a b theirs own)
+    messages_in_front (delivered_at members b a own theirs Zero) (accepted_at members a b theirs own Zero) (h.delivered b a own theirs) (λ k m is. (h.accepted a b theirs own k m is).0)
     (front (sight_at members air b a) (sight_at members air a b) (h.pairs b a numbers.0 numbers.1 numbers.2) own theirs)
 
 -- what was delivered in flow Zero is nothing, or was delivered between two nodes

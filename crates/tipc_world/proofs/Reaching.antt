@@ -1,55 +1,34 @@
--- A frame that reaches a link was sent by its peer, and isn't too old.
-use Rattle.std.proofs.Common.{◌≡◌, ◌≢◌, ◌≤◌, ◌<◌, ◌+◌, ◌-◌, ◌^◌, ◌==◌, ◌&&◌, ℕ, zero, suc, Bool, true, false, List, [], ◌∷◌, Option, Some, None, length, max, option_map, if◌then◌else◌, refl, sym, ap, ◌∙◌, subst, eqb-true, arith}
+-- The frame that arrives among those that its sender sent, and its age.
+use Rattle.std.proofs.Common.{◌≡◌, ◌≤◌, ◌<◌, ◌+◌, ◌-◌, ◌^◌, ◌==◌, ℕ, Bool, true, false, List, Option, Some, None, length, max, option_map, if◌then◌else◌, refl, sym, ap, ◌∙◌, subst, eqb-true, arith}
 use Rattle.std.specs.Prelude.{drop, nat_lt, slice_get}
 use Rattle.std.specs.List.{filter}
-use Rattle.std.proofs.lemmas.List.{drop_at}
 use Rattle.std.proofs.lemmas.Option.{slice_get-map}
 use Rattle.std.proofs.lemmas.Bool.Decides.{nat_tests}
 use Rattle.tipc_types.specs.Address.{node_word}
 use Rattle.tipc_types.specs.declared.identity.To.{To}
 use Rattle.tipc_types.specs.declared.identity.To.TheVariants as to
-use Rattle.tipc_types.specs.declared.link_words.Why.TheVariants as why
 use Rattle.tipc_types.specs.declared.node_calls.Answer.TheVariants as answer
-use Rattle.tipc_header.specs.declared.fault.HeaderFault.{HeaderFault}
 use Rattle.tipc_header.specs.Faults.{fault_of}
-use Rattle.tipc_header.specs.Frames.{envelope, frame_of}
-use Rattle.tipc_header.specs.Grammar.{Fits}
+use Rattle.tipc_header.specs.Frames.{frame_of}
 use Rattle.tipc_header.specs.Reading.{fields_at}
-use Rattle.tipc_header.specs.Spelling.{Fields, spelling}
-use Rattle.tipc_header.proofs.Again.{again}
-use Rattle.tipc_header.proofs.FrameWords.{length-envelope}
+use Rattle.tipc_header.specs.Spelling.{Fields}
 use Rattle.tipc_link.specs.Links.{is_traffic}
-use Rattle.tipc_partners.proofs.Frames.{er_of-frame, es_of-frame, same_packet}
-use Rattle.tipc_partners.specs.Sights.{Comes}
-use Rattle.tipc_partners.specs.Views.{Frame, er_of, es_of}
-use Rattle.tipc_partners.proofs.Sights.{frames}
-use Rattle.tipc_node.specs.declared.neighbours.Neighbour.{Neighbour}
-use Rattle.tipc_node.specs.Calls.{IsDue}
-use Rattle.tipc_node.specs.Nodes.{is_frame_size, stop_among, stop_by_fault, stop_of}
+use Rattle.tipc_partners.proofs.Frames.{er_of-frame, es_of-frame}
+use Rattle.tipc_partners.specs.Views.{er_of, es_of}
+use Rattle.tipc_node.specs.Nodes.{is_frame_size}
 use Rattle.tipc_world.specs.declared.air.Sent.{Sent}
-use Rattle.tipc_world.specs.Air.{as_frame, goes, is_to, number_of_node, sent_between}
+use Rattle.tipc_node.specs.Turns.{is_to}
+use Rattle.tipc_world.specs.Air.{as_frame, goes, number_of_node, sent_between}
 use Rattle.tipc_world.specs.Due.{age_by_fault, age_of, frame_for, is_for, kept_for, session_age, stopped_by_age, unarrived}
-use Rattle.tipc_world.specs.Sound.{IsAirborne, IsNumber}
 use Rattle.tipc_world.specs.States.{MemberState, count_at}
-use Rattle.tipc_world.specs.Steps.{Stage}
-use Rattle.tipc_world.specs.Views.{sight_at}
-use Rattle.tipc_world.proofs.Turning.{AllPaired, PartnersIn, sight_in}
+use Rattle.tipc_world.proofs.Stepping.{passes}
 
 -- ---- the frame among those that its sender sent
-
-filtered_at : {A : Type 0} (p : A → Bool) (xs : List A) (k : ℕ) (x : A) → slice_get xs k ≡ Some x → p x ≡ true → (j : ℕ) × (slice_get (filter p xs) j ≡ Some x)
-filtered_at p [] k x there passes = absurd cc
-filtered_at p (y ∷ ys) zero x there passes = (0, (let same : y ≡ x = cc in rw (ap p same ∙ passes) there))
-filtered_at p (y ∷ ys) (suc k) x there passes = case (filtered_at p ys k x there passes) (p y) refl
-  where
-    case : (j : ℕ) × (slice_get (filter p ys) j ≡ Some x) → (b : Bool) → p y ≡ b → (j : ℕ) × (slice_get (if b then y ∷ filter p ys else filter p ys) j ≡ Some x)
-    case later true is = (suc later.0, later.1)
-    case later false is = later
 
 pub sent_at : (air : List Sent) (a b place : ℕ) (f : Sent) → slice_get air place ≡ Some f → goes a b f ≡ true → (j : ℕ) × (slice_get (sent_between air a b) j ≡ Some (as_frame f))
 unfolding sent_between
 sent_at air a b place f there is =
-    let found = filtered_at (goes a b) air place f there is in
+    let found = passes (goes a b) air place f there is in
     (found.0, slice_get-map as_frame (filter (goes a b) air) found.0 ∙ ap (option_map as_frame) found.1)
 
 -- ---- the frame that arrives
@@ -71,7 +50,7 @@ placed air n bearer k f e = case (bearer == 0) e
     case false e = absurd cc
 
 -- a frame for node n alone, and for b, is for the same node
-same_receiver : (n b : ℕ) (t : To) → is_for t n ≡ true → is_to b t ≡ true → n ≡ b
+pub same_receiver : (n b : ℕ) (t : To) → is_for t n ≡ true → is_to b t ≡ true → n ≡ b
 same_receiver n b (to.Node address) is_n is_b = let one : address.word ≡ node_word n = eqb-true _ _ is_n in let two : address.word ≡ node_word b = eqb-true _ _ is_b in omega arith
 same_receiver n b to.All is_n is_b = absurd cc
 
@@ -88,24 +67,12 @@ young_at members n (Some g) f is free = let same : g ≡ f = cc in subst (λ h. 
     case true is free = absurd cc
     case false is free = grind (arith, nat_tests, is)
 
-young : (members : List (Option MemberState)) (air : List Sent) (n bearer k : ℕ) (f : Sent) → frame_for air n bearer k ≡ Some f → unarrived members air n bearer k ≡ None → age_of members f n ≤ 30000
+pub young : (members : List (Option MemberState)) (air : List Sent) (n bearer k : ℕ) (f : Sent) → frame_for air n bearer k ≡ Some f → unarrived members air n bearer k ≡ None → age_of members f n ≤ 30000
 unfolding unarrived
 young members air n bearer k f there free = young_at members n (frame_for air n bearer k) f there free
 
--- a frame that reaches a link has a frame's size and a packet without fault
-clear_by : (own : ℕ) (mended : Bool) (xs : List (Option Neighbour)) (bearer : ℕ) (bytes : List ℕ) → stop_among own mended xs bearer bytes ≡ None → (is_frame_size (length bytes) ≡ true) × (fault_of (drop 16 bytes) ≡ None)
-unfolding stop_among
-clear_by own mended xs bearer bytes free = case (mended && (bearer == 0)) (is_frame_size (length bytes)) refl (fault_of (drop 16 bytes)) refl free
-  where
-    case : (b size : Bool) → is_frame_size (length bytes) ≡ size → (o : Option HeaderFault) → fault_of (drop 16 bytes) ≡ o
-        → (if b then (if size then stop_by_fault own xs bytes o else Some why.Envelope) else Some why.Cut) ≡ None → (is_frame_size (length bytes) ≡ true) × (fault_of (drop 16 bytes) ≡ None)
-    case true true size None fault free = (size, fault)
-    case true true size (Some reason) fault free = absurd cc
-    case true false size o fault free = absurd cc
-    case false size_ size o fault free = absurd cc
-
 -- the age of a STATE or a numbered packet is that of its session
-age_is : (members : List (Option MemberState)) (f : Sent) (n : ℕ) (p : Fields) → is_frame_size (length f.frame) ≡ true → fault_of (drop 16 f.frame) ≡ None → fields_at (drop 16 f.frame) ≡ p → is_traffic p.header ≡ true → age_of members f n ≡ session_age members f n
+pub age_is : (members : List (Option MemberState)) (f : Sent) (n : ℕ) (p : Fields) → is_frame_size (length f.frame) ≡ true → fault_of (drop 16 f.frame) ≡ None → fields_at (drop 16 f.frame) ≡ p → is_traffic p.header ≡ true → age_of members f n ≡ session_age members f n
 unfolding age_of
 age_is members f n p size clear is traffic =
     let read : is_traffic (fields_at (drop 16 f.frame)).header ≡ true = ap (λ (q : Fields). is_traffic q.header) is ∙ traffic in
@@ -116,11 +83,11 @@ number_is : (word n : ℕ) → word ≡ node_word n → number_of_node word ≡ 
 number_is word n is = omega (arith, is)
 
 -- how many packets were numbered since, in each direction
-record IsYoung (members : List (Option MemberState)) (f : Sent) (a peer es er : ℕ) : Type 0 where
+pub record IsYoung (members : List (Option MemberState)) (f : Sent) (a peer es er : ℕ) : Type 0 where
   pub sender : count_at members peer a es ≤ f.numbered + 30000
   pub receiver : count_at members a peer er ≤ f.peer_numbered + 30000
 
-young_session : (members : List (Option MemberState)) (f : Sent) (a peer es er : ℕ) (packet : List ℕ) → f.from.word ≡ node_word peer → es < 2 ^ 64 → er < 2 ^ 64 → f.frame ≡ frame_of es er packet → session_age members f a ≤ 30000 → IsYoung members f a peer es er
+pub young_session : (members : List (Option MemberState)) (f : Sent) (a peer es er : ℕ) (packet : List ℕ) → f.from.word ≡ node_word peer → es < 2 ^ 64 → er < 2 ^ 64 → f.frame ≡ frame_of es er packet → session_age members f a ≤ 30000 → IsYoung members f a peer es er
 young_session members f a peer es er packet from es_fits er_fits bytes few =
     let es_is : es_of f.frame ≡ es = ap (λ b. es_of b) bytes ∙ es_of-frame es er packet es_fits er_fits in
     let er_is : er_of f.frame ≡ er = ap (λ b. er_of b) bytes ∙ er_of-frame es er packet es_fits er_fits in
@@ -130,67 +97,3 @@ young_session members f a peer es er packet from es_fits er_fits bytes few =
     ∙ ap (λ n. max (count_at members peer a n - f.numbered) (count_at members a peer (er_of f.frame) - f.peer_numbered)) es_is
     ∙ ap (λ n. max (count_at members peer a es - f.numbered) (count_at members a peer n - f.peer_numbered)) er_is in
     record { sender = omega (arith, named, few); receiver = omega (arith, named, few) }
-
--- ---- a frame that arrives, for the pair
-
--- the frame of that place in the air reaches the link to a peer, and brings it this packet under these epochs
-pub record IsReached (s : Stage) (a bearer place : ℕ) (f : Sent) (m : MemberState) (peer first second : ℕ) (p : Fields) : Type 0 where
-  pub there : frame_for s.air a bearer place ≡ Some f
-  pub free : unarrived s.members s.air a bearer place ≡ None
-  pub clear : stop_of m.node bearer f.frame ≡ None
-  pub due : IsDue m.node f.frame peer first second p
-  pub airborne : IsAirborne f
-
--- it was sent by the peer
-pub record IsFromPeer (s : Stage) (a : ℕ) (f : Sent) (peer : ℕ) : Type 0 where
-  pub number : IsNumber peer
-  pub apart : peer ≢ a
-  pub from : f.from.word ≡ node_word peer
-  pub place : ℕ
-  pub there : slice_get (sent_between s.air peer a) place ≡ Some (as_frame f)
-
-spoken_by : (s : Stage) (from a : ℕ) (f : Frame) (place first second : ℕ) (p : Fields) → PartnersIn s s from a → slice_get (sent_between s.air from a) place ≡ Some f
-    → Fits p → f.bytes ≡ frame_of first second (spelling p) → p.previous ≡ node_word from
-unfolding sight_at
-spoken_by s from a f place first second p h there fits bytes =
-    let spoken = frames (sight_in s from a) (sight_in s a from) place f h there in
-    let same : spoken.packet ≡ p = same_packet spoken.es spoken.er first second spoken.packet p spoken.fits fits (sym spoken.bytes ∙ bytes) in
-    ap (λ (q : Fields). q.previous) (sym same) ∙ spoken.previous
-
-pub from_peer : (s : Stage) (a bearer place : ℕ) (f : Sent) (m : MemberState) (peer first second : ℕ) (p : Fields) → AllPaired s → IsReached s a bearer place f m peer first second p → IsFromPeer s a f peer
-from_peer s a bearer place f m peer first second p paired r =
-    let flown = r.airborne in
-    let from = flown.from in
-    let at = placed s.air a bearer place f r.there in
-    let here : flown.receiver ≡ a = sym (same_receiver a flown.receiver f.to at.1 flown.to_is) in
-    let apart : from ≢ a = λ e. flown.apart (e ∙ sym here) in
-    let found = sent_at s.air from a place f at.0 (goes_there from a f flown.from_is (subst (λ n. is_to n f.to ≡ true) here flown.to_is)) in
-    let h = paired from a flown.from_number (subst IsNumber here flown.receiver_number) apart in
-    let said = spoken_by s from a (as_frame f) found.0 first second p h found.1 r.due.fits r.due.opened in
-    let named = r.due.previous in
-    let same : from ≡ peer = omega (arith, said, named) in
-    let there : IsFromPeer s a f from = record { number = flown.from_number; apart = apart; from = flown.from_is; place = found.0; there = found.1 } in
-    subst (λ n. IsFromPeer s a f n) same there
-
-pub comes : (s : Stage) (a bearer place : ℕ) (f : Sent) (m : MemberState) (peer first second : ℕ) (p : Fields) → AllPaired s → IsReached s a bearer place f m peer first second p
-    → Comes (sight_in s a peer) (sight_in s peer a) 0 first second p
-unfolding sight_at
-comes s a bearer place f m peer first second p paired r =
-    let sent = from_peer s a bearer place f m peer first second p paired r in
-    let clear = clear_by m.node.own m.node.mended m.node.neighbours bearer f.frame r.clear in
-    let read : fields_at (drop 16 f.frame) ≡ p = ap (λ b. fields_at (drop 16 b)) r.due.opened ∙ ap fields_at (drop_at (envelope first second) (spelling p) 16 (length-envelope first second)) ∙ again p r.due.fits in
-    let age = young s.members s.air a bearer place f r.there r.free in
-    let fresh : is_traffic p.header ≡ true → IsYoung s.members f a peer first second = λ traffic.
-    young_session s.members f a peer first second (spelling p) sent.from r.due.first_fits r.due.second_fits r.due.opened (subst (λ n. n ≤ 30000) (age_is s.members f a p clear.0 clear.1 read traffic) age) in
-    record {
-      place = sent.place;
-      frame = as_frame f;
-      there = sent.there;
-      bearer_is = refl;
-      es_fits = r.due.first_fits;
-      er_fits = r.due.second_fits;
-      fits = r.due.fits;
-      bytes = r.due.opened;
-      own_fresh = λ traffic. (fresh traffic).receiver;
-      peer_fresh = λ traffic. (fresh traffic).sender;
-    }

@@ -1,43 +1,34 @@
 -- Every event keeps a world sound.
-use Rattle.std.proofs.Common.{◌≡◌, ◌≢◌, ℕ, Bool, true, List, [], Option, Some, None, length, option_map, slice_index_or, slice_set, refl, sym, ap, ◌∙◌, subst, inl, inr, get_or-set_same, get_or-set_other}
+use Rattle.std.proofs.Common.{◌≡◌, ◌≢◌, ℕ, Bool, true, List, [], Option, Some, None, option_map, slice_index_or, refl, sym, ap, ◌∙◌, subst, inl, inr, get_or-set_same, get_or-set_other}
 use Rattle.std.specs.Prelude.{is_some}
 use Rattle.std.proofs.lemmas.Bool.{cases_eq}
 use Rattle.tipc_types.specs.Address.{node_word}
-use Rattle.tipc_types.specs.declared.identity.PortId.{PortId}
-use Rattle.tipc_types.specs.declared.link_words.Why.{Why}
-use Rattle.tipc_types.specs.declared.message_forms.Importance.{Importance}
-use Rattle.tipc_types.specs.declared.message_forms.Message.{Message}
 use Rattle.tipc_types.specs.declared.node_calls.Answer.{Answer}
-use Rattle.tipc_types.specs.declared.node_calls.EventNote.{EventNote}
 use Rattle.tipc_outside.specs.declared.outgoing.Outgoing.{Outgoing}
-use Rattle.tipc_node.specs.declared.neighbours.Deed.{Deed}
+use Rattle.tipc_journal.specs.Steps.{NodeStep}
 use Rattle.tipc_node.specs.declared.neighbours.Neighbour.{Neighbour}
-use Rattle.tipc_node.specs.Neighbours.{heard_frames, in_step_after, met_by, no_broadcast}
-use Rattle.tipc_node.specs.Nodes.{after_one, direct, known_frames, limit_of, neighbour_of, refusal, stop_of}
-use Rattle.tipc_pair.specs.Partners.{opened_in}
+use Rattle.tipc_node.specs.Nodes.{known_frames}
+use Rattle.tipc_node.specs.Turns.{link_in}
 use Rattle.tipc_world.specs.declared.air.Sent.{Sent}
 use Rattle.tipc_world.specs.declared.events.WorldEvent.{WorldEvent}
-use Rattle.tipc_world.specs.declared.events.WorldEvent.TheVariants.{Know, Mend, Cut, Tick, Restart, Socket, SendPort, Receive, Arrive}
+use Rattle.tipc_world.specs.declared.events.WorldEvent.TheVariants.{Know, Restart, Call, Arrive}
 use Rattle.tipc_world.specs.Calls.{node_of}
-use Rattle.tipc_world.specs.Deeds.{Arrives, Does, Hears, Puts, Sends, TakesPart}
-use Rattle.tipc_world.specs.Members.{IsRestarted, heard_member, known_member, receive_member, refused_member, sent_member, socket_member, stopped_member}
+use Rattle.tipc_world.specs.Deeds.{Does}
+use Rattle.tipc_world.specs.Members.{IsRestarted, known_member}
 use Rattle.tipc_world.specs.Sound.{IsNumber, IsSound}
-use Rattle.tipc_world.specs.States.{MemberState, link_at, link_in, member_at}
+use Rattle.tipc_world.specs.States.{MemberState, link_at, member_at}
 use Rattle.tipc_world.specs.Steps.{Happens, Stage, Turns}
-use Rattle.tipc_world.proofs.Addressing.{AreFor, flush_for, heard_all_for}
-use Rattle.tipc_world.proofs.HistoryPackets.{Brings}
+use Rattle.tipc_world.proofs.Bringing.{are_brought}
+use Rattle.tipc_world.proofs.Coming.{ComesOut, nothing_out}
+use Rattle.tipc_world.proofs.Histories.{history_restarted, history_same}
 use Rattle.tipc_world.proofs.LookUps.{link_at-is, link_at-same, place_within}
-use Rattle.tipc_world.proofs.PairedDeeds.{done_for}
-use Rattle.tipc_world.proofs.PairedEvents.{IsReady, acquainted, happens_pairs, reached_brings}
-use Rattle.tipc_world.proofs.PairedSends.{put_peer, session_there}
+use Rattle.tipc_world.proofs.PairedEvents.{IsReady, happens_pairs, made_step, made_turn, met_step, met_turn, ready_out}
 use Rattle.tipc_world.proofs.PairedStarts.{known_for}
+use Rattle.tipc_world.proofs.PairedTurns.{TakesTurn, turn_history}
 use Rattle.tipc_world.proofs.Routes.{AreRouted, air_flies, routed_all, routed_for}
-use Rattle.tipc_world.proofs.Shares.{after_at}
-use Rattle.tipc_world.proofs.Standing.{all_names, neighbour_apart}
-use Rattle.tipc_world.proofs.StreamsEvents.{BringsMessages, happens_keeps_streams}
+use Rattle.tipc_world.proofs.Standing.{acquainted, neighbour_apart}
+use Rattle.tipc_world.proofs.StreamsKept.{StreamsSound, streams_of, streams_same, turn_streams}
 use Rattle.tipc_world.proofs.Turning.{is_there, others_stay, was_there}
-use Rattle.tipc_types.specs.declared.node_calls.EventNote.TheVariants as note
-use Rattle.tipc_node.specs.declared.neighbours.Deed.TheVariants as deed
 
 -- ---- the node
 
@@ -60,73 +51,14 @@ no_neighbour xs b none = case (slice_index_or xs b None) none
     case None none = refl
     case (Some x) none = absurd cc
 
-keeps_quiet : (a : ℕ) (before after then_ : MemberState) (frames : List Outgoing) → after ≡ then_ → then_.node.own ≡ before.node.own → then_.node.neighbours ≡ before.node.neighbours → frames ≡ [] → KeepsNode a None before after frames
-keeps_quiet a before after then_ frames is own same none = record {
-  own = ap (λ (m : MemberState). m.node.own) is ∙ own;
-  none = λ b _ was. ap (λ (m : MemberState). link_in m.node b) is ∙ ap (λ xs. option_map (λ (y : Neighbour). y.pair.link) (slice_index_or xs b None)) same ∙ was;
-  routed = subst (AreRouted a) (sym none) tt;
+-- a node's turn
+keeps_turn : (s : Stage) (a : ℕ) (before after : MemberState) (bytes : List ℕ) (step : NodeStep) (frames : List Outgoing) → IsSound s.members s.air → slice_index_or s.members a None ≡ Some before → member_at s.members a ≡ Some before
+    → TakesTurn before after bytes step frames → KeepsNode a None before after frames
+keeps_turn s a before after bytes step frames sound there was t = record {
+  own = t.turn.own;
+  none = λ b _ none. ap (λ o. option_map (λ (x : Neighbour). x.pair.link) o) (t.turn.alone b (no_neighbour before.node.neighbours b none));
+  routed = routed_all a before.node frames (λ b x is. neighbour_apart s a before (acquainted s.members s.air a before sound there) was b x is) t.turn.routed;
 }
-
-keeps_deed : (s : Stage) (a stamp : ℕ) (d : Deed) (before after : MemberState) (frames : List Outgoing) (answered : Answer) → IsSound s.members s.air → slice_index_or s.members a None ≡ Some before → member_at s.members a ≡ Some before
-    → TakesPart stamp d before after frames answered → KeepsNode a None before after frames
-keeps_deed s a stamp d before after frames answered sound there was h =
-    let knows = acquainted s.members s.air a before sound there in record {
-      own = ap (λ (m : MemberState). m.node.own) h.0;
-      none = λ b _ none. ap (λ (m : MemberState). link_in m.node b) h.0 ∙ ap (λ o. option_map (λ (x : Neighbour). x.pair.link) o) (after_at d before.node.neighbours b ∙ ap (after_one d) (no_neighbour before.node.neighbours b none));
-      routed = subst (AreRouted a) (sym h.1) (routed_all d a before.node.neighbours (λ k x is.
-          let other = neighbour_apart s a before knows was k x is in
-          routed_for a k _ other.0 other.1 (done_for d x (node_word k) (all_names s a before knows sound.pairs was k x is))));
-    }
-
--- one neighbour changed
-keeps_one : (s : Stage) (a peer : ℕ) (before after then_ : MemberState) (frames : List Outgoing) (x y : Neighbour) → IsSound s.members s.air → slice_index_or s.members a None ≡ Some before → member_at s.members a ≡ Some before
-    → neighbour_of before.node peer ≡ Some x → after ≡ then_ → then_.node.own ≡ before.node.own → then_.node.neighbours ≡ slice_set before.node.neighbours peer (Some y)
-    → AreFor (node_word peer) frames → KeepsNode a None before after frames
-keeps_one s a peer before after then_ frames x y sound there was has is own same all =
-    let other = neighbour_apart s a before (acquainted s.members s.air a before sound there) was peer x has in record {
-      own = ap (λ (m : MemberState). m.node.own) is ∙ own;
-      none = λ b _ none.
-          let apart : b ≢ peer = λ e. let here : link_in before.node peer ≡ None = ap (link_in before.node) (sym e) ∙ none in let wrong : Some x ≡ None = sym has ∙ no_neighbour before.node.neighbours peer here in absurd cc in
-          ap (λ (m : MemberState). link_in m.node b) is ∙ ap (λ xs. option_map (λ (y : Neighbour). y.pair.link) (slice_index_or xs b None)) same
-          ∙ ap (λ o. option_map (λ (y : Neighbour). y.pair.link) o) (get_or-set_other before.node.neighbours peer b (Some y) None apart) ∙ none;
-      routed = routed_for a peer frames other.0 other.1 all;
-    }
-
-keeps_put : (s : Stage) (a stamp : ℕ) (event : EventNote) (peer : ℕ) (message : Message) (before after : MemberState) (frames : List Outgoing) (answered : Answer) → IsSound s.members s.air → slice_index_or s.members a None ≡ Some before
-    → member_at s.members a ≡ Some before → Puts stamp event peer message before after frames answered → KeepsNode a None before after frames
-keeps_put s a stamp event peer message before after frames answered sound there was p =
-    let x = p.neighbour in
-    let t = p.session in
-    let names = all_names s a before (acquainted s.members s.air a before sound there) sound.pairs was peer x p.neighbour_is in
-    keeps_one s a peer before after (sent_member stamp before event peer x p.put message) frames x _ sound there was p.neighbour_is p.after refl refl
-    (subst (AreFor (node_word peer)) (sym p.frames_are) (flush_for (node_word peer) p.put (subst (λ w. w ≡ node_word peer) (sym (put_peer t _ p.put p.put_is)) (names.session t (session_there x t p.session_is)))))
-
-keeps_heard : (s : Stage) (a stamp place : ℕ) (bytes : List ℕ) (before after : MemberState) (frames : List Outgoing) (answered : Answer) → IsSound s.members s.air → slice_index_or s.members a None ≡ Some before
-    → member_at s.members a ≡ Some before → Hears stamp place bytes before after frames answered → KeepsNode a None before after frames
-keeps_heard s a stamp place bytes before after frames answered sound there was h =
-    let x = h.neighbour in
-    let p = h.packet in
-    let m = met_by x h.first h.second p (length before.arrivals) in
-    let names = all_names s a before (acquainted s.members s.air a before sound there) sound.pairs was h.peer x h.neighbour_is in
-    let frames_are : frames ≡ heard_frames x p m = h.frames_are ∙ ap (heard_frames x p) h.met_is in
-    keeps_one s a h.peer before after (heard_member stamp before place h.peer x p h.met h.out h.last) frames x _ sound there was h.neighbour_is h.after refl refl
-    (subst (AreFor (node_word h.peer)) (sym frames_are) (heard_all_for (node_word h.peer) x.pair.link h.first h.second p (length before.arrivals) (no_broadcast x.in_step) (no_broadcast (in_step_after x p m)) names))
-
-keeps_send : (s : Stage) (a stamp port peer : ℕ) (to : PortId) (importance : Importance) (body : List ℕ) (before after : MemberState) (frames : List Outgoing) (answered : Answer) → IsSound s.members s.air
-    → slice_index_or s.members a None ≡ Some before → member_at s.members a ≡ Some before → Sends stamp port peer to importance body before after frames answered → KeepsNode a None before after frames
-keeps_send s a stamp port peer to importance body before after frames answered sound there was h = case (refusal before.node port peer (limit_of importance) body) refl
-  where
-    case : (o : Option Answer) → refusal before.node port peer (limit_of importance) body ≡ o → KeepsNode a None before after frames
-    case None free = keeps_put s a stamp (note.SendPort port to importance body) peer (direct before.node.own port to importance body) before after frames answered sound there was (h.sent free)
-    case (Some why) stops = let r = h.refused why stops in keeps_quiet a before after (refused_member stamp before port to importance body why) frames r.0 refl refl r.1
-
-keeps_arrival : (s : Stage) (a stamp bearer place : ℕ) (bytes : List ℕ) (before after : MemberState) (frames : List Outgoing) (answered : Answer) → IsSound s.members s.air → slice_index_or s.members a None ≡ Some before
-    → member_at s.members a ≡ Some before → Arrives stamp bearer place bytes before after frames answered → KeepsNode a None before after frames
-keeps_arrival s a stamp bearer place bytes before after frames answered sound there was h = case (stop_of before.node bearer bytes) refl
-  where
-    case : (o : Option Why) → stop_of before.node bearer bytes ≡ o → KeepsNode a None before after frames
-    case None clear = keeps_heard s a stamp place bytes before after frames answered sound there was (h.heard clear)
-    case (Some why) stops = let r = h.stopped why stops in keeps_quiet a before after (stopped_member stamp before bearer place why) frames r.0 refl refl r.1
 
 keeps_restart : (a : ℕ) (before after : MemberState) (frames : List Outgoing) → IsRestarted before after → frames ≡ [] → KeepsNode a None before after frames
 keeps_restart a before after frames r none = record {
@@ -155,14 +87,11 @@ there_number members air n sound there = case (slice_index_or members n None) re
 keeps : (s : Stage) (stamp : ℕ) (event : WorldEvent) (bytes : List ℕ) (before after : MemberState) (frames : List Outgoing) (answered : Answer) → IsSound s.members s.air → slice_index_or s.members (node_of event) None ≡ Some before
     → member_at s.members (node_of event) ≡ Some before → IsReady s.members s.air event bytes before → Does stamp event bytes before after frames answered → KeepsNode (node_of event) (comes_to_know event) before after frames
 keeps s stamp (Know a peer) bytes before after frames answered sound there was ready h = keeps_know a peer before after frames (there_number s.members s.air peer sound ready.1) ready.0 h.0 h.1
-keeps s stamp (Mend a bearer) bytes before after frames answered sound there was ready h = keeps_deed s a stamp deed.Mend before after frames answered sound there was h
-keeps s stamp (Cut a bearer) bytes before after frames answered sound there was ready h = keeps_deed s a stamp deed.Cut before after frames answered sound there was h
-keeps s stamp (Tick a) bytes before after frames answered sound there was ready h = keeps_deed s a stamp deed.Tick before after frames answered sound there was h
 keeps s stamp (Restart a) bytes before after frames answered sound there was ready h = keeps_restart a before after frames h.0 h.1
-keeps s stamp (Socket a) bytes before after frames answered sound there was ready h = keeps_quiet a before after (socket_member stamp before) frames h.0 refl refl h.1
-keeps s stamp (SendPort a port to importance body) bytes before after frames answered sound there was ready h = keeps_send s a stamp port h.0 to importance body before after frames answered sound there was h.1
-keeps s stamp (Receive a port) bytes before after frames answered sound there was ready h = keeps_quiet a before after (receive_member stamp before port) frames h.0 refl refl h.1
-keeps s stamp (Arrive a bearer place) bytes before after frames answered sound there was ready h = keeps_arrival s a stamp bearer place bytes before after frames answered sound there was h
+keeps s stamp (Call a call) bytes before after frames answered sound there was ready h =
+    keeps_turn s a before after [] (made_step stamp call before after frames answered h) frames sound there was (made_turn stamp call before after frames answered h)
+keeps s stamp (Arrive a bearer place) bytes before after frames answered sound there was ready h =
+    keeps_turn s a before after bytes (met_step stamp bearer place bytes before after frames answered h) frames sound there was (met_turn stamp bearer place bytes before after frames answered h)
 
 -- ---- the world
 
@@ -170,13 +99,8 @@ keeps s stamp (Arrive a bearer place) bytes before after frames answered sound t
 known_there : (members : List (Option MemberState)) (air : List Sent) (event : WorldEvent) (bytes : List ℕ) (m : MemberState) (peer : ℕ) → IsReady members air event bytes m → comes_to_know event ≡ Some peer
     → (peer ≢ node_of event) × (is_some (slice_index_or members peer None) ≡ true)
 known_there members air (Know a k) bytes m peer ready is = let same : k ≡ peer = cc in (subst (λ n. n ≢ a) same ready.0, subst (λ n. is_some (slice_index_or members n None) ≡ true) same ready.1)
-known_there members air (Mend a b) bytes m peer ready is = absurd cc
-known_there members air (Cut a b) bytes m peer ready is = absurd cc
-known_there members air (Tick a) bytes m peer ready is = absurd cc
 known_there members air (Restart a) bytes m peer ready is = absurd cc
-known_there members air (Socket a) bytes m peer ready is = absurd cc
-known_there members air (SendPort a port to importance body) bytes m peer ready is = absurd cc
-known_there members air (Receive a port) bytes m peer ready is = absurd cc
+known_there members air (Call a call) bytes m peer ready is = absurd cc
 known_there members air (Arrive a b place) bytes m peer ready is = absurd cc
 
 table_other : (old new : Stage) (a : ℕ) (before after : MemberState) (frames : List Outgoing) (lost : Bool) → Turns old new a before after frames lost → (n : ℕ) → n ≢ a → slice_index_or new.members n None ≡ slice_index_or old.members n None
@@ -214,20 +138,23 @@ was_absent old new a before after frames lost t b none = elim (cases_eq b a) [
   | inr apart ↦ sym (table_other old new a before after frames lost t b apart) ∙ none
 ]
 
--- what an arrival that reaches a link brings
-brings : (s : Stage) (stamp : ℕ) (event : WorldEvent) (bytes : List ℕ) (before after : MemberState) (frames : List Outgoing) (answered : Answer) → IsSound s.members s.air → slice_index_or s.members (node_of event) None ≡ Some before
-    → IsReady s.members s.air event bytes before → BringsMessages stamp event bytes before after frames answered
-brings s stamp (Know a peer) bytes before after frames answered sound there ready = tt
-brings s stamp (Mend a bearer) bytes before after frames answered sound there ready = tt
-brings s stamp (Cut a bearer) bytes before after frames answered sound there ready = tt
-brings s stamp (Tick a) bytes before after frames answered sound there ready = tt
-brings s stamp (Restart a) bytes before after frames answered sound there ready = tt
-brings s stamp (Socket a) bytes before after frames answered sound there ready = tt
-brings s stamp (SendPort a port to importance body) bytes before after frames answered sound there ready = tt
-brings s stamp (Receive a port) bytes before after frames answered sound there ready = tt
-brings s stamp (Arrive a bearer place) bytes before after frames answered sound there ready =
-    subst (λ bs. stop_of before.node bearer bs ≡ None → (h : Hears stamp place bs before after frames answered) → Brings h.neighbour.pair.link h.met (opened_in h.out)) (sym ready.3)
-    (λ clear h. reached_brings s a stamp bearer place place ready.0 before after frames answered sound there ready.1 ready.2 clear h)
+-- ---- what was accepted and delivered
+
+taken_streams : (old new : Stage) (a : ℕ) (before after : MemberState) (bytes : List ℕ) (step : NodeStep) (frames : List Outgoing) (lost : Bool) → IsSound old.members old.air → Turns old new a before after frames lost
+    → TakesTurn before after bytes step frames → ComesOut old a bytes → StreamsSound new.members
+taken_streams old new a before after bytes step frames lost sound t turn out =
+    turn_streams old.members new.members old.air a before after bytes step frames sound t.was t.members (turn_history before after bytes step frames turn) turn.turn (are_brought old a before after bytes step frames sound t.was turn.turn out)
+
+streams_after : (old new : Stage) (stamp : ℕ) (event : WorldEvent) (bytes : List ℕ) (before after : MemberState) (frames : List Outgoing) (answered : Answer) (lost : Bool) → IsSound old.members old.air
+    → Turns old new (node_of event) before after frames lost → IsReady old.members old.air event bytes before → Does stamp event bytes before after frames answered → StreamsSound new.members
+streams_after old new stamp (Know a peer) bytes before after frames answered lost sound t ready h =
+    streams_same old.members new.members a before after (streams_of old.members old.air sound) t.was t.members (history_same before after (ap (λ (m : MemberState). m.past) h.0) (ap (λ (m : MemberState). m.node.journal) h.0))
+streams_after old new stamp (Restart a) bytes before after frames answered lost sound t ready h =
+    streams_same old.members new.members a before after (streams_of old.members old.air sound) t.was t.members (history_restarted before after h.0)
+streams_after old new stamp (Call a call) bytes before after frames answered lost sound t ready h =
+    taken_streams old new a before after [] (made_step stamp call before after frames answered h) frames lost sound t (made_turn stamp call before after frames answered h) (nothing_out old a)
+streams_after old new stamp (Arrive a bearer place) bytes before after frames answered lost sound t ready h =
+    taken_streams old new a before after bytes (met_step stamp bearer place bytes before after frames answered h) frames lost sound t (met_turn stamp bearer place bytes before after frames answered h) (ready_out old a bearer place bytes before sound ready)
 
 -- after every event a sound world is sound
 pub happens_sound : (old new : Stage) (stamp : ℕ) (event : WorldEvent) (bytes : List ℕ) (answered : Answer) (lost : Bool) → IsSound old.members old.air → (h : Happens old new stamp event bytes answered lost)
@@ -238,7 +165,7 @@ happens_sound old new stamp event bytes answered lost sound h ready =
     let was = was_there old new a h.before h.after h.frames lost t in
     let k = keeps old stamp event bytes h.before h.after h.frames answered sound t.was was ready h.does in
     let none = no_link old new a (comes_to_know event) h.before h.after h.frames lost t k in
-    let streams = happens_keeps_streams old new stamp event bytes answered lost h sound (brings old stamp event bytes h.before h.after h.frames answered sound t.was ready) in
+    let streams = streams_after old new stamp event bytes h.before h.after h.frames answered lost sound t ready h.does in
     let there = known_there old.members old.air event bytes h.before in
     record {
       numbered = numbers_stay old new a (comes_to_know event) h.before h.after h.frames lost sound t k;

@@ -14,16 +14,18 @@ use Rattle.tipc_partners.proofs.Sights.{starts}
 use Rattle.tipc_node.specs.declared.neighbours.Neighbour.{Neighbour}
 use Rattle.tipc_world.specs.declared.air.Sent.{Sent}
 use Rattle.tipc_world.specs.declared.events.WorldEvent.{WorldEvent}
-use Rattle.tipc_world.specs.declared.events.WorldEvent.TheVariants.{Know, Mend, Cut, Tick, Restart, Socket, SendPort, Receive, Arrive}
+use Rattle.tipc_world.specs.declared.events.WorldEvent.TheVariants.{Know, Restart, Call, Arrive}
 use Rattle.tipc_world.specs.Air.{sent_between}
 use Rattle.tipc_world.specs.Calls.{CanHappenAt}
 use Rattle.tipc_world.specs.Due.{unarrived}
-use Rattle.tipc_world.specs.Members.{IsNewcomer, bytes_of}
+use Rattle.tipc_node.specs.Turns.{bytes_of, link_in}
+use Rattle.tipc_world.specs.Members.{IsNewcomer}
 use Rattle.tipc_world.specs.Numbers.{own_in, seen_in}
 use Rattle.tipc_world.specs.Sound.{IsAirborne, IsNumber, IsSound}
-use Rattle.tipc_world.specs.States.{MemberState, WorldState, boot_at, count_at, count_in, history, history_at, link_at, link_in, member_at, same_session, stream_of, begun_at, begun_in}
-use Rattle.tipc_world.specs.Steps.{Becomes, IsArrival, IsJoined, IsStep, Stage, stage}
+use Rattle.tipc_world.specs.States.{MemberState, WorldState, boot_at, count_at, count_in, count_of, history, history_at, link_at, member_at, same_session, stream_of, begun_at, begun_in}
+use Rattle.tipc_world.specs.Steps.{Becomes, IsArrival, IsJoined, Stage}
 use Rattle.tipc_world.specs.Views.{given_in, put_in, sight_at, sight_from}
+use Rattle.tipc_world.proofs.Counts.{count_alone}
 use Rattle.tipc_world.proofs.LookUps.{begun_at-is, begun_at-same, boot_at-is, boot_at-same, count_at-is, count_at-same, either_way, history_at-is, history_at-same, link_at-is, link_at-same, member_at-is}
 use Rattle.tipc_world.proofs.SoundEvents.{happens_sound}
 use Rattle.tipc_world.proofs.StreamsEvents.{joined_keeps_streams, streams_start}
@@ -48,19 +50,10 @@ arrival_sound old new stamp node bearer place answered lost sound h = case (unar
 pub becomes_sound : (old new : Stage) (stamp : ℕ) (event : WorldEvent) (answered : Answer) (lost : Bool) → IsSound old.members old.air → HaveNextBoots old.members → CanHappenAt old.members event → Becomes old stamp event new answered lost
     → IsSound new.members new.air
 becomes_sound old new stamp (Know node peer) answered lost sound boots can h = happens_sound old new stamp (Know node peer) [] answered lost sound h (can.2, can.1, can.3)
-becomes_sound old new stamp (Mend node bearer) answered lost sound boots can h = happens_sound old new stamp (Mend node bearer) [] answered lost sound h tt
-becomes_sound old new stamp (Cut node bearer) answered lost sound boots can h = happens_sound old new stamp (Cut node bearer) [] answered lost sound h tt
-becomes_sound old new stamp (Tick node) answered lost sound boots can h = happens_sound old new stamp (Tick node) [] answered lost sound h tt
 becomes_sound old new stamp (Restart node) answered lost sound boots can h =
     happens_sound old new stamp (Restart node) [] answered lost sound h (let next = boots node h.before h.turns.was in omega arith)
-becomes_sound old new stamp (Socket node) answered lost sound boots can h = happens_sound old new stamp (Socket node) [] answered lost sound h tt
-becomes_sound old new stamp (SendPort node port to importance body) answered lost sound boots can h = happens_sound old new stamp (SendPort node port to importance body) [] answered lost sound h tt
-becomes_sound old new stamp (Receive node port) answered lost sound boots can h = happens_sound old new stamp (Receive node port) [] answered lost sound h tt
+becomes_sound old new stamp (Call node call) answered lost sound boots can h = happens_sound old new stamp (Call node call) [] answered lost sound h tt
 becomes_sound old new stamp (Arrive node bearer place) answered lost sound boots can h = arrival_sound old new stamp node bearer place answered lost sound h
-
--- after one step
-pub step_sound : (old : WorldState) (event : WorldEvent) (new : WorldState) (answered : Answer) → IsSound old.members old.air → HaveNextBoots old.members → CanHappenAt old.members event → IsStep old event new answered → IsSound new.members new.air
-step_sound old event new answered sound boots can s = becomes_sound (stage old.members old.air) (stage new.members new.air) old.stamps event answered s.lost sound boots can s.becomes
 
 -- ---- a node comes in
 
@@ -82,15 +75,18 @@ absent_begun members n b none = ap (λ o. unwrap_or (option_map (λ (m : MemberS
 
 absent_count : (members : List (Option MemberState)) (n b epoch : ℕ) → slice_index_or members n None ≡ None → count_at members n b epoch ≡ 0
 unfolding count_at member_at
-absent_count members n b epoch none = ap (λ o. unwrap_or (option_map (λ (m : MemberState). count_in m.counts b epoch) o) 0) none
+absent_count members n b epoch none = ap (λ o. unwrap_or (option_map (λ (m : MemberState). count_of m b epoch) o) 0) none
 
 new_history : (m : MemberState) (n : ℕ) → IsNewcomer m n → history m ≡ []
 unfolding history
 new_history m n c = ap (λ p. flat_map (λ entries. entries) p ++ m.node.journal) c.past ∙ c.node.no_history
 
-new_count : (m : MemberState) (n b epoch : ℕ) → IsNewcomer m n → count_in m.counts b epoch ≡ 0
+no_count : (counts : List ((ℕ × ℕ) × ℕ)) (b epoch : ℕ) → counts ≡ [] → count_in counts b epoch ≡ 0
 unfolding count_in
-new_count m n b epoch c = ap (λ cs. unwrap_or (lookup (same_session (b, epoch)) cs) 0) c.counts
+no_count counts b epoch none = ap (λ cs. unwrap_or (lookup (same_session (b, epoch)) cs) 0) none
+
+new_count : (m : MemberState) (n b epoch : ℕ) → IsNewcomer m n → count_of m b epoch ≡ 0
+new_count m n b epoch c = count_alone m b epoch (ap (λ o. option_map (λ (x : Neighbour). x.pair.link) o) (c.node.alone b)) ∙ no_count m.counts b epoch c.counts
 
 -- a node is to each other as before
 record IsSame (members members' : List (Option MemberState)) (a : ℕ) : Type 0 where

@@ -1,20 +1,17 @@
 -- What a sound world says of a node and its neighbours.
-use Rattle.std.proofs.Common.{◌⊎◌, ◌≡◌, ◌≢◌, ℕ, List, Option, Some, None, option_map, unwrap_or, sym, ap, ◌∙◌, inl, inr, arith}
+use Rattle.std.proofs.Common.{◌⊎◌, ◌≡◌, ◌≢◌, ℕ, List, Option, Some, None, option_map, slice_index_or, unwrap_or, ap, ◌∙◌, inl, inr, arith}
 use Rattle.std.proofs.lemmas.Bool.{cases_lt}
-use Rattle.tipc_types.specs.Address.{node_word}
 use Rattle.tipc_fragments.specs.Joining.{fresh}
-use Rattle.tipc_link.specs.Sessions.{SessionEnd}
-use Rattle.tipc_partners.specs.Sights.{AreSeen, HasOnly, Sight}
-use Rattle.tipc_partners.proofs.Sights.{ends}
+use Rattle.tipc_partners.specs.Sights.{HasOnly}
 use Rattle.tipc_node.specs.declared.neighbours.Neighbour.{Neighbour}
 use Rattle.tipc_node.specs.Nodes.{neighbour_of}
-use Rattle.tipc_world.specs.Sound.{IsNumber}
-use Rattle.tipc_world.specs.States.{MemberState, count_in, link_at, member_at}
+use Rattle.tipc_world.specs.declared.air.Sent.{Sent}
+use Rattle.tipc_world.specs.Sound.{IsNumber, IsSound}
+use Rattle.tipc_world.specs.States.{MemberState, link_at, member_at}
 use Rattle.tipc_world.specs.Steps.{Stage}
 use Rattle.tipc_world.specs.Views.{sight_at}
-use Rattle.tipc_world.proofs.Addressing.{Names}
-use Rattle.tipc_world.proofs.LookUps.{begun_at-is, count_at-is, link_at-is}
-use Rattle.tipc_world.proofs.Turning.{AllPaired, end_apart, no_ends, sight_in}
+use Rattle.tipc_world.proofs.LookUps.{begun_at-is, link_at-is}
+use Rattle.tipc_world.proofs.Turning.{end_apart, no_ends, sight_in}
 
 -- a number is of a node, or it isn't
 pub number_cases : (n : ℕ) → IsNumber n ⊎ (IsNumber n → ⊥)
@@ -43,19 +40,6 @@ pub sight_partial : (s : Stage) (a b : ℕ) (m : MemberState) (x : Neighbour) �
 unfolding sight_at
 sight_partial s a b m x was is = begun_at-is s.members a b m was ∙ ap (λ o. unwrap_or (option_map (λ (y : Neighbour). y.pair.begun) o) fresh) is
 
--- its frames are for the peer
-pub sight_names : (s : Stage) (a b : ℕ) (m : MemberState) (x : Neighbour) (w : Sight) → member_at s.members a ≡ Some m → neighbour_of m.node b ≡ Some x → AreSeen (sight_in s a b) w → Names (node_word b) x.pair.link
-unfolding sight_at
-sight_names s a b m x w was is h =
-    let end = ends (sight_in s a b) w 0 x.pair.link h (sight_only s a b m x was is).end_is in
-    record { peer = end.peer; session = λ t has. (end.session t has).1 }
-
--- how many packets its session has numbered
-pub sight_counts : (s : Stage) (a b : ℕ) (m : MemberState) (x : Neighbour) (w : Sight) → member_at s.members a ≡ Some m → neighbour_of m.node b ≡ Some x → AreSeen (sight_in s a b) w
-    → (t : SessionEnd) → x.pair.link.session ≡ Some t → count_in m.counts b t.epoch ≡ t.sending.numbered
-unfolding sight_at
-sight_counts s a b m x w was is h t has = sym (count_at-is s.members a b t.epoch m was) ∙ h.seen_here.counts 0 x.pair.link t (sight_only s a b m x was is).end_is has
-
 -- ---- all links of a node
 
 -- what a node knows are other nodes
@@ -63,6 +47,9 @@ pub record IsAcquainted (members : List (Option MemberState)) (a : ℕ) : Type 0
   pub number : IsNumber a
   pub apart : link_at members a a ≡ None
   pub only : (b : ℕ) → (IsNumber b → ⊥) → link_at members a b ≡ None
+
+pub acquainted : (members : List (Option MemberState)) (air : List Sent) (a : ℕ) (m : MemberState) → IsSound members air → slice_index_or members a None ≡ Some m → IsAcquainted members a
+acquainted members air a m sound was = record { number = (sound.numbered a m was).0; apart = sound.apart a; only = λ b none. sound.known a b (λ is. absurd (none is)) }
 
 -- each neighbour of a node is another one
 pub neighbour_apart : (s : Stage) (a : ℕ) (m : MemberState) → IsAcquainted s.members a → member_at s.members a ≡ Some m → (k : ℕ) (x : Neighbour) → neighbour_of m.node k ≡ Some x → IsNumber k × (k ≢ a)
@@ -72,9 +59,3 @@ neighbour_apart s a m knows was k x is =
       | inl number ↦ (number, λ same. let none : link_at s.members a k ≡ None = ap (link_at s.members a) same ∙ knows.apart in let wrong : ⊥ = cc in wrong)
       | inr other ↦ absurd (let none = knows.only k other in let wrong : ⊥ = cc in wrong)
     ]
-
--- the frames of each neighbour are for it
-pub all_names : (s : Stage) (a : ℕ) (m : MemberState) → IsAcquainted s.members a → AllPaired s → member_at s.members a ≡ Some m → (k : ℕ) (x : Neighbour) → neighbour_of m.node k ≡ Some x → Names (node_word k) x.pair.link
-all_names s a m knows paired was k x is =
-    let other = neighbour_apart s a m knows was k x is in
-    sight_names s a k m x (sight_in s k a) was is (paired a k knows.number other.0 (λ e. other.1 (sym e)))

@@ -9,7 +9,7 @@ use Rattle.tipc_journal.specs.Prefixes.{IsPrefixOf}
 use Rattle.tipc_world.specs.Events.{JoinsAt}
 use Rattle.tipc_world.specs.declared.events.Limit.TheVariants as limit
 use Rattle.tipc_world.specs.declared.events.WorldEvent.{WorldEvent}
-use Rattle.tipc_world.specs.declared.events.WorldEvent.TheVariants.{Know, Mend, Cut, Tick, Restart, Socket, SendPort, Receive, Arrive}
+use Rattle.tipc_world.specs.declared.events.WorldEvent.TheVariants.{Know, Restart, Call, Arrive}
 use Rattle.tipc_world.specs.declared.events.WorldFault.{WorldFault}
 use Rattle.tipc_world.specs.declared.events.WorldFault.TheVariants as fault
 use Rattle.tipc_world.specs.Calls.{node_of}
@@ -45,13 +45,8 @@ arrival_there old new stamp node bearer place answered lost None e h n = let arr
 becomes_there : (old new : Stage) (stamp : ℕ) (event : WorldEvent) (answered : Answer) (lost : Bool) → Becomes old stamp event new answered lost → SameThere old.members new.members
 becomes_there old new stamp (Arrive node bearer place) answered lost h = arrival_there old new stamp node bearer place answered lost _ refl h
 becomes_there old new stamp (Know node peer) answered lost h = happens_there old new stamp (Know node peer) [] answered lost h
-becomes_there old new stamp (Mend node bearer) answered lost h = happens_there old new stamp (Mend node bearer) [] answered lost h
-becomes_there old new stamp (Cut node bearer) answered lost h = happens_there old new stamp (Cut node bearer) [] answered lost h
-becomes_there old new stamp (Tick node) answered lost h = happens_there old new stamp (Tick node) [] answered lost h
 becomes_there old new stamp (Restart node) answered lost h = happens_there old new stamp (Restart node) [] answered lost h
-becomes_there old new stamp (Socket node) answered lost h = happens_there old new stamp (Socket node) [] answered lost h
-becomes_there old new stamp (SendPort node port to importance body) answered lost h = happens_there old new stamp (SendPort node port to importance body) [] answered lost h
-becomes_there old new stamp (Receive node port) answered lost h = happens_there old new stamp (Receive node port) [] answered lost h
+becomes_there old new stamp (Call node call) answered lost h = happens_there old new stamp (Call node call) [] answered lost h
 
 -- a world after an event: the same nodes are there, and it only grew
 pub record Stays (old new : WorldState) : Type 0 where

@@ -1,5 +1,6 @@
 -- A lawful journal stays lawful while the air and the arrivals grow, and with one more lawful step.
-use Rattle.std.proofs.Common.{◌≡◌, ◌≤◌, ◌<◌, ◌+◌, ℕ, zero, suc, List, [], ◌∷◌, ◌++◌, Option, Some, None, length, take, drop, slice_get, refl, sym, ap, ◌∙◌, subst, inl, inr, arith}
+use Rattle.std.specs.List.{filter}
+use Rattle.std.proofs.Common.{◌≡◌, ◌≤◌, ◌<◌, ◌+◌, ℕ, zero, suc, Bool, true, false, if◌then◌else◌, List, [], ◌∷◌, ◌++◌, Option, Some, None, length, take, drop, slice_get, refl, sym, ap, ◌∙◌, subst, inl, inr, arith}
 use Rattle.std.specs.Prelude.{◌⊎◌, option_and_then}
 use Rattle.std.proofs.lemmas.List.{drop-append-le, take-append-le}
 use Rattle.std.proofs.lemmas.List.Sums.{sum_by-append}
@@ -19,7 +20,7 @@ use Rattle.tipc_world.specs.declared.air.Arrived.{Arrived}
 use Rattle.tipc_world.specs.declared.air.Sent.{Sent}
 use Rattle.tipc_world.specs.Causes.{arrived_frame, tick_of, ticks, BringsUp, HasTicked, IsArrivalOf, IsCaused, IsNumberOf, IsResetOf, IsTakenFrom, Seen}
 use Rattle.tipc_world.specs.Lawful.{IsLawful, IsLawfulEntry, IsLawfulStep}
-use Rattle.tipc_world.specs.Members.{bytes_of}
+use Rattle.tipc_node.specs.Turns.{bytes_of}
 use Rattle.tipc_world.specs.Spelled.{HasBrought, IsBy, IsSpelled}
 use Rattle.tipc_world.proofs.Within.{get_longer, within_more}
 
@@ -31,6 +32,25 @@ one_more [] y x zero P e old last = last refl cc
 one_more [] y x (suc k) P e old last = absurd cc
 one_more (z ∷ zs) y x zero P e old last = old e (omega arith)
 one_more (z ∷ zs) y x (suc k) P e old last = one_more zs y x k P e (λ there below. old there (omega (arith, below))) (λ at same. last (ap suc at) same)
+
+-- an element that passes a test is among those that do, and one among those is of the list
+pub passes : {A : Type 0} (p : A → Bool) (xs : List A) (k : ℕ) (x : A) → slice_get xs k ≡ Some x → p x ≡ true → (j : ℕ) × (slice_get (filter p xs) j ≡ Some x)
+passes p [] k x there is = absurd cc
+passes p (y ∷ ys) zero x there is = (0, (let same : y ≡ x = cc in rw (ap p same ∙ is) there))
+passes {A} p (y ∷ ys) (suc k) x there is = case (passes p ys k x there is) (p y)
+  where
+    case : (j : ℕ) × (slice_get (filter p ys) j ≡ Some x) → (b : Bool) → (j : ℕ) × (slice_get (if b then y ∷ filter p ys else filter p ys) j ≡ Some x)
+    case later true = (suc later.0, later.1)
+    case later false = later
+
+pub passed : {A : Type 0} (p : A → Bool) (xs : List A) (j : ℕ) (x : A) → slice_get (filter p xs) j ≡ Some x → (k : ℕ) × (slice_get xs k ≡ Some x)
+passed p [] j x there = absurd cc
+passed {A} p (y ∷ ys) j x there = case (λ i at. passed p ys i x at) (p y) j there
+  where
+    case : ((i : ℕ) → slice_get (filter p ys) i ≡ Some x → (k : ℕ) × (slice_get ys k ≡ Some x)) → (b : Bool) (j : ℕ) → slice_get (if b then y ∷ filter p ys else filter p ys) j ≡ Some x → (k : ℕ) × (slice_get (y ∷ ys) k ≡ Some x)
+    case rest true zero at = (zero, at)
+    case rest true (suc i) at = let found = rest i at in (suc found.0, found.1)
+    case rest false j at = let found = rest j at in (suc found.0, found.1)
 
 -- what is in front is of the list
 pub get_taken : {A : Type 0} (xs : List A) (n k : ℕ) (x : A) → slice_get (take n xs) k ≡ Some x → slice_get xs k ≡ Some x
@@ -157,8 +177,8 @@ lawful_wider old new journal w h = record {
   steps_are = λ k s there. step_wider old new (take k (steps journal)) s w (λ i t at. all_arrive old journal h i t (get_taken (steps journal) k i t at)) (h.steps_are k s there);
 }
 
-pub told_wider : (old new : Seen) (journal : List Entry) (peer : Addr) (least : ℕ) → Widens old new → IsLawful old journal → HasTicked old (steps journal) peer least → HasTicked new (steps journal) peer least
-told_wider old new journal peer least w h t = ticked_wider old new (steps journal) peer least w (all_arrive old journal h) t
+pub journal_ticked : (old new : Seen) (journal : List Entry) (peer : Addr) (least : ℕ) → Widens old new → IsLawful old journal → HasTicked old (steps journal) peer least → HasTicked new (steps journal) peer least
+journal_ticked old new journal peer least w h t = ticked_wider old new (steps journal) peer least w (all_arrive old journal h) t
 
 -- ---- one more step
 

@@ -1,23 +1,30 @@
 -- What a sound world says of the messages that were accepted and delivered, after each event.
-use Rattle.std.proofs.Common.{◌≡◌, ◌≢◌, ◌⊎◌, ◌==◌, ◌&&◌, ℕ, if◌then◌else◌, List, [], ◌∷◌, ◌++◌, Option, Some, None, inl, inr, slice_get, slice_index_or, slice_set, refl, sym, ap, subst, ◌∙◌, append-nil, eqb-true}
-use Rattle.std.proofs.lemmas.Bool.{and_parts, cases_Bool, cases_eq}
+use Rattle.std.specs.Prelude.{is_some}
+use Rattle.std.proofs.Common.{◌≡◌, ◌≢◌, ◌⊎◌, ℕ, true, false, List, [], ◌++◌, Option, Some, None, inl, inr, slice_index_or, slice_set, refl, sym, ap, subst, ◌∙◌}
+use Rattle.std.proofs.lemmas.Bool.{cases_eq}
+use Rattle.tipc_types.specs.Address.{node_word}
 use Rattle.tipc_types.specs.declared.message_forms.Flow.{Flow}
 use Rattle.tipc_types.specs.declared.message_forms.Flow.TheVariants.{Zero}
-use Rattle.tipc_types.specs.declared.message_forms.Message.{Message}
-use Rattle.tipc_journal.specs.Streams.{accepted, delivered, flow_eq}
-use Rattle.tipc_journal.proofs.StreamLaws.{flow_eq_true}
-use Rattle.tipc_link.proofs.LinkLaw.{Each, Each-append, Each-none}
+use Rattle.tipc_outside.specs.declared.outgoing.Outgoing.{Outgoing}
+use Rattle.tipc_journal.specs.Steps.{NodeStep, step_entries}
+use Rattle.tipc_journal.specs.Streams.{accepted, delivered}
+use Rattle.tipc_link.proofs.LinkLaw.{Each, Each-append}
+use Rattle.tipc_node.specs.declared.neighbours.Neighbour.{Neighbour}
+use Rattle.tipc_node.specs.Nodes.{neighbour_of}
+use Rattle.tipc_node.specs.Turns.{IsSendable, NodeTurn}
 use Rattle.tipc_world.specs.declared.air.Sent.{Sent}
-use Rattle.tipc_world.specs.Sound.{IsNumber, IsSendable, IsSound}
+use Rattle.tipc_world.specs.Sound.{IsNumber, IsSound}
 use Rattle.tipc_world.specs.States.{MemberState, accepted_at, delivered_at, history, history_at, stream_of}
+use Rattle.tipc_world.specs.Steps.{stage}
 use Rattle.tipc_world.proofs.LookUps.{history_at-is, history_at-same, member_at-changed, member_at-is, member_at-other}
-use Rattle.tipc_world.proofs.Histories.{Grew, KeepsStreams, come_to, keeps_grew}
+use Rattle.tipc_world.proofs.Standing.{acquainted, neighbour_apart}
+use Rattle.tipc_world.proofs.TurnStreams.{AreBrought, IsOwn, turn_accepts, turn_delivers}
 
 -- what a sound world says of messages
 pub record StreamsSound (members : List (Option MemberState)) : Type 0 where
   pub one_flow : (a b own theirs : ℕ) (flow : Flow) → flow ≢ Zero → (accepted_at members a b own theirs flow ≡ []) × (delivered_at members a b own theirs flow ≡ [])
-  pub accepted : (a b own theirs k : ℕ) (m : Message) → slice_get (accepted_at members a b own theirs Zero) k ≡ Some m → IsSendable m
-  pub delivered : (a b own theirs k : ℕ) (m : Message) → slice_get (delivered_at members a b own theirs Zero) k ≡ Some m → IsSendable m
+  pub accepted : (a b own theirs : ℕ) → Each (IsOwn (node_word a)) (accepted_at members a b own theirs Zero)
+  pub delivered : (a b own theirs : ℕ) → Each IsSendable (delivered_at members a b own theirs Zero)
   pub nothing : (a b own theirs : ℕ) → delivered_at members a b own theirs Zero ≢ [] → IsNumber a × IsNumber b × (a ≢ b)
 
 pub streams_of : (members : List (Option MemberState)) (air : List Sent) → IsSound members air → StreamsSound members
@@ -33,138 +40,119 @@ pub delivered_by : (members members' : List (Option MemberState)) (n b own their
 unfolding delivered_at
 delivered_by members members' n b own theirs flow same = ap (λ es. delivered es (stream_of b own theirs flow)) same
 
-accepted_grew : (members members' : List (Option MemberState)) (a peer own theirs : ℕ) (m m' : MemberState) (accepts delivers : List Message) (b own' theirs' : ℕ) (flow : Flow)
-    → history_at members a ≡ history m → history_at members' a ≡ history m' → Grew (history m) (history m') peer own theirs accepts delivers
-    → accepted_at members' a b own' theirs' flow ≡ accepted_at members a b own' theirs' flow ++ come_to peer own theirs accepts b own' theirs' flow
+-- those of a node with this history
+accepted_in : (members : List (Option MemberState)) (a b own theirs : ℕ) (flow : Flow) (m : MemberState) → history_at members a ≡ history m → accepted_at members a b own theirs flow ≡ accepted (history m) (stream_of b own theirs flow)
 unfolding accepted_at
-accepted_grew members members' a peer own theirs m m' accepts delivers b own' theirs' flow was is g =
-    ap (λ es. accepted es (stream_of b own' theirs' flow)) is ∙ g.accepted_is b own' theirs' flow
-    ∙ ap (λ es. accepted es (stream_of b own' theirs' flow) ++ come_to peer own theirs accepts b own' theirs' flow) (sym was)
+accepted_in members a b own theirs flow m is = ap (λ es. accepted es (stream_of b own theirs flow)) is
 
-delivered_grew : (members members' : List (Option MemberState)) (a peer own theirs : ℕ) (m m' : MemberState) (accepts delivers : List Message) (b own' theirs' : ℕ) (flow : Flow)
-    → history_at members a ≡ history m → history_at members' a ≡ history m' → Grew (history m) (history m') peer own theirs accepts delivers
-    → delivered_at members' a b own' theirs' flow ≡ delivered_at members a b own' theirs' flow ++ come_to peer own theirs delivers b own' theirs' flow
+delivered_in : (members : List (Option MemberState)) (a b own theirs : ℕ) (flow : Flow) (m : MemberState) → history_at members a ≡ history m → delivered_at members a b own theirs flow ≡ delivered (history m) (stream_of b own theirs flow)
 unfolding delivered_at
-delivered_grew members members' a peer own theirs m m' accepts delivers b own' theirs' flow was is g =
-    ap (λ es. delivered es (stream_of b own' theirs' flow)) is ∙ g.delivered_is b own' theirs' flow
-    ∙ ap (λ es. delivered es (stream_of b own' theirs' flow) ++ come_to peer own theirs delivers b own' theirs' flow) (sym was)
+delivered_in members a b own theirs flow m is = ap (λ es. delivered es (stream_of b own theirs flow)) is
 
--- ---- what came to a stream
+-- ---- one node changed
 
--- To a stream of node n with node b nothing came, or what came did at node a from the peer in flow Zero.
-pub record Came (a peer n b : ℕ) (flow : Flow) (messages old new : List Message) : Type 0 where
-  pub more : List Message
-  pub is : new ≡ old ++ more
-  pub cause : (more ≡ []) ⊎ ((more ≡ messages) × (n ≡ a) × (b ≡ peer) × (flow ≡ Zero))
-
--- the messages that came to a stream are none, or those of that stream
-come_cases : (peer own theirs b own' theirs' : ℕ) (flow : Flow) (ms : List Message) → (come_to peer own theirs ms b own' theirs' flow ≡ []) ⊎ ((come_to peer own theirs ms b own' theirs' flow ≡ ms) × (b ≡ peer) × (flow ≡ Zero))
-come_cases peer own theirs b own' theirs' flow ms =
-    let rest = (own' == own) && (theirs' == theirs) in
-    elim (cases_Bool ((b == peer) && (flow_eq flow Zero && rest))) [
-      | inl here ↦
-          let first = and_parts (b == peer) (flow_eq flow Zero && rest) here in
-          let second = and_parts (flow_eq flow Zero) rest first.1 in
-          inr (ap (λ t. if t then ms else []) here, eqb-true b peer first.0, flow_eq_true flow Zero second.0)
-      | inr other ↦ inl (ap (λ t. if t then ms else []) other)
-    ]
-
--- what an event at node a left
-record Changed (members members' : List (Option MemberState)) (a peer own theirs : ℕ) (accepts delivers : List Message) : Type 0 where
+-- the streams of the nodes, of which those of node a are these
+record Changed (members members' : List (Option MemberState)) (a : ℕ) (m m' : MemberState) : Type 0 where
   others : (n : ℕ) → n ≢ a → history_at members' n ≡ history_at members n
-  accepted_is : (b own' theirs' : ℕ) (flow : Flow) → accepted_at members' a b own' theirs' flow ≡ accepted_at members a b own' theirs' flow ++ come_to peer own theirs accepts b own' theirs' flow
-  delivered_is : (b own' theirs' : ℕ) (flow : Flow) → delivered_at members' a b own' theirs' flow ≡ delivered_at members a b own' theirs' flow ++ come_to peer own theirs delivers b own' theirs' flow
+  was : history_at members a ≡ history m
+  is : history_at members' a ≡ history m'
 
-changed : (members members' : List (Option MemberState)) (a : ℕ) (m m' : MemberState) (peer own theirs : ℕ) (accepts delivers : List Message) → slice_index_or members a None ≡ Some m → members' ≡ slice_set members a (Some m')
-    → Grew (history m) (history m') peer own theirs accepts delivers → Changed members members' a peer own theirs accepts delivers
-changed members members' a m m' peer own theirs accepts delivers was is g =
-    let here = subst (λ ms. history_at ms a ≡ history m') (sym is) (history_at-is (slice_set members a (Some m')) a m' (member_at-changed members a m m' was)) in
-    let before = history_at-is members a m (member_at-is members a m was) in
-    record {
-      others = λ n apart. subst (λ ms. history_at ms n ≡ history_at members n) (sym is) (history_at-same members (slice_set members a (Some m')) n (member_at-other members a n m' apart));
-      accepted_is = λ b own' theirs' flow. accepted_grew members members' a peer own theirs m m' accepts delivers b own' theirs' flow before here g;
-      delivered_is = λ b own' theirs' flow. delivered_grew members members' a peer own theirs m m' accepts delivers b own' theirs' flow before here g;
-    }
-
-came_none : (a peer n b : ℕ) (flow : Flow) (messages old new : List Message) → new ≡ old → Came a peer n b flow messages old new
-came_none a peer n b flow messages old new same = record { more = []; is = same ∙ sym (append-nil old); cause = inl refl }
-
-came_here : (a peer own theirs n b own' theirs' : ℕ) (flow : Flow) (messages old new : List Message) → n ≡ a → new ≡ old ++ come_to peer own theirs messages b own' theirs' flow → Came a peer n b flow messages old new
-came_here a peer own theirs n b own' theirs' flow messages old new here is = record {
-  more = come_to peer own theirs messages b own' theirs' flow;
-  is = is;
-  cause = elim (come_cases peer own theirs b own' theirs' flow messages) [ inl none ↦ inl none | inr some ↦ inr (some.0, here, some.1, some.2) ];
+changed : (members members' : List (Option MemberState)) (a : ℕ) (m m' : MemberState) → slice_index_or members a None ≡ Some m → members' ≡ slice_set members a (Some m') → Changed members members' a m m'
+changed members members' a m m' was is = record {
+  others = λ n apart. subst (λ ms. history_at ms n ≡ history_at members n) (sym is) (history_at-same members (slice_set members a (Some m')) n (member_at-other members a n m' apart));
+  was = history_at-is members a m (member_at-is members a m was);
+  is = subst (λ ms. history_at ms a ≡ history m') (sym is) (history_at-is (slice_set members a (Some m')) a m' (member_at-changed members a m m' was));
 }
 
-accepted_came : (members members' : List (Option MemberState)) (a peer own theirs : ℕ) (accepts delivers : List Message) (n b own' theirs' : ℕ) (flow : Flow) → Changed members members' a peer own theirs accepts delivers
-    → Came a peer n b flow accepts (accepted_at members n b own' theirs' flow) (accepted_at members' n b own' theirs' flow)
-accepted_came members members' a peer own theirs accepts delivers n b own' theirs' flow c =
-    elim (cases_eq n a) [
-      | inl here ↦ came_here a peer own theirs n b own' theirs' flow accepts _ _ here
-          (subst (λ k. accepted_at members' k b own' theirs' flow ≡ accepted_at members k b own' theirs' flow ++ come_to peer own theirs accepts b own' theirs' flow) (sym here) (c.accepted_is b own' theirs' flow))
-      | inr other ↦ came_none a peer n b flow accepts _ _ (accepted_by members members' n b own' theirs' flow (c.others n other))
-    ]
+-- what a sound world says of the messages of node n with node b in a contact
+record OneStream (members' : List (Option MemberState)) (n b own theirs : ℕ) : Type 0 where
+  one_flow : (flow : Flow) → flow ≢ Zero → (accepted_at members' n b own theirs flow ≡ []) × (delivered_at members' n b own theirs flow ≡ [])
+  accepted : Each (IsOwn (node_word n)) (accepted_at members' n b own theirs Zero)
+  delivered : Each IsSendable (delivered_at members' n b own theirs Zero)
+  nothing : delivered_at members' n b own theirs Zero ≢ [] → IsNumber n × IsNumber b × (n ≢ b)
 
-delivered_came : (members members' : List (Option MemberState)) (a peer own theirs : ℕ) (accepts delivers : List Message) (n b own' theirs' : ℕ) (flow : Flow) → Changed members members' a peer own theirs accepts delivers
-    → Came a peer n b flow delivers (delivered_at members n b own' theirs' flow) (delivered_at members' n b own' theirs' flow)
-delivered_came members members' a peer own theirs accepts delivers n b own' theirs' flow c =
-    elim (cases_eq n a) [
-      | inl here ↦ came_here a peer own theirs n b own' theirs' flow delivers _ _ here
-          (subst (λ k. delivered_at members' k b own' theirs' flow ≡ delivered_at members k b own' theirs' flow ++ come_to peer own theirs delivers b own' theirs' flow) (sym here) (c.delivered_is b own' theirs' flow))
-      | inr other ↦ came_none a peer n b flow delivers _ _ (delivered_by members members' n b own' theirs' flow (c.others n other))
-    ]
+same_stream : (members members' : List (Option MemberState)) (n b own theirs : ℕ) → StreamsSound members → history_at members' n ≡ history_at members n → OneStream members' n b own theirs
+same_stream members members' n b own theirs h same = record {
+  one_flow = λ flow other. (
+    accepted_by members members' n b own theirs flow same ∙ (h.one_flow n b own theirs flow other).0,
+    delivered_by members members' n b own theirs flow same ∙ (h.one_flow n b own theirs flow other).1,
+  );
+  accepted = subst (Each (IsOwn (node_word n))) (sym (accepted_by members members' n b own theirs Zero same)) (h.accepted n b own theirs);
+  delivered = subst (Each IsSendable) (sym (delivered_by members members' n b own theirs Zero same)) (h.delivered n b own theirs);
+  nothing = λ some. h.nothing n b own theirs (λ none. some (delivered_by members members' n b own theirs Zero same ∙ none));
+}
 
--- ---- what a sound world says of them
+streams_from : (members' : List (Option MemberState)) → ((n b own theirs : ℕ) → OneStream members' n b own theirs) → StreamsSound members'
+streams_from members' each = record {
+  one_flow = λ n b own theirs flow other. (each n b own theirs).one_flow flow other;
+  accepted = λ n b own theirs. (each n b own theirs).accepted;
+  delivered = λ n b own theirs. (each n b own theirs).delivered;
+  nothing = λ n b own theirs some. (each n b own theirs).nothing some;
+}
 
-came_to_no_flow : (a peer n b : ℕ) (flow : Flow) (messages old new : List Message) → Came a peer n b flow messages old new → flow ≢ Zero → old ≡ [] → new ≡ []
-came_to_no_flow a peer n b flow messages old new c other none =
-    elim c.cause [
-      | inl nothing ↦ c.is ∙ ap (λ ms. ms ++ c.more) none ∙ nothing
-      | inr some ↦ absurd (other some.3)
-    ]
-
-came_sendable : (a peer n b : ℕ) (flow : Flow) (messages old new : List Message) → Came a peer n b flow messages old new → Each IsSendable messages → Each IsSendable old → Each IsSendable new
-came_sendable a peer n b flow messages old new c sendable before =
-    let more = elim c.cause as (λ _. Each IsSendable c.more) [
-      | inl nothing ↦ subst (λ ms. Each IsSendable ms) (sym nothing) (Each-none IsSendable)
-      | inr some ↦ subst (λ ms. Each IsSendable ms) (sym some.0) sendable
-    ] in
-    subst (λ ms. Each IsSendable ms) (sym c.is) (Each-append IsSendable old c.more before more)
-
-came_between : (a peer n b : ℕ) (flow : Flow) (messages old new : List Message) → Came a peer n b flow messages old new → (messages ≢ [] → IsNumber a × IsNumber peer × (a ≢ peer))
-    → (old ≢ [] → IsNumber n × IsNumber b × (n ≢ b)) → new ≢ [] → IsNumber n × IsNumber b × (n ≢ b)
-came_between a peer n b flow messages old new c between before some =
-    elim c.cause [
-      | inl nothing ↦ before (λ none. some (c.is ∙ ap (λ ms. ms ++ c.more) none ∙ nothing))
-      | inr came ↦ by (cases_empty messages) came
-    ]
-  where
-    cases_empty : (ms : List Message) → (ms ≡ []) ⊎ (ms ≢ [])
-    cases_empty [] = inl refl
-    cases_empty (x ∷ xs) = inr (λ e. (let wrong : ⊥ = cc in wrong))
-
-    by : (messages ≡ []) ⊎ (messages ≢ []) → (c.more ≡ messages) × (n ≡ a) × (b ≡ peer) × (flow ≡ Zero) → IsNumber n × IsNumber b × (n ≢ b)
-    by (inl empty) came = before (λ none. some (c.is ∙ ap (λ ms. ms ++ c.more) none ∙ came.0 ∙ empty))
-    by (inr full) came = let k = between full in subst (λ v. IsNumber v × IsNumber b × (v ≢ b)) (sym came.1) (subst (λ v. IsNumber a × IsNumber v × (a ≢ v)) (sym came.2) k)
-
--- Node a went from one state to the next, and its history grew by messages that can be sent; what was delivered came from another node.
-pub streams_stay : (members members' : List (Option MemberState)) (a : ℕ) (m m' : MemberState) (peer own theirs : ℕ) (accepts delivers : List Message)
-    → StreamsSound members → slice_index_or members a None ≡ Some m → members' ≡ slice_set members a (Some m') → Grew (history m) (history m') peer own theirs accepts delivers
-    → Each IsSendable accepts → Each IsSendable delivers → (delivers ≢ [] → IsNumber a × IsNumber peer × (a ≢ peer)) → StreamsSound members'
-streams_stay members members' a m m' peer own theirs accepts delivers h was is g accepts_sendable delivers_sendable between =
-    let c = changed members members' a m m' peer own theirs accepts delivers was is g in
-    record {
-      one_flow = λ n b own' theirs' flow other. (
-        came_to_no_flow a peer n b flow accepts _ _ (accepted_came members members' a peer own theirs accepts delivers n b own' theirs' flow c) other (h.one_flow n b own' theirs' flow other).0,
-        came_to_no_flow a peer n b flow delivers _ _ (delivered_came members members' a peer own theirs accepts delivers n b own' theirs' flow c) other (h.one_flow n b own' theirs' flow other).1,
-      );
-      accepted = λ n b own' theirs'. came_sendable a peer n b Zero accepts _ _ (accepted_came members members' a peer own theirs accepts delivers n b own' theirs' Zero c) accepts_sendable (h.accepted n b own' theirs');
-      delivered = λ n b own' theirs'. came_sendable a peer n b Zero delivers _ _ (delivered_came members members' a peer own theirs accepts delivers n b own' theirs' Zero c) delivers_sendable (h.delivered n b own' theirs');
-      nothing = λ n b own' theirs'. came_between a peer n b Zero delivers _ _ (delivered_came members members' a peer own theirs accepts delivers n b own' theirs' Zero c) between (h.nothing n b own' theirs');
-    }
+-- where node a alone changed
+all_streams : (members members' : List (Option MemberState)) (a : ℕ) (m m' : MemberState) → StreamsSound members → Changed members members' a m m' → ((b own theirs : ℕ) → OneStream members' a b own theirs) → StreamsSound members'
+all_streams members members' a m m' h c here = streams_from members' (λ n b own theirs. elim (cases_eq n a) [
+  | inl same ↦ subst (λ k. OneStream members' k b own theirs) (sym same) (here b own theirs)
+  | inr other ↦ same_stream members members' n b own theirs h (c.others n other)
+])
 
 -- nothing was accepted or delivered
 pub streams_same : (members members' : List (Option MemberState)) (a : ℕ) (m m' : MemberState) → StreamsSound members → slice_index_or members a None ≡ Some m → members' ≡ slice_set members a (Some m')
-    → KeepsStreams (history m) (history m') → StreamsSound members'
-streams_same members members' a m m' h was is k =
-    streams_stay members members' a m m' 0 0 0 [] [] h was is (keeps_grew (history m) (history m') 0 0 0 k) (Each-none IsSendable) (Each-none IsSendable) (λ some. absurd (some refl))
+    → history m' ≡ history m → StreamsSound members'
+streams_same members members' a m m' h was is same =
+    let c = changed members members' a m m' was is in
+    all_streams members members' a m m' h c (λ b own theirs. same_stream members members' a b own theirs h (c.is ∙ same ∙ sym c.was))
+
+-- ---- a turn
+
+-- a neighbour of a node of a sound world is another node, and has a number
+neighbour_number : (members : List (Option MemberState)) (air : List Sent) (a b : ℕ) (m : MemberState) → IsSound members air → slice_index_or members a None ≡ Some m → is_some (neighbour_of m.node b) ≡ true → IsNumber b × (a ≢ b)
+neighbour_number members air a b m sound was there = case (neighbour_of m.node b) refl
+  where
+    case : (o : Option Neighbour) → neighbour_of m.node b ≡ o → IsNumber b × (a ≢ b)
+    case None alone = absurd (let wrong : true ≡ false = sym there ∙ ap is_some alone in cc)
+    case (Some x) is =
+        let other = neighbour_apart (stage members air) a m (acquainted members air a m sound was) (member_at-is members a m was) b x is in
+        (other.0, λ same. other.1 (sym same))
+
+gained : {A : Type 0} (old new more : List A) → new ≡ old ++ more → old ≡ [] → more ≡ [] → new ≡ []
+gained old new more is none nothing = is ∙ ap (λ xs. xs ++ more) none ∙ nothing
+
+-- a stream of the node that took the turn
+turned_stream : (members members' : List (Option MemberState)) (air : List Sent) (a : ℕ) (m m' : MemberState) (bytes : List ℕ) (s : NodeStep) (frames : List Outgoing) (b own theirs : ℕ) → IsSound members air → slice_index_or members a None ≡ Some m
+    → Changed members members' a m m' → history m' ≡ history m ++ step_entries s → (t : NodeTurn m.node m'.node bytes s frames) → AreBrought m.node m'.node bytes s frames t → OneStream members' a b own theirs
+turned_stream members members' air a m m' bytes s frames b own theirs sound was c longer t brings =
+    let h = streams_of members air sound in
+    let old_accepted : (flow : Flow) → accepted (history m) (stream_of b own theirs flow) ≡ accepted_at members a b own theirs flow = λ flow. sym (accepted_in members a b own theirs flow m c.was) in
+    let old_delivered : (flow : Flow) → delivered (history m) (stream_of b own theirs flow) ≡ delivered_at members a b own theirs flow = λ flow. sym (delivered_in members a b own theirs flow m c.was) in
+    let new_accepted = λ (flow : Flow). accepted_in members' a b own theirs flow m' c.is in
+    let new_delivered = λ (flow : Flow). delivered_in members' a b own theirs flow m' c.is in
+    let accepts = λ (flow : Flow). turn_accepts (history m) (history m') m.node m'.node bytes s frames b own theirs flow t longer in
+    let delivers = λ (flow : Flow). turn_delivers (history m) (history m') m.node m'.node bytes s frames b own theirs flow t brings longer in
+    let named = (sound.numbered a m was).1 in
+    let has : Each (IsOwn m.node.own) (accepted (history m) (stream_of b own theirs Zero)) = subst (λ k. Each (IsOwn k) (accepted (history m) (stream_of b own theirs Zero))) (sym named) (subst (Each (IsOwn (node_word a))) (sym (old_accepted Zero)) (h.accepted a b own theirs)) in
+    record {
+      one_flow = λ flow other. (
+        new_accepted flow ∙ gained _ _ (accepts flow).more (accepts flow).is (old_accepted flow ∙ (h.one_flow a b own theirs flow other).0) ((accepts flow).zero other),
+        new_delivered flow ∙ gained _ _ (delivers flow).more (delivers flow).is (old_delivered flow ∙ (h.one_flow a b own theirs flow other).1) ((delivers flow).zero other),
+      );
+      accepted = subst (Each (IsOwn (node_word a))) (sym (new_accepted Zero)) (subst (λ k. Each (IsOwn k) (accepted (history m') (stream_of b own theirs Zero))) named
+          (subst (Each (IsOwn m.node.own)) (sym (accepts Zero).is) (Each-append (IsOwn m.node.own) (accepted (history m) (stream_of b own theirs Zero)) (accepts Zero).more has (accepts Zero).all)));
+      delivered = subst (Each IsSendable) (sym (new_delivered Zero ∙ (delivers Zero).is))
+          (Each-append IsSendable (delivered (history m) (stream_of b own theirs Zero)) (delivers Zero).more (subst (Each IsSendable) (sym (old_delivered Zero)) (h.delivered a b own theirs)) (delivers Zero).all);
+      nothing = λ some. by (delivers Zero).known some;
+    }
+  where
+    by : ((turn_delivers (history m) (history m') m.node m'.node bytes s frames b own theirs Zero t brings longer).more ≡ []) ⊎ (is_some (neighbour_of m.node b) ≡ true) → delivered_at members' a b own theirs Zero ≢ [] → IsNumber a × IsNumber b × (a ≢ b)
+    by (inl none) some =
+        let d = turn_delivers (history m) (history m') m.node m'.node bytes s frames b own theirs Zero t brings longer in
+        sound.nothing a b own theirs (λ nothing. some (delivered_in members' a b own theirs Zero m' c.is ∙ gained _ _ d.more d.is (sym (delivered_in members a b own theirs Zero m c.was) ∙ nothing) none))
+    by (inr there) some = let peer = neighbour_number members air a b m sound was there in ((sound.numbered a m was).0, peer.0, peer.1)
+
+-- node a took a turn, in which what it was given is messages
+pub turn_streams : (members members' : List (Option MemberState)) (air : List Sent) (a : ℕ) (m m' : MemberState) (bytes : List ℕ) (s : NodeStep) (frames : List Outgoing) → IsSound members air → slice_index_or members a None ≡ Some m
+    → members' ≡ slice_set members a (Some m') → history m' ≡ history m ++ step_entries s → (t : NodeTurn m.node m'.node bytes s frames) → AreBrought m.node m'.node bytes s frames t → StreamsSound members'
+turn_streams members members' air a m m' bytes s frames sound was is longer t brings =
+    let c = changed members members' a m m' was is in
+    all_streams members members' a m m' (streams_of members air sound) c (λ b own theirs. turned_stream members members' air a m m' bytes s frames b own theirs sound was c longer t brings)

@@ -1,5 +1,5 @@
 -- Every frame in the air of a sound world is true.
-use Rattle.std.proofs.Common.{length, sym, ◌≡◌, eqb-true, ◌≤◌, ◌+◌, ℕ, zero, suc, true, List, [], ◌∷◌, Option, Some, refl, ap, ◌∙◌, arith}
+use Rattle.std.proofs.Common.{length, ◌≡◌, eqb-true, ◌≤◌, ◌+◌, ℕ, zero, suc, true, List, [], ◌∷◌, Option, Some, refl, ap, ◌∙◌, arith}
 use Rattle.std.specs.Prelude.{slice_get}
 use Rattle.tipc_types.specs.Address.{node_word}
 use Rattle.tipc_types.specs.declared.identity.To.{To}
@@ -22,7 +22,8 @@ use Rattle.tipc_reassembly.specs.Slots.{Fragment, Group, IsSlot, Slot, slot_byte
 use Rattle.tipc_partners.specs.Sights.{AreSeen}
 use Rattle.tipc_partners.proofs.Sights.{frames, truths}
 use Rattle.tipc_world.specs.declared.air.Sent.{Sent}
-use Rattle.tipc_world.specs.Air.{as_frame, is_to, sent_between}
+use Rattle.tipc_node.specs.Turns.{is_to}
+use Rattle.tipc_world.specs.Air.{as_frame, sent_between}
 use Rattle.tipc_world.specs.Good.{IsTrue, SpeaksTruth}
 use Rattle.tipc_world.specs.Sound.{IsSound}
 use Rattle.tipc_world.specs.States.{MemberState, accepted_at, delivered_at}

@@ -4,17 +4,19 @@ use Rattle.std.proofs.lemmas.Bool.{cases_eq}
 use Rattle.std.proofs.lemmas.Bool.Decides.{nat_tests}
 use Rattle.tipc_outside.specs.declared.outgoing.Outgoing.{Outgoing}
 use Rattle.tipc_link.specs.Links.{LinkEnd}
-use Rattle.tipc_link.specs.Sessions.{SessionEnd}
 use Rattle.tipc_fragments.specs.Joining.{Joining}
 use Rattle.tipc_partners.specs.Sights.{AreSeen, Goes, Sight, come, sent_as}
 use Rattle.tipc_partners.proofs.Sights.{turned}
 use Rattle.tipc_world.specs.declared.air.Sent.{Sent}
 use Rattle.tipc_world.specs.Sound.{IsNumber}
-use Rattle.tipc_world.specs.States.{MemberState, begun_at, begun_in, count_at, count_in, history, history_at, link_at, link_in, member_at}
+use Rattle.tipc_node.specs.Turns.{frames_to, link_in}
+use Rattle.tipc_world.specs.States.{MemberState, begun_at, begun_in, boot_at, count_at, count_of, history, history_at, link_at, member_at}
 use Rattle.tipc_world.specs.Steps.{Stage, Turns}
 use Rattle.tipc_world.specs.Views.{ends_with, given_in, node_from, numbered_with, put_in, sight_at, sight_from}
 use Rattle.tipc_world.specs.Air.{sent_between}
-use Rattle.tipc_world.proofs.Emissions.{frames_to, sent_adds, sent_same}
+use Rattle.tipc_world.proofs.Emissions.{sent_adds, sent_same}
+use Rattle.tipc_world.specs.Numbers.{own_in, seen_in}
+use Rattle.tipc_world.proofs.Counts.{HasNone, count_here}
 use Rattle.tipc_world.proofs.LookUps.{begun_at-is, begun_at-same, boot_at-is, boot_at-same, count_at-is, count_at-same, either_way, history_at-is, history_at-same, link_at-is, link_at-same, member_at-changed, member_at-is, member_at-other}
 
 -- two nodes of a stage as a pair
@@ -81,19 +83,19 @@ begun_now old new a before after frames lost t b = begun_at-is new.members a b a
 
 -- ---- the node towards another
 
--- what is recorded of messages for node b and from it: these packets were put and given in the contact of before
-pub record Records (v : Sight) (before after : MemberState) (b : ℕ) (put given : List (List ℕ)) : Type 0 where
-  pub put_is : (own theirs : ℕ) → put_in (history after) b own theirs ≡ put_in (history before) b own theirs ++ come v put own theirs
-  pub given_is : (own theirs : ℕ) → given_in (history after) b own theirs ≡ given_in (history before) b own theirs ++ come v given own theirs
+-- what came to the messages of a contact that has these numbers
+abbrev pub come_in : ℕ → ℕ → List (List ℕ) → ℕ → ℕ → List (List ℕ)
+come_in contact seen more own theirs = if (own == contact) && (theirs == seen) then more else []
 
--- the link to b became e, fs of the frames are for it, and this message is begun
-pub record IsChanged (before after : MemberState) (frames : List Outgoing) (b : ℕ) (e : LinkEnd) (fs : List Outgoing) (partial : Joining) : Type 0 where
+-- The link to b became e, and fs of the frames are for it. These packets were put and given in its contact, and this message is begun.
+pub record IsChanged (before after : MemberState) (frames : List Outgoing) (b : ℕ) (e : LinkEnd) (fs : List Outgoing) (put given : List (List ℕ)) (partial : Joining) : Type 0 where
   pub boot : after.node.boot ≡ before.node.boot
   pub link : link_in after.node b ≡ Some e
   pub begun : begun_in after.node b ≡ partial
   pub frames_are : frames_to b frames ≡ fs
-  pub numbered_now : (s : SessionEnd) → e.session ≡ Some s → count_in after.counts b s.epoch ≡ s.sending.numbered
-  pub numbered_else : (epoch : ℕ) → ((s : SessionEnd) → e.session ≡ Some s → s.epoch ≢ epoch) → count_in after.counts b epoch ≡ count_in before.counts b epoch
+  pub put_is : (own theirs : ℕ) → put_in (history after) b own theirs ≡ put_in (history before) b own theirs ++ come_in e.contact e.peer_contact put own theirs
+  pub given_is : (own theirs : ℕ) → given_in (history after) b own theirs ≡ given_in (history before) b own theirs ++ come_in e.contact e.peer_contact given own theirs
+  pub numbered_else : (epoch : ℕ) → HasNone e.session epoch → count_of after b epoch ≡ count_of before b epoch
 
 -- nothing concerned b
 pub record IsIdle (before after : MemberState) (frames : List Outgoing) (b : ℕ) : Type 0 where
@@ -101,13 +103,34 @@ pub record IsIdle (before after : MemberState) (frames : List Outgoing) (b : ℕ
   pub link : link_in after.node b ≡ link_in before.node b
   pub begun : begun_in after.node b ≡ begun_in before.node b
   pub frames_are : frames_to b frames ≡ []
-  pub numbered : (epoch : ℕ) → count_in after.counts b epoch ≡ count_in before.counts b epoch
+  pub put_is : (own theirs : ℕ) → put_in (history after) b own theirs ≡ put_in (history before) b own theirs
+  pub given_is : (own theirs : ℕ) → given_in (history after) b own theirs ≡ given_in (history before) b own theirs
+  pub numbered : (epoch : ℕ) → count_of after b epoch ≡ count_of before b epoch
+
+-- the packets of two histories, as the pair has them
+put_was : (old new : Stage) (a : ℕ) (before after : MemberState) (frames : List Outgoing) (lost : Bool) (b : ℕ) (more : ℕ → ℕ → List (List ℕ)) → Turns old new a before after frames lost
+    → ((own theirs : ℕ) → put_in (history after) b own theirs ≡ put_in (history before) b own theirs ++ more own theirs) → (own theirs : ℕ) → put_in (history_at new.members a) b own theirs ≡ put_in (history_at old.members a) b own theirs ++ more own theirs
+put_was old new a before after frames lost b more t is own theirs =
+    ap (λ es. put_in es b own theirs) (history_at-is new.members a after (is_there old new a before after frames lost t)) ∙ is own theirs
+    ∙ ap (λ es. put_in es b own theirs ++ more own theirs) (sym (history_at-is old.members a before (was_there old new a before after frames lost t)))
+
+given_was : (old new : Stage) (a : ℕ) (before after : MemberState) (frames : List Outgoing) (lost : Bool) (b : ℕ) (more : ℕ → ℕ → List (List ℕ)) → Turns old new a before after frames lost
+    → ((own theirs : ℕ) → given_in (history after) b own theirs ≡ given_in (history before) b own theirs ++ more own theirs) → (own theirs : ℕ) → given_in (history_at new.members a) b own theirs ≡ given_in (history_at old.members a) b own theirs ++ more own theirs
+given_was old new a before after frames lost b more t is own theirs =
+    ap (λ es. given_in es b own theirs) (history_at-is new.members a after (is_there old new a before after frames lost t)) ∙ is own theirs
+    ∙ ap (λ es. given_in es b own theirs ++ more own theirs) (sym (history_at-is old.members a before (was_there old new a before after frames lost t)))
+
+-- the contact numbers of a node that has a link end are those of the end
+come_by : (members : List (Option MemberState)) (air : List Sent) (a b : ℕ) (e : LinkEnd) (more : List (List ℕ)) (own theirs : ℕ) → link_at members a b ≡ Some e → come_in e.contact e.peer_contact more own theirs ≡ come (sight_at members air a b) more own theirs
+unfolding sight_at
+come_by members air a b e more own theirs link =
+    sym (ap (λ o. come_in (own_in (boot_at members a) o) (seen_in o) more own theirs) link)
 
 pub goes : (old new : Stage) (a : ℕ) (before after : MemberState) (frames : List Outgoing) (lost : Bool) (b : ℕ) (e : LinkEnd) (fs : List Outgoing) (put given : List (List ℕ)) (partial : Joining)
-    → Turns old new a before after frames lost → b ≢ a → IsChanged before after frames b e fs partial → Records (sight_in old a b) before after b put given
+    → Turns old new a before after frames lost → b ≢ a → IsChanged before after frames b e fs put given partial
     → Goes (sight_in old a b) (sight_in new a b) (sight_in old b a) 0 e fs put given partial
 unfolding sight_at
-goes old new a before after frames lost b e fs put given partial t apart c r =
+goes old new a before after frames lost b e fs put given partial t apart c =
     let was = was_there old new a before after frames lost t in
     let is = is_there old new a before after frames lost t in
     let boot = boot_at-is new.members a after is ∙ c.boot ∙ sym (boot_at-is old.members a before was) in
@@ -116,10 +139,12 @@ goes old new a before after frames lost b e fs put given partial t apart c r =
     let other = sights_apart old new a before after frames lost t b a apart in record {
       node = λ i. node_from a b (boot i) (link i);
       only = record { end_is = link; alone = λ bearer else_. end_apart (link_at new.members a b) bearer else_ };
-      put_is = λ own theirs. ap (λ es. put_in es b own theirs) (history_at-is new.members a after is) ∙ r.put_is own theirs ∙ ap (λ es. put_in es b own theirs ++ come (sight_in old a b) put own theirs) (sym (history_at-is old.members a before was));
-      given_is = λ own theirs. ap (λ es. given_in es b own theirs) (history_at-is new.members a after is) ∙ r.given_is own theirs ∙ ap (λ es. given_in es b own theirs ++ come (sight_in old a b) given own theirs) (sym (history_at-is old.members a before was));
+      put_is = λ own theirs. put_was old new a before after frames lost b (come_in e.contact e.peer_contact put) t c.put_is own theirs
+          ∙ ap (λ ps. put_in (history_at old.members a) b own theirs ++ ps) (come_by new.members new.air a b e put own theirs link);
+      given_is = λ own theirs. given_was old new a before after frames lost b (come_in e.contact e.peer_contact given) t c.given_is own theirs
+          ∙ ap (λ ps. given_in (history_at old.members a) b own theirs ++ ps) (come_by new.members new.air a b e given own theirs link);
       partial_is = begun_now old new a before after frames lost t b ∙ c.begun;
-      numbered_now = λ s has. count_at-is new.members a b s.epoch after is ∙ c.numbered_now s has;
+      numbered_now = λ s has. count_at-is new.members a b s.epoch after is ∙ count_here after b e s c.link has;
       numbered_else = λ bearer epoch none. counts_alike (count_at new.members a b) (count_at old.members a b) bearer epoch (λ here.
           count_at-is new.members a b epoch after is ∙ c.numbered_else epoch (λ s has. none s has here) ∙ sym (count_at-is old.members a b epoch before was));
       count = adds.count;
@@ -128,21 +153,15 @@ goes old new a before after frames lost b e fs put given partial t apart c r =
     }
 
 -- where no message concerned b, what was put and given is as it was
-pub same_put : (old new : Stage) (a : ℕ) (before after : MemberState) (frames : List Outgoing) (lost : Bool) (b : ℕ) → Turns old new a before after frames lost → Records (sight_in old a b) before after b [] []
-    → (own theirs : ℕ) → put_in (history_at new.members a) b own theirs ≡ put_in (history_at old.members a) b own theirs
-same_put old new a before after frames lost b t r own theirs =
-    let v = sight_in old a b in
-    ap (λ es. put_in es b own theirs) (history_at-is new.members a after (is_there old new a before after frames lost t)) ∙ r.put_is own theirs
-    ∙ ap (λ ps. put_in (history before) b own theirs ++ ps) (either_way ((own == v.node.contact) && (theirs == v.node.seen)) []) ∙ append-nil _
-    ∙ ap (λ es. put_in es b own theirs) (sym (history_at-is old.members a before (was_there old new a before after frames lost t)))
+pub same_put : (old new : Stage) (a : ℕ) (before after : MemberState) (frames : List Outgoing) (lost : Bool) (b : ℕ) → Turns old new a before after frames lost
+    → ((own theirs : ℕ) → put_in (history after) b own theirs ≡ put_in (history before) b own theirs) → (own theirs : ℕ) → put_in (history_at new.members a) b own theirs ≡ put_in (history_at old.members a) b own theirs
+same_put old new a before after frames lost b t same own theirs =
+    put_was old new a before after frames lost b (λ own theirs. []) t (λ own theirs. same own theirs ∙ sym (append-nil _)) own theirs ∙ append-nil _
 
-pub same_given : (old new : Stage) (a : ℕ) (before after : MemberState) (frames : List Outgoing) (lost : Bool) (b : ℕ) → Turns old new a before after frames lost → Records (sight_in old a b) before after b [] []
-    → (own theirs : ℕ) → given_in (history_at new.members a) b own theirs ≡ given_in (history_at old.members a) b own theirs
-same_given old new a before after frames lost b t r own theirs =
-    let v = sight_in old a b in
-    ap (λ es. given_in es b own theirs) (history_at-is new.members a after (is_there old new a before after frames lost t)) ∙ r.given_is own theirs
-    ∙ ap (λ ps. given_in (history before) b own theirs ++ ps) (either_way ((own == v.node.contact) && (theirs == v.node.seen)) []) ∙ append-nil _
-    ∙ ap (λ es. given_in es b own theirs) (sym (history_at-is old.members a before (was_there old new a before after frames lost t)))
+pub same_given : (old new : Stage) (a : ℕ) (before after : MemberState) (frames : List Outgoing) (lost : Bool) (b : ℕ) → Turns old new a before after frames lost
+    → ((own theirs : ℕ) → given_in (history after) b own theirs ≡ given_in (history before) b own theirs) → (own theirs : ℕ) → given_in (history_at new.members a) b own theirs ≡ given_in (history_at old.members a) b own theirs
+same_given old new a before after frames lost b t same own theirs =
+    given_was old new a before after frames lost b (λ own theirs. []) t (λ own theirs. same own theirs ∙ sym (append-nil _)) own theirs ∙ append-nil _
 
 none_sent : (air : List Sent) (s : Stage) (c d count : ℕ) → sent_between air c d ++ map (sent_as (sight_in s c d) (sight_in s d c) 0) (take count []) ≡ sent_between air c d
 none_sent air s c d zero = append-nil _
@@ -155,21 +174,21 @@ same_sent old new a before after frames lost b t none =
     adds.sent ∙ ap (λ os. sent_between old.air a b ++ map (sent_as (sight_in new a b) (sight_in new b a) 0) (take adds.count os)) none ∙ none_sent old.air new a b adds.count
 
 pub same_numbered : (old new : Stage) (a : ℕ) (before after : MemberState) (frames : List Outgoing) (lost : Bool) (b : ℕ) → Turns old new a before after frames lost
-    → ((epoch : ℕ) → count_in after.counts b epoch ≡ count_in before.counts b epoch) → (epoch : ℕ) → count_at new.members a b epoch ≡ count_at old.members a b epoch
+    → ((epoch : ℕ) → count_of after b epoch ≡ count_of before b epoch) → (epoch : ℕ) → count_at new.members a b epoch ≡ count_at old.members a b epoch
 same_numbered old new a before after frames lost b t same epoch =
     count_at-is new.members a b epoch after (is_there old new a before after frames lost t) ∙ same epoch ∙ sym (count_at-is old.members a b epoch before (was_there old new a before after frames lost t))
 
 -- a node that nothing concerned is to b as it was
 sight_idle : (old new : Stage) (a : ℕ) (before after : MemberState) (frames : List Outgoing) (lost : Bool) (b : ℕ)
-    → Turns old new a before after frames lost → IsIdle before after frames b → Records (sight_in old a b) before after b [] [] → sight_in new a b ≡ sight_in old a b
+    → Turns old new a before after frames lost → IsIdle before after frames b → sight_in new a b ≡ sight_in old a b
 unfolding sight_at
-sight_idle old new a before after frames lost b t c r =
+sight_idle old new a before after frames lost b t c =
     let was = was_there old new a before after frames lost t in
     let is = is_there old new a before after frames lost t in
     let boot = boot_at-is new.members a after is ∙ c.boot ∙ sym (boot_at-is old.members a before was) in
     let link = link_at-is new.members a b after is ∙ c.link ∙ sym (link_at-is old.members a b before was) in
-    let put = same_put old new a before after frames lost b t r in
-    let given = same_given old new a before after frames lost b t r in
+    let put = same_put old new a before after frames lost b t c.put_is in
+    let given = same_given old new a before after frames lost b t c.given_is in
     let begun = begun_now old new a before after frames lost t b ∙ c.begun ∙ sym (begun_was old new a before after frames lost t b) in
     let numbered = same_numbered old new a before after frames lost b t c.numbered in
     let sent = same_sent old new a before after frames lost b t c.frames_are in
@@ -177,9 +196,9 @@ sight_idle old new a before after frames lost b t c r =
 
 -- so the two are partners as they were
 pub idle_pair : (old new : Stage) (a : ℕ) (before after : MemberState) (frames : List Outgoing) (lost : Bool) (b : ℕ)
-    → Turns old new a before after frames lost → IsIdle before after frames b → Records (sight_in old a b) before after b [] []
+    → Turns old new a before after frames lost → IsIdle before after frames b
     → PartnersIn old old a b → PartnersIn new old a b
-idle_pair old new a before after frames lost b t c r h = subst (λ v. AreSeen v (sight_in old b a)) (sym (sight_idle old new a before after frames lost b t c r)) h
+idle_pair old new a before after frames lost b t c h = subst (λ v. AreSeen v (sight_in old b a)) (sym (sight_idle old new a before after frames lost b t c)) h
 
 -- ---- all pairs
 

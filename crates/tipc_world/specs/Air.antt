@@ -6,6 +6,7 @@ use Rattle.tipc_types.specs.declared.identity.To.TheVariants as to
 use Rattle.tipc_outside.specs.declared.outgoing.Outgoing.{Outgoing}
 use Rattle.tipc_outside.specs.Frames.{Out}
 use Rattle.tipc_partners.specs.Views.{Frame, er_of, es_of}
+use Rattle.tipc_node.specs.Turns.{is_to}
 use Rattle.tipc_world.specs.declared.air.Sent.{Sent}
 use Rattle.tipc_world.specs.Numbers.{own_in, seen_in}
 use Rattle.tipc_world.specs.States.{MemberState, boot_at, count_at, link_at}
@@ -18,11 +19,6 @@ number_of_node word = word - node_word 0
 abbrev pub receiver_of : To → ℕ
 receiver_of (to.Node address) = number_of_node address.word
 receiver_of to.All = 0
-
--- whether a frame is for node n alone
-abbrev pub is_to : ℕ → To → Bool
-is_to n (to.Node address) = address.word == node_word n
-is_to n to.All = false
 
 -- a frame that leaves node a, with the contact numbers and the counts after the event that sends it
 abbrev pub airborne : List (Option MemberState) → ℕ → Outgoing → Sent

@@ -1,11 +1,15 @@
 -- What an event needs, and what it counts for.
-use Rattle.std.specs.Prelude.{◌≡◌, ◌≢◌, ◌≤◌, ℕ, Bool, true, false, ◌&&◌, List, Option, None, is_none, is_some, slice_index_or}
+use Rattle.std.specs.Prelude.{◌≡◌, ◌≢◌, ◌≤◌, ℕ, Bool, true, false, ◌&&◌, List, Option, Some, None, is_none, is_some, slice_index_or}
 use Rattle.tipc_types.specs.Address.{node_word}
+use Rattle.tipc_types.specs.declared.node_calls.EventNote.{EventNote}
+use Rattle.tipc_types.specs.declared.node_calls.EventNote.TheVariants.{SendPort}
+use Rattle.tipc_node.specs.Calls.{CanPerform}
+use Rattle.tipc_node.specs.Nodes.{NodeState, neighbour_of}
 use Rattle.tipc_node.specs.declared.recording.NodeFault.{NodeFault}
 use Rattle.tipc_node.specs.declared.recording.NodeFault.TheVariants.{JournalFull, NoMemory}
 use Rattle.tipc_world.specs.declared.events.Limit.TheVariants as limit
 use Rattle.tipc_world.specs.declared.events.WorldEvent.{WorldEvent}
-use Rattle.tipc_world.specs.declared.events.WorldEvent.TheVariants.{Know, Mend, Cut, Tick, Restart, Socket, SendPort, Receive, Arrive}
+use Rattle.tipc_world.specs.declared.events.WorldEvent.TheVariants.{Know, Restart, Call, Arrive}
 use Rattle.tipc_world.specs.declared.events.WorldFault.{WorldFault}
 use Rattle.tipc_world.specs.declared.events.WorldFault.TheVariants as fault
 use Rattle.tipc_world.specs.declared.air.Sent.{Sent}
@@ -15,46 +19,39 @@ use Rattle.tipc_world.specs.States.{MemberState, WorldState, knows}
 -- the node at which an event happens
 abbrev pub node_of : WorldEvent → ℕ
 node_of (Know node peer) = node
-node_of (Mend node bearer) = node
-node_of (Cut node bearer) = node
-node_of (Tick node) = node
 node_of (Restart node) = node
-node_of (Socket node) = node
-node_of (SendPort node port to importance body) = node
-node_of (Receive node port) = node
+node_of (Call node call) = node
 node_of (Arrive node bearer frame) = node
 
--- The node that a node comes to know is another one that is there and that it doesn't know yet. What is mended or cut is bearer 0. A
--- message goes to another of the 32 nodes.
+-- a message isn't for the node that sends it
+abbrev pub IsForAnother : ℕ → EventNote → Type 0
+IsForAnother node (SendPort port to importance body) = to.node.word ≢ node_word node
+IsForAnother node other = Unit {0}
+
+-- The node that a node comes to know is another one that is there and that it doesn't know yet. A call is one that nodes
+-- perform, and a message is for another node.
 abbrev pub CanHappenAt : List (Option MemberState) → WorldEvent → Type 0
 CanHappenAt members (Know node peer) =
     (is_some (slice_index_or members node None) ≡ true) × (is_some (slice_index_or members peer None) ≡ true)
     × (peer ≢ node) × (knows members node peer ≡ false)
-CanHappenAt members (Mend node bearer) = (is_some (slice_index_or members node None) ≡ true) × (bearer ≡ 0)
-CanHappenAt members (Cut node bearer) = (is_some (slice_index_or members node None) ≡ true) × (bearer ≡ 0)
-CanHappenAt members (Tick node) = is_some (slice_index_or members node None) ≡ true
 CanHappenAt members (Restart node) = is_some (slice_index_or members node None) ≡ true
-CanHappenAt members (Socket node) = is_some (slice_index_or members node None) ≡ true
-CanHappenAt members (SendPort node port to importance body) =
-    (is_some (slice_index_or members node None) ≡ true)
-    × ((m : ℕ) × (1 ≤ m) × (m ≤ 32) × (m ≢ node) × (to.node.word ≡ node_word m))
-CanHappenAt members (Receive node port) = is_some (slice_index_or members node None) ≡ true
+CanHappenAt members (Call node call) =
+    (is_some (slice_index_or members node None) ≡ true) × CanPerform call × IsForAnother node call
 CanHappenAt members (Arrive node bearer frame) = (is_some (slice_index_or members node None) ≡ true) × (bearer ≤ 1)
 
 abbrev pub CanHappen : WorldState → WorldEvent → Type 0
 CanHappen w event = CanHappenAt w.members event
 
--- what an event needs of itself alone; an arrival is none of these
-abbrev pub CanDo : WorldEvent → Type 0
-CanDo (Know node peer) = (1 ≤ peer) × (peer ≤ 32)
-CanDo (Mend node bearer) = Unit {0}
-CanDo (Cut node bearer) = Unit {0}
-CanDo (Tick node) = Unit {0}
-CanDo (Restart node) = Unit {0}
-CanDo (Socket node) = Unit {0}
-CanDo (SendPort node port to importance body) = (m : ℕ) × (1 ≤ m) × (m ≤ 32) × (to.node.word ≡ node_word m)
-CanDo (Receive node port) = Unit {0}
-CanDo (Arrive node bearer frame) = ⊥
+-- what an event needs of its node alone; an arrival is none of these
+abbrev pub CanDo : NodeState → WorldEvent → Type 0
+CanDo n (Know node peer) = (1 ≤ peer) × (peer ≤ 32) × (neighbour_of n peer ≡ None)
+CanDo n (Restart node) = Unit {0}
+CanDo n (Call node call) = CanPerform call
+CanDo n (Arrive node bearer frame) = ⊥
+
+abbrev pub CanDoAt : List (Option MemberState) → WorldEvent → Type 0
+CanDoAt members event =
+    (m : MemberState) → slice_index_or members (node_of event) None ≡ Some m → CanDo m.node event
 
 -- whether a journal records the event as a call: coming to know a peer isn't one, and a restart isn't
 abbrev pub is_recorded : WorldEvent → Bool

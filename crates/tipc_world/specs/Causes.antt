@@ -1,21 +1,20 @@
 -- Why a link goes down, as the journals, the arrivals and the air show it.
-use Rattle.std.specs.Prelude.{◌≡◌, ◌⊎◌, ◌<◌, ◌^◌, ◌≤◌, ℕ, ◌+◌, Bool, true, false, List, Option, Some, None, drop, option_and_then, slice_get, sum_by}
+use Rattle.std.specs.Prelude.{◌≡◌, ◌⊎◌, ◌<◌, ◌^◌, ◌≤◌, ℕ, ◌+◌, true, List, Option, Some, drop, option_and_then, slice_get, sum_by}
 use Rattle.tipc_types.specs.declared.identity.Addr.{Addr}
 use Rattle.tipc_types.specs.declared.link_words.Cause.{Cause}
 use Rattle.tipc_types.specs.declared.link_words.Cause.TheVariants as cause
 use Rattle.tipc_types.specs.declared.link_words.LinkState.{LinkState}
 use Rattle.tipc_types.specs.declared.node_calls.Answer.TheVariants as answer
 use Rattle.tipc_types.specs.declared.node_calls.Arrival.{Arrival}
-use Rattle.tipc_types.specs.declared.node_calls.Arrival.TheVariants as arrival
 use Rattle.tipc_types.specs.declared.node_calls.EventNote.{EventNote}
 use Rattle.tipc_types.specs.declared.node_calls.EventNote.TheVariants as event
-use Rattle.tipc_header.specs.declared.packet.Header.{Header}
-use Rattle.tipc_header.specs.declared.packet.Header.TheVariants as header
 use Rattle.tipc_header.specs.Frames.{frame_of}
 use Rattle.tipc_header.specs.Grammar.{Fits}
 use Rattle.tipc_header.specs.Spelling.{Fields, spelling}
 use Rattle.tipc_journal.specs.declared.entries.Entry.TheVariants as entry
 use Rattle.tipc_journal.specs.Steps.{NodeStep, PlacedStep}
+use Rattle.tipc_node.specs.Telling.{is_reset, shown_contact}
+use Rattle.tipc_node.specs.Turns.{IsTakenIn}
 use Rattle.tipc_world.specs.declared.air.Arrived.{Arrived}
 use Rattle.tipc_world.specs.declared.air.Sent.{Sent}
 
@@ -36,16 +35,6 @@ pub record IsArrivalOf (seen : Seen) (s : NodeStep) (f : Sent) (peer : Addr) : T
   pub event_is : s.event ≡ event.Arrive 0 number
   pub frame_is : arrived_frame seen number ≡ Some f
   pub from : f.from.word ≡ peer.word
-
--- the contact number that a packet shows
-abbrev pub shown_contact : Header → Option ℕ
-shown_contact (header.Reset said) = Some said.contact
-shown_contact (header.Activate said) = Some said.contact
-shown_contact other = None
-
-abbrev pub is_reset : Header → Bool
-is_reset (header.Reset said) = true
-is_reset other = false
 
 -- a step is the arrival of a RESET of the peer with this epoch
 pub record IsResetOf (seen : Seen) (s : NodeStep) (peer : Addr) (epoch : ℕ) : Type 0 where
@@ -86,12 +75,6 @@ pub record BringsUp (s : NodeStep) (peer : Addr) : Type 0 where
   pub own : ℕ
   pub theirs : ℕ
   pub entry_is : slice_get s.inside place ≡ Some (entry.LinkUp peer 0 own theirs)
-
--- what an arrival answers that is of the link's session: its packet was taken, or waits until those before it were taken
-abbrev pub IsTakenIn : Arrival → Type 0
-IsTakenIn (arrival.Took messages) = Unit {0}
-IsTakenIn arrival.Deferred = Unit {0}
-IsTakenIn (arrival.Ignored reason) = ⊥
 
 -- a step is the arrival of a frame of the peer that the link took
 pub record IsTakenFrom (seen : Seen) (s : NodeStep) (peer : Addr) : Type 0 where

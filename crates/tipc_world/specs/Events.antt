@@ -3,6 +3,7 @@ use Rattle.std.specs.Prelude.{◌≡◌, ◌≢◌, ◌≤◌, ◌<◌, ℕ, ◌
 use Rattle.tipc_types.specs.Address.{node_word}
 use Rattle.tipc_types.specs.declared.node_calls.Answer.{Answer}
 use Rattle.tipc_outside.specs.Frames.{Out}
+use Rattle.tipc_node.specs.Turns.{link_in}
 use Rattle.tipc_world.specs.declared.events.WorldEvent.{WorldEvent}
 use Rattle.tipc_world.specs.Calls.{node_of}
 use Rattle.tipc_world.specs.Deeds.{Did}
@@ -10,7 +11,8 @@ use Rattle.tipc_world.specs.Members.{IsNewcomer}
 use Rattle.tipc_world.specs.States.{MemberState}
 
 -- an event happened at its node, whose frames are in the box; every other node is as it was
-pub record DidAt (old new : List (Option MemberState)) (stamp : ℕ) (event : WorldEvent) (bytes : List ℕ) (box box' : Out) (answered : Answer) : Type 0 where
+pub record DidAt (old new : List (Option MemberState)) (stamp : ℕ) (event : WorldEvent) (bytes : List ℕ)
+    (box box' : Out) (answered : Answer) : Type 0 where
   pub before : MemberState
   pub after : MemberState
   pub was : slice_index_or old (node_of event) None ≡ Some before
@@ -24,11 +26,12 @@ pub record JoinsAt (old new : List (Option MemberState)) (n : ℕ) : Type 0 wher
   pub here : slice_index_or new n None ≡ Some newcomer
   pub others : (m : ℕ) → m ≢ n → slice_index_or new m None ≡ slice_index_or old m None
 
--- each node has a number and its address, and there is a next boot
+-- each node has a number and its address, knows none but the 32 nodes, and there is a next boot
 pub record IsSettledAt (m : MemberState) (n : ℕ) : Type 0 where
   pub from_one : 1 ≤ n
   pub to_32 : n ≤ 32
   pub own : m.node.own ≡ node_word n
+  pub known : (peer : ℕ) → 32 < peer → link_in m.node peer ≡ None
   pub boot : m.node.boot < 4294967295
 
 abbrev pub AreSettled : List (Option MemberState) → Type 0

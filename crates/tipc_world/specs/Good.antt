@@ -12,7 +12,7 @@ use Rattle.tipc_link.specs.Links.{is_traffic}
 use Rattle.tipc_partners.specs.Truth.{IsTold}
 use Rattle.tipc_world.specs.declared.air.Sent.{Sent}
 use Rattle.tipc_world.specs.Lawful.{AreLawful, HasBegun}
-use Rattle.tipc_world.specs.Members.{bytes_of}
+use Rattle.tipc_node.specs.Turns.{bytes_of}
 use Rattle.tipc_world.specs.Spelled.{AreSpelled}
 use Rattle.tipc_world.specs.States.{MemberState, WorldState, accepted_at, delivered_at, history_at}
 

@@ -1,26 +1,16 @@
 -- What each event makes of the node at which it happens.
-use Rattle.std.specs.Prelude.{◌≡◌, ℕ, ◌+◌, false, List, [], ◌∷◌, ◌++◌, Option, None, Some, length}
+use Rattle.std.specs.Prelude.{◌≡◌, ◌<◌, ◌≤◌, ℕ, ◌+◌, false, List, [], ◌∷◌, ◌++◌, Option, None, Some, length, nat_le, option_map, if◌then◌else◌}
 use Rattle.indexmap.specs.IndexMap.{insert_entry}
 use Rattle.tipc_types.specs.Address.{node_word}
-use Rattle.tipc_types.specs.declared.identity.PortId.{PortId}
-use Rattle.tipc_types.specs.declared.link_words.Why.{Why}
-use Rattle.tipc_types.specs.declared.message_forms.Importance.{Importance}
-use Rattle.tipc_types.specs.declared.message_forms.Message.{Message}
-use Rattle.tipc_types.specs.declared.node_calls.Answer.{Answer}
 use Rattle.tipc_types.specs.declared.node_calls.By.{By}
-use Rattle.tipc_types.specs.declared.node_calls.EventNote.{EventNote}
-use Rattle.tipc_types.specs.declared.node_calls.EventNote.TheVariants as event
-use Rattle.tipc_header.specs.Spelling.{Fields, spelling}
-use Rattle.tipc_message.specs.Wire.{packet_of}
+use Rattle.tipc_header.specs.Reading.{word_at}
 use Rattle.tipc_link.specs.Links.{LinkEnd}
 use Rattle.tipc_link.specs.Sessions.{SessionEnd}
-use Rattle.tipc_fragments.specs.Joining.{Joining}
-use Rattle.tipc_pair.specs.declared.changes.PairOutcome.{PairOutcome}
-use Rattle.tipc_pair.specs.Pairs.{Met}
-use Rattle.tipc_node.specs.declared.neighbours.Deed.{Deed}
-use Rattle.tipc_node.specs.declared.neighbours.Neighbour.{Neighbour}
-use Rattle.tipc_node.specs.Nodes.{NodeState, deed_node, heard_node, known_node, neighbour_of, receive_node, recorded, sent_node, socket_node, stopped_node}
-use Rattle.tipc_world.specs.States.{MemberState, link_in, same_session}
+use Rattle.tipc_link_fsm.specs.Table.{is_up}
+use Rattle.tipc_node.specs.Nodes.{NodeState, known_node, neighbour_of}
+use Rattle.tipc_node.specs.Turns.{link_in}
+use Rattle.tipc_world.specs.Readers.{node_number}
+use Rattle.tipc_world.specs.States.{MemberState, count_in, count_of, count_with, same_session}
 
 -- the i-th recorded call of a world has the stamp i, the caller 0, and the number of the calls before it in that boot
 abbrev pub by_in : ℕ → MemberState → By
@@ -30,62 +20,54 @@ by_in stamp m = record { stamp = stamp; caller = 0; call = m.calls }
 abbrev pub called : MemberState → NodeState → MemberState
 called m n = record { node = n; past = m.past; calls = m.calls + 1; arrivals = m.arrivals; counts = m.counts }
 
--- ---- how many packets were numbered
+-- ---- how many packets were numbered in sessions that are over
 
-abbrev pub noted_session : List ((ℕ × ℕ) × ℕ) → ℕ → Option SessionEnd → List ((ℕ × ℕ) × ℕ)
-noted_session counts peer None = counts
-noted_session counts peer (Some s) = insert_entry same_session counts (peer, s.epoch) s.sending.numbered
+-- what is to be noted of a session with a peer: by the peer and its epoch, how many packets it has numbered
+abbrev pub tally : ℕ → SessionEnd → (ℕ × ℕ) × ℕ
+tally peer s = ((peer, s.epoch), s.sending.numbered)
 
-abbrev pub noted_link : List ((ℕ × ℕ) × ℕ) → ℕ → Option LinkEnd → List ((ℕ × ℕ) × ℕ)
-noted_link counts peer None = counts
-noted_link counts peer (Some e) = noted_session counts peer e.session
+-- the last session of a link that is down is over
+abbrev pub over_in : ℕ → Option LinkEnd → Option ((ℕ × ℕ) × ℕ)
+over_in peer None = None
+over_in peer (Some e) = if is_up e.fsm.state then None else option_map (tally peer) e.session
 
--- how many packets the last session with a peer has numbered is noted under its epoch
-abbrev pub noted : MemberState → ℕ → MemberState
-noted m peer = record { node = m.node; past = m.past; calls = m.calls; arrivals = m.arrivals; counts = noted_link m.counts peer (link_in m.node peer) }
+abbrev pub over_with : MemberState → Option ℕ → Option ((ℕ × ℕ) × ℕ)
+over_with m None = None
+over_with m (Some peer) = over_in peer (link_in m.node peer)
 
--- ---- the events
+abbrev pub noted : List ((ℕ × ℕ) × ℕ) → Option ((ℕ × ℕ) × ℕ) → List ((ℕ × ℕ) × ℕ)
+noted counts None = counts
+noted counts (Some last) = insert_entry same_session counts last.0 last.1
 
-abbrev pub socket_member : ℕ → MemberState → MemberState
-socket_member stamp m = called m (socket_node m.node (by_in stamp m))
+-- of the peers below that number every session is noted, and nothing else is
+pub record AreNoted (counts counts' : List ((ℕ × ℕ) × ℕ)) (n : NodeState) (below : ℕ) : Type 0 where
+  pub here : (peer epoch : ℕ) → peer < below
+      → count_in counts' peer epoch ≡ count_with counts (link_in n peer) peer epoch
+  pub else_ : (peer epoch : ℕ) → below ≤ peer → count_in counts' peer epoch ≡ count_in counts peer epoch
 
-abbrev pub receive_member : ℕ → MemberState → ℕ → MemberState
-receive_member stamp m port = called m (receive_node m.node (by_in stamp m) port)
+-- ---- an arrival
 
-abbrev pub deed_member : ℕ → MemberState → Deed → MemberState
-deed_member stamp m d = called m (deed_node m.node (by_in stamp m) d)
+-- the number of the node that a frame names as its sender, in word 3 of its packet, behind the four words of the
+-- envelope
+abbrev pub sender_of : List ℕ → Option ℕ
+sender_of bytes = if nat_le 32 (length bytes) then node_number (word_at 7 bytes) else None
 
--- a message to another node was refused
-abbrev pub refused_member : ℕ → MemberState → ℕ → PortId → Importance → List ℕ → Answer → MemberState
-refused_member stamp m port to importance body why = called m (recorded m.node (by_in stamp m) (event.SendPort port to importance body) [] why)
+-- A frame arrived, which left the node so. The last session with its sender was noted before, since a new one may begin
+-- in its place.
+abbrev pub arrived_member : MemberState → NodeState → Option ℕ → ℕ → ℕ → MemberState
+arrived_member m n sender bearer frame = record {
+  node = n;
+  past = m.past;
+  calls = m.calls + 1;
+  arrivals = m.arrivals ++ record { bearer = bearer; frame = frame } ∷ [];
+  counts = noted m.counts (over_with m sender);
+}
 
-abbrev pub spelled : Option Fields → List ℕ
-spelled (Some p) = spelling p
-spelled None = []
-
--- the bytes of a message's packet
-unfoldable pub bytes_of : Message → List ℕ
-bytes_of message = spelled (packet_of message)
-
--- a message was put on the link to a peer, whose session is this one then but for the packets that move up
-abbrev pub sent_member : ℕ → MemberState → EventNote → ℕ → Neighbour → SessionEnd → Message → MemberState
-sent_member stamp m note peer x put message = noted (called m (sent_node m.node (by_in stamp m) note peer x put message)) peer
-
--- a frame arrived
-abbrev pub with_arrival : MemberState → ℕ → ℕ → MemberState
-with_arrival m bearer frame = record { node = m.node; past = m.past; calls = m.calls; arrivals = m.arrivals ++ record { bearer = bearer; frame = frame } ∷ []; counts = m.counts }
-
--- it reached no link
-abbrev pub stopped_member : ℕ → MemberState → ℕ → ℕ → Why → MemberState
-stopped_member stamp m bearer frame why = with_arrival (called m (stopped_node m.node (by_in stamp m) bearer (length m.arrivals) why)) bearer frame
-
--- it brought a packet of a peer: this was given, and this message is begun then
-abbrev pub heard_member : ℕ → MemberState → ℕ → ℕ → Neighbour → Fields → Met → PairOutcome → Joining → MemberState
-heard_member stamp m frame peer x p met out last =
-    noted (with_arrival (called m (heard_node m.node (by_in stamp m) (length m.arrivals) peer x p met out last)) 0 frame) peer
+-- ---- a node comes to know a peer, is restarted, or comes in
 
 abbrev pub known_member : MemberState → ℕ → MemberState
-known_member m peer = record { node = known_node m.node peer; past = m.past; calls = m.calls; arrivals = m.arrivals; counts = m.counts }
+known_member m peer =
+    record { node = known_node m.node peer; past = m.past; calls = m.calls; arrivals = m.arrivals; counts = m.counts }
 
 -- a node at the beginning of a boot: it knows nobody, and has no sockets and no history
 pub record IsFresh (n : NodeState) (own boot : ℕ) : Type 0 where
@@ -96,13 +78,14 @@ pub record IsFresh (n : NodeState) (own boot : ℕ) : Type 0 where
   pub no_sockets : n.inboxes ≡ []
   pub no_history : n.journal ≡ []
 
--- a node was restarted: its journal is kept, and it begins its next boot
+-- A node was restarted: its journal is kept, and it begins its next boot. How many packets it ever numbered stays
+-- known.
 pub record IsRestarted (m m' : MemberState) : Type 0 where
   pub node : IsFresh m'.node m.node.own (m.node.boot + 1)
   pub past : m'.past ≡ m.past ++ m.node.journal ∷ []
   pub calls : m'.calls ≡ 0
   pub arrivals : m'.arrivals ≡ m.arrivals
-  pub counts : m'.counts ≡ m.counts
+  pub counts : (peer epoch : ℕ) → count_of m' peer epoch ≡ count_of m peer epoch
 
 -- a node that has just come in
 pub record IsNewcomer (m : MemberState) (n : ℕ) : Type 0 where

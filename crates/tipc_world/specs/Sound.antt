@@ -4,25 +4,15 @@ use Rattle.tipc_types.specs.Address.{node_word}
 use Rattle.tipc_types.specs.declared.message_forms.Flow.{Flow}
 use Rattle.tipc_types.specs.declared.message_forms.Flow.TheVariants.{Zero}
 use Rattle.tipc_types.specs.declared.message_forms.Message.{Message}
-use Rattle.tipc_header.specs.Grammar.{Fits}
-use Rattle.tipc_header.specs.Spelling.{Fields}
-use Rattle.tipc_message.specs.Wire.{packet_of, IsPayload}
 use Rattle.tipc_partners.specs.Sights.{AreSeen}
 use Rattle.tipc_world.specs.declared.air.Sent.{Sent}
-use Rattle.tipc_world.specs.Air.{is_to}
+use Rattle.tipc_node.specs.Turns.{IsSendable, is_to, origin_of}
 use Rattle.tipc_world.specs.States.{MemberState, accepted_at, delivered_at, link_at}
 use Rattle.tipc_world.specs.Views.{sight_at}
 
 -- the numbers of nodes are from 1 to 32
 abbrev pub IsNumber : ℕ → Type 0
 IsNumber n = (1 ≤ n) × (n ≤ 32)
-
--- a message whose packet has a spelling
-pub record IsSendable (m : Message) : Type 0 where
-  pub packet : Fields
-  pub packet_is : packet_of m ≡ Some packet
-  pub fits : Fits packet
-  pub payload : IsPayload m
 
 -- a frame in the air goes from one node to another
 pub record IsAirborne (f : Sent) : Type 0 where
@@ -44,11 +34,11 @@ pub record IsSound (members : List (Option MemberState)) (air : List Sent) : Typ
   -- each two nodes are partners
   pub pairs : (a b : ℕ) → IsNumber a → IsNumber b → a ≢ b
       → AreSeen (sight_at members air a b) (sight_at members air b a)
-  -- messages are accepted and delivered in flow Zero alone, and each can be sent
+  -- messages are accepted and delivered in flow Zero alone; each can be sent, and is of the node that accepted it
   pub one_flow : (a b own theirs : ℕ) (flow : Flow) → flow ≢ Zero
       → (accepted_at members a b own theirs flow ≡ []) × (delivered_at members a b own theirs flow ≡ [])
   pub accepted : (a b own theirs k : ℕ) (m : Message) → slice_get (accepted_at members a b own theirs Zero) k ≡ Some m
-      → IsSendable m
+      → IsSendable m × (origin_of m ≡ Some (node_word a))
   pub delivered : (a b own theirs k : ℕ) (m : Message)
       → slice_get (delivered_at members a b own theirs Zero) k ≡ Some m → IsSendable m
   -- what concerns a number that no node has, or the node itself, is nothing

@@ -14,7 +14,7 @@ use Rattle.tipc_link.specs.Sessions.{as_waiting}
 use Rattle.tipc_reassembly.specs.Tracing.{IsTraced}
 use Rattle.tipc_world.specs.declared.air.Sent.{Sent}
 use Rattle.tipc_world.specs.Causes.{arrived_frame, Seen}
-use Rattle.tipc_world.specs.Members.{bytes_of}
+use Rattle.tipc_node.specs.Turns.{bytes_of}
 use Rattle.tipc_world.specs.States.{MemberState}
 
 -- The arrival of that number at the node was of a frame that the peer sent, which brought this packet, as it waited before it was

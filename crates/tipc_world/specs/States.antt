@@ -12,15 +12,17 @@ use Rattle.tipc_journal.specs.declared.entries.Entry.{Entry}
 use Rattle.tipc_journal.specs.Room.{JournalState}
 use Rattle.tipc_journal.specs.Streams.{Stream, accepted, delivered}
 use Rattle.tipc_fragments.specs.Joining.{Joining, fresh}
-use Rattle.tipc_link.specs.Links.{LinkEnd}
+use Rattle.tipc_link.specs.Links.{LinkEnd, numbered_in}
 use Rattle.tipc_link_fsm.specs.Table.{is_up}
 use Rattle.tipc_pair.specs.Pairs.{contact_of}
 use Rattle.tipc_node.specs.Nodes.{NodeState, neighbour_of}
+use Rattle.tipc_node.specs.Turns.{link_in}
 use Rattle.tipc_world.specs.declared.air.Arrived.{Arrived}
 use Rattle.tipc_world.specs.declared.air.Sent.{Sent}
 
--- A node over all its boots: the present one, the journals of those before it, how many calls the present boot has recorded, every frame
--- that ever arrived, and how many packets were numbered for each peer under each epoch.
+-- A node over all its boots: the present one, the journals of those before it, how many calls the present boot has
+-- recorded, every frame that ever arrived, and how many packets were numbered in sessions that are over, by peer and own
+-- epoch.
 pub record MemberState : Type 0 where
   pub node : NodeState
   pub past : List (List Entry)
@@ -57,10 +59,6 @@ joined journals = flat_map (λ j. j.entries) journals
 abbrev pub stream_of : ℕ → ℕ → ℕ → Flow → Stream
 stream_of n own theirs flow = record { peer = record { word = node_word n }; contact = (own, theirs); flow = flow }
 
--- the link end to a peer
-abbrev pub link_in : NodeState → ℕ → Option LinkEnd
-link_in n peer = option_map (λ x. x.pair.link) (neighbour_of n peer)
-
 -- the message that is begun of the fragments of a peer
 abbrev pub begun_in : NodeState → ℕ → Joining
 begun_in n peer = unwrap_or (option_map (λ x. x.pair.begun) (neighbour_of n peer)) fresh
@@ -69,9 +67,18 @@ begun_in n peer = unwrap_or (option_map (λ x. x.pair.begun) (neighbour_of n pee
 abbrev pub same_session : ℕ × ℕ → ℕ × ℕ → Bool
 same_session s t = (s.0 == t.0) && (s.1 == t.1)
 
--- how many packets were numbered for a peer under an epoch
+-- how many packets are noted for a peer under an epoch
 unfoldable pub count_in : List ((ℕ × ℕ) × ℕ) → ℕ → ℕ → ℕ
 count_in counts peer epoch = unwrap_or (lookup (same_session (peer, epoch)) counts) 0
+
+-- how many packets were numbered for a peer under an epoch: in the session of the link end to it, where that is its
+-- epoch, or as it is noted
+abbrev pub count_with : List ((ℕ × ℕ) × ℕ) → Option LinkEnd → ℕ → ℕ → ℕ
+count_with counts link peer epoch =
+    unwrap_or (option_and_then (λ e. numbered_in e.session epoch) link) (count_in counts peer epoch)
+
+unfoldable pub count_of : MemberState → ℕ → ℕ → ℕ
+count_of m peer epoch = count_with m.counts (link_in m.node peer) peer epoch
 
 -- ---- of a world
 
@@ -92,7 +99,7 @@ unfoldable pub history_at : List (Option MemberState) → ℕ → List Entry
 history_at members n = unwrap_or (option_map history (member_at members n)) []
 
 unfoldable pub count_at : List (Option MemberState) → ℕ → ℕ → ℕ → ℕ
-count_at members a b epoch = unwrap_or (option_map (λ m. count_in m.counts b epoch) (member_at members a)) 0
+count_at members a b epoch = unwrap_or (option_map (λ m. count_of m b epoch) (member_at members a)) 0
 
 -- what node a accepted for node b in a contact, its own number first, and a flow
 unfoldable pub accepted_at : List (Option MemberState) → ℕ → ℕ → ℕ → ℕ → Flow → List Message

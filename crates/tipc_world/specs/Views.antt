@@ -10,7 +10,7 @@ use Rattle.tipc_partners.specs.Sights.{Sight}
 use Rattle.tipc_partners.specs.Views.{Frame, Node}
 use Rattle.tipc_world.specs.declared.air.Sent.{Sent}
 use Rattle.tipc_world.specs.Air.{sent_between}
-use Rattle.tipc_world.specs.Members.{bytes_of}
+use Rattle.tipc_node.specs.Turns.{bytes_of}
 use Rattle.tipc_world.specs.Numbers.{own_in, seen_in}
 use Rattle.tipc_world.specs.States.{MemberState, begun_at, boot_at, count_at, history_at, link_at, stream_of}
 

@@ -5,7 +5,7 @@ ghost use Rattle.tipc_world.specs.Calls.{is_recorded, node_of};
 
 use std::alloc::AllocError;
 use tipc_node::NodeFault;
-use tipc_types::{Bytes, Importance, NoMemory, PortId};
+use tipc_types::{EventNote, NoMemory};
 
 /// What may happen to a node of a world.
 #[derive(Clone, Debug, Drop, PartialEq)]
@@ -17,54 +17,17 @@ pub enum WorldEvent {
         /// The other's number.
         peer: u8,
     },
-    /// A bearer of a node is mended.
-    Mend {
-        /// The node's number.
-        node: u8,
-        /// The bearer, which is 0.
-        bearer: u8,
-    },
-    /// A bearer of a node is cut.
-    Cut {
-        /// The node's number.
-        node: u8,
-        /// The bearer, which is 0.
-        bearer: u8,
-    },
-    /// A tick passes at a node.
-    Tick {
-        /// The node's number.
-        node: u8,
-    },
     /// A node is restarted: it keeps nothing, its bearers are cut, and its boot number is the next one.
     Restart {
         /// The node's number.
         node: u8,
     },
-    /// A socket is made.
-    Socket {
+    /// A call of a node, which its journal records: a user's, a tick, or a bearer is cut or mended.
+    Call {
         /// The node's number.
         node: u8,
-    },
-    /// A message is sent to a port of another node.
-    SendPort {
-        /// The sending node's number.
-        node: u8,
-        /// The sending port.
-        port: u32,
-        /// The port that it is for.
-        to: PortId,
-        /// How important it is.
-        importance: Importance,
-        /// The user's bytes.
-        body: Bytes,
-    },
-    /// A message is taken from a socket's inbox.
-    Receive {
-        /// The node's number.
-        node: u8,
-        /// The socket's port.
-        port: u32,
+        /// The call.
+        call: EventNote,
     },
     /// A frame of a bearer's air arrives.
     Arrive {
@@ -84,13 +47,8 @@ impl WorldEvent {
     {
         match self {
             WorldEvent::Know { node, .. } => *node,
-            WorldEvent::Mend { node, .. } => *node,
-            WorldEvent::Cut { node, .. } => *node,
-            WorldEvent::Tick { node } => *node,
             WorldEvent::Restart { node } => *node,
-            WorldEvent::Socket { node } => *node,
-            WorldEvent::SendPort { node, .. } => *node,
-            WorldEvent::Receive { node, .. } => *node,
+            WorldEvent::Call { node, .. } => *node,
             WorldEvent::Arrive { node, .. } => *node,
         }
     }
@@ -102,12 +60,7 @@ impl WorldEvent {
         match self {
             WorldEvent::Know { .. } => false,
             WorldEvent::Restart { .. } => false,
-            WorldEvent::Mend { .. } => true,
-            WorldEvent::Cut { .. } => true,
-            WorldEvent::Tick { .. } => true,
-            WorldEvent::Socket { .. } => true,
-            WorldEvent::SendPort { .. } => true,
-            WorldEvent::Receive { .. } => true,
+            WorldEvent::Call { .. } => true,
             WorldEvent::Arrive { .. } => true,
         }
     }

@@ -1,36 +1,33 @@
 //! A node of a world, with the journals of all its boots.
 
-ghost use Rattle.std.specs.Prelude.{◌≡◌, ◌≢◌, ◌+◌, ◌-◌, ◌<◌, ◌≤◌, ◌++◌, ◌∷◌, [], ℕ, true, false, Some, None, Err, length, map, is_some, option_and_then, option_map, unwrap_or, IfErr, IfOk, IfSome, IfNone, OnErr, OnOk};
+ghost use Rattle.std.specs.Prelude.{◌≡◌, ◌+◌, ◌<◌, ◌≤◌, [], ℕ, true, false, None, length, map, option_and_then, option_map, IfErr, IfOk, OnErr, OnOk};
 ghost use Rattle.indexmap.specs.IndexMap.{spare};
-ghost use Rattle.tipc_types.specs.Address.{node_word};
-ghost use Rattle.tipc_outside.specs.Frames.{Adds};
-ghost use Rattle.tipc_header.specs.Grammar.{Fits};
-ghost use Rattle.tipc_header.specs.Spelling.{view};
+ghost use Rattle.tipc_header.specs.Reading.{word_at};
 ghost use Rattle.tipc_journal.specs.Streams.{accepted, delivered};
+ghost use Rattle.tipc_link.specs.Links.{numbered_in};
 ghost use Rattle.tipc_pair.specs.Pairs.{contact_of};
-ghost use Rattle.tipc_node.specs.Calls.{IsDue};
-ghost use Rattle.tipc_node.specs.declared.neighbours.Neighbour.{Neighbour};
-ghost use Rattle.tipc_node.specs.Nodes.{direct, frames_all, has_room, known_frames, limit_of, load_of, neighbour_of, receive_answer, refusal, session_with, socket_answer, stop_of};
+ghost use Rattle.tipc_node.specs.Calls.{CanPerform};
+ghost use Rattle.tipc_node.specs.Nodes.{has_room, load_of, neighbour_of};
+ghost use Rattle.tipc_node.specs.Turns.{link_in};
 ghost use Rattle.tipc_world.specs.Calls.{is_recorded, CallStops, CanDo, RecordStops};
-ghost use Rattle.tipc_world.specs.Deeds.{ArrivesInto, Did, HearsInto, SendsInto};
+ghost use Rattle.tipc_world.specs.Deeds.{Did};
 ghost use Rattle.tipc_world.specs.Events.{IsSettledAt};
-ghost use Rattle.tipc_world.specs.Members.{by_in, deed_member, known_member, noted_link, receive_member, socket_member, stopped_member, IsNewcomer, IsRestarted};
+ghost use Rattle.tipc_world.specs.Members.{by_in, noted, over_in, over_with, sender_of, tally, AreNoted, IsNewcomer, IsRestarted};
 ghost use Rattle.tipc_world.specs.Numbers.{own_in, seen_in};
-ghost use Rattle.tipc_world.specs.States.{count_in, counted, history, joined, link_in, stream_of};
+ghost use Rattle.tipc_world.specs.States.{count_in, count_of, counted, history, joined, stream_of};
 
 use crate::air::Arrived;
 use crate::events::{Limit, WorldEvent, WorldFault};
+use crate::readers::{is_working, number_of};
 use indexmap::IndexMap;
 use std::alloc::Global;
 use std::marker::Model;
 use tipc_journal::Journal;
-use tipc_node::{Deed, Due, Node};
+use tipc_node::Node;
 use tipc_outside::Outbox;
-use tipc_types::{
-    Addr, Answer, Arrival, By, Bytes, Flow, Importance, LinkState, NoMemory, PortId, Why,
-};
+use tipc_types::{Addr, Answer, By, EventNote, Flow, LinkState, NoMemory};
 
-/// How many packets a node has numbered for each peer, by the peer's number and the node's own epoch.
+/// How many packets were numbered in sessions that are over, by the peer's number and the node's own epoch.
 type Counts = IndexMap<(u8, u64), u64>;
 
 /// A node over all its boots.
@@ -49,32 +46,90 @@ impl Model for Member {
 
     ghost Value = { MemberState };
 
-    ghost view = { λ m. record { node = m.node; past = map (λ j. j.entries) m.past.items; calls = m.calls; arrivals = m.arrivals.items; counts = m.counts.entries } };
+    ghost view = { λ m. record {
+      node = m.node;
+      past = map (λ j. j.entries) m.past.items;
+      calls = m.calls;
+      arrivals = m.arrivals.items;
+      counts = m.counts.entries;
+    } };
 
     ghost invariant = { λ m. m.calls ≤ length m.node.journal };
 }
 
-/// Notes how many packets the last session with a peer has numbered. There is room for one more number.
-fn note(counts: &mut Counts, node: &Node, peer: u8)
+/// What is noted of a session: the peer's number, the node's own epoch, and how many packets it has numbered.
+type Tally = ((u8, u64), u64);
+
+/// Notes how many packets a session has numbered. There is room for one more number.
+fn note(counts: &mut Counts, last: Option<Tally>)
     requires room { 0 < spare counts.old }
-    ensures { counts.new.entries ≡ noted_link counts.old.entries peer (link_in node.now peer) }
+    ensures noted { counts.new.entries ≡ noted counts.old.entries last }
+    ensures spare { spare counts.old ≤ spare counts.new + 1 }
 {
-    let Some(neighbour) = node.neighbour(peer) else {
+    let Some((session, numbered)) = last else {
         return;
     };
-    let Some((epoch, numbered)) = neighbour.pair.last_count() else {
-        return;
-    };
-    match counts.insert((peer, epoch), numbered) {
+    match counts.insert(session, numbered) {
         Ok(_) => {}
         Err(_) => unreachable!(),
     }
 }
 
-/// How many messages were accepted for a peer in a contact, in these journals: the count stops at the last number of 64 bits.
+/// The session with a peer, or the last one: None exactly where there was none.
+fn last_session(node: &Node, peer: u8) -> Option<Tally>
+    ensures { result ≡ option_and_then (λ e. option_map (tally peer) e.session) (link_in node.now peer) }
+{
+    let (epoch, numbered) = node.neighbour(peer)?.pair.last_count()?;
+    Some(((peer, epoch), numbered))
+}
+
+/// The last session with a peer whose link is down.
+fn over_with(node: &Node, peer: u8) -> Option<Tally>
+    ensures { result ≡ over_in peer (link_in node.now peer) }
+{
+    if is_working(node.links(peer)?) {
+        return None;
+    }
+    last_session(node, peer)
+}
+
+/// Notes how many packets the sessions with all peers have numbered. There is room for as many numbers.
+fn note_all(counts: &mut Counts, node: &Node)
+    requires room { 33 ≤ spare counts.old }
+    ensures { AreNoted counts.old.entries counts.new.entries node.now 33 }
+{
+    for peer in 0..33_u8 {
+        note(counts, last_session(node, peer));
+    }
+}
+
+/// The word in which a frame names its sender.
+#[tactic(auto, unfolding(tipc_header::specs::Reading::word_at))]
+fn sender_word(frame: &[u8]) -> u32
+    requires { 32 ≤ length frame.now }
+    ensures { result ≡ word_at 7 frame.now }
+{
+    u32::from_be_bytes([frame[28], frame[29], frame[30], frame[31]])
+}
+
+/// The number of the node that a frame names as its sender: None exactly where it names none of the 32.
+fn sender_of(frame: &[u8]) -> Option<u8>
+    ensures { result ≡ sender_of frame.now }
+{
+    if frame.len() < 32 {
+        return None;
+    }
+    number_of(Addr {
+        word: sender_word(frame),
+    })
+}
+
+/// How many messages were accepted for a peer in a contact, in these journals: the count stops at the last number of
+/// 64 bits.
 fn accepted_in(journals: &[Journal], peer: u8, contact: (u64, u64)) -> u64
     requires { (1 ≤ peer) × (peer ≤ 32) }
-    ensures { result ≡ counted (length (accepted (joined journals.now) (stream_of peer contact.0 contact.1 Flow.Zero))) }
+    ensures { result ≡
+        counted (length (accepted (joined journals.now) (stream_of peer contact.0 contact.1 Flow.Zero))) }
 {
     let mut count = 0_u64;
     for journal in journals {
@@ -83,10 +138,12 @@ fn accepted_in(journals: &[Journal], peer: u8, contact: (u64, u64)) -> u64
     count
 }
 
-/// How many messages were delivered from a peer in a contact, in these journals: the count stops at the last number of 64 bits.
+/// How many messages were delivered from a peer in a contact, in these journals: the count stops at the last number of
+/// 64 bits.
 fn delivered_in(journals: &[Journal], peer: u8, contact: (u64, u64)) -> u64
     requires { (1 ≤ peer) × (peer ≤ 32) }
-    ensures { result ≡ counted (length (delivered (joined journals.now) (stream_of peer contact.0 contact.1 Flow.Zero))) }
+    ensures { result ≡
+        counted (length (delivered (joined journals.now) (stream_of peer contact.0 contact.1 Flow.Zero))) }
 {
     let mut count = 0_u64;
     for journal in journals {
@@ -97,26 +154,6 @@ fn delivered_in(journals: &[Journal], peer: u8, contact: (u64, u64)) -> u64
         ));
     }
     count
-}
-
-/// Whether a message was sent.
-fn is_sent(answer: &Answer) -> bool
-    ensures sent { result ≡ true → answer.now ≡ Answer.Sent }
-    ensures only { answer.now ≡ Answer.Sent → result ≡ true }
-{
-    *answer == Answer::Sent
-}
-
-/// Notes how many packets the last session with a peer has numbered, where a message was sent to it. There is room for one more
-/// number.
-fn note_sent(counts: &mut Counts, node: &Node, peer: u8, answer: &Answer)
-    requires room { 0 < spare counts.old }
-    ensures sent { answer.now ≡ Answer.Sent → counts.new.entries ≡ noted_link counts.old.entries peer (link_in node.now peer) }
-    ensures refused { (answer.now ≡ Answer.Sent → ⊥) → counts.new.entries ≡ counts.old.entries }
-{
-    if is_sent(answer) {
-        note(counts, node, peer);
-    }
 }
 
 impl Member {
@@ -145,14 +182,32 @@ impl Member {
         }
     }
 
-    /// How many packets were numbered for a peer under an epoch.
+    /// How many packets are noted for a peer under an epoch.
     #[tactic(auto, unfolding(crate::specs::States::count_in))]
-    pub fn count(&self, peer: u8, epoch: u64) -> u64
+    fn noted(&self, peer: u8, epoch: u64) -> u64
         ensures { result ≡ count_in self.now.counts peer epoch }
     {
         match self.counts.get(&(peer, epoch)) {
             Some(count) => *count,
             None => 0,
+        }
+    }
+
+    /// How many packets the session with a peer has numbered, where the epoch is its own.
+    fn numbered(&self, peer: u8, epoch: u64) -> Option<u64>
+        ensures { result ≡ option_and_then (λ e. numbered_in e.session epoch) (link_in self.now.node peer) }
+    {
+        self.node.neighbour(peer)?.pair.session_count(epoch)
+    }
+
+    /// How many packets were numbered for a peer under an epoch.
+    #[tactic(auto, unfolding(crate::specs::States::count_of))]
+    pub fn count(&self, peer: u8, epoch: u64) -> u64
+        ensures { result ≡ count_of self.now peer epoch }
+    {
+        match self.numbered(peer, epoch) {
+            Some(count) => count,
+            None => self.noted(peer, epoch),
         }
     }
 
@@ -175,7 +230,8 @@ impl Member {
     #[tactic(auto, using(crate::proofs::Calls::call_fits))]
     fn begin(&self) -> Result<u64, WorldFault>
         ensures ok { IfOk result (λ calls. (calls ≡ self.now.calls + 1) × (has_room self.now.node.journal ≡ true)) }
-        ensures full { IfErr result (λ fault. (fault ≡ WorldFault.Limit Limit.Journal) × (has_room self.now.node.journal ≡ false)) }
+        ensures full { IfErr result (λ fault.
+            (fault ≡ WorldFault.Limit Limit.Journal) × (has_room self.now.node.journal ≡ false)) }
     {
         if self.node.has_room() {
             Ok(self.calls + 1)
@@ -184,20 +240,24 @@ impl Member {
         }
     }
 
-    /// How many messages it accepted for a peer in a contact, in all its boots: the count stops at the last number of 64 bits.
+    /// How many messages it accepted for a peer in a contact, in all its boots: the count stops at the last number of
+    /// 64 bits.
     pub fn accepted_count(&self, peer: u8, contact: (u64, u64)) -> u64
         requires { (1 ≤ peer) × (peer ≤ 32) }
-        ensures { result ≡ counted (length (accepted (history self.now) (stream_of peer contact.0 contact.1 Flow.Zero))) }
+        ensures { result ≡
+            counted (length (accepted (history self.now) (stream_of peer contact.0 contact.1 Flow.Zero))) }
     {
         accepted_in(self.past.as_slice(), peer, contact).saturating_add(
             self.node.accepted_count(peer, contact),
         )
     }
 
-    /// How many messages were delivered at it from a peer in a contact, in all its boots: the count stops at the last number of 64 bits.
+    /// How many messages were delivered at it from a peer in a contact, in all its boots: the count stops at the last
+    /// number of 64 bits.
     pub fn delivered_count(&self, peer: u8, contact: (u64, u64)) -> u64
         requires { (1 ≤ peer) × (peer ≤ 32) }
-        ensures { result ≡ counted (length (delivered (history self.now) (stream_of peer contact.0 contact.1 Flow.Zero))) }
+        ensures { result ≡
+            counted (length (delivered (history self.now) (stream_of peer contact.0 contact.1 Flow.Zero))) }
     {
         delivered_in(self.past.as_slice(), peer, contact).saturating_add(
             self.node.delivered_count(peer, contact),
@@ -235,35 +295,37 @@ impl Member {
     /// Comes to know a peer.
     pub fn know(&mut self, alloc: Global, peer: u8, out: &mut Outbox) -> Answer
         requires peer { (1 ≤ peer) × (peer ≤ 32) }
-        ensures { (stamp node : ℕ) → Did stamp (WorldEvent.Know node peer) [] self.old self.new out.old out.new result }
+        requires alone { neighbour_of self.old.node peer ≡ None }
+        ensures { (stamp node : ℕ) →
+            Did stamp (WorldEvent.Know node peer) [] self.old self.new out.old out.new result }
     {
         self.node.know(alloc, peer, out);
         Answer::Done
     }
 
-    /// Lets something happen to all neighbours alike.
-    pub fn take_part(
+    /// Performs a call.
+    pub fn perform(
         &mut self,
         alloc: Global,
         stamp: u64,
-        deed: Deed,
+        call: EventNote,
         out: &mut Outbox,
     ) -> Result<Answer, WorldFault>
-        ensures after { OnOk result (self.new ≡ deed_member stamp self.old deed) }
-        ensures frames { OnOk result (Adds out.old out.new (frames_all deed self.old.node.neighbours)) }
-        ensures answer { IfOk result (λ a. a ≡ Answer.Done) }
+        requires can { CanPerform call }
+        ensures did { IfOk result (λ a. (node : ℕ) →
+            Did stamp (WorldEvent.Call node call) [] self.old self.new out.old out.new a) }
         ensures room { OnOk result (has_room self.old.node.journal ≡ true) }
         ensures full { IfErr result (λ fault. RecordStops (has_room self.old.node.journal) fault) }
         ensures err { OnErr result ((self.new ≡ self.old) × (out.new ≡ out.old)) }
     {
         let calls = self.begin()?;
         let by = self.by(stamp);
-        self.node.take_part(alloc, by, deed, out)?;
+        let answer = self.node.perform(alloc, by, call, out)?;
         self.calls = calls;
-        Ok(Answer::Done)
+        Ok(answer)
     }
 
-    /// Is restarted: its journal is kept, and it begins its next boot.
+    /// Is restarted: its journal is kept, its sessions are noted, and it begins its next boot.
     pub fn restart(&mut self, alloc: Global) -> Result<Answer, WorldFault>
         requires settled { (n : ℕ) × IsSettledAt self.old n }
         ensures ok { IfOk result (λ a. IsRestarted self.old self.new × (a ≡ Answer.Done)) }
@@ -272,66 +334,12 @@ impl Member {
     {
         let next = Node::new(alloc, self.node.own(), self.node.boot() + 1)?;
         self.past.reserve(1)?;
+        self.counts.reserve(33)?;
+        note_all(&mut self.counts, &self.node);
         let last = std::mem::replace(&mut self.node, next);
         self.past.push_reserved(last.into_journal());
         self.calls = 0;
         Ok(Answer::Done)
-    }
-
-    /// Makes a socket.
-    pub fn socket(&mut self, alloc: Global, stamp: u64) -> Result<Answer, WorldFault>
-        ensures ok { IfOk result (λ a. (self.new ≡ socket_member stamp self.old) × (a ≡ socket_answer self.old.node) × (has_room self.old.node.journal ≡ true)) }
-        ensures full { IfErr result (λ fault. RecordStops (has_room self.old.node.journal) fault) }
-        ensures err { OnErr result (self.new ≡ self.old) }
-    {
-        let calls = self.begin()?;
-        let by = self.by(stamp);
-        let answer = self.node.socket(alloc, by)?;
-        self.calls = calls;
-        Ok(answer)
-    }
-
-    /// Takes the first message of a port's inbox.
-    pub fn receive(&mut self, alloc: Global, stamp: u64, port: u32) -> Result<Answer, WorldFault>
-        ensures ok { IfOk result (λ a. (self.new ≡ receive_member stamp self.old port) × (a ≡ receive_answer self.old.node port) × (has_room self.old.node.journal ≡ true)) }
-        ensures full { IfErr result (λ fault. RecordStops (has_room self.old.node.journal) fault) }
-        ensures err { OnErr result (self.new ≡ self.old) }
-    {
-        let calls = self.begin()?;
-        let by = self.by(stamp);
-        let answer = self.node.receive(alloc, by, port)?;
-        self.calls = calls;
-        Ok(answer)
-    }
-
-    /// Sends a message to a port of the peer.
-    pub fn send(
-        &mut self,
-        alloc: Global,
-        stamp: u64,
-        port: u32,
-        to: PortId,
-        peer: u8,
-        importance: Importance,
-        body: Bytes,
-        out: &mut Outbox,
-    ) -> Result<Answer, WorldFault>
-        requires peer { (1 ≤ peer) × (peer ≤ 32) }
-        requires named { to.node.word ≡ node_word peer }
-        ensures sends { IfOk result (λ a. SendsInto stamp port peer to importance body self.old self.new out.old out.new a) }
-        ensures room { OnOk result (has_room self.old.node.journal ≡ true) }
-        ensures full { IfErr result (λ fault. RecordStops (has_room self.old.node.journal) fault) }
-        ensures err { OnErr result ((self.new ≡ self.old) × (out.new ≡ out.old)) }
-    {
-        let calls = self.begin()?;
-        let by = self.by(stamp);
-        self.counts.reserve(1)?;
-        let answer = self
-            .node
-            .send_port(alloc, by, port, to, peer, importance, body, out)?;
-        note_sent(&mut self.counts, &self.node, peer, &answer);
-        self.calls = calls;
-        Ok(answer)
     }
 
     /// How many frames arrived at it.
@@ -341,66 +349,15 @@ impl Member {
         self.arrivals.len() as u64
     }
 
-    /// A frame arrives that reaches no link, and why.
-    fn pass_over(
-        &mut self,
-        alloc: Global,
-        stamp: u64,
-        bearer: u8,
-        place: u64,
-        why: Why,
-    ) -> Result<Answer, WorldFault>
-        ensures ok { IfOk result (λ a. (self.new ≡ stopped_member stamp self.old bearer place why) × (a ≡ Answer.Arrived (Arrival.Ignored why)) × (has_room self.old.node.journal ≡ true)) }
-        ensures full { IfErr result (λ fault. RecordStops (has_room self.old.node.journal) fault) }
-        ensures err { OnErr result (self.new ≡ self.old) }
+    /// The last session with the sender of a frame, where the link to it is down.
+    fn last_with(&self, frame: &[u8]) -> Option<Tally>
+        ensures { result ≡ over_with self.now (sender_of frame.now) }
     {
-        let calls = self.begin()?;
-        let by = self.by(stamp);
-        let number = self.arrived();
-        self.arrivals.reserve(1)?;
-        let arrival = self.node.ignore(alloc, by, bearer, number, why)?;
-        self.arrivals.push_reserved(Arrived {
-            bearer,
-            frame: place,
-        });
-        self.calls = calls;
-        Ok(Answer::Arrived(arrival))
+        over_with(&self.node, sender_of(frame)?)
     }
 
-    /// A frame arrives whose packet is due at the link of a peer.
-    fn hear(
-        &mut self,
-        alloc: Global,
-        stamp: u64,
-        place: u64,
-        due: Due<'_>,
-        out: &mut Outbox,
-    ) -> Result<Answer, WorldFault>
-        requires peer { (1 ≤ due.peer) × (due.peer ≤ 32) }
-        requires fits { Fits (view due.packet) }
-        requires there { is_some (neighbour_of self.old.node due.peer) ≡ true }
-        ensures heard { (x : Neighbour) → neighbour_of self.old.node due.entry.peer ≡ Some x →
-            IfOk result (λ a. HearsInto stamp place due.entry.peer due.entry.first due.entry.second x (view due.entry.packet) self.old self.new out.old out.new a) }
-        ensures room { OnOk result (has_room self.old.node.journal ≡ true) }
-        ensures full { IfErr result (λ fault. RecordStops (has_room self.old.node.journal) fault) }
-        ensures err { OnErr result ((self.new ≡ self.old) × (out.new ≡ out.old)) }
-    {
-        let calls = self.begin()?;
-        let by = self.by(stamp);
-        let number = self.arrived();
-        self.arrivals.reserve(1)?;
-        self.counts.reserve(1)?;
-        let arrival = self.node.hear(alloc, by, number, due, out)?;
-        note(&mut self.counts, &self.node, due.peer);
-        self.arrivals.push_reserved(Arrived {
-            bearer: 0,
-            frame: place,
-        });
-        self.calls = calls;
-        Ok(Answer::Arrived(arrival))
-    }
-
-    /// A frame arrives on a bearer, which is the one at that place of the bearer's air.
+    /// A frame arrives on a bearer, which is the one at that place of the bearer's air. The last session with its sender is
+    /// noted where the link is down, since a new one may begin in its place.
     pub fn arrive(
         &mut self,
         alloc: Global,
@@ -410,15 +367,26 @@ impl Member {
         frame: &[u8],
         out: &mut Outbox,
     ) -> Result<Answer, WorldFault>
-        ensures arrives { IfOk result (λ a. ArrivesInto stamp bearer place frame.now self.old self.new out.old out.new a) }
+        ensures did { IfOk result (λ a. (node : ℕ) →
+            Did stamp (WorldEvent.Arrive node bearer place) frame.now self.old self.new out.old out.new a) }
         ensures room { OnOk result (has_room self.old.node.journal ≡ true) }
         ensures full { IfErr result (λ fault. RecordStops (has_room self.old.node.journal) fault) }
         ensures err { OnErr result ((self.new ≡ self.old) × (out.new ≡ out.old)) }
     {
-        match self.node.due(bearer, frame) {
-            Err(why) => self.pass_over(alloc, stamp, bearer, place, why),
-            Ok(due) => self.hear(alloc, stamp, place, due, out),
-        }
+        let calls = self.begin()?;
+        let by = self.by(stamp);
+        let number = self.arrived();
+        let last = self.last_with(frame);
+        self.arrivals.reserve(1)?;
+        self.counts.reserve(1)?;
+        let arrival = self.node.arrive(alloc, by, bearer, number, frame, out)?;
+        note(&mut self.counts, last);
+        self.arrivals.push_reserved(Arrived {
+            bearer,
+            frame: place,
+        });
+        self.calls = calls;
+        Ok(Answer::Arrived(arrival))
     }
 
     /// Lets an event other than an arrival happen. Its answers are those of the calls above.
@@ -429,7 +397,7 @@ impl Member {
         event: WorldEvent,
         out: &mut Outbox,
     ) -> Result<Answer, WorldFault>
-        requires can { CanDo event }
+        requires can { CanDo self.old.node event }
         requires settled { (n : ℕ) × IsSettledAt self.old n }
         ensures did { IfOk result (λ a. Did stamp event [] self.old self.new out.old out.new a) }
         ensures room { is_recorded event ≡ true → OnOk result (has_room self.old.node.journal ≡ true) }
@@ -438,22 +406,8 @@ impl Member {
     {
         match event {
             WorldEvent::Know { node: _, peer } => Ok(self.know(alloc, peer, out)),
-            WorldEvent::Mend { .. } => self.take_part(alloc, stamp, Deed::Mend, out),
-            WorldEvent::Cut { .. } => self.take_part(alloc, stamp, Deed::Cut, out),
-            WorldEvent::Tick { .. } => self.take_part(alloc, stamp, Deed::Tick, out),
             WorldEvent::Restart { .. } => self.restart(alloc),
-            WorldEvent::Socket { .. } => self.socket(alloc, stamp),
-            WorldEvent::SendPort {
-                node: _,
-                port,
-                to,
-                importance,
-                body,
-            } => match to.node.number() {
-                Some(peer) => self.send(alloc, stamp, port, to, peer, importance, body, out),
-                None => unreachable!(),
-            },
-            WorldEvent::Receive { node: _, port } => self.receive(alloc, stamp, port),
+            WorldEvent::Call { node: _, call } => self.perform(alloc, stamp, call, out),
             WorldEvent::Arrive { .. } => unreachable!(),
         }
     }

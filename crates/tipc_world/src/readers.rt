@@ -15,7 +15,7 @@ use tipc_types::{Addr, Answer, LinkState, NoMemory, PeerLinks, Sequence, To};
 
 /// The number of the node of an address, where it is one of the 32.
 #[tactic(auto, unfolding(crate::specs::Readers::node_number))]
-fn number_of(address: Addr) -> Option<u8>
+pub fn number_of(address: Addr) -> Option<u8>
     ensures value { result ≡ node_number address.word }
     ensures range { IfSome result (λ n. (1 ≤ n) × (n ≤ 32)) }
 {
@@ -77,7 +77,7 @@ fn load_all(members: &[Option<Member>]) -> (u64, u64)
 }
 
 /// Whether a link end in this state is up.
-fn is_working(state: LinkState) -> bool
+pub fn is_working(state: LinkState) -> bool
     ensures { result ≡ is_up state }
 {
     match state {

@@ -7,7 +7,7 @@ ghost use Rattle.tipc_world.specs.States.{is_there};
 use super::{World, WorldEvent};
 use std::alloc::Global;
 use std::test::Fail;
-use tipc_types::{Addr, Answer, Arrival, Bytes, Importance, LinkState, PortId, Why};
+use tipc_types::{Addr, Answer, Arrival, Bytes, EventNote, Importance, LinkState, PortId, Why};
 
 /// What is answered where an event happens.
 fn happen(alloc: Global, world: &mut World, event: WorldEvent) -> Result<Answer, Fail>
@@ -15,6 +15,14 @@ fn happen(alloc: Global, world: &mut World, event: WorldEvent) -> Result<Answer,
     ensures { (n : ℕ) → is_there world.new n ≡ is_there world.old n }
 {
     Ok(world.step(alloc, event)?)
+}
+
+/// What is answered where a node performs a call.
+fn call(alloc: Global, world: &mut World, node: u8, call: EventNote) -> Result<Answer, Fail>
+    requires { CanHappen world.old (WorldEvent.Call node call) }
+    ensures { (n : ℕ) → is_there world.new n ≡ is_there world.old n }
+{
+    happen(alloc, world, WorldEvent::Call { node, call })
 }
 
 /// A node comes to know another, where it doesn't know it yet.
@@ -53,13 +61,13 @@ fn two_nodes(alloc: Global) -> Result<World, Fail>
     world.add_node(alloc, 2)?;
     know(alloc, &mut world, 1, 2)?;
     know(alloc, &mut world, 2, 1)?;
-    happen(alloc, &mut world, WorldEvent::Mend { node: 1, bearer: 0 })?;
-    happen(alloc, &mut world, WorldEvent::Mend { node: 2, bearer: 0 })?;
+    call(alloc, &mut world, 1, EventNote::Mend { bearer: 0 })?;
+    call(alloc, &mut world, 2, EventNote::Mend { bearer: 0 })?;
     arrive(alloc, &mut world, 2, 0)?;
     arrive(alloc, &mut world, 1, 2)?;
     arrive(alloc, &mut world, 2, 3)?;
-    happen(alloc, &mut world, WorldEvent::Socket { node: 1 })?;
-    happen(alloc, &mut world, WorldEvent::Socket { node: 2 })?;
+    call(alloc, &mut world, 1, EventNote::Socket)?;
+    call(alloc, &mut world, 2, EventNote::Socket)?;
     Ok(world)
 }
 
@@ -72,14 +80,13 @@ fn send(alloc: Global, world: &mut World) -> Result<Answer, Fail>
         node: Addr::node(2),
         port: 1,
     };
-    let event = WorldEvent::SendPort {
-        node: 1,
+    let note = EventNote::SendPort {
         port: 1,
         to,
         importance: Importance::Low,
         body: Bytes::from_slice(alloc, b"x")?,
     };
-    happen(alloc, world, event)
+    call(alloc, world, 1, note)
 }
 
 /// Sends a message, the one of that number, lets its frame arrive and receives it. The STATE that leaves behind each
@@ -90,7 +97,7 @@ fn exchange(alloc: Global, world: &mut World, number: u64, frames: u64) -> Resul
 {
     let sent = send(alloc, world)? == Answer::Sent;
     let took = arrive(alloc, world, 2, frames)? == Answer::Arrived(Arrival::Took(1));
-    let answer = happen(alloc, world, WorldEvent::Receive { node: 2, port: 1 })?;
+    let answer = call(alloc, world, 2, EventNote::Receive { port: 1 })?;
     let received = answer != Answer::Empty && answer != Answer::NoSocket;
     let next = frames.saturating_add(1);
     if number % 16 != 0 {
@@ -152,7 +159,7 @@ fn a_restarted_node_begins_anew(rt: HostRuntime) -> Result<(), Fail> {
     let cut = Answer::Arrived(Arrival::Ignored(Why::Cut));
     assert_eq!(rt; arrive(alloc, &mut world, 2, FRAMES_OF_THE_LINK)?, cut);
     assert_eq!(rt;
-        happen(alloc, &mut world, WorldEvent::Socket { node: 2 })?,
+        call(alloc, &mut world, 2, EventNote::Socket)?,
         Answer::Socket(1_048_577)
     );
     assert_eq!(rt; world.receiver(FRAMES_OF_THE_LINK), Some(2));

@@ -2,7 +2,7 @@
 
 ghost use Rattle.std.specs.Prelude.{◌≡◌, ◌≢◌, ◌+◌, ◌<◌, ◌≤◌, ◌==◌, ◌||◌, ◌&&◌, ◌++◌, [], List, ℕ, Bool, true, false, Some, None, Err, length, slice_get, slice_index_or, is_some, if◌then◌else◌, IfErr, IfOk, OnErr, OnOk};
 ghost use Rattle.tipc_types.specs.Address.{node_word};
-ghost use Rattle.tipc_world.specs.Calls.{counts_at, is_call_at, is_recorded, node_of, CallStops, CanDo, CanHappen, CanHappenAt, RecordStops};
+ghost use Rattle.tipc_world.specs.Calls.{counts_at, is_call_at, is_recorded, node_of, CallStops, CanDoAt, CanHappen, CanHappenAt, RecordStops};
 ghost use Rattle.tipc_world.specs.Due.{frame_for, unarrived};
 ghost use Rattle.tipc_world.specs.Events.{AreSettled, DidAt, IsSettledAt, IsSteady, JoinsAt};
 ghost use Rattle.tipc_world.specs.Good.{IsGood};
@@ -134,7 +134,7 @@ fn happen_at(
     event: WorldEvent,
     out: &mut Outbox,
 ) -> Result<Answer, WorldFault>
-    requires can { CanDo event }
+    requires can { CanDoAt members.old.items event }
     requires there { is_some (slice_index_or members.old.items (node_of event) None) ≡ true }
     requires settled { AreSettled members.old.items }
     ensures did { IfOk result (λ a. DidAt members.old.items members.new.items stamp event [] out.old out.new a) }
@@ -180,7 +180,7 @@ fn turn(
     stamp: u64,
     event: WorldEvent,
 ) -> Result<Happened, WorldFault>
-    requires can { CanDo event }
+    requires can { CanDoAt members.old.items event }
     requires there { is_some (slice_index_or members.old.items (node_of event) None) ≡ true }
     requires settled { AreSettled members.old.items }
     ensures happens { IfOk result (λ h. Happens (stage members.old.items air.old.items) (stage members.new.items air.new.items) stamp event [] h.answer h.lost × (h.counted ≡ true)) }

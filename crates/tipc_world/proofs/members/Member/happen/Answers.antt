@@ -8,13 +8,3 @@ pub returns-in-Restart-clause-did : goal.returns-in-Restart-clause-did
 returns-in-Restart-clause-did c =
     subst (λ e. IfOk c.restart.result (λ a. Did c.args.stamp e [] c.args.self.now c.restart.new.self c.args.out.now c.args.out.now a)) (sym c.in-Restart.is)
     (if_ok c.restart.result (λ a told. record { frames = []; does = (told.0, refl, told.1); adds = adds_none _ _ refl }) c.restart.ensures.ok)
-
-pub returns-in-Socket-clause-did : goal.returns-in-Socket-clause-did
-returns-in-Socket-clause-did c =
-    subst (λ e. IfOk c.socket.result (λ a. Did c.args.stamp e [] c.args.self.now c.socket.new.self c.args.out.now c.args.out.now a)) (sym c.in-Socket.is)
-    (if_ok c.socket.result (λ a told. record { frames = []; does = (told.0, refl, told.1); adds = adds_none _ _ refl }) c.socket.ensures.ok)
-
-pub returns-in-Receive-clause-did : goal.returns-in-Receive-clause-did
-returns-in-Receive-clause-did c =
-    subst (λ e. IfOk c.receive.result (λ a. Did c.args.stamp e [] c.args.self.now c.receive.new.self c.args.out.now c.args.out.now a)) (sym c.in-Receive.is)
-    (if_ok c.receive.result (λ a told. record { frames = []; does = (told.0, refl, told.1); adds = adds_none _ _ refl }) c.receive.ensures.ok)

@@ -1,0 +1,236 @@
+-- The entries of a step by the peers of which they tell: of a change, of what was given, and of what happens to all neighbours.
+use Rattle.std.proofs.Common.{◌≡◌, ◌≢◌, ◌+◌, ◌<◌, ◌==◌, ◌&&◌, ℕ, zero, suc, true, false, List, [], ◌∷◌, ◌++◌, Option, Some, None, filter, is_some, slice_index_or, refl, ap, ◌∙◌, subst, append-nil, arith}
+use Rattle.std.specs.Prelude.{All}
+use Rattle.std.specs.List.{flat_map, list_all}
+use Rattle.std.proofs.lemmas.Bool.Decides.{nat_tests}
+use Rattle.std.proofs.lemmas.List.Elements.{All-append, All-cons, All-nil, filter-append}
+use Rattle.std.proofs.lemmas.List.Folds.{list_all-append}
+use Rattle.tipc_types.specs.Address.{node_word}
+use Rattle.tipc_types.specs.declared.link_words.LinkState.TheVariants.{ResetUnknown}
+use Rattle.tipc_outside.specs.declared.outgoing.Outgoing.{Outgoing}
+use Rattle.tipc_journal.specs.declared.entries.Entry.{Entry}
+use Rattle.tipc_journal.specs.declared.entries.Entry.TheVariants as entry
+use Rattle.tipc_journal.specs.Steps.{IsInside, is_inner}
+use Rattle.tipc_reassembly.specs.declared.opening.Opened.{Opened}
+use Rattle.tipc_reassembly.specs.declared.opening.Opened.TheVariants.{Passed, Whole}
+use Rattle.tipc_pair.specs.declared.changes.PairChange.{PairChange}
+use Rattle.tipc_pair.specs.declared.changes.PairChange.TheVariants.{Stay, Began, Ended}
+use Rattle.tipc_node.specs.declared.neighbours.Deed.{Deed}
+use Rattle.tipc_node.specs.declared.neighbours.Neighbour.{Neighbour}
+use Rattle.tipc_node.specs.Neighbours.{done}
+use Rattle.tipc_node.specs.Nodes.{NodeState, change_entries, delivered_by, deliveries_of, entries_all, entries_in, entries_one, frames_all, frames_one, message_in, neighbour_of}
+use Rattle.tipc_node.specs.Turns.{IsOfNeighbour, IsPlaced, IsRouted, addr_of, delivered_message, delivered_of, is_accepted_for, is_change_of, is_delivered_from}
+use Rattle.tipc_node.proofs.Addressing.{AreFor}
+use Rattle.tipc_node.proofs.Telling.{same_word}
+
+pub other_word : (b c : ℕ) → c ≢ b → (node_word c == node_word b) ≡ false
+other_word b c apart = grind (arith, nat_tests, apart)
+
+-- ---- the entries of a change
+
+pub changes_own : (b : ℕ) (c : PairChange) → filter (is_change_of b) (change_entries b c) ≡ change_entries b c
+changes_own b Stay = refl
+changes_own b (Began own theirs numbers) = rw (same_word b) refl
+changes_own b (Ended because shown numbers number) = rw (same_word b) refl
+
+pub changes_other : (b peer : ℕ) (c : PairChange) → peer ≢ b → filter (is_change_of b) (change_entries peer c) ≡ []
+changes_other b peer Stay apart = refl
+changes_other b peer (Began own theirs numbers) apart = rw (other_word b peer apart) refl
+changes_other b peer (Ended because shown numbers number) apart = rw (other_word b peer apart) refl
+
+pub changes_accept : (b peer : ℕ) (c : PairChange) → filter (is_accepted_for b) (change_entries peer c) ≡ []
+changes_accept b peer Stay = refl
+changes_accept b peer (Began own theirs numbers) = refl
+changes_accept b peer (Ended because shown numbers number) = refl
+
+pub changes_deliver : (b peer : ℕ) (c : PairChange) → filter (is_delivered_from b) (change_entries peer c) ≡ []
+changes_deliver b peer Stay = refl
+changes_deliver b peer (Began own theirs numbers) = refl
+changes_deliver b peer (Ended because shown numbers number) = refl
+
+pub changes_inside : (peer : ℕ) (c : PairChange) → IsInside (change_entries peer c)
+changes_inside peer Stay = refl
+changes_inside peer (Began own theirs numbers) = refl
+changes_inside peer (Ended because shown numbers number) = refl
+
+pub inside_both : (xs ys : List Entry) → IsInside xs → IsInside ys → IsInside (xs ++ ys)
+inside_both xs ys hx hy = list_all-append is_inner xs ys ∙ ap (λ b. b && list_all is_inner ys) hx ∙ hy
+
+two_placed : (n : NodeState) (peer : ℕ) (x y : Entry) → (IsOfNeighbour n (addr_of peer) → IsPlaced n x × IsPlaced n y) → is_some (neighbour_of n peer) ≡ true → All (IsPlaced n) (x ∷ y ∷ [])
+two_placed n peer x y both there = let of = both (peer, there, refl) in All-cons (IsPlaced n) x (y ∷ []) of.0 (All-cons (IsPlaced n) y [] of.1 (All-nil (IsPlaced n)))
+
+pub changes_placed : (n : NodeState) (peer : ℕ) (c : PairChange) → is_some (neighbour_of n peer) ≡ true → All (IsPlaced n) (change_entries peer c)
+changes_placed n peer Stay there = All-nil (IsPlaced n)
+changes_placed n peer (Began own theirs numbers) there = two_placed n peer (entry.LinkUp (addr_of peer) 0 own theirs) (entry.ContactUp (addr_of peer) numbers) (λ of. (of, of)) there
+changes_placed n peer (Ended because shown numbers number) there =
+    two_placed n peer (entry.LinkDown (addr_of peer) 0 because shown) (entry.ContactDown (addr_of peer) numbers (Some ResetUnknown, None) number) (λ of. (of, of)) there
+
+-- ---- the entries of what was given
+
+abbrev pub given_in : ℕ → ℕ × ℕ → List Opened → List Entry
+given_in peer contact opened = entries_in (deliveries_of peer contact opened)
+
+pub given_changes : (b peer : ℕ) (contact : ℕ × ℕ) (opened : List Opened) → filter (is_change_of b) (given_in peer contact opened) ≡ []
+given_changes b peer contact [] = refl
+given_changes b peer contact (Passed place ∷ opened) = given_changes b peer contact opened
+given_changes b peer contact (Whole packet by ∷ opened) = elim (message_in packet) as (λ m. filter (is_change_of b) (delivered_by peer contact m by ∷ given_in peer contact opened) ≡ []) [
+  | None ↦ given_changes b peer contact opened
+  | Some m ↦ given_changes b peer contact opened
+]
+
+pub given_accept : (b peer : ℕ) (contact : ℕ × ℕ) (opened : List Opened) → filter (is_accepted_for b) (given_in peer contact opened) ≡ []
+given_accept b peer contact [] = refl
+given_accept b peer contact (Passed place ∷ opened) = given_accept b peer contact opened
+given_accept b peer contact (Whole packet by ∷ opened) = elim (message_in packet) as (λ m. filter (is_accepted_for b) (delivered_by peer contact m by ∷ given_in peer contact opened) ≡ []) [
+  | None ↦ given_accept b peer contact opened
+  | Some m ↦ given_accept b peer contact opened
+]
+
+pub given_own : (b : ℕ) (contact : ℕ × ℕ) (opened : List Opened) → filter (is_delivered_from b) (given_in b contact opened) ≡ flat_map (delivered_of b contact) opened
+given_own b contact [] = refl
+given_own b contact (Passed place ∷ opened) = given_own b contact opened
+given_own b contact (Whole packet by ∷ opened) =
+    elim (message_in packet) as (λ m. filter (is_delivered_from b) (delivered_by b contact m by ∷ given_in b contact opened) ≡ delivered_message b contact m by ++ flat_map (delivered_of b contact) opened) [
+      | None ↦ given_own b contact opened
+      | Some m ↦ rw (same_word b) (ap (λ es. delivered_by b contact (Some m) by ∷ es) (given_own b contact opened))
+    ]
+
+pub given_other : (b peer : ℕ) (contact : ℕ × ℕ) (opened : List Opened) → peer ≢ b → filter (is_delivered_from b) (given_in peer contact opened) ≡ []
+given_other b peer contact [] apart = refl
+given_other b peer contact (Passed place ∷ opened) apart = given_other b peer contact opened apart
+given_other b peer contact (Whole packet by ∷ opened) apart = elim (message_in packet) as (λ m. filter (is_delivered_from b) (delivered_by peer contact m by ∷ given_in peer contact opened) ≡ []) [
+  | None ↦ given_other b peer contact opened apart
+  | Some m ↦ rw (other_word b peer apart) (given_other b peer contact opened apart)
+]
+
+pub given_inside : (peer : ℕ) (contact : ℕ × ℕ) (opened : List Opened) → IsInside (given_in peer contact opened)
+given_inside peer contact [] = refl
+given_inside peer contact (Passed place ∷ opened) = given_inside peer contact opened
+given_inside peer contact (Whole packet by ∷ opened) = elim (message_in packet) as (λ m. IsInside (delivered_by peer contact m by ∷ given_in peer contact opened)) [
+  | None ↦ given_inside peer contact opened
+  | Some m ↦ given_inside peer contact opened
+]
+
+pub given_placed : (n : NodeState) (peer : ℕ) (contact : ℕ × ℕ) (opened : List Opened) → is_some (neighbour_of n peer) ≡ true → All (IsPlaced n) (given_in peer contact opened)
+given_placed n peer contact [] there = All-nil (IsPlaced n)
+given_placed n peer contact (Passed place ∷ opened) there = All-cons (IsPlaced n) _ _ tt (given_placed n peer contact opened there)
+given_placed n peer contact (Whole packet by ∷ opened) there = elim (message_in packet) as (λ m. All (IsPlaced n) (delivered_by peer contact m by ∷ given_in peer contact opened)) [
+  | None ↦ All-cons (IsPlaced n) _ _ tt (given_placed n peer contact opened there)
+  | Some m ↦ (let of : IsOfNeighbour n (addr_of peer) = (peer, there, refl) in All-cons (IsPlaced n) (delivered_by peer contact (Some m) by) (given_in peer contact opened) of (given_placed n peer contact opened there))
+]
+
+-- ---- the entries of what happens to all neighbours; the first of them has that number
+
+one_own : (d : Deed) (b : ℕ) (x : Option Neighbour) → filter (is_change_of b) (entries_one d b x) ≡ entries_one d b x
+one_own d b None = refl
+one_own d b (Some x) = changes_own b (done d x).change
+
+one_other : (d : Deed) (b c : ℕ) (x : Option Neighbour) → c ≢ b → filter (is_change_of b) (entries_one d c x) ≡ []
+one_other d b c None apart = refl
+one_other d b c (Some x) apart = changes_other b c (done d x).change apart
+
+none_below : (d : Deed) (first : ℕ) (xs : List (Option Neighbour)) (b : ℕ) → b < first → filter (is_change_of b) (entries_all d first xs) ≡ []
+unfolding entries_all
+none_below d first [] b below = refl
+none_below d first (x ∷ xs) b below =
+    filter-append (is_change_of b) (entries_one d first x) (entries_all d (first + 1) xs)
+    ∙ ap (λ es. es ++ filter (is_change_of b) (entries_all d (first + 1) xs)) (one_other d b first x (λ e. omega (arith, below, e)))
+    ∙ none_below d (first + 1) xs b (omega (arith, below))
+
+one_of : (d : Deed) (first k : ℕ) (xs : List (Option Neighbour)) (b : ℕ) → first + k ≡ b → filter (is_change_of b) (entries_all d first xs) ≡ entries_one d b (slice_index_or xs k None)
+unfolding entries_all
+one_of d first k [] b is = refl
+one_of d first zero (x ∷ xs) b is =
+    let here : first ≡ b = omega (arith, is) in
+    filter-append (is_change_of b) (entries_one d first x) (entries_all d (first + 1) xs)
+    ∙ ap (λ es. filter (is_change_of b) (entries_one d first x) ++ es) (none_below d (first + 1) xs b (omega (arith, here))) ∙ append-nil _
+    ∙ ap (λ c. filter (is_change_of b) (entries_one d c x)) here ∙ one_own d b x
+one_of d first (suc k) (x ∷ xs) b is =
+    filter-append (is_change_of b) (entries_one d first x) (entries_all d (first + 1) xs)
+    ∙ ap (λ es. es ++ filter (is_change_of b) (entries_all d (first + 1) xs)) (one_other d b first x (λ e. omega (arith, is, e)))
+    ∙ one_of d (first + 1) k xs b (omega (arith, is))
+
+pub all_changes : (d : Deed) (xs : List (Option Neighbour)) (b : ℕ) → filter (is_change_of b) (entries_all d 0 xs) ≡ entries_one d b (slice_index_or xs b None)
+all_changes d xs b = one_of d 0 b xs b (omega arith)
+
+one_accept : (d : Deed) (b c : ℕ) (x : Option Neighbour) → filter (is_accepted_for b) (entries_one d c x) ≡ []
+one_accept d b c None = refl
+one_accept d b c (Some x) = changes_accept b c (done d x).change
+
+pub all_accept : (d : Deed) (b first : ℕ) (xs : List (Option Neighbour)) → filter (is_accepted_for b) (entries_all d first xs) ≡ []
+unfolding entries_all
+all_accept d b first [] = refl
+all_accept d b first (x ∷ xs) =
+    filter-append (is_accepted_for b) (entries_one d first x) (entries_all d (first + 1) xs)
+    ∙ ap (λ es. es ++ filter (is_accepted_for b) (entries_all d (first + 1) xs)) (one_accept d b first x) ∙ all_accept d b (first + 1) xs
+
+one_deliver : (d : Deed) (b c : ℕ) (x : Option Neighbour) → filter (is_delivered_from b) (entries_one d c x) ≡ []
+one_deliver d b c None = refl
+one_deliver d b c (Some x) = changes_deliver b c (done d x).change
+
+pub all_deliver : (d : Deed) (b first : ℕ) (xs : List (Option Neighbour)) → filter (is_delivered_from b) (entries_all d first xs) ≡ []
+unfolding entries_all
+all_deliver d b first [] = refl
+all_deliver d b first (x ∷ xs) =
+    filter-append (is_delivered_from b) (entries_one d first x) (entries_all d (first + 1) xs)
+    ∙ ap (λ es. es ++ filter (is_delivered_from b) (entries_all d (first + 1) xs)) (one_deliver d b first x) ∙ all_deliver d b (first + 1) xs
+
+one_inside : (d : Deed) (c : ℕ) (x : Option Neighbour) → IsInside (entries_one d c x)
+one_inside d c None = refl
+one_inside d c (Some x) = changes_inside c (done d x).change
+
+pub all_inside : (d : Deed) (first : ℕ) (xs : List (Option Neighbour)) → IsInside (entries_all d first xs)
+unfolding entries_all
+all_inside d first [] = refl
+all_inside d first (x ∷ xs) = inside_both (entries_one d first x) (entries_all d (first + 1) xs) (one_inside d first x) (all_inside d (first + 1) xs)
+
+-- the neighbours from a number on are those of the node
+abbrev AreOf : NodeState → ℕ → List (Option Neighbour) → Type 0
+AreOf n first xs = (k : ℕ) (x : Neighbour) → slice_index_or xs k None ≡ Some x → is_some (neighbour_of n (first + k)) ≡ true
+
+first_of : (n : NodeState) (first : ℕ) (x : Neighbour) (xs : List (Option Neighbour)) → AreOf n first (Some x ∷ xs) → is_some (neighbour_of n first) ≡ true
+first_of n first x xs all = subst (λ k. is_some (neighbour_of n k) ≡ true) (omega arith) (all 0 x refl)
+
+later_of : (n : NodeState) (first : ℕ) (x : Option Neighbour) (xs : List (Option Neighbour)) → AreOf n first (x ∷ xs) → AreOf n (first + 1) xs
+later_of n first x xs all k y is = subst (λ j. is_some (neighbour_of n j) ≡ true) (omega arith) (all (suc k) y is)
+
+one_placed : (n : NodeState) (d : Deed) (first : ℕ) (x : Option Neighbour) (xs : List (Option Neighbour)) → AreOf n first (x ∷ xs) → All (IsPlaced n) (entries_one d first x)
+one_placed n d first None xs all = All-nil (IsPlaced n)
+one_placed n d first (Some x) xs all = changes_placed n first (done d x).change (first_of n first x xs all)
+
+placed_from : (n : NodeState) (d : Deed) (first : ℕ) (xs : List (Option Neighbour)) → AreOf n first xs → All (IsPlaced n) (entries_all d first xs)
+unfolding entries_all
+placed_from n d first [] all = All-nil (IsPlaced n)
+placed_from n d first (x ∷ xs) all =
+    All-append (IsPlaced n) (entries_one d first x) (entries_all d (first + 1) xs) (one_placed n d first x xs all) (placed_from n d (first + 1) xs (later_of n first x xs all))
+
+all_of : (n : NodeState) → AreOf n 0 n.neighbours
+all_of n k x is = subst (λ j. is_some (neighbour_of n j) ≡ true) (omega arith) (ap is_some is)
+
+pub all_placed : (n : NodeState) (d : Deed) → All (IsPlaced n) (entries_all d 0 n.neighbours)
+all_placed n d = placed_from n d 0 n.neighbours (all_of n)
+
+-- ---- frames are for neighbours
+
+pub routed_to : (n : NodeState) (b : ℕ) (frames : List Outgoing) → is_some (neighbour_of n b) ≡ true → AreFor (node_word b) frames → All (IsRouted n) frames
+routed_to n b [] there all = All-nil (IsRouted n)
+routed_to n b (o ∷ os) there all = All-cons (IsRouted n) o os (record { peer = b; there = there; to_is = all.0 }) (routed_to n b os there all.1)
+
+-- each neighbour's frames are for it
+abbrev pub AreEach : Deed → ℕ → List (Option Neighbour) → Type 0
+AreEach d first xs = (k : ℕ) (x : Neighbour) → slice_index_or xs k None ≡ Some x → AreFor (node_word (first + k)) (done d x).frames
+
+one_routed : (n : NodeState) (d : Deed) (first : ℕ) (x : Option Neighbour) (xs : List (Option Neighbour)) → AreOf n first (x ∷ xs) → AreEach d first (x ∷ xs) → All (IsRouted n) (frames_one d x)
+one_routed n d first None xs all each = All-nil (IsRouted n)
+one_routed n d first (Some x) xs all each =
+    routed_to n first (done d x).frames (first_of n first x xs all) (subst (λ k. AreFor (node_word k) (done d x).frames) (omega arith) (each 0 x refl))
+
+routed_from : (n : NodeState) (d : Deed) (first : ℕ) (xs : List (Option Neighbour)) → AreOf n first xs → AreEach d first xs → All (IsRouted n) (flat_map (frames_one d) xs)
+routed_from n d first [] all each = All-nil (IsRouted n)
+routed_from n d first (x ∷ xs) all each =
+    All-append (IsRouted n) (frames_one d x) (flat_map (frames_one d) xs) (one_routed n d first x xs all each)
+    (routed_from n d (first + 1) xs (later_of n first x xs all) (λ k y is. subst (λ j. AreFor (node_word j) (done d y).frames) (omega arith) (each (suc k) y is)))
+
+pub all_routed : (n : NodeState) (d : Deed) → ((b : ℕ) (x : Neighbour) → neighbour_of n b ≡ Some x → AreFor (node_word b) (done d x).frames) → All (IsRouted n) (frames_all d n.neighbours)
+unfolding frames_all
+all_routed n d each = routed_from n d 0 n.neighbours (all_of n) (λ k x is. subst (λ j. AreFor (node_word j) (done d x).frames) (omega arith) (each k x is))

@@ -1,0 +1,10 @@
+use Rattle.std.proofs.Common.{◌≤◌, ◌+◌}
+use Rattle.indexmap.specs.IndexMap.{spare}
+use Rattle.tipc_world.specs.Members.{AreNoted}
+use Rattle.tipc_world.proofs.members.note_all.Given as goal
+
+abbrev pub invariant-loop-peer : goal.invariant-loop-peer
+invariant-loop-peer l = record {
+  noted : AreNoted l.fn.counts.entries l.counts.entries l.node l.peer;
+  room : 33 ≤ spare l.counts + l.peer;
+}
