@@ -130,10 +130,13 @@ impl End {
         requires up { is_up self.old.fsm.state ≡ true }
         requires pieces { All IsWaiting pieces }
         ensures ok { (s : SessionEnd) → self.old.session ≡ Some s →
-            OnOk result ((length s.sending.waiting < limit) × ((put : SessionEnd) × IsPut s pieces put × (self.new ≡ with_session self.old (flushed put)) × Adds out.old out.new (flush_frames put))) }
+            OnOk result ((length s.sending.waiting < limit) ×
+            ((put : SessionEnd) × IsPut s pieces put × (self.new ≡ with_session self.old (flushed put)) ×
+            Adds out.old out.new (flush_frames put))) }
         ensures congested { (s : SessionEnd) → self.old.session ≡ Some s → limit ≤ length s.sending.waiting →
             result ≡ Err (OfferFault.Congested (length s.sending.unacked) (length s.sending.waiting)) }
-        ensures congested_only { (s : SessionEnd) (in_flight waiting : ℕ) → self.old.session ≡ Some s → result ≡ Err (OfferFault.Congested in_flight waiting) → limit ≤ length s.sending.waiting }
+        ensures congested_only { (s : SessionEnd) (in_flight waiting : ℕ) → self.old.session ≡ Some s →
+            result ≡ Err (OfferFault.Congested in_flight waiting) → limit ≤ length s.sending.waiting }
         ensures err { OnErr result ((self.new ≡ self.old) × (out.new ≡ out.old)) }
     {
         self.link.send(alloc, pieces, limit, out)
@@ -155,10 +158,14 @@ impl End {
         out: &mut Outbox,
     ) -> Noticed
         requires { shows_contact header ≡ true }
-        ensures after { (p : Fields) (by : ℕ) → p.header ≡ header → self.new ≡ (arrival self.old es er p by shown).after }
-        ensures frames { (p : Fields) (by : ℕ) → p.header ≡ header → Adds out.old out.new (arrival self.old es er p by shown).frames }
-        ensures change { (p : Fields) (by : ℕ) → p.header ≡ header → result.change ≡ (arrival self.old es er p by shown).change }
-        ensures outcome { (p : Fields) (by : ℕ) → p.header ≡ header → noticed result.ignored ≡ (arrival self.old es er p by shown).outcome }
+        ensures after { (p : Fields) (by : ℕ) → p.header ≡ header →
+            self.new ≡ (arrival self.old es er p by shown).after }
+        ensures frames { (p : Fields) (by : ℕ) → p.header ≡ header →
+            Adds out.old out.new (arrival self.old es er p by shown).frames }
+        ensures change { (p : Fields) (by : ℕ) → p.header ≡ header →
+            result.change ≡ (arrival self.old es er p by shown).change }
+        ensures outcome { (p : Fields) (by : ℕ) → p.header ≡ header →
+            noticed result.ignored ≡ (arrival self.old es er p by shown).outcome }
     {
         match header {
             Header::Reset(said) => self.reset(alloc, es, said, shown, out),
@@ -193,7 +200,8 @@ impl End {
         shown: BroadcastState,
         out: &mut Outbox,
     ) -> PairChange
-        requires states { (es : ℕ) × (er : ℕ) × (arriving.states ≡ outcome_of self.old.fsm packet.now.header es er false) }
+        requires states { (es : ℕ) × (er : ℕ) ×
+            (arriving.states ≡ outcome_of self.old.fsm packet.now.header es er false) }
         requires arriving { IsArriving self.old (view packet.now) arriving }
         ensures after { self.new ≡ (link_met self.old arriving.states (view packet.now) arriving.hearing.by shown).after }
         ensures frames { Adds out.old out.new (link_met self.old arriving.states (view packet.now) arriving.hearing.by shown).frames }
@@ -264,7 +272,8 @@ impl End {
 
     /// As [`Link::load`].
     pub fn load(&self) -> Option<(u32, u32)>
-        ensures some { (s : SessionEnd) → self.now.session ≡ Some s → result ≡ Some (length s.sending.unacked, length s.sending.waiting) }
+        ensures some { (s : SessionEnd) → self.now.session ≡ Some s →
+            result ≡ Some (length s.sending.unacked, length s.sending.waiting) }
         ensures none { self.now.session ≡ None → result ≡ None }
     {
         self.link.load()
@@ -375,10 +384,14 @@ impl End {
         shown: BroadcastState,
         out: &mut Outbox,
     ) -> Noticed
-        ensures after { (p : Fields) (er by : ℕ) → p.header ≡ Header.Reset said → self.new ≡ (arrival self.old es er p by shown).after }
-        ensures frames { (p : Fields) (er by : ℕ) → p.header ≡ Header.Reset said → Adds out.old out.new (arrival self.old es er p by shown).frames }
-        ensures change { (p : Fields) (er by : ℕ) → p.header ≡ Header.Reset said → result.change ≡ (arrival self.old es er p by shown).change }
-        ensures outcome { (p : Fields) (er by : ℕ) → p.header ≡ Header.Reset said → noticed result.ignored ≡ (arrival self.old es er p by shown).outcome }
+        ensures after { (p : Fields) (er by : ℕ) → p.header ≡ Header.Reset said →
+            self.new ≡ (arrival self.old es er p by shown).after }
+        ensures frames { (p : Fields) (er by : ℕ) → p.header ≡ Header.Reset said →
+            Adds out.old out.new (arrival self.old es er p by shown).frames }
+        ensures change { (p : Fields) (er by : ℕ) → p.header ≡ Header.Reset said →
+            result.change ≡ (arrival self.old es er p by shown).change }
+        ensures outcome { (p : Fields) (er by : ℕ) → p.header ≡ Header.Reset said →
+            noticed result.ignored ≡ (arrival self.old es er p by shown).outcome }
     {
         match self.standing(said.contact) {
             Standing::Lower => passed_over(Why::Contact),
@@ -432,10 +445,14 @@ impl End {
         shown: BroadcastState,
         out: &mut Outbox,
     ) -> Noticed
-        ensures after { (p : Fields) (by : ℕ) → p.header ≡ Header.Activate said → self.new ≡ (arrival self.old es er p by shown).after }
-        ensures frames { (p : Fields) (by : ℕ) → p.header ≡ Header.Activate said → Adds out.old out.new (arrival self.old es er p by shown).frames }
-        ensures change { (p : Fields) (by : ℕ) → p.header ≡ Header.Activate said → result.change ≡ (arrival self.old es er p by shown).change }
-        ensures outcome { (p : Fields) (by : ℕ) → p.header ≡ Header.Activate said → noticed result.ignored ≡ (arrival self.old es er p by shown).outcome }
+        ensures after { (p : Fields) (by : ℕ) → p.header ≡ Header.Activate said →
+            self.new ≡ (arrival self.old es er p by shown).after }
+        ensures frames { (p : Fields) (by : ℕ) → p.header ≡ Header.Activate said →
+            Adds out.old out.new (arrival self.old es er p by shown).frames }
+        ensures change { (p : Fields) (by : ℕ) → p.header ≡ Header.Activate said →
+            result.change ≡ (arrival self.old es er p by shown).change }
+        ensures outcome { (p : Fields) (by : ℕ) → p.header ≡ Header.Activate said →
+            noticed result.ignored ≡ (arrival self.old es er p by shown).outcome }
     {
         match self.standing(said.contact) {
             Standing::Lower => passed_over(Why::Contact),

@@ -153,10 +153,14 @@ impl Pair {
         requires up { is_up self.old.link.fsm.state ≡ true }
         requires pieces { All IsWaiting pieces }
         ensures ok { (s : SessionEnd) → self.old.link.session ≡ Some s →
-            OnOk result ((length s.sending.waiting < limit) × ((put : SessionEnd) × IsPut s pieces put × (self.new ≡ pair_state (with_session self.old.link (flushed put)) self.old.begun) × Adds out.old out.new (flush_frames put))) }
+            OnOk result ((length s.sending.waiting < limit) ×
+            ((put : SessionEnd) × IsPut s pieces put ×
+            (self.new ≡ pair_state (with_session self.old.link (flushed put)) self.old.begun) ×
+            Adds out.old out.new (flush_frames put))) }
         ensures congested { (s : SessionEnd) → self.old.link.session ≡ Some s → limit ≤ length s.sending.waiting →
             result ≡ Err (OfferFault.Congested (length s.sending.unacked) (length s.sending.waiting)) }
-        ensures congested_only { (s : SessionEnd) (in_flight waiting : ℕ) → self.old.link.session ≡ Some s → result ≡ Err (OfferFault.Congested in_flight waiting) → limit ≤ length s.sending.waiting }
+        ensures congested_only { (s : SessionEnd) (in_flight waiting : ℕ) → self.old.link.session ≡ Some s →
+            result ≡ Err (OfferFault.Congested in_flight waiting) → limit ≤ length s.sending.waiting }
         ensures err { OnErr result ((self.new ≡ self.old) × (out.new ≡ out.old)) }
     {
         self.end.send(alloc, pieces, limit, out)
@@ -178,10 +182,14 @@ impl Pair {
         out: &mut Outbox,
     ) -> PairArrival
         requires { shows_contact header ≡ true }
-        ensures after { (p : Fields) (by : ℕ) → p.header ≡ header → self.new.link ≡ (arrival self.old.link es er p by shown).after }
-        ensures frames { (p : Fields) (by : ℕ) → p.header ≡ header → Adds out.old out.new (arrival self.old.link es er p by shown).frames }
-        ensures change { (p : Fields) (by : ℕ) → p.header ≡ header → result.change ≡ (arrival self.old.link es er p by shown).change }
-        ensures opens { (p : Fields) (by : ℕ) → p.header ≡ header → OpensTo (begun_after result.change self.old.begun) (arrival self.old.link es er p by shown).outcome result.outcome self.new.begun }
+        ensures after { (p : Fields) (by : ℕ) → p.header ≡ header →
+            self.new.link ≡ (arrival self.old.link es er p by shown).after }
+        ensures frames { (p : Fields) (by : ℕ) → p.header ≡ header →
+            Adds out.old out.new (arrival self.old.link es er p by shown).frames }
+        ensures change { (p : Fields) (by : ℕ) → p.header ≡ header →
+            result.change ≡ (arrival self.old.link es er p by shown).change }
+        ensures opens { (p : Fields) (by : ℕ) → p.header ≡ header →
+            OpensTo (begun_after result.change self.old.begun) (arrival self.old.link es er p by shown).outcome result.outcome self.new.begun }
     {
         let noticed = self.end.notice(alloc, es, er, header, shown, out);
         self.renew(alloc, noticed.change);
@@ -193,7 +201,8 @@ impl Pair {
 
     /// What is begun when the packets are opened that an arrival with this change brought.
     fn next(&self, alloc: Global, change: Change) -> Result<Reassembly, NoMemory>
-        ensures { (e : LinkEnd) (fsm : Fsm) (es : ℕ) → IfOk result (λ r. r ≡ begun_after (told_of e fsm change es) self.now.begun) }
+        ensures { (e : LinkEnd) (fsm : Fsm) (es : ℕ) →
+            IfOk result (λ r. r ≡ begun_after (told_of e fsm change es) self.now.begun) }
     {
         match change {
             Change::Up => Ok(Reassembly::new(alloc)),
@@ -304,7 +313,8 @@ impl Pair {
 
     /// As [`tipc_link::Link::numbered`].
     pub fn numbered(&self) -> Option<(u64, u64)>
-        ensures some { (s : SessionEnd) → self.now.link.session ≡ Some s → result ≡ Some (s.sending.numbered, s.taken) }
+        ensures some { (s : SessionEnd) → self.now.link.session ≡ Some s →
+            result ≡ Some (s.sending.numbered, s.taken) }
         ensures none { self.now.link.session ≡ None → result ≡ None }
     {
         self.end.numbered()
@@ -312,7 +322,8 @@ impl Pair {
 
     /// As [`tipc_link::Link::load`].
     pub fn load(&self) -> Option<(u32, u32)>
-        ensures some { (s : SessionEnd) → self.now.link.session ≡ Some s → result ≡ Some (length s.sending.unacked, length s.sending.waiting) }
+        ensures some { (s : SessionEnd) → self.now.link.session ≡ Some s →
+            result ≡ Some (length s.sending.unacked, length s.sending.waiting) }
         ensures none { self.now.link.session ≡ None → result ≡ None }
     {
         self.end.load()
@@ -328,7 +339,8 @@ impl Pair {
 
     /// As [`tipc_link::Link::last_count`].
     pub fn last_count(&self) -> Option<(u64, u64)>
-        ensures some { (s : SessionEnd) → self.now.link.session ≡ Some s → result ≡ Some (s.epoch, s.sending.numbered) }
+        ensures some { (s : SessionEnd) → self.now.link.session ≡ Some s →
+            result ≡ Some (s.epoch, s.sending.numbered) }
         ensures none { self.now.link.session ≡ None → result ≡ None }
     {
         self.end.last_count()
