@@ -1,5 +1,6 @@
 -- Messages that are sent and received again and again, step by step.
 use Rattle.std.proofs.Common.{◌≡◌, ℕ, ◌+◌, ◌<◌, Bool, true, List, Result, Ok, Err, refl, sym, ap, subst, ◌∙◌, inr}
+use Rattle.tipc_types.specs.declared.node_calls.EventNote.TheVariants as call
 use Rattle.tipc_types.specs.declared.identity.PortId.{PortId}
 use Rattle.tipc_types.specs.declared.message_forms.Importance.{Importance}
 use Rattle.tipc_types.specs.declared.node_calls.Answer.{Answer}
@@ -20,14 +21,9 @@ use Rattle.tipc_sim.specs.Noted.{NotesState}
 
 -- a message that can be sent can be sent later
 pub send_can : (old new : WorldState) (send : WorldEvent) → Continues old new → is_send send ≡ true → CanHappen old send → CanHappen new send
-send_can old new (event.SendPort node port to importance body) continues e can = (continues.nodes node ∙ can.0, can.1)
+send_can old new (event.Call node call) continues e can = (continues.nodes node ∙ can.0, can.1)
 send_can old new (event.Know node peer) continues e can = absurd cc
-send_can old new (event.Mend node bearer) continues e can = absurd cc
-send_can old new (event.Cut node bearer) continues e can = absurd cc
-send_can old new (event.Tick node) continues e can = absurd cc
 send_can old new (event.Restart node) continues e can = absurd cc
-send_can old new (event.Socket node) continues e can = absurd cc
-send_can old new (event.Receive node port) continues e can = absurd cc
 send_can old new (event.Arrive node bearer place) continues e can = absurd cc
 
 -- the next message was stopped
@@ -37,13 +33,13 @@ send_halts times send start count before now (fault.Limit stop) fewer passed sto
 send_halts times send start count before now fault.NoMemory fewer passed stopped = tt
 
 -- the next receive was stopped
-pub receive_halts : (node port : ℕ) (start : WorldState) (count : ℕ) (before now : WorldState) (f : WorldFault) → Repeats (event.Receive node port) is_message start count before
-    → Comes (Once (event.Receive node port) before) (Err f) now → Comes (ReceivesAll node port start) (Err f) now
+pub receive_halts : (node port : ℕ) (start : WorldState) (count : ℕ) (before now : WorldState) (f : WorldFault) → Repeats (event.Call node (call.Receive port)) is_message start count before
+    → Comes (Once (event.Call node (call.Receive port)) before) (Err f) now → Comes (ReceivesAll node port start) (Err f) now
 receive_halts node port start count before now (fault.Limit stop) passed stopped = record { count = count; before = before; passed = passed; stopped = stopped }
 receive_halts node port start count before now fault.NoMemory passed stopped = tt
 
 -- how many events a receive leaves
-pub receive_counts : (old : WorldState) (node port : ℕ) (new : WorldState) (answer : Answer) → Once (event.Receive node port) old (Ok answer) new → (old.events < 300000) × (new.events ≡ old.events + 1)
+pub receive_counts : (old : WorldState) (node port : ℕ) (new : WorldState) (answer : Answer) → Once (event.Call node (call.Receive port)) old (Ok answer) new → (old.events < 300000) × (new.events ≡ old.events + 1)
 receive_counts old node port new answer answered = (answered.free.below refl, answered.step.events)
 
 -- frames were pumped, and the receive was stopped

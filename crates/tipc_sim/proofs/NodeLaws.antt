@@ -8,6 +8,7 @@ use Rattle.tipc_script.specs.Splitting.{Left, whole, first_token, behind}
 use Rattle.tipc_script.specs.Kinds.{Kind, OldNode, BearerNumber, is_remark}
 use Rattle.tipc_script.specs.Grammar.{Row, rows, frame_rows, traffic_rows, row_of, asked, asked_by, nodes_of, nodes_by, nodes_in, first_number, node_row, mend_row, cut_row, tick_row, restart_row, link_row, mark_row, socket_row, send_row, repeat_row, arrive_row, receive_row, drain_row, burst_row, pump_row, settle_row, air_row, show_row, links_row, flow_row}
 use Rattle.tipc_script.specs.Spelling.{Asks, IsMessage, node_number}
+use Rattle.tipc_types.specs.declared.node_calls.EventNote.TheVariants as call
 use Rattle.tipc_types.specs.declared.identity.PortId.{PortId}
 use Rattle.tipc_types.specs.declared.message_forms.Importance.{Importance}
 use Rattle.tipc_types.specs.Address.{node_word}
@@ -159,7 +160,7 @@ reaches {node} {port} {to} {body} message =
 
 -- a message of a line can be sent
 pub message_can : (w : WorldState) (node port : ℕ) (to : PortId) (importance : Importance) (body : List ℕ) → is_there w node ≡ true → IsMessage node port to body
-    → CanHappen w (event.SendPort node port to importance body)
+    → CanHappen w (event.Call node (call.SendPort port to importance body))
 message_can w node port to importance body there message = (there, reaches message)
 
 inside : {A : Type 0} {x y : A} → Some x ≡ Some y → x ≡ y
@@ -168,13 +169,13 @@ inside e = cc
 -- the event that a line is can happen where the line can be done
 pub can_happen : (w : WorldState) (notes : NotesState) (line : Line) (event : WorldEvent) → CanBeDone (is_there w) line → event_of line notes ≡ Some event → CanHappen w event
 can_happen w notes (Cut node bearer) event can e = subst (CanHappen w) (inside e) can
-can_happen w notes (Tick node) event can e = subst (CanHappen w) (inside e) can
+can_happen w notes (Tick node) event can e = subst (CanHappen w) (inside e) (can, tt)
 can_happen w notes (Restart node) event can e = subst (CanHappen w) (inside e) can
-can_happen w notes (Socket node) event can e = subst (CanHappen w) (inside e) can
+can_happen w notes (Socket node) event can e = subst (CanHappen w) (inside e) (can, tt)
 can_happen w notes (Send node port to importance body) event can e =
     subst (CanHappen w) (inside e) (message_can w node port to importance body can.0 can.1)
 can_happen w notes (Arrive node bearer frame) event can e = subst (CanHappen w) (inside e) (can.0, omega (arith, can.1))
-can_happen w notes (Receive node port) event can e = subst (CanHappen w) (inside e) can
+can_happen w notes (Receive node port) event can e = subst (CanHappen w) (inside e) (can, tt)
 can_happen w notes Nothing event can e = absurd cc
 can_happen w notes (Node node) event can e = absurd cc
 can_happen w notes (Mend node bearer) event can e = absurd cc

@@ -70,10 +70,5 @@ arrival_few old new node bearer place answer (Some why) is answered =
 pub answered_few : (old : WorldState) (event : WorldEvent) (new : WorldState) (answer : Answer) → IsAnswered old event new answer → length new.air ≤ max 100000 (length old.air)
 answered_few old (event.Arrive node bearer place) new answer answered = arrival_few old new node bearer place answer _ refl answered
 answered_few old (event.Know node peer) new answer answered = let few = answered.within refl in omega (arith, few)
-answered_few old (event.Mend node bearer) new answer answered = let few = answered.within refl in omega (arith, few)
-answered_few old (event.Cut node bearer) new answer answered = let few = answered.within refl in omega (arith, few)
-answered_few old (event.Tick node) new answer answered = let few = answered.within refl in omega (arith, few)
+answered_few old (event.Call node call) new answer answered = let few = answered.within refl in omega (arith, few)
 answered_few old (event.Restart node) new answer answered = let few = answered.within refl in omega (arith, few)
-answered_few old (event.Socket node) new answer answered = let few = answered.within refl in omega (arith, few)
-answered_few old (event.SendPort node port to importance body) new answer answered = let few = answered.within refl in omega (arith, few)
-answered_few old (event.Receive node port) new answer answered = let few = answered.within refl in omega (arith, few)

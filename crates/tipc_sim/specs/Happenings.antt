@@ -1,5 +1,6 @@
 -- What the lines of a script do to a world, and the report of that.
 use Rattle.std.specs.Prelude.{◌≡◌, ℕ, ◌+◌, ◌-◌, false, ◌||◌, List, [], ◌∷◌, ◌++◌, Option, Some, None, Result, Ok, Err, length, slice_get}
+use Rattle.tipc_types.specs.declared.node_calls.EventNote.TheVariants as call
 use Rattle.tipc_types.specs.declared.node_calls.Answer.{Answer}
 use Rattle.tipc_types.specs.declared.node_calls.Answer.TheVariants as answer
 use Rattle.tipc_script.specs.declared.lines.Line.{Line}
@@ -35,13 +36,13 @@ scene world notes = record { world = world; notes = notes }
 
 -- the event that a line is; None for a line that is no event or several
 abbrev pub event_of : Line → NotesState → Option WorldEvent
-event_of (Cut node bearer) notes = Some (event.Cut node bearer)
-event_of (Tick node) notes = Some (event.Tick node)
+event_of (Cut node bearer) notes = Some (event.Call node (call.Cut bearer))
+event_of (Tick node) notes = Some (event.Call node call.Tick)
 event_of (Restart node) notes = Some (event.Restart node)
-event_of (Socket node) notes = Some (event.Socket node)
-event_of (Send node port to importance body) notes = Some (event.SendPort node port to importance body)
+event_of (Socket node) notes = Some (event.Call node call.Socket)
+event_of (Send node port to importance body) notes = Some (event.Call node (call.SendPort port to importance body))
 event_of (Arrive node bearer frame) notes = Some (event.Arrive node bearer (counted (notes.base + frame)))
-event_of (Receive node port) notes = Some (event.Receive node port)
+event_of (Receive node port) notes = Some (event.Call node (call.Receive port))
 event_of other notes = None
 
 -- what is told of a line, and what is kept beside the world then
@@ -98,10 +99,10 @@ told_of other notes w = told.Nothing
 
 -- what becomes of a world by a line that sends and receives messages again and again, or leaves everything as it is
 abbrev pub Conversed : Line → NotesState → Course Outcome
-Conversed (Repeat times node port to importance body) notes start came now = Repeated (SendsAgain times (event.SendPort node port to importance body)) notes start came now
+Conversed (Repeat times node port to importance body) notes start came now = Repeated (SendsAgain times (event.Call node (call.SendPort port to importance body))) notes start came now
 Conversed (Drain node port) notes start came now = Answered (ReceivesAll node port) notes start came now
 Conversed (Burst node port to_node to_port times body) notes start came now =
-    Moves (Bursts times (low_message node port to_node to_port body) (event.Receive to_node to_port) notes.place) notes start came now
+    Moves (Bursts times (low_message node port to_node to_port body) (event.Call to_node (call.Receive to_port)) notes.place) notes start came now
 Conversed other notes start came now = Stays (told_of other notes start) notes start came now
 
 -- what becomes of a world by a line that isn't one event

@@ -1,5 +1,6 @@
 -- What the lines of a script that stand for several events ask for.
 use Rattle.std.specs.Prelude.{◌≡◌, ℕ, ◌+◌, ◌<◌, ◌==◌, Bool, true, false, not, ◌&&◌, ◌||◌, if◌then◌else◌, List, Option, Some, None, Ok, Err, length}
+use Rattle.tipc_types.specs.declared.node_calls.EventNote.TheVariants as call
 use Rattle.tipc_types.specs.declared.node_calls.Answer.{Answer}
 use Rattle.tipc_types.specs.declared.node_calls.Answer.TheVariants.{Up, Down, Pumped, Quiet, Unsettled}
 use Rattle.tipc_world.specs.declared.events.Limit.{Limit}
@@ -20,7 +21,7 @@ know_asked named node w peer = if is_named named node peer && is_there w peer &&
 
 -- a node that is there ticks
 abbrev pub tick_asked : Asks
-tick_asked w node = if is_there w node then Some (event.Tick node) else None
+tick_asked w node = if is_there w node then Some (event.Call node call.Tick) else None
 
 -- whether a node is among the receivers
 abbrev pub is_among : Receivers → ℕ → Bool
@@ -39,7 +40,7 @@ arrival_asked among w place = arrival_for among w place (receiver_at w.air place
 
 -- a node comes to know its named peers, in order of address, and then a bearer of it is mended
 abbrev pub Mends : List (ℕ × ℕ) → ℕ → ℕ → Course Answer
-Mends named node bearer = Then (TakesAll (know_asked named node) 1 33) (Once (event.Mend node bearer))
+Mends named node bearer = Then (TakesAll (know_asked named node) 1 33) (Once (event.Call node (call.Mend bearer)))
 
 abbrev pub MendsIf : Bool → List (ℕ × ℕ) → ℕ → Course (Unit {0})
 MendsIf true named node start (Ok done) now = now ≡ start

@@ -1,5 +1,6 @@
 -- What the lines of a script ask for that send and receive messages again and again.
 use Rattle.std.specs.Prelude.{◌≡◌, ◌⊎◌, ℕ, ◌+◌, ◌<◌, Bool, true, false, List, Ok, Err, length}
+use Rattle.tipc_types.specs.declared.node_calls.EventNote.TheVariants as call
 use Rattle.tipc_types.specs.declared.message_forms.Importance.TheVariants.{Low}
 use Rattle.tipc_types.specs.declared.node_calls.Answer.{Answer}
 use Rattle.tipc_types.specs.declared.node_calls.Answer.TheVariants.{Drained, NoSocket, Received, Sent}
@@ -23,7 +24,7 @@ is_message other = false
 
 -- the event sends a message to a port
 abbrev pub is_send : WorldEvent → Bool
-is_send (event.SendPort node port to importance body) = true
+is_send (event.Call node (call.SendPort port to importance body)) = true
 is_send other = false
 
 -- ---- one event again and again
@@ -69,15 +70,15 @@ drained_answer count other = Drained count
 -- messages are received at a port until there is none
 abbrev pub ReceivesAll : ℕ → ℕ → Course Answer
 ReceivesAll node port start (Ok answer) now =
-    (count : ℕ) × (last : Answer) × RepeatsUntil (event.Receive node port) is_message start count last now
+    (count : ℕ) × (last : Answer) × RepeatsUntil (event.Call node (call.Receive port)) is_message start count last now
     × (answer ≡ drained_answer count last)
-ReceivesAll node port start (Err limit) now = RepeatHalts (event.Receive node port) is_message start limit now
+ReceivesAll node port start (Err limit) now = RepeatHalts (event.Call node (call.Receive port)) is_message start limit now
 
 -- ---- messages that are sent, pumped and received
 
 -- a message of low importance to a port of another node
 abbrev pub low_message : ℕ → ℕ → ℕ → ℕ → List ℕ → WorldEvent
-low_message node port to_node to_port body = event.SendPort node port (port_at to_node to_port) Low body
+low_message node port to_node to_port body = event.Call node (call.SendPort port (port_at to_node to_port) Low body)
 
 -- The frames from a place on are pumped, and then a message is received. The value is whether there was one, and up to which place frames are
 -- pumped then.

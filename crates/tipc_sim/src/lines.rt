@@ -25,7 +25,7 @@ use crate::settling::settle;
 use std::alloc::Global;
 use tipc_report::{Told, print};
 use tipc_script::{Line, LineFault, LineWhy, NodeToken, parse_line};
-use tipc_types::{Addr, Answer, Bytes, Importance, NoMemory, PortId};
+use tipc_types::{Addr, Answer, Bytes, EventNote, Importance, NoMemory, PortId};
 use tipc_world::{World, WorldEvent, WorldFault};
 
 /// Whether a node that has to be there isn't, or one that mustn't be there is.
@@ -66,29 +66,45 @@ pub fn line_in(alloc: Global, text: &[u8], world: &World) -> Result<Line, LineFa
     Ok(command.line)
 }
 
+/// A call of a node.
+fn call(node: u8, call: EventNote) -> WorldEvent
+    ensures { result ≡ WorldEvent.Call node call }
+{
+    WorldEvent::Call { node, call }
+}
+
+/// A message is sent from a port of a node to a port.
+fn send(node: u8, port: u32, to: PortId, importance: Importance, body: Bytes) -> WorldEvent
+    ensures { result ≡ WorldEvent.Call node (EventNote.SendPort port to importance body) }
+{
+    call(
+        node,
+        EventNote::SendPort {
+            port,
+            to,
+            importance,
+            body,
+        },
+    )
+}
+
 /// The event that a line is, or the line where it is none or several.
 fn event_of(line: Line, notes: &Notes) -> Result<WorldEvent, Line>
     ensures event { IfOk result (λ event. event_of line notes.now ≡ Some event) }
     ensures other { IfErr result (λ other. (other ≡ line) × (event_of line notes.now ≡ None)) }
 {
     match line {
-        Line::Cut { node, bearer } => Ok(WorldEvent::Cut { node, bearer }),
-        Line::Tick { node } => Ok(WorldEvent::Tick { node }),
+        Line::Cut { node, bearer } => Ok(call(node, EventNote::Cut { bearer })),
+        Line::Tick { node } => Ok(call(node, EventNote::Tick)),
         Line::Restart { node } => Ok(WorldEvent::Restart { node }),
-        Line::Socket { node } => Ok(WorldEvent::Socket { node }),
+        Line::Socket { node } => Ok(call(node, EventNote::Socket)),
         Line::Send {
             node,
             port,
             to,
             importance,
             body,
-        } => Ok(WorldEvent::SendPort {
-            node,
-            port,
-            to,
-            importance,
-            body,
-        }),
+        } => Ok(send(node, port, to, importance, body)),
         Line::Arrive {
             node,
             bearer,
@@ -98,7 +114,7 @@ fn event_of(line: Line, notes: &Notes) -> Result<WorldEvent, Line>
             bearer,
             frame: notes.base().saturating_add(frame),
         }),
-        Line::Receive { node, port } => Ok(WorldEvent::Receive { node, port }),
+        Line::Receive { node, port } => Ok(call(node, EventNote::Receive { port })),
         other => Err(other),
     }
 }
@@ -144,7 +160,7 @@ fn burst_on(
     requires can { CanHappen world.old message.now }
     requires sends { is_send message.now ≡ true }
     requires there { is_there world.old at.node ≡ true }
-    ensures comes { Comes (Moves (Bursts times message.now (WorldEvent.Receive at.node at.port) notes.old.place) notes.old world.old) (beside result notes.new) world.new }
+    ensures comes { Comes (Moves (Bursts times message.now (WorldEvent.Call at.node (EventNote.Receive at.port)) notes.old.place) notes.old world.old) (beside result notes.new) world.new }
     ensures continues { Continues world.old world.new }
 {
     let (moved, place) = burst(alloc, times, message, at, notes.place(), world)?;
@@ -161,13 +177,7 @@ fn low_message(node: u8, port: u32, at: Socket, body: Bytes) -> WorldEvent
         node: Addr::node(at.node),
         port: at.port,
     };
-    WorldEvent::SendPort {
-        node,
-        port,
-        to,
-        importance: Importance::Low,
-        body,
-    }
+    send(node, port, to, Importance::Low, body)
 }
 
 /// The frame of that number since the last mark, where there is one.
@@ -220,13 +230,7 @@ fn converse(
             importance,
             body,
         } => {
-            let message = WorldEvent::SendPort {
-                node,
-                port,
-                to,
-                importance,
-                body,
-            };
+            let message = send(node, port, to, importance, body);
             let (count, last) = repeat(alloc, times, &message, world)?;
             Ok(Told::Times { count, last })
         }

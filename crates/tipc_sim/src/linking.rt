@@ -8,7 +8,7 @@ ghost use Rattle.tipc_sim.specs.Meanings.{know_asked, link_answer, Joins, Links,
 use crate::frames::{Receivers, drain, make};
 use crate::notes::Notes;
 use std::alloc::Global;
-use tipc_types::Answer;
+use tipc_types::{Answer, EventNote};
 use tipc_world::{World, WorldEvent, WorldFault};
 
 /// The first number that no node has.
@@ -52,7 +52,11 @@ pub fn mend(alloc: Global, notes: &Notes, node: u8, world: &mut World) -> Result
     ensures continues { Continues world.old world.new }
 {
     know_all(alloc, notes, node, world)?;
-    make(alloc, WorldEvent::Mend { node, bearer: 0 }, world)
+    let event = WorldEvent::Call {
+        node,
+        call: EventNote::Mend { bearer: 0 },
+    };
+    make(alloc, event, world)
 }
 
 /// Mends bearer 0 of a node where it is cut.

@@ -8,7 +8,7 @@ ghost use Rattle.tipc_sim.specs.Messages.{drained_answer, is_message, is_send, i
 
 use crate::frames::{make, pump};
 use std::alloc::Global;
-use tipc_types::Answer;
+use tipc_types::{Answer, EventNote};
 use tipc_world::{World, WorldEvent, WorldFault};
 
 /// A socket of a node.
@@ -55,12 +55,12 @@ fn send(alloc: Global, message: &WorldEvent, world: &mut World) -> Result<Answer
 /// Lets a message be received.
 fn receive(alloc: Global, at: Socket, world: &mut World) -> Result<Answer, WorldFault>
     requires { is_there world.old at.node ≡ true }
-    ensures comes { Comes (Once (WorldEvent.Receive at.node at.port) world.old) result world.new }
+    ensures comes { Comes (Once (WorldEvent.Call at.node (EventNote.Receive at.port)) world.old) result world.new }
     ensures continues { Continues world.old world.new }
 {
-    let event = WorldEvent::Receive {
+    let event = WorldEvent::Call {
         node: at.node,
-        port: at.port,
+        call: EventNote::Receive { port: at.port },
     };
     make(alloc, event, world)
 }
@@ -124,7 +124,7 @@ fn pump_and_receive(
     world: &mut World,
 ) -> Result<(bool, u64), WorldFault>
     requires { is_there world.old at.node ≡ true }
-    ensures comes { Comes (PumpsAndReceives place (WorldEvent.Receive at.node at.port) world.old) result world.new }
+    ensures comes { Comes (PumpsAndReceives place (WorldEvent.Call at.node (EventNote.Receive at.port)) world.old) result world.new }
     ensures continues { Continues world.old world.new }
 {
     pump(alloc, place, world)?;
@@ -144,7 +144,7 @@ fn turn(
 ) -> Result<(bool, u64), WorldFault>
     requires can { CanHappen world.old message.now }
     requires there { is_there world.old at.node ≡ true }
-    ensures comes { Comes (Turn message.now (WorldEvent.Receive at.node at.port) place world.old) result world.new }
+    ensures comes { Comes (Turn message.now (WorldEvent.Call at.node (EventNote.Receive at.port)) place world.old) result world.new }
     ensures continues { Continues world.old world.new }
 {
     let answer = send(alloc, message, world)?;
@@ -167,7 +167,7 @@ pub fn burst(
     requires can { CanHappen world.old message.now }
     requires sends { is_send message.now ≡ true }
     requires there { is_there world.old at.node ≡ true }
-    ensures comes { Comes (Bursts times message.now (WorldEvent.Receive at.node at.port) first world.old) result world.new }
+    ensures comes { Comes (Bursts times message.now (WorldEvent.Call at.node (EventNote.Receive at.port)) first world.old) result world.new }
     ensures continues { Continues world.old world.new }
 {
     let mut place = first;

@@ -7,7 +7,7 @@ ghost use Rattle.tipc_sim.specs.Meanings.{settled_answer, tick_asked, Round, Set
 
 use crate::frames::{deliver, make};
 use std::alloc::Global;
-use tipc_types::Answer;
+use tipc_types::{Answer, EventNote};
 use tipc_world::{World, WorldEvent, WorldFault};
 
 /// The first number that no node has.
@@ -21,7 +21,11 @@ fn tick(alloc: Global, node: u8, world: &mut World) -> Result<bool, WorldFault>
     if !world.has_node(node) {
         return Ok(false);
     }
-    make(alloc, WorldEvent::Tick { node }, world)?;
+    let event = WorldEvent::Call {
+        node,
+        call: EventNote::Tick,
+    };
+    make(alloc, event, world)?;
     Ok(true)
 }
 

@@ -1,3 +1,4 @@
+use Rattle.tipc_types.specs.declared.node_calls.EventNote.TheVariants as call
 use Rattle.tipc_world.specs.declared.events.WorldEvent.TheVariants as event
 use Rattle.tipc_sim.specs.Courses.{Once, TakesAll}
 use Rattle.tipc_sim.specs.Meanings.{know_asked}
@@ -7,7 +8,7 @@ use Rattle.tipc_sim.proofs.linking.mend.Goals as goal
 
 pub returns-clause-comes : goal.returns-clause-comes
 returns-clause-comes c =
-    then_came (TakesAll (know_asked c.args.notes.now.named c.args.node) 1 33) (Once (event.Mend c.args.node 0)) c.args.world.now c.know_all.new.world c.make.new.world _ c.make.result
+    then_came (TakesAll (know_asked c.args.notes.now.named c.args.node) 1 33) (Once (event.Call c.args.node (call.Mend 0))) c.args.world.now c.know_all.new.world c.make.new.world _ c.make.result
     c.in_ok-know_all.ensures.comes c.make.ensures.comes
 
 pub returns-clause-continues : goal.returns-clause-continues

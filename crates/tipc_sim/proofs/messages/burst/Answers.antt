@@ -1,5 +1,6 @@
 use Rattle.std.proofs.Common.{◌∙◌, Ok, refl, subst, arith}
 use Rattle.std.proofs.lemmas.Result.{err_from_is_err_and}
+use Rattle.tipc_types.specs.declared.node_calls.EventNote.TheVariants as call
 use Rattle.tipc_world.specs.declared.events.WorldEvent.TheVariants as event
 use Rattle.tipc_sim.specs.Messages.{begin, go_on, Turn}
 use Rattle.tipc_sim.proofs.MessageLaws.{send_can, turn_halts}
@@ -19,7 +20,7 @@ pub returns-in_err-came-clause-comes : goal.returns-in_err-came-clause-comes
 returns-in_err-came-clause-comes c =
     let l = c.loop in
     let p = err_from_is_err_and c.from_residual.result c.from_residual.ensures.1 in
-    rw (p.1, p.2) (turn_halts c.args.times c.args.message.now (event.Receive c.args.at.node c.args.at.port) c.args.first c.args.world.now l.counter l.place l.world c.turn.new.world c.in_err-came.field-0.0
+    rw (p.1, p.2) (turn_halts c.args.times c.args.message.now (event.Call c.args.at.node (call.Receive c.args.at.port)) c.args.first c.args.world.now l.counter l.place l.world c.turn.new.world c.in_err-came.field-0.0
     (omega (arith, c.loop-test.true)) l.invariant.made c.in_err-came.ensures.comes)
 
 pub returns-in_err-came-clause-continues : goal.returns-in_err-came-clause-continues
@@ -32,7 +33,7 @@ pub loop-preserved : goal.loop-preserved
 loop-preserved c =
     let l = c.loop in
     let now = c.turn.new.world in
-    let receive = event.Receive c.args.at.node c.args.at.port in
+    let receive = event.Call c.args.at.node (call.Receive c.args.at.port) in
     record {
       counted = omega (arith, l.invariant.counted);
       made = go_on l.counter l.place l.world c.in_ok-came.next now l.invariant.made

@@ -1,4 +1,5 @@
 use Rattle.std.proofs.Common.{◌≡◌}
+use Rattle.tipc_types.specs.declared.node_calls.EventNote.TheVariants as call
 use Rattle.tipc_world.specs.declared.events.WorldEvent.TheVariants as event
 use Rattle.tipc_sim.specs.Courses.{Continues}
 use Rattle.tipc_sim.specs.Messages.{Turns}
@@ -7,6 +8,6 @@ use Rattle.tipc_sim.proofs.messages.burst.Given as goal
 abbrev pub invariant-loop : goal.invariant-loop
 invariant-loop l = record {
   counted : l.moved ≡ l.counter;
-  made : Turns l.message (event.Receive l.at.node l.at.port) l.first l.fn.world l.counter l.place l.world;
+  made : Turns l.message (event.Call l.at.node (call.Receive l.at.port)) l.first l.fn.world l.counter l.place l.world;
   continues : Continues l.fn.world l.world;
 }

@@ -1,4 +1,5 @@
 use Rattle.std.proofs.lemmas.Result.{err_from_is_err_and}
+use Rattle.tipc_types.specs.declared.node_calls.EventNote.TheVariants as call
 use Rattle.tipc_world.specs.declared.events.WorldEvent.TheVariants as event
 use Rattle.tipc_sim.proofs.MessageLaws.{last_halts}
 use Rattle.tipc_sim.proofs.WorldLaws.{continues_more}
@@ -7,7 +8,7 @@ use Rattle.tipc_sim.proofs.messages.pump_and_receive.Goals as goal
 pub returns-in_err-answer-clause-comes : goal.returns-in_err-answer-clause-comes
 returns-in_err-answer-clause-comes c =
     let p = err_from_is_err_and c.from_residual-in_err-answer.result c.from_residual-in_err-answer.ensures.1 in
-    rw (p.1, p.2) (last_halts c.args.place (event.Receive c.args.at.node c.args.at.port) c.args.world.now c.pump.new.world c.receive.new.world c.in_ok-pump.field-0 c.in_err-answer.field-0.0
+    rw (p.1, p.2) (last_halts c.args.place (event.Call c.args.at.node (call.Receive c.args.at.port)) c.args.world.now c.pump.new.world c.receive.new.world c.in_ok-pump.field-0 c.in_err-answer.field-0.0
     c.in_ok-pump.ensures.comes c.in_err-answer.ensures.comes)
 
 pub returns-in_err-answer-clause-continues : goal.returns-in_err-answer-clause-continues

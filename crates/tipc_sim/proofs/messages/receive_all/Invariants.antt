@@ -1,4 +1,5 @@
 use Rattle.std.proofs.Common.{◌≤◌, ◌-◌}
+use Rattle.tipc_types.specs.declared.node_calls.EventNote.TheVariants as call
 use Rattle.tipc_world.specs.declared.events.WorldEvent.TheVariants as event
 use Rattle.tipc_sim.specs.Courses.{Continues}
 use Rattle.tipc_sim.specs.Messages.{is_message, Repeats}
@@ -9,7 +10,7 @@ decreases-loop-answer l = 300000 - l.world.events
 
 abbrev pub invariant-loop-answer : goal.invariant-loop-answer
 invariant-loop-answer l = record {
-  passed : Repeats (event.Receive l.at.node l.at.port) is_message l.fn.world l.count l.world;
+  passed : Repeats (event.Call l.at.node (call.Receive l.at.port)) is_message l.fn.world l.count l.world;
   continues : Continues l.fn.world l.world;
   fewer : l.count ≤ l.world.events;
 }
