@@ -1,6 +1,6 @@
 //! What an arriving frame is to a node, and what it delivers.
 
-ghost use Rattle.std.specs.Prelude.{◌≡◌, ◌++◌, ◌≤◌, ◌+◌, ◌-◌, ◌^◌, true, false, All, None, Some, is_some, length, min, slice_index_or, sum_by, vec_capacity, vec_len, IfErr, IfOk, IfSome, IfNone, OnOk};
+ghost use Rattle.std.specs.Prelude.{◌≡◌, ◌++◌, ◌≤◌, ◌+◌, ◌-◌, ◌^◌, true, false, All, None, Some, is_some, length, min, slice_index_or, sum_by, vec_capacity, vec_len, IfErr, IfOk, IfSome, IfNone};
 ghost use Rattle.tipc_types.specs.Address.{node_word};
 ghost use Rattle.tipc_header.specs.Faults.{fault_of};
 ghost use Rattle.tipc_header.specs.Frames.{frame_of};

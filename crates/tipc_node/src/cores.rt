@@ -1,6 +1,6 @@
 //! The parts of a node, and what each call makes of them.
 
-ghost use Rattle.std.specs.Prelude.{◌≡◌, ℕ, ◌+◌, ◌<◌, ◌≤◌, List, [], true, false, None, Some, Err, length, slice_index_or, is_some, option_map, unwrap_or, IfErr, IfOk, IfSome, IfNone, OnErr, OnOk};
+ghost use Rattle.std.specs.Prelude.{◌≡◌, ℕ, ◌+◌, ◌<◌, ◌≤◌, List, [], true, false, None, Some, Err, length, slice_index_or, is_some, IfErr, IfOk, IfSome, IfNone, OnErr, OnOk};
 ghost use Rattle.tipc_types.specs.Address.{node_word};
 ghost use Rattle.tipc_outside.specs.Frames.{Adds};
 ghost use Rattle.tipc_header.specs.Spelling.{view};
@@ -10,11 +10,11 @@ ghost use Rattle.tipc_message.specs.Wire.{IsPayload};
 ghost use Rattle.tipc_link.specs.Sessions.{SessionEnd};
 ghost use Rattle.tipc_pair.specs.Pairs.{shows_contact};
 ghost use Rattle.tipc_outside.specs.declared.outgoing.Outgoing.{Outgoing};
-ghost use Rattle.tipc_node.specs.Calls.{Arrives, CanPerform, Hears, IsDue, IsSent, Performs, Sends, TakesPart};
+ghost use Rattle.tipc_node.specs.Calls.{Arrives, CanPerform, Hears, IsDue, IsSent, Performs, Sends};
 ghost use Rattle.tipc_node.specs.Limits.{most_body_bytes};
-ghost use Rattle.tipc_node.specs.Nodes.{contact_with, deed_node, direct, frames_all, has_port, has_room, known_frames, known_node, limit_of, load_of, neighbour_of, receive_answer, receive_node, recorded, refusal, session_with, socket_answer, socket_node, stop_of, stopped_node};
+ghost use Rattle.tipc_node.specs.Nodes.{deed_node, direct, frames_all, has_port, has_room, known_frames, known_node, load_of, neighbour_of, receive_answer, receive_node, recorded, refusal, session_with, socket_answer, socket_node, stop_of, stopped_node};
 
-use crate::arriving::{Due, arrival_answer, deliver, is_known, look, prepare};
+use crate::arriving::{Due, arrival_answer, deliver, look, prepare};
 use crate::inboxes::Inbox;
 use crate::neighbours::{Deed, NUMBERS, Neighbour, deed_note, load_all, mended_by, take_part_all};
 use crate::ports::{MOST_SOCKETS, kept_answer, port_base, socket_answer, take_first};

@@ -1,13 +1,12 @@
 //! How a step is recorded in the journal, and when the journal has room for it.
 
 ghost use Rattle.std.specs.Prelude.{◌≡◌, ◌+◌, ◌-◌, ◌≤◌, ◌++◌, true, false, length, OnOk, Err, sum_by, None, Some, vec_len, vec_capacity};
-ghost use Rattle.tipc_types.specs.Address.{node_word};
-ghost use Rattle.tipc_journal.specs.Room.{entry_bytes, message_bytes};
+ghost use Rattle.tipc_journal.specs.Room.{entry_bytes};
 ghost use Rattle.tipc_journal.specs.Steps.{step_entries};
 ghost use Rattle.tipc_node.specs.Limits.{free_entries, free_message_bytes};
 ghost use Rattle.tipc_node.specs.Nodes.{change_entries, has_room, step_of};
 
-use std::alloc::{AllocError, AllocFailed, Global};
+use std::alloc::{AllocError, AllocFailed};
 use std::collections::VecDeque;
 use tipc_journal::{Entry, Journal, MOST_ENTRIES, MOST_MESSAGE_BYTES};
 use tipc_pair::PairChange;
