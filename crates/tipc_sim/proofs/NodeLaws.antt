@@ -161,21 +161,24 @@ reaches {node} {port} {to} {body} message =
 -- a message of a line can be sent
 pub message_can : (w : WorldState) (node port : ℕ) (to : PortId) (importance : Importance) (body : List ℕ) → is_there w node ≡ true → IsMessage node port to body
     → CanHappen w (event.Call node (call.SendPort port to importance body))
-message_can w node port to importance body there message = (there, reaches message)
+message_can w node port to importance body there message =
+    let r = reaches message in
+    let word = r.4 in
+    (there, (r.0, r.1, r.2, word), λ same. r.3 (omega (arith, word, same)))
 
 inside : {A : Type 0} {x y : A} → Some x ≡ Some y → x ≡ y
 inside e = cc
 
 -- the event that a line is can happen where the line can be done
 pub can_happen : (w : WorldState) (notes : NotesState) (line : Line) (event : WorldEvent) → CanBeDone (is_there w) line → event_of line notes ≡ Some event → CanHappen w event
-can_happen w notes (Cut node bearer) event can e = subst (CanHappen w) (inside e) can
-can_happen w notes (Tick node) event can e = subst (CanHappen w) (inside e) (can, tt)
+can_happen w notes (Cut node bearer) event can e = subst (CanHappen w) (inside e) (can.0, can.1, tt)
+can_happen w notes (Tick node) event can e = subst (CanHappen w) (inside e) (can, tt, tt)
 can_happen w notes (Restart node) event can e = subst (CanHappen w) (inside e) can
-can_happen w notes (Socket node) event can e = subst (CanHappen w) (inside e) (can, tt)
+can_happen w notes (Socket node) event can e = subst (CanHappen w) (inside e) (can, tt, tt)
 can_happen w notes (Send node port to importance body) event can e =
     subst (CanHappen w) (inside e) (message_can w node port to importance body can.0 can.1)
 can_happen w notes (Arrive node bearer frame) event can e = subst (CanHappen w) (inside e) (can.0, omega (arith, can.1))
-can_happen w notes (Receive node port) event can e = subst (CanHappen w) (inside e) (can, tt)
+can_happen w notes (Receive node port) event can e = subst (CanHappen w) (inside e) (can, tt, tt)
 can_happen w notes Nothing event can e = absurd cc
 can_happen w notes (Node node) event can e = absurd cc
 can_happen w notes (Mend node bearer) event can e = absurd cc
