@@ -21,7 +21,7 @@ use Rattle.tipc_sim.specs.Noted.{NotesState}
 
 -- a message that can be sent can be sent later
 pub send_can : (old new : WorldState) (send : WorldEvent) → Continues old new → is_send send ≡ true → CanHappen old send → CanHappen new send
-send_can old new (event.Call node call) continues e can = (continues.nodes node ∙ can.0, can.1)
+send_can old new (event.Call node call) continues e can = (continues.nodes node ∙ can.0, can.1, can.2)
 send_can old new (event.Know node peer) continues e can = absurd cc
 send_can old new (event.Restart node) continues e can = absurd cc
 send_can old new (event.Arrive node bearer place) continues e can = absurd cc

@@ -230,7 +230,15 @@ fn converse(
             importance,
             body,
         } => {
-            let message = send(node, port, to, importance, body);
+            let message = WorldEvent::Call {
+                node,
+                call: EventNote::SendPort {
+                    port,
+                    to,
+                    importance,
+                    body,
+                },
+            };
             let (count, last) = repeat(alloc, times, &message, world)?;
             Ok(Told::Times { count, last })
         }
