@@ -60,7 +60,7 @@ none_hit hit (p ∷ ps) none = none_of hit p ps (filter (λ q. not (hit q)) ps) 
     either_way true b h = h
     either_way false b h = h
 
-same_number : (n : ℕ) → (n == n) ≡ true
+pub same_number : (n : ℕ) → (n == n) ≡ true
 same_number n = grind (arith)
 
 named_itself : (p : Publication) → is_named p.at.node.word p.key p ≡ true

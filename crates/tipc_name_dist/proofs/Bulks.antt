@@ -87,7 +87,7 @@ gathering_more live messages messages' items between items' p h added full more 
     the_case n h = grind (arith, h)
 
 -- the items that are left make the last message
-pub gathered : (live : List Publication) (messages : List Message) (items : List Item) → IsGathering live messages items → 1 ≤ length items → IsBulk live (messages ++ Items false items ∷ [])
+gathered : (live : List Publication) (messages : List Message) (items : List Item) → IsGathering live messages items → 1 ≤ length items → IsBulk live (messages ++ Items false items ∷ [])
 gathered live messages items h some =
     let few = h.few in record {
       whole = told_by messages items ∙ h.whole;
@@ -95,6 +95,11 @@ gathered live messages items h some =
       full = each_more (λ k m. k + 1 < length (messages ++ Items false items ∷ []) → length (items_in m) ≡ most_items) messages (Items false items) (λ k m is before. (h.full k m is).1)
           (λ before. absurd (let count = length-append messages (Items false items ∷ []) in let wrong : ⊥ = omega (arith, count) in wrong));
     }
+
+pub gathered_last : (live : List Publication) (messages messages' : List Message) (items : List Item) (last : Message) → IsGathering live messages items → 1 ≤ length items → last ≡ Items false items → messages' ≡ messages ++ last ∷ []
+    → IsBulk live messages'
+gathered_last live messages messages' items last h some is pushed =
+    subst (IsBulk live) (sym (pushed ∙ ap (λ m. messages ++ m ∷ []) is)) (gathered live messages items h some)
 
 -- or there are none left
 pub gathered_all : (live : List Publication) (messages : List Message) (items : List Item) → IsGathering live messages items → items ≡ [] → IsBulk live messages

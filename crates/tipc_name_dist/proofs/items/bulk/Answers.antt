@@ -1,6 +1,5 @@
-use Rattle.std.proofs.Common.{◌∙◌, ◌++◌, ◌∷◌, [], ap, subst, sym}
-use Rattle.tipc_name_dist.specs.Items.{IsBulk}
-use Rattle.tipc_name_dist.proofs.Bulks.{gathered, gathered_all, gathering_next, gathering_past, is_none, is_some_left}
+use Rattle.std.proofs.Common.{sym}
+use Rattle.tipc_name_dist.proofs.Bulks.{gathered_all, gathered_last, gathering_next, gathering_past, is_none, is_some_left}
 use Rattle.tipc_name_dist.proofs.items.bulk.Goals as goal
 
 pub loop-p-preserved : goal.loop-p-preserved
@@ -13,5 +12,4 @@ returns-then-is_empty c =
 
 pub returns : goal.returns
 returns c =
-    let all = gathered _ _ _ (gathering_past c.args.live.now c.loop-p.p-index _ _ c.loop-p.invariant c.loop-p-test.false) (is_some_left c.loop-p.items _ c.is_empty.ensures c.if-is_empty.false) in
-    subst (IsBulk c.args.live.now) (sym (c.in_ok-push.ensures.items ∙ ap (λ m. c.loop-p.messages.items ++ m ∷ []) c.telling.ensures)) all
+    gathered_last _ _ _ _ _ (gathering_past c.args.live.now c.loop-p.p-index _ _ c.loop-p.invariant c.loop-p-test.false) (is_some_left c.loop-p.items _ c.is_empty.ensures c.if-is_empty.false) c.telling.ensures c.in_ok-push.ensures.items
