@@ -1,49 +1,46 @@
 -- A peer's table agrees with what a node has published, and goes on so with each message.
-use Rattle.std.proofs.Common.{◌≡◌, ◌≤◌, ◌<◌, ℕ, ◌+◌, ◌==◌, ◌&&◌, ◌||◌, Bool, true, false, not, cond, List, [], ◌∷◌, ◌++◌, Option, Some, None, filter, find, fold, length, map, if◌then◌else◌, refl, suc, sym, ap, ◌∙◌, subst, true≢false, eqb-true, arith, append_assoc}
-use Rattle.std.specs.Prelude.{count_by, nat_lt, option_map, slice_get}
+use Rattle.std.proofs.Common.{◌≡◌, ℕ, ◌+◌, ◌&&◌, Bool, true, false, not, List, [], ◌∷◌, ◌++◌, Option, Some, None, filter, find, map, if◌then◌else◌, refl, suc, sym, ap, ◌∙◌, subst, true≢false}
+use Rattle.std.specs.Prelude.{option_map, slice_get}
 use Rattle.std.specs.List.{flat_map, list_all, list_any}
-use Rattle.std.proofs.lemmas.Bool.{and_from, and_parts}
-use Rattle.std.proofs.lemmas.Bool.Decides.{nat_tests}
-use Rattle.std.proofs.lemmas.List.{append-nil, length-append, map-append}
+use Rattle.std.proofs.lemmas.Bool.{and_parts}
 use Rattle.std.proofs.lemmas.List.Elements.{filter-append}
-use Rattle.std.proofs.lemmas.List.Folds.{list_all-append}
-use Rattle.std.proofs.lemmas.List.Sums.{count_by-le-length, length-filter, sum_by-append, sum_by-cons}
 use Rattle.tipc_types.specs.declared.message_forms.Item.{Item}
 use Rattle.tipc_types.specs.declared.message_forms.Message.{Message}
 use Rattle.tipc_types.specs.declared.message_forms.Message.TheVariants.{Items, Payload}
 use Rattle.tipc_types.specs.declared.services.Publication.{Publication}
-use Rattle.tipc_types.specs.declared.services.Scope.TheVariants.{Cluster}
-use Rattle.tipc_name_table.specs.Tables.{is_named, is_of, put, stands_before, without, IsTable}
-use Rattle.tipc_name_table.proofs.Places.{count_by-kept, filter-put}
-use Rattle.tipc_name_table.proofs.TableLaws.{filters_commute, table_put}
+use Rattle.tipc_name_table.specs.Tables.{is_named, is_of, put, without, IsTable}
+use Rattle.tipc_name_table.proofs.TableLaws.{filters_commute}
 use Rattle.tipc_journal.specs.Matches.{arranged}
 use Rattle.tipc_journal.specs.Names.{cluster_part, is_clusterwide}
-use Rattle.tipc_journal.proofs.MatchLaws.{arranged_more, arranged_nil, filter_arranged, list_any_arranged}
-use Rattle.tipc_name_dist.specs.Agreeing.{as_learned, has_instances, has_key, shared, without_key, Agrees, AreOwn}
-use Rattle.tipc_name_dist.specs.Applying.{applied, applied_each, after_first, behind, can_be_put, forgotten_from, forgotten_if, held_as, is_new, is_ordered, learned_from, nothing_applied, told_by, Applied}
+use Rattle.tipc_journal.proofs.MatchLaws.{arranged_nil, filter_arranged, list_any_arranged}
+use Rattle.tipc_name_dist.specs.Agreeing.{as_learned, has_instances, has_key, without_key, Agrees, AreOwn}
+use Rattle.tipc_name_dist.specs.Applying.{applied, applied_each, after_first, behind, forgotten_from, forgotten_if, held_as, is_new, learned_from, nothing_applied, told_by, Applied}
 use Rattle.tipc_name_dist.specs.Items.{item_of, items_in, IsBulk, IsTelling}
-use Rattle.tipc_name_dist.proofs.Applied.{none_hit, same_number}
-use Rattle.tipc_name_dist.proofs.Agreeing.{all_held, found, found_kept, found_lost, found_passes, learned_any, named_any, own_kept, Holds}
+use Rattle.tipc_name_dist.proofs.Applied.{none_hit}
+use Rattle.tipc_name_dist.proofs.Agreeing.{all_held, found, found_kept, found_lost, found_passes, learned_any, named_any, own_kept}
 
 -- ---- messages one after the other
 
 -- where all of several items fit, the first ones do, and the others behind them
 learned_both : (from : ℕ) (table : List Publication) (xs ys : List Item) → (learned_from from table (xs ++ ys)).bad ≡ None
     → ((learned_from from table xs).bad ≡ None) × ((learned_from from (learned_from from table xs).table ys).bad ≡ None)
-        × ((learned_from from table (xs ++ ys)).table ≡ (learned_from from (learned_from from table xs).table ys).table)
+    × ((learned_from from table (xs ++ ys)).table ≡ (learned_from from (learned_from from table xs).table ys).table)
 learned_both from table [] ys fits = (refl, fits, refl)
 learned_both from table (x ∷ xs) ys fits = by (is_new from table x) fits (learned_both from (put p table) xs ys)
   where
     p : Publication
     p = told_by from x
+
     none_before : (o : Option ℕ) → option_map (λ n. n + 1) o ≡ None → o ≡ None
     none_before None is = refl
     none_before (Some n) is = absurd (let wrong : Some (n + 1) ≡ None = is in cc)
+
     step : Bool → List Item → Applied
     step b is = if b then behind p (learned_from from (put p table) is) else nothing_applied table (Some 0)
+
     by : (b : Bool) → (step b (xs ++ ys)).bad ≡ None
         → ((learned_from from (put p table) (xs ++ ys)).bad ≡ None → ((learned_from from (put p table) xs).bad ≡ None) × ((learned_from from (learned_from from (put p table) xs).table ys).bad ≡ None)
-            × ((learned_from from (put p table) (xs ++ ys)).table ≡ (learned_from from (learned_from from (put p table) xs).table ys).table))
+        × ((learned_from from (put p table) (xs ++ ys)).table ≡ (learned_from from (learned_from from (put p table) xs).table ys).table))
         → ((step b xs).bad ≡ None) × ((learned_from from (step b xs).table ys).bad ≡ None) × ((step b (xs ++ ys)).table ≡ (learned_from from (step b xs).table ys).table)
     by true fits later =
         let h = later (none_before _ fits) in
@@ -62,7 +59,7 @@ each_learned from table (Items false items ∷ messages) telling fits =
     let first = learned_from from table items in
     let later = each_learned from first.table messages (λ k m is. telling (suc k) m is) both.1 in
     subst (λ (o : Option ℕ). ((after_first (record { table = first.table; publications = first.publications; bad = o }) (applied_each from first.table messages)).bad ≡ None)
-        × ((after_first (record { table = first.table; publications = first.publications; bad = o }) (applied_each from first.table messages)).table ≡ (learned_from from table (items ++ flat_map items_in messages)).table))
+    × ((after_first (record { table = first.table; publications = first.publications; bad = o }) (applied_each from first.table messages)).table ≡ (learned_from from table (items ++ flat_map items_in messages)).table))
     (sym both.0) (later.0, later.1 ∙ sym both.2)
 
 -- ---- the laws

@@ -1,28 +1,23 @@
 -- A node's items at a peer: each fits, and the peer's table agrees with what the node has published.
-use Rattle.std.proofs.Common.{◌≡◌, ◌≤◌, ◌<◌, ℕ, ◌+◌, ◌==◌, ◌&&◌, ◌||◌, Bool, true, false, not, cond, List, [], ◌∷◌, ◌++◌, Option, Some, None, filter, find, fold, length, map, if◌then◌else◌, refl, sym, ap, ◌∙◌, subst, true≢false, eqb-true, arith, append_assoc}
-use Rattle.std.specs.Prelude.{count_by, nat_lt, option_map, slice_get}
-use Rattle.std.specs.List.{flat_map, list_all, list_any}
+use Rattle.std.proofs.Common.{◌≡◌, ◌≤◌, ◌<◌, ℕ, ◌+◌, ◌&&◌, ◌||◌, Bool, true, false, not, cond, List, [], ◌∷◌, ◌++◌, Some, None, filter, find, fold, length, map, if◌then◌else◌, refl, sym, ap, ◌∙◌, subst, true≢false, eqb-true, arith, append_assoc}
+use Rattle.std.specs.Prelude.{count_by, nat_lt, option_map}
+use Rattle.std.specs.List.{list_all, list_any}
 use Rattle.std.proofs.lemmas.Bool.{and_from, and_parts}
 use Rattle.std.proofs.lemmas.Bool.Decides.{nat_tests}
 use Rattle.std.proofs.lemmas.List.{append-nil, length-append, map-append}
-use Rattle.std.proofs.lemmas.List.Elements.{filter-append}
 use Rattle.std.proofs.lemmas.List.Folds.{list_all-append}
 use Rattle.std.proofs.lemmas.List.Sums.{count_by-le-length, length-filter, sum_by-append, sum_by-cons}
-use Rattle.tipc_types.specs.declared.message_forms.Item.{Item}
-use Rattle.tipc_types.specs.declared.message_forms.Message.{Message}
-use Rattle.tipc_types.specs.declared.message_forms.Message.TheVariants.{Items, Payload}
 use Rattle.tipc_types.specs.declared.services.Publication.{Publication}
 use Rattle.tipc_types.specs.declared.services.Scope.TheVariants.{Cluster}
-use Rattle.tipc_name_table.specs.Tables.{is_named, is_of, put, stands_before, without, IsTable}
+use Rattle.tipc_name_table.specs.Tables.{is_named, is_of, put, stands_before, IsTable}
 use Rattle.tipc_name_table.proofs.Places.{count_by-kept, filter-put}
-use Rattle.tipc_name_table.proofs.TableLaws.{filters_commute, table_put}
+use Rattle.tipc_name_table.proofs.TableLaws.{table_put}
 use Rattle.tipc_journal.specs.Matches.{arranged}
-use Rattle.tipc_journal.specs.Names.{cluster_part, is_clusterwide}
-use Rattle.tipc_journal.proofs.MatchLaws.{arranged_more, arranged_nil, filter_arranged, list_any_arranged}
-use Rattle.tipc_name_dist.specs.Agreeing.{as_learned, has_instances, has_key, shared, without_key, Agrees, AreOwn}
-use Rattle.tipc_name_dist.specs.Applying.{applied, applied_each, after_first, behind, can_be_put, forgotten_from, forgotten_if, held_as, is_new, is_ordered, learned_from, nothing_applied, told_by, Applied}
-use Rattle.tipc_name_dist.specs.Items.{item_of, items_in, IsBulk, IsTelling}
-use Rattle.tipc_name_dist.proofs.Applied.{none_hit, same_number}
+use Rattle.tipc_journal.proofs.MatchLaws.{arranged_more, list_any_arranged}
+use Rattle.tipc_name_dist.specs.Agreeing.{as_learned, has_instances, has_key, AreOwn}
+use Rattle.tipc_name_dist.specs.Applying.{behind, is_new, learned_from, nothing_applied, told_by, Applied}
+use Rattle.tipc_name_dist.specs.Items.{item_of}
+use Rattle.tipc_name_dist.proofs.Applied.{same_number}
 
 -- ---- lists of publications
 
@@ -93,10 +88,12 @@ found_lost test kept (q ∷ qs) p is lost most = by (test q) (kept q) refl refl 
   where
     less : count_by test qs ≤ 1
     less = omega (arith, most, sum_by-cons (λ (x : Publication). cond (test x) 1 0) q qs)
+
     rest : test q ≡ true → list_any test (filter kept qs) ≡ false
     rest hit =
         let here : ◌≡◌ {A = ℕ} (cond (test q) 1 0) 1 = ap (λ (b : Bool). cond b 1 0) hit in
         none_any test (filter kept qs) (omega (arith, here, most, sum_by-cons (λ (x : Publication). cond (test x) 1 0) q qs, count_by-kept test kept qs))
+
     by : (b c : Bool) → test q ≡ b → kept q ≡ c → (if b then Some q else find test qs) ≡ Some p → (find test qs ≡ Some p → list_any test (filter kept qs) ≡ false)
         → list_any test (if c then q ∷ filter kept qs else filter kept qs) ≡ false
     by true true hit k is later = absurd (let same : q ≡ p = cc in true≢false (sym k ∙ ap kept same ∙ lost))

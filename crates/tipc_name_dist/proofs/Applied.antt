@@ -1,6 +1,6 @@
 -- What items one after the other come to, and how what was learned is taken back.
 use Rattle.std.proofs.Common.{◌≡◌, ℕ, ◌+◌, ◌≤◌, ◌<◌, ◌&&◌, ◌||◌, ◌==◌, Bool, true, false, not, List, [], ◌∷◌, ◌++◌, Option, Some, None, filter, find, length, if◌then◌else◌, refl, ap, ◌∙◌, sym, subst, drop, arith}
-use Rattle.std.specs.Prelude.{option_map, slice_index}
+use Rattle.std.specs.Prelude.{option_map}
 use Rattle.std.specs.List.{list_any}
 use Rattle.std.specs.Result.{OnErr, OnOk}
 use Rattle.std.proofs.Common.{Err, Ok, Result}
@@ -8,7 +8,6 @@ use Rattle.tipc_name_dist.specs.declared.applying.ItemFault.{ItemFault}
 use Rattle.tipc_name_dist.specs.declared.applying.ItemFault.TheVariants.{BadItem}
 use Rattle.std.proofs.Math.ListN.{get_or}
 use Rattle.std.proofs.lemmas.List.{drop_all, drop_more, length-append}
-use native.Mathlib.Numerals.{unary_clauses}
 use Rattle.tipc_types.specs.declared.message_forms.Item.{Item}
 use Rattle.tipc_types.specs.declared.services.Publication.{Publication}
 use Rattle.tipc_name_table.specs.Tables.{is_named, put, stands_before, without}

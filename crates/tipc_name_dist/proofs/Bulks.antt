@@ -1,15 +1,14 @@
 -- The messages with which a contact begins, as they are gathered.
 use Rattle.std.proofs.Common.{◌≡◌, ◌≤◌, ◌<◌, ◌⊎◌, inl, inr, ℕ, ◌+◌, Bool, true, false, suc, zero, List, [], ◌∷◌, ◌++◌, Some, length, map, refl, ap, ◌∙◌, sym, subst, arith, take, ◌==◌}
-use Rattle.std.specs.Prelude.{filter, slice_get, if◌then◌else◌}
+use Rattle.std.specs.Prelude.{slice_get, if◌then◌else◌}
 use Rattle.std.specs.List.{flat_map}
 use Rattle.std.proofs.lemmas.List.{append_assoc, append-nil, length-append, take_all, take_more}
 use Rattle.std.proofs.lemmas.Bool.Decides.{nat_tests}
 use Rattle.std.proofs.lemmas.Grind.{flat_map-append}
-use Rattle.std.proofs.lemmas.Option.{slice_get_within}
 use Rattle.std.proofs.Math.ListN.{get_or}
 use Rattle.tipc_types.specs.declared.message_forms.Item.{Item}
 use Rattle.tipc_types.specs.declared.message_forms.Message.{Message}
-use Rattle.tipc_types.specs.declared.message_forms.Message.TheVariants.{Items, Payload}
+use Rattle.tipc_types.specs.declared.message_forms.Message.TheVariants.{Items}
 use Rattle.tipc_types.specs.declared.services.Publication.{Publication}
 use Rattle.tipc_journal.specs.Names.{cluster_part, is_clusterwide}
 use Rattle.tipc_name_dist.specs.Items.{item_of, items_for, items_in, most_items, IsBulk, IsTelling}

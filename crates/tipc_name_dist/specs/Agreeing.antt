@@ -23,7 +23,8 @@ has_key key p = p.key == key
 abbrev pub has_instances : Publication → Bool
 has_instances p = nat_le p.range.lower p.range.upper
 
--- a node's own publications: each at one of its ports, of a range that has instances, under a key of its own, and 1,024 at most
+-- a node's own publications: each at one of its ports, of a range that has instances, under a key of its own, and
+-- 1,024 at most
 pub record AreOwn (node : ℕ) (live : List Publication) : Type 0 where
   pub own : list_all (is_of node) live ≡ true
   pub ranges : list_all has_instances live ≡ true

@@ -1,4 +1,5 @@
--- What the items of a peer make of a name table: they are applied one after the other, up to the first that doesn't fit.
+-- What the items of a peer make of a name table: they are applied one after the other, up to the first that doesn't
+-- fit.
 use Rattle.std.specs.Prelude.{ℕ, ◌+◌, ◌&&◌, Bool, true, false, not, nat_le, nat_lt, List, [], ◌∷◌, ◌++◌, Option, Some, None, count_by, find, if◌then◌else◌, is_none, option_map}
 use Rattle.std.specs.List.{list_any}
 use Rattle.tipc_types.specs.declared.message_forms.Item.{Item}
@@ -35,7 +36,8 @@ is_new from table item = is_ordered item && can_be_put table (told_by from item)
 abbrev pub held_as : ℕ → List Publication → Item → Option Publication
 held_as from table item = if is_ordered item then find (is_named from item.key) table else None
 
--- a table after some items, the publications that were learned or forgotten, and the place of the item that didn't fit, from 0
+-- a table after some items, the publications that were learned or forgotten, and the place of the item that didn't
+-- fit, from 0
 pub record Applied : Type 0 where
   pub table : List Publication
   pub publications : List Publication
@@ -46,13 +48,15 @@ nothing_applied table bad = record { table = table; publications = []; bad = bad
 
 -- one publication before what comes of the items behind it
 abbrev pub behind : Publication → Applied → Applied
-behind p a = record { table = a.table; publications = p ∷ a.publications; bad = option_map (λ place. place + 1) a.bad }
+behind p a =
+    record { table = a.table; publications = p ∷ a.publications; bad = option_map (λ place. place + 1) a.bad }
 
 -- publications are learned
 abbrev pub learned_from : ℕ → List Publication → List Item → Applied
 learned_from from table [] = nothing_applied table None
 learned_from from table (item ∷ items) =
-    if is_new from table item then behind (told_by from item) (learned_from from (put (told_by from item) table) items)
+    if is_new from table item
+    then behind (told_by from item) (learned_from from (put (told_by from item) table) items)
     else nothing_applied table (Some 0)
 
 -- publications are forgotten
@@ -81,10 +85,15 @@ abbrev pub undone : ℕ → List Publication → List Publication → List Publi
 undone from [] table = table
 undone from (p ∷ ps) table = without from p.key (undone from ps table)
 
--- what messages one after the other make of a table, up to the first item that doesn't fit
+-- what a message made of a table, then what those behind it make of it: they aren't applied where an item didn't fit
 abbrev pub after_first : Applied → Applied → Applied
-after_first first rest = if is_none first.bad then record { table = rest.table; publications = first.publications ++ rest.publications; bad = rest.bad } else first
+after_first first rest =
+    if is_none first.bad
+    then record { table = rest.table; publications = first.publications ++ rest.publications; bad = rest.bad }
+    else first
 
+-- what messages one after the other make of a table, up to the first item that doesn't fit
 abbrev pub applied_each : ℕ → List Publication → List Message → Applied
 applied_each from table [] = nothing_applied table None
-applied_each from table (m ∷ messages) = after_first (applied from table m) (applied_each from (applied from table m).table messages)
+applied_each from table (m ∷ messages) =
+    after_first (applied from table m) (applied_each from (applied from table m).table messages)

@@ -22,8 +22,9 @@ pub enum Learnt {
 /// Why an item message wasn't applied whole. (This project's profile.)
 #[derive(Clone, Copy, Debug, PartialEq, Eq)]
 pub enum ItemFault {
-    /// The item at this place, from 0, doesn't fit: its lower bound is above the upper one; it tells of a publication whose key is held,
-    /// or of one more where 1,024 of that node are; or it withdraws what isn't held. The items before it are applied.
+    /// The item at this place, from 0, doesn't fit: its lower bound is above the upper one; it tells of a publication
+    /// whose key is held, or of one more where 1,024 of that node are; or it withdraws what isn't held. The items
+    /// before it are applied.
     BadItem {
         /// The item's place in the message.
         place: u32,
@@ -187,13 +188,14 @@ fn forget_all<N: Names>(
     Ok(List::from_vec(forgotten))
 }
 
-/// Applies a peer's message of at most 70 items to a name table, one item after the other: its publications are learned, at ports of the
-/// peer and as seen in the cluster, or forgotten. A user's message has no items. (TIPC 2.0 draft, name distributor.)
+/// Applies a peer's message of at most 70 items to a name table, one item after the other: its publications are
+/// learned, at ports of the peer and as seen in the cluster, or forgotten. A user's message has no items. (TIPC 2.0
+/// draft, name distributor.)
 ///
 /// # Errors
 ///
-/// `BadItem` with the place of the first item that doesn't fit, those before it being applied; `NoMemory` where memory runs out, which
-/// changes nothing.
+/// `BadItem` with the place of the first item that doesn't fit, those before it being applied; `NoMemory` where
+/// memory runs out, which changes nothing.
 pub fn apply<N: Names>(
     alloc: Global,
     names: &mut N,

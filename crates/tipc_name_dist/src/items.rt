@@ -34,6 +34,10 @@ fn is_clusterwide(p: &Publication) -> bool
 }
 
 /// The message that tells of one publication, or of its withdrawal. (TIPC 2.0 draft, name distributor.)
+///
+/// # Errors
+///
+/// `NoMemory` where memory runs out.
 pub fn item(alloc: Global, p: &Publication, withdrawal: bool) -> Result<Message, NoMemory>
     ensures { IfOk result (λ m. m ≡ Message.Items withdrawal (item_of p.now ∷ [])) }
 {
@@ -65,7 +69,8 @@ fn add(items: &mut ItemList, p: &Publication) -> Result<(), NoMemory>
 /// Closes a message that is full.
 fn close(alloc: Global, messages: &mut Vec<Message>, items: &mut ItemList) -> Result<(), NoMemory>
     ensures full { length items.old ≡ 70 →
-        OnOk result ((messages.new.items ≡ messages.old.items ++ Message.Items false items.old ∷ []) × (items.new ≡ [])) }
+        OnOk result ((messages.new.items ≡ messages.old.items ++ Message.Items false items.old ∷ []) ×
+        (items.new ≡ [])) }
     ensures more { length items.old < 70 →
         OnOk result ((messages.new.items ≡ messages.old.items) × (items.new ≡ items.old)) }
 {
@@ -77,9 +82,13 @@ fn close(alloc: Global, messages: &mut Vec<Message>, items: &mut ItemList) -> Re
     Ok(())
 }
 
-/// The messages with which a contact begins: they tell of the live publications that are seen in the cluster, in the order of
-/// publishing, at most 70 in each. Where there are none, there is no message. (TIPC 2.0 draft, name distributor; the number is this
-/// project's profile.)
+/// The messages with which a contact begins: they tell of the live publications that are seen in the cluster, in the
+/// order of publishing, at most 70 in each. Where there are none, there is no message. (TIPC 2.0 draft, name
+/// distributor; the number is this project's profile.)
+///
+/// # Errors
+///
+/// `NoMemory` where memory runs out.
 pub fn bulk(alloc: Global, live: &[Publication]) -> Result<Vec<Message>, NoMemory>
     ensures { IfOk result (λ messages. IsBulk live.now messages.items) }
 {

@@ -12,15 +12,18 @@ ghost use Rattle.tipc_name_dist.specs.Items.{item_of, IsBulk};
 
 /// The items of a node's messages fit at a peer, and make its table agree with what the node has published.
 ///
-/// `begin`: a table that holds nothing of the node agrees with what is live, once the messages are applied with which a contact begins.
-/// `published`, `withdrawn`: so it goes on with the message of one more publication that is seen in the cluster, or of a withdrawal.
-/// `unseen`, `unseen_withdrawn`: of a publication of node scope no message is sent, and none is needed.
+/// `begin`: a table that holds nothing of the node agrees with what is live, once the messages are applied with which
+/// a contact begins. `published`, `withdrawn`: so it goes on with the message of one more publication that is seen in
+/// the cluster, or of a withdrawal. `unseen`, `unseen_withdrawn`: of a publication of node scope no message is sent,
+/// and none is needed.
 pub fn items_make_tables_agree()
     ensures begin { (node : ℕ) (live table : List Publication) (messages : List Message) →
         AreOwn node live → IsTable table → filter (is_of node) table ≡ [] → IsBulk live messages →
-        ((applied_each node table messages).bad ≡ None) × Agrees node live (applied_each node table messages).table }
+        ((applied_each node table messages).bad ≡ None) ×
+        Agrees node live (applied_each node table messages).table }
     ensures published { (node : ℕ) (live table : List Publication) (p : Publication) →
-        AreOwn node (live ++ p ∷ []) → IsTable table → Agrees node live table → is_clusterwide p.scope ≡ true →
+        AreOwn node (live ++ p ∷ []) → IsTable table → Agrees node live table →
+        is_clusterwide p.scope ≡ true →
         ((applied node table (Message.Items false (item_of p ∷ []))).bad ≡ None) ×
         Agrees node (live ++ p ∷ []) (applied node table (Message.Items false (item_of p ∷ []))).table }
     ensures withdrawn { (node : ℕ) (live table : List Publication) (p : Publication) →

@@ -8,5 +8,5 @@ pub mod laws;
 pub use applying::{ItemFault, Learnt, apply};
 pub use items::{MOST_ITEMS, bulk, item};
 
-
-
+#[cfg(test)]
+mod tests;

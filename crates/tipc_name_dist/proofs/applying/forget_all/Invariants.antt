@@ -1,7 +1,5 @@
-use Rattle.std.proofs.Common.{◌≡◌, ◌≤◌, length, drop}
 use Rattle.std.specs.Prelude.{vec_capacity}
-use Rattle.tipc_name_dist.specs.Applying.{forgotten_from, undone}
-use Rattle.tipc_name_dist.proofs.Applied.{behind_all, IsForgetting}
+use Rattle.tipc_name_dist.proofs.Applied.{IsForgetting}
 use Rattle.tipc_name_dist.proofs.applying.forget_all.Given as goal
 
 abbrev pub invariant-loop-place : goal.invariant-loop-place

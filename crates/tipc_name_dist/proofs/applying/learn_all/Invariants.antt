@@ -1,7 +1,5 @@
-use Rattle.std.proofs.Common.{◌≡◌, ◌≤◌, length, drop}
 use Rattle.std.specs.Prelude.{vec_capacity}
-use Rattle.tipc_name_dist.specs.Applying.{learned_from, undone}
-use Rattle.tipc_name_dist.proofs.Applied.{behind_all, IsLearning}
+use Rattle.tipc_name_dist.proofs.Applied.{IsLearning}
 use Rattle.tipc_name_dist.proofs.applying.learn_all.Given as goal
 
 abbrev pub invariant-loop-place : goal.invariant-loop-place

@@ -1,4 +1,3 @@
-use Rattle.std.proofs.Common.{◌∙◌, ap}
 use Rattle.tipc_name_dist.proofs.Applied.{left_by, taken_back}
 use Rattle.tipc_name_dist.proofs.applying.take_back.Goals as goal
 

@@ -1,4 +1,4 @@
-use Rattle.std.proofs.Common.{◌≡◌, take}
+use Rattle.std.proofs.Common.{take}
 use Rattle.tipc_name_dist.proofs.Bulks.{IsGathering}
 use Rattle.tipc_name_dist.proofs.items.bulk.Given as goal
 
