@@ -1,0 +1,4 @@
+pub mod Applied
+pub mod Bulks
+pub mod Agreeing
+pub mod Agreed
