@@ -48,11 +48,13 @@ unfoldable pub with_room_for : ℕ → Watchers → Watchers
 with_room_for changes t =
     record { made = t.made; room = max t.room changes; kept = map (with_room (max t.room changes)) t.kept }
 
--- the subscriptions after a change of the table: each is told
-unfoldable pub changed : TableChange → Watchers → Watchers
-changed c t =
-    let ready = with_room_for (size c) t in
-    record { made = t.made; room = ready.room - size c; kept = map (told (as_told c)) ready.kept }
+-- the subscriptions where each is told of a change, which takes as many places of the room
+unfoldable pub told_each : TableChange → Watchers → Watchers
+told_each c t = record { made = t.made; room = t.room - size c; kept = map (told c) t.kept }
+
+-- the subscriptions after a change of the table
+abbrev pub changed : TableChange → Watchers → Watchers
+changed c t = told_each (as_told c) (with_room_for (size (as_told c)) t)
 
 -- the subscriptions with one more, behind the others, where these publications are there
 unfoldable pub subscribed : Subscription → List Publication → Watchers → Watchers

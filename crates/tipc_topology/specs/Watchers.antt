@@ -95,29 +95,35 @@ began number s room there = fold added (blank number s (length there + room)) th
 abbrev pub is_due : Watcher → Bool
 is_due w = not w.ended && (not (w.asked.timeout == 4294967295) && nat_le w.left 1)
 
--- the subscription after a tick: where it times out, that is its last event
+-- the subscription that timed out: this is its last event
+abbrev pub ended_now : Watcher → Watcher
+ended_now w =
+    record {
+      number = w.number;
+      asked = w.asked;
+      left = 0;
+      ended = true;
+      counts = w.counts;
+      events = w.events ++ timeout_of w.asked ∷ [];
+      room = w.room;
+    }
+
+-- the subscription with one tick less to last, where it doesn't last for ever
+abbrev pub one_less : Watcher → Watcher
+one_less w =
+    record {
+      number = w.number;
+      asked = w.asked;
+      left = w.left - (if w.asked.timeout == 4294967295 then 0 else 1);
+      ended = w.ended;
+      counts = w.counts;
+      events = w.events;
+      room = w.room;
+    }
+
+-- the subscription after a tick
 unfoldable pub ticked : Watcher → Watcher
-ticked w =
-    if is_due w then
-      record {
-        number = w.number;
-        asked = w.asked;
-        left = 0;
-        ended = true;
-        counts = w.counts;
-        events = w.events ++ timeout_of w.asked ∷ [];
-        room = w.room;
-      }
-    else
-      record {
-        number = w.number;
-        asked = w.asked;
-        left = w.left - (if w.asked.timeout == 4294967295 then 0 else 1);
-        ended = w.ended;
-        counts = w.counts;
-        events = w.events;
-        room = w.room;
-      }
+ticked w = if is_due w then ended_now w else one_less w
 
 -- the subscription with room for so many changes
 abbrev pub with_room : ℕ → Watcher → Watcher

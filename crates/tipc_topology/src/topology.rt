@@ -3,7 +3,7 @@
 ghost use Rattle.std.specs.Prelude.{◌≡◌, ◌≤◌, ◌<◌, ◌+◌, ◌++◌, ◌⊎◌, ◌↔◌, false, true, ℕ, [], None, Some, Err, All, drop, length, map, position, slice_get, take, IfErr, IfOk, IfSome, IfNone, IsErr, IsOk, OnErr, OnOk};
 ghost use Rattle.std.specs.List.{AllPairs};
 ghost use Rattle.tipc_topology.specs.Watchers.{is_due, ticked, with_room, Watcher};
-ghost use Rattle.tipc_topology.specs.Changing.{changed, due, events_left, has_number, no_watchers, of_number, size, subscribed, taken_from, told, with_kept, with_room_for, without, is_filter, is_of_one};
+ghost use Rattle.tipc_topology.specs.Changing.{changed, due, events_left, has_number, no_watchers, of_number, size, subscribed, taken_from, told, told_each, with_kept, with_room_for, without, is_filter, is_of_one};
 
 use crate::changes::{TableChange, as_told, in_order, size};
 use crate::watch::{PORTS, SERVICE, Watch};
@@ -81,7 +81,9 @@ fn make_room_in_each(kept: &mut [Watch], changes: usize) -> Result<(), NoMemory>
     ensures err { OnErr result ((done : ℕ) × (kept.new ≡ map (with_room changes) (take done kept.old) ++ drop done kept.old)) }
 {
     for watch in kept.iter_mut() {
-        watch.make_room(changes)?;
+        let Ok(()) = watch.make_room(changes) else {
+            return Err(NoMemory);
+        };
     }
     Ok(())
 }
@@ -192,11 +194,18 @@ impl Topology {
         ensures succeeds { is_of_one change.now ≡ true → 1 ≤ self.old.room → IsOk result }
     {
         let change = as_told(alloc, change)?;
-        let publications = size(&change);
-        self.make_room(publications)?;
-        tell_each(self.kept.as_mut_slice(), &change);
-        self.room -= publications;
+        self.make_room(size(&change))?;
+        self.tell(&change);
         Ok(())
+    }
+
+    /// Tells each subscription of a change that there is room for. It takes no memory.
+    fn tell(&mut self, change: &TableChange)
+        requires { size change.now ≤ self.old.room }
+        ensures { self.new ≡ told_each change.now self.old }
+    {
+        tell_each(self.kept.as_mut_slice(), change);
+        self.room -= size(change);
     }
 
     /// Makes room for so many changes, where there isn't as much.

@@ -1,0 +1,4 @@
+-- Lemmas on subscriptions.
+pub mod Each
+pub mod Kept
+pub mod Order
