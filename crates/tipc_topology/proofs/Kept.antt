@@ -11,11 +11,14 @@ use Rattle.std.proofs.lemmas.List.Kept.{AllPairs-filter}
 use Rattle.std.proofs.lemmas.List.Quantifiers.{all_pairs_remove, all_pairs_push}
 use Rattle.tipc_types.specs.declared.services.Publication.{Publication}
 use Rattle.tipc_types.specs.declared.node_calls.Event.{Event}
-use Rattle.tipc_types.specs.Watching.{event_of}
+use Rattle.tipc_types.specs.declared.node_calls.Subscription.{Subscription}
+use Rattle.tipc_types.specs.Span.{Span}
+use Rattle.tipc_types.specs.Watching.{event_of, in_order, is_watched}
+use Rattle.tipc_name_table.specs.Matching.{overlaps}
 use Rattle.tipc_topology.specs.declared.changes.TableChange.{TableChange}
 use Rattle.tipc_topology.specs.declared.changes.TableChange.TheVariants.{Added, Removed, Purged}
-use Rattle.tipc_topology.specs.Watchers.{added, after_change, blank, bounds_of, concerns, count_at, ended_now, is_due, is_per_port, one_fewer, one_less, one_more, removed, ticked, with_room, without_first, Counts, Watcher}
-use Rattle.tipc_topology.specs.Changing.{due, has_number, size, taken_from, told, with_room_for, without, AreKept, Watchers}
+use Rattle.tipc_topology.specs.Watchers.{added, after_change, began, blank, bounds_of, concerns, count_at, ended_now, is_due, is_per_port, one_fewer, one_less, one_more, removed, ticked, with_room, without_first, Counts, Watcher}
+use Rattle.tipc_topology.specs.Changing.{due, has_number, size, subscribed, taken_from, told, told_each, with_room_for, without, AreKept, Watchers}
 
 -- so many made, so much room, and these kept
 abbrev pub kept_as : ℕ → ℕ → List Watcher → Watchers
@@ -303,3 +306,35 @@ due_rising ws h i j d before within =
     let later : j < length some = subst (λ (n : ℕ). j < n) (length-map some (λ (w : Watcher). w.number)) within in
     rw (get_or-map (λ (w : Watcher). w.number) some i anyone d (omega (arith, before, later)), get_or-map (λ (w : Watcher). w.number) some j anyone d later)
       (AllPairs-filter (λ (w later : Watcher). w.number < later.number) is_due ws h i j anyone before later)
+
+-- there is room for what was asked for
+pub room_for : (n : ℕ) (t : Watchers) → n ≤ (with_room_for n t).room
+unfolding with_room_for
+room_for n t = omega arith
+
+-- each is told, and there is less room
+pub told_all : (c : TableChange) (made room : ℕ) (ws : List Watcher) → kept_as made (room - size c) (map (told c) ws) ≡ told_each c (kept_as made room ws)
+unfolding told_each
+told_all c made room ws = refl
+
+-- ---- one more
+
+-- a new subscription has its number, and the room that it was given
+pub began_takes : (number : ℕ) (s : Subscription) (room : ℕ) (there : List Publication)
+    → ((began number s room there).number ≡ number) × ((began number s room there).room ≡ room)
+began_takes number s room there =
+    let taken = all_added_take (blank number s (length there + room)) there in (
+      taken.0,
+      omega (arith, taken.1),
+    )
+
+-- those that share an instance with the range are those that are watched
+pub watched_there : (s : Subscription) (range : Span) → range.kind ≡ s.range_kind → range.lower ≡ s.lower → range.upper ≡ s.upper
+    → (ps : List Publication) → filter (overlaps range) ps ≡ filter (is_watched s) ps
+watched_there s range kind lower upper ps = rw (kind, lower, upper) refl
+
+-- with one more behind the others
+pub one_subscribed : (s : Subscription) (there : List Publication) (made room : ℕ) (ws vs : List Watcher) (w : Watcher) → vs ≡ ws ++ w ∷ []
+    → w ≡ began (made + 1) s room (in_order (filter (is_watched s) there)) → kept_as (made + 1) room vs ≡ subscribed s there (kept_as made room ws)
+unfolding subscribed
+one_subscribed s there made room ws vs w pushed is = rw (pushed, is) refl
