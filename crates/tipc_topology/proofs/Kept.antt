@@ -26,7 +26,6 @@ kept_as made room kept = record { made = made; room = room; kept = kept }
 
 -- ---- one of a number
 
-
 -- a place that was found is the first, and is within
 pub found_place : (number : ℕ) (ws : List Watcher) (i : ℕ) → position (has_number number) ws ≡ Some i → (i ≡ position_or_len (has_number number) ws) × (i < length ws)
 found_place number ws i e = grind (arith, nat_tests)
@@ -57,9 +56,9 @@ pub taken_at : (number : ℕ) (ws : List Watcher) (d : Watcher)
 taken_at number [] d = refl
 taken_at number (w ∷ ws) d =
     elim (has_number number w) as (λ b. set (w ∷ ws) (cond (not b) (1 + position_or_len (has_number number) ws) 0)
-        (without_first (get_or (w ∷ ws) (cond (not b) (1 + position_or_len (has_number number) ws) 0) d)) ≡ (if b then without_first w ∷ ws else w ∷ taken_from number ws)) [
-      true ↦ refl
-    | false ↦ let next : 1 + position_or_len (has_number number) ws ≡ suc (position_or_len (has_number number) ws) = omega arith in rw next (ap (λ vs. w ∷ vs) (taken_at number ws d))
+    (without_first (get_or (w ∷ ws) (cond (not b) (1 + position_or_len (has_number number) ws) 0) d)) ≡ (if b then without_first w ∷ ws else w ∷ taken_from number ws)) [
+      | true ↦ refl
+      | false ↦ let next : 1 + position_or_len (has_number number) ws ≡ suc (position_or_len (has_number number) ws) = omega arith in rw next (ap (λ vs. w ∷ vs) (taken_at number ws d))
     ]
 
 -- the one at the place is taken out
@@ -138,13 +137,13 @@ pub added_takes : (w : Watcher) (p : Publication) → Takes 1 w (added w p)
 unfolding added
 added_takes w p =
     choice (concerns w p) (is_per_port w) w (one_more w.counts (bounds_of p)) (event_of 1 w.asked p ∷ [])
-      (if count_at w.counts (bounds_of p) == 0 then event_of 1 w.asked p ∷ [] else [])
+    (if count_at w.counts (bounds_of p) == 0 then event_of 1 w.asked p ∷ [] else [])
 
 pub removed_takes : (w : Watcher) (p : Publication) → Takes 1 w (removed w p)
 unfolding removed
 removed_takes w p =
     choice (concerns w p) (is_per_port w) w (one_fewer w.counts (bounds_of p)) (event_of 2 w.asked p ∷ [])
-      (if nat_le (count_at w.counts (bounds_of p)) 1 then event_of 2 w.asked p ∷ [] else [])
+    (if nat_le (count_at w.counts (bounds_of p)) 1 then event_of 2 w.asked p ∷ [] else [])
 
 -- several removed publications take as many
 pub all_removed_take : (w : Watcher) (ps : List Publication) → Takes (length ps) w (fold removed w ps)
@@ -200,13 +199,13 @@ pub mapped_kept : (f : Watcher → Watcher) (made room other : ℕ) (ws : List W
     → AreKept (kept_as made room ws) → AreKept (kept_as made other (map f ws))
 mapped_kept f made room other ws same h =
     like_kept made room other ws (map f ws) (length-map ws f)
-      (λ i d within.
-          let here = get_or-map f ws i d d within in
-          let each = same (get_or ws i d) (h.room i d within) in (
-            ap (λ (w : Watcher). w.number) here ∙ each.0,
-            ap (λ (w : Watcher). w.room) here ∙ each.1,
-          ))
-      h
+    (λ i d within.
+    let here = get_or-map f ws i d d within in
+    let each = same (get_or ws i d) (h.room i d within) in (
+      ap (λ (w : Watcher). w.number) here ∙ each.0,
+      ap (λ (w : Watcher). w.room) here ∙ each.1,
+    ))
+    h
 
 -- it holds after an event was taken
 pub taken_like : (number : ℕ) (ws : List Watcher) (i : ℕ) (d : Watcher) → ((get_or (taken_from number ws) i d).number ≡ (get_or ws i d).number) × ((get_or (taken_from number ws) i d).room ≡ (get_or ws i d).room)
@@ -225,15 +224,15 @@ taken_length : (number : ℕ) (ws : List Watcher) → length (taken_from number 
 taken_length number [] = refl
 taken_length number (w ∷ ws) =
     elim (has_number number w) as (λ b. length (if b then without_first w ∷ ws else w ∷ taken_from number ws) ≡ length (w ∷ ws)) [
-      true ↦ refl
-    | false ↦ ap (λ n. suc n) (taken_length number ws)
+      | true ↦ refl
+      | false ↦ ap (λ n. suc n) (taken_length number ws)
     ]
 
 pub taken_kept : (made room number : ℕ) (ws : List Watcher) → AreKept (kept_as made room ws)
     → AreKept (kept_as made room (taken_from number ws))
 taken_kept made room number ws h =
     like_kept made room room ws (taken_from number ws) (taken_length number ws)
-      (λ i d within. ((taken_like number ws i d).0, (taken_like number ws i d).1 ∙ h.room i d within)) h
+    (λ i d within. ((taken_like number ws i d).0, (taken_like number ws i d).1 ∙ h.room i d within)) h
 
 -- it holds after one was cancelled
 pub removed_kept : (made room i : ℕ) (ws : List Watcher) → i < length ws → AreKept (kept_as made room ws)
@@ -305,7 +304,7 @@ due_rising ws h i j d before within =
     let some = filter is_due ws in
     let later : j < length some = subst (λ (n : ℕ). j < n) (length-map some (λ (w : Watcher). w.number)) within in
     rw (get_or-map (λ (w : Watcher). w.number) some i anyone d (omega (arith, before, later)), get_or-map (λ (w : Watcher). w.number) some j anyone d later)
-      (AllPairs-filter (λ (w later : Watcher). w.number < later.number) is_due ws h i j anyone before later)
+    (AllPairs-filter (λ (w later : Watcher). w.number < later.number) is_due ws h i j anyone before later)
 
 -- there is room for what was asked for
 pub room_for : (n : ℕ) (t : Watchers) → n ≤ (with_room_for n t).room

@@ -1,2 +1,4 @@
-pub mod Watchers
 pub mod Changing
+pub mod Entries
+pub mod Transitions
+pub mod Watchers

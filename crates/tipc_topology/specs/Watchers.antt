@@ -72,7 +72,7 @@ added w p =
     if not (concerns w p) then after_change w w.counts []
     else (if is_per_port w then after_change w w.counts (event_of 1 w.asked p ∷ [])
     else after_change w (one_more w.counts (bounds_of p))
-        (if count_at w.counts (bounds_of p) == 0 then event_of 1 w.asked p ∷ [] else []))
+    (if count_at w.counts (bounds_of p) == 0 then event_of 1 w.asked p ∷ [] else []))
 
 -- A removed publication is told of where each is; else where it was the last of its range.
 unfoldable pub removed : Watcher → Publication → Watcher
@@ -80,7 +80,7 @@ removed w p =
     if not (concerns w p) then after_change w w.counts []
     else (if is_per_port w then after_change w w.counts (event_of 2 w.asked p ∷ [])
     else after_change w (one_fewer w.counts (bounds_of p))
-        (if nat_le (count_at w.counts (bounds_of p)) 1 then event_of 2 w.asked p ∷ [] else []))
+    (if nat_le (count_at w.counts (bounds_of p)) 1 then event_of 2 w.asked p ∷ [] else []))
 
 -- a subscription that was told of nothing yet, with room for so many changes
 abbrev pub blank : ℕ → Subscription → ℕ → Watcher

@@ -2,11 +2,14 @@
 #![tactic(auto)]
 
 mod changes;
+pub mod laws;
 mod topology;
 mod watch;
 
 pub use changes::TableChange;
-pub use topology::{MOST_MADE, MOST_SUBSCRIPTIONS, SubscriptionNumbers, Topology, TopologyFault, Unknown};
+pub use topology::{
+    MOST_MADE, MOST_SUBSCRIPTIONS, SubscriptionNumbers, Topology, TopologyFault, Unknown,
+};
 
 #[cfg(test)]
 mod tests;

@@ -1,6 +1,7 @@
 //! Tests of subscriptions: what is refused, and what subscribers are told.
 
-ghost use Rattle.std.specs.Prelude.{◌≤◌};
+ghost use Rattle.std.specs.Prelude.{◌≡◌, ◌≤◌};
+ghost use Rattle.tipc_types.specs.Address.{node_word};
 
 use super::*;
 use std::alloc::Global;
@@ -12,6 +13,7 @@ use tipc_types::{Addr, List, PortId, Publication, Scope, ServiceRange, Subscript
 /// A publication of a range of service type 100, at a port of node n.
 fn offered(rt: &impl Abort, n: u8, port: u32, key: u32, lower: u32, upper: u32) -> Publication
     requires { (1 ≤ n) × (n ≤ 32) }
+    ensures { result.at.node.word ≡ node_word n }
 {
     let Ok(range) = ServiceRange::new(100, lower, upper) else {
         panic!(rt; "the range has no instances");

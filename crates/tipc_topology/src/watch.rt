@@ -104,7 +104,12 @@ fn count_at(counts: &IndexMap<(u32, u32), u64>, range: (u32, u32)) -> u64
 
 impl Watch {
     /// A subscription that was told of nothing yet, with room for so many changes.
-    fn blank(alloc: Global, number: u32, asked: Subscription, room: usize) -> Result<Watch, NoMemory>
+    fn blank(
+        alloc: Global,
+        number: u32,
+        asked: Subscription,
+        room: usize,
+    ) -> Result<Watch, NoMemory>
         ensures { IfOk result (λ w. w ≡ blank number asked room) }
     {
         let Some(places) = room.checked_add(1) else {
@@ -177,7 +182,8 @@ impl Watch {
                 }
             }
             if is_told {
-                self.events.push_back_reserved(event_of(PUBLISHED, &self.asked, p));
+                self.events
+                    .push_back_reserved(event_of(PUBLISHED, &self.asked, p));
             }
         }
         self.room -= 1;
@@ -205,7 +211,8 @@ impl Watch {
                 }
             }
             if is_told {
-                self.events.push_back_reserved(event_of(WITHDRAWN, &self.asked, p));
+                self.events
+                    .push_back_reserved(event_of(WITHDRAWN, &self.asked, p));
             }
         }
         self.room -= 1;

@@ -7,6 +7,6 @@ use Rattle.tipc_topology.proofs.topology.due.Goals as goal
 pub returns : goal.returns
 returns c =
     items_from_collect _ c.collect.ensures.ran
-      (YieldsList-from_map _ (λ (w : Watcher). w.number)
-        (YieldsList-from_filter _ is_due (YieldsList-from_slice c.args.kept.now cc) c.filter.ensures.closure (λ x b q k. search (rules, tests)))
-        c.map.ensures.closure (λ x b q k. search (rules, tests)))
+    (YieldsList-from_map _ (λ (w : Watcher). w.number)
+    (YieldsList-from_filter _ is_due (YieldsList-from_slice c.args.kept.now cc) c.filter.ensures.closure (λ x b q k. search (rules, tests)))
+    c.map.ensures.closure (λ x b q k. search (rules, tests)))

@@ -27,9 +27,9 @@ returns-clause-ok c =
     let w = c.self.inside in
     let here = found_place c.args.number w.kept.items c.in-Some.at place in
     let left = c.remove.ensures.items ∙ ap (λ (i : ℕ). remove w.kept.items i) here.0
-          ∙ without_at c.args.number w.kept.items (subst (λ (i : ℕ). i < length w.kept.items) here.0 here.1) in
+    ∙ without_at c.args.number w.kept.items (subst (λ (i : ℕ). i < length w.kept.items) here.0 here.1) in
     subst (λ (t : Watchers). kept_as w.made w.room c.remove.new.self.items ≡ with_kept t (without c.args.number t.kept)) c.self.view_is
-      (ap (λ (ws : List Watcher). kept_as w.made w.room ws) left)
+    (ap (λ (ws : List Watcher). kept_as w.made w.room ws) left)
 
 pub returns-clause-unknown : goal.returns-clause-unknown
 returns-clause-unknown c =

@@ -11,7 +11,7 @@ invariant_of-self c =
     let slice = c.as_mut_slice.ensures in
     let ticked_all = mapped_written ticked w.kept.len w.kept.items c.as_mut_slice.result.now c.tick_each.new.kept c.tick_each.ensures slice.value slice.len in
     subst (λ (ws : List Watcher). AreKept (kept_as w.made w.room ws)) (sym ticked_all)
-      (mapped_kept ticked w.made w.room w.room w.kept.items (λ v has. ((ticked_keeps v).0, (ticked_keeps v).1 ∙ has)) c.self.invariant)
+    (mapped_kept ticked w.made w.room w.room w.kept.items (λ v has. ((ticked_keeps v).0, (ticked_keeps v).1 ∙ has)) c.self.invariant)
 
 pub returns-clause-rising : goal.returns-clause-rising
 returns-clause-rising c =
