@@ -1,13 +1,11 @@
 -- Counts of publications by their ranges, and lists of publications counted by a test.
-use Rattle.std.specs.Prelude.{◌==◌, ◌||◌, count_by, not, sum_by}
-use Rattle.std.proofs.Common.{◌≡◌, ◌+◌, ◌<◌, ◌≤◌, ◌++◌, ◌∷◌, [], ℕ, Bool, true, false, List, Option, Some, None, cond, if◌then◌else◌, filter, refl, sym, ap, ◌∙◌, arith, true≢false}
+use Rattle.std.specs.Prelude.{◌==◌, ◌||◌, count_by, not}
+use Rattle.std.proofs.Common.{◌≡◌, ◌+◌, ◌∷◌, [], ℕ, Bool, true, false, List, Option, Some, None, cond, if◌then◌else◌, filter, refl, sym, ap, ◌∙◌, arith, true≢false}
 use Rattle.std.specs.List.{list_any}
 use Rattle.std.specs.Map.{lookup, remove_entry}
 use Rattle.std.proofs.lemmas.Bool.Decides.{nat_tests}
 use Rattle.std.proofs.lemmas.List.Sums.{sum_by-cons}
 use Rattle.indexmap.specs.IndexMap.{insert_entry}
-use Rattle.tipc_types.specs.declared.services.Publication.{Publication}
-use Rattle.tipc_types.specs.Watching.{in_order, placed, is_before}
 use Rattle.tipc_topology.specs.Watchers.{bounds_eq, Counts}
 use Rattle.tipc_topology.specs.Transitions.{EachOnce}
 
@@ -74,6 +72,7 @@ lookup_fewer q r (e ∷ es) h = by (bounds_eq r e.0) refl (lookup_fewer q r es h
     past is false here =
         let other : bounds_eq q e.0 ≡ false = sym (ap (λ a. bounds_eq q a) (bounds_same r e.0 is)) ∙ here in
         rw other refl
+
     by : (b : Bool) → bounds_eq r e.0 ≡ b
         → lookup (bounds_eq q) (remove_entry (bounds_eq r) es) ≡ cond (bounds_eq q r) None (lookup (bounds_eq q) es)
         → lookup (bounds_eq q) (cond b es (e ∷ remove_entry (bounds_eq r) es)) ≡ cond (bounds_eq q r) None (cond (bounds_eq q e.0) (Some e.1) (lookup (bounds_eq q) es))

@@ -1,6 +1,6 @@
 -- Events that are taken, and entries of a journal as changes.
 use Rattle.std.specs.Prelude.{slice_get}
-use Rattle.std.proofs.Common.{◌≡◌, ◌++◌, ◌∷◌, [], List, Option, Some, None, drop, refl, sym, ap, ◌∙◌, append_assoc}
+use Rattle.std.proofs.Common.{◌≡◌, ◌++◌, ◌∷◌, [], List, Some, None, drop, refl, sym, ap, ◌∙◌, append_assoc}
 use Rattle.std.proofs.lemmas.List.{append-nil}
 use Rattle.tipc_types.specs.declared.node_calls.Event.{Event}
 use Rattle.tipc_types.specs.declared.node_calls.Subscription.{Subscription}

@@ -1,12 +1,12 @@
 -- A subscription's events over several changes are its transitions.
-use Rattle.std.specs.Prelude.{◌==◌, ◌^◌, count_by, not}
+use Rattle.std.specs.Prelude.{◌==◌, ◌^◌, count_by}
 use Rattle.std.proofs.Common.{◌≡◌, ◌+◌, ◌<◌, ◌≤◌, ◌++◌, ◌∷◌, [], ℕ, Bool, true, false, List, cond, if◌then◌else◌, filter, fold, length, length-append, refl, sym, ap, subst, ◌∙◌, arith, true≢false, append_assoc}
 use Rattle.std.proofs.lemmas.List.{append-nil}
 use Rattle.std.proofs.lemmas.List.Sums.{sum_by-cons}
 use Rattle.tipc_types.specs.declared.node_calls.Event.{Event}
 use Rattle.tipc_types.specs.declared.node_calls.Subscription.{Subscription}
 use Rattle.tipc_types.specs.declared.services.Publication.{Publication}
-use Rattle.tipc_types.specs.Watching.{additions, event_of, in_order, is_before, is_same_range, is_told, is_watched, placed, removals}
+use Rattle.tipc_types.specs.Watching.{additions, in_order, is_before, is_same_range, is_watched, placed, removals}
 use Rattle.tipc_topology.specs.declared.changes.TableChange.{TableChange}
 use Rattle.tipc_topology.specs.declared.changes.TableChange.TheVariants.{Added, Removed, Purged}
 use Rattle.tipc_topology.specs.Watchers.{added, began, blank, removed, Watcher}
@@ -39,7 +39,7 @@ one_added : (s : Subscription) (w : Watcher) (p : Publication) (there : List Pub
     → ((s.filter == 1) ≡ false → IsCounted s w.counts there) → Tells s w (added w p) (additions s there (p ∷ [])) (there ++ p ∷ [])
 one_added s w p there asked lasts few counts =
     subst (λ (a : Subscription). ((a.filter == 1) ≡ false → IsCounted a w.counts there) → Tells a w (added w p) (additions a there (p ∷ [])) (there ++ p ∷ []))
-      asked (added_tells w p there lasts few) counts
+    asked (added_tells w p there lasts few) counts
 
 -- one removed publication
 one_removed : (s : Subscription) (w : Watcher) (p : Publication) (there : List Publication) → w.asked ≡ s → w.ended ≡ false
@@ -47,7 +47,7 @@ one_removed : (s : Subscription) (w : Watcher) (p : Publication) (there : List P
     → Tells s w (removed w p) (removals s there (p ∷ [])) (left_by there p)
 one_removed s w p there asked lasts alone counts =
     subst (λ (a : Subscription). ((a.filter == 1) ≡ false → IsCounted a w.counts there) → Tells a w (removed w p) (removals a there (p ∷ [])) (left_by there p))
-      asked (removed_tells w p there lasts alone.0) counts
+    asked (removed_tells w p there lasts alone.0) counts
 
 -- several added ones
 all_added : (s : Subscription) (w : Watcher) (ps there : List Publication) → w.asked ≡ s → w.ended ≡ false → length there + length ps < 2 ^ 63
@@ -58,8 +58,8 @@ all_added s w (p ∷ ps) there asked lasts few counts =
     let one = one_added s w p there asked lasts (omega (arith, few)) counts in
     let more = all_added s (added w p) ps (there ++ p ∷ []) one.asked one.lasts (longer there p ps few) one.counts in
     subst (λ (es : List Event). Tells s w (fold added w (p ∷ ps)) (es ++ additions s (there ++ p ∷ []) ps) (there ++ p ∷ ps)) (append-nil _)
-      (subst (λ (qs : List Publication). Tells s w (fold added w (p ∷ ps)) (additions s there (p ∷ []) ++ additions s (there ++ p ∷ []) ps) qs)
-        (append_assoc there (p ∷ []) ps) (joined s w (added w p) (fold added (added w p) ps) _ _ _ _ one more))
+    (subst (λ (qs : List Publication). Tells s w (fold added w (p ∷ ps)) (additions s there (p ∷ []) ++ additions s (there ++ p ∷ []) ps) qs)
+    (append_assoc there (p ∷ []) ps) (joined s w (added w p) (fold added (added w p) ps) _ _ _ _ one more))
   where
     longer : (xs : List Publication) (x : Publication) (ys : List Publication) → length xs + length (x ∷ ys) < 2 ^ 63 → length (xs ++ x ∷ []) + length ys < 2 ^ 63
     longer xs x ys e = rw (length-append xs (x ∷ [])) (omega (arith, e))
@@ -72,7 +72,7 @@ all_removed s w (p ∷ ps) there asked lasts alone counts =
     let one = one_removed s w p there asked lasts (alone.0, tt) counts in
     let more = all_removed s (removed w p) ps (left_by there p) one.asked one.lasts alone.1 one.counts in
     subst (λ (es : List Event). Tells s w (fold removed w (p ∷ ps)) (es ++ removals s (left_by there p) ps) (fold left_by there (p ∷ ps))) (append-nil _)
-      (joined s w (removed w p) (fold removed (removed w p) ps) _ _ _ _ one more)
+    (joined s w (removed w p) (fold removed (removed w p) ps) _ _ _ _ one more)
 
 -- ---- changes
 
@@ -150,7 +150,7 @@ fewer_in_order kind ps =
 -- what a new subscription was told, and what it knows of those that are there
 began_told : (number : ℕ) (s : Subscription) (room : ℕ) (there : List Publication) → length there < 2 ^ 63
     → Tells s (blank number s (length (in_order (filter (is_watched s) there)) + room)) (began number s room (in_order (filter (is_watched s) there)))
-      (additions s [] (in_order (filter (is_watched s) there))) there
+    (additions s [] (in_order (filter (is_watched s) there))) there
 began_told number s room there few =
     let ps = in_order (filter (is_watched s) there) in
     let fewer = fewer_in_order (is_watched s) there in

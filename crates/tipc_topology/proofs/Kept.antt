@@ -1,6 +1,6 @@
 -- The subscriptions of a node: one of a number, the room of each, and what always holds of them.
-use Rattle.std.proofs.Common.{◌≡◌, ◌+◌, ◌-◌, ◌<◌, ◌≤◌, ◌++◌, ◌∷◌, [], ℕ, Bool, true, false, List, Option, Some, None, cond, if◌then◌else◌, map, length, take, drop, get_or, set, refl, sym, ap, ◌∙◌, arith, filter, fold, length-append, subst, take-append-drop, suc, zero}
-use Rattle.std.specs.Prelude.{◌==◌, nat_le, max, All, find, remove, position, nat_lt, not, slice_get}
+use Rattle.std.proofs.Common.{◌≡◌, ◌+◌, ◌-◌, ◌<◌, ◌≤◌, ◌++◌, ◌∷◌, [], ℕ, Bool, true, false, List, Some, None, cond, if◌then◌else◌, map, length, take, drop, get_or, set, refl, sym, ap, ◌∙◌, arith, filter, fold, length-append, subst, take-append-drop, suc, zero}
+use Rattle.std.specs.Prelude.{◌==◌, nat_le, max, All, find, remove, position, not, slice_get}
 use Rattle.std.specs.List.{AllPairs, position_or_len}
 use Rattle.std.proofs.lemmas.List.{append-nil, drop_all, get_or-map, length-map, take_all}
 use Rattle.std.proofs.lemmas.Bool.Decides.{nat_tests}

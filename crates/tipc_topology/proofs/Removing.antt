@@ -1,6 +1,6 @@
 -- What a subscription is told where a publication is removed.
 use Rattle.std.specs.Prelude.{◌==◌, ◌&&◌, ◌||◌, count_by, nat_le, not, unwrap_or}
-use Rattle.std.proofs.Common.{◌≡◌, ◌+◌, ◌-◌, ◌<◌, ◌≤◌, ◌++◌, ◌∷◌, [], ℕ, Bool, true, false, List, Option, Some, None, cond, if◌then◌else◌, filter, length, refl, sym, ap, ◌∙◌, arith, true≢false}
+use Rattle.std.proofs.Common.{◌≡◌, ◌+◌, ◌-◌, ◌≤◌, ◌++◌, ◌∷◌, [], ℕ, Bool, true, false, List, Option, Some, None, cond, if◌then◌else◌, filter, refl, sym, ap, ◌∙◌, arith, true≢false}
 use Rattle.std.specs.List.{list_any}
 use Rattle.std.specs.Map.{lookup, remove_entry}
 use Rattle.std.proofs.lemmas.Bool.Decides.{nat_tests}
@@ -33,7 +33,7 @@ counted_unwatched s counts there p alone unwatched h =
       counted = λ q watched.
           let other = other_range s q p watched unwatched in
           let left : count_by (is_same_range q) there ≡ 0 + count_by (is_same_range q) (left_by there p) =
-            counted_left (is_same_range q) there p alone ∙ ap (λ b. cond b 1 0 + count_by (is_same_range q) (left_by there p)) other in
+          counted_left (is_same_range q) there p alone ∙ ap (λ b. cond b 1 0 + count_by (is_same_range q) (left_by there p)) other in
           h.counted q watched ∙ left ∙ omega arith;
     }
 
@@ -47,6 +47,7 @@ counted_fewer s counts there p alone heard h = by (nat_le (count_at counts (boun
     left q watched same is =
         h.counted q watched ∙ counted_left (is_same_range q) there p alone
         ∙ ap (λ b. cond b 1 0 + count_by (is_same_range q) (left_by there p)) (same_bounds s q p watched heard ∙ is)
+
     last : nat_le (count_at counts (bounds_of p)) 1 ≡ true → (q : Publication) → is_watched s q ≡ true → (same : Bool) → bounds_eq (bounds_of q) (bounds_of p) ≡ same
         → unwrap_or (cond same None (lookup (bounds_eq (bounds_of q)) counts)) 0 ≡ count_by (is_same_range q) (left_by there p)
     last le q watched true is =
@@ -55,6 +56,7 @@ counted_fewer s counts there p alone heard h = by (nat_le (count_at counts (boun
         let most : count_at counts (bounds_of p) ≤ 1 = grind (arith, nat_tests) in
         omega (arith, here, same, most)
     last le q watched false is = let here = left q watched false is in omega (arith, here)
+
     later : (q : Publication) → is_watched s q ≡ true → (same : Bool) → bounds_eq (bounds_of q) (bounds_of p) ≡ same
         → unwrap_or (cond same (Some (count_at counts (bounds_of p) - 1)) (lookup (bounds_eq (bounds_of q)) counts)) 0 ≡ count_by (is_same_range q) (left_by there p)
     later q watched true is =
@@ -62,6 +64,7 @@ counted_fewer s counts there p alone heard h = by (nat_le (count_at counts (boun
         let same = ap (λ a. count_at counts a) (bounds_same (bounds_of q) (bounds_of p) is) in
         omega (arith, here, same)
     later q watched false is = let here = left q watched false is in omega (arith, here)
+
     by : (b : Bool) → nat_le (count_at counts (bounds_of p)) 1 ≡ b
         → IsCounted s (if b then remove_entry (bounds_eq (bounds_of p)) counts else insert_entry bounds_eq counts (bounds_of p) (count_at counts (bounds_of p) - 1)) (left_by there p)
     by true le =
@@ -94,17 +97,17 @@ removed_tells w p there lasts alone counts =
   where
     by : (heard each : Bool) → is_watched w.asked p ≡ heard → (w.asked.filter == 1) ≡ each
         → Tells w.asked w
-          (if not heard then after_change w w.counts []
-          else (if each then after_change w w.counts (event_of 2 w.asked p ∷ [])
-          else after_change w (one_fewer w.counts (bounds_of p)) (if nat_le (count_at w.counts (bounds_of p)) 1 then event_of 2 w.asked p ∷ [] else [])))
-          ((if heard && (each || not (list_any (is_same_range p) (left_by there p))) then event_of 2 w.asked p ∷ [] else []) ++ [])
-          (left_by there p)
+        (if not heard then after_change w w.counts []
+        else (if each then after_change w w.counts (event_of 2 w.asked p ∷ [])
+        else after_change w (one_fewer w.counts (bounds_of p)) (if nat_le (count_at w.counts (bounds_of p)) 1 then event_of 2 w.asked p ∷ [] else [])))
+        ((if heard && (each || not (list_any (is_same_range p) (left_by there p))) then event_of 2 w.asked p ∷ [] else []) ++ [])
+        (left_by there p)
     by false each here is = record { events = refl; asked = refl; lasts = lasts; counts = λ e. counted_unwatched w.asked w.counts there p alone here (counts e) }
     by true true here is = record { events = refl; asked = refl; lasts = lasts; counts = λ e. absurd (true≢false (sym is ∙ e)) }
     by true false here is =
         let n = count_by (is_same_range p) (left_by there p) in
         let one : count_at w.counts (bounds_of p) ≡ 1 + n =
-          (counts is).counted p here ∙ counted_left (is_same_range p) there p alone ∙ ap (λ b. cond b 1 0 + n) (own_range p) in
+        (counts is).counted p here ∙ counted_left (is_same_range p) there p alone ∙ ap (λ b. cond b 1 0 + n) (own_range p) in
         let last = ap (λ m. nat_le m 1) one ∙ last_left n ∙ none_counted (is_same_range p) (left_by there p) in
         record {
           events = ap (λ (b : Bool). w.events ++ (if b then event_of 2 w.asked p ∷ [] else [])) last ∙ ap (λ (es : List Event). w.events ++ es) (sym (append-nil _));

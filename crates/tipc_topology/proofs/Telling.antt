@@ -1,6 +1,6 @@
 -- What a subscription is told of changes: its transitions.
-use Rattle.std.specs.Prelude.{◌==◌, ◌&&◌, ◌||◌, ◌^◌, count_by, min, nat_le, not, unwrap_or}
-use Rattle.std.proofs.Common.{◌≡◌, ◌+◌, ◌-◌, ◌<◌, ◌≤◌, ◌++◌, ◌∷◌, [], ℕ, Bool, true, false, List, Option, Some, None, cond, if◌then◌else◌, filter, fold, length, refl, sym, ap, subst, ◌∙◌, arith, true≢false, append_assoc}
+use Rattle.std.specs.Prelude.{◌==◌, ◌&&◌, ◌||◌, ◌^◌, count_by, min, not, unwrap_or}
+use Rattle.std.proofs.Common.{◌≡◌, ◌+◌, ◌<◌, ◌++◌, ◌∷◌, [], ℕ, Bool, true, false, List, Option, Some, cond, if◌then◌else◌, length, refl, sym, ap, ◌∙◌, arith, true≢false}
 use Rattle.std.specs.List.{list_any}
 use Rattle.std.specs.Map.{lookup}
 use Rattle.std.proofs.lemmas.Bool.Decides.{nat_tests}
@@ -9,10 +9,10 @@ use Rattle.std.proofs.lemmas.List.Sums.{sum_by-append, sum_by-cons, count_by-le-
 use Rattle.tipc_types.specs.declared.node_calls.Event.{Event}
 use Rattle.tipc_types.specs.declared.node_calls.Subscription.{Subscription}
 use Rattle.tipc_types.specs.declared.services.Publication.{Publication}
-use Rattle.tipc_types.specs.Watching.{additions, event_of, in_order, is_same_name, is_same_range, is_told, is_watched, removals}
-use Rattle.tipc_topology.specs.Watchers.{added, after_change, bounds_eq, bounds_of, concerns, count_at, is_per_port, one_fewer, one_more, removed, Counts, Watcher}
-use Rattle.tipc_topology.specs.Transitions.{left_by, AreRemovable, EachOnce, IsCounted}
-use Rattle.tipc_topology.proofs.Counts.{bounds_same, count_parted, lookup_fewer, lookup_more, none_counted, once_fewer, once_more}
+use Rattle.tipc_types.specs.Watching.{additions, event_of, is_same_range, is_watched}
+use Rattle.tipc_topology.specs.Watchers.{added, after_change, bounds_eq, bounds_of, concerns, count_at, one_more, Counts, Watcher}
+use Rattle.tipc_topology.specs.Transitions.{IsCounted}
+use Rattle.tipc_topology.proofs.Counts.{bounds_same, lookup_more, none_counted, once_more}
 
 -- ---- counts
 
@@ -101,11 +101,11 @@ added_tells w p there lasts few counts =
   where
     by : (heard each : Bool) → is_watched w.asked p ≡ heard → (w.asked.filter == 1) ≡ each
         → Tells w.asked w
-          (if not heard then after_change w w.counts []
-          else (if each then after_change w w.counts (event_of 1 w.asked p ∷ [])
-          else after_change w (one_more w.counts (bounds_of p)) (if count_at w.counts (bounds_of p) == 0 then event_of 1 w.asked p ∷ [] else [])))
-          ((if heard && (each || not (list_any (is_same_range p) there)) then event_of 1 w.asked p ∷ [] else []) ++ [])
-          (there ++ p ∷ [])
+        (if not heard then after_change w w.counts []
+        else (if each then after_change w w.counts (event_of 1 w.asked p ∷ [])
+        else after_change w (one_more w.counts (bounds_of p)) (if count_at w.counts (bounds_of p) == 0 then event_of 1 w.asked p ∷ [] else [])))
+        ((if heard && (each || not (list_any (is_same_range p) there)) then event_of 1 w.asked p ∷ [] else []) ++ [])
+        (there ++ p ∷ [])
     by false each here is = record { events = refl; asked = refl; lasts = lasts; counts = λ e. counted_other w.asked w.counts there p here (counts e) }
     by true true here is = record { events = refl; asked = refl; lasts = lasts; counts = λ e. absurd (true≢false (sym is ∙ e)) }
     by true false here is =

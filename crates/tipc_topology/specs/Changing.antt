@@ -1,5 +1,5 @@
 -- The subscriptions of a node: what each call makes of them.
-use Rattle.std.specs.Prelude.{◌≡◌, ◌==◌, ◌+◌, ◌-◌, ◌<◌, ◌≤◌, ◌||◌, if◌then◌else◌, not, max, ℕ, Bool, false, true, List, [], ◌∷◌, ◌++◌, Option, None, Some, All, filter, find, fold, length, map}
+use Rattle.std.specs.Prelude.{◌≡◌, ◌==◌, ◌+◌, ◌-◌, ◌<◌, ◌≤◌, ◌||◌, if◌then◌else◌, max, ℕ, Bool, false, true, List, [], ◌∷◌, ◌++◌, Option, None, Some, All, filter, find, fold, length, map}
 use Rattle.std.specs.List.{AllPairs}
 use Rattle.tipc_types.specs.declared.node_calls.Event.{Event}
 use Rattle.tipc_types.specs.declared.node_calls.Subscription.{Subscription}
@@ -7,7 +7,7 @@ use Rattle.tipc_types.specs.declared.services.Publication.{Publication}
 use Rattle.tipc_types.specs.Watching.{in_order, is_watched}
 use Rattle.tipc_topology.specs.declared.changes.TableChange.{TableChange}
 use Rattle.tipc_topology.specs.declared.changes.TableChange.TheVariants.{Added, Removed, Purged}
-use Rattle.tipc_topology.specs.Watchers.{added, began, is_due, removed, ticked, with_room, without_first, Watcher}
+use Rattle.tipc_topology.specs.Watchers.{added, began, is_due, removed, with_room, without_first, Watcher}
 
 -- the subscriptions of a node in one boot: how many were made; of how many more changes each can be told without new
 -- memory; and those that weren't cancelled, in the order of their numbers

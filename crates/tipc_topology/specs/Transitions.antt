@@ -1,5 +1,5 @@
 -- The transitions of a subscription over the changes that it is told, and what its counts say of what is there.
-use Rattle.std.specs.Prelude.{◌≡◌, ◌<◌, ◌^◌, ℕ, Bool, false, true, List, [], ◌∷◌, ◌++◌, Option, None, count_by, filter, fold, length, not}
+use Rattle.std.specs.Prelude.{◌≡◌, ◌<◌, ◌^◌, false, true, List, [], ◌∷◌, ◌++◌, None, count_by, filter, fold, length, not}
 use Rattle.std.specs.Map.{lookup}
 use Rattle.tipc_types.specs.declared.node_calls.Event.{Event}
 use Rattle.tipc_types.specs.declared.node_calls.Subscription.{Subscription}

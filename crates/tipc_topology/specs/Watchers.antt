@@ -1,5 +1,5 @@
 -- A subscription that a node keeps: what it is told of the publications that it watches, and when it times out.
-use Rattle.std.specs.Prelude.{◌==◌, ◌&&◌, ◌||◌, ◌+◌, ◌-◌, if◌then◌else◌, nat_le, not, min, max, ℕ, Bool, false, true, List, [], ◌∷◌, ◌++◌, drop, fold, length, unwrap_or}
+use Rattle.std.specs.Prelude.{◌==◌, ◌&&◌, ◌+◌, ◌-◌, if◌then◌else◌, nat_le, not, min, max, ℕ, Bool, false, true, List, [], ◌∷◌, ◌++◌, drop, fold, length, unwrap_or}
 use Rattle.std.specs.Map.{lookup, remove_entry}
 use Rattle.indexmap.specs.IndexMap.{insert_entry}
 use Rattle.tipc_types.specs.declared.node_calls.Event.{Event}

@@ -1,4 +1,4 @@
-use Rattle.std.proofs.Common.{◌∙◌, rules, tests}
+use Rattle.std.proofs.Common.{rules, tests}
 use Rattle.std.proofs.lemmas.Iterator.{items_from_collect, YieldsList-from_slice, YieldsList-from_map}
 use Rattle.std.proofs.lemmas.Iterator.Consumers.{YieldsList-from_filter}
 use Rattle.tipc_topology.specs.Watchers.{is_due, Watcher}

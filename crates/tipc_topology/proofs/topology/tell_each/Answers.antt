@@ -1,4 +1,4 @@
-use Rattle.std.proofs.Common.{◌≡◌, ℕ, List, ap, sym, ◌∙◌, subst, set}
+use Rattle.std.proofs.Common.{ap, sym, ◌∙◌, set}
 use Rattle.std.proofs.lemmas.List.Edits.{map_over_more}
 use Rattle.tipc_topology.specs.Changing.{told}
 use Rattle.tipc_topology.specs.Watchers.{Watcher}

@@ -1,8 +1,7 @@
-use Rattle.std.proofs.Common.{◌≡◌, ◌<◌, ℕ, length, List, Option, Some, None, true, false, get_or, set, refl, sym, ap, subst, ◌∙◌, true≢false}
-use Rattle.std.specs.Prelude.{find, position, slice_get, remove}
-use Rattle.tipc_types.specs.declared.node_calls.Event.{Event}
-use Rattle.tipc_topology.specs.Watchers.{without_first, Watcher}
-use Rattle.tipc_topology.specs.Changing.{events_left, has_number, of_number, with_kept, without, Watchers}
+use Rattle.std.proofs.Common.{◌≡◌, ◌<◌, ℕ, length, List, Some, None, get_or, refl, sym, ap, subst, ◌∙◌, true≢false}
+use Rattle.std.specs.Prelude.{position, remove}
+use Rattle.tipc_topology.specs.Watchers.{Watcher}
+use Rattle.tipc_topology.specs.Changing.{has_number, of_number, with_kept, without, Watchers}
 use Rattle.tipc_topology.proofs.Kept.{found_one, found_place, no_place, removed_kept, without_at, kept_as, some_not_none}
 use Rattle.tipc_topology.proofs.topology.Topology.cancel.Goals as goal
 

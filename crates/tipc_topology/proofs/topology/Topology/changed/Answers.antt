@@ -1,5 +1,5 @@
-use Rattle.std.proofs.Common.{◌≡◌, ◌≤◌, ℕ, sym, ap, subst, ◌∙◌}
-use Rattle.tipc_topology.specs.Changing.{with_room_for, size, Watchers}
+use Rattle.std.proofs.Common.{◌≤◌, ℕ, sym, subst}
+use Rattle.tipc_topology.specs.Changing.{Watchers}
 use Rattle.tipc_topology.proofs.Kept.{room_for}
 use Rattle.tipc_topology.proofs.topology.Topology.changed.Goals as goal
 

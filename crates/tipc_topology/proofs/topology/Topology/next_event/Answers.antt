@@ -1,6 +1,5 @@
-use Rattle.std.proofs.Common.{◌≡◌, ℕ, List, Option, Some, None, true, false, get_or, set, refl, sym, ap, subst, ◌∙◌, true≢false}
+use Rattle.std.proofs.Common.{◌≡◌, ℕ, List, Option, Some, None, get_or, set, refl, sym, ap, subst, ◌∙◌, true≢false}
 use Rattle.std.specs.Prelude.{find, position, slice_get}
-use Rattle.tipc_types.specs.declared.node_calls.Event.{Event}
 use Rattle.tipc_topology.specs.Watchers.{without_first, Watcher}
 use Rattle.tipc_topology.specs.Changing.{events_left, has_number, of_number, taken_from, with_kept, Watchers}
 use Rattle.tipc_topology.proofs.Kept.{found_one, found_place, no_place, taken_at, kept_as, some_not_none}

@@ -1,6 +1,6 @@
-use Rattle.std.proofs.Common.{◌≡◌, ◌+◌, ◌++◌, ◌∷◌, [], ℕ, List, filter, sym, ap, subst, ◌∙◌}
+use Rattle.std.proofs.Common.{◌+◌, List, sym, ap, subst, ◌∙◌}
 use Rattle.tipc_types.specs.declared.services.Publication.{Publication}
-use Rattle.tipc_types.specs.Watching.{in_order, is_watched}
+use Rattle.tipc_types.specs.Watching.{in_order}
 use Rattle.tipc_topology.specs.Watchers.{began, Watcher}
 use Rattle.tipc_topology.specs.Changing.{subscribed, AreKept, Watchers}
 use Rattle.tipc_topology.proofs.Kept.{began_takes, kept_as, one_subscribed, pushed_kept, watched_there}

@@ -1,7 +1,7 @@
-use Rattle.std.proofs.Common.{◌≡◌, ◌<◌, ℕ, List, map, sym, ap, subst, ◌∙◌}
+use Rattle.std.proofs.Common.{◌<◌, ℕ, List, sym, ap, subst, ◌∙◌}
 use Rattle.std.specs.List.{AllPairs}
 use Rattle.tipc_topology.specs.Watchers.{ticked, Watcher}
-use Rattle.tipc_topology.specs.Changing.{due, AreKept, Watchers}
+use Rattle.tipc_topology.specs.Changing.{due, AreKept}
 use Rattle.tipc_topology.proofs.Kept.{due_rising, kept_as, mapped_kept, mapped_written, ticked_keeps}
 use Rattle.tipc_topology.proofs.topology.Topology.tick.Goals as goal
 

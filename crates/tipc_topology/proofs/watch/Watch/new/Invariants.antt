@@ -1,4 +1,4 @@
-use Rattle.std.proofs.Common.{◌≡◌, ◌≤◌, ◌+◌, ◌-◌, length, take, fold}
+use Rattle.std.proofs.Common.{◌≡◌, ◌+◌, length, take, fold}
 use Rattle.tipc_topology.specs.Watchers.{added, blank}
 use Rattle.tipc_topology.proofs.watch.Watch.new.Given as goal
 

@@ -1,4 +1,4 @@
-use Rattle.std.proofs.Common.{◌≡◌, ◌≤◌, ◌+◌, ◌-◌, length, take, fold}
+use Rattle.std.proofs.Common.{◌≡◌, ◌+◌, take, fold}
 use Rattle.tipc_topology.specs.Watchers.{removed}
 use Rattle.tipc_topology.proofs.watch.Watch.remove_each.Given as goal
 
