@@ -18,9 +18,6 @@ bounds_same a b e =
     let upper : a.1 ≡ b.1 = grind (arith, nat_tests) in
     (λ i. (lower i, upper i))
 
-pub bounds_itself : (a : ℕ × ℕ) → bounds_eq a a ≡ true
-bounds_itself a = grind (arith, nat_tests)
-
 -- ---- look-ups
 
 -- a test asked twice

@@ -207,33 +207,6 @@ mapped_kept f made room other ws same h =
     ))
     h
 
--- it holds after an event was taken
-pub taken_like : (number : ℕ) (ws : List Watcher) (i : ℕ) (d : Watcher) → ((get_or (taken_from number ws) i d).number ≡ (get_or ws i d).number) × ((get_or (taken_from number ws) i d).room ≡ (get_or ws i d).room)
-taken_like number [] i d = (refl, refl)
-taken_like number (w ∷ ws) i d = by (has_number number w) i (λ k. taken_like number ws k d)
-  where
-    by : (b : Bool) (i : ℕ) → ((k : ℕ) → ((get_or (taken_from number ws) k d).number ≡ (get_or ws k d).number) × ((get_or (taken_from number ws) k d).room ≡ (get_or ws k d).room))
-        → ((get_or (if b then without_first w ∷ ws else w ∷ taken_from number ws) i d).number ≡ (get_or (w ∷ ws) i d).number)
-        × ((get_or (if b then without_first w ∷ ws else w ∷ taken_from number ws) i d).room ≡ (get_or (w ∷ ws) i d).room)
-    by true zero later = (refl, refl)
-    by true (suc i) later = (refl, refl)
-    by false zero later = (refl, refl)
-    by false (suc i) later = later i
-
-taken_length : (number : ℕ) (ws : List Watcher) → length (taken_from number ws) ≡ length ws
-taken_length number [] = refl
-taken_length number (w ∷ ws) =
-    elim (has_number number w) as (λ b. length (if b then without_first w ∷ ws else w ∷ taken_from number ws) ≡ length (w ∷ ws)) [
-      | true ↦ refl
-      | false ↦ ap (λ n. suc n) (taken_length number ws)
-    ]
-
-pub taken_kept : (made room number : ℕ) (ws : List Watcher) → AreKept (kept_as made room ws)
-    → AreKept (kept_as made room (taken_from number ws))
-taken_kept made room number ws h =
-    like_kept made room room ws (taken_from number ws) (taken_length number ws)
-    (λ i d within. ((taken_like number ws i d).0, (taken_like number ws i d).1 ∙ h.room i d within)) h
-
 -- it holds after one was cancelled
 pub removed_kept : (made room i : ℕ) (ws : List Watcher) → i < length ws → AreKept (kept_as made room ws)
     → AreKept (kept_as made room (remove ws i))

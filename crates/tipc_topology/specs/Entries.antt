@@ -15,7 +15,8 @@ change_of there (Published p) = Some (Added p)
 change_of there (Learned p) = Some (Added p)
 change_of there (Withdrawn p) = Some (Removed p)
 change_of there (Forgot p) = Some (Removed p)
-change_of there (ContactDown peer numbers states shown) = Some (Purged (filter (λ p. p.at.node.word == peer.word) there))
+change_of there (ContactDown peer numbers states shown) =
+    Some (Purged (filter (λ p. p.at.node.word == peer.word) there))
 change_of there _ = None
 
 -- the events of a subscriber at a change, where there is one

@@ -1,5 +1,5 @@
 -- The transitions of a subscription over the changes that it is told, and what its counts say of what is there.
-use Rattle.std.specs.Prelude.{◌≡◌, ◌<◌, ◌^◌, false, true, List, [], ◌∷◌, ◌++◌, None, count_by, filter, fold, length, not}
+use Rattle.std.specs.Prelude.{◌≡◌, ◌<◌, ◌^◌, true, List, [], ◌∷◌, ◌++◌, None, count_by, filter, fold, length, not}
 use Rattle.std.specs.Map.{lookup}
 use Rattle.tipc_types.specs.declared.node_calls.Event.{Event}
 use Rattle.tipc_types.specs.declared.node_calls.Subscription.{Subscription}
@@ -7,7 +7,7 @@ use Rattle.tipc_types.specs.declared.services.Publication.{Publication}
 use Rattle.tipc_types.specs.Watching.{additions, in_order, is_same_name, is_same_range, is_watched, removals}
 use Rattle.tipc_topology.specs.declared.changes.TableChange.{TableChange}
 use Rattle.tipc_topology.specs.declared.changes.TableChange.TheVariants.{Added, Removed, Purged}
-use Rattle.tipc_topology.specs.Watchers.{bounds_eq, bounds_of, count_at, is_per_port, Counts, Watcher}
+use Rattle.tipc_topology.specs.Watchers.{bounds_eq, bounds_of, count_at, Counts, Watcher}
 use Rattle.tipc_topology.specs.Changing.{as_told, told}
 
 -- the others where a publication is removed
@@ -60,12 +60,8 @@ EachOnce (e ∷ es) = (lookup (bounds_eq e.0) es ≡ None) × EachOnce es
 -- it watches.
 pub record IsCounted (s : Subscription) (counts : Counts) (there : List Publication) : Type 0 where
   pub once : EachOnce counts
-  pub counted : (p : Publication) → is_watched s p ≡ true → count_at counts (bounds_of p) ≡ count_by (is_same_range p) there
-
--- A subscription that lasts knows of those that are there what it needs for its events.
-pub record Knows (w : Watcher) (there : List Publication) : Type 0 where
-  pub lasts : w.ended ≡ false
-  pub counts : is_per_port w ≡ false → IsCounted w.asked w.counts there
+  pub counted : (p : Publication) → is_watched s p ≡ true →
+      count_at counts (bounds_of p) ≡ count_by (is_same_range p) there
 
 -- a subscription that was told of several changes, one after another
 abbrev pub told_all : Watcher → List TableChange → Watcher

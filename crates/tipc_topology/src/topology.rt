@@ -78,7 +78,8 @@ fn place_of(kept: &[Watch], number: u32) -> Option<usize>
 fn make_room_in_each(kept: &mut [Watch], changes: usize) -> Result<(), NoMemory>
     requires { All (λ (w : Watcher). w.room ≤ changes) kept.old }
     ensures ok { OnOk result (kept.new ≡ map (with_room changes) kept.old) }
-    ensures err { OnErr result ((done : ℕ) × (kept.new ≡ map (with_room changes) (take done kept.old) ++ drop done kept.old)) }
+    ensures err { OnErr result ((done : ℕ) ×
+        (kept.new ≡ map (with_room changes) (take done kept.old) ++ drop done kept.old)) }
 {
     for watch in kept.iter_mut() {
         let Ok(()) = watch.make_room(changes) else {

@@ -52,9 +52,18 @@ impl Model for Watch {
 
     ghost Value = { Watcher };
 
-    ghost view = { λ w. record { number = w.number; asked = w.asked; left = w.left; ended = w.ended; counts = w.counts.entries; events = w.events.items; room = w.room } };
+    ghost view = { λ w. record {
+      number = w.number;
+      asked = w.asked;
+      left = w.left;
+      ended = w.ended;
+      counts = w.counts.entries;
+      events = w.events.items;
+      room = w.room;
+    } };
 
-    ghost invariant = { λ w. (w.ended ≡ false → length w.events.items + w.room + 1 ≤ deque_capacity w.events) × (w.room ≤ spare w.counts) };
+    ghost invariant = { λ w. (w.ended ≡ false → length w.events.items + w.room + 1 ≤ deque_capacity w.events) ×
+        (w.room ≤ spare w.counts) };
 }
 
 /// The event that tells of a publication; its bounds are cut to the subscription's.
