@@ -1,0 +1,4 @@
+pub mod Changing
+pub mod Entries
+pub mod Transitions
+pub mod Watchers

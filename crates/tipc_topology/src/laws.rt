@@ -1,0 +1,38 @@
+//! Laws of what subscribers are told, for callers: each is the contract of a function that does nothing.
+
+ghost use Rattle.std.specs.Prelude.{◌≡◌, ◌<◌, ◌++◌, ◌∷◌, ◌^◌, [], ℕ, List, None, Some, filter, length, slice_get};
+ghost use Rattle.tipc_types.specs.declared.node_calls.Event.{Event};
+ghost use Rattle.tipc_types.specs.declared.node_calls.Subscription.{Subscription};
+ghost use Rattle.tipc_types.specs.declared.services.Publication.{Publication};
+ghost use Rattle.tipc_types.specs.Watching.{in_order, is_watched};
+ghost use Rattle.tipc_journal.specs.declared.entries.Entry.{Entry};
+ghost use Rattle.tipc_journal.specs.Subscriptions.{change_events as entry_events};
+ghost use Rattle.tipc_topology.specs.declared.changes.TableChange.{TableChange};
+ghost use Rattle.tipc_topology.specs.Entries.{change_of, events_where};
+ghost use Rattle.tipc_topology.specs.Transitions.{told_all, transitions, ArePossible};
+ghost use Rattle.tipc_topology.specs.Watchers.{began, without_first, Watcher};
+
+/// The events of a subscription that was told of changes, and of which none was taken, are its transitions: those that
+/// are there at its beginning, as additions in order, and then those of each change.
+pub fn events_are_transitions()
+    ensures { (number : ℕ) (s : Subscription) (room : ℕ) →
+        (there : List Publication) (cs : List TableChange) →
+        length there < 2 ^ 63 → ArePossible there cs →
+        (told_all (began number s room (in_order (filter (is_watched s) there))) cs).events ≡ transitions s there cs }
+{}
+
+/// What was taken and what is left are all events together: one that is taken goes from the front of what is left to
+/// the end of what was taken, and where none is left, all were taken.
+pub fn taken_events_are_a_front()
+    ensures next { (all taken : List Event) (w : Watcher) (e : Event) →
+        all ≡ taken ++ w.events → slice_get w.events 0 ≡ Some e →
+        all ≡ (taken ++ e ∷ []) ++ (without_first w).events }
+    ensures last { (all taken : List Event) (w : Watcher) →
+        all ≡ taken ++ w.events → slice_get w.events 0 ≡ None → all ≡ taken }
+{}
+
+/// The events of a subscriber at an entry of a journal are those at the change of the table that the entry tells of.
+pub fn entries_are_changes()
+    ensures { (s : Subscription) (there : List Publication) (e : Entry) →
+        entry_events s there e ≡ events_where s there (change_of there e) }
+{}
