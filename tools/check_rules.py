@@ -21,7 +21,7 @@ def is_there(name, crate, folder, file):
     word = re.escape(name)
     kinds = r"(?:pub )?(?:record|data|abbrev|unfoldable)?(?: pub)? ?" if folder == "specs" else r"fn "
     lines = path.read_text(encoding="utf-8").splitlines()
-    return any(re.match(rf"\s*(?:pub )?{kinds}{word}\b", line) for line in lines)
+    return any(re.match(rf"\s*(?:pub(?:\(crate\))? )?{kinds}{word}\b", line) for line in lines)
 
 
 def main():

@@ -17,28 +17,28 @@ importance-again High = refl
 importance-again Critical = refl
 
 -- the packet of a payload message, read again
-payload-again : (i : Importance) (f : Form) (from to : PortId) (kind lower upper code : ℕ) (droppable : Bool) (body : List ℕ) → IsPayload (Payload i f from to kind lower upper code droppable body) → message_of (payload_packet from.node.word (payload_of i f from to kind lower upper code droppable) body) ≡ Some (Payload i f from to kind lower upper code droppable body)
+payload-again : (own : ℕ) (i : Importance) (f : Form) (from to : PortId) (kind lower upper code : ℕ) (droppable : Bool) (body : List ℕ) → IsPayload (Payload i f from to kind lower upper code droppable body) → message_of (payload_packet own (payload_of i f from to kind lower upper code droppable) body) ≡ Some (Payload i f from to kind lower upper code droppable body)
 unfolding message_of
-payload-again i form.Connected from to kind lower upper code droppable body h =
+payload-again own i form.Connected from to kind lower upper code droppable body h =
     let f = h.0 in
     let from_is : port_at 0 from.port ≡ from = ap (λ w. port_at w from.port) (sym f.0) in
     let to_is : port_at 0 to.port ≡ to = ap (λ w. port_at w to.port) (sym f.1) in
     rw (importance-again i) (cc (from_is, to_is))
-payload-again i form.Multicast from to kind lower upper code droppable body h = rw (importance-again i) refl
-payload-again i form.Named from to kind lower upper code droppable body h =
+payload-again own i form.Multicast from to kind lower upper code droppable body h = rw (importance-again i) refl
+payload-again own i form.Named from to kind lower upper code droppable body h =
     let f = h.0 in
     let from_is : port_at from.node.word from.port ≡ from = refl in
     let to_is : port_at to.node.word to.port ≡ to = refl in
     rw (importance-again i) (cc (from_is, to_is))
-payload-again i form.Direct from to kind lower upper code droppable body h =
+payload-again own i form.Direct from to kind lower upper code droppable body h =
     let f = h.0 in
     let from_is : port_at from.node.word from.port ≡ from = refl in
     let to_is : port_at to.node.word to.port ≡ to = refl in
     rw (importance-again i) (cc (from_is, to_is))
 
-pub message_of-packet_of : (m : Message) (p : Fields) → IsPayload m → packet_of m ≡ Some p → message_of p ≡ Some m
+pub message_of-packet_of : (own : ℕ) (m : Message) (p : Fields) → IsPayload m → packet_of own m ≡ Some p → message_of p ≡ Some m
 unfolding packet_of
-message_of-packet_of (Payload i f from to kind lower upper code droppable body) p h is =
-    let same : payload_packet from.node.word (payload_of i f from to kind lower upper code droppable) body ≡ p = cc in
-    ap message_of (sym same) ∙ payload-again i f from to kind lower upper code droppable body h
-message_of-packet_of (Items withdrawal items) p h is = absurd h
+message_of-packet_of own (Payload i f from to kind lower upper code droppable body) p h is =
+    let same : payload_packet own (payload_of i f from to kind lower upper code droppable) body ≡ p = cc in
+    ap message_of (sym same) ∙ payload-again own i f from to kind lower upper code droppable body h
+message_of-packet_of own (Items withdrawal items) p h is = absurd h

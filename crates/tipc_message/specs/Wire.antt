@@ -56,11 +56,12 @@ payload_of importance form from to kind lower upper code droppable = record {
 abbrev pub payload_packet : ℕ → Payload → List ℕ → Fields
 payload_packet own p body = record { acknowledgement = 0; sequence = 0; previous = own; header = header.Payload p; rest = body }
 
--- the packet of a message as it waits to be sent, where the message is a user's: the previous node is its origin
-unfoldable pub packet_of : Message → Option Fields
-packet_of (message.Payload importance form from to kind lower upper code droppable body) =
-    Some (payload_packet from.node.word (payload_of importance form from to kind lower upper code droppable) body)
-packet_of (message.Items withdrawal items) = None
+-- the packet of a message as it waits to be sent by a node of this address, where the message is a user's. That node is the previous one
+-- of the packet; it needn't be the message's origin.
+unfoldable pub packet_of : ℕ → Message → Option Fields
+packet_of own (message.Payload importance form from to kind lower upper code droppable body) =
+    Some (payload_packet own (payload_of importance form from to kind lower upper code droppable) body)
+packet_of own (message.Items withdrawal items) = None
 
 abbrev pub port_at : ℕ → ℕ → PortId
 port_at node port = record { node = record { word = node }; port = port }

@@ -35,7 +35,8 @@ fn is_spelled(
         expected.extend_from_slice(&word.to_be_bytes())?;
     }
     expected.extend_from_slice(body)?;
-    let Ok(bytes) = packet_bytes(alloc, message) else {
+    let own = Addr { word: 0x0100_1001 };
+    let Ok(bytes) = packet_bytes(alloc, own, message) else {
         panic!(rt; "no memory");
     };
     assert_eq!(rt; bytes.as_slice(), expected.as_slice());
@@ -149,7 +150,7 @@ fn a_message_between_connected_ports(rt: HostRuntime) -> Result<(), Fail> {
         droppable: false,
         body: Bytes::from_slice(rt.alloc(), b"x")?,
     };
-    let words = [0x42c0_0019, 0x0a00_0000, 0, 0, 7, 8];
+    let words = [0x42c0_0019, 0x0a00_0000, 0, 0x0100_1001, 7, 8];
     is_spelled(&rt, rt.alloc(), &message, &words, b"x")
 }
 

@@ -85,11 +85,11 @@ fn port_number(at: &PortId) -> u32
     at.port
 }
 
-/// The bytes of a user's message as they wait to be sent: word 2 is zero, and word 3 is its origin's address.
+/// The bytes of a user's message as they wait to be sent by a node: word 2 is zero, and word 3 is the node's address.
 #[tactic(auto, unfolding(crate::specs::Wire::packet_of))]
-pub fn packet_bytes(alloc: Global, message: &Message) -> Result<Bytes, NoMemory>
+pub fn packet_bytes(alloc: Global, own: Addr, message: &Message) -> Result<Bytes, NoMemory>
     requires { IsPayload message.now }
-    ensures spelled { IfOk result (λ bytes. (p : Fields) × (packet_of message.now ≡ Some p) × Fits p × (bytes ≡ spelling p)) }
+    ensures spelled { IfOk result (λ bytes. (p : Fields) × (packet_of own.word message.now ≡ Some p) × Fits p × (bytes ≡ spelling p)) }
     ensures long { IfOk result (λ bytes. 24 ≤ length bytes) }
 {
     let Message::Payload {
@@ -126,7 +126,7 @@ pub fn packet_bytes(alloc: Global, message: &Message) -> Result<Bytes, NoMemory>
             *upper,
         ),
     };
-    spelled(alloc, from.node.word, header, body.as_slice())
+    spelled(alloc, own.word, header, body.as_slice())
 }
 
 /// The bytes of the packet of this node with this header and body.

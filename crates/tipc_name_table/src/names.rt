@@ -1,6 +1,6 @@
 //! What every name table does: publications, withdrawals, and the sockets that a name finds.
 
-ghost use Rattle.std.specs.Prelude.{◌≡◌, ◌<◌, ◌≤◌, ◌↔◌, ℕ, List, Err, None, Some, false, true, count_by, find, filter, IfOk, OnErr, OnOk};
+ghost use Rattle.std.specs.Prelude.{◌≡◌, ◌<◌, ◌≤◌, ◌↔◌, ℕ, List, Err, None, Some, false, true, count_by, find, filter, length, IfOk, OnErr, OnOk};
 ghost use Rattle.std.specs.List.{list_any};
 ghost use Rattle.tipc_types.specs.Address.{IsNodeWord};
 ghost use Rattle.tipc_types.specs.declared.services.Publication.{Publication};
@@ -61,9 +61,11 @@ pub trait Names {
         ensures err { OnErr result (table self.new ≡ table self.old) }
         ensures sound { IsTable (table self.new) };
 
-    /// All publications of a service type that cover an instance, those of every node, in order of node, port and key.
+    /// All publications of a service type that cover an instance, those of every node, in order of node, port and key: 1,024 at
+    /// most of each of the 32 nodes.
     fn matches(&self, alloc: Global, kind: u32, instance: u32) -> Result<List, NoMemory>
         ensures matches { IfOk result (λ ps. ps ≡ filter (covers kind instance) (table self.now)) }
+        ensures few { IfOk result (λ ps. length ps ≤ 32768) }
         ensures sound { IsTable (table self.now) };
 
     /// All publications that share an instance with a range of their service type, in order of node, port and key.

@@ -19,13 +19,13 @@ pub struct NameTable {
 impl Model for NameTable {
     ghost use Rattle.std.specs.Prelude.{List};
     ghost use Rattle.tipc_types.specs.declared.services.Publication.{Publication};
-    ghost use Rattle.tipc_name_table.specs.Tables.{IsTable};
+    ghost use Rattle.tipc_name_table.specs.Tables.{AreOfCluster, IsTable};
 
     ghost Value = { List Publication };
 
     ghost view = { λ t. t.held.items };
 
-    ghost invariant = { λ t. IsTable t.held.items };
+    ghost invariant = { λ t. IsTable t.held.items × AreOfCluster t.held.items };
 }
 
 impl From<AllocFailed<Publication>> for NameFault {

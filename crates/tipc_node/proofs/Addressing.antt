@@ -212,10 +212,3 @@ answer_for word (Some s) shown is = either (AreFor word) (is_due s) _ _ (to_same
 
 pub answers_for : (word : ℕ) (e : LinkEnd) (shown : BroadcastState) → Names word e → AreFor word (answered_frames e shown)
 answers_for word e shown n = either (AreFor word) (is_up e.fsm.state) _ _ (answer_for word e.session shown n.session) tt
-
--- the frames that leave at an arrival
-pub heard_all_for : (word : ℕ) (e : LinkEnd) (es er : ℕ) (p : Fields) (by : ℕ) (shown shown' : BroadcastState) → Names word e
-    → AreFor word ((arrival e es er p by shown).frames ++ answered_frames (arrival e es er p by shown).after shown')
-heard_all_for word e es er p by shown shown' n =
-    let m = arrival_names word e es er p by shown n in
-    for_both word (arrival e es er p by shown).frames _ m.frames (answers_for word (arrival e es er p by shown).after shown' m.after)

@@ -1,5 +1,5 @@
 -- What an arrival makes of a link end is as it tells, and what takes the link down is in the frame.
-use Rattle.std.proofs.Common.{◌≡◌, ◌≤◌, ◌<◌, ◌==◌, ◌&&◌, ◌||◌, ℕ, Bool, true, false, List, [], ◌∷◌, Option, Some, None, if◌then◌else◌, nat_lt, not, refl, sym, ap, ◌∙◌, subst, inl, inr, arith}
+use Rattle.std.proofs.Common.{◌≡◌, ◌≤◌, ◌<◌, ◌==◌, ◌&&◌, ◌||◌, ℕ, Bool, true, false, List, [], ◌∷◌, Option, Some, None, if◌then◌else◌, is_some, nat_lt, not, refl, sym, ap, ◌∙◌, subst, inl, inr, arith}
 use Rattle.std.specs.Prelude.{◌⊎◌}
 use Rattle.std.proofs.lemmas.Bool.{and_parts}
 use Rattle.std.proofs.lemmas.Bool.Decides.{nat_tests}
@@ -24,7 +24,7 @@ use Rattle.tipc_pair.specs.declared.changes.PairChange.{PairChange}
 use Rattle.tipc_pair.specs.declared.changes.PairChange.TheVariants.{Stay, Began, Ended}
 use Rattle.tipc_pair.specs.Pairs.{Met, arrival, arrival_of, by_number, contact_of, link_met, parted, passed_over, reset_down, reset_met, reset_up, risen, risen_activate, risen_change, risen_frames, risen_reset}
 use Rattle.tipc_node.specs.Telling.{IsAbreast, epochs_of, is_reset, shown_contact, silence_of}
-use Rattle.tipc_node.proofs.Moves.{IsAlike, Tells, both_down, both_up, down_silence, parted_abreast, parted_down, parted_unknown, tested, unknown_abreast, up_contact, up_epochs_are, up_silence}
+use Rattle.tipc_node.proofs.Moves.{IsAlike, Tells, both_down, both_up, down_silence, mapped_some, parted_abreast, parted_down, parted_unknown, tested, unknown_abreast, up_contact, up_epochs_are, up_silence}
 
 -- what takes a link down at an arrival of a packet with this header under the epoch es
 abbrev pub IsTakenDown : LinkEnd → ℕ → Header → PairChange → Type 0
@@ -116,9 +116,13 @@ and_none false = refl
 ignored_by : (e : LinkEnd) (f : Fsm) (reason : Why) (p : Fields) (by : ℕ) → link_outcome e (gives f (change.Ignore reason)) p by ≡ Ignored reason
 ignored_by e f reason p by = ap (λ b. if b then heard_outcome (after e (gives f (change.Ignore reason))).session by (content_of p) else Ignored reason) (and_none (is_traffic p.header))
 
+-- a session that hears a packet stays one
+arrival_begun : (e : LinkEnd) (o : Outcome) (p : Fields) (by : ℕ) → is_some (after e o).session ≡ true → is_some (arrival_end e o p by).session ≡ true
+arrival_begun e o p by is = tested (λ (x : LinkEnd). is_some x.session ≡ true) (is_heard p.header o.change) _ _ (λ _. mapped_some _ (after e o).session is) (λ _. is)
+
 -- an end that is as it was, with a link that is up and has heard its peer
-up_met : (e0 e : LinkEnd) (es : ℕ) (h : Header) (m : Met) (f : Fsm) → IsAs e m.after f → is_up f.state ≡ true → f.silent ≡ 0 → f.peer ≡ Some f.highest → Tells e0 m.after m.change → IsTakenDown e0 es h m.change → IsMet e0 es h m
-up_met e0 e es h m f a up silent peer tells caused =
+up_met : (e0 e : LinkEnd) (es : ℕ) (h : Header) (m : Met) (f : Fsm) → IsAs e m.after f → is_up f.state ≡ true → f.silent ≡ 0 → f.peer ≡ Some f.highest → is_some m.after.session ≡ true → Tells e0 m.after m.change → IsTakenDown e0 es h m.change → IsMet e0 es h m
+up_met e0 e es h m f a up silent peer begun tells caused =
     let up' : is_up m.after.fsm.state ≡ true = ap (λ (x : Fsm). is_up x.state) a.fsm ∙ up in
     let none : silence_of m.after ≡ 0 = up_silence m.after up' ∙ ap (λ (x : Fsm). x.silent) a.fsm ∙ silent in
     record {
@@ -126,7 +130,7 @@ up_met e0 e es h m f a up silent peer tells caused =
       silence = omega (arith, none);
       taken = λ _. none;
       brought = λ t ts _. up';
-      abreast = record { peer_is = λ _. ap (λ (x : Fsm). x.peer) a.fsm ∙ peer ∙ ap (λ (x : Fsm). Some x.highest) (sym a.fsm) };
+      abreast = record { peer_is = λ _. ap (λ (x : Fsm). x.peer) a.fsm ∙ peer ∙ ap (λ (x : Fsm). Some x.highest) (sym a.fsm); begun = λ _. begun };
       caused = caused;
     }
 
@@ -147,7 +151,7 @@ link_by e0 e es h f (change.Ignore reason) p by shown on abreast same =
       silence = omega (arith, silent, before);
       taken = λ other. absurd (other reason outcome);
       brought = λ t ts is. (let wrong : Ignored reason ≡ Took (t ∷ ts) = sym outcome ∙ is in absurd cc);
-      abreast = record { peer_is = λ is. ap (λ (x : Fsm). x.peer) fsm ∙ abreast.peer_is (ap (λ (x : Fsm). is_up x.state || is_reset_reset x.state) (sym fsm) ∙ is) ∙ ap (λ (x : Fsm). Some x.highest) (sym fsm) };
+      abreast = record { peer_is = λ is. ap (λ (x : Fsm). x.peer) fsm ∙ abreast.peer_is (ap (λ (x : Fsm). is_up x.state || is_reset_reset x.state) (sym fsm) ∙ is) ∙ ap (λ (x : Fsm). Some x.highest) (sym fsm); begun = λ is. arrival_begun e o p by (abreast.begun (ap (λ (x : Fsm). is_up x.state) (sym fsm) ∙ is)) };
       caused = tt;
     }
 link_by e0 e es h f change.Up p by shown on abreast works =
@@ -158,7 +162,7 @@ link_by e0 e es h f change.Up p by shown on abreast works =
     let contact : contact_of e' ≡ Some (e.contact, e.peer_contact) = up_contact e' up' ∙ ap (λ n. Some (n, e'.peer_contact)) a.contact ∙ ap (λ n. Some (e.contact, n)) a.seen in
     let epochs : epochs_of e' ≡ Some (f.own, known f.peer) = up_epochs_are e' up' ∙ ap (λ (x : Fsm). Some (x.own, known x.peer)) a.fsm in
     let none : silence_of e' ≡ 0 = up_silence e' up' ∙ ap (λ (x : Fsm). x.silent) a.fsm ∙ works.1 in
-    up_met e0 e es h (link_met e o p by shown) f a works.0 works.1 works.2 (contact, epochs, none) tt
+    up_met e0 e es h (link_met e o p by shown) f a works.0 works.1 works.2 (arrival_begun e o p by refl) (contact, epochs, none) tt
 link_by e0 e es h f change.Stay p by shown on abreast works =
     let o = gives f change.Stay in
     let e' = arrival_end e o p by in
@@ -166,7 +170,7 @@ link_by e0 e es h f change.Stay p by shown on abreast works =
     let fsm : e'.fsm ≡ heard e.fsm = a.fsm ∙ works.1 in
     let same = both_up e e' works.0 (ap (λ (x : Fsm). is_up x.state) fsm) a.contact a.seen (ap (λ (x : Fsm). x.own) fsm) (ap (λ (x : Fsm). x.peer) fsm) in
     let whole = alike_then e0 e e' on.alike same in
-    up_met e0 e es h (link_met e o p by shown) (heard e.fsm) (record { fsm = fsm; contact = a.contact; seen = a.seen }) refl refl (abreast.peer_is (ap (λ b. b || is_reset_reset e.fsm.state) works.0)) (whole.contact_is, whole.epochs_are) tt
+    up_met e0 e es h (link_met e o p by shown) (heard e.fsm) (record { fsm = fsm; contact = a.contact; seen = a.seen }) refl refl (abreast.peer_is (ap (λ b. b || is_reset_reset e.fsm.state) works.0)) (arrival_begun e o p by (abreast.begun works.0)) (whole.contact_is, whole.epochs_are) tt
 link_by e0 e es h f (change.Answer back) p by shown on abreast works = absurd works
 link_by e0 e es h f (change.Down because) p by shown on abreast works = absurd works
 
@@ -203,7 +207,7 @@ resets_down e es shown down abreast =
     tested (ResetsDown e es shown) (is_held e.fsm.state) _ _ (λ _. (refl, record { down = down; abreast = abreast; none = λ t ts is. absurd cc }))
     (λ _. tested (ResetsDown e es shown) (nat_lt es e.fsm.highest || (is_up e.fsm.state && is_peer e.fsm.peer es)) _ _ (λ _. (refl, record { down = down; abreast = abreast; none = λ t ts is. absurd cc }))
     (λ _. tested (ResetsDown e es shown) (is_up e.fsm.state) _ _ (λ up. absurd (let wrong : true ≡ false = sym up ∙ down in cc))
-    (λ _. (refl, record { down = refl; abreast = record { peer_is = λ _. refl }; none = λ t ts is. absurd cc }))))
+    (λ _. (refl, record { down = refl; abreast = record { peer_is = λ _. refl; begun = λ up. absurd cc }; none = λ t ts is. absurd cc }))))
 
 resets_met : (e : LinkEnd) (es : ℕ) (shown : BroadcastState) → is_up e.fsm.state ≡ false → IsAbreast e → StaysDown (reset_met e (on_reset e.fsm es false) es shown)
 resets_met e es shown down abreast =
@@ -244,7 +248,7 @@ reset_here e es h shown abreast is =
     (λ down.
     let o = gives (told e.fsm es ResetReset) (change.Answer reply.Activate) in
     let alike = both_down e (after e o) down refl in
-    down_met e es h (reset_down e o shown) (record { down = refl; abreast = record { peer_is = λ _. refl }; none = λ t ts is. absurd cc }) (alike.contact_is, alike.epochs_are) tt)))
+    down_met e es h (reset_down e o shown) (record { down = refl; abreast = record { peer_is = λ _. refl; begun = λ up. absurd cc }; none = λ t ts is. absurd cc }) (alike.contact_is, alike.epochs_are) tt)))
   where
     same : (reason : Why) → ResetMet e es h shown (gives e.fsm (change.Ignore reason))
     same reason = record { tells = (refl, refl); silence = omega arith; taken = λ other. absurd (other reason refl); brought = λ t ts is. absurd cc; abreast = abreast; caused = tt }

@@ -1,8 +1,9 @@
 -- Each arrival is a turn of the node.
-use Rattle.std.proofs.Common.{◌≡◌, ◌≢◌, ◌==◌, ◌&&◌, ℕ, Bool, true, false, List, [], ◌++◌, Option, Some, None, drop, filter, is_some, refl, sym, ap, ◌∙◌, subst, append-nil, eqb-true, arith}
-use Rattle.std.specs.Prelude.{if◌then◌else◌}
-use Rattle.std.proofs.lemmas.Bool.{and_parts}
-use Rattle.std.proofs.lemmas.List.{drop_at}
+use Rattle.std.proofs.Common.{◌≡◌, ◌≢◌, ◌==◌, ◌&&◌, ℕ, Bool, true, false, List, [], ◌++◌, Option, Some, None, drop, filter, is_some, inl, inr, refl, sym, ap, ◌∙◌, subst, append-nil, eqb-true, arith}
+use Rattle.std.specs.Prelude.{if◌then◌else◌, slice_index_or, slice_set}
+use Rattle.std.specs.List.{All}
+use Rattle.std.proofs.lemmas.Bool.{and_parts, cases_eq}
+use Rattle.std.proofs.lemmas.List.{drop_at, get_or-set_other}
 use Rattle.std.proofs.lemmas.List.Elements.{All-append, filter-append}
 use Rattle.tipc_types.specs.Address.{node_word}
 use Rattle.tipc_types.specs.declared.link_words.Why.{Why}
@@ -17,34 +18,28 @@ use Rattle.tipc_header.specs.Frames.{envelope}
 use Rattle.tipc_header.specs.Spelling.{Fields, spelling}
 use Rattle.tipc_header.proofs.FrameWords.{length-envelope}
 use Rattle.tipc_header.proofs.RoundTrip.{one_packet}
-use Rattle.tipc_fragments.specs.Joining.{Joining}
 use Rattle.tipc_journal.specs.declared.entries.Entry.{Entry}
-use Rattle.tipc_journal.specs.Steps.{NodeStep}
+use Rattle.tipc_journal.specs.Steps.{IsInside}
+use Rattle.tipc_link.specs.Links.{answered_frames}
 use Rattle.tipc_pair.specs.declared.changes.PairOutcome.{PairOutcome}
 use Rattle.tipc_pair.specs.Pairs.{Met}
-use Rattle.tipc_pair.specs.Partners.{OpensTo, begun_after, opened_in}
+use Rattle.tipc_pair.specs.Partners.{OpensTo, begun_after, opened_in, pair_state}
 use Rattle.tipc_pair.specs.Turns.{heard}
 use Rattle.tipc_pair.specs.Turns.Opening.{hears}
 use Rattle.tipc_node.specs.declared.arriving.Delivery.{Delivery}
 use Rattle.tipc_node.specs.declared.neighbours.Neighbour.{Neighbour}
-use Rattle.tipc_node.specs.Calls.{Arrives, Hears}
-use Rattle.tipc_node.specs.Neighbours.{heard_frames, heard_neighbour, in_step_after, met_by, no_broadcast}
-use Rattle.tipc_node.specs.Nodes.{NodeState, arrival_answer, arrival_deliveries, change_entries, heard_node, neighbour_of, shown_contact, step_of, stop_among, stop_of, stopped_node}
-use Rattle.tipc_node.specs.Turns.{AreNamed, IsFrom, IsPlaced, IsTakenBy, IsTakenIn, NodeTurn, PeerTurn, is_accepted_for, is_change_of, is_delivered_from}
-use Rattle.tipc_node.proofs.Addressing.{AreFor, heard_all_for}
-use Rattle.tipc_node.proofs.Entries.{changes_accept, changes_deliver, changes_inside, changes_other, changes_own, changes_placed, given_accept, given_changes, given_in, given_inside, given_other, given_own, given_placed, inside_both, routed_to}
+use Rattle.tipc_node.specs.Arrivals.{Arrives, Hears, heard_work}
+use Rattle.tipc_node.specs.Neighbours.{answered_neighbour, heard_neighbour, no_broadcast}
+use Rattle.tipc_node.specs.Nodes.{NodeState, arrival_answer, arrival_deliveries, change_entries, entries_in, neighbour_of, shown_contact, step_of, stop_among, stop_of, stopped_node}
+use Rattle.tipc_node.specs.Turns.{AreNamed, IsFrom, IsPlaced, IsRouted, IsTakenBy, IsTakenIn, NeighbourTurn, NodeTurn, PeerTurn, frames_to, is_accepted_for, is_change_of, is_delivered_from, is_out_to}
+use Rattle.tipc_node.specs.Works.{Work, begun}
+use Rattle.tipc_node.proofs.Addressing.{AreFor, MetNames, answers_for, arrival_names}
+use Rattle.tipc_node.proofs.Entries.{changes_accept, changes_deliver, changes_inside, changes_other, changes_own, changes_placed, given_in, given_other, given_own, inside_both, routed_to}
+use Rattle.tipc_node.proofs.MessageRuns.{delivers_all_run, idle_run}
+use Rattle.tipc_node.proofs.Places.{set_none, set_there}
+use Rattle.tipc_node.proofs.Runs.{IsRun, RunAt, Runs, accepted_now, both_parts, stand_set}
 use Rattle.tipc_node.proofs.Shares.{frames_to-other, frames_to-own}
-use Rattle.tipc_node.proofs.Turning.{IsQuietOf, TurnsAt, alone_at, opens_turn, rested, shows_none, turns_at}
-
--- an arrival was a turn in which such entries were recorded
-abbrev IsTurn : NodeState → NodeState → By → ℕ → ℕ → List ℕ → List Outgoing → Arrival → Type 0
-IsTurn n n' by bearer number bytes frames answered = (inside : List Entry) × NodeTurn n n' bytes (step_of by (event.Arrive bearer number) inside (answer.Arrived answered)) frames
-
-turn_as : (n n' m : NodeState) (by : By) (bearer number : ℕ) (bytes : List ℕ) (frames gs : List Outgoing) (answered a : Arrival) → n' ≡ m → frames ≡ gs → answered ≡ a → IsTurn n m by bearer number bytes gs a
-    → IsTurn n n' by bearer number bytes frames answered
-turn_as n n' m by bearer number bytes frames gs answered a node out given t =
-    subst (λ k. IsTurn n k by bearer number bytes frames answered) (sym node)
-    (subst (λ fs. IsTurn n m by bearer number bytes fs answered) (sym out) (subst (λ x. IsTurn n m by bearer number bytes gs x) (sym given) t))
+use Rattle.tipc_node.proofs.Turning.{IsTurn, named_stand, rests_turn, run_turn, shows_none, turn_as}
 
 -- ---- what a frame brings
 
@@ -65,120 +60,181 @@ first_bearer n bearer bytes none = by (n.mended && (bearer == 0)) refl _ none
     by true is x same = eqb-true bearer 0 (and_parts n.mended (bearer == 0) is).1
     by false is x same = absurd cc
 
--- ---- what is recorded of it
-
-abbrev inside_of : ℕ → Met → PairOutcome → List Entry
-inside_of peer m out = change_entries peer m.change ++ given_in peer (shown_contact m.after) (opened_in out)
-
--- what of both parts passes a test
-both_parts : (test : Entry → Bool) (xs ys front back : List Entry) → filter test xs ≡ front → filter test ys ≡ back → filter test (xs ++ ys) ≡ front ++ back
-both_parts test xs ys front back first second = filter-append test xs ys ∙ ap (λ es. es ++ filter test ys) first ∙ ap (λ es. front ++ es) second
-
 -- what was given was taken
 given_taken : (es er : ℕ) (p : Fields) (by : ℕ) (in_step : Bool) (out : PairOutcome) (ds : List Delivery) → IsTakenIn (arrival_answer out ds) → IsTakenBy (hears es er p by (no_broadcast in_step)) out
 given_taken es er p by in_step (PairOutcome.Took opened) ds taken = tt
 given_taken es er p by in_step PairOutcome.Deferred ds taken = tt
 given_taken es er p by in_step (PairOutcome.Ignored reason) ds taken = taken
 
+-- ---- what a step tells, and which frames are for a node
+
+-- behind the change of the link a step tells of a node what a run of work noted
+record TellsBehind (peer b : ℕ) (m : Met) (es inside : List Entry) : Type 0 where
+  pub changes : filter (is_change_of b) inside ≡ filter (is_change_of b) (change_entries peer m.change) ++ filter (is_change_of b) es
+  pub accepted : filter (is_accepted_for b) inside ≡ filter (is_accepted_for b) es
+  pub delivered : filter (is_delivered_from b) inside ≡ filter (is_delivered_from b) es
+
+tells_behind : (peer b : ℕ) (m : Met) (es inside : List Entry) → inside ≡ change_entries peer m.change ++ es → TellsBehind peer b m es inside
+tells_behind peer b m es inside is = record {
+  changes = ap (filter (is_change_of b)) is ∙ filter-append (is_change_of b) (change_entries peer m.change) es;
+  accepted = ap (filter (is_accepted_for b)) is ∙ both_parts (is_accepted_for b) (change_entries peer m.change) es [] (filter (is_accepted_for b) es) (changes_accept b peer m.change) refl;
+  delivered = ap (filter (is_delivered_from b)) is ∙ both_parts (is_delivered_from b) (change_entries peer m.change) es [] (filter (is_delivered_from b) es) (changes_deliver b peer m.change) refl;
+}
+
+-- the frames for the sender are the first ones, those in the middle that are for it, and the last ones
+sender_frames : (peer : ℕ) (first middle last : List Outgoing) → AreFor (node_word peer) first → AreFor (node_word peer) last → frames_to peer (first ++ (middle ++ last)) ≡ first ++ (frames_to peer middle ++ last)
+sender_frames peer first middle last hf hl =
+    filter-append (is_out_to peer) first (middle ++ last) ∙ ap (λ fs. fs ++ frames_to peer (middle ++ last)) (frames_to-own peer first hf)
+    ∙ ap (λ fs. first ++ fs) (filter-append (is_out_to peer) middle last ∙ ap (λ fs. frames_to peer middle ++ fs) (frames_to-own peer last hl))
+
+-- those for another node are in the middle
+other_frames : (b peer : ℕ) (first middle last : List Outgoing) → peer ≢ b → AreFor (node_word peer) first → AreFor (node_word peer) last → frames_to b (first ++ (middle ++ last)) ≡ frames_to b middle
+other_frames b peer first middle last apart hf hl =
+    filter-append (is_out_to b) first (middle ++ last) ∙ ap (λ fs. fs ++ frames_to b (middle ++ last)) (frames_to-other b peer first apart hf)
+    ∙ filter-append (is_out_to b) middle last ∙ ap (λ fs. frames_to b middle ++ fs) (frames_to-other b peer last apart hl) ∙ append-nil (frames_to b middle)
+
+-- ---- a packet that was heard
+
+heard_from : (n n' : NodeState) (by : By) (number : ℕ) (bytes : List ℕ) (frames : List Outgoing) (answered : Arrival) (h : Hears n n' by number bytes frames answered) → IsFrom h.peer bytes h.first h.second h.packet
+heard_from n n' by number bytes frames answered h = record { es_fits = h.due.first_fits; er_fits = h.due.second_fits; fits = h.due.fits; frame_is = h.due.opened; previous = h.due.previous }
+
+-- the run of work behind it, in which such entries were noted
+abbrev RunsBehind : (n n' : NodeState) (by : By) (number : ℕ) (bytes : List ℕ) (frames : List Outgoing) (answered : Arrival) → Hears n n' by number bytes frames answered → List Entry → Type 0
+RunsBehind n n' by number bytes frames answered h told =
+    Runs n (heard_work n h.peer h.neighbour h.packet h.met h.last) told (entries_in (arrival_deliveries h.peer h.met.after h.out)) h.returned h.work
+
+heard_names : (n n' : NodeState) (by : By) (number : ℕ) (bytes : List ℕ) (frames : List Outgoing) (answered : Arrival) → AreNamed n → (h : Hears n n' by number bytes frames answered) → MetNames (node_word h.peer) h.met
+heard_names n n' by number bytes frames answered named h =
+    subst (MetNames (node_word h.peer)) (sym h.met_is)
+    (arrival_names (node_word h.peer) h.neighbour.pair.link h.first h.second h.packet number (no_broadcast h.neighbour.in_step) (named h.peer h.neighbour h.was))
+
+heard_run : (n n' : NodeState) (by : By) (number : ℕ) (bytes : List ℕ) (frames : List Outgoing) (answered : Arrival) → AreNamed n → (h : Hears n n' by number bytes frames answered)
+    → IsRun n (heard_work n h.peer h.neighbour h.packet h.met h.last) (entries_in (arrival_deliveries h.peer h.met.after h.out)) h.returned h.work
+heard_run n n' by number bytes frames answered named h =
+    let there : is_some (neighbour_of n h.peer) ≡ true = ap is_some h.was in
+    let y = heard_neighbour h.neighbour h.packet h.met h.last in
+    delivers_all_run n (heard_work n h.peer h.neighbour h.packet h.met h.last) h.work h.peer (shown_contact h.met.after) (opened_in h.out) h.returned there
+    (stand_set n n.neighbours h.peer y (named_stand n named) (heard_names n n' by number bytes frames answered named h).after there) h.delivers
+
 -- ---- the turn at the sender
 
--- what an arrival from a peer makes of the neighbour x
-record IsHearing (n : NodeState) (bytes : List ℕ) (number peer es er : ℕ) (p : Fields) (x : Neighbour) (out : PairOutcome) (last : Joining) : Type 0 where
-  pub was : neighbour_of n peer ≡ Some x
-  pub from : IsFrom peer bytes es er p
-  pub opens : OpensTo (begun_after (met_by x es er p number).change x.pair.begun) (met_by x es er p number).outcome out last
+sender_turn : (n n' : NodeState) (by : By) (number : ℕ) (bytes : List ℕ) (frames : List Outgoing) (answered : Arrival) (h : Hears n n' by number bytes frames answered) (told inside : List Entry)
+    → RunAt n.own h.peer told h.returned (heard_neighbour h.neighbour h.packet h.met h.last) h.then → TellsBehind h.peer h.peer h.met told inside
+    → filter (is_delivered_from h.peer) told ≡ filter (is_delivered_from h.peer) (given_in h.peer (shown_contact h.met.after) (opened_in h.out))
+    → frames_to h.peer frames ≡ h.met.frames ++ (frames_to h.peer h.returned ++ answered_frames h.then.pair.link (no_broadcast h.then.in_step))
+    → PeerTurn n.own bytes (step_of by (event.Arrive 0 number) inside (answer.Arrived answered)) frames h.peer h.neighbour.pair (answered_neighbour h.then).pair
+sender_turn n n' by number bytes frames answered h told inside run tells delivered out = record {
+  opening = hears h.first h.second h.packet number (no_broadcast h.neighbour.in_step);
+  suits = refl;
+  brought = heard_from n n' by number bytes frames answered h;
+  shows = shows_none h.neighbour.in_step;
+  messages = run.messages;
+  sendable = run.sendable;
+  reply = Some (no_broadcast h.then.in_step);
+  shows_last = shows_none h.then.in_step;
+  own_frames = h.met.frames ++ (frames_to h.peer h.returned ++ answered_frames h.then.pair.link (no_broadcast h.then.in_step));
+  turn = record {
+    first = heard h.met h.last h.out;
+    happened = (h.out, h.last, subst (λ (m : Met). OpensTo (begun_after m.change h.neighbour.pair.begun) m.outcome h.out h.last) h.met_is h.opens, ap (λ m. heard m h.last h.out) h.met_is);
+    put_frames = frames_to h.peer h.returned;
+    put = h.then.pair.link;
+    puts = run.puts;
+    after = ap (pair_state (answered_neighbour h.then).pair.link) run.begun;
+    frames_are = refl;
+  };
+  frames_are = out;
+  changes =
+      tells.changes ∙ ap (λ zs. filter (is_change_of h.peer) (change_entries h.peer h.met.change) ++ zs) run.changes
+      ∙ append-nil (filter (is_change_of h.peer) (change_entries h.peer h.met.change)) ∙ changes_own h.peer h.met.change;
+  accepted = tells.accepted ∙ accepted_now n.own h.peer told h.returned (heard_neighbour h.neighbour h.packet h.met h.last) h.then run;
+  delivered = tells.delivered ∙ delivered ∙ given_own h.peer (shown_contact h.met.after) (opened_in h.out);
+  taken = λ a es er p is taken from.
+      given_taken h.first h.second h.packet number h.neighbour.in_step h.out (arrival_deliveries h.peer h.met.after h.out)
+      (subst IsTakenIn (let same : a ≡ answered = cc in same ∙ h.answer_is) taken);
+}
 
-abbrev hearing_step : By → ℕ → ℕ → Met → PairOutcome → NodeStep
-hearing_step by number peer m out = step_of by (event.Arrive 0 number) (inside_of peer m out) (answer.Arrived (arrival_answer out (arrival_deliveries peer m.after out)))
+-- ---- the turns at all neighbours
 
-sender_turn : (n : NodeState) (by : By) (bytes : List ℕ) (number peer es er : ℕ) (p : Fields) (x : Neighbour) (out : PairOutcome) (last : Joining) → IsHearing n bytes number peer es er p x out last
-    → AreFor (node_word peer) (heard_frames x p (met_by x es er p number))
-    → PeerTurn n.own bytes (hearing_step by number peer (met_by x es er p number) out) (heard_frames x p (met_by x es er p number)) peer x.pair (heard_neighbour x p (met_by x es er p number) last).pair
-sender_turn n by bytes number peer es er p x out last h frames =
-    let m = met_by x es er p number in
-    let given = given_in peer (shown_contact m.after) (opened_in out) in
-    opens_turn n.own bytes (hearing_step by number peer m out) (heard_frames x p m) peer x.pair (hears es er p number (no_broadcast x.in_step)) (heard m last out) (Some (no_broadcast (in_step_after x p m))) (record {
-      suits = refl;
-      brought = h.from;
-      shows = shows_none x.in_step;
-      shows_last = shows_none (in_step_after x p m);
-      happened = (out, last, h.opens, refl);
-      frames_are = frames_to-own peer (heard_frames x p m) frames;
-      changes = both_parts (is_change_of peer) (change_entries peer m.change) given (change_entries peer m.change) [] (changes_own peer m.change) (given_changes peer peer (shown_contact m.after) (opened_in out)) ∙ append-nil _;
-      accepted = both_parts (is_accepted_for peer) (change_entries peer m.change) given [] [] (changes_accept peer peer m.change) (given_accept peer peer (shown_contact m.after) (opened_in out));
-      delivered = both_parts (is_delivered_from peer) (change_entries peer m.change) given [] _ (changes_deliver peer peer m.change) (given_own peer (shown_contact m.after) (opened_in out));
-      taken = λ answered es' er' q is taken from.
-          given_taken es er p number x.in_step out (arrival_deliveries peer m.after out) (subst IsTakenIn (let same : answered ≡ arrival_answer out (arrival_deliveries peer m.after out) = cc in same) taken);
-    })
+-- what stands at the sender's number when the answer has left
+abbrev answered_at : Work → ℕ → Neighbour → List (Option Neighbour)
+answered_at w peer y = slice_set w.neighbours peer (Some (answered_neighbour y))
 
--- and at the others
-quiet_others : (by : By) (bytes : List ℕ) (number peer es er : ℕ) (p : Fields) (m : Met) (out : PairOutcome) (frames : List Outgoing) → IsFrom peer bytes es er p → AreFor (node_word peer) frames
-    → (b : ℕ) → b ≢ peer → IsQuietOf bytes (hearing_step by number peer m out) frames b
-quiet_others by bytes number peer es er p m out frames from all b other =
-    let apart : peer ≢ b = λ e. other (sym e) in
-    let given = given_in peer (shown_contact m.after) (opened_in out) in record {
-      frames_are = frames_to-other b peer frames apart all;
-      changes = both_parts (is_change_of b) (change_entries peer m.change) given [] [] (changes_other b peer m.change apart) (given_changes b peer (shown_contact m.after) (opened_in out));
-      accepted = both_parts (is_accepted_for b) (change_entries peer m.change) given [] [] (changes_accept b peer m.change) (given_accept b peer (shown_contact m.after) (opened_in out));
-      delivered = both_parts (is_delivered_from b) (change_entries peer m.change) given [] [] (changes_deliver b peer m.change) (given_other b peer (shown_contact m.after) (opened_in out) apart);
-      taken = λ answered es' er' q is taken from'. apart (one_sender b peer es' er' es er bytes q p from' from);
-    }
+hears_turns : (n n' : NodeState) (by : By) (number : ℕ) (bytes : List ℕ) (frames : List Outgoing) (answered : Arrival) → AreNamed n → (h : Hears n n' by number bytes frames answered) (told : List Entry)
+    → RunsBehind n n' by number bytes frames answered h told
+    → (b : ℕ) (x : Neighbour) → neighbour_of n b ≡ Some x → NeighbourTurn n n' bytes (step_of by (event.Arrive 0 number) h.work.inside (answer.Arrived answered)) frames b x
+hears_turns n n' by number bytes frames answered named h told r b x there =
+    let first = (heard_names n n' by number bytes frames answered named h).frames in
+    let last = answers_for (node_word h.peer) h.then.pair.link (no_broadcast h.then.in_step) (r.stand.named h.peer h.then h.then_is) in
+    let y = heard_neighbour h.neighbour h.packet h.met h.last in
+    let step = step_of by (event.Arrive 0 number) h.work.inside (answer.Arrived answered) in
+    let others : n'.neighbours ≡ answered_at h.work h.peer h.then = ap (λ (k : NodeState). k.neighbours) h.after in
+    let answering = answered_frames h.then.pair.link (no_broadcast h.then.in_step) in
+    elim (cases_eq b h.peer) [
+      | inl here ↦
+          let same : h.neighbour ≡ x = (let both : Some h.neighbour ≡ Some x = sym h.was ∙ subst (λ k. neighbour_of n k ≡ Some x) here there in cc) in
+          let at = r.at h.peer y (set_there n.neighbours h.peer h.neighbour y h.was) in
+          let still : at.now ≡ h.then = (let both : Some at.now ≡ Some h.then = sym at.now_is ∙ h.then_is in cc) in
+          subst (λ k. NeighbourTurn n n' bytes step frames k x) (sym here) (subst (λ z. NeighbourTurn n n' bytes step frames h.peer z) same (record {
+            after = answered_neighbour h.then;
+            after_is = ap (λ xs. slice_index_or xs h.peer None) others ∙ set_there h.work.neighbours h.peer h.then (answered_neighbour h.then) h.then_is;
+            turn = sender_turn n n' by number bytes frames answered h told h.work.inside (subst (RunAt n.own h.peer told h.returned y) still at.run)
+                (tells_behind h.peer h.peer h.met told h.work.inside r.inside_is) (r.delivered h.peer)
+                (ap (frames_to h.peer) h.frames_are ∙ sender_frames h.peer h.met.frames h.returned answering first last);
+          }))
+      | inr other ↦
+          let apart : h.peer ≢ b = λ e. other (sym e) in
+          let at = r.at b x (get_or-set_other n.neighbours h.peer b (Some y) None other ∙ there) in
+          let tells = tells_behind h.peer b h.met told h.work.inside r.inside_is in record {
+            after = at.now;
+            after_is = ap (λ xs. slice_index_or xs b None) others ∙ get_or-set_other h.work.neighbours h.peer b (Some (answered_neighbour h.then)) None other ∙ at.now_is;
+            turn = rests_turn n.own bytes step frames b told h.returned x at.now (record {
+              frames_are = ap (frames_to b) h.frames_are ∙ other_frames b h.peer h.met.frames h.returned answering apart first last;
+              changes = tells.changes ∙ ap (λ zs. zs ++ filter (is_change_of b) told) (changes_other b h.peer h.met.change apart);
+              accepted = tells.accepted;
+              delivered = tells.delivered ∙ r.delivered b ∙ given_other b h.peer (shown_contact h.met.after) (opened_in h.out) apart;
+              taken = λ a es er q is taken from. apart (one_sender b h.peer es er h.first h.second bytes q h.packet from (heard_from n n' by number bytes frames answered h));
+            }) at.run;
+          }
+    ]
 
 -- ---- the turn of the node
 
-hearing_turn : (n : NodeState) (by : By) (bytes : List ℕ) (number peer es er : ℕ) (p : Fields) (x : Neighbour) (out : PairOutcome) (last : Joining) → AreNamed n → IsHearing n bytes number peer es er p x out last
-    → NodeTurn n (heard_node n by number peer x p (met_by x es er p number) out last) bytes (hearing_step by number peer (met_by x es er p number) out) (heard_frames x p (met_by x es er p number))
-hearing_turn n by bytes number peer es er p x out last named h =
-    let m = met_by x es er p number in
-    let n' = heard_node n by number peer x p m out last in
-    let step = hearing_step by number peer m out in
-    let after = heard_neighbour x p m last in
-    let there : is_some (neighbour_of n peer) ≡ true = ap is_some h.was in
-    let given = given_in peer (shown_contact m.after) (opened_in out) in
-    let frames : AreFor (node_word peer) (heard_frames x p m) =
-    heard_all_for (node_word peer) x.pair.link es er p number (no_broadcast x.in_step) (no_broadcast (in_step_after x p m)) (named peer x h.was) in
-    let at : TurnsAt n n' bytes step (heard_frames x p m) peer x after = record {
-      was = h.was;
-      neighbours = refl;
-      turn = sender_turn n by bytes number peer es er p x out last h frames;
-      others = quiet_others by bytes number peer es er p m out (heard_frames x p m) h.from frames;
-    } in
+hears_turn : (n n' : NodeState) (by : By) (number : ℕ) (bytes : List ℕ) (frames : List Outgoing) (answered : Arrival) → AreNamed n → (h : Hears n n' by number bytes frames answered) (told : List Entry)
+    → RunsBehind n n' by number bytes frames answered h told
+    → NodeTurn n n' bytes (step_of by (event.Arrive 0 number) h.work.inside (answer.Arrived answered)) frames
+hears_turn n n' by number bytes frames answered named h told r =
+    let there : is_some (neighbour_of n h.peer) ≡ true = ap is_some h.was in
+    let first = (heard_names n n' by number bytes frames answered named h).frames in
+    let last = answers_for (node_word h.peer) h.then.pair.link (no_broadcast h.then.in_step) (r.stand.named h.peer h.then h.then_is) in
+    let y = heard_neighbour h.neighbour h.packet h.met h.last in
+    let answering = answered_frames h.then.pair.link (no_broadcast h.then.in_step) in
     record {
-      own = refl;
-      boot = refl;
-      journal = refl;
-      inside = inside_both (change_entries peer m.change) given (changes_inside peer m.change) (given_inside peer (shown_contact m.after) (opened_in out));
-      turns = turns_at n n' bytes step (heard_frames x p m) peer x after at;
-      alone = alone_at n n' bytes step (heard_frames x p m) peer x after at;
-      routed = routed_to n peer (heard_frames x p m) there frames;
-      placed = All-append (IsPlaced n) (change_entries peer m.change) given (changes_placed n peer m.change there) (given_placed n peer (shown_contact m.after) (opened_in out) there);
+      own = ap (λ (k : NodeState). k.own) h.after;
+      boot = ap (λ (k : NodeState). k.boot) h.after;
+      journal = ap (λ (k : NodeState). k.journal) h.after;
+      inside = subst IsInside (sym r.inside_is) (inside_both (change_entries h.peer h.met.change) told (changes_inside h.peer h.met.change) r.inside);
+      turns = hears_turns n n' by number bytes frames answered named h told r;
+      alone = λ b none.
+          ap (λ (k : NodeState). neighbour_of k b) h.after
+          ∙ set_none h.work.neighbours h.peer b h.then (answered_neighbour h.then) h.then_is (r.alone b (set_none n.neighbours h.peer b h.neighbour y h.was none));
+      routed = subst (All (IsRouted n)) (sym h.frames_are)
+          (All-append (IsRouted n) h.met.frames (h.returned ++ answering) (routed_to n h.peer h.met.frames there first)
+          (All-append (IsRouted n) h.returned answering r.routed (routed_to n h.peer answering there last)));
+      placed = subst (All (IsPlaced n)) (sym r.inside_is) (All-append (IsPlaced n) (change_entries h.peer h.met.change) told (changes_placed n h.peer h.met.change there) r.placed);
     }
-
--- what the link made of the packet is what meets it there
-hears_turn : (n n' : NodeState) (by : By) (number : ℕ) (bytes : List ℕ) (frames : List Outgoing) (answered : Arrival) → AreNamed n → Hears n n' by number bytes frames answered → IsTurn n n' by 0 number bytes frames answered
-hears_turn n n' by number bytes frames answered named h =
-    let x = h.neighbour in
-    let m = met_by x h.first h.second h.packet number in
-    let due = h.due in
-    turn_as n n' (heard_node n by number h.peer x h.packet m h.out h.last) by 0 number bytes frames (heard_frames x h.packet m) answered (arrival_answer h.out (arrival_deliveries h.peer m.after h.out))
-    (h.after ∙ ap (λ k. heard_node n by number h.peer x h.packet k h.out h.last) h.met_is) (h.frames_are ∙ ap (heard_frames x h.packet) h.met_is)
-    (h.answer_is ∙ ap (λ (k : Met). arrival_answer h.out (arrival_deliveries h.peer k.after h.out)) h.met_is) (
-      inside_of h.peer m h.out,
-      hearing_turn n by bytes number h.peer h.first h.second h.packet x h.out h.last named (record {
-        was = h.was;
-        from = record { es_fits = due.first_fits; er_fits = due.second_fits; fits = due.fits; frame_is = due.opened; previous = due.previous };
-        opens = subst (λ (k : Met). OpensTo (begun_after k.change x.pair.begun) k.outcome h.out h.last) h.met_is h.opens;
-      }),
-    )
 
 pub arrives_turn : (n n' : NodeState) (by : By) (bearer number : ℕ) (bytes : List ℕ) (frames : List Outgoing) (answered : Arrival) → AreNamed n → Arrives n n' by bearer number bytes frames answered
     → (inside : List Entry) × NodeTurn n n' bytes (step_of by (event.Arrive bearer number) inside (answer.Arrived answered)) frames
 arrives_turn n n' by bearer number bytes frames answered named h = case (stop_of n bearer bytes) refl
   where
-    case : (o : Option Why) → stop_of n bearer bytes ≡ o → IsTurn n n' by bearer number bytes frames answered
+    case : (o : Option Why) → stop_of n bearer bytes ≡ o → IsTurn n n' by (event.Arrive bearer number) bytes frames (answer.Arrived answered)
     case (Some reason) is =
         let r = h.stopped reason is in
-        turn_as n n' (stopped_node n by bearer number reason) by bearer number bytes frames [] answered (arrival.Ignored reason) r.0 r.1 r.2
-        ([], rested n by (event.Arrive bearer number) bytes (answer.Arrived (arrival.Ignored reason)) n.inboxes (λ taken. taken))
+        let note = event.Arrive bearer number in
+        turn_as n n' (stopped_node n by bearer number reason) by note bytes frames [] (answer.Arrived answered) (answer.Arrived (arrival.Ignored reason)) r.0 r.1 (ap answer.Arrived r.2)
+        (run_turn n by note bytes (answer.Arrived (arrival.Ignored reason)) (begun n) [] (λ taken. taken) (idle_run n (begun n) (begun n) (named_stand n named) refl refl))
     case None is =
-        subst (λ k. IsTurn n n' by k number bytes frames answered) (sym (first_bearer n bearer bytes is)) (hears_turn n n' by number bytes frames answered named (h.heard is))
+        let heard_it = h.heard is in
+        let run = heard_run n n' by number bytes frames answered named heard_it in
+        subst (λ k. IsTurn n n' by (event.Arrive k number) bytes frames (answer.Arrived answered)) (sym (first_bearer n bearer bytes is))
+        (heard_it.work.inside, hears_turn n n' by number bytes frames answered named heard_it run.noted run.runs)

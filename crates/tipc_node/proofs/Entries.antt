@@ -18,10 +18,13 @@ use Rattle.tipc_pair.specs.declared.changes.PairChange.TheVariants.{Stay, Began,
 use Rattle.tipc_node.specs.declared.neighbours.Deed.{Deed}
 use Rattle.tipc_node.specs.declared.neighbours.Neighbour.{Neighbour}
 use Rattle.tipc_node.specs.Neighbours.{done}
-use Rattle.tipc_node.specs.Nodes.{NodeState, change_entries, delivered_by, deliveries_of, entries_all, entries_in, entries_one, frames_all, frames_one, message_in, neighbour_of}
+use Rattle.tipc_node.specs.Messages.{message_in}
+use Rattle.tipc_node.specs.Nodes.{NodeState, change_entries, delivered_by, deliveries_of, entries_all, entries_in, entries_one, frames_all, frames_one, neighbour_of}
 use Rattle.tipc_node.specs.Turns.{IsOfNeighbour, IsPlaced, IsRouted, addr_of, delivered_message, delivered_of, is_accepted_for, is_change_of, is_delivered_from}
 use Rattle.tipc_node.proofs.Addressing.{AreFor}
-use Rattle.tipc_node.proofs.Telling.{same_word}
+
+pub own_word : (b : ℕ) → (node_word b == node_word b) ≡ true
+own_word b = grind (arith, nat_tests)
 
 pub other_word : (b c : ℕ) → c ≢ b → (node_word c == node_word b) ≡ false
 other_word b c apart = grind (arith, nat_tests, apart)
@@ -30,8 +33,8 @@ other_word b c apart = grind (arith, nat_tests, apart)
 
 pub changes_own : (b : ℕ) (c : PairChange) → filter (is_change_of b) (change_entries b c) ≡ change_entries b c
 changes_own b Stay = refl
-changes_own b (Began own theirs numbers) = rw (same_word b) refl
-changes_own b (Ended because shown numbers number) = rw (same_word b) refl
+changes_own b (Began own theirs numbers) = rw (own_word b) refl
+changes_own b (Ended because shown numbers number) = rw (own_word b) refl
 
 pub changes_other : (b peer : ℕ) (c : PairChange) → peer ≢ b → filter (is_change_of b) (change_entries peer c) ≡ []
 changes_other b peer Stay apart = refl
@@ -70,29 +73,13 @@ changes_placed n peer (Ended because shown numbers number) there =
 abbrev pub given_in : ℕ → ℕ × ℕ → List Opened → List Entry
 given_in peer contact opened = entries_in (deliveries_of peer contact opened)
 
-pub given_changes : (b peer : ℕ) (contact : ℕ × ℕ) (opened : List Opened) → filter (is_change_of b) (given_in peer contact opened) ≡ []
-given_changes b peer contact [] = refl
-given_changes b peer contact (Passed place ∷ opened) = given_changes b peer contact opened
-given_changes b peer contact (Whole packet by ∷ opened) = elim (message_in packet) as (λ m. filter (is_change_of b) (delivered_by peer contact m by ∷ given_in peer contact opened) ≡ []) [
-  | None ↦ given_changes b peer contact opened
-  | Some m ↦ given_changes b peer contact opened
-]
-
-pub given_accept : (b peer : ℕ) (contact : ℕ × ℕ) (opened : List Opened) → filter (is_accepted_for b) (given_in peer contact opened) ≡ []
-given_accept b peer contact [] = refl
-given_accept b peer contact (Passed place ∷ opened) = given_accept b peer contact opened
-given_accept b peer contact (Whole packet by ∷ opened) = elim (message_in packet) as (λ m. filter (is_accepted_for b) (delivered_by peer contact m by ∷ given_in peer contact opened) ≡ []) [
-  | None ↦ given_accept b peer contact opened
-  | Some m ↦ given_accept b peer contact opened
-]
-
 pub given_own : (b : ℕ) (contact : ℕ × ℕ) (opened : List Opened) → filter (is_delivered_from b) (given_in b contact opened) ≡ flat_map (delivered_of b contact) opened
 given_own b contact [] = refl
 given_own b contact (Passed place ∷ opened) = given_own b contact opened
 given_own b contact (Whole packet by ∷ opened) =
     elim (message_in packet) as (λ m. filter (is_delivered_from b) (delivered_by b contact m by ∷ given_in b contact opened) ≡ delivered_message b contact m by ++ flat_map (delivered_of b contact) opened) [
       | None ↦ given_own b contact opened
-      | Some m ↦ rw (same_word b) (ap (λ es. delivered_by b contact (Some m) by ∷ es) (given_own b contact opened))
+      | Some m ↦ rw (own_word b) (ap (λ es. delivered_by b contact (Some m) by ∷ es) (given_own b contact opened))
     ]
 
 pub given_other : (b peer : ℕ) (contact : ℕ × ℕ) (opened : List Opened) → peer ≢ b → filter (is_delivered_from b) (given_in peer contact opened) ≡ []
@@ -101,22 +88,6 @@ given_other b peer contact (Passed place ∷ opened) apart = given_other b peer 
 given_other b peer contact (Whole packet by ∷ opened) apart = elim (message_in packet) as (λ m. filter (is_delivered_from b) (delivered_by peer contact m by ∷ given_in peer contact opened) ≡ []) [
   | None ↦ given_other b peer contact opened apart
   | Some m ↦ rw (other_word b peer apart) (given_other b peer contact opened apart)
-]
-
-pub given_inside : (peer : ℕ) (contact : ℕ × ℕ) (opened : List Opened) → IsInside (given_in peer contact opened)
-given_inside peer contact [] = refl
-given_inside peer contact (Passed place ∷ opened) = given_inside peer contact opened
-given_inside peer contact (Whole packet by ∷ opened) = elim (message_in packet) as (λ m. IsInside (delivered_by peer contact m by ∷ given_in peer contact opened)) [
-  | None ↦ given_inside peer contact opened
-  | Some m ↦ given_inside peer contact opened
-]
-
-pub given_placed : (n : NodeState) (peer : ℕ) (contact : ℕ × ℕ) (opened : List Opened) → is_some (neighbour_of n peer) ≡ true → All (IsPlaced n) (given_in peer contact opened)
-given_placed n peer contact [] there = All-nil (IsPlaced n)
-given_placed n peer contact (Passed place ∷ opened) there = All-cons (IsPlaced n) _ _ tt (given_placed n peer contact opened there)
-given_placed n peer contact (Whole packet by ∷ opened) there = elim (message_in packet) as (λ m. All (IsPlaced n) (delivered_by peer contact m by ∷ given_in peer contact opened)) [
-  | None ↦ All-cons (IsPlaced n) _ _ tt (given_placed n peer contact opened there)
-  | Some m ↦ (let of : IsOfNeighbour n (addr_of peer) = (peer, there, refl) in All-cons (IsPlaced n) (delivered_by peer contact (Some m) by) (given_in peer contact opened) of (given_placed n peer contact opened there))
 ]
 
 -- ---- the entries of what happens to all neighbours; the first of them has that number

@@ -1,8 +1,7 @@
--- What a neighbour makes of a packet that it hears: what its pair does, and then the STATE that is due.
+-- What a neighbour makes of a packet that it hears.
 use Rattle.std.proofs.Common.{◌≡◌, ◌||◌, ◌&&◌, ℕ, Bool, true, false, if◌then◌else◌, refl, sym, ap, ◌∙◌, subst}
+use Rattle.std.specs.Prelude.{fold, not}
 use Rattle.tipc_types.specs.declared.link_words.BroadcastState.{BroadcastState}
-use Rattle.tipc_outside.specs.Frames.{Adds, Out}
-use Rattle.tipc_outside.proofs.Adding.{adds_more}
 use Rattle.tipc_header.specs.declared.packet.Header.{Header}
 use Rattle.tipc_header.specs.declared.packet.Header.TheVariants as header
 use Rattle.tipc_header.specs.Spelling.{Fields}
@@ -10,38 +9,27 @@ use Rattle.tipc_fragments.specs.Joining.{Joining}
 use Rattle.tipc_recv_window.specs.declared.outcomes.LinkOutcome.{LinkOutcome}
 use Rattle.tipc_link.specs.Links.{LinkEnd, after, answered_end, answered_frames, arrival_end, heard_end, is_heard, outcome_of}
 use Rattle.tipc_link.specs.Sessions.{content_of}
-use Rattle.tipc_link_fsm.specs.Table.{Outcome}
+use Rattle.tipc_link_fsm.specs.declared.changes.Change.{Change}
+use Rattle.tipc_link_fsm.specs.declared.changes.Change.TheVariants.{Stay, Up, Down, Answer, Ignore}
+use Rattle.tipc_link_fsm.specs.Table.{Fsm, Outcome, gives, heard, is_last, is_reset_reset, is_session, is_up, on_traffic}
+use Rattle.tipc_types.specs.declared.link_words.Why.TheVariants as why
+use Rattle.tipc_sockets.specs.SocketTables.{SocketTable}
+use Rattle.tipc_sockets.specs.Telling.{after_entry}
 use Rattle.tipc_pair.specs.declared.changes.PairChange.{PairChange}
 use Rattle.tipc_pair.specs.declared.changes.PairOutcome.{PairOutcome}
-use Rattle.tipc_pair.specs.Pairs.{Met, arrival, change_of, link_met, shows_contact}
+use Rattle.tipc_pair.specs.Pairs.{Met, arrival, change_of, link_met, shows_contact, told_of}
 use Rattle.tipc_pair.specs.Partners.{IsPairArriving, OpensTo, PairArrivingState, PairState, begun_after, deferred, ignored, pair_state, took}
 use Rattle.tipc_pair.proofs.Meeting.{heard_arrival}
 use Rattle.tipc_pair.proofs.Ends.{contact_after, seen_after}
-use Rattle.tipc_node.specs.Nodes.{shown_contact}
+use Rattle.tipc_node.specs.Nodes.{change_entries, shown_contact}
 use Rattle.tipc_node.specs.declared.neighbours.Neighbour.{Neighbour}
-use Rattle.tipc_node.specs.Neighbours.{heard_frames, heard_neighbour, in_step_after, is_given, is_state, is_taken, met_by, neighbour, no_broadcast, stays_in_step}
+use Rattle.tipc_node.specs.Neighbours.{heard_neighbour, in_step_after, is_given, is_state, is_taken, met_by, neighbour, no_broadcast, stays_in_step}
 
--- what the calls of a hearing tell: m is what the arrival came to, y the pair after it
-pub record IsAnswered (x : Neighbour) (p : Fields) (m : Met) (y : PairState) (in_step : Bool) (told : BroadcastState) (a b c : Out) : Type 0 where
-  pub after : y.link ≡ m.after
-  pub frames : Adds a b m.frames
-  pub in_step_is : in_step ≡ in_step_after x p m
-  pub told_is : told ≡ no_broadcast in_step
-  pub answer : Adds b c (answered_frames y.link told)
-
-pub heard_adds : (x : Neighbour) (p : Fields) (m : Met) (y : PairState) (in_step : Bool) (told : BroadcastState) (a b c : Out) → IsAnswered x p m y in_step told a b c → Adds a c (heard_frames x p m)
-heard_adds x p m y in_step told a b c h =
-    let state = subst (λ w. Adds b c (answered_frames w told)) h.after h.answer in
-    adds_more a b c m.frames _ h.frames (subst (λ t. Adds b c (answered_frames m.after t)) (h.told_is ∙ ap no_broadcast h.in_step_is) state)
-
--- what a neighbour is then
-pub heard_is : (x : Neighbour) (p : Fields) (m : Met) (y z : PairState) (in_step : Bool) → y.link ≡ m.after → z ≡ pair_state (answered_end y.link) y.begun → in_step ≡ in_step_after x p m
-    → neighbour z.link z.begun in_step ≡ heard_neighbour x p m z.begun
-heard_is x p m y z in_step after answered is =
-    ap (λ (w : PairState). neighbour w.link w.begun in_step) answered
-    ∙ ap (λ e. neighbour (answered_end e) y.begun in_step) after
-    ∙ ap (neighbour (answered_end m.after) y.begun) is
-    ∙ ap (λ (w : PairState). neighbour (answered_end m.after) w.begun (in_step_after x p m)) (sym answered)
+-- what a neighbour is then: y is its pair after it
+pub heard_is : (x : Neighbour) (p : Fields) (m : Met) (y : PairState) (in_step : Bool) (last : Joining) → y.link ≡ m.after → y.begun ≡ last → in_step ≡ in_step_after x p m
+    → record { pair = y; in_step = in_step } ≡ heard_neighbour x p m last
+heard_is x p m y in_step last after begun is =
+    ap (λ e. neighbour e y.begun in_step) after ∙ ap (λ b. neighbour m.after b in_step) begun ∙ ap (neighbour m.after last) is
 
 -- ---- a RESET or an ACTIVATE
 
@@ -110,3 +98,46 @@ pub told_contact : (x : Neighbour) (es er by : ℕ) (p : Fields) (a : PairArrivi
     → shown_contact (met_by x es er p by).after ≡ shown_contact x.pair.link
 told_contact x es er by p a told plain =
     ap (λ (m : Met). shown_contact m.after) (sym (told_met x es er by p (no_broadcast x.in_step) a told plain refl)) ∙ same_contact x.pair.link a.link.states p a.link.hearing.by
+
+-- ---- no contact ends by a packet that shows no contact number
+
+-- a link that goes down
+abbrev IsDownChange : Change → Type 0
+IsDownChange (Down cause) = Unit {0}
+IsDownChange other = ⊥
+
+traffic_up : (s : Fsm) (es er : ℕ) → IsDownChange (on_traffic s es er).change → ⊥
+unfolding on_traffic
+traffic_up s es er =
+    by (is_session s es er && (is_reset_reset s.state && not (is_last s.own))) (is_session s es er && is_up s.state)
+  where
+    by : (goes_up stays : Bool) → IsDownChange (if goes_up then gives (heard s) Up else (if stays then gives (heard s) Stay else gives s (Ignore why.Epoch))).change → ⊥
+    by true stays wrong = wrong
+    by false true wrong = wrong
+    by false false wrong = wrong
+
+not_down : (h : Header) (s : Fsm) (es er : ℕ) → shows_contact h ≡ false → IsDownChange (outcome_of s h es er false).change → ⊥
+not_down (header.Reset said) s es er plain wrong = absurd cc
+not_down (header.Activate said) s es er plain wrong = absurd cc
+not_down (header.Discovery x) s es er plain wrong = wrong
+not_down (header.State x) s es er plain wrong = traffic_up s es er wrong
+not_down (header.Payload x) s es er plain wrong = traffic_up s es er wrong
+not_down (header.Bundler x) s es er plain wrong = traffic_up s es er wrong
+not_down (header.Changeover x) s es er plain wrong = traffic_up s es er wrong
+not_down (header.NameDistributor x) s es er plain wrong = traffic_up s es er wrong
+not_down (header.Fragmenter x) s es er plain wrong = traffic_up s es er wrong
+
+quiet_names : (e : LinkEnd) (fsm : Fsm) (change : Change) (n peer : ℕ) (s : SocketTable) → (IsDownChange change → ⊥) → fold after_entry s (change_entries peer (told_of e fsm change n)) ≡ s
+quiet_names e fsm Up n peer s up = refl
+quiet_names e fsm (Down cause) n peer s up = absurd (up tt)
+quiet_names e fsm Stay n peer s up = refl
+quiet_names e fsm (Answer reply) n peer s up = refl
+quiet_names e fsm (Ignore reason) n peer s up = refl
+
+-- so the node forgets no names by it
+pub told_names : (x : Neighbour) (es er by : ℕ) (p : Fields) (peer : ℕ) (s : SocketTable) → shows_contact p.header ≡ false
+    → fold after_entry s (change_entries peer (met_by x es er p by).change) ≡ s
+told_names x es er by p peer s plain =
+    let o = outcome_of x.pair.link.fsm p.header es er false in
+    ap (λ (m : Met). fold after_entry s (change_entries peer m.change)) (heard_arrival x.pair.link es er p by (no_broadcast x.in_step) plain)
+    ∙ quiet_names x.pair.link o.after o.change 0 peer s (not_down p.header x.pair.link.fsm es er plain)

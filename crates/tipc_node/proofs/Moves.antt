@@ -1,5 +1,5 @@
 -- What a change of a link end tells is so, before it and after it, and has its cause.
-use Rattle.std.proofs.Common.{◌≡◌, ◌≤◌, ◌+◌, ◌==◌, ◌||◌, ℕ, Bool, true, false, Some, None, if◌then◌else◌, nat_le, refl, sym, ap, ◌∙◌, eqb-true, arith}
+use Rattle.std.proofs.Common.{◌≡◌, ◌≤◌, ◌+◌, ◌==◌, ◌||◌, ℕ, Bool, true, false, Option, Some, None, if◌then◌else◌, is_some, nat_le, option_map, refl, sym, ap, ◌∙◌, eqb-true, arith}
 use Rattle.tipc_types.specs.declared.link_words.Cause.{Cause}
 use Rattle.tipc_types.specs.declared.link_words.Cause.TheVariants as cause
 use Rattle.tipc_types.specs.declared.link_words.LinkState.{LinkState}
@@ -69,7 +69,14 @@ pub record IsMove (e e' : LinkEnd) (change : PairChange) (passed : ℕ) : Type 0
 
 -- an end that is down and knows nothing of its peer's reset is abreast
 pub unknown_abreast : (e : LinkEnd) → e.fsm.state ≡ ResetUnknown → IsAbreast e
-unknown_abreast e is = record { peer_is = λ up. (let wrong : false ≡ true = ap (λ st. is_up st || is_reset_reset st) (sym is) ∙ up in absurd cc) }
+unknown_abreast e is = record {
+  peer_is = λ up. (let wrong : false ≡ true = ap (λ st. is_up st || is_reset_reset st) (sym is) ∙ up in absurd cc);
+  begun = λ up. (let wrong : false ≡ true = ap is_up (sym is) ∙ up in absurd cc);
+}
+
+pub mapped_some : {A : Type 0} (f : A → A) (o : Option A) → is_some o ≡ true → is_some (option_map f o) ≡ true
+mapped_some f (Some x) is = refl
+mapped_some f None is = absurd cc
 
 pub parted_unknown : (e : LinkEnd) → (parted e).fsm.state ≡ ResetUnknown
 unfolding contact_ended
@@ -112,7 +119,7 @@ up_ticks e abreast up = tested (Ticks e) (e.fsm.silent == 4) _ _
     let alike = both_up e e' up up' refl refl refl refl in
     let one = up_silence e up in
     let two = up_silence e' up' in
-    (record { tells = (alike.contact_is, alike.epochs_are); silence = omega (arith, one, two); abreast = record { peer_is = λ _. abreast.peer_is (ap (λ b. b || is_reset_reset e.fsm.state) up) } }, tt))
+    (record { tells = (alike.contact_is, alike.epochs_are); silence = omega (arith, one, two); abreast = record { peer_is = λ _. abreast.peer_is (ap (λ b. b || is_reset_reset e.fsm.state) up); begun = λ _. mapped_some _ e.session (abreast.begun up) } }, tt))
 
 ticks_in : (e : LinkEnd) (st : LinkState) → e.fsm.state ≡ st → IsAbreast e → Ticks e (tick_in st e.fsm false)
 ticks_in e ResetUnknown is abreast = (same_move e 1 abreast, tt)
@@ -144,4 +151,4 @@ cut_moves e abreast = tested (Cuts e) (is_up e.fsm.state) _ _
     (λ up.
     let low : LinkEnd = record e { mended = false; fsm = lowered e.fsm false } in
     (ended_move e (parted low) cause.Cut 0 0 0 up (parted_down low) (parted_abreast low), (refl, refl)))
-    (λ down. (record { tells = (refl, refl); silence = omega arith; abreast = record { peer_is = abreast.peer_is } }, tt))
+    (λ down. (record { tells = (refl, refl); silence = omega arith; abreast = record { peer_is = abreast.peer_is; begun = abreast.begun } }, tt))

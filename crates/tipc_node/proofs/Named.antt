@@ -67,7 +67,8 @@ all_named word s _ _ last is (puts_one _ s' _ m messages frames put all) =
 names_last : (word : ℕ) (e : LinkEnd) (last : SessionEnd) → Names word e → last.peer ≡ word → Names word (record e { session = Some last })
 names_last word e last n is = record { peer = n.peer; session = λ s has. (let same : last ≡ s = cc in ap (λ (u : SessionEnd). u.peer) (sym same) ∙ is) }
 
-onto_by : (word : ℕ) (e : LinkEnd) (messages : List (List ℕ)) (frames : List Outgoing) (e' : LinkEnd) → Names word e → PutsOnto e messages frames e' → IsNamed word e' frames
+-- so are an end and the frames when messages were put
+pub onto_by : (word : ℕ) (e : LinkEnd) (messages : List (List ℕ)) (frames : List Outgoing) (e' : LinkEnd) → Names word e → PutsOnto e messages frames e' → IsNamed word e' frames
 onto_by word e [] frames e' n h = record { end_is = subst (Names word) (sym h.1) n; frames_are = subst (AreFor word) (sym h.0) tt }
 onto_by word e (m ∷ messages) frames e' n h =
     let all = all_named word h.session (m ∷ messages) frames h.last (n.session h.session h.session_is) h.puts in

@@ -11,7 +11,7 @@ use Rattle.tipc_header.specs.Spelling.{Fields, size_of, spelling}
 use Rattle.tipc_header.specs.Users.{header_size}
 use Rattle.tipc_header.proofs.Again.{length-spelling}
 use Rattle.tipc_header.proofs.FrameWords.{length-spelling as spelling-long}
-use Rattle.tipc_message.specs.Wire.{packet_of, payload_of, payload_packet}
+use Rattle.tipc_message.specs.Wire.{IsPayload, packet_of, payload_of, payload_packet}
 use Rattle.tipc_bundle.specs.Bundles.{IsInner, may_stand_inside}
 use Rattle.tipc_fragments.specs.Cutting.{Piece, packet_of as piece_packet, packets_of, pieces_of}
 use Rattle.tipc_reassembly.specs.Slots.{IsCut}
@@ -20,34 +20,43 @@ use Rattle.tipc_reassembly.proofs.SlotLaws.{cut_is_fragment}
 use Rattle.tipc_link.specs.Sessions.{IsWaiting}
 use Rattle.tipc_pair.specs.Partners.{pieces_for}
 use Rattle.tipc_pair.proofs.Pieces.{All-one, pieces_cut}
+use Rattle.tipc_node.specs.Messages.{IsSendable, bytes_of, spelled}
 
--- these bytes spell the packet of a message
-abbrev pub IsSpelled : Message → List ℕ → Type 0
-IsSpelled m bytes = (p : Fields) × (packet_of m ≡ Some p) × Fits p × (bytes ≡ spelling p)
+-- these bytes spell the packet of a message that a node of this address sends
+abbrev pub IsSpelled : ℕ → Message → List ℕ → Type 0
+IsSpelled own m bytes = (p : Fields) × (packet_of own m ≡ Some p) × Fits p × (bytes ≡ spelling p)
+
+-- so it may be sent, and these are its bytes
+pub sendable_by : (own : ℕ) (m : Message) (bytes : List ℕ) → IsPayload m → IsSpelled own m bytes → IsSendable own m
+sendable_by own m bytes payload s = record { packet = s.0; packet_is = s.1; fits = s.2; payload = payload }
+
+pub spelled_bytes : (own : ℕ) (m : Message) (bytes : List ℕ) → IsSpelled own m bytes → bytes ≡ bytes_of own m
+unfolding bytes_of
+spelled_bytes own m bytes s = s.3 ∙ sym (ap spelled s.1)
 
 abbrev IsUsers : Fields → Type 0
 IsUsers p = (may_stand_inside p.header ≡ true) × (4 * header_size p.header ≤ 44) × (size_of p ≡ 4 * header_size p.header + length p.rest) × (length p.rest ≤ 66000)
 
-users_with : (m : Message) (p : Fields) → packet_of m ≡ Some p → Fits p → IsUsers p
+users_with : (own : ℕ) (m : Message) (p : Fields) → packet_of own m ≡ Some p → Fits p → IsUsers p
 unfolding packet_of
-users_with (message.Payload importance form.Connected from to kind lower upper code droppable body) p is fits =
-    let same : payload_packet from.node.word (payload_of importance form.Connected from to kind lower upper code droppable) body ≡ p = cc in
+users_with own (message.Payload importance form.Connected from to kind lower upper code droppable body) p is fits =
+    let same : payload_packet own (payload_of importance form.Connected from to kind lower upper code droppable) body ≡ p = cc in
     subst (λ q. Fits q → IsUsers q) same (λ f. (refl, omega arith, refl, f.rest)) fits
-users_with (message.Payload importance form.Multicast from to kind lower upper code droppable body) p is fits =
-    let same : payload_packet from.node.word (payload_of importance form.Multicast from to kind lower upper code droppable) body ≡ p = cc in
+users_with own (message.Payload importance form.Multicast from to kind lower upper code droppable body) p is fits =
+    let same : payload_packet own (payload_of importance form.Multicast from to kind lower upper code droppable) body ≡ p = cc in
     subst (λ q. Fits q → IsUsers q) same (λ f. (refl, omega arith, refl, f.rest)) fits
-users_with (message.Payload importance form.Named from to kind lower upper code droppable body) p is fits =
-    let same : payload_packet from.node.word (payload_of importance form.Named from to kind lower upper code droppable) body ≡ p = cc in
+users_with own (message.Payload importance form.Named from to kind lower upper code droppable body) p is fits =
+    let same : payload_packet own (payload_of importance form.Named from to kind lower upper code droppable) body ≡ p = cc in
     subst (λ q. Fits q → IsUsers q) same (λ f. (refl, omega arith, refl, f.rest)) fits
-users_with (message.Payload importance form.Direct from to kind lower upper code droppable body) p is fits =
-    let same : payload_packet from.node.word (payload_of importance form.Direct from to kind lower upper code droppable) body ≡ p = cc in
+users_with own (message.Payload importance form.Direct from to kind lower upper code droppable body) p is fits =
+    let same : payload_packet own (payload_of importance form.Direct from to kind lower upper code droppable) body ≡ p = cc in
     subst (λ q. Fits q → IsUsers q) same (λ f. (refl, omega arith, refl, f.rest)) fits
-users_with (message.Items withdrawal items) p is fits = absurd cc
+users_with own (message.Items withdrawal items) p is fits = absurd cc
 
 -- they are 66,044 at most
-pub spelled_most : (m : Message) (bytes given : List ℕ) → IsSpelled m bytes → given ≡ bytes → length given ≤ 66044
-spelled_most m bytes given s same =
-    let u = users_with m s.0 s.1 s.2 in
+pub spelled_most : (own : ℕ) (m : Message) (bytes given : List ℕ) → IsSpelled own m bytes → given ≡ bytes → length given ≤ 66044
+spelled_most own m bytes given s same =
+    let u = users_with own m s.0 s.1 s.2 in
     let header = u.1 in
     let size = u.2 in
     let rest = u.3 in
@@ -55,9 +64,9 @@ spelled_most m bytes given s same =
     omega (arith, header, size, rest, long)
 
 -- and may wait
-spelled_waits : (m : Message) (bytes : List ℕ) → IsSpelled m bytes → IsWaiting bytes
-spelled_waits m bytes s =
-    let inner : IsInner bytes = record { packet = s.0; fits = s.2; spelled = s.3; inside = (users_with m s.0 s.1 s.2).0 } in
+spelled_waits : (own : ℕ) (m : Message) (bytes : List ℕ) → IsSpelled own m bytes → IsWaiting bytes
+spelled_waits own m bytes s =
+    let inner : IsInner bytes = record { packet = s.0; fits = s.2; spelled = s.3; inside = (users_with own m s.0 s.1 s.2).0 } in
     record { long = subst (λ b. 16 ≤ length b) (sym s.3) (spelling-long s.0); made = λ bundled. absurd (inner_no_bundle bytes inner bundled) }
 
 cut_waits : (piece : Piece) → IsCut piece → IsWaiting (spelling (piece_packet piece))
@@ -79,19 +88,21 @@ unfolding pieces_for
 in_fragments bytes long = let is : nat_le (length bytes) 1452 ≡ false = grind (arith, nat_tests, long) in rw is refl
 
 -- the pieces are those of the message
-abbrev pub ArePieces : Message → List (List ℕ) → Type 0
-ArePieces m pieces = (p : Fields) × (packet_of m ≡ Some p) × Fits p × (pieces ≡ pieces_for (spelling p))
+pub one_piece : (own : ℕ) (m : Message) (bytes : List ℕ) (pieces : List (List ℕ)) → IsSpelled own m bytes → length bytes < 1453 → pieces ≡ bytes ∷ [] → pieces ≡ pieces_for (bytes_of own m)
+one_piece own m bytes pieces s short is = is ∙ sym (alone bytes short) ∙ ap pieces_for (spelled_bytes own m bytes s)
 
-pub one_piece : (m : Message) (bytes : List ℕ) (pieces : List (List ℕ)) → IsSpelled m bytes → length bytes < 1453 → pieces ≡ bytes ∷ [] → ArePieces m pieces
-one_piece m bytes pieces s short is = (s.0, s.1, s.2, is ∙ sym (alone bytes short) ∙ ap pieces_for s.3)
+pub one_waits : (own : ℕ) (m : Message) (bytes : List ℕ) (pieces : List (List ℕ)) → IsSpelled own m bytes → pieces ≡ bytes ∷ [] → All IsWaiting pieces
+one_waits own m bytes pieces s is = subst (All IsWaiting) (sym is) (All-one IsWaiting bytes (spelled_waits own m bytes s))
 
-pub one_waits : (m : Message) (bytes : List ℕ) (pieces : List (List ℕ)) → IsSpelled m bytes → pieces ≡ bytes ∷ [] → All IsWaiting pieces
-one_waits m bytes pieces s is = subst (All IsWaiting) (sym is) (All-one IsWaiting bytes (spelled_waits m bytes s))
+pub many_pieces : {E : Type 0} (own : ℕ) (m : Message) (bytes given : List ℕ) (r : Result (List (List ℕ)) E) → IsSpelled own m bytes → given ≡ bytes → 1453 ≤ length bytes → IfOk r (λ packets. packets ≡ packets_of given)
+    → IfOk r (λ packets. packets ≡ pieces_for (bytes_of own m))
+many_pieces own m bytes given (Ok packets) s same long is = is ∙ ap packets_of same ∙ sym (in_fragments bytes long) ∙ ap pieces_for (spelled_bytes own m bytes s)
+many_pieces own m bytes given (Err e) s same long is = tt
 
-pub many_pieces : {E : Type 0} (m : Message) (bytes given : List ℕ) (r : Result (List (List ℕ)) E) → IsSpelled m bytes → given ≡ bytes → 1453 ≤ length bytes → IfOk r (λ packets. packets ≡ packets_of given) → IfOk r (ArePieces m)
-many_pieces m bytes given (Ok packets) s same long is = (s.0, s.1, s.2, is ∙ ap packets_of same ∙ sym (in_fragments bytes long) ∙ ap pieces_for s.3)
-many_pieces m bytes given (Err e) s same long is = tt
+pub many_sendable : {E : Type 0} (own : ℕ) (m : Message) (bytes : List ℕ) (r : Result (List (List ℕ)) E) → IsPayload m → IsSpelled own m bytes → IfOk r (λ packets. IsSendable own m)
+many_sendable own m bytes (Ok packets) payload s = sendable_by own m bytes payload s
+many_sendable own m bytes (Err e) payload s = tt
 
-pub many_wait : {E : Type 0} (m : Message) (bytes given : List ℕ) (r : Result (List (List ℕ)) E) → IsSpelled m bytes → given ≡ bytes → IfOk r (λ packets. packets ≡ packets_of given) → IfOk r (All IsWaiting)
-many_wait m bytes given (Ok packets) s same is = subst (All IsWaiting) (sym is) (packets_wait given (spelled_most m bytes given s same))
-many_wait m bytes given (Err e) s same is = tt
+pub many_wait : {E : Type 0} (own : ℕ) (m : Message) (bytes given : List ℕ) (r : Result (List (List ℕ)) E) → IsSpelled own m bytes → given ≡ bytes → IfOk r (λ packets. packets ≡ packets_of given) → IfOk r (All IsWaiting)
+many_wait own m bytes given (Ok packets) s same is = subst (All IsWaiting) (sym is) (packets_wait given (spelled_most own m bytes given s same))
+many_wait own m bytes given (Err e) s same is = tt

@@ -30,7 +30,7 @@ epochs_step journal s p = up_epochs_append journal (step_entries s) p 0 ∙ fold
 -- ---- the entries that tell of a peer
 
 -- a fold goes by the elements that pass a test, where it keeps what it has at all others
-folded : {A Z : Type 0} (F : Z → A → Z) (test : A → Bool) (z : Z) (xs : List A) → ((y : Z) (x : A) → test x ≡ false → F y x ≡ y) → fold F z xs ≡ fold F z (filter test xs)
+pub folded : {A Z : Type 0} (F : Z → A → Z) (test : A → Bool) (z : Z) (xs : List A) → ((y : Z) (x : A) → test x ≡ false → F y x ≡ y) → fold F z xs ≡ fold F z (filter test xs)
 folded {A} F test z [] keeps = refl
 folded {A} F test z (x ∷ xs) keeps =
     tested (λ (ys : List A). fold F (F z x) xs ≡ fold F z ys) (test x) (x ∷ filter test xs) (filter test xs) (λ passes. folded F test (F z x) xs keeps) (λ fails. ap (λ y. fold F y xs) (keeps z x fails) ∙ folded F test z xs keeps)
@@ -47,7 +47,7 @@ epochs_keep p z other is = refl
 
 -- ---- the entries of one change
 
-abbrev contact_by : Option (ℕ × ℕ) → PairChange → Option (ℕ × ℕ)
+abbrev pub contact_by : Option (ℕ × ℕ) → PairChange → Option (ℕ × ℕ)
 contact_by z Stay = z
 contact_by z (Began own theirs numbers) = Some numbers
 contact_by z (Ended because shown numbers number) = None
@@ -64,7 +64,7 @@ both_test : (b : Bool) (x y : Option (ℕ × ℕ)) → b ≡ true → (if b && t
 both_test true x y is = refl
 both_test false x y is = absurd cc
 
-contact_goes : (p : ℕ) (z : Option (ℕ × ℕ)) (c : PairChange) → fold (contact_after (addr_of p)) z (change_entries p c) ≡ contact_by z c
+pub contact_goes : (p : ℕ) (z : Option (ℕ × ℕ)) (c : PairChange) → fold (contact_after (addr_of p)) z (change_entries p c) ≡ contact_by z c
 contact_goes p z Stay = refl
 contact_goes p z (Began own theirs numbers) = ap (λ b. if b then Some numbers else z) (same_word p)
 contact_goes p z (Ended because shown numbers number) = ap (λ b. if b then None else z) (same_word p)
@@ -75,7 +75,7 @@ epochs_go p z (Began own theirs numbers) = both_test (node_word p == node_word p
 epochs_go p z (Ended because shown numbers number) = both_test (node_word p == node_word p) None z (same_word p)
 
 -- what is told of a change is so after it
-told_contact : (e e' : LinkEnd) (c : PairChange) → Tells e e' c → contact_by (contact_of e) c ≡ contact_of e'
+pub told_contact : (e e' : LinkEnd) (c : PairChange) → Tells e e' c → contact_by (contact_of e) c ≡ contact_of e'
 told_contact e e' Stay h = sym h.0
 told_contact e e' (Began own theirs numbers) h = sym h.0
 told_contact e e' (Ended because shown numbers number) h = sym (down_contact e' h.2)

@@ -1,85 +1,112 @@
--- A node's journal tells of the node after each turn.
-use Rattle.std.proofs.Common.{◌≡◌, ◌==◌, ℕ, Bool, true, false, List, [], ◌++◌, Option, Some, None, filter, is_some, option_map, inl, inr, refl, sym, ap, ◌∙◌, subst, arith}
-use Rattle.std.specs.Prelude.{◌⊎◌, if◌then◌else◌, option_and_then}
+-- The journal tells of a node that knows nobody, of one that comes to know a peer, and of a node after each call.
+use Rattle.std.proofs.Common.{◌≡◌, ◌≤◌, ℕ, Bool, true, false, List, [], Option, Some, None, filter, map, option_map, inl, inr, refl, sym, ap, ◌∙◌, subst, arith}
+use Rattle.std.specs.Prelude.{if◌then◌else◌}
+use Rattle.std.specs.List.{All, list_all}
 use Rattle.std.proofs.lemmas.Bool.{cases_eq}
-use Rattle.std.proofs.lemmas.Bool.Decides.{nat_tests}
 use Rattle.std.proofs.lemmas.List.{get_or-set_other}
-use Rattle.tipc_types.specs.Address.{node_word}
-use Rattle.tipc_types.specs.declared.identity.Addr.{Addr}
+use Rattle.std.proofs.lemmas.List.Elements.{All-nil}
 use Rattle.tipc_types.specs.declared.link_words.LinkState.TheVariants.{ResetUnknown}
+use Rattle.tipc_types.specs.declared.node_calls.Answer.{Answer}
+use Rattle.tipc_types.specs.declared.node_calls.Answer.TheVariants as answer
+use Rattle.tipc_types.specs.declared.node_calls.By.{By}
+use Rattle.tipc_types.specs.declared.node_calls.EventNote.{EventNote}
+use Rattle.tipc_types.specs.declared.node_calls.EventNote.TheVariants as event
 use Rattle.tipc_outside.specs.declared.outgoing.Outgoing.{Outgoing}
 use Rattle.tipc_fragments.specs.Joining.{fresh}
 use Rattle.tipc_journal.specs.declared.entries.Entry.{Entry}
 use Rattle.tipc_journal.specs.declared.entries.Entry.TheVariants as entry
-use Rattle.tipc_journal.specs.Steps.{IsWhole, NodeStep, step_entries}
-use Rattle.tipc_journal.proofs.StepLaws.{IsWhole_more}
+use Rattle.tipc_journal.specs.Contacts.{contact}
+use Rattle.tipc_journal.specs.Counting.{AllAnsweredToCallers}
+use Rattle.tipc_journal.specs.Fates.{AllHaveFates}
+use Rattle.tipc_journal.specs.Licensed.{AllLicensed}
+use Rattle.tipc_journal.specs.Refusals.{is_among, sockets_made}
+use Rattle.tipc_journal.specs.Steps.{IsWhole, PlacedStep}
+use Rattle.tipc_journal.proofs.ContactLaws.{contact_nil, up_epochs_nil}
+use Rattle.tipc_journal.proofs.CountLaws.{AllAnsweredToCallers_nil, sockets_made_nil}
+use Rattle.tipc_journal.proofs.FateLaws.{AllHaveFates_nil}
+use Rattle.tipc_journal.proofs.LicenceLaws.{AllLicensed_nil}
+use Rattle.tipc_journal.proofs.StepLaws.{IsWhole_nil, steps_nil}
 use Rattle.tipc_link_fsm.specs.Table.{is_up}
 use Rattle.tipc_link.specs.Links.{LinkEnd, mended_end}
-use Rattle.tipc_pair.specs.Pairs.{contact_of}
+use Rattle.tipc_sockets.specs.Publishing.{is_at}
+use Rattle.tipc_sockets.specs.SocketTables.{AreSockets, SocketTable, no_sockets, with_socket}
+use Rattle.tipc_sockets.specs.Telling.{AreTold}
+use Rattle.tipc_sockets.proofs.Entries.{told_nil}
 use Rattle.tipc_node.specs.declared.neighbours.Neighbour.{Neighbour}
+use Rattle.tipc_node.specs.declared.neighbours.Deed.TheVariants as deed
+use Rattle.tipc_node.specs.Calls.{CanPerform, Performs}
 use Rattle.tipc_node.specs.Neighbours.{neighbour}
-use Rattle.tipc_node.specs.Nodes.{NodeState, known_node, neighbour_of, new_pair}
-use Rattle.tipc_node.specs.Telling.{IsAbreast, IsTold, TellsOf, epochs_of}
-use Rattle.tipc_node.specs.Turns.{IsPlaced, NodeTurn, is_change_of, link_in}
-use Rattle.tipc_node.proofs.Filters.{filter-none}
+use Rattle.tipc_node.specs.Nodes.{NodeState, known_node, neighbour_of, new_pair, step_of}
+use Rattle.tipc_node.specs.Sockets.{closed_work, first_answer, kept_answer, next_port, port_refusal, publication_refusal, published_work, received_work, socket_refusal, waiting_at, with_sockets_of, withdrawal_refusal, withdrawn_work}
+use Rattle.tipc_node.specs.Telling.{AllFull, ArePacked, IsAbreast, IsFull, IsTold, TellsOf, is_in_reach}
+use Rattle.tipc_node.specs.Turns.{NodeTurn, addr_of, link_in}
+use Rattle.tipc_node.specs.Works.{addr_of_word, begun, noted}
+use Rattle.tipc_node.proofs.Calling.{makes_told, receive_call, socket_call}
+use Rattle.tipc_node.proofs.Happening.{deed_told}
 use Rattle.tipc_node.proofs.Moves.{down_contact, down_epochs, unknown_abreast}
+use Rattle.tipc_node.proofs.NameCalls.{name_told}
+use Rattle.tipc_node.proofs.Naming.{close_call, publish_call, published_there, withdraw_call}
 use Rattle.tipc_node.proofs.Places.{set_either}
-use Rattle.tipc_node.proofs.Telling.{contact_changed, contact_told, epochs_changed, epochs_told}
-use Rattle.tipc_node.proofs.TurnMoves.{turn_moves}
+use Rattle.tipc_node.proofs.PortCalls.{port_told}
+use Rattle.tipc_node.proofs.Refusing.{port_refused, publication_refused, socket_refused, withdrawal_refused}
 
--- ---- a peer that is no neighbour
+-- ---- a call
 
-other_word : (n : NodeState) (b : ℕ) (word : ℕ) → neighbour_of n b ≡ None → (c : ℕ) → is_some (neighbour_of n c) ≡ true → word ≡ node_word c → (word == node_word b) ≡ false
-other_word n b word none c there is = ap (λ w. w == node_word b) is ∙ by (cases_eq c b)
-  where
-    by : (c ≡ b) ⊎ (c ≡ b → ⊥) → (node_word c == node_word b) ≡ false
-    by (inl same) = absurd (let has = ap (λ k. is_some (neighbour_of n k)) (sym same) ∙ there in let wrong : false ≡ true = sym (ap is_some none) ∙ has in cc)
-    by (inr apart) = grind (arith, nat_tests, apart)
+pub performs_told : (n n' : NodeState) (by : By) (call : EventNote) (frames : List Outgoing) (answered : Answer) → IsTold n → ArePacked n → CanPerform call → Performs n by call n' frames answered → (inside : List Entry)
+    → NodeTurn n n' [] (step_of by call inside (kept_answer answered)) frames → AreSockets n'.sockets → IsTold n'
+performs_told n n' by event.Socket frames answered h packed can performs inside t sound =
+    makes_told n n' by event.Socket (socket_refusal n.sockets) (with_sockets_of (begun n) (with_socket n.sockets (next_port n.sockets))) (begun n) (answer.Socket (next_port n.sockets)) answered inside frames h t sound
+    (socket_refused n h) (tt, tt) (λ reason. tt) refl (λ none after inner. socket_call n by h none inner) performs
+performs_told n n' by (event.Close port) frames answered h packed can performs inside t sound =
+    let w0 = noted (begun n) (map entry.Withdrawn (filter (is_at port) n.sockets.live)) in
+    makes_told n n' by (event.Close port) (port_refusal n.sockets port) (closed_work n port) w0 answer.Done answered inside frames h t sound
+    (port_refused n port h) (tt, tt) (λ reason. tt) refl (λ none after inner. close_call n by port h none inner) performs
+performs_told n n' by (event.Publish port range scope key) frames answered h packed can performs inside t sound =
+    let w = published_work n port range scope key in
+    let is = publication_refused n port range scope key h in
+    makes_told n n' by (event.Publish port range scope key) (publication_refusal n.sockets port range.kind key) w w answer.Done answered inside frames h t sound
+    is (tt, (tt, (tt, (tt, tt)))) (λ reason. tt) refl (λ none after inner. publish_call n by port range scope key h none (published_there n port range.kind key (is ∙ none)) after inner) performs
+performs_told n n' by (event.Withdraw port key) frames answered h packed can performs inside t sound =
+    let w = withdrawn_work n port key in
+    makes_told n n' by (event.Withdraw port key) (withdrawal_refusal n.sockets port key) w w answer.Done answered inside frames h t sound
+    (withdrawal_refused n port key h) (tt, (tt, tt)) (λ reason. tt) refl (λ none after inner. withdraw_call n by port key h none inner) performs
+performs_told n n' by (event.Receive port) frames answered h packed can performs inside t sound =
+    makes_told n n' by (event.Receive port) (port_refusal n.sockets port) (received_work n port) (begun n) (first_answer (waiting_at n.sockets port)) answered inside frames h t sound
+    (port_refused n port h) (tt, tt) (λ reason. tt) refl (λ none after inner. receive_call n by port h none inner) performs
+performs_told n n' by (event.SendName port kind instance importance body) frames answered h packed can performs inside t sound =
+    name_told n n' by port kind instance importance body answered inside frames h packed t sound performs
+performs_told n n' by (event.SendPort port to importance body) frames answered h packed can performs inside t sound =
+    port_told n n' by port to importance body answered inside frames h packed t sound performs
+performs_told n n' by event.Tick frames answered h packed can performs inside t sound = deed_told n n' by deed.Tick inside frames answered h t sound performs
+performs_told n n' by (event.Cut bearer) frames answered h packed can performs inside t sound =
+    deed_told n n' by deed.Cut inside frames answered h (subst (λ b. NodeTurn n n' [] (step_of by (event.Cut b) inside (kept_answer answered)) frames) can t) sound performs
+performs_told n n' by (event.Mend bearer) frames answered h packed can performs inside t sound =
+    deed_told n n' by deed.Mend inside frames answered h (subst (λ b. NodeTurn n n' [] (step_of by (event.Mend b) inside (kept_answer answered)) frames) can t) sound performs
+performs_told n n' by call frames answered h packed can performs inside t sound = absurd performs
 
-none_placed : (n : NodeState) (b : ℕ) → neighbour_of n b ≡ None → (e : Entry) → IsPlaced n e → is_change_of b e ≡ false
-none_placed n b none (entry.LinkUp peer bearer own theirs) h = other_word n b peer.word none h.0 h.1 (ap (λ (a : Addr). a.word) h.2)
-none_placed n b none (entry.LinkDown peer bearer cause shown) h = other_word n b peer.word none h.0 h.1 (ap (λ (a : Addr). a.word) h.2)
-none_placed n b none (entry.ContactUp peer numbers) h = other_word n b peer.word none h.0 h.1 (ap (λ (a : Addr). a.word) h.2)
-none_placed n b none (entry.ContactDown peer numbers states shown) h = other_word n b peer.word none h.0 h.1 (ap (λ (a : Addr). a.word) h.2)
-none_placed n b none other h = refl
+-- ---- a node that knows nobody
 
--- ---- a turn
+none_told : (p : ℕ) → TellsOf [] p None
+none_told p = record { contact_is = contact_nil (addr_of p); epochs_are = up_epochs_nil (addr_of p) 0; abreast = λ e has. absurd cc }
 
--- the journal tells of each peer after the turn what it has of it
-tells_of : (n n' : NodeState) (bytes : List ℕ) (s : NodeStep) (frames : List Outgoing) (b : ℕ) → IsTold n → NodeTurn n n' bytes s frames → TellsOf (n.journal ++ step_entries s) b (link_in n' b)
-tells_of n n' bytes s frames b told t = by (neighbour_of n b) refl
-  where
-    by : (o : Option Neighbour) → neighbour_of n b ≡ o → TellsOf (n.journal ++ step_entries s) b (link_in n' b)
-    by None is =
-        let was = told.links b in
-        let quiet : filter (is_change_of b) s.inside ≡ [] = filter-none (is_change_of b) s.inside (IsPlaced n) (none_placed n b is) t.placed in
-        let before : link_in n b ≡ None = ap (option_map (λ (x : Neighbour). x.pair.link)) is in
-        let after : link_in n' b ≡ None = ap (option_map (λ (x : Neighbour). x.pair.link)) (t.alone b is) in
-        record {
-          contact_is = contact_told n.journal s b [] quiet ∙ was.contact_is ∙ ap (option_and_then contact_of) (before ∙ sym after);
-          epochs_are = epochs_told n.journal s b [] quiet ∙ was.epochs_are ∙ ap (option_and_then epochs_of) (before ∙ sym after);
-          abreast = λ e has. absurd (let wrong : None ≡ Some e = sym after ∙ has in cc);
-        }
-    by (Some x) is =
-        let was = told.links b in
-        let at = t.turns b x is in
-        let before : link_in n b ≡ Some x.pair.link = ap (option_map (λ (y : Neighbour). y.pair.link)) is in
-        let after : link_in n' b ≡ Some at.after.pair.link = ap (option_map (λ (y : Neighbour). y.pair.link)) at.after_is in
-        let moves = turn_moves x.pair at.after.pair at.turn.opening _ at.turn.reply at.turn.own_frames (was.abreast x.pair.link before) at.turn.turn in
-        record {
-          contact_is =
-              contact_changed n.journal s b x.pair.link at.after.pair.link at.turn.turn.first.change at.turn.changes moves.tells (was.contact_is ∙ ap (option_and_then contact_of) before)
-              ∙ ap (option_and_then contact_of) (sym after);
-          epochs_are =
-              epochs_changed n.journal s b x.pair.link at.after.pair.link at.turn.turn.first.change at.turn.changes moves.tells (was.epochs_are ∙ ap (option_and_then epochs_of) before)
-              ∙ ap (option_and_then epochs_of) (sym after);
-          abreast = λ e has. (let same : at.after.pair.link ≡ e = (let both : Some at.after.pair.link ≡ Some e = sym after ∙ has in cc) in subst IsAbreast same moves.abreast);
-        }
-
-pub turn_told : (n n' : NodeState) (bytes : List ℕ) (s : NodeStep) (frames : List Outgoing) → IsTold n → NodeTurn n n' bytes s frames → IsTold n'
-turn_told n n' bytes s frames told t = record {
-  whole = subst IsWhole (sym t.journal) (IsWhole_more n.journal s told.whole t.inside);
-  links = λ b. subst (λ journal. TellsOf journal b (link_in n' b)) (sym t.journal) (tells_of n n' bytes s frames b told t);
+pub new_told : (n : NodeState) → n.sockets ≡ no_sockets n.own n.boot → AreSockets n.sockets → n.journal ≡ [] → ((peer : ℕ) → neighbour_of n peer ≡ None) → IsTold n
+new_told n none sound empty nobody = record {
+  whole = subst IsWhole (sym empty) IsWhole_nil;
+  links = λ p. subst (λ es. TellsOf es p (link_in n p)) (sym empty) (subst (TellsOf [] p) (sym (ap (option_map (λ (x : Neighbour). x.pair.link)) (nobody p))) (none_told p));
+  nobody = nobody 0;
+  alone = ap (λ es. contact es (addr_of_word n.own)) empty ∙ contact_nil (addr_of_word n.own);
+  below = λ a low. ap (λ es. contact es a) empty ∙ contact_nil a;
+  sockets = record {
+    told = λ d. subst (λ es. AreTold (addr_of_word n.own) es d [] n.sockets) (sym empty) (subst (AreTold (addr_of_word n.own) [] d []) (sym none) (told_nil (addr_of_word n.own) n.boot d));
+    sound = sound;
+    boot = ap (λ (s : SocketTable). s.ports.boot) none;
+    reached = ap (λ (s : SocketTable). list_all (is_in_reach n.own n.journal) s.names) none;
+    unmade = λ port above. ap (λ es. is_among (sockets_made es) port) empty ∙ ap (λ ps. is_among ps port) sockets_made_nil;
+  };
+  licensed = subst (AllLicensed (addr_of_word n.own)) (sym empty) (AllLicensed_nil (addr_of_word n.own));
+  answered = subst AllAnsweredToCallers (sym empty) AllAnsweredToCallers_nil;
+  fates = subst (AllHaveFates (addr_of_word n.own)) (sym empty) (AllHaveFates_nil (addr_of_word n.own));
+  full = subst AllFull (sym empty) (subst (λ (ps : List PlacedStep). All (λ p. IsFull p.step.event p.step.answer) ps) (sym steps_nil) (All-nil (λ (p : PlacedStep). IsFull p.step.event p.step.answer)));
 }
 
 -- ---- a link end is made
@@ -111,8 +138,19 @@ made_unknown n peer e there = by (neighbour_of (known_node n peer) peer) refl
         let same : x.pair.link ≡ e = (let both : Some x.pair.link ≡ Some e = sym (ap (option_map (λ (y : Neighbour). y.pair.link)) is) ∙ there in cc) in
         ap (λ (f : LinkEnd). f.fsm.state) (sym same) ∙ ap (λ (y : Neighbour). y.pair.link.fsm.state) (sym made) ∙ new n.mended
 
-pub known_told : (n : NodeState) (peer : ℕ) → neighbour_of n peer ≡ None → IsTold n → IsTold (known_node n peer)
-known_told n peer none told = record { whole = told.whole; links = links }
+pub known_told : (n : NodeState) (peer : ℕ) → 1 ≤ peer → neighbour_of n peer ≡ None → IsTold n → IsTold (known_node n peer)
+known_told n peer some none told = record {
+  whole = told.whole;
+  links = links;
+  nobody = get_or-set_other n.neighbours peer 0 _ None (λ zero_is. omega (arith, some, zero_is)) ∙ told.nobody;
+  alone = told.alone;
+  below = told.below;
+  sockets = record { told = told.sockets.told; sound = told.sockets.sound; boot = told.sockets.boot; reached = told.sockets.reached; unmade = told.sockets.unmade };
+  licensed = told.licensed;
+  answered = told.answered;
+  fates = told.fates;
+  full = told.full;
+}
   where
     links : (b : ℕ) → TellsOf n.journal b (link_in (known_node n peer) b)
     links b = elim (cases_eq b peer) [

@@ -1,5 +1,5 @@
 -- What a turn tells of a link end is so, before it and after it, and has its cause.
-use Rattle.std.proofs.Common.{◌≡◌, ◌≤◌, ◌+◌, ◌||◌, ℕ, true, false, List, [], ◌∷◌, Option, Some, None, option_map, if◌then◌else◌, refl, sym, ap, ◌∙◌, subst, arith}
+use Rattle.std.proofs.Common.{◌≡◌, ◌≤◌, ◌+◌, ◌||◌, ℕ, true, false, List, [], ◌∷◌, Option, Some, None, is_some, option_map, if◌then◌else◌, refl, sym, ap, ◌∙◌, subst, arith}
 use Rattle.tipc_types.specs.declared.link_words.BroadcastState.{BroadcastState}
 use Rattle.tipc_types.specs.declared.link_words.Why.{Why}
 use Rattle.tipc_outside.specs.declared.outgoing.Outgoing.{Outgoing}
@@ -19,7 +19,7 @@ use Rattle.tipc_pair.specs.Turns.Opening.{cuts, hears, mends, rests, ticks}
 use Rattle.tipc_node.specs.Telling.{IsAbreast, epochs_of, silence_of}
 use Rattle.tipc_node.specs.Turns.{IsTakenBy}
 use Rattle.tipc_node.proofs.ArrivalMoves.{IsAs, IsMet, arrival_met}
-use Rattle.tipc_node.proofs.Moves.{IsCutOff, IsSilenced, Tells, cut_moves, tick_moves}
+use Rattle.tipc_node.proofs.Moves.{IsCutOff, IsSilenced, Tells, cut_moves, mapped_some, tested, tick_moves}
 
 -- ---- what a turn does
 
@@ -62,7 +62,7 @@ taken_in begun last _ _ es er p by shown ignored taken reason is = taken
 
 first_moves : (x : PairState) (opening : Opening) (o : Outset) → IsAbreast x.link → Happened x opening o → TurnMoves x.link o.pair.link opening o
 first_moves x rests o abreast is = subst (FirstMoves x rests) (sym is) (record { tells = (refl, refl); abreast = abreast; moved = (refl, omega arith) })
-first_moves x mends o abreast is = subst (FirstMoves x mends) (sym is) (record { tells = (refl, refl); abreast = record { peer_is = abreast.peer_is }; moved = (refl, omega arith) })
+first_moves x mends o abreast is = subst (FirstMoves x mends) (sym is) (record { tells = (refl, refl); abreast = record { peer_is = abreast.peer_is; begun = abreast.begun }; moved = (refl, omega arith) })
 first_moves x cuts o abreast is =
     let m = cut_moves x.link abreast in
     let still : silence_of (cut_pair x.link) ≤ silence_of x.link + 0 = m.0.silence in
@@ -102,6 +102,20 @@ turn_as x x' opening messages answer frames t =
     let last = answered_as answer t.put in
     subst (λ (y : PairState). IsAs t.first.pair.link y.link t.first.pair.link.fsm) (sym t.after) (record { fsm = last.fsm ∙ put.fsm; contact = last.contact ∙ put.contact; seen = last.seen ∙ put.seen })
 
+-- and its session is one still
+puts_begun : (e : LinkEnd) (messages : List (List ℕ)) (frames : List Outgoing) (e' : LinkEnd) → PutsOnto e messages frames e' → is_some e.session ≡ true → is_some e'.session ≡ true
+puts_begun e [] frames e' h is = ap (λ (x : LinkEnd). is_some x.session) h.1 ∙ is
+puts_begun e (m ∷ messages) frames e' h is = ap (λ (x : LinkEnd). is_some x.session) h.after
+
+answered_begun : (answer : Option BroadcastState) (e : LinkEnd) → is_some e.session ≡ true → is_some (answered_by answer e).session ≡ true
+answered_begun None e is = is
+answered_begun (Some shown) e is = tested (λ (x : LinkEnd). is_some x.session ≡ true) (is_up e.fsm.state) _ _ (λ _. mapped_some _ e.session is) (λ _. is)
+
+turn_begun : (x x' : PairState) (opening : Opening) (messages : List (List ℕ)) (answer : Option BroadcastState) (frames : List Outgoing) → (t : PairTurn x opening messages answer x' frames)
+    → is_some t.first.pair.link.session ≡ true → is_some x'.link.session ≡ true
+turn_begun x x' opening messages answer frames t is =
+    ap (λ (y : PairState). is_some y.link.session) t.after ∙ answered_begun answer t.put (puts_begun t.first.pair.link messages t.put_frames t.put t.puts is)
+
 -- ---- an end that is as another was is alike
 
 as_contact : (e e' : LinkEnd) → IsAs e e' e.fsm → contact_of e' ≡ contact_of e
@@ -118,8 +132,9 @@ as_silence e e' a = ap (λ (f : Fsm). if is_up f.state then f.silent else 0) a.f
 as_up : (e e' : LinkEnd) → IsAs e e' e.fsm → is_up e'.fsm.state ≡ is_up e.fsm.state
 as_up e e' a = ap (λ (f : Fsm). is_up f.state) a.fsm
 
-as_abreast : (e e' : LinkEnd) → IsAs e e' e.fsm → IsAbreast e → IsAbreast e'
-as_abreast e e' a abreast = record {
+as_abreast : (e e' : LinkEnd) → IsAs e e' e.fsm → (is_some e.session ≡ true → is_some e'.session ≡ true) → IsAbreast e → IsAbreast e'
+as_abreast e e' a begun abreast = record {
+  begun = λ up. begun (abreast.begun (ap (λ (f : Fsm). is_up f.state) (sym a.fsm) ∙ up));
   peer_is = λ is. ap (λ (f : Fsm). f.peer) a.fsm ∙ abreast.peer_is (ap (λ (f : Fsm). is_up f.state || is_reset_reset f.state) (sym a.fsm) ∙ is) ∙ ap (λ (f : Fsm). Some f.highest) (sym a.fsm);
 }
 
@@ -145,6 +160,6 @@ turn_moves x x' opening messages answer frames abreast t =
     let same = turn_as x x' opening messages answer frames t in
     record {
       tells = as_tells x.link e x'.link t.first.change same first.tells;
-      abreast = as_abreast e x'.link same first.abreast;
+      abreast = as_abreast e x'.link same (turn_begun x x' opening messages answer frames t) first.abreast;
       moved = as_moved x.link e x'.link opening t.first (as_silence e x'.link same) first.moved;
     }

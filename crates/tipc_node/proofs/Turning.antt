@@ -1,11 +1,7 @@
--- How a turn of a node is put together: from the turns at its neighbours, at most of which nothing happens.
-use Rattle.std.proofs.Common.{◌≡◌, ◌≢◌, ℕ, Bool, List, [], ◌++◌, Option, Some, None, filter, inl, inr, refl, sym, ap, ◌∙◌, subst, arith}
-use Rattle.std.specs.Prelude.{slice_index_or, slice_set}
-use Rattle.std.proofs.lemmas.Bool.{cases_eq}
-use Rattle.std.proofs.lemmas.List.{get_or-set_other}
+-- How a turn of a node is put together from what happened first at each pair and from a run of work.
+use Rattle.std.proofs.Common.{◌≡◌, ℕ, Bool, List, [], ◌++◌, None, filter, is_some, refl, sym, ap, ◌∙◌, subst, append-nil, arith}
+use Rattle.std.specs.List.{All}
 use Rattle.std.proofs.lemmas.List.Elements.{All-nil}
-use Rattle.tipc_types.specs.declared.link_words.BroadcastState.{BroadcastState}
-use Rattle.tipc_types.specs.declared.message_forms.Message.{Message}
 use Rattle.tipc_types.specs.declared.node_calls.Answer.{Answer}
 use Rattle.tipc_types.specs.declared.node_calls.Answer.TheVariants as answer
 use Rattle.tipc_types.specs.declared.node_calls.Arrival.{Arrival}
@@ -13,16 +9,19 @@ use Rattle.tipc_types.specs.declared.node_calls.By.{By}
 use Rattle.tipc_types.specs.declared.node_calls.EventNote.{EventNote}
 use Rattle.tipc_outside.specs.declared.outgoing.Outgoing.{Outgoing}
 use Rattle.tipc_header.specs.Spelling.{Fields}
-use Rattle.tipc_journal.specs.Steps.{NodeStep}
+use Rattle.tipc_journal.specs.declared.entries.Entry.{Entry}
+use Rattle.tipc_journal.specs.Steps.{IsInside, NodeStep}
 use Rattle.tipc_pair.specs.declared.changes.PairChange.TheVariants.{Stay}
 use Rattle.tipc_pair.specs.Partners.{PairState, pair_state}
-use Rattle.tipc_pair.specs.Turns.{Happened, IsShowable, Opening, Outset, ShowsAtLast, ShowsIn, answered_by, answers_by, called}
+use Rattle.tipc_pair.specs.Turns.{Happened, IsShowable, Opening, Outset, ShowsIn, called}
 use Rattle.tipc_pair.specs.Turns.Opening.{rests}
 use Rattle.tipc_node.specs.declared.neighbours.Neighbour.{Neighbour}
+use Rattle.tipc_node.specs.Messages.{IsSendable}
 use Rattle.tipc_node.specs.Neighbours.{no_broadcast}
-use Rattle.tipc_node.specs.Nodes.{NodeState, change_entries, neighbour_of, recorded, step_of, with_inboxes}
-use Rattle.tipc_node.specs.Turns.{IsBrought, IsFrom, IsPlaced, IsRouted, IsSendable, IsTakenBy, IsTakenIn, NeighbourTurn, NodeTurn, PeerTurn, Suits, frames_to, given_entries, is_accepted_for, is_change_of, is_delivered_from}
-use Rattle.tipc_node.proofs.Places.{set_there}
+use Rattle.tipc_node.specs.Nodes.{NodeState, change_entries, step_of}
+use Rattle.tipc_node.specs.Turns.{AreNamed, IsBrought, IsFrom, IsPlaced, IsTakenBy, IsTakenIn, NodeTurn, PeerTurn, Suits, frames_to, given_entries, is_accepted_for, is_change_of, is_delivered_from}
+use Rattle.tipc_node.specs.Works.{Work, begun, concluded}
+use Rattle.tipc_node.proofs.Runs.{IsRun, RunAt, Runs, StandFor, accepted_now}
 
 -- what a node shows of broadcast fits its places
 pub shows_none : (in_step : Bool) → IsShowable (no_broadcast in_step)
@@ -33,128 +32,117 @@ abbrev pub IsUntaken : Answer → Type 0
 IsUntaken (answer.Arrived answered) = IsTakenIn answered → ⊥
 IsUntaken other = Unit {0}
 
-pub not_taken : (kept : Answer) (answered : Arrival) → IsUntaken kept → kept ≡ answer.Arrived answered → IsTakenIn answered → ⊥
+not_taken : (kept : Answer) (answered : Arrival) → IsUntaken kept → kept ≡ answer.Arrived answered → IsTakenIn answered → ⊥
 not_taken kept answered untaken is = subst IsUntaken is untaken
 
 -- ---- a peer to which no message is put
 
--- what happens first at the pair to node b in a step, which tells of it; the STATE that is due then may be sent
-pub record Opens (bytes : List ℕ) (s : NodeStep) (frames : List Outgoing) (b : ℕ) (x : PairState) (opening : Opening) (o : Outset) (reply : Option BroadcastState) : Type 0 where
+-- what happens first at the pair to node b in a step, which tells of it
+pub record Opens (bytes : List ℕ) (s : NodeStep) (frames : List Outgoing) (b : ℕ) (x : PairState) (opening : Opening) (o : Outset) : Type 0 where
   pub suits : Suits s.event opening
   pub brought : IsBrought b bytes opening
   pub shows : ShowsIn opening
-  pub shows_last : ShowsAtLast reply
   pub happened : Happened x opening o
-  pub frames_are : frames_to b frames ≡ o.frames ++ answers_by reply o.pair.link
+  pub frames_are : frames_to b frames ≡ o.frames
   pub changes : filter (is_change_of b) s.inside ≡ change_entries b o.change
   pub accepted : filter (is_accepted_for b) s.inside ≡ []
   pub delivered : filter (is_delivered_from b) s.inside ≡ given_entries b o.pair.link o.given
   pub taken : (answered : Arrival) (es er : ℕ) (p : Fields) → s.answer ≡ answer.Arrived answered → IsTakenIn answered → IsFrom b bytes es er p → IsTakenBy opening o.given
 
-pub opens_turn : (own : ℕ) (bytes : List ℕ) (s : NodeStep) (frames : List Outgoing) (b : ℕ) (x : PairState) (opening : Opening) (o : Outset) (reply : Option BroadcastState) → Opens bytes s frames b x opening o reply
-    → PeerTurn own bytes s frames b x (pair_state (answered_by reply o.pair.link) o.pair.begun)
-opens_turn own bytes s frames b x opening o reply h = record {
+pub opens_turn : (own : ℕ) (bytes : List ℕ) (s : NodeStep) (frames : List Outgoing) (b : ℕ) (x : PairState) (opening : Opening) (o : Outset) → Opens bytes s frames b x opening o
+    → PeerTurn own bytes s frames b x (pair_state o.pair.link o.pair.begun)
+opens_turn own bytes s frames b x opening o h = record {
   opening = opening;
   suits = h.suits;
   brought = h.brought;
   shows = h.shows;
   messages = [];
-  sendable = All-nil IsSendable;
-  origin = All-nil _;
-  reply = reply;
-  shows_last = h.shows_last;
-  own_frames = o.frames ++ answers_by reply o.pair.link;
+  sendable = All-nil (IsSendable own);
+  reply = None;
+  shows_last = tt;
+  own_frames = o.frames ++ [];
   turn = record { first = o; happened = h.happened; put_frames = []; put = o.pair.link; puts = (refl, refl); after = refl; frames_are = refl };
-  frames_are = h.frames_are;
+  frames_are = h.frames_are ∙ sym (append-nil o.frames);
   changes = h.changes;
   accepted = h.accepted;
   delivered = h.delivered;
   taken = h.taken;
 }
 
--- a step that tells nothing of node b
-pub record IsQuietOf (bytes : List ℕ) (s : NodeStep) (frames : List Outgoing) (b : ℕ) : Type 0 where
-  pub frames_are : frames_to b frames ≡ []
-  pub changes : filter (is_change_of b) s.inside ≡ []
-  pub accepted : filter (is_accepted_for b) s.inside ≡ []
+-- ---- a peer at which nothing else happens but a run of work
+
+-- what a step tells of it is what the run noted, and the frames for it are the run's
+pub record IsRested (bytes : List ℕ) (s : NodeStep) (frames : List Outgoing) (b : ℕ) (es : List Entry) (own_frames : List Outgoing) : Type 0 where
+  pub frames_are : frames_to b frames ≡ frames_to b own_frames
+  pub changes : filter (is_change_of b) s.inside ≡ filter (is_change_of b) es
+  pub accepted : filter (is_accepted_for b) s.inside ≡ filter (is_accepted_for b) es
   pub delivered : filter (is_delivered_from b) s.inside ≡ []
   pub taken : (answered : Arrival) (es er : ℕ) (p : Fields) → s.answer ≡ answer.Arrived answered → IsTakenIn answered → IsFrom b bytes es er p → ⊥
 
--- the node rests at the pair to it
-pub rests_turn : (own : ℕ) (bytes : List ℕ) (s : NodeStep) (frames : List Outgoing) (b : ℕ) (x : PairState) → IsQuietOf bytes s frames b → PeerTurn own bytes s frames b x x
-rests_turn own bytes s frames b x h = opens_turn own bytes s frames b x rests (called x x.link [] Stay) None (record {
+pub rests_turn : (own : ℕ) (bytes : List ℕ) (s : NodeStep) (frames : List Outgoing) (b : ℕ) (es : List Entry) (own_frames : List Outgoing) (x x' : Neighbour)
+    → IsRested bytes s frames b es own_frames → RunAt own b es own_frames x x' → PeerTurn own bytes s frames b x.pair x'.pair
+rests_turn own bytes s frames b es own_frames x x' h run = record {
+  opening = rests;
   suits = tt;
   brought = tt;
   shows = tt;
+  messages = run.messages;
+  sendable = run.sendable;
+  reply = None;
   shows_last = tt;
-  happened = refl;
-  frames_are = h.frames_are;
-  changes = h.changes;
-  accepted = h.accepted;
+  own_frames = frames_to b own_frames ++ [];
+  turn = record {
+    first = called x.pair x.pair.link [] Stay;
+    happened = refl;
+    put_frames = frames_to b own_frames;
+    put = x'.pair.link;
+    puts = run.puts;
+    after = ap (pair_state x'.pair.link) run.begun;
+    frames_are = refl;
+  };
+  frames_are = h.frames_are ∙ sym (append-nil (frames_to b own_frames));
+  changes = h.changes ∙ run.changes;
+  accepted = h.accepted ∙ accepted_now own b es own_frames x x' run;
   delivered = h.delivered;
   taken = h.taken;
-})
+}
 
--- ---- a step at no peer
+-- ---- a step that is a run of work
 
--- a step that tells of no peer, in which no frame leaves; sockets may change
-pub rested : (n : NodeState) (by : By) (note : EventNote) (bytes : List ℕ) (kept : Answer) (inboxes : List (List Message)) → IsUntaken kept
-    → NodeTurn n (recorded (with_inboxes n inboxes) by note [] kept) bytes (step_of by note [] kept) []
-rested n by note bytes kept inboxes untaken = record {
+pub named_stand : (n : NodeState) → AreNamed n → StandFor n n.neighbours
+named_stand n named = record { named = named; within = λ b x is. ap is_some is }
+
+runs_turn : (n : NodeState) (by : By) (note : EventNote) (bytes : List ℕ) (kept : Answer) (w : Work) (es : List Entry) (frames : List Outgoing) → IsUntaken kept → Runs n (begun n) es [] frames w
+    → NodeTurn n (concluded n by note w kept) bytes (step_of by note w.inside kept) frames
+runs_turn n by note bytes kept w es frames untaken h = record {
   own = refl;
   boot = refl;
   journal = refl;
-  inside = refl;
-  turns = λ b x there. record {
-    after = x;
-    after_is = there;
-    turn = rests_turn n.own bytes (step_of by note [] kept) [] b x.pair (record {
+  inside = subst IsInside (sym h.inside_is) h.inside;
+  turns = λ b x there. (let at = h.at b x there in record {
+    after = at.now;
+    after_is = at.now_is;
+    turn = rests_turn n.own bytes (step_of by note w.inside kept) frames b es frames x at.now (record {
       frames_are = refl;
-      changes = refl;
-      accepted = refl;
-      delivered = refl;
+      changes = ap (filter (is_change_of b)) h.inside_is;
+      accepted = ap (filter (is_accepted_for b)) h.inside_is;
+      delivered = ap (filter (is_delivered_from b)) h.inside_is ∙ h.delivered b;
       taken = λ answered es er p is taken from. not_taken kept answered untaken is taken;
-    });
-  };
-  alone = λ b none. none;
-  routed = All-nil (IsRouted n);
-  placed = All-nil (IsPlaced n);
+    }) at.run;
+  });
+  alone = h.alone;
+  routed = h.routed;
+  placed = subst (All (IsPlaced n)) (sym h.inside_is) h.placed;
 }
 
--- ---- a step at one peer
+-- a step of a node was a turn of it in which such entries were recorded
+abbrev pub IsTurn : NodeState → NodeState → By → EventNote → List ℕ → List Outgoing → Answer → Type 0
+IsTurn n n' by note bytes frames kept = (inside : List Entry) × NodeTurn n n' bytes (step_of by note inside kept) frames
 
--- another neighbour stands at a peer's number, and a turn at that peer made it of the one that stood there; the step is quiet of the others
-pub record TurnsAt (n n' : NodeState) (bytes : List ℕ) (s : NodeStep) (frames : List Outgoing) (peer : ℕ) (x after : Neighbour) : Type 0 where
-  pub was : neighbour_of n peer ≡ Some x
-  pub neighbours : n'.neighbours ≡ slice_set n.neighbours peer (Some after)
-  pub turn : PeerTurn n.own bytes s frames peer x.pair after.pair
-  pub others : (b : ℕ) → b ≢ peer → IsQuietOf bytes s frames b
+pub run_turn : (n : NodeState) (by : By) (note : EventNote) (bytes : List ℕ) (kept : Answer) (w : Work) (frames : List Outgoing) → IsUntaken kept → IsRun n (begun n) [] frames w
+    → IsTurn n (concluded n by note w kept) by note bytes frames kept
+run_turn n by note bytes kept w frames untaken h = (w.inside, runs_turn n by note bytes kept w h.noted frames untaken h.runs)
 
-other_stays : (n n' : NodeState) (peer b : ℕ) (after : Neighbour) → n'.neighbours ≡ slice_set n.neighbours peer (Some after) → b ≢ peer → neighbour_of n' b ≡ neighbour_of n b
-other_stays n n' peer b after is other = ap (λ xs. slice_index_or xs b None) is ∙ get_or-set_other n.neighbours peer b (Some after) None other
-
-pub turns_at : (n n' : NodeState) (bytes : List ℕ) (s : NodeStep) (frames : List Outgoing) (peer : ℕ) (x after : Neighbour) → TurnsAt n n' bytes s frames peer x after
-    → (b : ℕ) (y : Neighbour) → neighbour_of n b ≡ Some y → NeighbourTurn n n' bytes s frames b y
-turns_at n n' bytes s frames peer x after h b y there =
-    elim (cases_eq b peer) [
-      | inl here ↦
-          let same : x ≡ y = (let both : Some x ≡ Some y = sym h.was ∙ sym (ap (neighbour_of n) here) ∙ there in cc) in
-          subst (λ k. NeighbourTurn n n' bytes s frames k y) (sym here) (subst (λ z. NeighbourTurn n n' bytes s frames peer z) same (record {
-            after = after;
-            after_is = ap (λ xs. slice_index_or xs peer None) h.neighbours ∙ set_there n.neighbours peer x after h.was;
-            turn = h.turn;
-          }))
-      | inr other ↦ record {
-        after = y;
-        after_is = other_stays n n' peer b after h.neighbours other ∙ there;
-        turn = rests_turn n.own bytes s frames b y.pair (h.others b other);
-      }
-    ]
-
-pub alone_at : (n n' : NodeState) (bytes : List ℕ) (s : NodeStep) (frames : List Outgoing) (peer : ℕ) (x after : Neighbour) → TurnsAt n n' bytes s frames peer x after
-    → (b : ℕ) → neighbour_of n b ≡ None → neighbour_of n' b ≡ None
-alone_at n n' bytes s frames peer x after h b none =
-    elim (cases_eq b peer) [
-      | inl here ↦ absurd (let wrong : Some x ≡ None = sym h.was ∙ sym (ap (neighbour_of n) here) ∙ none in cc)
-      | inr other ↦ other_stays n n' peer b after h.neighbours other ∙ none
-    ]
+pub turn_as : (n n' m : NodeState) (by : By) (note : EventNote) (bytes : List ℕ) (frames gs : List Outgoing) (kept k : Answer) → n' ≡ m → frames ≡ gs → kept ≡ k → IsTurn n m by note bytes gs k → IsTurn n n' by note bytes frames kept
+turn_as n n' m by note bytes frames gs kept k node out given t =
+    subst (λ j. IsTurn n j by note bytes frames kept) (sym node) (subst (λ fs. IsTurn n m by note bytes fs kept) (sym out) (subst (λ a. IsTurn n m by note bytes gs a) (sym given) t))

@@ -1,84 +1,131 @@
 -- What each call makes of a node, exactly: the node after it, the frames that leave, and the answer.
-use Rattle.std.specs.Prelude.{◌≡◌, ◌≤◌, ◌<◌, ◌^◌, ℕ, true, List, [], None, Some, is_some}
-use Rattle.tipc_types.specs.Address.{node_word}
+use Rattle.std.specs.Prelude.{◌≡◌, ◌≢◌, ◌==◌, ℕ, true, false, nat_le, if◌then◌else◌, List, [], Option, None, Some, length, slice_get}
+use Rattle.tipc_types.specs.declared.identity.Addr.{Addr}
 use Rattle.tipc_types.specs.declared.identity.PortId.{PortId}
-use Rattle.tipc_types.specs.declared.link_words.Why.{Why}
 use Rattle.tipc_types.specs.declared.message_forms.Importance.{Importance}
 use Rattle.tipc_types.specs.declared.message_forms.Message.{Message}
 use Rattle.tipc_types.specs.declared.node_calls.Answer.{Answer}
 use Rattle.tipc_types.specs.declared.node_calls.Answer.TheVariants as answer
-use Rattle.tipc_types.specs.declared.node_calls.Arrival.{Arrival}
-use Rattle.tipc_types.specs.declared.node_calls.Arrival.TheVariants as arrival
 use Rattle.tipc_types.specs.declared.node_calls.By.{By}
 use Rattle.tipc_types.specs.declared.node_calls.EventNote.{EventNote}
-use Rattle.tipc_types.specs.declared.node_calls.EventNote.TheVariants.{Socket, Receive, SendPort, Arrive, Tick, Cut, Mend}
+use Rattle.tipc_types.specs.declared.node_calls.EventNote.TheVariants.{Socket, Close, Publish, Withdraw, SendName, SendPort, Receive, Tick, Cut, Mend}
+use Rattle.tipc_types.specs.declared.services.Publication.{Publication}
 use Rattle.tipc_outside.specs.declared.outgoing.Outgoing.{Outgoing}
 use Rattle.tipc_outside.specs.Frames.{Adds, Out}
-use Rattle.tipc_header.specs.Frames.{frame_of}
-use Rattle.tipc_header.specs.Grammar.{Fits}
-use Rattle.tipc_header.specs.Spelling.{Fields, spelling}
-use Rattle.tipc_message.specs.Wire.{packet_of}
 use Rattle.tipc_journal.specs.declared.entries.Entry.{Entry}
-use Rattle.tipc_fragments.specs.Joining.{Joining}
-use Rattle.tipc_link.specs.Sessions.{SessionEnd, IsPut, flush_frames}
-use Rattle.tipc_pair.specs.declared.changes.PairOutcome.{PairOutcome}
-use Rattle.tipc_pair.specs.Pairs.{Met}
-use Rattle.tipc_pair.specs.Partners.{OpensTo, begun_after, pieces_for}
+use Rattle.tipc_journal.specs.Dues.{comes_home}
+use Rattle.tipc_journal.specs.Licensed.{IsPickedOf}
+use Rattle.tipc_journal.specs.Refusals.{longest_body}
+use Rattle.tipc_link.specs.Sessions.{SessionEnd}
+use Rattle.tipc_sockets.specs.SocketTables.{has_port, with_socket}
 use Rattle.tipc_node.specs.declared.neighbours.Deed.{Deed}
 use Rattle.tipc_node.specs.declared.neighbours.Deed.TheVariants as deed
-use Rattle.tipc_node.specs.declared.neighbours.Neighbour.{Neighbour}
-use Rattle.tipc_node.specs.Neighbours.{heard_frames, met_by}
-use Rattle.tipc_node.specs.Nodes.{NodeState, arrival_answer, arrival_deliveries, deed_node, direct, frames_all, heard_node, kept_answer, limit_of, neighbour_of, receive_answer, receive_node, recorded, refusal, sent_node, session_with, socket_answer, socket_node, step_of, stop_of, stopped_node}
+use Rattle.tipc_node.specs.Messages.{destination_of, direct, limit_of, named}
+use Rattle.tipc_node.specs.Nodes.{NodeState, after_all, deed_note, entries_all, frames_all, mended_by, recorded, session_with, step_of, with_mended}
+use Rattle.tipc_node.specs.Sockets.{closed_work, first_answer, found_at, kept_answer, next_port, port_refusal, publication_refusal, published_work, received_work, socket_refusal, waiting_at, with_sockets_of, withdrawal_refusal, withdrawn_work}
 use Rattle.tipc_node.specs.Telling.{IsTold}
 use Rattle.tipc_node.specs.Turns.{NodeTurn}
+use Rattle.tipc_node.specs.Works.{GoesAway, Settles, Work, addr_of_word, begun, concluded, neighbour_at, noted}
 
--- ---- a message to a port
+-- A call that sends nothing is refused for this reason, where there is one; else it makes this of the node.
+abbrev pub Makes : NodeState → By → EventNote → Option Answer → Work → Answer → NodeState → List Outgoing → Answer → Type 0
+Makes n by event (Some reason) w given n' frames answered = (n' ≡ recorded n by event [] reason) × (frames ≡ []) × (answered ≡ reason)
+Makes n by event None w given n' frames answered = (n' ≡ concluded n by event w (kept_answer given)) × (frames ≡ []) × (answered ≡ given)
 
--- A message was put on the link to a peer, in the packets that it takes, and these frames left.
-pub record IsSent (n n' : NodeState) (by : By) (note : EventNote) (peer : ℕ) (m : Message) (frames : List Outgoing) : Type 0 where
-  pub neighbour : Neighbour
-  pub was : neighbour_of n peer ≡ Some neighbour
-  pub session : SessionEnd
-  pub session_is : session_with (Some neighbour) ≡ Some session
-  pub packet : Fields
-  pub packet_is : packet_of m ≡ Some packet
-  pub fits : Fits packet
-  pub put : SessionEnd
-  pub put_is : IsPut session (pieces_for (spelling packet)) put
-  pub after : n' ≡ sent_node n by note peer neighbour put m
-  pub frames_are : frames ≡ flush_frames put
+-- ---- messages
 
--- a message was to be sent to a port of a peer: it was refused, or put
+-- the sending port isn't there, or the body is too long
+abbrev pub sender_refusal : NodeState → ℕ → List ℕ → Option Answer
+sender_refusal n port body =
+    if has_port n.sockets port then (if nat_le (length body) longest_body then None else Some (answer.TooLong (length body))) else Some answer.NoSocket
+
+-- there is no contact, or as many packets wait on the link as may before a message of this importance
+abbrev pub link_refusal : Option SessionEnd → ℕ → Option Answer
+link_refusal None limit = Some answer.NoNode
+link_refusal (Some s) limit =
+    if nat_le limit (length s.sending.waiting) then Some (answer.Congested (length s.sending.unacked) (length s.sending.waiting)) else None
+
+-- a message for the own node needs no link
+abbrev pub way_refusal : NodeState → Addr → ℕ → Option Answer
+way_refusal n node limit = if node.word == n.own then None else link_refusal (session_with (neighbour_at n.neighbours node)) limit
+
+-- A message of the node's goes its way: for the own node it has its fate here, and for another one it is accepted.
+pub record Goes (own : ℕ) (w : Work) (m : Message) (w' : Work) (frames : List Outgoing) : Type 0 where
+  pub home : comes_home (addr_of_word own) m ≡ true → Settles own w false m w' frames
+  pub away : comes_home (addr_of_word own) m ≡ false → GoesAway own w m w' frames
+
+-- a message that nothing speaks against but its way: it is refused there, or goes it
+pub record SendsTo (n n' : NodeState) (by : By) (event : EventNote) (m : Message) (limit : ℕ) (sent : Answer) (frames : List Outgoing) (answered : Answer) : Type 0 where
+  pub refused : (reason : Answer) → way_refusal n (destination_of m) limit ≡ Some reason
+      → (n' ≡ recorded n by event [] reason) × (frames ≡ []) × (answered ≡ reason)
+  pub goes : way_refusal n (destination_of m) limit ≡ None
+      → (w : Work) × Goes n.own (begun n) m w frames × (n' ≡ concluded n by event w sent) × (answered ≡ sent)
+
+-- a message to a port
 pub record Sends (n n' : NodeState) (by : By) (port : ℕ) (to : PortId) (importance : Importance) (body : List ℕ) (frames : List Outgoing) (answered : Answer) : Type 0 where
-  pub peer : ℕ
-  pub named : to.node.word ≡ node_word peer
-  pub refused : (reason : Answer) → refusal n port peer (limit_of importance) body ≡ Some reason
+  pub refused : (reason : Answer) → sender_refusal n port body ≡ Some reason
       → (n' ≡ recorded n by (SendPort port to importance body) [] reason) × (frames ≡ []) × (answered ≡ reason)
-  pub sent : refusal n port peer (limit_of importance) body ≡ None
-      → IsSent n n' by (SendPort port to importance body) peer (direct n.own port to importance body) frames
-      × (answered ≡ answer.Sent)
+  pub sends : sender_refusal n port body ≡ None
+      → SendsTo n n' by (SendPort port to importance body) (direct n.own port to importance body) (limit_of importance) answer.Sent frames answered
+
+-- the publication at a place of those that a name found, to which a message by name goes
+pub record IsFound (n : NodeState) (kind instance : ℕ) (p : Publication) : Type 0 where
+  pub place : ℕ
+  pub is : slice_get (found_at n kind instance) place ≡ Some p
+
+-- a message by name: there is no such name, or it goes to one of those that the name finds
+pub record SendsByName (n n' : NodeState) (by : By) (port kind instance : ℕ) (importance : Importance) (body : List ℕ) (frames : List Outgoing) (answered : Answer) : Type 0 where
+  pub refused : (reason : Answer) → sender_refusal n port body ≡ Some reason
+      → (n' ≡ recorded n by (SendName port kind instance importance body) [] reason) × (frames ≡ []) × (answered ≡ reason)
+  pub unnamed : sender_refusal n port body ≡ None → found_at n kind instance ≡ []
+      → (n' ≡ recorded n by (SendName port kind instance importance body) [] answer.NoName) × (frames ≡ []) × (answered ≡ answer.NoName)
+  pub sends : sender_refusal n port body ≡ None → found_at n kind instance ≢ []
+      → (p : Publication) × IsFound n kind instance p
+      × SendsTo n n' by (SendName port kind instance importance body) (named n.own port p.at kind instance importance body) (limit_of importance) (answer.SentTo p.at) frames answered
+
+-- where a call was answered as sent by name, the message went to the place that the pick gives for the turn, of those that the name found
+abbrev pub IsPickedFrom : (ℕ → ℕ → ℕ → Type 0) → ℕ → NodeState → EventNote → Answer → Type 0
+IsPickedFrom gives turn n (SendName port kind instance importance body) answered = IsPickedOf gives turn (found_at n kind instance) answered
+IsPickedFrom gives turn n other answered = Unit {0}
 
 -- ---- a call of a user, of the clock, or of a bearer
 
+-- the work on what happens to all neighbours alike
+abbrev pub deed_work : Deed → NodeState → Work
+deed_work d n = noted (record { neighbours = after_all d n.neighbours; sockets = n.sockets; inside = [] }) (entries_all d 0 n.neighbours)
+
 -- something happened to all neighbours alike
 abbrev pub TakesPart : NodeState → By → Deed → NodeState → List Outgoing → Answer → Type 0
-TakesPart n by d n' frames answered = (n' ≡ deed_node n by d) × (frames ≡ frames_all d n.neighbours) × (answered ≡ answer.Done)
+TakesPart n by d n' frames answered = (n' ≡ concluded (with_mended n (mended_by d n.mended)) by (deed_note d) (deed_work d n) answer.Done)
+    × (frames ≡ frames_all d n.neighbours) × (answered ≡ answer.Done)
 
 abbrev pub Performs : NodeState → By → EventNote → NodeState → List Outgoing → Answer → Type 0
-Performs n by Socket n' frames answered = (n' ≡ socket_node n by) × (frames ≡ []) × (answered ≡ socket_answer n)
-Performs n by (Receive port) n' frames answered = (n' ≡ receive_node n by port) × (frames ≡ []) × (answered ≡ receive_answer n port)
+Performs n by Socket n' frames answered =
+    Makes n by Socket (socket_refusal n.sockets) (with_sockets_of (begun n) (with_socket n.sockets (next_port n.sockets))) (answer.Socket (next_port n.sockets)) n' frames answered
+Performs n by (Close port) n' frames answered =
+    Makes n by (Close port) (port_refusal n.sockets port) (closed_work n port) answer.Done n' frames answered
+Performs n by (Publish port range scope key) n' frames answered =
+    Makes n by (Publish port range scope key) (publication_refusal n.sockets port range.kind key) (published_work n port range scope key) answer.Done n' frames answered
+Performs n by (Withdraw port key) n' frames answered =
+    Makes n by (Withdraw port key) (withdrawal_refusal n.sockets port key) (withdrawn_work n port key) answer.Done n' frames answered
+Performs n by (SendName port kind instance importance body) n' frames answered = SendsByName n n' by port kind instance importance body frames answered
 Performs n by (SendPort port to importance body) n' frames answered = Sends n n' by port to importance body frames answered
+Performs n by (Receive port) n' frames answered =
+    Makes n by (Receive port) (port_refusal n.sockets port) (received_work n port) (first_answer (waiting_at n.sockets port)) n' frames answered
 Performs n by Tick n' frames answered = TakesPart n by deed.Tick n' frames answered
 Performs n by (Cut bearer) n' frames answered = TakesPart n by deed.Cut n' frames answered
 Performs n by (Mend bearer) n' frames answered = TakesPart n by deed.Mend n' frames answered
 Performs n by other n' frames answered = ⊥
 
--- What a call needs of its arguments: a message goes to another of the 32 nodes, and what is mended or cut is bearer 0. The other calls
--- aren't built yet, and an arrival isn't performed.
+-- What a call needs of its arguments: what is mended or cut is bearer 0. The other calls aren't built yet, and an arrival isn't performed.
 abbrev pub CanPerform : EventNote → Type 0
 CanPerform Socket = Unit {0}
+CanPerform (Close port) = Unit {0}
+CanPerform (Publish port range scope key) = Unit {0}
+CanPerform (Withdraw port key) = Unit {0}
+CanPerform (SendName port kind instance importance body) = Unit {0}
+CanPerform (SendPort port to importance body) = Unit {0}
 CanPerform (Receive port) = Unit {0}
-CanPerform (SendPort port to importance body) = (m : ℕ) × (1 ≤ m) × (m ≤ 32) × (to.node.word ≡ node_word m)
 CanPerform Tick = Unit {0}
 CanPerform (Cut bearer) = bearer ≡ 0
 CanPerform (Mend bearer) = bearer ≡ 0
@@ -97,48 +144,4 @@ pub record Performed (n : NodeState) (by : By) (call : EventNote) (n' : NodeStat
   pub frames : List Outgoing
   pub performs : Performs n by call n' frames answered
   pub turn : CallTurn n n' by call [] (kept_answer answered) frames
-  pub adds : Adds box box' frames
-
--- ---- an arrival
-
--- a frame brings a packet, under an envelope of two numbers, that is due at the link of its sender, the peer of that number
-pub record IsDue (n : NodeState) (bytes : List ℕ) (peer first second : ℕ) (p : Fields) : Type 0 where
-  pub range : (1 ≤ peer) × (peer ≤ 32)
-  pub first_fits : first < 2 ^ 64
-  pub second_fits : second < 2 ^ 64
-  pub fits : Fits p
-  pub opened : bytes ≡ frame_of first second (spelling p)
-  pub previous : p.previous ≡ node_word peer
-  pub there : is_some (neighbour_of n peer) ≡ true
-
--- The frame of that number brought a packet of a peer. What the link made of it was opened, and delivered, and the STATE that was due
--- left last.
-pub record Hears (n n' : NodeState) (by : By) (number : ℕ) (bytes : List ℕ) (frames : List Outgoing) (answered : Arrival) : Type 0 where
-  pub peer : ℕ
-  pub first : ℕ
-  pub second : ℕ
-  pub packet : Fields
-  pub due : IsDue n bytes peer first second packet
-  pub neighbour : Neighbour
-  pub was : neighbour_of n peer ≡ Some neighbour
-  pub met : Met
-  pub met_is : met ≡ met_by neighbour first second packet number
-  pub out : PairOutcome
-  pub last : Joining
-  pub opens : OpensTo (begun_after met.change neighbour.pair.begun) met.outcome out last
-  pub after : n' ≡ heard_node n by number peer neighbour packet met out last
-  pub frames_are : frames ≡ heard_frames neighbour packet met
-  pub answer_is : answered ≡ arrival_answer out (arrival_deliveries peer met.after out)
-
--- a frame arrived on a bearer: it reached no link, or it brought a packet
-pub record Arrives (n n' : NodeState) (by : By) (bearer number : ℕ) (bytes : List ℕ) (frames : List Outgoing) (answered : Arrival) : Type 0 where
-  pub stopped : (reason : Why) → stop_of n bearer bytes ≡ Some reason
-      → (n' ≡ stopped_node n by bearer number reason) × (frames ≡ []) × (answered ≡ arrival.Ignored reason)
-  pub heard : stop_of n bearer bytes ≡ None → Hears n n' by number bytes frames answered
-
--- it arrived, and what left is in the box
-pub record Arrived (n : NodeState) (by : By) (bearer number : ℕ) (bytes : List ℕ) (n' : NodeState) (box box' : Out) (answered : Arrival) : Type 0 where
-  pub frames : List Outgoing
-  pub arrives : Arrives n n' by bearer number bytes frames answered
-  pub turn : CallTurn n n' by (Arrive bearer number) bytes (answer.Arrived answered) frames
   pub adds : Adds box box' frames

@@ -1,8 +1,13 @@
 pub mod Limits
-pub mod Inboxes
+pub mod Messages
 pub mod Neighbours
 pub mod Nodes
-pub mod Calls
-pub mod Deliveries
+pub mod Works
+pub mod Sockets
 pub mod Turns
 pub mod Telling
+pub mod Calls
+pub mod Arrivals
+pub mod Deliveries
+pub mod Drafts
+pub mod Sure

@@ -69,9 +69,10 @@ is_given other = false
 abbrev pub in_step_after : Neighbour → Fields → Met → Bool
 in_step_after x p m = stays_in_step x.in_step m.change || (is_state p.header && is_taken m.outcome)
 
--- the STATE that is due leaves last; this message is begun then
+-- what an arrival makes of a neighbour before the STATE that is due leaves; this message is begun then
 abbrev pub heard_neighbour : Neighbour → Fields → Met → Joining → Neighbour
-heard_neighbour x p m last = neighbour (answered_end m.after) last (in_step_after x p m)
+heard_neighbour x p m last = neighbour m.after last (in_step_after x p m)
 
-abbrev pub heard_frames : Neighbour → Fields → Met → List Outgoing
-heard_frames x p m = m.frames ++ answered_frames m.after (no_broadcast (in_step_after x p m))
+-- the STATE that is due leaves
+abbrev pub answered_neighbour : Neighbour → Neighbour
+answered_neighbour x = neighbour (answered_end x.pair.link) x.pair.begun x.in_step

@@ -39,23 +39,24 @@ use Rattle.tipc_pair.specs.Pairs.{Met, contact_of, lonely}
 use Rattle.tipc_pair.specs.Partners.{opened_in}
 use Rattle.tipc_fragments.specs.Joining.{Joining, fresh}
 use Rattle.tipc_reassembly.specs.declared.opening.Opened.{Opened}
+use Rattle.tipc_sockets.specs.SocketTables.{SocketTable}
 use Rattle.tipc_reassembly.specs.declared.opening.Opened.TheVariants.{Whole, Passed}
+use Rattle.tipc_sockets.specs.SocketTables.{SocketTable}
 use Rattle.tipc_node.specs.declared.arriving.Delivery.{Delivery}
 use Rattle.tipc_node.specs.declared.neighbours.Neighbour.{Neighbour}
 use Rattle.tipc_node.specs.declared.neighbours.Deed.{Deed}
 use Rattle.tipc_node.specs.declared.neighbours.Deed.TheVariants as deed
-use Rattle.tipc_node.specs.Inboxes.{inboxes_with}
-use Rattle.tipc_node.specs.Limits.{free_entries, free_message_bytes, most_body_bytes, most_frame_bytes, most_sockets}
+use Rattle.tipc_node.specs.Limits.{free_entries, free_message_bytes, most_frame_bytes}
+use Rattle.tipc_node.specs.Messages.{message_in}
 use Rattle.tipc_node.specs.Neighbours.{done, heard_neighbour, neighbour}
 
--- a node: its address word, its boot number, whether bearer 0 is mended, its neighbours by number, the inboxes of its ports from
--- port 1 on, and its journal
+-- a node: its address word, its boot number, whether bearer 0 is mended, its neighbours by number, its sockets, and its journal
 pub record NodeState : Type 0 where
   pub own : ℕ
   pub boot : ℕ
   pub mended : Bool
   pub neighbours : List (Option Neighbour)
-  pub inboxes : List (List Message)
+  pub sockets : SocketTable
   pub journal : List Entry
 
 -- what node n keeps of a peer
@@ -67,13 +68,13 @@ abbrev pub contact_with : NodeState → ℕ → Option (ℕ × ℕ)
 contact_with n peer = option_and_then (λ x. contact_of x.pair.link) (neighbour_of n peer)
 
 abbrev pub with_neighbours : NodeState → List (Option Neighbour) → NodeState
-with_neighbours n xs = record { own = n.own; boot = n.boot; mended = n.mended; neighbours = xs; inboxes = n.inboxes; journal = n.journal }
+with_neighbours n xs = record { own = n.own; boot = n.boot; mended = n.mended; neighbours = xs; sockets = n.sockets; journal = n.journal }
 
-abbrev pub with_inboxes : NodeState → List (List Message) → NodeState
-with_inboxes n inboxes = record { own = n.own; boot = n.boot; mended = n.mended; neighbours = n.neighbours; inboxes = inboxes; journal = n.journal }
+abbrev pub with_sockets : NodeState → SocketTable → NodeState
+with_sockets n sockets = record { own = n.own; boot = n.boot; mended = n.mended; neighbours = n.neighbours; sockets = sockets; journal = n.journal }
 
 abbrev pub with_mended : NodeState → Bool → NodeState
-with_mended n mended = record { own = n.own; boot = n.boot; mended = mended; neighbours = n.neighbours; inboxes = n.inboxes; journal = n.journal }
+with_mended n mended = record { own = n.own; boot = n.boot; mended = mended; neighbours = n.neighbours; sockets = n.sockets; journal = n.journal }
 
 -- ---- the journal
 
@@ -85,16 +86,10 @@ has_room entries = nat_le (length entries + free_entries) 1048576 && nat_le (mes
 abbrev pub step_of : By → EventNote → List Entry → Answer → NodeStep
 step_of by event inside answered = record { by = by; event = event; inside = inside; caller = by.caller; call = by.call; answer = answered }
 
+-- a call that changes nothing else
 abbrev pub recorded : NodeState → By → EventNote → List Entry → Answer → NodeState
 recorded n by event inside answered =
-    record { own = n.own; boot = n.boot; mended = n.mended; neighbours = n.neighbours; inboxes = n.inboxes; journal = n.journal ++ step_entries (step_of by event inside answered) }
-
--- the answers to a receive
-abbrev pub IsReceived : Answer → Type 0
-IsReceived (answer.Received message) = Unit {0}
-IsReceived answer.Empty = Unit {0}
-IsReceived answer.NoSocket = Unit {0}
-IsReceived other = ⊥
+    record { own = n.own; boot = n.boot; mended = n.mended; neighbours = n.neighbours; sockets = n.sockets; journal = n.journal ++ step_entries (step_of by event inside answered) }
 
 -- what is recorded of a change of the link to a peer
 abbrev pub change_entries : ℕ → PairChange → List Entry
@@ -103,6 +98,14 @@ change_entries peer (Began own_epoch peer_epoch contact) =
     entry.LinkUp (record { word = node_word peer }) 0 own_epoch peer_epoch ∷ entry.ContactUp (record { word = node_word peer }) contact ∷ []
 change_entries peer (Ended cause shown_epoch contact shown_contact) =
     entry.LinkDown (record { word = node_word peer }) 0 cause shown_epoch ∷ entry.ContactDown (record { word = node_word peer }) contact (Some ResetUnknown, None) shown_contact ∷ []
+
+-- whether an entry tells of a link, or of a contact
+abbrev pub is_change : Entry → Bool
+is_change (entry.LinkUp peer bearer own theirs) = true
+is_change (entry.LinkDown peer bearer cause shown) = true
+is_change (entry.ContactUp peer numbers) = true
+is_change (entry.ContactDown peer numbers states shown) = true
+is_change other = false
 
 -- ---- what happens to all neighbours alike, in order of their numbers
 
@@ -129,68 +132,6 @@ unfoldable pub entries_all : Deed → ℕ → List (Option Neighbour) → List E
 entries_all d number [] = []
 entries_all d number (x ∷ xs) = entries_one d number x ++ entries_all d (number + 1) xs
 
--- ---- sockets
-
--- the ports of a boot follow this number: they are other ones than those of the 4,095 boots before it
-abbrev pub port_base : ℕ → ℕ
-port_base boot = ((boot - 1) % 4096) * 1048576
-
-abbrev pub has_port : NodeState → ℕ → Bool
-has_port n port = nat_lt (port_base n.boot) port && nat_le port (port_base n.boot + length n.inboxes)
-
--- the place of a port's inbox
-abbrev pub inbox_place : ℕ → ℕ → ℕ
-inbox_place boot port = port - port_base boot - 1
-
--- a node is asked for a socket: one more, with an empty inbox, where fewer than the most are there
-unfoldable pub socket_inboxes : List (List Message) → List (List Message)
-socket_inboxes inboxes = if nat_lt (length inboxes) most_sockets then inboxes ++ [] ∷ [] else inboxes
-
-unfoldable pub socket_answer : NodeState → Answer
-socket_answer n = if nat_lt (length n.inboxes) most_sockets then answer.Socket (port_base n.boot + length n.inboxes + 1) else answer.Full most_sockets
-
-abbrev pub socket_node : NodeState → By → NodeState
-socket_node n by = recorded (with_inboxes n (socket_inboxes n.inboxes)) by event.Socket [] (socket_answer n)
-
--- a node is asked for the first message of a port's inbox
-abbrev pub inbox_of : NodeState → ℕ → List Message
-inbox_of n port = slice_index_or n.inboxes (inbox_place n.boot port) []
-
-abbrev pub without_first : List (List Message) → ℕ → List Message → List (List Message)
-without_first inboxes place [] = inboxes
-without_first inboxes place (first ∷ rest) = slice_set inboxes place rest
-
-abbrev pub first_answer : List Message → Answer
-first_answer [] = answer.Empty
-first_answer (first ∷ rest) = answer.Received first
-
-unfoldable pub receive_inboxes : NodeState → ℕ → List (List Message)
-receive_inboxes n port = if has_port n port then without_first n.inboxes (inbox_place n.boot port) (inbox_of n port) else n.inboxes
-
-unfoldable pub receive_answer : NodeState → ℕ → Answer
-receive_answer n port = if has_port n port then first_answer (inbox_of n port) else answer.NoSocket
-
--- of a message that was given the journal keeps only that one was
-abbrev pub kept_answer : Answer → Answer
-kept_answer (answer.Received message) = answer.Got
-kept_answer other = other
-
-abbrev pub receive_node : NodeState → By → ℕ → NodeState
-receive_node n by port = recorded (with_inboxes n (receive_inboxes n port)) by (event.Receive port) [] (kept_answer (receive_answer n port))
-
--- ---- sending
-
--- how many packets may wait before a message of this importance is congested
-abbrev pub limit_of : Importance → ℕ
-limit_of Low = 50
-limit_of Medium = 100
-limit_of High = 150
-limit_of Critical = 200
-
--- a user's message to a port of another node
-abbrev pub direct : ℕ → ℕ → PortId → Importance → List ℕ → Message
-direct own port to importance body = Payload importance form.Direct (record { node = record { word = own }; port = port }) to 0 0 0 0 false body
-
 -- the session to a peer, where the node is in contact with it
 abbrev pub session_with : Option Neighbour → Option SessionEnd
 session_with None = None
@@ -212,27 +153,9 @@ load_all xs = (sum_by (λ x. unacked_in (session_with x)) xs, sum_by (λ x. wait
 abbrev pub load_of : NodeState → ℕ × ℕ
 load_of n = load_all n.neighbours
 
--- there is no contact with the peer, or too much waits on the link to it
-abbrev pub refusal_at : Option SessionEnd → ℕ → Option Answer
-refusal_at None limit = Some answer.NoNode
-refusal_at (Some s) limit = if nat_le limit (length s.sending.waiting) then Some (answer.Congested (length s.sending.unacked) (length s.sending.waiting)) else None
-
--- the body is too long, or as refusal_at says
-abbrev pub refusal_of_body : NodeState → ℕ → ℕ → List ℕ → Option Answer
-refusal_of_body n peer limit body = if nat_le (length body) most_body_bytes then refusal_at (session_with (neighbour_of n peer)) limit else Some (answer.TooLong (length body))
-
--- why a send is refused: the first reason that holds
-unfoldable pub refusal : NodeState → ℕ → ℕ → ℕ → List ℕ → Option Answer
-refusal n port peer limit body = if has_port n port then refusal_of_body n peer limit body else Some answer.NoSocket
-
+-- the entry of a message that is accepted for a peer, to which this is the link end
 abbrev pub accepted_entry : ℕ → LinkEnd → Message → Entry
 accepted_entry peer e m = entry.Accepted (record { word = node_word peer }) (e.contact, e.peer_contact) Zero m
-
--- a node after it put a message on the link to a peer, whose session is this one then but for the packets that move up
-abbrev pub sent_node : NodeState → By → EventNote → ℕ → Neighbour → SessionEnd → Message → NodeState
-sent_node n by event peer x put m =
-    recorded (with_neighbours n (slice_set n.neighbours peer (Some (neighbour (with_session x.pair.link (flushed put)) x.pair.begun x.in_step)))) by event
-    (accepted_entry peer x.pair.link m ∷ []) answer.Sent
 
 -- ---- all neighbours at once
 
@@ -246,9 +169,6 @@ mended_by deed.Mend mended = true
 mended_by deed.Cut mended = false
 mended_by deed.Tick mended = mended
 
-abbrev pub deed_node : NodeState → By → Deed → NodeState
-deed_node n by d = recorded (with_mended (with_neighbours n (after_all d n.neighbours)) (mended_by d n.mended)) by (deed_note d) (entries_all d 0 n.neighbours) answer.Done
-
 -- ---- a link end to a peer is made
 
 abbrev pub new_pair : NodeState → ℕ → LinkEnd
@@ -261,15 +181,6 @@ abbrev pub known_frames : NodeState → ℕ → List Outgoing
 known_frames n peer = if n.mended then mend_frames (new_pair n peer) else []
 
 -- ---- arrivals
-
--- the port that a message is for
-abbrev pub port_of : Message → ℕ
-port_of (Payload importance form from to kind lower upper code droppable body) = to.port
-port_of (Items withdrawal items) = 0
-
--- the message that a packet carries, where it carries one
-abbrev pub message_in : List ℕ → Option Message
-message_in packet = message_of (fields_at packet)
 
 -- what a whole packet that was given in a contact adds to the journal: its message with the arrivals that brought it, or that it
 -- carries none
@@ -287,15 +198,6 @@ deliveries_of peer contact opened = map (delivery_of peer contact) opened
 
 abbrev pub entries_in : List Delivery → List Entry
 entries_in deliveries = map (λ (d : Delivery). d.entry) deliveries
-
-abbrev pub taken_inboxes : ℕ → List (List Message) → Option Message → List (List Message)
-taken_inboxes base inboxes (Some m) = inboxes_with inboxes (port_of m - base) m
-taken_inboxes base inboxes None = inboxes
-
--- the inboxes after one delivery after the other
-abbrev pub inboxes_after : ℕ → List (List Message) → List Delivery → List (List Message)
-inboxes_after base inboxes [] = inboxes
-inboxes_after base inboxes (d ∷ ds) = inboxes_after base (taken_inboxes base inboxes d.message) ds
 
 abbrev pub taken_count : Option Message → ℕ
 taken_count (Some m) = 1
@@ -317,13 +219,6 @@ shown_contact e = (e.contact, e.peer_contact)
 -- what an arrival from a peer delivers, whose link end is this one after it
 abbrev pub arrival_deliveries : ℕ → LinkEnd → PairOutcome → List Delivery
 arrival_deliveries peer e out = deliveries_of peer (shown_contact e) (opened_in out)
-
--- A node after the frame of that number brought a packet of a peer, which is its neighbour x. m is what the link made of it, out
--- what was given, and last the message that is begun then.
-abbrev pub heard_node : NodeState → By → ℕ → ℕ → Neighbour → Fields → Met → PairOutcome → Joining → NodeState
-heard_node n by number peer x p m out last =
-    recorded (with_inboxes (with_neighbours n (slice_set n.neighbours peer (Some (heard_neighbour x p m last)))) (inboxes_after (port_base n.boot) n.inboxes (arrival_deliveries peer m.after out)))
-    by (event.Arrive 0 number) (change_entries peer m.change ++ entries_in (arrival_deliveries peer m.after out)) (answer.Arrived (arrival_answer out (arrival_deliveries peer m.after out)))
 
 -- ---- an arrival that reaches no link
 

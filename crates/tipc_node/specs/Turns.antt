@@ -32,7 +32,8 @@ use Rattle.tipc_pair.specs.Partners.{PairState, opened_in}
 use Rattle.tipc_pair.specs.Turns.{Opening, PairTurn, ShowsAtLast, ShowsIn}
 use Rattle.tipc_pair.specs.Turns.Opening.{rests, mends, cuts, ticks, hears}
 use Rattle.tipc_node.specs.declared.neighbours.Neighbour.{Neighbour}
-use Rattle.tipc_node.specs.Nodes.{NodeState, accepted_entry, change_entries, message_in, neighbour_of, shown_contact}
+use Rattle.tipc_node.specs.Messages.{IsSendable, bytes_of, message_in}
+use Rattle.tipc_node.specs.Nodes.{NodeState, accepted_entry, change_entries, neighbour_of, shown_contact}
 
 abbrev pub addr_of : ℕ → Addr
 addr_of n = record { word = node_word n }
@@ -40,28 +41,6 @@ addr_of n = record { word = node_word n }
 -- the link end to a peer
 abbrev pub link_in : NodeState → ℕ → Option LinkEnd
 link_in n peer = option_map (λ x. x.pair.link) (neighbour_of n peer)
-
--- ---- messages
-
-abbrev pub spelled : Option Fields → List ℕ
-spelled (Some p) = spelling p
-spelled None = []
-
--- the bytes of a message's packet, as it waits to be sent
-unfoldable pub bytes_of : Message → List ℕ
-bytes_of message = spelled (packet_of message)
-
--- a user's message that this node may send: a packet carries it
-pub record IsSendable (m : Message) : Type 0 where
-  pub packet : Fields
-  pub packet_is : packet_of m ≡ Some packet
-  pub fits : Fits packet
-  pub payload : IsPayload m
-
--- the node from which a message is
-abbrev pub origin_of : Message → Option ℕ
-origin_of (Message.Payload importance form from to kind lower upper code droppable body) = Some from.node.word
-origin_of (Message.Items withdrawal items) = None
 
 -- ---- what a step tells of a peer
 
@@ -159,14 +138,12 @@ pub record PeerTurn (own : ℕ) (bytes : List ℕ) (s : NodeStep) (frames : List
   pub suits : Suits s.event opening
   pub brought : IsBrought b bytes opening
   pub shows : ShowsIn opening
-  -- what the node puts is its own
   pub messages : List Message
-  pub sendable : All IsSendable messages
-  pub origin : All (λ m. origin_of m ≡ Some own) messages
+  pub sendable : All (IsSendable own) messages
   pub reply : Option BroadcastState
   pub shows_last : ShowsAtLast reply
   pub own_frames : List Outgoing
-  pub turn : PairTurn x opening (map bytes_of messages) reply x' own_frames
+  pub turn : PairTurn x opening (map (bytes_of own) messages) reply x' own_frames
   pub frames_are : frames_to b frames ≡ own_frames
   -- the step tells of it
   pub changes : filter (is_change_of b) s.inside ≡ change_entries b turn.first.change

@@ -1,6 +1,6 @@
 //! What an arriving frame is to a node, and what it delivers.
 
-ghost use Rattle.std.specs.Prelude.{◌≡◌, ◌++◌, ◌≤◌, ◌+◌, ◌-◌, ◌^◌, true, false, All, None, Some, is_some, length, min, slice_index_or, sum_by, vec_capacity, vec_len, IfErr, IfOk, IfSome, IfNone};
+ghost use Rattle.std.specs.Prelude.{◌≡◌, ◌≤◌, ◌-◌, ◌^◌, true, false, All, None, Some, is_some, length, min, slice_index_or, sum_by, IfErr, IfOk, IfSome, IfNone};
 ghost use Rattle.tipc_types.specs.Address.{node_word};
 ghost use Rattle.tipc_header.specs.Faults.{fault_of};
 ghost use Rattle.tipc_header.specs.Frames.{frame_of};
@@ -8,16 +8,15 @@ ghost use Rattle.tipc_header.specs.Grammar.{Fits};
 ghost use Rattle.tipc_header.specs.Spelling.{spelling, view};
 ghost use Rattle.tipc_journal.specs.Room.{counted_bytes, entry_bytes};
 ghost use Rattle.tipc_reassembly.specs.declared.opening.Opened.TheVariants.{Whole};
-ghost use Rattle.tipc_pair.specs.Partners.{IsPairArriving, opened_in};
+ghost use Rattle.tipc_pair.specs.Partners.{opened_in};
 ghost use Rattle.tipc_node.specs.Deliveries.{HasNoFault};
+ghost use Rattle.tipc_node.specs.Drafts.{IsPrepared};
 ghost use Rattle.tipc_node.specs.Limits.{free_entries, free_message_bytes};
-ghost use Rattle.tipc_node.specs.Nodes.{arrival_answer, deliveries_of, delivered_by, delivery_of, entries_in, inboxes_after, is_other, message_count, port_of, shown_contact, stop_among, taken_count, taken_inboxes};
+ghost use Rattle.tipc_node.specs.Nodes.{arrival_answer, deliveries_of, delivered_by, delivery_of, is_other, message_count, shown_contact, stop_among, taken_count};
 
-use crate::inboxes::Inbox;
 use crate::neighbours::Neighbour;
 use crate::recording::{FREE_ENTRIES, FREE_MESSAGE_BYTES};
 use std::alloc::Global;
-use std::collections::VecDeque;
 use tipc_header::{Packet, decode, open_frame};
 use tipc_journal::{Arrivals, Entry};
 use tipc_message::message_from;
@@ -25,8 +24,8 @@ use tipc_pair::{PairArriving, PairOutcome};
 use tipc_reassembly::Opened;
 use tipc_types::{Addr, Arrival, Flow, Message, NoMemory, Why};
 
-/// The most deliveries of one arrival, of the free entries that a call needs.
-const MOST_DELIVERIES: usize = FREE_ENTRIES as usize - 6;
+/// The most entries of what an arrival delivers, of the free entries that a call needs.
+const MOST_TOLD: usize = FREE_ENTRIES as usize - 4;
 
 /// A packet that is due at the link of the node that it names as its sender, and the two numbers of its envelope.
 #[derive(Clone, Copy)]
@@ -109,7 +108,7 @@ pub fn is_known(neighbours: &[Option<Neighbour>], peer: u8) -> bool
 pub struct Delivery {
     /// Its entry in the journal.
     pub entry: Entry,
-    /// Its message once more, for the inbox, where it has one.
+    /// Its message once more, for its port, where it has one.
     pub message: Option<Message>,
 }
 
@@ -228,7 +227,7 @@ fn message_bytes(message: &Message) -> u64
 }
 
 /// The message bytes of an entry; where there are more than a u64 holds, its last value.
-fn delivered_bytes(entry: &Entry) -> u64
+fn counted_bytes(entry: &Entry) -> u64
     ensures { result ≡ min (entry_bytes entry.now) (2 ^ 64 - 1) }
 {
     match entry {
@@ -238,25 +237,24 @@ fn delivered_bytes(entry: &Entry) -> u64
     }
 }
 
-/// Whether the deliveries of one arrival have room in the step that tells of it, beside its begin, its end, and two
-/// changes.
+/// Whether these entries have room in the step that tells of an arrival, beside its begin, its end, and two changes.
 ///
 /// They always have: what is given at once came in the packets that were held, 50 at most, and in this one. A frame
-/// has at most 1,516 bytes, so these are some thousand messages at most, and some 80,000 bytes beside the 66,044 of
-/// a message that was begun.
-pub fn fits(deliveries: &[Delivery]) -> bool
-    ensures { result ≡ true → (length deliveries.now ≤ free_entries - 6) ×
-        (sum_by entry_bytes (entries_in deliveries.now) ≤ free_message_bytes) }
+/// has at most 1,516 bytes, so these are some thousand messages at most, each with three entries at most, and some
+/// 160,000 bytes with their returns beside the 66,044 of a message that was begun.
+pub fn fits(entries: &[Entry]) -> bool
+    ensures { result ≡ true → (length entries.now ≤ free_entries - 4) ×
+        (sum_by entry_bytes entries.now ≤ free_message_bytes) }
 {
     let mut left = FREE_MESSAGE_BYTES;
-    for delivery in deliveries {
-        let bytes = delivered_bytes(&delivery.entry);
+    for entry in entries {
+        let bytes = counted_bytes(entry);
         if bytes > left {
             return false;
         }
         left -= bytes;
     }
-    deliveries.len() <= MOST_DELIVERIES
+    entries.len() <= MOST_TOLD
 }
 
 /// How many messages a delivery has.
@@ -271,8 +269,8 @@ fn taken_count(message: &Option<Message>) -> u32
 }
 
 /// How many messages there are.
-fn message_count(deliveries: &[Delivery]) -> u32
-    requires { length deliveries.now ≤ free_entries - 6 }
+pub fn message_count(deliveries: &[Delivery]) -> u32
+    requires { length deliveries.now ≤ free_entries - 4 }
     ensures { result ≡ message_count deliveries.now }
 {
     let mut count = 0;
@@ -284,7 +282,7 @@ fn message_count(deliveries: &[Delivery]) -> u32
 
 /// What became of an arrival that gives this, with these deliveries.
 pub fn arrival_answer(outcome: &PairOutcome, deliveries: &[Delivery]) -> Arrival
-    requires { length deliveries.now ≤ free_entries - 6 }
+    requires { length deliveries.now ≤ free_entries - 4 }
     ensures { result ≡ arrival_answer outcome.now deliveries.now }
 {
     match outcome {
@@ -298,6 +296,8 @@ pub fn arrival_answer(outcome: &PairOutcome, deliveries: &[Delivery]) -> Arrival
 /// of it.
 #[derive(Drop)]
 pub struct Hearing {
+    /// The number of the arrival at this node.
+    pub number: u64,
     /// What it will make of the pair.
     pub arriving: PairArriving,
     /// What it delivers.
@@ -316,68 +316,23 @@ pub fn prepare(
 ) -> Result<Hearing, NoMemory>
     requires peer { (1 ≤ due.now.peer) × (due.now.peer ≤ 32) }
     requires fits { Fits (view due.now.packet) }
-    ensures arriving { IfOk result (λ h.
-        IsPairArriving neighbour.now.pair due.now.first due.now.second (view due.now.packet) number h.arriving) }
-    ensures deliveries { IfOk result (λ h. h.deliveries.items ≡
-        deliveries_of due.now.peer (shown_contact neighbour.now.pair.link) (opened_in h.arriving.outcome)) }
-    ensures answer { IfOk result (λ h. h.answer ≡ arrival_answer h.arriving.outcome h.deliveries.items) }
-    ensures few { IfOk result (λ h. length h.deliveries.items ≤ free_entries - 6) }
-    ensures bytes { IfOk result (λ h. sum_by entry_bytes (entries_in h.deliveries.items) ≤ free_message_bytes) }
+    ensures number { IfOk result (λ h. h.number ≡ number) }
+    ensures prepared { IfOk result (λ h. IsPrepared (Some neighbour.now) due.now.peer due.now.first due.now.second
+        (view due.now.packet) number h.arriving h.deliveries.items h.answer) }
 {
     let arriving = neighbour
         .pair
         .prepare(alloc, due.first, due.second, &due.packet, number)?;
     let contact = neighbour.contact_numbers();
     let deliveries = prepare_deliveries(alloc, due.peer, contact, arriving.outcome())?;
-    if !fits(deliveries.as_slice()) {
+    if deliveries.len() > MOST_TOLD {
         return Err(NoMemory);
     }
     let answer = arrival_answer(arriving.outcome(), deliveries.as_slice());
     Ok(Hearing {
+        number,
         arriving,
         deliveries,
         answer,
     })
-}
-
-/// Tells of the deliveries of an arrival, in a list that has room, and puts their messages into the inboxes of
-/// their ports.
-pub fn deliver(
-    inside: &mut Vec<Entry>,
-    inboxes: &mut Vec<Inbox>,
-    base: u32,
-    deliveries: Vec<Delivery>,
-)
-    requires room { vec_len inside.old + length deliveries.items ≤ vec_capacity inside.old }
-    ensures entries { inside.new.items ≡ inside.old.items ++ entries_in deliveries.items }
-    ensures inboxes { inboxes.new.items ≡ inboxes_after base inboxes.old.items deliveries.items }
-{
-    let mut waiting = VecDeque::from_vec(deliveries);
-    while let Some(delivery) = waiting.pop_front() {
-        inside.push_reserved(delivery.entry);
-        put_message(inboxes, base, delivery.message);
-    }
-}
-
-/// Puts a message that was given into the inbox of its port. A message for a port that isn't there is dropped.
-fn put_message(inboxes: &mut Vec<Inbox>, base: u32, message: Option<Message>)
-    ensures { inboxes.new.items ≡ taken_inboxes base inboxes.old.items message }
-{
-    let Some(message) = message else {
-        return;
-    };
-    let place = port_of(&message).saturating_sub(base) as usize;
-    if 1 <= place && place <= inboxes.len() {
-        inboxes[place - 1].put(message);
-    }
-}
-
-/// The port that a message is for.
-fn port_of(message: &Message) -> u32
-    ensures { result ≡ port_of message.now }
-{
-    match message {
-        Message::Payload { to, .. } => to.port,
-        Message::Items { .. } => 0,
-    }
 }

@@ -3,14 +3,17 @@
 
 mod arriving;
 mod cores;
-mod inboxes;
+mod drafts;
+mod hearing;
+mod listening;
 mod neighbours;
 mod nodes;
-mod ports;
+mod posting;
 mod recording;
 mod sending;
-#[cfg(test)]
-mod tests;
+mod serving;
+mod settling;
+mod waiting;
 
 pub use neighbours::Neighbour;
 pub use nodes::Node;

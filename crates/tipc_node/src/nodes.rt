@@ -1,10 +1,14 @@
 //! The node, its calls, and what arrives at it.
 
-ghost use Rattle.std.specs.Prelude.{◌≡◌, ℕ, ◌<◌, ◌≤◌, [], true, false, None, Some, Err, length, is_some, option_map, IfOk, IfSome, IfNone, OnErr, OnOk};
-ghost use Rattle.tipc_types.specs.Address.{node_word};
+ghost use Rattle.std.specs.Prelude.{◌≡◌, ℕ, ◌+◌, ◌%◌, ◌^◌, ◌<◌, ◌≤◌, [], true, false, if◌then◌else◌, None, Some, Err, length, is_some, option_map, IfOk, IfSome, IfNone, OnErr, OnOk};
+ghost use Rattle.tipc_types.specs.Address.{node_word, IsNodeWord};
 ghost use Rattle.tipc_outside.specs.Frames.{Adds};
 ghost use Rattle.tipc_journal.specs.Streams.{accepted, delivered};
-ghost use Rattle.tipc_node.specs.Calls.{Arrived, CanPerform, Performed};
+ghost use Rattle.tipc_journal.specs.Counting.{is_sent_by_name};
+ghost use Rattle.tipc_journal.specs.Licensed.{IsPicked};
+ghost use Rattle.tipc_sockets.specs.SocketTables.{no_sockets};
+ghost use Rattle.tipc_node.specs.Arrivals.{Arrived};
+ghost use Rattle.tipc_node.specs.Calls.{CanPerform, Performed};
 ghost use Rattle.tipc_node.specs.Nodes.{contact_with, has_room, known_frames, known_node, load_of, neighbour_of};
 ghost use Rattle.tipc_node.specs.Telling.{IsTold};
 
@@ -15,6 +19,7 @@ use std::alloc::Global;
 use std::marker::Model;
 use tipc_journal::{Entry, Journal};
 use tipc_outside::Outbox;
+use tipc_pick::{Chooser, Pick};
 use tipc_types::{Addr, Answer, Arrival, By, EventNote, Flow, LinkState, NoMemory};
 
 /// A node in one boot. Its journal tells of its contacts and its links, and its frames are for the peers whose
@@ -26,28 +31,29 @@ pub struct Node {
 
 impl Model for Node {
     ghost use Rattle.tipc_node.specs.Nodes.{NodeState};
-    ghost use Rattle.tipc_node.specs.Telling.{IsTold};
+    ghost use Rattle.tipc_node.specs.Telling.{ArePacked, IsTold};
     ghost use Rattle.tipc_node.specs.Turns.{AreNamed};
 
     ghost Value = { NodeState };
 
     ghost view = { λ n. n.core };
 
-    ghost invariant = { λ n. IsTold n.core × AreNamed n.core };
+    ghost invariant = { λ n. IsTold n.core × AreNamed n.core × ArePacked n.core };
 }
 
 impl Node {
     /// A node of that boot, which knows nobody and has no sockets and no history. Its bearers are cut.
     pub fn new(alloc: Global, own: Addr, boot: u32) -> Result<Node, NoMemory>
-        requires { 1 ≤ boot }
+        requires node { IsNodeWord own.word }
+        requires boot { 1 ≤ boot }
         ensures own { IfOk result (λ n. (n.own ≡ own.word) × (n.boot ≡ boot) × (n.mended ≡ false)) }
         ensures alone { IfOk result (λ n. (peer : ℕ) → neighbour_of n peer ≡ None) }
-        ensures empty { IfOk result (λ n. (n.inboxes ≡ []) × (n.journal ≡ [])) }
+        ensures empty { IfOk result (λ n. (n.sockets ≡ no_sockets own.word boot) × (n.journal ≡ [])) }
         ensures told { IfOk result (λ n. IsTold n) }
     {
-        Ok(Node {
-            core: Core::new(alloc, own, boot)?,
-        })
+        let core = Core::new(alloc, own, boot)?;
+        core.sound();
+        Ok(Node { core })
     }
 
     /// Whether it has a link end to the peer.
@@ -163,33 +169,43 @@ impl Node {
         self.core.know(alloc, peer, out);
     }
 
-    /// Performs a call, and answers it: a socket is made, a message is taken from an inbox, or sent to a port of
-    /// another node; a bearer is mended or cut; a tick passes. The call is one step of the journal.
+    /// Performs a call, and answers it: a socket is made or closed, names are published there and withdrawn, a message is sent to a port
+    /// or by name, or taken from an inbox; a bearer is mended or cut; a tick passes. The call is one step of the journal. The chooser says
+    /// to which of those that a name finds a message goes, and turns where one was sent so.
     ///
     /// # Errors
     ///
     /// JournalFull exactly where the journal has no room for a call, else NoMemory. Neither changes anything.
-    pub fn perform(
+    pub fn perform<P: Pick>(
         &mut self,
         alloc: Global,
         by: By,
         call: EventNote,
+        chooser: &mut Chooser<P>,
         out: &mut Outbox,
     ) -> Result<Answer, NodeFault>
         requires can { CanPerform call }
         ensures ok { IfOk result (λ a. Performed self.old by call self.new out.old out.new a) }
+        ensures picked { IfOk result (λ a. (turn : ℕ) → turn % 2 ^ 64 ≡ chooser.old.turn →
+            IsPicked (P.gives chooser.old.pick) turn (record { word = self.old.own }) self.old.journal call a) }
+        ensures turns { IfOk result (λ a. chooser.new ≡ record {
+          pick = chooser.old.pick;
+          turn = if is_sent_by_name call a then (chooser.old.turn + 1) % 2 ^ 64 else chooser.old.turn;
+        }) }
         ensures room { OnOk result (has_room self.old.journal ≡ true) }
         ensures full { has_room self.old.journal ≡ false → result ≡ Err NodeFault.JournalFull }
         ensures only { result ≡ Err NodeFault.JournalFull → has_room self.old.journal ≡ false }
-        ensures err { OnErr result ((self.new ≡ self.old) × (out.new ≡ out.old)) }
+        ensures err { OnErr result ((self.new ≡ self.old) × (out.new ≡ out.old) × (chooser.new ≡ chooser.old)) }
     {
-        self.core.perform(alloc, by, call, out)
+        let answer = self.core.perform(alloc, by, call, chooser, out);
+        self.core.sound();
+        answer
     }
 
     /// A frame arrives on a bearer; `number` is its number among all that arrived at this node. A packet that it
     /// brings is taken by the link of the node that it names as its sender; a message that is given is recorded as
-    /// delivered and put into the inbox of its port; a STATE that is due is sent last. A frame that reaches no link
-    /// is ignored for the first reason that holds. The arrival is one step of the journal.
+    /// delivered and has its fate: it waits at its port, or goes back, or is dropped. A STATE that is due is sent last. A
+    /// frame that reaches no link is ignored for the first reason that holds. The arrival is one step of the journal.
     ///
     /// # Errors
     ///
@@ -209,6 +225,8 @@ impl Node {
         ensures only { result ≡ Err NodeFault.JournalFull → has_room self.old.journal ≡ false }
         ensures err { OnErr result ((self.new ≡ self.old) × (out.new ≡ out.old)) }
     {
-        self.core.arrive(alloc, by, bearer, number, frame, out)
+        let arrival = self.core.arrive(alloc, by, bearer, number, frame, out);
+        self.core.sound();
+        arrival
     }
 }

@@ -1,14 +1,12 @@
-//! A message that is sent to a port, its limits, and its packets.
+//! The messages that a user sends, their limits, and their packets.
 
-ghost use Rattle.std.specs.Prelude.{◌≡◌, ◌≤◌, All, Some, length, IfOk};
-ghost use Rattle.tipc_header.specs.Grammar.{Fits};
-ghost use Rattle.tipc_header.specs.Spelling.{Fields, spelling};
+ghost use Rattle.std.specs.Prelude.{◌≡◌, ◌≤◌, All, length, IfOk};
+ghost use Rattle.tipc_journal.specs.Refusals.{longest_body};
 ghost use Rattle.tipc_journal.specs.Room.{counted_bytes};
 ghost use Rattle.tipc_link.specs.Sessions.{IsWaiting};
 ghost use Rattle.tipc_pair.specs.Partners.{pieces_for};
-ghost use Rattle.tipc_message.specs.Wire.{packet_of, IsPayload};
-ghost use Rattle.tipc_node.specs.Limits.{most_body_bytes};
-ghost use Rattle.tipc_node.specs.Nodes.{direct, limit_of};
+ghost use Rattle.tipc_message.specs.Wire.{IsPayload};
+ghost use Rattle.tipc_node.specs.Messages.{IsSendable, bytes_of, direct, limit_of, named};
 
 use std::alloc::Global;
 use tipc_fragments::{LEAST_CUT, cut};
@@ -18,12 +16,12 @@ use tipc_types::{Addr, Bytes, EventNote, Form, Importance, Message, NoMemory, Pi
 /// The most bytes of a body. (This project's profile.)
 pub const MOST_BODY_BYTES: usize = 66_000;
 
-/// A user's message to a port of another node.
+/// A user's message to a port.
 pub fn direct(own: Addr, port: u32, to: PortId, importance: Importance, body: Bytes) -> Message
-    requires { length body ≤ most_body_bytes }
+    requires { length body ≤ longest_body }
     ensures value { result ≡ direct own.word port to importance body }
     ensures payload { IsPayload result }
-    ensures small { counted_bytes result ≤ most_body_bytes }
+    ensures small { counted_bytes result ≤ longest_body }
 {
     Message::Payload {
         importance,
@@ -39,13 +37,61 @@ pub fn direct(own: Addr, port: u32, to: PortId, importance: Importance, body: By
     }
 }
 
+/// A user's message by name, to the port that the name found.
+pub fn named(
+    own: Addr,
+    port: u32,
+    to: PortId,
+    kind: u32,
+    instance: u32,
+    importance: Importance,
+    body: Bytes,
+) -> Message
+    requires { length body ≤ longest_body }
+    ensures value { result ≡ named own.word port to kind instance importance body }
+    ensures payload { IsPayload result }
+    ensures small { counted_bytes result ≤ longest_body }
+{
+    Message::Payload {
+        importance,
+        form: Form::Named,
+        from: PortId { node: own, port },
+        to,
+        name_kind: kind,
+        lower: instance,
+        upper: instance,
+        code: 0,
+        droppable: false,
+        body,
+    }
+}
+
 /// What the journal keeps of a call that sends a message to a port.
-pub fn send_note(port: u32, to: PortId, importance: Importance, body: Bytes) -> EventNote
+pub fn port_note(port: u32, to: PortId, importance: Importance, body: Bytes) -> EventNote
     ensures { result ≡ EventNote.SendPort port to importance body }
 {
     EventNote::SendPort {
         port,
         to,
+        importance,
+        body,
+    }
+}
+
+/// What the journal keeps of a call that sends a message by name.
+pub fn name_note(
+    port: u32,
+    kind: u32,
+    instance: u32,
+    importance: Importance,
+    body: Bytes,
+) -> EventNote
+    ensures { result ≡ EventNote.SendName port kind instance importance body }
+{
+    EventNote::SendName {
+        port,
+        kind,
+        instance,
         importance,
         body,
     }
@@ -63,14 +109,14 @@ pub fn limit(importance: Importance) -> u32
     }
 }
 
-/// The packets in which a user's message is sent: its own, or its fragments where that is too long for one packet.
-pub fn pieces(alloc: Global, message: &Message) -> Result<Pieces, NoMemory>
+/// The packets in which a node sends a user's message: its own, or its fragments where that is too long for one packet.
+pub fn pieces(alloc: Global, own: Addr, message: &Message) -> Result<Pieces, NoMemory>
     requires { IsPayload message.now }
-    ensures spelled { IfOk result (λ pieces. (p : Fields) × (packet_of message.now ≡ Some p) × Fits p ×
-        (pieces ≡ pieces_for (spelling p))) }
+    ensures sendable { IfOk result (λ pieces. IsSendable own.word message.now) }
+    ensures value { IfOk result (λ pieces. pieces ≡ pieces_for (bytes_of own.word message.now)) }
     ensures waiting { IfOk result (All IsWaiting) }
 {
-    let packet = packet_bytes(alloc, message)?;
+    let packet = packet_bytes(alloc, own, message)?;
     if packet.len() >= LEAST_CUT {
         return cut(alloc, packet.as_slice());
     }

@@ -126,6 +126,31 @@ fn texts_that_no_script_asks_for(rt: HostRuntime) -> Result<(), Fail> {
     Ok(())
 }
 
+#[test]
+fn answers_about_services(rt: HostRuntime) -> Result<(), Fail> {
+    let port = PortId {
+        node: Addr::node(32),
+        port: 7,
+    };
+    let congested = Answer::NamesCongested {
+        peer: 2,
+        waiting: 1000,
+    };
+    let mut report = Vec::new(rt.alloc());
+    tell(1, Answer::SentTo(port), &mut report)?;
+    tell(2, Answer::BadRange, &mut report)?;
+    tell(3, Answer::NoName, &mut report)?;
+    tell(4, Answer::Reserved, &mut report)?;
+    tell(5, Answer::Duplicate(9), &mut report)?;
+    tell(6, Answer::Full(1024), &mut report)?;
+    tell(7, Answer::Unknown, &mut report)?;
+    tell(8, congested, &mut report)?;
+    let expected =
+        b"1 sent 32:7\n2 bad-range\n3 no-name\n4 reserved\n5 duplicate 9\n6 full 1024\n7 unknown\n8 names-congested 2 1000\n";
+    assert_eq!(rt; report.as_slice(), expected.as_slice());
+    Ok(())
+}
+
 /// Appends the line of a frame.
 fn tell_frame(
     line: u32,

@@ -7,3 +7,8 @@ pub mod Found
 pub mod Importances
 pub mod Reading
 pub mod Spaces
+pub mod FoundSends
+pub mod AcceptedSends
+pub mod Acceptance
+pub mod Scopes
+pub mod Spelled

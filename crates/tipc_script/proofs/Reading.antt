@@ -8,7 +8,7 @@ use Rattle.std.proofs.lemmas.Slice.Eq.{bytes_eq-Decides}
 use Rattle.tipc_script.specs.declared.faults.LineWhy.{LineWhy}
 use Rattle.tipc_script.specs.Splitting.{Left, first_token, behind}
 use Rattle.tipc_script.specs.Kinds.{Kind, takes}
-use Rattle.tipc_script.specs.Grammar.{Row, row_among, last_node}
+use Rattle.tipc_script.specs.Grammar.{Row, row_among}
 use Rattle.tipc_script.specs.Faults.{why_not, fault_among, first_fault, more_fault, end_fault, fault_in}
 
 -- the first token is there and passes the test
@@ -42,15 +42,15 @@ or_none None p e = (refl, e)
 or_none (Some x) p e = absurd cc
 
 -- each token is of its kind, and none is left
-abbrev pub AreTaken : ℕ → List Kind → Left → Type 0
-AreTaken own [] left = left.tokens ≡ []
-AreTaken own (kind ∷ kinds) left = IsTaken (takes own kind) left × AreTaken (last_node own kind left) kinds (behind left)
+abbrev pub AreTaken : List Kind → Left → Type 0
+AreTaken [] left = left.tokens ≡ []
+AreTaken (kind ∷ kinds) left = IsTaken (takes kind) left × AreTaken kinds (behind left)
 
-pub are_taken : (own : ℕ) (kinds : List Kind) (left : Left) → fault_in own kinds left ≡ None → AreTaken own kinds left
-are_taken own [] left e = ended left e
-are_taken own (kind ∷ kinds) left e =
+pub are_taken : (kinds : List Kind) (left : Left) → fault_in kinds left ≡ None → AreTaken kinds left
+are_taken [] left e = ended left e
+are_taken (kind ∷ kinds) left e =
     let parts = or_none _ _ e in
-    (taken (takes own kind) (why_not kind) left parts.0, are_taken (last_node own kind left) kinds (behind left) parts.1)
+    (taken (takes kind) (why_not kind) left parts.0, are_taken kinds (behind left) parts.1)
 
 -- a fact of each row
 abbrev pub OfRows : (Row → Type 0) → List Row → Type 0

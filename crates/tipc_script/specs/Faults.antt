@@ -8,8 +8,8 @@ use Rattle.tipc_script.specs.declared.faults.LineFault.TheVariants as faults
 use Rattle.tipc_script.specs.declared.lines.Line.{Line}
 use Rattle.tipc_script.specs.declared.lines.Command.{Command}
 use Rattle.tipc_script.specs.Splitting.{Left, whole, first_token, behind}
-use Rattle.tipc_script.specs.Kinds.{Kind, NewNode, OldNode, OtherNode, OtherOldNode, BearerNumber, PortNumber, FrameNumber, RoundsNumber, TimesNumber, SendWord, FormWord, ImportanceWord, BodyText, takes, is_remark}
-use Rattle.tipc_script.specs.Grammar.{Row, row_of, last_node}
+use Rattle.tipc_script.specs.Kinds.{Kind, NewNode, OldNode, AnyNode, BearerNumber, AnyNumber, FrameNumber, RoundsNumber, TimesNumber, SendWord, FormWord, ScopeWord, ImportanceWord, BodyText, takes, is_remark}
+use Rattle.tipc_script.specs.Grammar.{Row, row_of}
 
 abbrev pub Fault : Type 0
 Fault = ℕ × LineWhy
@@ -18,15 +18,15 @@ Fault = ℕ × LineWhy
 abbrev pub why_not : Kind → LineWhy
 why_not NewNode = why.Number
 why_not OldNode = why.Number
-why_not OtherNode = why.Number
-why_not OtherOldNode = why.Number
+why_not AnyNode = why.Number
 why_not BearerNumber = why.Number
-why_not PortNumber = why.Number
+why_not AnyNumber = why.Number
 why_not FrameNumber = why.Number
 why_not RoundsNumber = why.Number
 why_not TimesNumber = why.Number
 why_not SendWord = why.Command
 why_not FormWord = why.Word
+why_not ScopeWord = why.Word
 why_not ImportanceWord = why.Word
 why_not BodyText = why.Body
 
@@ -50,14 +50,14 @@ more_fault (token ∷ tokens) place = Some (place, why.End)
 unfoldable pub end_fault : Left → Option Fault
 end_fault left = more_fault left.tokens left.place
 
--- the first fault of the tokens that are left, which have to be of these kinds and no more, where the node before them has the number own
-abbrev pub fault_in : ℕ → List Kind → Left → Option Fault
-fault_in own [] left = end_fault left
-fault_in own (kind ∷ kinds) left = option_or (first_fault (takes own kind) (why_not kind) left) (fault_in (last_node own kind left) kinds (behind left))
+-- the first fault of the tokens that are left, which have to be of these kinds and no more
+abbrev pub fault_in : List Kind → Left → Option Fault
+fault_in [] left = end_fault left
+fault_in (kind ∷ kinds) left = option_or (first_fault (takes kind) (why_not kind) left) (fault_in kinds (behind left))
 
 -- the same behind the first word of a row
 unfoldable pub row_fault : Row → Left → Option Fault
-row_fault row left = fault_in 0 row.kinds left
+row_fault row left = fault_in (row.kinds left) left
 
 abbrev pub fault_by : Option Row → Left → Option Fault
 fault_by None left = Some (1, why.Command)

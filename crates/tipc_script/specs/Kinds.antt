@@ -6,20 +6,22 @@ use Rattle.std.specs.Str.Parse.{digits_value}
 use Rattle.std.specs.Fmt.{decimal}
 use Rattle.tipc_types.specs.declared.message_forms.Importance.{Importance}
 use Rattle.tipc_types.specs.declared.message_forms.Importance.TheVariants.{Low, Medium, High, Critical}
+use Rattle.tipc_types.specs.declared.services.Scope.{Scope}
+use Rattle.tipc_types.specs.declared.services.Scope.TheVariants as scope
 
 -- what a token may have to be
 pub data Kind : Type 0 where
   NewNode : Kind  -- the number of a node that isn't there yet
   OldNode : Kind  -- the number of a node that is there
-  OtherNode : Kind  -- the number of another node than the one before it in the line
-  OtherOldNode : Kind  -- the number of another node than the one before it in the line, which is there
+  AnyNode : Kind  -- the number of a node of which nothing is asked
   BearerNumber : Kind
-  PortNumber : Kind
+  AnyNumber : Kind  -- a number below 2 ^ 32: a port, a service type, an instance or a key
   FrameNumber : Kind
   RoundsNumber : Kind
   TimesNumber : Kind
   SendWord : Kind
   FormWord : Kind
+  ScopeWord : Kind
   ImportanceWord : Kind
   BodyText : Kind
 
@@ -69,21 +71,41 @@ is_importance token = is_some (importance_in token)
 abbrev pub importance_of : List ℕ → Importance
 importance_of token = unwrap_or (importance_in token) Low
 
--- whether a token is of a kind, in a line in which the node before it has the number own
-abbrev pub takes : ℕ → Kind → List ℕ → Bool
-takes own NewNode token = is_number 1 32 token
-takes own OldNode token = is_number 1 32 token
-takes own OtherNode token = is_number 1 32 token && not (number_of token == own)
-takes own OtherOldNode token = is_number 1 32 token && not (number_of token == own)
-takes own BearerNumber token = is_number 0 0 token
-takes own PortNumber token = is_number 0 4294967295 token
-takes own FrameNumber token = is_number 0 1000000 token
-takes own RoundsNumber token = is_number 0 1000000 token
-takes own TimesNumber token = is_number 1 1000000 token
-takes own SendWord token = bytes_eq token (codes "send")
-takes own FormWord token = bytes_eq token (codes "port")
-takes own ImportanceWord token = is_importance token
-takes own BodyText token = is_body token
+-- the scope that a token is
+unfoldable pub scope_in : List ℕ → Option Scope
+scope_in token =
+    if bytes_eq token (codes "zone") then Some scope.Zone
+    else (if bytes_eq token (codes "cluster") then Some scope.Cluster else (if bytes_eq token (codes "node") then Some scope.Node else None))
+
+abbrev pub is_scope : List ℕ → Bool
+is_scope token = is_some (scope_in token)
+
+-- the scope that a token stands for
+abbrev pub scope_of : List ℕ → Scope
+scope_of token = unwrap_or (scope_in token) scope.Zone
+
+-- how a message finds its destination: by a service's name, or by a port
+abbrev pub is_name : List ℕ → Bool
+is_name token = bytes_eq token (codes "name")
+
+abbrev pub is_form : List ℕ → Bool
+is_form token = is_name token || bytes_eq token (codes "port")
+
+-- whether a token is of a kind
+abbrev pub takes : Kind → List ℕ → Bool
+takes NewNode token = is_number 1 32 token
+takes OldNode token = is_number 1 32 token
+takes AnyNode token = is_number 1 32 token
+takes BearerNumber token = is_number 0 0 token
+takes AnyNumber token = is_number 0 4294967295 token
+takes FrameNumber token = is_number 0 1000000 token
+takes RoundsNumber token = is_number 0 1000000 token
+takes TimesNumber token = is_number 1 1000000 token
+takes SendWord token = bytes_eq token (codes "send")
+takes FormWord token = is_form token
+takes ScopeWord token = is_scope token
+takes ImportanceWord token = is_importance token
+takes BodyText token = is_body token
 
 -- an empty line and a line that begins with `#` are done as nothing
 abbrev pub is_remark : List ℕ → Bool

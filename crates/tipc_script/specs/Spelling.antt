@@ -1,13 +1,17 @@
 -- How a line is spelled: each line that asks for something has one spelling.
-use Rattle.std.specs.Prelude.{◌≡◌, ◌≢◌, ℕ, ◌-◌, ◌<◌, ◌≤◌, ◌^◌, ◌⊎◌, if◌then◌else◌, true, List, [], ◌∷◌, length, codes}
+use Rattle.std.specs.Prelude.{◌≡◌, ℕ, ◌-◌, ◌<◌, ◌≤◌, ◌^◌, ◌⊎◌, if◌then◌else◌, true, List, [], ◌∷◌, ◌++◌, length, codes}
 use Rattle.std.specs.List.{join_with_byte, All}
 use Rattle.std.specs.Fmt.{decimal}
 use Rattle.tipc_types.specs.declared.identity.PortId.{PortId}
 use Rattle.tipc_types.specs.declared.message_forms.Importance.{Importance}
 use Rattle.tipc_types.specs.declared.message_forms.Importance.TheVariants.{Low, Medium, High, Critical}
 use Rattle.tipc_types.specs.Address.{node_word, IsNodeWord}
+use Rattle.tipc_types.specs.declared.services.Scope.{Scope}
+use Rattle.tipc_types.specs.declared.services.Scope.TheVariants as scope
+use Rattle.tipc_script.specs.declared.lines.Destination.{Destination}
+use Rattle.tipc_script.specs.declared.lines.Destination.TheVariants as destination
 use Rattle.tipc_script.specs.declared.lines.Line.{Line}
-use Rattle.tipc_script.specs.declared.lines.Line.TheVariants.{Nothing, Node, Mend, Cut, Tick, Restart, Link, Mark, Socket, Send, Repeat, Arrive, Receive, Drain, Pump, Burst, Settle, Air, Show, Links, Flow}
+use Rattle.tipc_script.specs.declared.lines.Line.TheVariants.{Nothing, Node, Mend, Cut, Tick, Restart, Link, Mark, Socket, Close, Publish, Withdraw, Send, Repeat, Arrive, Receive, Drain, Pump, Burst, Settle, Air, Show, Links, Flow}
 use Rattle.tipc_script.specs.Kinds.{is_remark, is_visible, pattern}
 
 -- words with single spaces between them
@@ -19,6 +23,11 @@ importance_word Low = codes "low"
 importance_word Medium = codes "medium"
 importance_word High = codes "high"
 importance_word Critical = codes "critical"
+
+abbrev pub scope_word : Scope → List ℕ
+scope_word scope.Zone = codes "zone"
+scope_word scope.Cluster = codes "cluster"
+scope_word scope.Node = codes "node"
 
 -- a port of a node
 abbrev pub port_at : ℕ → ℕ → PortId
@@ -33,10 +42,15 @@ abbrev pub body_word : List ℕ → List ℕ
 body_word [] = 42 ∷ decimal 0
 body_word (byte ∷ bytes) = if is_visible byte then 61 ∷ byte ∷ bytes else 42 ∷ decimal (length (byte ∷ bytes))
 
+-- the words that tell whom a message is for
+abbrev pub destination_words : Destination → List (List ℕ)
+destination_words (destination.Port to) = codes "port" ∷ decimal (node_number to) ∷ decimal to.port ∷ []
+destination_words (destination.Name kind instance) = codes "name" ∷ decimal kind ∷ decimal instance ∷ []
+
 -- the words of a line that sends
-abbrev pub send_words : ℕ → ℕ → PortId → Importance → List ℕ → List (List ℕ)
+abbrev pub send_words : ℕ → ℕ → Destination → Importance → List ℕ → List (List ℕ)
 send_words node port to importance body =
-    codes "send" ∷ decimal node ∷ decimal port ∷ codes "port" ∷ decimal (node_number to) ∷ decimal to.port ∷ importance_word importance ∷ body_word body ∷ []
+    codes "send" ∷ decimal node ∷ decimal port ∷ (destination_words to ++ (importance_word importance ∷ body_word body ∷ []))
 
 -- the words of a line
 abbrev pub words_of : Line → List (List ℕ)
@@ -49,6 +63,10 @@ words_of (Restart node) = codes "restart" ∷ decimal node ∷ []
 words_of (Link first second bearer) = codes "link" ∷ decimal first ∷ decimal second ∷ decimal bearer ∷ []
 words_of Mark = codes "mark" ∷ []
 words_of (Socket node) = codes "socket" ∷ decimal node ∷ []
+words_of (Close node port) = codes "close" ∷ decimal node ∷ decimal port ∷ []
+words_of (Publish node port kind lower upper scope key) =
+    codes "publish" ∷ decimal node ∷ decimal port ∷ decimal kind ∷ decimal lower ∷ decimal upper ∷ scope_word scope ∷ decimal key ∷ []
+words_of (Withdraw node port key) = codes "withdraw" ∷ decimal node ∷ decimal port ∷ decimal key ∷ []
 words_of (Send node port to importance body) = send_words node port to importance body
 words_of (Repeat times node port to importance body) = codes "repeat" ∷ decimal times ∷ send_words node port to importance body
 words_of (Arrive node bearer frame) = codes "arrive" ∷ decimal node ∷ decimal bearer ∷ decimal frame ∷ []
@@ -84,14 +102,26 @@ IsPattern body = (length body ≤ 70000) × (body ≡ pattern (length body))
 abbrev pub IsBody : List ℕ → Type 0
 IsBody body = IsText body ⊎ IsPattern body
 
+-- whom a line may send a message to: a port of a node, or a service
+abbrev pub IsDestination : Destination → Type 0
+IsDestination (destination.Port to) = IsNodeWord to.node.word × (to.port < 2 ^ 32)
+IsDestination (destination.Name kind instance) = (kind < 2 ^ 32) × (instance < 2 ^ 32)
+
 -- a message as a line may ask for it
-pub record IsMessage (node port : ℕ) (to : PortId) (body : List ℕ) : Type 0 where
+pub record IsMessage (node port : ℕ) (to : Destination) (body : List ℕ) : Type 0 where
   pub from_node : IsNode node
   pub from_port : port < 2 ^ 32
-  pub to_node : IsNodeWord to.node.word
-  pub other : to.node.word ≢ node_word node
-  pub to_port : to.port < 2 ^ 32
+  pub whom : IsDestination to
   pub told : IsBody body
+
+-- a publication as a line may ask for it; its bounds may be in the wrong order
+pub record IsOffer (node port kind lower upper key : ℕ) : Type 0 where
+  pub from_node : IsNode node
+  pub from_port : port < 2 ^ 32
+  pub type_fits : kind < 2 ^ 32
+  pub lower_fits : lower < 2 ^ 32
+  pub upper_fits : upper < 2 ^ 32
+  pub key_fits : key < 2 ^ 32
 
 -- the values of a line are in their ranges
 abbrev pub Fits : Line → Type 0
@@ -104,12 +134,15 @@ Fits (Restart node) = IsNode node
 Fits (Link first second bearer) = IsNode first × IsNode second × (bearer ≡ 0)
 Fits Mark = Unit {0}
 Fits (Socket node) = IsNode node
+Fits (Close node port) = IsNode node × (port < 2 ^ 32)
+Fits (Publish node port kind lower upper scope key) = IsOffer node port kind lower upper key
+Fits (Withdraw node port key) = IsNode node × (port < 2 ^ 32) × (key < 2 ^ 32)
 Fits (Send node port to importance body) = IsMessage node port to body
 Fits (Repeat times node port to importance body) = IsTimes times × IsMessage node port to body
 Fits (Arrive node bearer frame) = IsNode node × (bearer ≡ 0) × (frame ≤ 1000000)
 Fits (Receive node port) = IsNode node × (port < 2 ^ 32)
 Fits (Drain node port) = IsNode node × (port < 2 ^ 32)
-Fits (Burst node port to_node to_port times body) = IsMessage node port (port_at to_node to_port) body × IsNode to_node × IsTimes times
+Fits (Burst node port to_node to_port times body) = IsMessage node port (destination.Port (port_at to_node to_port)) body × IsNode to_node × IsTimes times
 Fits (Pump bearer) = bearer ≡ 0
 Fits (Settle rounds) = rounds ≤ 1000000
 Fits (Air bearer) = bearer ≡ 0
@@ -128,6 +161,10 @@ Asks text (Restart node) = Fits (Restart node) × (text ≡ spelling_of (Restart
 Asks text (Link first second bearer) = Fits (Link first second bearer) × (text ≡ spelling_of (Link first second bearer))
 Asks text Mark = text ≡ spelling_of Mark
 Asks text (Socket node) = Fits (Socket node) × (text ≡ spelling_of (Socket node))
+Asks text (Close node port) = Fits (Close node port) × (text ≡ spelling_of (Close node port))
+Asks text (Publish node port kind lower upper scope key) =
+    Fits (Publish node port kind lower upper scope key) × (text ≡ spelling_of (Publish node port kind lower upper scope key))
+Asks text (Withdraw node port key) = Fits (Withdraw node port key) × (text ≡ spelling_of (Withdraw node port key))
 Asks text (Send node port to importance body) = Fits (Send node port to importance body) × (text ≡ spelling_of (Send node port to importance body))
 Asks text (Repeat times node port to importance body) = Fits (Repeat times node port to importance body) × (text ≡ spelling_of (Repeat times node port to importance body))
 Asks text (Arrive node bearer frame) = Fits (Arrive node bearer frame) × (text ≡ spelling_of (Arrive node bearer frame))

@@ -1,23 +1,17 @@
-//! The tokens that each first word asks for.
+//! The tokens that each first word asks for which tells of nodes, links and frames.
 
-ghost use Rattle.std.specs.Prelude.{◌≡◌, ◌+◌, ◌<◌, ◌^◌, IfOk, length, ℕ, MatchOption, Some, None};
-ghost use Rattle.tipc_script.specs.Grammar.{node_row, mend_row, cut_row, tick_row, restart_row, link_row, mark_row, socket_row, send_row, repeat_row, arrive_row, receive_row, drain_row, burst_row, pump_row, settle_row, air_row, show_row, links_row, flow_row, row_of, nodes_in, asked, nodes_of};
-ghost use Rattle.tipc_script.specs.Faults.{Tells, row_fault, fault_of};
+ghost use Rattle.std.specs.Prelude.{◌≡◌, IfOk};
+ghost use Rattle.tipc_script.specs.Grammar.{air_row, arrive_row, cut_row, drain_row, flow_row, link_row, links_row, mark_row, mend_row, node_row, pump_row, receive_row, restart_row, row_nodes, settle_row, show_row, socket_row, tick_row};
+ghost use Rattle.tipc_script.specs.Faults.{Tells, row_fault};
 
-use crate::faults::{LineFault, LineWhy};
+use crate::faults::LineFault;
 use crate::lines::{Command, Line};
-use crate::tokens::Tokens;
+use crate::tokens::{HIGHEST_NUMBER, Tokens};
 use std::alloc::Global;
-use tipc_types::{Addr, PortId, Sequence};
-
-/// The highest number of a port.
-const HIGHEST_PORT: u32 = u32::MAX;
+use tipc_types::Sequence;
 
 /// The highest number of a frame.
 const HIGHEST_FRAME: u32 = 1_000_000;
-
-/// The most times that something is done again.
-const MOST_TIMES: u32 = 1_000_000;
 
 /// The most rounds that are waited for.
 const MOST_ROUNDS: u32 = 1_000_000;
@@ -30,7 +24,7 @@ const HIGHEST_BEARER: u32 = 0;
 pub fn node_line(alloc: Global, tokens: &mut Tokens<'_>) -> Result<Command, LineFault>
     ensures fault { Tells result (row_fault node_row tokens.old) }
     ensures line { IfOk result (λ c. c.line ≡ node_row.asks tokens.old) }
-    ensures nodes { IfOk result (λ c. c.nodes ≡ nodes_in node_row.kinds tokens.old) }
+    ensures nodes { IfOk result (λ c. c.nodes ≡ row_nodes node_row tokens.old) }
 {
     let node = tokens.node(false)?;
     tokens.finish()?;
@@ -45,7 +39,7 @@ pub fn node_line(alloc: Global, tokens: &mut Tokens<'_>) -> Result<Command, Line
 pub fn mend_line(alloc: Global, tokens: &mut Tokens<'_>) -> Result<Command, LineFault>
     ensures fault { Tells result (row_fault mend_row tokens.old) }
     ensures line { IfOk result (λ c. c.line ≡ mend_row.asks tokens.old) }
-    ensures nodes { IfOk result (λ c. c.nodes ≡ nodes_in mend_row.kinds tokens.old) }
+    ensures nodes { IfOk result (λ c. c.nodes ≡ row_nodes mend_row tokens.old) }
 {
     let node = tokens.node(true)?;
     let bearer = tokens.number(0, HIGHEST_BEARER)?;
@@ -64,7 +58,7 @@ pub fn mend_line(alloc: Global, tokens: &mut Tokens<'_>) -> Result<Command, Line
 pub fn cut_line(alloc: Global, tokens: &mut Tokens<'_>) -> Result<Command, LineFault>
     ensures fault { Tells result (row_fault cut_row tokens.old) }
     ensures line { IfOk result (λ c. c.line ≡ cut_row.asks tokens.old) }
-    ensures nodes { IfOk result (λ c. c.nodes ≡ nodes_in cut_row.kinds tokens.old) }
+    ensures nodes { IfOk result (λ c. c.nodes ≡ row_nodes cut_row tokens.old) }
 {
     let node = tokens.node(true)?;
     let bearer = tokens.number(0, HIGHEST_BEARER)?;
@@ -83,7 +77,7 @@ pub fn cut_line(alloc: Global, tokens: &mut Tokens<'_>) -> Result<Command, LineF
 pub fn tick_line(alloc: Global, tokens: &mut Tokens<'_>) -> Result<Command, LineFault>
     ensures fault { Tells result (row_fault tick_row tokens.old) }
     ensures line { IfOk result (λ c. c.line ≡ tick_row.asks tokens.old) }
-    ensures nodes { IfOk result (λ c. c.nodes ≡ nodes_in tick_row.kinds tokens.old) }
+    ensures nodes { IfOk result (λ c. c.nodes ≡ row_nodes tick_row tokens.old) }
 {
     let node = tokens.node(true)?;
     tokens.finish()?;
@@ -98,7 +92,7 @@ pub fn tick_line(alloc: Global, tokens: &mut Tokens<'_>) -> Result<Command, Line
 pub fn restart_line(alloc: Global, tokens: &mut Tokens<'_>) -> Result<Command, LineFault>
     ensures fault { Tells result (row_fault restart_row tokens.old) }
     ensures line { IfOk result (λ c. c.line ≡ restart_row.asks tokens.old) }
-    ensures nodes { IfOk result (λ c. c.nodes ≡ nodes_in restart_row.kinds tokens.old) }
+    ensures nodes { IfOk result (λ c. c.nodes ≡ row_nodes restart_row tokens.old) }
 {
     let node = tokens.node(true)?;
     tokens.finish()?;
@@ -113,7 +107,7 @@ pub fn restart_line(alloc: Global, tokens: &mut Tokens<'_>) -> Result<Command, L
 pub fn link_line(alloc: Global, tokens: &mut Tokens<'_>) -> Result<Command, LineFault>
     ensures fault { Tells result (row_fault link_row tokens.old) }
     ensures line { IfOk result (λ c. c.line ≡ link_row.asks tokens.old) }
-    ensures nodes { IfOk result (λ c. c.nodes ≡ nodes_in link_row.kinds tokens.old) }
+    ensures nodes { IfOk result (λ c. c.nodes ≡ row_nodes link_row tokens.old) }
 {
     let first = tokens.node(true)?;
     let second = tokens.node(true)?;
@@ -134,7 +128,7 @@ pub fn link_line(alloc: Global, tokens: &mut Tokens<'_>) -> Result<Command, Line
 pub fn mark_line(alloc: Global, tokens: &mut Tokens<'_>) -> Result<Command, LineFault>
     ensures fault { Tells result (row_fault mark_row tokens.old) }
     ensures line { IfOk result (λ c. c.line ≡ mark_row.asks tokens.old) }
-    ensures nodes { IfOk result (λ c. c.nodes ≡ nodes_in mark_row.kinds tokens.old) }
+    ensures nodes { IfOk result (λ c. c.nodes ≡ row_nodes mark_row tokens.old) }
 {
     tokens.finish()?;
     Ok(Command {
@@ -148,7 +142,7 @@ pub fn mark_line(alloc: Global, tokens: &mut Tokens<'_>) -> Result<Command, Line
 pub fn socket_line(alloc: Global, tokens: &mut Tokens<'_>) -> Result<Command, LineFault>
     ensures fault { Tells result (row_fault socket_row tokens.old) }
     ensures line { IfOk result (λ c. c.line ≡ socket_row.asks tokens.old) }
-    ensures nodes { IfOk result (λ c. c.nodes ≡ nodes_in socket_row.kinds tokens.old) }
+    ensures nodes { IfOk result (λ c. c.nodes ≡ row_nodes socket_row tokens.old) }
 {
     let node = tokens.node(true)?;
     tokens.finish()?;
@@ -158,76 +152,12 @@ pub fn socket_line(alloc: Global, tokens: &mut Tokens<'_>) -> Result<Command, Li
     })
 }
 
-/// What follows `send`.
-#[tactic(auto, unfolding(crate::specs::Faults::row_fault))]
-pub fn send_line(alloc: Global, tokens: &mut Tokens<'_>) -> Result<Command, LineFault>
-    ensures fault { Tells result (row_fault send_row tokens.old) }
-    ensures line { IfOk result (λ c. c.line ≡ send_row.asks tokens.old) }
-    ensures nodes { IfOk result (λ c. c.nodes ≡ nodes_in send_row.kinds tokens.old) }
-{
-    let node = tokens.node(true)?;
-    let port = tokens.number(0, HIGHEST_PORT)?;
-    tokens.word(b"port", LineWhy::Word)?;
-    let to_node = tokens.other_node(node.node)?;
-    let to_port = tokens.number(0, HIGHEST_PORT)?;
-    let importance = tokens.importance()?;
-    let body = tokens.body(alloc)?;
-    tokens.finish()?;
-    let to = PortId {
-        node: Addr::node(to_node.node),
-        port: to_port,
-    };
-    Ok(Command {
-        line: Line::Send {
-            node: node.node,
-            port,
-            to,
-            importance,
-            body,
-        },
-        nodes: Sequence::from_slice(alloc, [node].as_slice())?,
-    })
-}
-
-/// What follows `repeat`: how many times, and a line that sends.
-#[tactic(auto, unfolding(crate::specs::Faults::row_fault))]
-pub fn repeat_line(alloc: Global, tokens: &mut Tokens<'_>) -> Result<Command, LineFault>
-    ensures fault { Tells result (row_fault repeat_row tokens.old) }
-    ensures line { IfOk result (λ c. c.line ≡ repeat_row.asks tokens.old) }
-    ensures nodes { IfOk result (λ c. c.nodes ≡ nodes_in repeat_row.kinds tokens.old) }
-{
-    let times = tokens.number(1, MOST_TIMES)?;
-    tokens.word(b"send", LineWhy::Command)?;
-    let Command { line, nodes } = send_line(alloc, tokens)?;
-    let Line::Send {
-        node,
-        port,
-        to,
-        importance,
-        body,
-    } = line
-    else {
-        unreachable!();
-    };
-    Ok(Command {
-        line: Line::Repeat {
-            times,
-            node,
-            port,
-            to,
-            importance,
-            body,
-        },
-        nodes,
-    })
-}
-
 /// What follows `arrive`.
 #[tactic(auto, unfolding(crate::specs::Faults::row_fault))]
 pub fn arrive_line(alloc: Global, tokens: &mut Tokens<'_>) -> Result<Command, LineFault>
     ensures fault { Tells result (row_fault arrive_row tokens.old) }
     ensures line { IfOk result (λ c. c.line ≡ arrive_row.asks tokens.old) }
-    ensures nodes { IfOk result (λ c. c.nodes ≡ nodes_in arrive_row.kinds tokens.old) }
+    ensures nodes { IfOk result (λ c. c.nodes ≡ row_nodes arrive_row tokens.old) }
 {
     let node = tokens.node(true)?;
     let bearer = tokens.number(0, HIGHEST_BEARER)?;
@@ -248,10 +178,10 @@ pub fn arrive_line(alloc: Global, tokens: &mut Tokens<'_>) -> Result<Command, Li
 pub fn receive_line(alloc: Global, tokens: &mut Tokens<'_>) -> Result<Command, LineFault>
     ensures fault { Tells result (row_fault receive_row tokens.old) }
     ensures line { IfOk result (λ c. c.line ≡ receive_row.asks tokens.old) }
-    ensures nodes { IfOk result (λ c. c.nodes ≡ nodes_in receive_row.kinds tokens.old) }
+    ensures nodes { IfOk result (λ c. c.nodes ≡ row_nodes receive_row tokens.old) }
 {
     let node = tokens.node(true)?;
-    let port = tokens.number(0, HIGHEST_PORT)?;
+    let port = tokens.number(0, HIGHEST_NUMBER)?;
     tokens.finish()?;
     Ok(Command {
         line: Line::Receive {
@@ -267,10 +197,10 @@ pub fn receive_line(alloc: Global, tokens: &mut Tokens<'_>) -> Result<Command, L
 pub fn drain_line(alloc: Global, tokens: &mut Tokens<'_>) -> Result<Command, LineFault>
     ensures fault { Tells result (row_fault drain_row tokens.old) }
     ensures line { IfOk result (λ c. c.line ≡ drain_row.asks tokens.old) }
-    ensures nodes { IfOk result (λ c. c.nodes ≡ nodes_in drain_row.kinds tokens.old) }
+    ensures nodes { IfOk result (λ c. c.nodes ≡ row_nodes drain_row tokens.old) }
 {
     let node = tokens.node(true)?;
-    let port = tokens.number(0, HIGHEST_PORT)?;
+    let port = tokens.number(0, HIGHEST_NUMBER)?;
     tokens.finish()?;
     Ok(Command {
         line: Line::Drain {
@@ -281,39 +211,12 @@ pub fn drain_line(alloc: Global, tokens: &mut Tokens<'_>) -> Result<Command, Lin
     })
 }
 
-/// What follows `burst`.
-#[tactic(auto, unfolding(crate::specs::Faults::row_fault))]
-pub fn burst_line(alloc: Global, tokens: &mut Tokens<'_>) -> Result<Command, LineFault>
-    ensures fault { Tells result (row_fault burst_row tokens.old) }
-    ensures line { IfOk result (λ c. c.line ≡ burst_row.asks tokens.old) }
-    ensures nodes { IfOk result (λ c. c.nodes ≡ nodes_in burst_row.kinds tokens.old) }
-{
-    let node = tokens.node(true)?;
-    let port = tokens.number(0, HIGHEST_PORT)?;
-    let to_node = tokens.other_node(node.node)?;
-    let to_port = tokens.number(0, HIGHEST_PORT)?;
-    let times = tokens.number(1, MOST_TIMES)?;
-    let body = tokens.body(alloc)?;
-    tokens.finish()?;
-    Ok(Command {
-        line: Line::Burst {
-            node: node.node,
-            port,
-            to_node: to_node.node,
-            to_port,
-            times,
-            body,
-        },
-        nodes: Sequence::from_slice(alloc, [node, to_node].as_slice())?,
-    })
-}
-
 /// What follows `pump`.
 #[tactic(auto, unfolding(crate::specs::Faults::row_fault))]
 pub fn pump_line(alloc: Global, tokens: &mut Tokens<'_>) -> Result<Command, LineFault>
     ensures fault { Tells result (row_fault pump_row tokens.old) }
     ensures line { IfOk result (λ c. c.line ≡ pump_row.asks tokens.old) }
-    ensures nodes { IfOk result (λ c. c.nodes ≡ nodes_in pump_row.kinds tokens.old) }
+    ensures nodes { IfOk result (λ c. c.nodes ≡ row_nodes pump_row tokens.old) }
 {
     let bearer = tokens.number(0, HIGHEST_BEARER)?;
     tokens.finish()?;
@@ -330,7 +233,7 @@ pub fn pump_line(alloc: Global, tokens: &mut Tokens<'_>) -> Result<Command, Line
 pub fn settle_line(alloc: Global, tokens: &mut Tokens<'_>) -> Result<Command, LineFault>
     ensures fault { Tells result (row_fault settle_row tokens.old) }
     ensures line { IfOk result (λ c. c.line ≡ settle_row.asks tokens.old) }
-    ensures nodes { IfOk result (λ c. c.nodes ≡ nodes_in settle_row.kinds tokens.old) }
+    ensures nodes { IfOk result (λ c. c.nodes ≡ row_nodes settle_row tokens.old) }
 {
     let rounds = tokens.number(0, MOST_ROUNDS)?;
     tokens.finish()?;
@@ -345,7 +248,7 @@ pub fn settle_line(alloc: Global, tokens: &mut Tokens<'_>) -> Result<Command, Li
 pub fn air_line(alloc: Global, tokens: &mut Tokens<'_>) -> Result<Command, LineFault>
     ensures fault { Tells result (row_fault air_row tokens.old) }
     ensures line { IfOk result (λ c. c.line ≡ air_row.asks tokens.old) }
-    ensures nodes { IfOk result (λ c. c.nodes ≡ nodes_in air_row.kinds tokens.old) }
+    ensures nodes { IfOk result (λ c. c.nodes ≡ row_nodes air_row tokens.old) }
 {
     let bearer = tokens.number(0, HIGHEST_BEARER)?;
     tokens.finish()?;
@@ -362,7 +265,7 @@ pub fn air_line(alloc: Global, tokens: &mut Tokens<'_>) -> Result<Command, LineF
 pub fn show_line(alloc: Global, tokens: &mut Tokens<'_>) -> Result<Command, LineFault>
     ensures fault { Tells result (row_fault show_row tokens.old) }
     ensures line { IfOk result (λ c. c.line ≡ show_row.asks tokens.old) }
-    ensures nodes { IfOk result (λ c. c.nodes ≡ nodes_in show_row.kinds tokens.old) }
+    ensures nodes { IfOk result (λ c. c.nodes ≡ row_nodes show_row tokens.old) }
 {
     let bearer = tokens.number(0, HIGHEST_BEARER)?;
     let frame = tokens.number(0, HIGHEST_FRAME)?;
@@ -381,7 +284,7 @@ pub fn show_line(alloc: Global, tokens: &mut Tokens<'_>) -> Result<Command, Line
 pub fn links_line(alloc: Global, tokens: &mut Tokens<'_>) -> Result<Command, LineFault>
     ensures fault { Tells result (row_fault links_row tokens.old) }
     ensures line { IfOk result (λ c. c.line ≡ links_row.asks tokens.old) }
-    ensures nodes { IfOk result (λ c. c.nodes ≡ nodes_in links_row.kinds tokens.old) }
+    ensures nodes { IfOk result (λ c. c.nodes ≡ row_nodes links_row tokens.old) }
 {
     let node = tokens.node(true)?;
     tokens.finish()?;
@@ -396,7 +299,7 @@ pub fn links_line(alloc: Global, tokens: &mut Tokens<'_>) -> Result<Command, Lin
 pub fn flow_line(alloc: Global, tokens: &mut Tokens<'_>) -> Result<Command, LineFault>
     ensures fault { Tells result (row_fault flow_row tokens.old) }
     ensures line { IfOk result (λ c. c.line ≡ flow_row.asks tokens.old) }
-    ensures nodes { IfOk result (λ c. c.nodes ≡ nodes_in flow_row.kinds tokens.old) }
+    ensures nodes { IfOk result (λ c. c.nodes ≡ row_nodes flow_row tokens.old) }
 {
     let from = tokens.node(true)?;
     let to = tokens.node(true)?;

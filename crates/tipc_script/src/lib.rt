@@ -7,10 +7,12 @@ mod forms;
 mod lines;
 mod numbers;
 mod parsing;
+mod sends;
+mod services;
 mod tokens;
 
 pub use faults::{LineFault, LineWhy};
-pub use lines::{Command, Line, NodeToken};
+pub use lines::{Command, Destination, Line, NodeToken};
 pub use parsing::{grammar, parse_line};
 
 #[cfg(test)]

@@ -1,6 +1,20 @@
 //! What a line of a script asks for.
 
-use tipc_types::{Bytes, Importance, PortId, Sequence};
+use tipc_types::{Bytes, Importance, PortId, Scope, Sequence};
+
+/// Whom a message is for.
+#[derive(Clone, Copy, Debug, PartialEq, Eq)]
+pub enum Destination {
+    /// A port of a node, which may be the sending one.
+    Port(PortId),
+    /// Whoever offers a service.
+    Name {
+        /// The service type.
+        kind: u32,
+        /// The instance.
+        instance: u32,
+    },
+}
 
 /// What a line of a script asks for. Nodes have numbers from 1 to 32, and the bearer is 0. (This
 /// project's profile.)
@@ -53,20 +67,53 @@ pub enum Line {
         /// The node that makes it.
         node: u8,
     },
-    /// A message to a port.
+    /// A socket is to be closed.
+    Close {
+        /// The node.
+        node: u8,
+        /// The socket's port.
+        port: u32,
+    },
+    /// A service is to be offered.
+    Publish {
+        /// The node.
+        node: u8,
+        /// The port that offers it.
+        port: u32,
+        /// The service type.
+        kind: u32,
+        /// The lowest instance, which may be above the highest: then there is no such range.
+        lower: u32,
+        /// The highest instance.
+        upper: u32,
+        /// Who sees it.
+        scope: Scope,
+        /// The publisher's key.
+        key: u32,
+    },
+    /// A service is no longer to be offered.
+    Withdraw {
+        /// The node.
+        node: u8,
+        /// The port that offered it.
+        port: u32,
+        /// The publication's key.
+        key: u32,
+    },
+    /// A message to a port or by name.
     Send {
         /// The sending node.
         node: u8,
         /// The sending port.
         port: u32,
-        /// The port that it is for, at another node.
-        to: PortId,
+        /// Whom it is for.
+        to: Destination,
         /// How important it is.
         importance: Importance,
         /// The user's bytes.
         body: Bytes,
     },
-    /// A message to a port, again and again until one isn't sent.
+    /// A message to a port or by name, again and again until one isn't sent.
     Repeat {
         /// How many times at most, from 1 to 1,000,000.
         times: u32,
@@ -74,8 +121,8 @@ pub enum Line {
         node: u8,
         /// The sending port.
         port: u32,
-        /// The port that it is for, at another node.
-        to: PortId,
+        /// Whom it is for.
+        to: Destination,
         /// How important it is.
         importance: Importance,
         /// The user's bytes.
@@ -115,7 +162,7 @@ pub enum Line {
         node: u8,
         /// The sending port.
         port: u32,
-        /// The node that it is for, which is another one.
+        /// The node that it is for.
         to_node: u8,
         /// The port that it is for.
         to_port: u32,

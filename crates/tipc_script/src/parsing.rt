@@ -2,7 +2,7 @@
 
 ghost use Rattle.std.specs.Prelude.{◌≡◌, ◌+◌, ◌<◌, ◌^◌, IfOk, length, MatchOption, Some, None, List, ℕ};
 ghost use Rattle.tipc_script.specs.Kinds.{is_remark};
-ghost use Rattle.tipc_script.specs.Grammar.{frame_rows, traffic_rows, row_among, row_of, asked_by, nodes_by, asked, nodes_of};
+ghost use Rattle.tipc_script.specs.Grammar.{frame_rows, service_rows, traffic_rows, row_among, row_of, asked_by, nodes_by, asked, nodes_of};
 ghost use Rattle.tipc_script.specs.Faults.{Tells, Reads, fault_by, fault_of};
 ghost use Rattle.tipc_script.specs.declared.lines.Line.{Line};
 ghost use Rattle.tipc_script.specs.Spelling.{Asks};
@@ -10,9 +10,9 @@ ghost use Rattle.tipc_script.specs.FirstWords.{row_for};
 ghost use Rattle.tipc_script.specs.Splitting.{whole, first_token, behind};
 
 use crate::faults::{LineFault, LineWhy};
-use crate::forms;
 use crate::lines::{Command, Line};
 use crate::tokens::{Tokens, is_word};
+use crate::{forms, sends, services};
 use std::alloc::Global;
 use tipc_types::Sequence;
 
@@ -33,6 +33,9 @@ enum FirstWord {
     Link,
     Mark,
     Socket,
+    Close,
+    Publish,
+    Withdraw,
     Send,
     Repeat,
     Receive,
@@ -73,8 +76,24 @@ fn first_word(token: &[u8]) -> Option<FirstWord>
     if is_word(token, b"mark") {
         return Some(FirstWord::Mark);
     }
+    service_word(token)
+}
+
+/// The first word of a line about sockets, services, messages, frames and links, if the token is one.
+fn service_word(token: &[u8]) -> Option<FirstWord>
+    ensures { MatchOption result (row_among service_rows token.now ≡ None) (λ word. row_among service_rows token.now ≡ Some (row_for word)) }
+{
     if is_word(token, b"socket") {
         return Some(FirstWord::Socket);
+    }
+    if is_word(token, b"close") {
+        return Some(FirstWord::Close);
+    }
+    if is_word(token, b"publish") {
+        return Some(FirstWord::Publish);
+    }
+    if is_word(token, b"withdraw") {
+        return Some(FirstWord::Withdraw);
     }
     traffic_word(token)
 }
@@ -148,11 +167,14 @@ fn line_behind(
         FirstWord::Link => forms::link_line(alloc, tokens),
         FirstWord::Mark => forms::mark_line(alloc, tokens),
         FirstWord::Socket => forms::socket_line(alloc, tokens),
-        FirstWord::Send => forms::send_line(alloc, tokens),
-        FirstWord::Repeat => forms::repeat_line(alloc, tokens),
+        FirstWord::Close => services::close_line(alloc, tokens),
+        FirstWord::Publish => services::publish_line(alloc, tokens),
+        FirstWord::Withdraw => services::withdraw_line(alloc, tokens),
+        FirstWord::Send => sends::send_line(alloc, tokens),
+        FirstWord::Repeat => sends::repeat_line(alloc, tokens),
         FirstWord::Receive => forms::receive_line(alloc, tokens),
         FirstWord::Drain => forms::drain_line(alloc, tokens),
-        FirstWord::Burst => forms::burst_line(alloc, tokens),
+        FirstWord::Burst => sends::burst_line(alloc, tokens),
         FirstWord::Arrive => forms::arrive_line(alloc, tokens),
         FirstWord::Pump => forms::pump_line(alloc, tokens),
         FirstWord::Settle => forms::settle_line(alloc, tokens),

@@ -1,18 +1,22 @@
 //! Tests of lines that are read and lines that are refused.
 
-use crate::{Command, Line, LineFault, LineWhy, NodeToken, parse_line};
+ghost use Rattle.std.specs.Prelude.{◌≤◌};
+
+use crate::{Command, Destination, Line, LineFault, LineWhy, NodeToken, parse_line};
 use std::alloc::Global;
 use std::process::Abort;
 use std::test::Fail;
-use tipc_types::{Addr, Bytes, Importance, PortId};
+use tipc_types::{Addr, Bytes, Importance, PortId, Scope};
 
 /// A line that is refused for each reason, with its place. (More stand in rows/bad_lines.table.)
-const BAD_LINES: [(&[u8], u32, LineWhy); 5] = [
+const BAD_LINES: [(&[u8], u32, LineWhy); 7] = [
     (b"nod 1", 1, LineWhy::Command),
     (b"node 33", 6, LineWhy::Number),
     (b"send 1 1 port 2 1 LOW =a", 19, LineWhy::Word),
     (b"send 1 1 port 2 1 low *70001", 23, LineWhy::Body),
     (b"mend 1", 7, LineWhy::End),
+    (b"send 1 1 name 100 5 low", 24, LineWhy::End),
+    (b"publish 1 1 100 0 9 world 1", 21, LineWhy::Word),
 ];
 
 /// What is read of a short line.
@@ -149,35 +153,101 @@ fn lines_of_many_messages_are_read(rt: HostRuntime) -> Result<(), Fail> {
     is_read_as(&rt, rt.alloc(), text, burst, nodes.as_slice())
 }
 
-#[test]
-fn a_send_that_is_repeated_is_read(rt: HostRuntime) -> Result<(), Fail> {
-    let repeat = Line::Repeat {
-        times: 2,
-        node: 1,
-        port: 7,
-        to: PortId {
-            node: Addr::node(2),
-            port: 9,
-        },
-        importance: Importance::High,
-        body: Bytes::from_slice(rt.alloc(), b"a")?,
-    };
-    let text = b"repeat 2 send 1 7 port 2 9 high =a";
-    is_read_as(&rt, rt.alloc(), text, repeat, &[old_node(15, 1)])
+/// The port of that node and number, as a destination.
+fn port_of(node: u8, port: u32) -> Destination
+    requires { (1 ≤ node) × (node ≤ 32) }
+{
+    Destination::Port(PortId {
+        node: Addr::node(node),
+        port,
+    })
 }
 
 #[test]
-fn a_send_is_read_with_its_body(rt: HostRuntime) -> Result<(), Fail> {
-    let send = Line::Send {
-        node: 1,
-        port: u32::MAX,
-        to: PortId {
-            node: Addr::node(2),
-            port: 0,
-        },
-        importance: Importance::Low,
-        body: Bytes::from_slice(rt.alloc(), b"hello")?,
+fn sends_that_are_repeated_are_read(rt: HostRuntime) -> Result<(), Fail> {
+    let name = Destination::Name {
+        kind: 100,
+        instance: 5,
     };
-    let text = b"send 1 4294967295 port 2 0 low =hello";
-    is_read_as(&rt, rt.alloc(), text, send, &[old_node(6, 1)])
+    let rows = [
+        (
+            b"repeat 2 send 1 7 port 2 9 high =a".as_slice(),
+            port_of(2, 9),
+        ),
+        (b"repeat 2 send 1 7 name 100 5 high =a", name),
+    ];
+    for (text, to) in rows {
+        let repeat = Line::Repeat {
+            times: 2,
+            node: 1,
+            port: 7,
+            to,
+            importance: Importance::High,
+            body: Bytes::from_slice(rt.alloc(), b"a")?,
+        };
+        is_read_as(&rt, rt.alloc(), text, repeat, &[old_node(15, 1)])?;
+    }
+    Ok(())
+}
+
+#[test]
+fn sends_are_read_with_their_bodies(rt: HostRuntime) -> Result<(), Fail> {
+    let name = Destination::Name {
+        kind: 0,
+        instance: u32::MAX,
+    };
+    let rows = [
+        (
+            b"send 1 4294967295 port 2 0 low =hello".as_slice(),
+            port_of(2, 0),
+        ),
+        (b"send 1 4294967295 port 1 0 low =hello", port_of(1, 0)),
+        (b"send 1 4294967295 name 0 4294967295 low =hello", name),
+    ];
+    for (text, to) in rows {
+        let send = Line::Send {
+            node: 1,
+            port: u32::MAX,
+            to,
+            importance: Importance::Low,
+            body: Bytes::from_slice(rt.alloc(), b"hello")?,
+        };
+        is_read_as(&rt, rt.alloc(), text, send, &[old_node(6, 1)])?;
+    }
+    Ok(())
+}
+
+#[test]
+fn lines_of_services_are_read(rt: HostRuntime) -> Result<(), Fail> {
+    let close = Line::Close { node: 2, port: 1 };
+    is_read_as(&rt, rt.alloc(), b"close 2 1", close, &[old_node(7, 2)])?;
+    let rows = [
+        (b"publish 1 7 100 9 0 zone 3".as_slice(), Scope::Zone),
+        (b"publish 1 7 100 9 0 cluster 3", Scope::Cluster),
+        (b"publish 1 7 100 9 0 node 3", Scope::Node),
+    ];
+    for (text, scope) in rows {
+        let publish = Line::Publish {
+            node: 1,
+            port: 7,
+            kind: 100,
+            lower: 9,
+            upper: 0,
+            scope,
+            key: 3,
+        };
+        is_read_as(&rt, rt.alloc(), text, publish, &[old_node(9, 1)])?;
+    }
+    let withdraw = Line::Withdraw {
+        node: 1,
+        port: 7,
+        key: 3,
+    };
+    is_read_as(
+        &rt,
+        rt.alloc(),
+        b"withdraw 1 7 3",
+        withdraw,
+        &[old_node(10, 1)],
+    )
 }

@@ -4,7 +4,7 @@ ghost use Rattle.std.specs.Prelude.{◌≡◌, ◌≢◌, ◌+◌, ◌-◌, ◌*
 ghost use Rattle.std.specs.Option.{option_copied};
 ghost use Rattle.std.specs.Str.{bytes_eq};
 ghost use Rattle.tipc_script.specs.Splitting.{whole, first_token, behind, tokens_of, pieces, is_space};
-ghost use Rattle.tipc_script.specs.Kinds.{is_number, is_body, body_of, importance_in, importance_of, is_importance, number_of};
+ghost use Rattle.tipc_script.specs.Kinds.{body_of, importance_in, importance_of, is_body, is_form, is_importance, is_name, is_number, is_scope, number_of, scope_in, scope_of};
 ghost use Rattle.tipc_script.specs.Faults.{Tells, first_fault, missing_fault, end_fault};
 
 use crate::body::body_in;
@@ -13,7 +13,10 @@ use crate::lines::NodeToken;
 use crate::numbers::number_in;
 use std::alloc::Global;
 use std::marker::Model;
-use tipc_types::{Bytes, Importance};
+use tipc_types::{Bytes, Importance, Scope};
+
+/// The highest number of a port, a service type, an instance or a key.
+pub const HIGHEST_NUMBER: u32 = u32::MAX;
 
 /// The tokens that are left of a line, from the left.
 #[derive(Drop)]
@@ -108,45 +111,22 @@ impl<'a> Tokens<'a> {
         Ok(number)
     }
 
+    /// The next token as the number of a node.
+    pub fn node_number(&mut self) -> Result<u8, LineFault>
+        ensures ok { IfOk result (λ node. (self.new ≡ behind self.old) × (node ≡ number_of (first_token self.old)) × (1 ≤ node) × (node ≤ 32)) }
+        ensures fault { Tells result (first_fault (is_number 1 32) LineWhy.Number self.old) }
+    {
+        Ok(self.number(1, 32)? as u8)
+    }
+
     /// The next token as the number of a node of which it is asked whether it is there.
     pub fn node(&mut self, there: bool) -> Result<NodeToken, LineFault>
         ensures ok { IfOk result (λ token. (self.new ≡ behind self.old) × (token ≡ record { place = self.old.place; node = number_of (first_token self.old); there = there }) × (1 ≤ token.node) × (token.node ≤ 32)) }
         ensures fault { Tells result (first_fault (is_number 1 32) LineWhy.Number self.old) }
     {
         let place = self.place();
-        let node = self.number(1, 32)?;
-        Ok(NodeToken {
-            place,
-            node: node as u8,
-            there,
-        })
-    }
-
-    /// The next token as the number of another node than `own`, which is to be there where that is asked.
-    #[tactic(auto, unfolding(crate::specs::Faults::first_fault, crate::specs::Faults::missing_fault))]
-    pub fn other_node(&mut self, own: u8) -> Result<NodeToken, LineFault>
-        ensures ok { IfOk result (λ token. (self.new ≡ behind self.old) × (token ≡ record { place = self.old.place; node = number_of (first_token self.old); there = true }) × (1 ≤ token.node) × (token.node ≤ 32)) }
-        ensures fault { Tells result (first_fault (λ token. is_number 1 32 token && not (number_of token == own)) LineWhy.Number self.old) }
-    {
-        let place = self.place();
-        let token = self.token()?;
-        let Some(node) = number_in(token, 1, 32) else {
-            return Err(LineFault::BadLine {
-                place,
-                why: LineWhy::Number,
-            });
-        };
-        if node == u32::from(own) {
-            return Err(LineFault::BadLine {
-                place,
-                why: LineWhy::Number,
-            });
-        }
-        Ok(NodeToken {
-            place,
-            node: node as u8,
-            there: true,
-        })
+        let node = self.node_number()?;
+        Ok(NodeToken { place, node, there })
     }
 
     /// The next token, which is to be this word; else the fault has this reason.
@@ -161,6 +141,43 @@ impl<'a> Tokens<'a> {
             return Err(LineFault::BadLine { place, why });
         }
         Ok(())
+    }
+
+    /// The next token as the form of a destination: whether it is a name, else it is a port.
+    #[tactic(auto, unfolding(crate::specs::Faults::first_fault, crate::specs::Faults::missing_fault))]
+    pub fn is_by_name(&mut self) -> Result<bool, LineFault>
+        ensures ok { IfOk result (λ named. (self.new ≡ behind self.old) × (named ≡ is_name (first_token self.old))) }
+        ensures fault { Tells result (first_fault is_form LineWhy.Word self.old) }
+    {
+        let place = self.place();
+        let token = self.token()?;
+        if is_word(token, b"name") {
+            return Ok(true);
+        }
+        if is_word(token, b"port") {
+            return Ok(false);
+        }
+        Err(LineFault::BadLine {
+            place,
+            why: LineWhy::Word,
+        })
+    }
+
+    /// The next token as a scope.
+    #[tactic(auto, unfolding(crate::specs::Faults::first_fault, crate::specs::Faults::missing_fault))]
+    pub fn scope(&mut self) -> Result<Scope, LineFault>
+        ensures ok { IfOk result (λ scope. (self.new ≡ behind self.old) × (scope ≡ scope_of (first_token self.old))) }
+        ensures fault { Tells result (first_fault is_scope LineWhy.Word self.old) }
+    {
+        let place = self.place();
+        let token = self.token()?;
+        let Some(scope) = scope_in(token) else {
+            return Err(LineFault::BadLine {
+                place,
+                why: LineWhy::Word,
+            });
+        };
+        Ok(scope)
     }
 
     /// The next token as an importance.
@@ -218,6 +235,23 @@ pub fn is_word(token: &[u8], word: &[u8]) -> bool
     ensures { result ≡ bytes_eq token.now word.now }
 {
     token == word
+}
+
+/// The scope that a token is.
+#[tactic(auto, unfolding(crate::specs::Kinds::scope_in))]
+fn scope_in(token: &[u8]) -> Option<Scope>
+    ensures { result ≡ scope_in token.now }
+{
+    if is_word(token, b"zone") {
+        return Some(Scope::Zone);
+    }
+    if is_word(token, b"cluster") {
+        return Some(Scope::Cluster);
+    }
+    if is_word(token, b"node") {
+        return Some(Scope::Node);
+    }
+    None
 }
 
 /// The importance that a token is.

@@ -1,9 +1,9 @@
 -- Messages that are sent and received again and again, step by step.
 use Rattle.std.proofs.Common.{◌≡◌, ℕ, ◌+◌, ◌<◌, Bool, true, List, Result, Ok, Err, refl, sym, ap, subst, ◌∙◌, inr}
 use Rattle.tipc_types.specs.declared.node_calls.EventNote.TheVariants as call
-use Rattle.tipc_types.specs.declared.identity.PortId.{PortId}
 use Rattle.tipc_types.specs.declared.message_forms.Importance.{Importance}
 use Rattle.tipc_types.specs.declared.node_calls.Answer.{Answer}
+use Rattle.tipc_script.specs.declared.lines.Destination.{Destination}
 use Rattle.tipc_script.specs.declared.lines.Line.{Line}
 use Rattle.tipc_script.specs.declared.lines.Line.TheVariants.{Burst, Drain, Repeat}
 use Rattle.tipc_report.specs.declared.told.Told.{Told}
@@ -12,16 +12,17 @@ use Rattle.tipc_world.specs.declared.events.WorldEvent.TheVariants as event
 use Rattle.tipc_world.specs.declared.events.WorldFault.{WorldFault}
 use Rattle.tipc_world.specs.declared.events.WorldFault.TheVariants as fault
 use Rattle.tipc_world.specs.Calls.{CanHappen}
-use Rattle.tipc_world.specs.States.{WorldState}
+use Rattle.tipc_world.specs.States.{WorldState, WorldView}
+use Rattle.tipc_sim.specs.declared.messages.Socket.{Socket}
 use Rattle.tipc_sim.specs.Courses.{Comes, Continues, Once}
-use Rattle.tipc_sim.specs.Happenings.{told_of, Conversed}
+use Rattle.tipc_sim.specs.Happenings.{beside, sending, told_of, Conversed, Moves, Repeated}
 use Rattle.tipc_sim.specs.Meanings.{Pumps}
-use Rattle.tipc_sim.specs.Messages.{is_message, is_send, is_sent, Bursts, Follows, PumpsAndReceives, ReceivesAll, Repeats, SendsAgain, Turn, Turns}
+use Rattle.tipc_sim.specs.Messages.{is_call, is_message, is_sent, low_message, Bursts, Follows, PumpsAndReceives, ReceivesAll, Repeats, SendsAgain, Turn, Turns}
 use Rattle.tipc_sim.specs.Noted.{NotesState}
 
 -- a message that can be sent can be sent later
-pub send_can : (old new : WorldState) (send : WorldEvent) → Continues old new → is_send send ≡ true → CanHappen old send → CanHappen new send
-send_can old new (event.Call node call) continues e can = (continues.nodes node ∙ can.0, can.1, can.2)
+pub send_can : {P : Type 0} {gives : P → ℕ → ℕ → ℕ → Type 0} (old new : WorldView P) (send : WorldEvent) → Continues gives old new → is_call send ≡ true → CanHappen old.state send → CanHappen new.state send
+send_can old new (event.Call node call) continues e can = (continues.nodes node ∙ can.0, can.1)
 send_can old new (event.Know node peer) continues e can = absurd cc
 send_can old new (event.Restart node) continues e can = absurd cc
 send_can old new (event.Arrive node bearer place) continues e can = absurd cc
@@ -63,9 +64,25 @@ turn_halts times send receive first start count place before now fault.NoMemory 
 
 -- a line of another kind than these three leaves everything as it is
 pub stays : (line : Line) (notes : NotesState) (w : WorldState) (given : Told)
-    → ((times node port : ℕ) (to : PortId) (importance : Importance) (body : List ℕ) → line ≡ Repeat times node port to importance body → ⊥) → ((node port : ℕ) → line ≡ Drain node port → ⊥)
+    → ((times node port : ℕ) (to : Destination) (importance : Importance) (body : List ℕ) → line ≡ Repeat times node port to importance body → ⊥) → ((node port : ℕ) → line ≡ Drain node port → ⊥)
     → ((node port to_node to_port times : ℕ) (body : List ℕ) → line ≡ Burst node port to_node to_port times body → ⊥) → given ≡ told_of line notes w → Conversed line notes w (Ok (given, notes)) w
 stays (Repeat times node port to importance body) notes w given repeat drain burst e = absurd (repeat times node port to importance body refl)
 stays (Drain node port) notes w given repeat drain burst e = absurd (drain node port refl)
 stays (Burst node port to_node to_port times body) notes w given repeat drain burst e = absurd (burst node port to_node to_port times body refl)
 stays other notes w given repeat drain burst e = (refl, ap (λ told. (told, notes)) e)
+
+-- a line that sends again and again comes to what the sending of its message comes to
+pub repeats_line : (line : Line) (times node port : ℕ) (to : Destination) (importance : Importance) (body : List ℕ) (message : WorldEvent) (notes : NotesState) (start now : WorldState) (came : Result Told WorldFault)
+    → line ≡ Repeat times node port to importance body → message ≡ event.Call node (sending port to importance body)
+    → Comes (Repeated (SendsAgain times message) notes start) (beside came notes) now → Comes (Conversed line notes start) (beside came notes) now
+repeats_line line times node port to importance body message notes start now came is sends h =
+    subst (λ l. Comes (Conversed l notes start) (beside came notes) now) (sym is) (subst (λ m. Comes (Repeated (SendsAgain times m) notes start) (beside came notes) now) sends h)
+
+-- a line that bursts comes to what its bursts come to
+pub bursts_line : (line : Line) (node port to_node to_port times : ℕ) (body : List ℕ) (at : Socket) (message : WorldEvent) (notes : NotesState) (start now : WorldState) (came : Result (Told × NotesState) WorldFault)
+    → line ≡ Burst node port to_node to_port times body → at ≡ record { node = to_node; port = to_port } → message ≡ low_message node port at.node at.port body
+    → Comes (Moves (Bursts times message (event.Call at.node (call.Receive at.port)) notes.place) notes start) came now → Comes (Conversed line notes start) came now
+bursts_line line node port to_node to_port times body at message notes start now came is there sends h =
+    let sent : message ≡ low_message node port to_node to_port body = subst (λ (a : Socket). message ≡ low_message node port a.node a.port body) there sends in
+    let comes = subst (λ (a : Socket). Comes (Moves (Bursts times message (event.Call a.node (call.Receive a.port)) notes.place) notes start) came now) there h in
+    subst (λ l. Comes (Conversed l notes start) came now) (sym is) (subst (λ m. Comes (Moves (Bursts times m (event.Call to_node (call.Receive to_port)) notes.place) notes start) came now) sent comes)

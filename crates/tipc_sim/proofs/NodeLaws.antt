@@ -1,28 +1,28 @@
 -- A line without fault can be done.
-use Rattle.std.proofs.Common.{◌≡◌, ◌≢◌, arith, ℕ, ◌≤◌, Bool, true, false, not, Option, Some, None, List, [], ◌∷◌, drop, refl, sym, subst, ◌∙◌, inl, inr}
+use Rattle.std.proofs.Common.{◌≡◌, arith, ℕ, leb, Bool, true, false, not, Option, Some, None, List, [], ◌∷◌, drop, refl, sym, subst, ◌∙◌, inl, inr}
 use Rattle.std.specs.Option.{option_or}
 use Rattle.std.proofs.lemmas.Bool.{cases_Bool}
 use Rattle.tipc_script.specs.declared.lines.NodeToken.{NodeToken}
 use Rattle.tipc_script.specs.declared.faults.LineWhy.TheVariants as why
 use Rattle.tipc_script.specs.Splitting.{Left, whole, first_token, behind}
 use Rattle.tipc_script.specs.Kinds.{Kind, OldNode, BearerNumber, is_remark}
-use Rattle.tipc_script.specs.Grammar.{Row, rows, frame_rows, traffic_rows, row_of, asked, asked_by, nodes_of, nodes_by, nodes_in, first_number, node_row, mend_row, cut_row, tick_row, restart_row, link_row, mark_row, socket_row, send_row, repeat_row, arrive_row, receive_row, drain_row, burst_row, pump_row, settle_row, air_row, show_row, links_row, flow_row}
-use Rattle.tipc_script.specs.Spelling.{Asks, IsMessage, node_number}
-use Rattle.tipc_types.specs.declared.node_calls.EventNote.TheVariants as call
-use Rattle.tipc_types.specs.declared.identity.PortId.{PortId}
+use Rattle.tipc_script.specs.Grammar.{Row, rows, frame_rows, service_rows, traffic_rows, row_of, asked, asked_by, nodes_of, nodes_by, nodes_in, row_nodes, send_kinds, first_number, node_row, mend_row, cut_row, tick_row, restart_row, link_row, mark_row, socket_row, close_row, publish_row, withdraw_row, send_row, repeat_row, arrive_row, receive_row, drain_row, burst_row, pump_row, settle_row, air_row, show_row, links_row, flow_row}
+use Rattle.tipc_script.specs.Spelling.{Asks}
 use Rattle.tipc_types.specs.declared.message_forms.Importance.{Importance}
-use Rattle.tipc_types.specs.Address.{node_word}
+use Rattle.tipc_types.specs.declared.services.Scope.{Scope}
+use Rattle.tipc_node.specs.Calls.{CanPerform}
 use Rattle.tipc_script.proofs.Reading.{OfRows, row_found}
 use Rattle.tipc_script.proofs.Found.{asks_found}
+use Rattle.tipc_script.specs.declared.lines.Destination.{Destination}
+use Rattle.tipc_script.specs.declared.lines.Destination.TheVariants as destination
 use Rattle.tipc_script.specs.declared.lines.Line.{Line}
-use Rattle.tipc_script.specs.declared.lines.Line.TheVariants.{Nothing, Node, Mend, Cut, Tick, Restart, Link, Mark, Socket, Send, Repeat, Arrive, Receive, Drain, Pump, Burst, Settle, Air, Show, Links, Flow}
+use Rattle.tipc_script.specs.declared.lines.Line.TheVariants.{Nothing, Node, Mend, Cut, Tick, Restart, Link, Mark, Socket, Close, Publish, Withdraw, Send, Repeat, Arrive, Receive, Drain, Pump, Burst, Settle, Air, Show, Links, Flow}
 use Rattle.tipc_world.specs.declared.events.WorldEvent.{WorldEvent}
-use Rattle.tipc_world.specs.declared.events.WorldEvent.TheVariants as event
 use Rattle.tipc_world.specs.Calls.{CanHappen}
 use Rattle.tipc_world.specs.States.{WorldState, is_there}
-use Rattle.tipc_sim.specs.Happenings.{event_of}
+use Rattle.tipc_sim.specs.Happenings.{event_of, sending, service_event}
 use Rattle.tipc_sim.specs.Noted.{NotesState}
-use Rattle.tipc_sim.specs.Nodes.{is_misplaced, node_fault, fault_where, CanBeDone}
+use Rattle.tipc_sim.specs.Nodes.{is_misplaced, makes, node_fault, fault_where, CanBeDone}
 
 -- without a fault, the first node is as it has to be, and so are the others
 first_in_place : (there : ℕ → Bool) (token : NodeToken) (tokens : List NodeToken) → node_fault there (token ∷ tokens) ≡ None → (is_misplaced there token ≡ false) × (node_fault there tokens ≡ None)
@@ -44,7 +44,7 @@ old_in_place there kinds left e =
 
 -- where the nodes of a row's tokens are in place, what it asks for can be done
 abbrev CanDo : Row → Type 0
-CanDo row = (there : ℕ → Bool) (text : List ℕ) (left : Left) → Asks text (row.asks left) → node_fault there (nodes_in row.kinds left) ≡ None → CanBeDone there (row.asks left)
+CanDo row = (there : ℕ → Bool) (text : List ℕ) (left : Left) → Asks text (row.asks left) → node_fault there (row_nodes row left) ≡ None → CanBeDone there (row.asks left)
 
 node_can : CanDo node_row
 node_can there text left asks e = (asks.0, (first_in_place there (record { place = left.place; node = first_number left; there = false }) [] e).0)
@@ -73,26 +73,37 @@ mark_can there text left asks e = tt
 socket_can : CanDo socket_row
 socket_can there text left asks e = (old_in_place there [] left e).0
 
+close_can : CanDo close_row
+close_can there text left asks e = (old_in_place there (drop 1 (close_row.kinds left)) left e).0
+
+publish_can_do : CanDo publish_row
+publish_can_do there text left asks e = (old_in_place there (drop 1 (publish_row.kinds left)) left e).0
+
+withdraw_can : CanDo withdraw_row
+withdraw_can there text left asks e = (old_in_place there (drop 1 (withdraw_row.kinds left)) left e).0
+
 send_can : CanDo send_row
-send_can there text left asks e = ((old_in_place there (drop 1 send_row.kinds) left e).0, asks.0)
+send_can there text left asks e = (old_in_place there (drop 1 (send_kinds left)) left e).0
 
 repeat_can : CanDo repeat_row
-repeat_can there text left asks e = ((old_in_place there (drop 1 send_row.kinds) (behind (behind left)) e).0, asks.0.1)
+repeat_can there text left asks e =
+    let node = behind (behind left) in
+    ((old_in_place there (drop 1 (send_kinds node)) node e).0, asks.0.0.0)
 
 arrive_can : CanDo arrive_row
-arrive_can there text left asks e = ((old_in_place there (drop 1 arrive_row.kinds) left e).0, asks.0.1)
+arrive_can there text left asks e = ((old_in_place there (drop 1 (arrive_row.kinds left)) left e).0, asks.0.1)
 
 receive_can : CanDo receive_row
-receive_can there text left asks e = (old_in_place there (drop 1 receive_row.kinds) left e).0
+receive_can there text left asks e = (old_in_place there (drop 1 (receive_row.kinds left)) left e).0
 
 drain_can : CanDo drain_row
-drain_can there text left asks e = (old_in_place there (drop 1 drain_row.kinds) left e).0
+drain_can there text left asks e = (old_in_place there (drop 1 (drain_row.kinds left)) left e).0
 
 burst_can : CanDo burst_row
 burst_can there text left asks e =
-    let first = old_in_place there (drop 1 burst_row.kinds) left e in
-    let second = old_in_place there (drop 3 burst_row.kinds) (behind (behind left)) first.1 in
-    (first.0, second.0, asks.0.0, asks.0.1)
+    let first = old_in_place there (drop 1 (burst_row.kinds left)) left e in
+    let second = old_in_place there (drop 3 (burst_row.kinds left)) (behind (behind left)) first.1 in
+    (first.0, second.0, asks.0.1)
 
 pump_can : CanDo pump_row
 pump_can there text left asks e = tt
@@ -121,8 +132,11 @@ frames_can = (arrive_can, (pump_can, (settle_can, (air_can, (show_can, (links_ca
 traffic_can : OfRows CanDo traffic_rows
 traffic_can = (send_can, (repeat_can, (receive_can, (drain_can, (burst_can, frames_can)))))
 
+services_can : OfRows CanDo service_rows
+services_can = (socket_can, (close_can, (publish_can_do, (withdraw_can, traffic_can))))
+
 all_can : OfRows CanDo rows
-all_can = (node_can, (mend_can, (cut_can, (tick_can, (restart_can, (link_can, (mark_can, (socket_can, traffic_can))))))))
+all_can = (node_can, (mend_can, (cut_can, (tick_can, (restart_can, (link_can, (mark_can, services_can)))))))
 
 row_can : (there : ℕ → Bool) (text : List ℕ) (row : Option Row) → row_of (first_token (whole text)) ≡ row → Asks text (asked_by row (behind (whole text)))
     → node_fault there (nodes_by row (behind (whole text))) ≡ None → CanBeDone there (asked_by row (behind (whole text)))
@@ -150,35 +164,35 @@ sound_can_be_done there text e =
     let none = none_in _ _ e in
     can_be_done there text (asks_found text none.0) none.1
 
--- a message of a line goes to another of the 32 nodes
-pub reaches : {node port : ℕ} {to : PortId} {body : List ℕ} → IsMessage node port to body
-    → (m : ℕ) × (1 ≤ m) × (m ≤ 32) × (m ≢ node) × (to.node.word ≡ node_word m)
-reaches {node} {port} {to} {body} message =
-    let place = message.to_node in
-    let other = message.other in
-    (node_number to, omega arith, omega arith, λ same. other (omega arith), omega arith)
-
--- a message of a line can be sent
-pub message_can : (w : WorldState) (node port : ℕ) (to : PortId) (importance : Importance) (body : List ℕ) → is_there w node ≡ true → IsMessage node port to body
-    → CanHappen w (event.Call node (call.SendPort port to importance body))
-message_can w node port to importance body there message =
-    let r = reaches message in
-    let word = r.4 in
-    (there, (r.0, r.1, r.2, word), λ same. r.3 (omega (arith, word, same)))
-
 inside : {A : Type 0} {x y : A} → Some x ≡ Some y → x ≡ y
 inside e = cc
 
+-- a message of a line can be sent
+pub sending_can : (port : ℕ) (to : Destination) (importance : Importance) (body : List ℕ) → CanPerform (sending port to importance body)
+sending_can port (destination.Port to) importance body = tt
+sending_can port (destination.Name kind instance) importance body = tt
+
+-- a publication is an event only where its range has instances
+publish_can : (w : WorldState) (node port kind lower upper key : ℕ) (scope : Scope) (event : WorldEvent) → is_there w node ≡ true → service_event (Publish node port kind lower upper scope key) ≡ Some event → CanHappen w event
+publish_can w node port kind lower upper key scope event there e =
+    elim (cases_Bool (leb lower upper)) [
+      | inl ordered ↦ subst (CanHappen w) (inside (rw ordered at e)) (there, tt)
+      | inr bad ↦ absurd (let none : service_event (Publish node port kind lower upper scope key) ≡ None = rw bad refl in cc)
+    ]
+
 -- the event that a line is can happen where the line can be done
 pub can_happen : (w : WorldState) (notes : NotesState) (line : Line) (event : WorldEvent) → CanBeDone (is_there w) line → event_of line notes ≡ Some event → CanHappen w event
-can_happen w notes (Cut node bearer) event can e = subst (CanHappen w) (inside e) (can.0, can.1, tt)
-can_happen w notes (Tick node) event can e = subst (CanHappen w) (inside e) (can, tt, tt)
+can_happen w notes (Cut node bearer) event can e = subst (CanHappen w) (inside e) (can.0, can.1)
+can_happen w notes (Tick node) event can e = subst (CanHappen w) (inside e) (can, tt)
 can_happen w notes (Restart node) event can e = subst (CanHappen w) (inside e) can
-can_happen w notes (Socket node) event can e = subst (CanHappen w) (inside e) (can, tt, tt)
+can_happen w notes (Socket node) event can e = subst (CanHappen w) (inside e) (can, tt)
 can_happen w notes (Send node port to importance body) event can e =
-    subst (CanHappen w) (inside e) (message_can w node port to importance body can.0 can.1)
+    subst (CanHappen w) (inside e) (can, sending_can port to importance body)
+can_happen w notes (Close node port) event can e = subst (CanHappen w) (inside e) (can, tt)
+can_happen w notes (Publish node port kind lower upper scope key) event can e = publish_can w node port kind lower upper key scope event can e
+can_happen w notes (Withdraw node port key) event can e = subst (CanHappen w) (inside e) (can, tt)
 can_happen w notes (Arrive node bearer frame) event can e = subst (CanHappen w) (inside e) (can.0, omega (arith, can.1))
-can_happen w notes (Receive node port) event can e = subst (CanHappen w) (inside e) (can, tt, tt)
+can_happen w notes (Receive node port) event can e = subst (CanHappen w) (inside e) (can, tt)
 can_happen w notes Nothing event can e = absurd cc
 can_happen w notes (Node node) event can e = absurd cc
 can_happen w notes (Mend node bearer) event can e = absurd cc
@@ -193,3 +207,8 @@ can_happen w notes (Pump bearer) event can e = absurd cc
 can_happen w notes (Settle rounds) event can e = absurd cc
 can_happen w notes (Links node) event can e = absurd cc
 can_happen w notes (Flow from to) event can e = absurd cc
+
+-- a line that is an event makes no node
+pub event_makes_none : (line : Line) (notes : NotesState) (event : WorldEvent) (n : ℕ) → event_of line notes ≡ Some event → makes line n ≡ false
+event_makes_none (Node node) notes event n e = absurd cc
+event_makes_none other notes event n e = refl

@@ -8,9 +8,10 @@ use Rattle.tipc_world.specs.Due.{unarrived}
 use Rattle.tipc_world.specs.Good.{IsGood}
 use Rattle.tipc_world.specs.Growth.{Grows}
 use Rattle.tipc_world.specs.Limits.{IsAnswered}
-use Rattle.tipc_world.specs.States.{WorldState, history_at, no_nodes}
+use Rattle.tipc_world.specs.States.{WorldState, WorldView, history_at, no_nodes}
 use Rattle.tipc_world.proofs.KeptWorlds.{start_watched}
 use Rattle.tipc_world.proofs.Promise.{is_good}
+use Rattle.tipc_world.proofs.Quiet.{start_orderly}
 use Rattle.tipc_world.proofs.SoundWorlds.{start_sound}
 use Rattle.tipc_sim.specs.Courses.{Continues}
 
@@ -29,8 +30,11 @@ prefix_longer : {A : Type 0} (xs ys : List A) → IsPrefixOf xs ys → length xs
 prefix_longer xs ys p = omega (arith, ap length p.1, length-append xs p.0)
 
 -- a world without nodes is good
-pub empty_good : (w : WorldState) → w ≡ no_nodes → IsGood w
-empty_good w none = subst IsGood (sym none) (is_good no_nodes start_sound start_watched)
+pub empty_good : {P : Type 0} (gives : P → ℕ → ℕ → ℕ → Type 0) (w : WorldView P) → w.state ≡ no_nodes → w.chooser.turn ≡ 0 → IsGood gives w
+empty_good {P} gives w none first =
+    let empty : WorldView P = record { state = no_nodes; chooser = w.chooser } in
+    let same : empty ≡ w = ap (λ s. let v : WorldView P = record { state = s; chooser = w.chooser } in v) (sym none) in
+    subst (IsGood gives) same (is_good gives empty start_sound start_watched (start_orderly gives w.chooser first))
 
 pub grows_same : (w : WorldState) → Grows w w
 grows_same w = record { air = prefix_same w.air; histories = λ n. prefix_same (history_at w.members n) }
@@ -47,13 +51,13 @@ grows_more a b c p q = record {
 pub longer : (a b : WorldState) → Grows a b → length a.air ≤ length b.air
 longer a b p = prefix_longer a.air b.air p.air
 
-pub continues_same : (w : WorldState) → Continues w w
-continues_same w = record { nodes = λ n. refl; grown = grows_same w; good = λ good. good }
+pub continues_same : {P : Type 0} {gives : P → ℕ → ℕ → ℕ → Type 0} (w : WorldView P) → Continues gives w w
+continues_same w = record { nodes = λ n. refl; grown = grows_same w.state; good = λ good. good }
 
-pub continues_more : (a b c : WorldState) → Continues a b → Continues b c → Continues a c
+pub continues_more : {P : Type 0} {gives : P → ℕ → ℕ → ℕ → Type 0} (a b c : WorldView P) → Continues gives a b → Continues gives b c → Continues gives a c
 continues_more a b c p q = record {
   nodes = λ n. q.nodes n ∙ p.nodes n;
-  grown = grows_more a b c p.grown q.grown;
+  grown = grows_more a.state b.state c.state p.grown q.grown;
   good = λ good. q.good (p.good good);
 }
 

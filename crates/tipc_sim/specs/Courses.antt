@@ -8,7 +8,7 @@ use Rattle.tipc_world.specs.declared.events.WorldFault.TheVariants as fault
 use Rattle.tipc_world.specs.Good.{IsGood}
 use Rattle.tipc_world.specs.Growth.{Grows}
 use Rattle.tipc_world.specs.Limits.{IsAnswered, Stops}
-use Rattle.tipc_world.specs.States.{WorldState, is_there}
+use Rattle.tipc_world.specs.States.{WorldState, WorldView, is_there}
 
 -- What events come to that begin in one world and end in another: all of them happened, which gives a value, or a limit stopped the next.
 abbrev pub Course : Type 0 → Type 1
@@ -21,10 +21,10 @@ Comes comes (Err (fault.Limit limit)) now = comes (Err limit) now
 Comes comes (Err fault.NoMemory) now = Unit {0}
 
 -- whatever they come to, the nodes are the same ones, the world only grew, and it is good where it was
-pub record Continues (old new : WorldState) : Type 0 where
-  pub nodes : (n : ℕ) → is_there new n ≡ is_there old n
-  pub grown : Grows old new
-  pub good : IsGood old → IsGood new
+pub record Continues {P : Type 0} (gives : P → ℕ → ℕ → ℕ → Type 0) (old new : WorldView P) : Type 0 where
+  pub nodes : (n : ℕ) → is_there new.state n ≡ is_there old.state n
+  pub grown : Grows old.state new.state
+  pub good : IsGood gives old → IsGood gives new
 
 -- one event, and its answer
 abbrev pub Once : WorldEvent → Course Answer

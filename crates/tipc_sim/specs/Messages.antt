@@ -3,7 +3,7 @@ use Rattle.std.specs.Prelude.{◌≡◌, ◌⊎◌, ℕ, ◌+◌, ◌<◌, Bool,
 use Rattle.tipc_types.specs.declared.node_calls.EventNote.TheVariants as call
 use Rattle.tipc_types.specs.declared.message_forms.Importance.TheVariants.{Low}
 use Rattle.tipc_types.specs.declared.node_calls.Answer.{Answer}
-use Rattle.tipc_types.specs.declared.node_calls.Answer.TheVariants.{Drained, NoSocket, Received, Sent}
+use Rattle.tipc_types.specs.declared.node_calls.Answer.TheVariants.{Drained, NoSocket, Received, Sent, SentTo}
 use Rattle.tipc_script.specs.Spelling.{port_at}
 use Rattle.tipc_world.specs.declared.events.Limit.{Limit}
 use Rattle.tipc_world.specs.declared.events.WorldEvent.{WorldEvent}
@@ -15,6 +15,7 @@ use Rattle.tipc_sim.specs.Meanings.{Pumps}
 -- the answer says that a message was sent
 abbrev pub is_sent : Answer → Bool
 is_sent Sent = true
+is_sent (SentTo to) = true
 is_sent other = false
 
 -- the answer is a message
@@ -22,10 +23,10 @@ abbrev pub is_message : Answer → Bool
 is_message (Received message) = true
 is_message other = false
 
--- the event sends a message to a port
-abbrev pub is_send : WorldEvent → Bool
-is_send (event.Call node (call.SendPort port to importance body)) = true
-is_send other = false
+-- the event is a call, which can happen again where it could before
+abbrev pub is_call : WorldEvent → Bool
+is_call (event.Call node call) = true
+is_call other = false
 
 -- ---- one event again and again
 
@@ -43,7 +44,16 @@ pub record RepeatsUntil (event : WorldEvent) (passes : Answer → Bool) (start :
   pub once : Once event before (Ok last) now
   pub fails : passes last ≡ false
 
--- likewise, and a limit stopped the next one
+-- an event happened so many times, and each of its answers passed, of which this is the last
+pub record RepeatsTo (event : WorldEvent) (passes : Answer → Bool) (start : WorldState) (count : ℕ) (last : Answer) (now : WorldState) : Type 0 where
+  pub earlier : ℕ
+  pub before : WorldState
+  pub passed : Repeats event passes start earlier before
+  pub once : Once event before (Ok last) now
+  pub passes_last : passes last ≡ true
+  pub count_is : count ≡ earlier + 1
+
+-- it happened so many times, and a limit stopped the next one
 pub record RepeatHalts (event : WorldEvent) (passes : Answer → Bool) (start : WorldState) (limit : Limit) (now : WorldState) : Type 0 where
   pub count : ℕ
   pub before : WorldState
@@ -52,10 +62,10 @@ pub record RepeatHalts (event : WorldEvent) (passes : Answer → Bool) (start : 
 
 -- ---- messages that are sent
 
--- A message is sent so many times at most, until it isn't. The value is how many times it was, and the last answer.
+-- A message is sent so many times at most, which is 1 or more, until it isn't. The value is how many times it was, and the last answer.
 abbrev pub SendsAgain : ℕ → WorldEvent → Course (ℕ × Answer)
 SendsAgain times send start (Ok value) now =
-    (Repeats send is_sent start times now × (value ≡ (times, Sent)))
+    (RepeatsTo send is_sent start value.0 value.1 now × (value.0 ≡ times))
     ⊎ (RepeatsUntil send is_sent start value.0 value.1 now × (value.0 < times))
 SendsAgain times send start (Err limit) now = (halts : RepeatHalts send is_sent start limit now)
     × (halts.count < times)
@@ -76,7 +86,7 @@ ReceivesAll node port start (Err limit) now = RepeatHalts (event.Call node (call
 
 -- ---- messages that are sent, pumped and received
 
--- a message of low importance to a port of another node
+-- a message of low importance to a port
 abbrev pub low_message : ℕ → ℕ → ℕ → ℕ → List ℕ → WorldEvent
 low_message node port to_node to_port body = event.Call node (call.SendPort port (port_at to_node to_port) Low body)
 

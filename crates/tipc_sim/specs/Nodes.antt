@@ -1,14 +1,14 @@
 -- The nodes that the lines of a script make, and the faults of a line where some nodes are there.
-use Rattle.std.specs.Prelude.{◌≡◌, ℕ, ◌==◌, Bool, true, false, not, if◌then◌else◌, List, Option, Some, None, find, take, slice_get}
+use Rattle.std.specs.Prelude.{◌≡◌, ◌≤◌, ℕ, ◌==◌, Bool, true, false, not, if◌then◌else◌, List, Option, Some, None, find, take, slice_get}
 use Rattle.std.specs.List.{list_any}
 use Rattle.std.specs.Option.{option_or, option_map}
 use Rattle.tipc_script.specs.declared.faults.LineWhy.TheVariants as why
 use Rattle.tipc_script.specs.declared.lines.Line.{Line}
-use Rattle.tipc_script.specs.declared.lines.Line.TheVariants.{Nothing, Node, Mend, Cut, Tick, Restart, Link, Mark, Socket, Send, Repeat, Arrive, Receive, Drain, Pump, Burst, Settle, Air, Show, Links, Flow}
+use Rattle.tipc_script.specs.declared.lines.Line.TheVariants.{Nothing, Node, Mend, Cut, Tick, Restart, Link, Mark, Socket, Close, Publish, Withdraw, Send, Repeat, Arrive, Receive, Drain, Pump, Burst, Settle, Air, Show, Links, Flow}
 use Rattle.tipc_script.specs.declared.lines.NodeToken.{NodeToken}
 use Rattle.tipc_script.specs.Grammar.{asked, nodes_of}
 use Rattle.tipc_script.specs.Faults.{Fault, fault_of}
-use Rattle.tipc_script.specs.Spelling.{IsNode, IsMessage, port_at}
+use Rattle.tipc_script.specs.Spelling.{IsNode}
 
 -- whether a line makes a node
 abbrev pub makes : Line → ℕ → Bool
@@ -54,13 +54,15 @@ CanBeDone there (Restart node) = there node ≡ true
 CanBeDone there (Link first second bearer) = (there first ≡ true) × (there second ≡ true)
 CanBeDone there Mark = Unit {0}
 CanBeDone there (Socket node) = there node ≡ true
-CanBeDone there (Send node port to importance body) = (there node ≡ true) × IsMessage node port to body
-CanBeDone there (Repeat times node port to importance body) = (there node ≡ true) × IsMessage node port to body
+CanBeDone there (Close node port) = there node ≡ true
+CanBeDone there (Publish node port kind lower upper scope key) = there node ≡ true
+CanBeDone there (Withdraw node port key) = there node ≡ true
+CanBeDone there (Send node port to importance body) = there node ≡ true
+CanBeDone there (Repeat times node port to importance body) = (there node ≡ true) × (1 ≤ times)
 CanBeDone there (Arrive node bearer frame) = (there node ≡ true) × (bearer ≡ 0)
 CanBeDone there (Receive node port) = there node ≡ true
 CanBeDone there (Drain node port) = there node ≡ true
-CanBeDone there (Burst node port to_node to_port times body) = (there node ≡ true) × (there to_node ≡ true)
-    × IsMessage node port (port_at to_node to_port) body × IsNode to_node
+CanBeDone there (Burst node port to_node to_port times body) = (there node ≡ true) × (there to_node ≡ true) × IsNode to_node
 CanBeDone there (Pump bearer) = Unit {0}
 CanBeDone there (Settle rounds) = Unit {0}
 CanBeDone there (Air bearer) = Unit {0}

@@ -6,6 +6,7 @@ ghost use Rattle.tipc_sim.specs.Courses.{Comes, Continues, Drains, Once, Takes};
 ghost use Rattle.tipc_sim.specs.Meanings.{arrival_asked, is_among, Delivers, Pumps};
 
 use std::alloc::Global;
+use tipc_pick::Pick;
 use tipc_types::Answer;
 use tipc_world::{World, WorldEvent, WorldFault};
 
@@ -31,24 +32,28 @@ impl Receivers {
 }
 
 /// Lets an event happen.
-pub fn make(alloc: Global, event: WorldEvent, world: &mut World) -> Result<Answer, WorldFault>
-    requires { CanHappen world.old event }
-    ensures comes { Comes (Once event world.old) result world.new }
-    ensures continues { Continues world.old world.new }
+pub fn make<P: Pick>(
+    alloc: Global,
+    event: WorldEvent,
+    world: &mut World<P>,
+) -> Result<Answer, WorldFault>
+    requires { CanHappen world.old.state event }
+    ensures comes { Comes (Once event world.old.state) result world.new.state }
+    ensures continues { Continues P.gives world.old world.new }
 {
     world.step(alloc, event)
 }
 
 /// Lets the frame at a place of the air arrive at the node that it is for, where that is one of the receivers, and
 /// answers whether one arrived.
-fn arrive(
+fn arrive<P: Pick>(
     alloc: Global,
     among: Receivers,
     place: u64,
-    world: &mut World,
+    world: &mut World<P>,
 ) -> Result<bool, WorldFault>
-    ensures comes { Comes (Takes (arrival_asked among) place world.old) result world.new }
-    ensures continues { Continues world.old world.new }
+    ensures comes { Comes (Takes (arrival_asked among) place world.old.state) result world.new.state }
+    ensures continues { Continues P.gives world.old world.new }
 {
     let Some(node) = world.receiver(place) else {
         return Ok(false);
@@ -67,14 +72,14 @@ fn arrive(
 
 /// Lets the frames from a place on arrive at the receivers, with those that are sent meanwhile, until none is left, and
 /// answers how many arrived.
-pub fn drain(
+pub fn drain<P: Pick>(
     alloc: Global,
     among: Receivers,
     first: u64,
-    world: &mut World,
+    world: &mut World<P>,
 ) -> Result<u64, WorldFault>
-    ensures comes { Comes (Drains (arrival_asked among) first world.old) result world.new }
-    ensures continues { Continues world.old world.new }
+    ensures comes { Comes (Drains (arrival_asked among) first world.old.state) result world.new.state }
+    ensures continues { Continues P.gives world.old world.new }
 {
     let mut place = first;
     let mut count = 0;
@@ -88,20 +93,20 @@ pub fn drain(
 }
 
 /// Pumps the frames from a place on: they arrive at the nodes that they are for, until none is left.
-pub fn pump(alloc: Global, place: u64, world: &mut World) -> Result<Answer, WorldFault>
-    ensures comes { Comes (Pumps place world.old) result world.new }
-    ensures continues { Continues world.old world.new }
+pub fn pump<P: Pick>(alloc: Global, place: u64, world: &mut World<P>) -> Result<Answer, WorldFault>
+    ensures comes { Comes (Pumps place world.old.state) result world.new.state }
+    ensures continues { Continues P.gives world.old world.new }
 {
     let count = drain(alloc, Receivers::Any, place, world)?;
     Ok(Answer::Pumped(count))
 }
 
 /// Lets the frames from a place on arrive that are in the air now, and answers the place behind them.
-pub fn deliver(alloc: Global, first: u64, world: &mut World) -> Result<u64, WorldFault>
-    requires { first ≤ length world.old.air }
-    ensures comes { Comes (Delivers first world.old) result world.new }
-    ensures behind { IfOk result (λ end. end ≤ length world.new.air) }
-    ensures continues { Continues world.old world.new }
+pub fn deliver<P: Pick>(alloc: Global, first: u64, world: &mut World<P>) -> Result<u64, WorldFault>
+    requires { first ≤ length world.old.state.air }
+    ensures comes { Comes (Delivers first world.old.state) result world.new.state }
+    ensures behind { IfOk result (λ end. end ≤ length world.new.state.air) }
+    ensures continues { Continues P.gives world.old world.new }
 {
     let end = world.air_len();
     for place in first..end {

@@ -10,10 +10,10 @@ ghost use Rattle.tipc_script.specs.Grammar.{asked};
 ghost use Rattle.tipc_script.specs.Faults.{Tells};
 ghost use Rattle.tipc_sim.specs.Nodes.{is_misplaced, fault_where, makes, CanBeDone};
 ghost use Rattle.tipc_sim.specs.Courses.{Comes, Continues};
-ghost use Rattle.tipc_sim.specs.Happenings.{beside, event_of, scene, shown, told_of, Answers, Composed, Conversed, IsLimited, Moves};
+ghost use Rattle.tipc_sim.specs.Happenings.{beside, event_of, scene, sending, service_event, shown, told_of, Answers, Composed, Conversed, IsLimited, Moves, Repeated};
 ghost use Rattle.tipc_sim.specs.Meanings.{Links, Pumps};
-ghost use Rattle.tipc_sim.specs.Messages.{is_send, low_message, Bursts};
-ghost use Rattle.tipc_sim.specs.Noted.{naming, pumped, with_named};
+ghost use Rattle.tipc_sim.specs.Messages.{is_call, low_message, Bursts, SendsAgain};
+ghost use Rattle.tipc_sim.specs.Noted.{naming, pumped, with_named, NotesState};
 ghost use Rattle.tipc_world.specs.declared.events.Limit.{Limit};
 ghost use Rattle.tipc_sim.specs.Steps.{IsAnswered};
 
@@ -23,14 +23,15 @@ use crate::messages::{Socket, burst, receive_all, repeat};
 use crate::notes::Notes;
 use crate::settling::settle;
 use std::alloc::Global;
+use tipc_pick::Pick;
 use tipc_report::{Told, print};
-use tipc_script::{Line, LineFault, LineWhy, NodeToken, parse_line};
-use tipc_types::{Addr, Answer, Bytes, EventNote, Importance, NoMemory, PortId};
+use tipc_script::{Destination, Line, LineFault, LineWhy, NodeToken, parse_line};
+use tipc_types::{Addr, Answer, Bytes, EventNote, Importance, NoMemory, PortId, ServiceRange};
 use tipc_world::{World, WorldEvent, WorldFault};
 
 /// Whether a node that has to be there isn't, or one that mustn't be there is.
-fn is_misplaced(token: &NodeToken, world: &World) -> bool
-    ensures { result ≡ is_misplaced (is_there world.now) token.now }
+fn is_misplaced<P: Pick>(token: &NodeToken, world: &World<P>) -> bool
+    ensures { result ≡ is_misplaced (is_there world.now.state) token.now }
 {
     if token.there {
         return !world.has_node(token.node);
@@ -39,8 +40,8 @@ fn is_misplaced(token: &NodeToken, world: &World) -> bool
 }
 
 /// The first of these nodes, from the left, that is wrongly there or absent.
-fn first_misplaced(nodes: &[NodeToken], world: &World) -> Option<NodeToken>
-    ensures { result ≡ find (is_misplaced (is_there world.now)) nodes.now }
+fn first_misplaced<P: Pick>(nodes: &[NodeToken], world: &World<P>) -> Option<NodeToken>
+    ensures { result ≡ find (is_misplaced (is_there world.now.state)) nodes.now }
 {
     nodes
         .iter()
@@ -50,11 +51,11 @@ fn first_misplaced(nodes: &[NodeToken], world: &World) -> Option<NodeToken>
 
 /// What a line asks for, which can be done, or its first fault.
 #[tactic(auto, using(crate::proofs::NodeLaws::sound_can_be_done), unfolding(crate::specs::Nodes::fault_where))]
-pub fn line_in(alloc: Global, text: &[u8], world: &World) -> Result<Line, LineFault>
+pub fn line_in<P: Pick>(alloc: Global, text: &[u8], world: &World<P>) -> Result<Line, LineFault>
     requires { length text.now < 2 ^ 31 }
-    ensures fault { Tells result (fault_where (is_there world.now) text.now) }
+    ensures fault { Tells result (fault_where (is_there world.now.state) text.now) }
     ensures line { IfOk result (λ line. line ≡ asked text.now) }
-    ensures can { IfOk result (CanBeDone (is_there world.now)) }
+    ensures can { IfOk result (CanBeDone (is_there world.now.state)) }
 {
     let command = parse_line(alloc, text)?;
     if let Some(token) = first_misplaced(command.nodes.as_slice(), world) {
@@ -73,19 +74,66 @@ fn call(node: u8, call: EventNote) -> WorldEvent
     WorldEvent::Call { node, call }
 }
 
-/// A message is sent from a port of a node to a port.
-fn send(node: u8, port: u32, to: PortId, importance: Importance, body: Bytes) -> WorldEvent
-    ensures { result ≡ WorldEvent.Call node (EventNote.SendPort port to importance body) }
+/// A message is sent from a port of a node.
+fn send(node: u8, port: u32, to: Destination, importance: Importance, body: Bytes) -> WorldEvent
+    ensures { result ≡ WorldEvent.Call node (sending port to importance body) }
 {
-    call(
-        node,
-        EventNote::SendPort {
+    let sending = match to {
+        Destination::Port(to) => EventNote::SendPort {
             port,
             to,
             importance,
             body,
         },
-    )
+        Destination::Name { kind, instance } => EventNote::SendName {
+            port,
+            kind,
+            instance,
+            importance,
+            body,
+        },
+    };
+    call(node, sending)
+}
+
+/// The event that a line about a service or a socket is, or the line where it is another, or names a range without instances.
+fn service_event(line: Line) -> Result<WorldEvent, Line>
+    ensures event { IfOk result (λ event. service_event line ≡ Some event) }
+    ensures other { IfErr result (λ other. (other ≡ line) × (service_event line ≡ None)) }
+{
+    match line {
+        Line::Close { node, port } => Ok(call(node, EventNote::Close { port })),
+        Line::Withdraw { node, port, key } => Ok(call(node, EventNote::Withdraw { port, key })),
+        Line::Publish {
+            node,
+            port,
+            kind,
+            lower,
+            upper,
+            scope,
+            key,
+        } => match ServiceRange::new(kind, lower, upper) {
+            Ok(range) => Ok(call(
+                node,
+                EventNote::Publish {
+                    port,
+                    range,
+                    scope,
+                    key,
+                },
+            )),
+            Err(_) => Err(Line::Publish {
+                node,
+                port,
+                kind,
+                lower,
+                upper,
+                scope,
+                key,
+            }),
+        },
+        other => Err(other),
+    }
 }
 
 /// The event that a line is, or the line where it is none or several.
@@ -115,33 +163,37 @@ fn event_of(line: Line, notes: &Notes) -> Result<WorldEvent, Line>
             frame: notes.base().saturating_add(frame),
         }),
         Line::Receive { node, port } => Ok(call(node, EventNote::Receive { port })),
-        other => Err(other),
+        other => service_event(other),
     }
 }
 
 /// Names two nodes as a pair and links them.
-fn link_named(
+fn link_named<P: Pick>(
     alloc: Global,
     first: u8,
     second: u8,
-    world: &mut World,
+    world: &mut World<P>,
     notes: &mut Notes,
 ) -> Result<Answer, WorldFault>
-    requires first { is_there world.old first ≡ true }
-    requires second { is_there world.old second ≡ true }
-    ensures comes { Comes (Links (naming notes.old.named first second) first second world.old) result world.new }
+    requires first { is_there world.old.state first ≡ true }
+    requires second { is_there world.old.state second ≡ true }
+    ensures comes { Comes (Links (naming notes.old.named first second) first second world.old.state) result world.new.state }
     ensures noted { OnOk result (notes.new ≡ with_named notes.old (naming notes.old.named first second)) }
-    ensures continues { Continues world.old world.new }
+    ensures continues { Continues P.gives world.old world.new }
 {
     notes.name(first, second)?;
     link(alloc, notes, first, second, world)
 }
 
 /// Pumps the frames that aren't pumped yet.
-fn pump_on(alloc: Global, world: &mut World, notes: &mut Notes) -> Result<Answer, WorldFault>
-    ensures comes { Comes (Pumps notes.old.place world.old) result world.new }
-    ensures noted { OnOk result (notes.new ≡ pumped notes.old (length world.new.air)) }
-    ensures continues { Continues world.old world.new }
+fn pump_on<P: Pick>(
+    alloc: Global,
+    world: &mut World<P>,
+    notes: &mut Notes,
+) -> Result<Answer, WorldFault>
+    ensures comes { Comes (Pumps notes.old.place world.old.state) result world.new.state }
+    ensures noted { OnOk result (notes.new ≡ pumped notes.old (length world.new.state.air)) }
+    ensures continues { Continues P.gives world.old world.new }
 {
     let answer = pump(alloc, notes.place(), world)?;
     notes.pump_to(world.air_len());
@@ -149,26 +201,43 @@ fn pump_on(alloc: Global, world: &mut World, notes: &mut Notes) -> Result<Answer
 }
 
 /// Sends, pumps and receives so many times at most, where pumping goes on from the frames that aren't pumped yet.
-fn burst_on(
+fn burst_on<P: Pick>(
     alloc: Global,
     times: u32,
     message: &WorldEvent,
     at: Socket,
-    world: &mut World,
+    world: &mut World<P>,
     notes: &mut Notes,
 ) -> Result<Told, WorldFault>
-    requires can { CanHappen world.old message.now }
-    requires sends { is_send message.now ≡ true }
-    requires there { is_there world.old at.node ≡ true }
-    ensures comes { Comes (Moves (Bursts times message.now (WorldEvent.Call at.node (EventNote.Receive at.port)) notes.old.place) notes.old world.old) (beside result notes.new) world.new }
-    ensures continues { Continues world.old world.new }
+    requires can { CanHappen world.old.state message.now }
+    requires sends { is_call message.now ≡ true }
+    requires there { is_there world.old.state at.node ≡ true }
+    ensures comes { Comes (Moves (Bursts times message.now (WorldEvent.Call at.node (EventNote.Receive at.port)) notes.old.place) notes.old world.old.state) (beside result notes.new) world.new.state }
+    ensures continues { Continues P.gives world.old world.new }
 {
     let (moved, place) = burst(alloc, times, message, at, notes.place(), world)?;
     notes.pump_to(place);
     Ok(Told::Answer(Answer::Moved(moved)))
 }
 
-/// A message of low importance from a port of a node to a socket of another.
+/// Sends a message again and again, so many times at most, and tells how often it was sent and the last answer.
+fn repeat_on<P: Pick>(
+    alloc: Global,
+    times: u32,
+    message: &WorldEvent,
+    world: &mut World<P>,
+) -> Result<Told, WorldFault>
+    requires some { 1 ≤ times }
+    requires can { CanHappen world.old.state message.now }
+    requires sends { is_call message.now ≡ true }
+    ensures comes { (notes : NotesState) → Comes (Repeated (SendsAgain times message.now) notes world.old.state) (beside result notes) world.new.state }
+    ensures continues { Continues P.gives world.old world.new }
+{
+    let (count, last) = repeat(alloc, times, message, world)?;
+    Ok(Told::Times { count, last })
+}
+
+/// A message of low importance from a port of a node to a socket.
 fn low_message(node: u8, port: u32, at: Socket, body: Bytes) -> WorldEvent
     requires { (1 ≤ at.node) × (at.node ≤ 32) }
     ensures { result ≡ low_message node port at.node at.port body }
@@ -177,12 +246,12 @@ fn low_message(node: u8, port: u32, at: Socket, body: Bytes) -> WorldEvent
         node: Addr::node(at.node),
         port: at.port,
     };
-    send(node, port, to, Importance::Low, body)
+    send(node, port, Destination::Port(to), Importance::Low, body)
 }
 
 /// The frame of that number since the last mark, where there is one.
-fn shown(frame: u64, world: &World, notes: &Notes) -> Result<Told, NoMemory>
-    ensures { IfOk result (λ told. told ≡ shown (slice_get world.now.air (counted (notes.now.base + frame)))) }
+fn shown<P: Pick>(frame: u64, world: &World<P>, notes: &Notes) -> Result<Told, NoMemory>
+    ensures { IfOk result (λ told. told ≡ shown (slice_get world.now.state.air (counted (notes.now.base + frame)))) }
 {
     let Some(sent) = world.frame(notes.base().saturating_add(frame)) else {
         return Ok(Told::Answer(Answer::NoFrame));
@@ -195,9 +264,14 @@ fn shown(frame: u64, world: &World, notes: &Notes) -> Result<Told, NoMemory>
 }
 
 /// What is told of a line that leaves everything as it is.
-fn tell(alloc: Global, line: &Line, world: &World, notes: &Notes) -> Result<Told, NoMemory>
-    requires { CanBeDone (is_there world.now) line.now }
-    ensures { IfOk result (λ told. told ≡ told_of line.now notes.now world.now) }
+fn tell<P: Pick>(
+    alloc: Global,
+    line: &Line,
+    world: &World<P>,
+    notes: &Notes,
+) -> Result<Told, NoMemory>
+    requires { CanBeDone (is_there world.now.state) line.now }
+    ensures { IfOk result (λ told. told ≡ told_of line.now notes.now world.now.state) }
 {
     Ok(match line {
         Line::Air { bearer: _ } => {
@@ -206,20 +280,21 @@ fn tell(alloc: Global, line: &Line, world: &World, notes: &Notes) -> Result<Told
         Line::Show { bearer: _, frame } => shown(*frame, world, notes)?,
         Line::Links { node } => Told::Answer(Answer::Links(world.links(alloc, *node)?)),
         Line::Flow { from, to } => Told::Answer(world.flow(*from, *to)),
+        Line::Publish { .. } => Told::Answer(Answer::BadRange),
         _ => Told::Nothing,
     })
 }
 
 /// Does what a line asks for that sends and receives messages again and again, or leaves everything as it is.
-fn converse(
+fn converse<P: Pick>(
     alloc: Global,
     line: Line,
-    world: &mut World,
+    world: &mut World<P>,
     notes: &mut Notes,
 ) -> Result<Told, WorldFault>
-    requires can { CanBeDone (is_there world.old) line }
-    ensures comes { Comes (Conversed line notes.old world.old) (beside result notes.new) world.new }
-    ensures continues { Continues world.old world.new }
+    requires can { CanBeDone (is_there world.old.state) line }
+    ensures comes { Comes (Conversed line notes.old world.old.state) (beside result notes.new) world.new.state }
+    ensures continues { Continues P.gives world.old world.new }
 {
     match line {
         Line::Repeat {
@@ -230,17 +305,8 @@ fn converse(
             importance,
             body,
         } => {
-            let message = WorldEvent::Call {
-                node,
-                call: EventNote::SendPort {
-                    port,
-                    to,
-                    importance,
-                    body,
-                },
-            };
-            let (count, last) = repeat(alloc, times, &message, world)?;
-            Ok(Told::Times { count, last })
+            let message = send(node, port, to, importance, body);
+            repeat_on(alloc, times, &message, world)
         }
         Line::Drain { node, port } => {
             let answer = receive_all(alloc, Socket::new(node, port), world)?;
@@ -263,18 +329,18 @@ fn converse(
 }
 
 /// Does what a line asks for that isn't one event.
-fn compose(
+fn compose<P: Pick>(
     alloc: Global,
     line: Line,
-    world: &mut World,
+    world: &mut World<P>,
     notes: &mut Notes,
 ) -> Result<Told, WorldFault>
-    requires can { CanBeDone (is_there world.old) line }
-    requires good { IsGood world.old }
-    ensures good { IsGood world.new }
-    ensures nodes { OnOk result ((n : ℕ) → is_there world.new n ≡ (makes line n || is_there world.old n)) }
-    ensures grows { Grows world.old world.new }
-    ensures comes { Comes (Composed line notes.old world.old) (beside result notes.new) world.new }
+    requires can { CanBeDone (is_there world.old.state) line }
+    requires good { IsGood P.gives world.old }
+    ensures good { IsGood P.gives world.new }
+    ensures nodes { OnOk result ((n : ℕ) → is_there world.new.state n ≡ (makes line n || is_there world.old.state n)) }
+    ensures grows { Grows world.old.state world.new.state }
+    ensures comes { Comes (Composed line notes.old world.old.state) (beside result notes.new) world.new.state }
 {
     let answer = match line {
         Line::Node { node } => {
@@ -299,18 +365,18 @@ fn compose(
 }
 
 /// Does what a line asks for.
-pub fn answer_of(
+pub fn answer_of<P: Pick>(
     alloc: Global,
     line: Line,
-    world: &mut World,
+    world: &mut World<P>,
     notes: &mut Notes,
 ) -> Result<Told, WorldFault>
-    requires can { CanBeDone (is_there world.old) line }
-    requires good { IsGood world.old }
-    ensures good { IsGood world.new }
-    ensures nodes { OnOk result ((n : ℕ) → is_there world.new n ≡ (makes line n || is_there world.old n)) }
-    ensures grows { Grows world.old world.new }
-    ensures comes { Comes (Answers line notes.old world.old) (beside result notes.new) world.new }
+    requires can { CanBeDone (is_there world.old.state) line }
+    requires good { IsGood P.gives world.old }
+    ensures good { IsGood P.gives world.new }
+    ensures nodes { OnOk result ((n : ℕ) → is_there world.new.state n ≡ (makes line n || is_there world.old.state n)) }
+    ensures grows { Grows world.old.state world.new.state }
+    ensures comes { Comes (Answers line notes.old world.old.state) (beside result notes.new) world.new.state }
 {
     match event_of(line, notes) {
         Ok(event) => Ok(Told::Answer(make(alloc, event, world)?)),
@@ -329,19 +395,19 @@ fn told_text(alloc: Global, number: u32, told: &Told) -> Result<Vec<u8>, NoMemor
 
 /// Does what a line asks for, and answers the printed line of what is told of it. Where a frame was lost for want of
 /// memory nothing is printed, nor is a limit told that was reached.
-pub fn do_line(
+pub fn do_line<P: Pick>(
     alloc: Global,
     number: u32,
     line: Line,
-    world: &mut World,
+    world: &mut World<P>,
     notes: &mut Notes,
 ) -> Result<Vec<u8>, WorldFault>
-    requires can { CanBeDone (is_there world.old) line }
-    requires good { IsGood world.old }
-    ensures good { IsGood world.new }
-    ensures grows { Grows world.old world.new }
-    ensures answered { IfOk result (λ text. IsAnswered number line (scene world.old notes.old) (scene world.new notes.new) text.items) }
-    ensures limited { IfErr result (λ fault. (stop : Limit) → fault ≡ WorldFault.Limit stop → IsLimited line (scene world.old notes.old) stop world.new) }
+    requires can { CanBeDone (is_there world.old.state) line }
+    requires good { IsGood P.gives world.old }
+    ensures good { IsGood P.gives world.new }
+    ensures grows { Grows world.old.state world.new.state }
+    ensures answered { IfOk result (λ text. IsAnswered number line (scene world.old.state notes.old) (scene world.new.state notes.new) text.items) }
+    ensures limited { IfErr result (λ fault. (stop : Limit) → fault ≡ WorldFault.Limit stop → IsLimited line (scene world.old.state notes.old) stop world.new.state) }
 {
     let came = answer_of(alloc, line, world, notes);
     if world.lost() {

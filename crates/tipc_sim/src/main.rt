@@ -16,14 +16,11 @@ mod writing;
 
 pub use running::run;
 pub use status::Status;
-
-#[cfg(test)]
-mod tests;
-
 use std::io::{BufWriter, ErrorKind, Write};
 use std::process::ExitCode;
 use std::{env, io};
 use tipc_outside::{StdSink, StdSource};
+use tipc_pick::{Chooser, RoundRobin};
 use tipc_world::World;
 
 /// The words after the program's name. Words that are no text aren't a form.
@@ -49,7 +46,7 @@ fn run_standard(rt: &HostRuntime) -> Result<Status, Status> {
         return Err(Status::NoMemory);
     };
     let mut source = StdSource::new(rt.reader());
-    let mut world = World::new(rt.alloc());
+    let mut world = World::new(rt.alloc(), Chooser::new(RoundRobin));
     let status = run(
         rt.alloc(),
         words.as_slice(),

@@ -1,13 +1,14 @@
 //! Lines that send and receive messages, also many at once.
 
-ghost use Rattle.std.specs.Prelude.{◌≡◌, true};
+ghost use Rattle.std.specs.Prelude.{◌≡◌, ◌≤◌, true, IfOk};
 ghost use Rattle.tipc_world.specs.Calls.{CanHappen};
 ghost use Rattle.tipc_world.specs.States.{is_there};
 ghost use Rattle.tipc_sim.specs.Courses.{Comes, Continues, Once};
-ghost use Rattle.tipc_sim.specs.Messages.{drained_answer, is_message, is_send, is_sent, Bursts, PumpsAndReceives, ReceivesAll, SendsAgain, Turn};
+ghost use Rattle.tipc_sim.specs.Messages.{drained_answer, is_call, is_message, is_sent, Bursts, PumpsAndReceives, ReceivesAll, SendsAgain, Turn};
 
 use crate::frames::{make, pump};
-use std::alloc::Global;
+use std::alloc::{AllocError, Global};
+use tipc_pick::Pick;
 use tipc_types::{Answer, EventNote};
 use tipc_world::{World, WorldEvent, WorldFault};
 
@@ -33,7 +34,7 @@ impl Socket {
 fn is_sent(answer: &Answer) -> bool
     ensures { result ≡ is_sent answer.now }
 {
-    matches!(answer, Answer::Sent)
+    matches!(answer, Answer::Sent | Answer::SentTo(_))
 }
 
 /// Whether an answer is a message.
@@ -43,20 +44,31 @@ fn is_message(answer: &Answer) -> bool
     matches!(answer, Answer::Received(_))
 }
 
-/// Lets a message be sent.
-fn send(alloc: Global, message: &WorldEvent, world: &mut World) -> Result<Answer, WorldFault>
-    requires { CanHappen world.old message.now }
-    ensures comes { Comes (Once message.now world.old) result world.new }
-    ensures continues { Continues world.old world.new }
+/// The same event again.
+fn copy_of(message: &WorldEvent) -> Result<WorldEvent, AllocError>
+    ensures { IfOk result (λ copy. copy ≡ message.now) }
 {
-    make(alloc, message.clone()?, world)
+    message.clone()
+}
+
+/// Lets a message be sent.
+fn send<P: Pick>(
+    alloc: Global,
+    message: &WorldEvent,
+    world: &mut World<P>,
+) -> Result<Answer, WorldFault>
+    requires { CanHappen world.old.state message.now }
+    ensures comes { Comes (Once message.now world.old.state) result world.new.state }
+    ensures continues { Continues P.gives world.old world.new }
+{
+    make(alloc, copy_of(message)?, world)
 }
 
 /// Lets a message be received.
-fn receive(alloc: Global, at: Socket, world: &mut World) -> Result<Answer, WorldFault>
-    requires { is_there world.old at.node ≡ true }
-    ensures comes { Comes (Once (WorldEvent.Call at.node (EventNote.Receive at.port)) world.old) result world.new }
-    ensures continues { Continues world.old world.new }
+fn receive<P: Pick>(alloc: Global, at: Socket, world: &mut World<P>) -> Result<Answer, WorldFault>
+    requires { is_there world.old.state at.node ≡ true }
+    ensures comes { Comes (Once (WorldEvent.Call at.node (EventNote.Receive at.port)) world.old.state) result world.new.state }
+    ensures continues { Continues P.gives world.old world.new }
 {
     let event = WorldEvent::Call {
         node: at.node,
@@ -65,28 +77,31 @@ fn receive(alloc: Global, at: Socket, world: &mut World) -> Result<Answer, World
     make(alloc, event, world)
 }
 
-/// Sends a message again and again, so many times at most, and stops at the first send that is refused. It answers how
-/// many were sent, and the last answer.
-pub fn repeat(
+/// Sends a message again and again, so many times at most, which is 1 or more, and stops at the first send that is refused.
+/// It answers how many were sent, and the last answer.
+pub fn repeat<P: Pick>(
     alloc: Global,
     times: u32,
     message: &WorldEvent,
-    world: &mut World,
+    world: &mut World<P>,
 ) -> Result<(u64, Answer), WorldFault>
-    requires can { CanHappen world.old message.now }
-    requires sends { is_send message.now ≡ true }
-    ensures comes { Comes (SendsAgain times message.now world.old) result world.new }
-    ensures continues { Continues world.old world.new }
+    requires some { 1 ≤ times }
+    requires can { CanHappen world.old.state message.now }
+    requires sends { is_call message.now ≡ true }
+    ensures comes { Comes (SendsAgain times message.now world.old.state) result world.new.state }
+    ensures continues { Continues P.gives world.old world.new }
 {
     let mut sent = 0;
-    for _ in 0..times {
-        let answer = send(alloc, message, world)?;
-        if !is_sent(&answer) {
-            return Ok((sent, answer));
+    loop {
+        let last = send(alloc, message, world)?;
+        if !is_sent(&last) {
+            return Ok((sent, last));
         }
         sent += 1;
+        if sent == u64::from(times) {
+            return Ok((sent, last));
+        }
     }
-    Ok((sent, Answer::Sent))
 }
 
 /// How many messages were received before this answer, or that there is no such socket.
@@ -100,10 +115,14 @@ fn drained_answer(count: u64, last: &Answer) -> Answer
 }
 
 /// Lets messages be received at a socket until there is none.
-pub fn receive_all(alloc: Global, at: Socket, world: &mut World) -> Result<Answer, WorldFault>
-    requires { is_there world.old at.node ≡ true }
-    ensures comes { Comes (ReceivesAll at.node at.port world.old) result world.new }
-    ensures continues { Continues world.old world.new }
+pub fn receive_all<P: Pick>(
+    alloc: Global,
+    at: Socket,
+    world: &mut World<P>,
+) -> Result<Answer, WorldFault>
+    requires { is_there world.old.state at.node ≡ true }
+    ensures comes { Comes (ReceivesAll at.node at.port world.old.state) result world.new.state }
+    ensures continues { Continues P.gives world.old world.new }
 {
     let mut count = 0;
     loop {
@@ -117,15 +136,15 @@ pub fn receive_all(alloc: Global, at: Socket, world: &mut World) -> Result<Answe
 
 /// Pumps the frames from a place on, and lets a message be received. It answers whether there was one, and up to which place
 /// frames are pumped then.
-fn pump_and_receive(
+fn pump_and_receive<P: Pick>(
     alloc: Global,
     at: Socket,
     place: u64,
-    world: &mut World,
+    world: &mut World<P>,
 ) -> Result<(bool, u64), WorldFault>
-    requires { is_there world.old at.node ≡ true }
-    ensures comes { Comes (PumpsAndReceives place (WorldEvent.Call at.node (EventNote.Receive at.port)) world.old) result world.new }
-    ensures continues { Continues world.old world.new }
+    requires { is_there world.old.state at.node ≡ true }
+    ensures comes { Comes (PumpsAndReceives place (WorldEvent.Call at.node (EventNote.Receive at.port)) world.old.state) result world.new.state }
+    ensures continues { Continues P.gives world.old world.new }
 {
     pump(alloc, place, world)?;
     let end = world.air_len();
@@ -135,17 +154,17 @@ fn pump_and_receive(
 
 /// Lets a message be sent, and where it was, pumps frames and lets a message be received. It answers whether there was one, and
 /// up to which place frames are pumped then.
-fn turn(
+fn turn<P: Pick>(
     alloc: Global,
     message: &WorldEvent,
     at: Socket,
     place: u64,
-    world: &mut World,
+    world: &mut World<P>,
 ) -> Result<(bool, u64), WorldFault>
-    requires can { CanHappen world.old message.now }
-    requires there { is_there world.old at.node ≡ true }
-    ensures comes { Comes (Turn message.now (WorldEvent.Call at.node (EventNote.Receive at.port)) place world.old) result world.new }
-    ensures continues { Continues world.old world.new }
+    requires can { CanHappen world.old.state message.now }
+    requires there { is_there world.old.state at.node ≡ true }
+    ensures comes { Comes (Turn message.now (WorldEvent.Call at.node (EventNote.Receive at.port)) place world.old.state) result world.new.state }
+    ensures continues { Continues P.gives world.old world.new }
 {
     let answer = send(alloc, message, world)?;
     if !is_sent(&answer) {
@@ -156,19 +175,19 @@ fn turn(
 
 /// Makes so many turns at most, until no message is received. It answers in how many one was, and up to which place frames are
 /// pumped then.
-pub fn burst(
+pub fn burst<P: Pick>(
     alloc: Global,
     times: u32,
     message: &WorldEvent,
     at: Socket,
     first: u64,
-    world: &mut World,
+    world: &mut World<P>,
 ) -> Result<(u64, u64), WorldFault>
-    requires can { CanHappen world.old message.now }
-    requires sends { is_send message.now ≡ true }
-    requires there { is_there world.old at.node ≡ true }
-    ensures comes { Comes (Bursts times message.now (WorldEvent.Call at.node (EventNote.Receive at.port)) first world.old) result world.new }
-    ensures continues { Continues world.old world.new }
+    requires can { CanHappen world.old.state message.now }
+    requires sends { is_call message.now ≡ true }
+    requires there { is_there world.old.state at.node ≡ true }
+    ensures comes { Comes (Bursts times message.now (WorldEvent.Call at.node (EventNote.Receive at.port)) first world.old.state) result world.new.state }
+    ensures continues { Continues P.gives world.old world.new }
 {
     let mut place = first;
     let mut moved = 0;

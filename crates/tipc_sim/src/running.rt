@@ -25,6 +25,7 @@ use crate::status::Status;
 use crate::writing::write_all;
 use std::alloc::Global;
 use tipc_outside::{Sink, SinkFault, Source};
+use tipc_pick::Pick;
 use tipc_report::{Which, print_bad, print_limit};
 use tipc_script::{LineFault, LineWhy};
 use tipc_types::NoMemory;
@@ -115,21 +116,21 @@ fn which_of(limit: Limit) -> Which
 }
 
 /// Runs one line: does what it asks for and prints its answer, or tells that it is bad or reaches a limit.
-fn run_line<K: Sink>(
+fn run_line<K: Sink, P: Pick>(
     alloc: Global,
     number: u32,
     text: &[u8],
     sink: &mut K,
-    world: &mut World,
+    world: &mut World<P>,
     notes: &mut Notes,
 ) -> Result<(), Status>
     requires short { length text.now < 2 ^ 31 }
-    requires kept { world.old.lost ≡ false }
-    requires good { IsGood world.old }
-    ensures good { IsGood world.new }
-    ensures grows { Grows world.old world.new }
-    ensures kept { (result ≡ Err Status.NoMemory → ⊥) → world.new.lost ≡ false }
-    ensures run { LineRuns result number text.now (scene world.old notes.old) (scene world.new notes.new) (K.contents sink.old) (K.contents sink.new) }
+    requires kept { world.old.state.lost ≡ false }
+    requires good { IsGood P.gives world.old }
+    ensures good { IsGood P.gives world.new }
+    ensures grows { Grows world.old.state world.new.state }
+    ensures kept { (result ≡ Err Status.NoMemory → ⊥) → world.new.state.lost ≡ false }
+    ensures run { LineRuns result number text.now (scene world.old.state notes.old) (scene world.new.state notes.new) (K.contents sink.old) (K.contents sink.new) }
     ensures failed { IsErrOf result Status.WriteFault → Rose (K.faults sink.old) (K.faults sink.new) ⊎ Rose (K.stalls sink.old) (K.stalls sink.new) }
     ensures later { K.faults sink.old ≤ K.faults sink.new }
     ensures no_fewer { K.stalls sink.old ≤ K.stalls sink.new }
@@ -152,14 +153,19 @@ fn run_line<K: Sink>(
 }
 
 /// Runs the lines of a script, one after the other.
-fn run_lines<K: Sink>(alloc: Global, script: &[u8], sink: &mut K, world: &mut World) -> Status
+fn run_lines<K: Sink, P: Pick>(
+    alloc: Global,
+    script: &[u8],
+    sink: &mut K,
+    world: &mut World<P>,
+) -> Status
     requires within { IsWithin script.now }
-    requires empty { (n : ℕ) → is_there world.old n ≡ false }
-    requires kept { world.old.lost ≡ false }
-    requires good { IsGood world.old }
-    ensures good { IsGood world.new }
-    ensures kept { (result ≡ Status.NoMemory → ⊥) → world.new.lost ≡ false }
-    ensures report { Reports script.now result world.old world.new (K.contents sink.old) (K.contents sink.new) }
+    requires empty { (n : ℕ) → is_there world.old.state n ≡ false }
+    requires kept { world.old.state.lost ≡ false }
+    requires good { IsGood P.gives world.old }
+    ensures good { IsGood P.gives world.new }
+    ensures kept { (result ≡ Status.NoMemory → ⊥) → world.new.state.lost ≡ false }
+    ensures report { Reports script.now result world.old.state world.new.state (K.contents sink.old) (K.contents sink.new) }
     ensures sound { result ≡ Status.Ok → AreSound (lines_of script.now) }
     ensures status { IsLinesStatus result }
     ensures failed { result ≡ Status.WriteFault → Rose (K.faults sink.old) (K.faults sink.new) ⊎ Rose (K.stalls sink.old) (K.stalls sink.new) }
@@ -206,41 +212,41 @@ fn is_form(words: &[String]) -> bool
 ///
 /// The form is the word `run` alone. The source is read to its end first. Then each line is read, done and
 /// answered by a printed line before the next one. (This project's profile.)
-#[tactic(auto, using(crate::proofs::WorldLaws::empty_good))]
-pub fn run<S: Source, K: Sink>(
+pub fn run<S: Source, K: Sink, P: Pick>(
     alloc: Global,
     words: &[String],
     source: &mut S,
     sink: &mut K,
-    world: &mut World,
+    world: &mut World<P>,
 ) -> Status
-    requires { world.old ≡ no_nodes }
+    requires empty { world.old.state ≡ no_nodes }
+    requires start { world.old.chooser.turn ≡ 0 }
 
     // Whatever the status, the messages delivered are a front of those accepted.
-    ensures good { IsGood world.new }
+    ensures good { IsGood P.gives world.new }
 
     // What is written: a front of the script's report, and the whole of it at Ok, BadLine and Limit.
-    ensures report { IfSome (S.left source.old) (λ script. Reports script result world.old world.new (K.contents sink.old) (K.contents sink.new)) }
+    ensures report { IfSome (S.left source.old) (λ script. Reports script result world.old.state world.new.state (K.contents sink.old) (K.contents sink.new)) }
 
     // Where each status comes.
     ensures usage { (result ≡ Status.Usage) ↔ (is_run (map string_bytes words.now) ≡ false) }
     ensures untouched { result ≡ Status.Usage → (source.new ≡ source.old) × (sink.new ≡ sink.old) × (world.new ≡ world.old) }
     ensures read { result ≡ Status.ReadFault → Rose (S.faults source.old) (S.faults source.new) × (sink.new ≡ sink.old) × (world.new ≡ world.old) }
     ensures write { result ≡ Status.WriteFault → Rose (K.faults sink.old) (K.faults sink.new) ⊎ Rose (K.stalls sink.old) (K.stalls sink.new) }
-    ensures limit { result ≡ Status.Limit → IfSome (S.left source.old) (λ script. (IsWithin script → ⊥) ⊎ ReachesLimit script world.old world.new) }
+    ensures limit { result ≡ Status.Limit → IfSome (S.left source.old) (λ script. (IsWithin script → ⊥) ⊎ ReachesLimit script world.old.state world.new.state) }
     ensures within { (result ≡ Status.Ok) ⊎ (result ≡ Status.BadLine) → IfSome (S.left source.old) IsWithin }
     ensures bad { result ≡ Status.BadLine → IfSome (S.left source.old) (λ script. (i : ℕ) × (fault : Fault) × IsFirstBad (lines_of script) i fault) }
     ensures sound { result ≡ Status.Ok → IfSome (S.left source.old) (λ script. AreSound (lines_of script)) }
     ensures end { result ≡ Status.Ok → IfSome (S.left source.old) (λ script. S.left source.new ≡ Some []) }
 
     // A frame that was lost for want of memory ends the run so.
-    ensures lost { world.new.lost ≡ true → result ≡ Status.NoMemory }
+    ensures lost { world.new.state.lost ≡ true → result ≡ Status.NoMemory }
 
     // A script without fault, within the limits of a script and with no failure outside, is run to its end, unless it
     // reaches a limit of the world or memory runs out.
     ensures complete { IfSome (S.left source.old) (λ script. is_run (map string_bytes words.now) ≡ true → IsWithin script → AreSound (lines_of script)
         → (Rose (S.faults source.old) (S.faults source.new) → ⊥) → (Rose (K.faults sink.old) (K.faults sink.new) → ⊥) → (Rose (K.stalls sink.old) (K.stalls sink.new) → ⊥)
-        → (result ≡ Status.Ok) ⊎ ((result ≡ Status.NoMemory) ⊎ ((result ≡ Status.Limit) × ReachesLimit script world.old world.new))) }
+        → (result ≡ Status.Ok) ⊎ ((result ≡ Status.NoMemory) ⊎ ((result ≡ Status.Limit) × ReachesLimit script world.old.state world.new.state))) }
 {
     if !is_form(words) {
         return Status::Usage;

@@ -7,6 +7,7 @@ ghost use Rattle.tipc_sim.specs.Meanings.{settled_answer, tick_asked, Round, Set
 
 use crate::frames::{deliver, make};
 use std::alloc::Global;
+use tipc_pick::Pick;
 use tipc_types::{Answer, EventNote};
 use tipc_world::{World, WorldEvent, WorldFault};
 
@@ -14,9 +15,9 @@ use tipc_world::{World, WorldEvent, WorldFault};
 const NUMBERS: u8 = 33;
 
 /// Lets a tick pass at a node where it is there, and answers whether it is.
-fn tick(alloc: Global, node: u8, world: &mut World) -> Result<bool, WorldFault>
-    ensures comes { Comes (Takes tick_asked node world.old) result world.new }
-    ensures continues { Continues world.old world.new }
+fn tick<P: Pick>(alloc: Global, node: u8, world: &mut World<P>) -> Result<bool, WorldFault>
+    ensures comes { Comes (Takes tick_asked node world.old.state) result world.new.state }
+    ensures continues { Continues P.gives world.old world.new }
 {
     if !world.has_node(node) {
         return Ok(false);
@@ -30,9 +31,9 @@ fn tick(alloc: Global, node: u8, world: &mut World) -> Result<bool, WorldFault>
 }
 
 /// Lets a tick pass at every node, in order of address.
-fn tick_all(alloc: Global, world: &mut World) -> Result<(), WorldFault>
-    ensures comes { Comes (TakesAll tick_asked 1 33 world.old) result world.new }
-    ensures continues { Continues world.old world.new }
+fn tick_all<P: Pick>(alloc: Global, world: &mut World<P>) -> Result<(), WorldFault>
+    ensures comes { Comes (TakesAll tick_asked 1 33 world.old.state) result world.new.state }
+    ensures continues { Continues P.gives world.old world.new }
 {
     for node in 1..NUMBERS {
         tick(alloc, node, world)?;
@@ -42,19 +43,19 @@ fn tick_all(alloc: Global, world: &mut World) -> Result<(), WorldFault>
 
 /// Makes a round: a tick passes at every node, and then the frames from a place on arrive that are in the air. It answers
 /// the place behind them.
-fn round(alloc: Global, place: u64, world: &mut World) -> Result<u64, WorldFault>
-    requires { place ≤ length world.old.air }
-    ensures comes { Comes (Round place world.old) result world.new }
-    ensures behind { IfOk result (λ end. end ≤ length world.new.air) }
-    ensures continues { Continues world.old world.new }
+fn round<P: Pick>(alloc: Global, place: u64, world: &mut World<P>) -> Result<u64, WorldFault>
+    requires { place ≤ length world.old.state.air }
+    ensures comes { Comes (Round place world.old.state) result world.new.state }
+    ensures behind { IfOk result (λ end. end ≤ length world.new.state.air) }
+    ensures continues { Continues P.gives world.old world.new }
 {
     tick_all(alloc, world)?;
     deliver(alloc, place, world)
 }
 
 /// Whether packets are under way, and how many.
-fn settled_answer(world: &World) -> Answer
-    ensures { result ≡ settled_answer (load_of world.now.members) }
+fn settled_answer<P: Pick>(world: &World<P>) -> Answer
+    ensures { result ≡ settled_answer (load_of world.now.state.members) }
 {
     let (unacked, waiting) = world.load();
     if unacked == 0 && waiting == 0 {
@@ -66,9 +67,13 @@ fn settled_answer(world: &World) -> Answer
 
 /// Makes so many rounds. In each of them the frames arrive that were sent since the first began and haven't arrived
 /// in one before.
-pub fn settle(alloc: Global, rounds: u32, world: &mut World) -> Result<Answer, WorldFault>
-    ensures comes { Comes (Settles rounds world.old) result world.new }
-    ensures continues { Continues world.old world.new }
+pub fn settle<P: Pick>(
+    alloc: Global,
+    rounds: u32,
+    world: &mut World<P>,
+) -> Result<Answer, WorldFault>
+    ensures comes { Comes (Settles rounds world.old.state) result world.new.state }
+    ensures continues { Continues P.gives world.old world.new }
 {
     let mut place = world.air_len();
     for _ in 0..rounds {

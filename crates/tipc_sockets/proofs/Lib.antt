@@ -5,3 +5,4 @@ pub mod Entries
 pub mod FatesTold
 pub mod Keeping
 pub mod StepsTold
+pub mod Waiting

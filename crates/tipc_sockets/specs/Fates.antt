@@ -1,5 +1,5 @@
 -- The fate of a message that arrived, or that the own node sent to itself: the first row that fits.
-use Rattle.std.specs.Prelude.{ℕ, ◌==◌, ◌&&◌, ◌||◌, Bool, true, false, not, nat_le, nat_lt, if◌then◌else◌, List, [], ◌∷◌, Option, None, Some, filter, length}
+use Rattle.std.specs.Prelude.{ℕ, ◌+◌, ◌==◌, ◌&&◌, ◌||◌, Bool, true, false, not, nat_le, nat_lt, if◌then◌else◌, List, [], ◌∷◌, Option, None, Some, filter, length}
 use Rattle.std.specs.List.{list_any}
 use Rattle.tipc_types.specs.Span.{Span}
 use Rattle.tipc_types.specs.declared.message_forms.Form.{Form}
@@ -14,7 +14,7 @@ use Rattle.tipc_journal.specs.Names.{is_clusterwide}
 use Rattle.tipc_sockets.specs.declared.fates.Fate.{Fate}
 use Rattle.tipc_sockets.specs.declared.fates.Fate.TheVariants.{Queued, Returned, ReturnDropped, Dropped}
 use Rattle.tipc_sockets.specs.Publishing.{is_at}
-use Rattle.tipc_sockets.specs.SocketTables.{queue_at, queued_at_each, with_queues, SocketTable}
+use Rattle.tipc_sockets.specs.SocketTables.{queue_at, queued, queued_at_each, with_queues, SocketTable}
 
 -- whether a port offers an instance to other nodes: it has a live publication of cluster or zone scope that covers it
 abbrev pub is_offered : List Publication → ℕ → ℕ → ℕ → Bool
@@ -82,6 +82,31 @@ fate s arrived waiting (Payload importance form from to kind lower upper code dr
     one_port_fate s.own waiting to.port (refusal s arrived form to.port kind lower)
     (Payload importance form from to kind lower upper code droppable body)
 fate s arrived waiting (Items withdrawal items) = Dropped
+
+-- ---- a message that surely waits
+
+-- the port that a message is for
+abbrev pub port_of : Message → ℕ
+port_of (Payload importance form from to kind lower upper code droppable body) = to.port
+port_of (Items withdrawal items) = 0
+
+-- whether so many messages more may wait at a port where these wait
+abbrev pub has_places : ℕ → Option (List Message) → Bool
+has_places count None = false
+has_places count (Some waiting) = nat_le (length waiting + count) inbox_size
+
+-- whether a message that arrived surely waits at the one port that it is for, as the last of so many that arrived: the port is there, has
+-- room for them all, and offers the instance where the message is by name
+abbrev pub surely_waits : SocketTable → ℕ → Message → Bool
+surely_waits s count (Payload importance Connected from to kind lower upper code droppable body) = false
+surely_waits s count (Payload importance Multicast from to kind lower upper code droppable body) = false
+surely_waits s count (Payload importance form from to kind lower upper code droppable body) =
+    (not (is_by_name form) || is_offered s.live to.port kind lower) && has_places count (queue_at s to.port)
+surely_waits s count (Items withdrawal items) = false
+
+-- the sockets when such a message waits at its port
+abbrev pub with_waiting : SocketTable → Message → SocketTable
+with_waiting s m = with_queues s (queued m s.queues (port_of m))
 
 -- the sockets after a fate: the message waits at each port to which it was queued
 abbrev pub after_fate : SocketTable → Message → Fate → SocketTable

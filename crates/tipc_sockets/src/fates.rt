@@ -2,7 +2,7 @@
 
 ghost use Rattle.std.specs.Prelude.{◌≡◌};
 ghost use Rattle.tipc_journal.specs.Dues.{returned_message};
-ghost use Rattle.tipc_sockets.specs.Fates.{unqueued_fate};
+ghost use Rattle.tipc_sockets.specs.Fates.{port_of, unqueued_fate};
 
 use tipc_journal::PortList;
 use tipc_types::{Addr, Bytes, Form, Message};
@@ -55,6 +55,16 @@ pub(crate) fn returned(m: Message, why: u8) -> Message
             }
         }
         Message::Items { withdrawal, items } => Message::Items { withdrawal, items },
+    }
+}
+
+/// The port that a message is for.
+pub fn port_of(m: &Message) -> u32
+    ensures { result ≡ port_of m.now }
+{
+    match m {
+        Message::Payload { to, .. } => to.port,
+        Message::Items { .. } => 0,
     }
 }
 

@@ -7,7 +7,7 @@ mod publishing;
 mod queues;
 mod sockets;
 
-pub use fates::Fate;
+pub use fates::{Fate, port_of};
 pub use publishing::{PublishFault, WithdrawFault};
 pub use queues::MOST_MESSAGES;
 pub use sockets::{Sockets, Table};

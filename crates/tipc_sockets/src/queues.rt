@@ -1,6 +1,6 @@
 //! The queue of a socket: the messages that wait for its owner.
 
-ghost use Rattle.std.specs.Prelude.{◌≡◌, true, nat_eq, All, ◌<◌, ◌≤◌, ◌++◌, ◌∷◌, [], length, drop, slice_get, nat_lt, replicate, IfOk, OnErr, OnOk};
+ghost use Rattle.std.specs.Prelude.{◌≡◌, true, nat_eq, All, ◌<◌, ◌≤◌, ◌+◌, ◌++◌, ◌∷◌, [], length, drop, slice_get, nat_le, nat_lt, replicate, IfOk, OnErr, OnOk};
 ghost use Rattle.std.specs.List.{AllPairs};
 ghost use Rattle.std.specs.Map.{lookup};
 ghost use Rattle.tipc_sockets.specs.Fates.{has_room};
@@ -68,6 +68,14 @@ impl Queue {
         ensures { result ≡ nat_lt (length self.now) 128 }
     {
         self.waiting.len() < MOST_MESSAGES
+    }
+
+    /// Whether so many messages more have places here.
+    pub(crate) fn has_places(&self, count: u32) -> bool
+        ensures { result ≡ nat_le (length self.now + count) 128 }
+    {
+        let free = MOST_MESSAGES - self.waiting.len();
+        count as usize <= free
     }
 
     /// Puts a message last. It takes no memory.

@@ -8,11 +8,11 @@ ghost use Rattle.tipc_types.specs.declared.services.Publication.{Publication};
 ghost use Rattle.tipc_name_table.specs.Matching.{closest, covers, overlaps};
 ghost use Rattle.tipc_name_table.specs.Tables.{is_named, is_of, put, without, without_node, IsTable};
 ghost use Rattle.tipc_ports.specs.Numbers.{port_number, ArePresent};
-ghost use Rattle.tipc_sockets.specs.Fates.{after_fate, fate, has_room, hearers, refusal};
+ghost use Rattle.tipc_sockets.specs.Fates.{after_fate, fate, has_places, has_room, hearers, refusal, surely_waits, with_waiting};
 ghost use Rattle.tipc_sockets.specs.Publishing.{closed, is_at, own_publication, published_at, publish_refusal, published, purged, withdrawn};
 ghost use Rattle.tipc_sockets.specs.SocketTables.{has_port, no_sockets, queue_at, queued, queued_at_each, taken_from, with_queues, with_socket, AreSockets};
 
-use crate::fates::{Fate, unqueued};
+use crate::fates::{Fate, port_of, unqueued};
 use crate::publishing::{
     FIRST_KIND, PublishFault, WithdrawFault, aimed_at, all_at, find_at, has_key, is_any_at, is_of,
     is_offered, remove_at, remove_named, remove_node, those_of, withdraw_those_at,
@@ -281,10 +281,11 @@ impl Sockets {
     }
 
     /// The publications that a name finds, closest first: the own ones that cover the instance, where there are some,
-    /// and else those of all nodes, in order of node, port and key. (Order and preference are this project's
-    /// profile.)
+    /// and else those of all nodes, in order of node, port and key: 32,768 at most. (Order and preference are this
+    /// project's profile.)
     pub fn closest(&self, alloc: Global, kind: u32, instance: u32) -> Result<List, NoMemory>
-        ensures { IfOk result (λ ps. ps ≡ closest self.now.own (filter (covers kind instance) self.now.names)) }
+        ensures found { IfOk result (λ ps. ps ≡ closest self.now.own (filter (covers kind instance) self.now.names)) }
+        ensures few { IfOk result (λ ps. length ps ≤ 32768) }
     {
         let all = self.names.matches(alloc, kind, instance)?;
         let own = those_of(alloc, all.as_slice(), self.own)?;
@@ -410,6 +411,53 @@ impl Sockets {
                 None => self.queue_to(alloc, port, m),
             },
         }
+    }
+
+    /// Whether so many messages more may wait at a port: it is there, and has places for them.
+    fn has_places(&self, port: u32, count: u32) -> bool
+        ensures { result ≡ has_places count (queue_at self.now port) }
+    {
+        match self.queues.get(&port) {
+            Some(queue) => queue.has_places(count),
+            None => false,
+        }
+    }
+
+    /// Whether a message that arrived surely waits at its port, as the last of so many messages that arrived: it is
+    /// direct, or by name and its port offers the instance to other nodes; and the port is there and has places for
+    /// them all. What becomes of such a message is known before it is there, and takes no memory: see
+    /// [`Sockets::put`].
+    pub fn surely_waits(&self, m: &Message, count: u32) -> bool
+        ensures { result ≡ surely_waits self.now count m.now }
+    {
+        let Message::Payload {
+            form,
+            to,
+            name_kind,
+            lower,
+            ..
+        } = m
+        else {
+            return false;
+        };
+        match form {
+            Form::Connected => false,
+            Form::Multicast => false,
+            Form::Named => {
+                is_offered(self.live.as_slice(), to.port, *name_kind, *lower)
+                    && self.has_places(to.port, count)
+            }
+            Form::Direct => self.has_places(to.port, count),
+        }
+    }
+
+    /// Puts a message that surely waits at its port there. It takes no memory.
+    pub fn put(&mut self, m: Message)
+        requires { surely_waits self.old 1 m ≡ true }
+        ensures { self.new ≡ with_waiting self.old m }
+    {
+        let at = port_of(&m);
+        put(&mut self.queues, at, m);
     }
 
     /// The same sockets, with the same names, publications, queues, and number for the next port.

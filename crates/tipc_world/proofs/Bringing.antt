@@ -3,6 +3,7 @@ use Rattle.std.proofs.Common.{◌≡◌, ◌+◌, ◌<◌, ℕ, List, ◌++◌, 
 use Rattle.std.proofs.lemmas.List.{get_or-append-add}
 use Rattle.std.proofs.lemmas.Option.{get_or_from_slice_get, slice_get-get_or, slice_get_within}
 use Rattle.std.proofs.Math.ListN.{get_or-append}
+use Rattle.tipc_types.specs.Address.{node_word}
 use Rattle.tipc_types.specs.declared.message_forms.Flow.TheVariants.{Zero}
 use Rattle.tipc_outside.specs.declared.outgoing.Outgoing.{Outgoing}
 use Rattle.tipc_fragments.specs.Joining.{Joining}
@@ -35,9 +36,9 @@ in_middle xs ys zs k x there =
     ∙ ap Some (get_or-append (xs ++ ys) zs x (length xs + k) front ∙ get_or-append-add xs ys k x ∙ get_or_from_slice_get ys k x x there)
 
 -- what happens first at a pair gives packets of messages, where each packet that the peer put is one
-opening_brings : (v w : Sight) (e : LinkEnd) (opening : Opening) (o : Outset) → AreSeen v w → HasOnly v 0 e → ComesIn v w 0 opening → ShowsIn opening → Happened (pair_state e v.partial) opening o
-    → ((own theirs : ℕ) → Each IsOfMessage (w.put own theirs)) → Brings (opened_in o.given)
-opening_brings v w e opening o h only c shows happened known =
+opening_brings : (word : ℕ) (v w : Sight) (e : LinkEnd) (opening : Opening) (o : Outset) → AreSeen v w → HasOnly v 0 e → ComesIn v w 0 opening → ShowsIn opening → Happened (pair_state e v.partial) opening o
+    → ((own theirs : ℕ) → Each (IsOfMessage word) (w.put own theirs)) → Brings word (opened_in o.given)
+opening_brings word v w e opening o h only c shows happened known =
     let g = gives v w 0 e opening o h only c shows happened in
     let before = v.given v.node.contact v.node.seen in
     record {
@@ -47,15 +48,15 @@ opening_brings v w e opening o h only c shows happened known =
     }
 
 -- the same of a pair whose begun message is that of the node
-pair_brings : (v w : Sight) (x : PairState) (opening : Opening) (o : Outset) → x.begun ≡ v.partial → AreSeen v w → HasOnly v 0 x.link → ComesIn v w 0 opening → ShowsIn opening
-    → ((own theirs : ℕ) → Each IsOfMessage (w.put own theirs)) → Happened x opening o → Brings (opened_in o.given)
-pair_brings v w x opening o begun h only c shows known =
-    subst (λ (j : Joining). Happened (pair_state x.link j) opening o → Brings (opened_in o.given)) (sym begun) (λ happened. opening_brings v w x.link opening o h only c shows happened known)
+pair_brings : (word : ℕ) (v w : Sight) (x : PairState) (opening : Opening) (o : Outset) → x.begun ≡ v.partial → AreSeen v w → HasOnly v 0 x.link → ComesIn v w 0 opening → ShowsIn opening
+    → ((own theirs : ℕ) → Each (IsOfMessage word) (w.put own theirs)) → Happened x opening o → Brings word (opened_in o.given)
+pair_brings word v w x opening o begun h only c shows known =
+    subst (λ (j : Joining). Happened (pair_state x.link j) opening o → Brings word (opened_in o.given)) (sym begun) (λ happened. opening_brings word v w x.link opening o h only c shows happened known)
 
--- what a node of a sound world put is of a message
-put_known : (members : List (Option MemberState)) (air : List Sent) (a b : ℕ) → IsSound members air → (own theirs : ℕ) → Each IsOfMessage ((sight_at members air a b).put own theirs)
+-- what a node of a sound world put is of a message that it can send
+put_known : (members : List (Option MemberState)) (air : List Sent) (a b : ℕ) → IsSound members air → (own theirs : ℕ) → Each (IsOfMessage (node_word a)) ((sight_at members air a b).put own theirs)
 unfolding sight_at accepted_at
-put_known members air a b h own theirs k packet there = put_message (accepted_at members a b own theirs Zero) k packet (λ i m is. (h.accepted a b own theirs i m is).0) there
+put_known members air a b h own theirs k packet there = put_message (node_word a) (accepted_at members a b own theirs Zero) k packet (h.accepted a b own theirs) there
 
 -- in a sound world a node's turn gives the messages of its peers
 pub are_brought : (old : Stage) (a : ℕ) (m m' : MemberState) (bytes : List ℕ) (s : NodeStep) (frames : List Outgoing) → IsSound old.members old.air → slice_index_or old.members a None ≡ Some m
@@ -67,5 +68,5 @@ are_brought old a m m' bytes s frames sound there t out b x is =
     let p = (t.turns b x is).turn in
     let v = sight_in old a b in
     let w = sight_in old b a in
-    pair_brings v w x.pair p.opening p.turn.first (sym (sight_partial old a b m x was is)) (sound.pairs a b knows.number other.0 (λ e. other.1 (sym e))) (sight_only old a b m x was is)
+    pair_brings (node_word b) v w x.pair p.opening p.turn.first (sym (sight_partial old a b m x was is)) (sound.pairs a b knows.number other.0 (λ e. other.1 (sym e))) (sight_only old a b m x was is)
     (comes_in v w b bytes p.opening (λ es er q. out b es er q) p.brought) p.shows (put_known old.members old.air b a sound) p.turn.happened

@@ -81,7 +81,7 @@ senders_of members air sound k f there = let flies = sound.frames k f there in (
 
 -- ---- what an event needs of its node
 
-there_settled : (members : List (Option MemberState)) (n : ℕ) → AreSettled members → is_some (slice_index_or members n None) ≡ true → (1 ≤ n) × (n ≤ 32)
+pub there_settled : (members : List (Option MemberState)) (n : ℕ) → AreSettled members → is_some (slice_index_or members n None) ≡ true → (1 ≤ n) × (n ≤ 32)
 there_settled members n settled there =
     let m = the_some (slice_index_or members n None) there in
     let is = settled n m.0 m.1 in

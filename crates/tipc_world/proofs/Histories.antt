@@ -19,7 +19,8 @@ use Rattle.tipc_reassembly.specs.declared.opening.Opened.TheVariants.{Whole, Pas
 use Rattle.tipc_link.specs.Links.{LinkEnd}
 use Rattle.tipc_pair.specs.declared.changes.PairOutcome.{PairOutcome}
 use Rattle.tipc_pair.specs.Partners.{opened_in}
-use Rattle.tipc_node.specs.Nodes.{accepted_entry, message_in, shown_contact}
+use Rattle.tipc_node.specs.Messages.{message_in}
+use Rattle.tipc_node.specs.Nodes.{accepted_entry, shown_contact}
 use Rattle.tipc_node.specs.Turns.{delivered_message as delivery_of, delivered_of, given_entries, is_accepted_for, is_delivered_from}
 use Rattle.tipc_node.proofs.Telling.{same_word}
 use Rattle.tipc_world.specs.Members.{IsRestarted}

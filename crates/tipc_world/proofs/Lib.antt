@@ -36,5 +36,10 @@ pub mod Staying
 pub mod Flows
 pub mod Within
 pub mod KeptWorlds
+pub mod Journals
+pub mod Sums
+pub mod Quiet
+pub mod Recording
+pub mod Orderly
 pub mod Entered
 pub mod Promise

@@ -10,42 +10,39 @@ use Rattle.tipc_header.proofs.RoundTrip.{one_packet}
 use Rattle.tipc_message.specs.Wire.{message_of, packet_of, payload_of, payload_packet}
 use Rattle.tipc_message.proofs.WireLaws.{message_of-packet_of}
 use Rattle.tipc_pair.specs.Partners.{IsMessage}
-use Rattle.tipc_node.specs.Turns.{IsSendable, bytes_of, origin_of, spelled}
+use Rattle.tipc_node.specs.Messages.{IsSendable, bytes_of, spelled}
 use Rattle.tipc_world.proofs.Outcomes.{some_is}
 
 -- the bytes of a message are those of its packet
-pub bytes_are : (m : Message) (p : Fields) → packet_of m ≡ Some p → bytes_of m ≡ spelling p
+pub bytes_are : (own : ℕ) (m : Message) (p : Fields) → packet_of own m ≡ Some p → bytes_of own m ≡ spelling p
 unfolding bytes_of
-bytes_are m p is = ap spelled is
+bytes_are own m p is = ap spelled is
 
 -- a message is known by the bytes of its packet
-pub same_bytes : (m m' : Message) → IsSendable m → IsSendable m' → bytes_of m ≡ bytes_of m' → m ≡ m'
-same_bytes m m' h h' same =
-    let spellings : spelling h.packet ≡ spelling h'.packet = sym (bytes_are m h.packet h.packet_is) ∙ same ∙ bytes_are m' h'.packet h'.packet_is in
+pub same_bytes : (own : ℕ) (m m' : Message) → IsSendable own m → IsSendable own m' → bytes_of own m ≡ bytes_of own m' → m ≡ m'
+same_bytes own m m' h h' same =
+    let spellings : spelling h.packet ≡ spelling h'.packet = sym (bytes_are own m h.packet h.packet_is) ∙ same ∙ bytes_are own m' h'.packet h'.packet_is in
     let packets = one_packet h.packet h'.packet h.fits h'.fits spellings in
-    some_is m m' (sym (message_of-packet_of m h.packet h.payload h.packet_is) ∙ ap message_of packets ∙ message_of-packet_of m' h'.packet h'.payload h'.packet_is)
+    some_is m m' (sym (message_of-packet_of own m h.packet h.payload h.packet_is) ∙ ap message_of packets ∙ message_of-packet_of own m' h'.packet h'.payload h'.packet_is)
 
--- the packet of a user's message is one of its node
-pub message_is : (own : ℕ) (m : Message) → IsSendable m → origin_of m ≡ Some own → IsMessage own (bytes_of m)
+-- the packet of a user's message is one of the node that sends it
+pub message_is : (own : ℕ) (m : Message) → IsSendable own m → IsMessage own (bytes_of own m)
 unfolding packet_of
-message_is own (Payload importance form from to kind lower upper code droppable body) h origin =
+message_is own (Payload importance form from to kind lower upper code droppable body) h =
     let m = Payload importance form from to kind lower upper code droppable body in
     let w = payload_of importance form from to kind lower upper code droppable in
-    let same : payload_packet from.node.word w body ≡ h.packet = some_is _ h.packet h.packet_is in
-    let is : from.node.word ≡ own = some_is from.node.word own origin in
-    let one : IsMessage from.node.word (bytes_of m) = record {
-      packet = payload_packet from.node.word w body;
-      spelled = bytes_are m h.packet h.packet_is ∙ ap spelling (sym same);
+    let same : payload_packet own w body ≡ h.packet = some_is _ h.packet h.packet_is in
+    record {
+      packet = payload_packet own w body;
+      spelled = bytes_are own m h.packet h.packet_is ∙ ap spelling (sym same);
       fits = subst Fits (sym same) h.fits;
       waits = refl;
       inside = refl;
-    } in
-    subst (λ n. IsMessage n (bytes_of m)) is one
-message_is own (Items withdrawal items) h origin = absurd h.payload
+    }
+message_is own (Items withdrawal items) h = absurd h.payload
 
-pub messages_are : (own : ℕ) (ms : List Message) → All IsSendable ms → All (λ m. origin_of m ≡ Some own) ms → All (IsMessage own) (map bytes_of ms)
-messages_are own [] sendable origin = All-nil (IsMessage own)
-messages_are own (m ∷ ms) sendable origin =
-    let mine : Message → Type 0 = λ n. origin_of n ≡ Some own in
-    All-cons (IsMessage own) (bytes_of m) (map bytes_of ms) (message_is own m (All-head IsSendable m ms sendable) (All-head mine m ms origin))
-    (messages_are own ms (All-tail IsSendable m ms sendable) (All-tail mine m ms origin))
+pub messages_are : (own : ℕ) (ms : List Message) → All (IsSendable own) ms → All (IsMessage own) (map (bytes_of own) ms)
+messages_are own [] sendable = All-nil (IsMessage own)
+messages_are own (m ∷ ms) sendable =
+    All-cons (IsMessage own) (bytes_of own m) (map (bytes_of own) ms) (message_is own m (All-head (IsSendable own) m ms sendable))
+    (messages_are own ms (All-tail (IsSendable own) m ms sendable))

@@ -7,7 +7,8 @@ use Rattle.tipc_types.specs.declared.node_calls.EventNote.{EventNote}
 use Rattle.tipc_types.specs.declared.node_calls.EventNote.TheVariants as note
 use Rattle.tipc_outside.specs.declared.outgoing.Outgoing.{Outgoing}
 use Rattle.tipc_journal.specs.Steps.{NodeStep}
-use Rattle.tipc_node.specs.Nodes.{kept_answer, step_of}
+use Rattle.tipc_node.specs.Nodes.{step_of}
+use Rattle.tipc_node.specs.Sockets.{kept_answer}
 use Rattle.tipc_world.specs.declared.air.Sent.{Sent}
 use Rattle.tipc_world.specs.declared.events.WorldEvent.{WorldEvent}
 use Rattle.tipc_world.specs.declared.events.WorldEvent.TheVariants.{Know, Restart, Call, Arrive}

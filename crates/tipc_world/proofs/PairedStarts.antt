@@ -40,7 +40,7 @@ restarts old new a before after frames lost b t s none =
     let counts = same_numbered old new a before after frames lost b t (s.counts b) in record {
       node = λ i. node_from a b (boot i) (link i);
       ends = λ bearer. no_ends (link_at new.members a b) bearer link;
-      put_is = same_put old new a before after frames lost b t (λ own theirs. ap (λ es. put_in es b own theirs) entries);
+      put_is = same_put old new a before after frames lost b t (λ own theirs. ap (λ es. put_in (node_word a) es b own theirs) entries);
       given_is = same_given old new a before after frames lost b t (λ own theirs. ap (λ es. given_in es b own theirs) entries);
       partial_is = begun_now old new a before after frames lost t b ∙ ap (λ o. unwrap_or (option_map (λ (y : Neighbour). y.pair.begun) o) fresh) (s.node.alone b);
       numbered_is = λ bearer epoch. counts_alike (count_at new.members a b) (count_at old.members a b) bearer epoch (λ here. counts epoch);
@@ -86,27 +86,27 @@ known_for m peer = frames_for_it m.node.own (node_word peer) m.node.boot m.node.
 no_more : (ps : List (List ℕ)) (own theirs contact seen : ℕ) → ps ≡ ps ++ come_in contact seen [] own theirs
 no_more ps own theirs contact seen = sym (ap (λ more. ps ++ more) (either_way ((own == contact) && (theirs == seen)) []) ∙ append-nil ps)
 
-changed : (m : MemberState) (peer : ℕ) → neighbour_of m.node peer ≡ None → peer < length m.node.neighbours
-    → IsChanged m (known_member m peer) (known_frames m.node peer) peer (end_of (new_end m peer) m.node.mended) (end_frames (new_end m peer) m.node.mended) [] [] fresh
-changed m peer none within = record {
+changed : (word : ℕ) (m : MemberState) (peer : ℕ) → neighbour_of m.node peer ≡ None → peer < length m.node.neighbours
+    → IsChanged word m (known_member m peer) (known_frames m.node peer) peer (end_of (new_end m peer) m.node.mended) (end_frames (new_end m peer) m.node.mended) [] [] fresh
+changed word m peer none within = record {
   boot = refl;
   link = ap (λ o. option_map (λ (y : Neighbour). y.pair.link) o) (get_or-set_same m.node.neighbours peer _ None within);
   begun = ap (λ o. unwrap_or (option_map (λ (y : Neighbour). y.pair.begun) o) fresh) (get_or-set_same m.node.neighbours peer _ None within);
   frames_are = frames_to-own peer _ (known_for m peer);
-  put_is = λ own theirs. ap (λ es. put_in es peer own theirs) (history_same m (known_member m peer) refl refl) ∙ no_more (put_in (history m) peer own theirs) own theirs _ _;
+  put_is = λ own theirs. ap (λ es. put_in word es peer own theirs) (history_same m (known_member m peer) refl refl) ∙ no_more (put_in word (history m) peer own theirs) own theirs _ _;
   given_is = λ own theirs. ap (λ es. given_in es peer own theirs) (history_same m (known_member m peer) refl refl) ∙ no_more (given_in (history m) peer own theirs) own theirs _ _;
   numbered_else = λ epoch apart.
       count_noted (known_member m peer) peer epoch (end_of (new_end m peer) m.node.mended) (ap (λ o. option_map (λ (y : Neighbour). y.pair.link) o) (get_or-set_same m.node.neighbours peer _ None within))
       (λ s has. absurd (no_session m.node.own (node_word peer) m.node.boot m.node.mended s has)) ∙ sym (count_alone m peer epoch (ap (λ o. option_map (λ (y : Neighbour). y.pair.link) o) none));
 }
 
-idle : (m : MemberState) (peer b : ℕ) → b ≢ peer → IsIdle m (known_member m peer) (known_frames m.node peer) b
-idle m peer b apart = record {
+idle : (word : ℕ) (m : MemberState) (peer b : ℕ) → b ≢ peer → IsIdle word m (known_member m peer) (known_frames m.node peer) b
+idle word m peer b apart = record {
   boot = refl;
   link = ap (λ o. option_map (λ (y : Neighbour). y.pair.link) o) (get_or-set_other m.node.neighbours peer b _ None apart);
   begun = ap (λ o. unwrap_or (option_map (λ (y : Neighbour). y.pair.begun) o) fresh) (get_or-set_other m.node.neighbours peer b _ None apart);
   frames_are = frames_to-other b peer _ (λ e. apart (sym e)) (known_for m peer);
-  put_is = λ own theirs. ap (λ es. put_in es b own theirs) (history_same m (known_member m peer) refl refl);
+  put_is = λ own theirs. ap (λ es. put_in word es b own theirs) (history_same m (known_member m peer) refl refl);
   given_is = λ own theirs. ap (λ es. given_in es b own theirs) (history_same m (known_member m peer) refl refl);
   numbered = λ epoch. count_link (known_member m peer) m b epoch (ap (λ o. option_map (λ (y : Neighbour). y.pair.link) o) (get_or-set_other m.node.neighbours peer b _ None apart)) refl;
 }
@@ -136,11 +136,11 @@ know_pairs old new a peer before after frames lost paired t then_ frames_are own
     let was = was_there old new a before after frames lost t in
     let mended = before.node.mended in
     let e = new_end before peer in
-    let c : IsChanged before after frames peer (end_of e mended) (end_frames e mended) [] [] fresh =
-    subst (λ m. IsChanged before m frames peer (end_of e mended) (end_frames e mended) [] [] fresh) (sym then_)
-    (subst (λ os. IsChanged before (known_member before peer) os peer (end_of e mended) (end_frames e mended) [] [] fresh) (sym frames_are) (changed before peer none within)) in
-    let still : (b : ℕ) → b ≢ peer → IsIdle before after frames b =
-    λ b apart. subst (λ m. IsIdle before m frames b) (sym then_) (subst (λ os. IsIdle before (known_member before peer) os b) (sym frames_are) (idle before peer b apart)) in
+    let c : IsChanged (node_word a) before after frames peer (end_of e mended) (end_frames e mended) [] [] fresh =
+    subst (λ m. IsChanged (node_word a) before m frames peer (end_of e mended) (end_frames e mended) [] [] fresh) (sym then_)
+    (subst (λ os. IsChanged (node_word a) before (known_member before peer) os peer (end_of e mended) (end_frames e mended) [] [] fresh) (sym frames_are) (changed (node_word a) before peer none within)) in
+    let still : (b : ℕ) → b ≢ peer → IsIdle (node_word a) before after frames b =
+    λ b apart. subst (λ m. IsIdle (node_word a) before m frames b) (sym then_) (subst (λ os. IsIdle (node_word a) before (known_member before peer) os b) (sym frames_are) (idle (node_word a) before peer b apart)) in
     all_paired old new a before after frames lost paired t (λ b a_is b_is apart h.
     elim (cases_eq b peer) [
       | inl same ↦

@@ -21,8 +21,9 @@ use Rattle.tipc_pair.specs.Turns.Opening.{cuts, hears, mends, rests, ticks}
 use Rattle.tipc_partners.specs.Sights.{AreSeen, ComesIn, Goes, HasOnly, Sight}
 use Rattle.tipc_partners.proofs.Sights.{turns}
 use Rattle.tipc_node.specs.declared.neighbours.Neighbour.{Neighbour}
+use Rattle.tipc_node.specs.Messages.{bytes_of}
 use Rattle.tipc_node.specs.Nodes.{NodeState, neighbour_of}
-use Rattle.tipc_node.specs.Turns.{IsBrought, IsRouted, NeighbourTurn, NodeTurn, PeerTurn, addr_of, bytes_of, frames_to, is_out_to, is_to, link_in}
+use Rattle.tipc_node.specs.Turns.{IsBrought, IsRouted, NeighbourTurn, NodeTurn, PeerTurn, addr_of, frames_to, is_out_to, is_to, link_in}
 use Rattle.tipc_world.specs.Members.{noted, over_with, sender_of}
 use Rattle.tipc_world.specs.Sound.{IsNumber, IsSound}
 use Rattle.tipc_world.specs.States.{MemberState, count_in, count_of, history}
@@ -82,7 +83,7 @@ counts_else m m' bytes s frames b x y number t was is p epoch apart = case (sess
         let before : count_of m b epoch ≡ had.0.sending.numbered = ap (count_of m b) (sym had.2) ∙ count_here m b x.pair.link had.0 was had.1 in
         let steady : (sender_of bytes ≡ Some b → is_up x.pair.link.fsm.state ≡ false → ⊥) → IsSteady x.pair.link p.opening = is_steady x.pair.link b bytes p.opening number p.brought in
         let kept : IsSteady x.pair.link p.opening → ⊥ = λ still.
-        (let last = turn_last x.pair y.pair p.opening (map bytes_of p.messages) p.reply p.own_frames still p.turn in
+        (let last = turn_last x.pair y.pair p.opening (map (bytes_of m.node.own) p.messages) p.reply p.own_frames still p.turn in
         let found = of_last y.pair.link.session epoch (last ∙ ap (option_map (λ (u : SessionEnd). u.epoch)) had.1 ∙ ap Some had.2) in apart found.0 found.1 found.2) in
         by_sender (sender_of bytes) refl (is_up x.pair.link.fsm.state) refl before (λ no. kept (steady no))
       where
@@ -100,10 +101,10 @@ counts_else m m' bytes s frames b x y number t was is p epoch apart = case (sess
 linked : (n : NodeState) (b : ℕ) (x : Neighbour) → neighbour_of n b ≡ Some x → link_in n b ≡ Some x.pair.link
 linked n b x is = ap (λ o. option_map (λ (y : Neighbour). y.pair.link) o) is
 
-changed : (m m' : MemberState) (bytes : List ℕ) (s : NodeStep) (frames : List Outgoing) (b : ℕ) (x : Neighbour) → IsNumber b → TakesTurn m m' bytes s frames → neighbour_of m.node b ≡ Some x → (n : NeighbourTurn m.node m'.node bytes s frames b x)
-    → Recorded (history m) (history m') b n.after.pair.link (map bytes_of n.turn.messages) (packets_in (opened_in n.turn.turn.first.given))
-    → IsChanged m m' frames b n.after.pair.link n.turn.own_frames (map bytes_of n.turn.messages) (packets_in (opened_in n.turn.turn.first.given)) n.after.pair.begun
-changed m m' bytes s frames b x number t is n h = record {
+changed : (word : ℕ) (m m' : MemberState) (bytes : List ℕ) (s : NodeStep) (frames : List Outgoing) (b : ℕ) (x : Neighbour) → IsNumber b → TakesTurn m m' bytes s frames → neighbour_of m.node b ≡ Some x → (n : NeighbourTurn m.node m'.node bytes s frames b x)
+    → Recorded word (history m) (history m') b n.after.pair.link (map (bytes_of m.node.own) n.turn.messages) (packets_in (opened_in n.turn.turn.first.given))
+    → IsChanged word m m' frames b n.after.pair.link n.turn.own_frames (map (bytes_of m.node.own) n.turn.messages) (packets_in (opened_in n.turn.turn.first.given)) n.after.pair.begun
+changed word m m' bytes s frames b x number t is n h = record {
   boot = t.turn.boot;
   link = linked m'.node b n.after n.after_is;
   begun = ap (λ o. unwrap_or (option_map (λ (y : Neighbour). y.pair.begun) o) fresh) n.after_is;
@@ -127,7 +128,7 @@ turned_by v v' w x x' opening messages reply frames begun h only comes shows sho
 
 neighbour_pair : (old new : Stage) (a : ℕ) (m m' : MemberState) (bytes : List ℕ) (s : NodeStep) (frames : List Outgoing) (lost : Bool) (b : ℕ) (x : Neighbour) → IsSound old.members old.air → Turns old new a m m' frames lost
     → IsNumber b → TakesTurn m m' bytes s frames → ComesOut old a bytes → b ≢ a → neighbour_of m.node b ≡ Some x → (n : NeighbourTurn m.node m'.node bytes s frames b x)
-    → Recorded (history m) (history m') b n.after.pair.link (map bytes_of n.turn.messages) (packets_in (opened_in n.turn.turn.first.given)) → PartnersIn old old a b → PartnersIn new old a b
+    → Recorded (node_word a) (history m) (history m') b n.after.pair.link (map (bytes_of m.node.own) n.turn.messages) (packets_in (opened_in n.turn.turn.first.given)) → PartnersIn old old a b → PartnersIn new old a b
 neighbour_pair old new a m m' bytes s frames lost b x sound t number turn out apart is n moved h =
     let p = n.turn in
     let v = sight_in old a b in
@@ -135,9 +136,9 @@ neighbour_pair old new a m m' bytes s frames lost b x sound t number turn out ap
     let was = was_there old new a m m' frames lost t in
     let begun : x.pair.begun ≡ v.partial = sym (sight_partial old a b m x was is) in
     let own : v.node.own ≡ m.node.own = own_word old a b ∙ sym (sound.numbered a m t.was).1 in
-    turned_by v (sight_in new a b) w x.pair n.after.pair p.opening (map bytes_of p.messages) p.reply p.own_frames begun h (sight_only old a b m x was is) (comes_in v w b bytes p.opening (λ es er q. out b es er q) p.brought)
-    p.shows p.shows_last (subst (λ k. All (IsMessage k) (map bytes_of p.messages)) (sym own) (messages_are m.node.own p.messages p.sendable p.origin)) p.turn
-    (goes old new a m m' frames lost b n.after.pair.link p.own_frames (map bytes_of p.messages) (packets_in (opened_in p.turn.first.given)) n.after.pair.begun t apart (changed m m' bytes s frames b x number turn is n moved))
+    turned_by v (sight_in new a b) w x.pair n.after.pair p.opening (map (bytes_of m.node.own) p.messages) p.reply p.own_frames begun h (sight_only old a b m x was is) (comes_in v w b bytes p.opening (λ es er q. out b es er q) p.brought)
+    p.shows p.shows_last (subst (λ k. All (IsMessage k) (map (bytes_of m.node.own) p.messages)) (sym own) (messages_are m.node.own p.messages p.sendable)) p.turn
+    (goes old new a m m' frames lost b n.after.pair.link p.own_frames (map (bytes_of m.node.own) p.messages) (packets_in (opened_in p.turn.first.given)) n.after.pair.begun t apart (changed (node_word a) m m' bytes s frames b x number turn is n moved))
 
 -- ---- where there is no neighbour
 
@@ -151,8 +152,8 @@ none_for n b (o ∷ os) none routed =
     let apart : b ≢ r.peer = λ same. (let there = r.there in let gone : neighbour_of n r.peer ≡ None = ap (neighbour_of n) (sym same) ∙ none in let wrong : false ≡ true = ap is_some (sym gone) ∙ there in cc) in
     ap (λ t. if t then o ∷ frames_to b os else frames_to b os) (word_apart b r.peer o r.to_is apart) ∙ none_for n b os none (All-tail (IsRouted n) o os routed)
 
-idle : (m m' : MemberState) (bytes : List ℕ) (s : NodeStep) (frames : List Outgoing) (b : ℕ) → TakesTurn m m' bytes s frames → neighbour_of m.node b ≡ None → Untold (history m) (history m') b → IsIdle m m' frames b
-idle m m' bytes s frames b t none h =
+idle : (word : ℕ) (m m' : MemberState) (bytes : List ℕ) (s : NodeStep) (frames : List Outgoing) (b : ℕ) → TakesTurn m m' bytes s frames → neighbour_of m.node b ≡ None → Untold word (history m) (history m') b → IsIdle word m m' frames b
+idle word m m' bytes s frames b t none h =
     let none' = t.turn.alone b none in
     let was : link_in m.node b ≡ None = ap (λ o. option_map (λ (y : Neighbour). y.pair.link) o) none in
     let is : link_in m'.node b ≡ None = ap (λ o. option_map (λ (y : Neighbour). y.pair.link) o) none' in
@@ -177,9 +178,14 @@ turn_pairs old new a m m' bytes s frames lost sound t turn out brought =
     longer : history m' ≡ history m ++ step_entries s
     longer = turn_history m m' bytes s frames turn
 
+    named : m.node.own ≡ node_word a
+    named = (sound.numbered a m t.was).1
+
     by : (b : ℕ) → IsNumber b → b ≢ a → PartnersIn old old a b → (o : Option Neighbour) → neighbour_of m.node b ≡ o → PartnersIn new old a b
-    by b b_is apart h None none = idle_pair old new a m m' frames lost b t (idle m m' bytes s frames b turn none (turn_untold (history m) (history m') m.node s b none turn.turn.placed longer)) h
+    by b b_is apart h None none = idle_pair old new a m m' frames lost b t
+        (idle (node_word a) m m' bytes s frames b turn none (subst (λ k. Untold k (history m) (history m') b) named (turn_untold (history m) (history m') m.node s b none turn.turn.placed longer))) h
     by b b_is apart h (Some x) is =
         let n = turn.turn.turns b x is in
         neighbour_pair old new a m m' bytes s frames lost b x sound t b_is turn out apart is n
-        (turn_records (history m) (history m') m.node.own bytes s frames b x.pair n.after.pair n.turn longer (brought b x is)) h
+        (subst (λ k. Recorded k (history m) (history m') b n.after.pair.link (map (bytes_of m.node.own) n.turn.messages) (packets_in (opened_in n.turn.turn.first.given))) named
+        (turn_records (history m) (history m') m.node.own bytes s frames b x.pair n.after.pair n.turn longer (brought b x is))) h

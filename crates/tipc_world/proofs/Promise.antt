@@ -1,5 +1,6 @@
 -- A sound world is a good one.
 use Rattle.std.proofs.Common.{◌≡◌, ◌≢◌, ℕ, zero, suc, List, [], ◌∷◌, ◌++◌, Option, map, refl, sym, ap, subst, ◌∙◌}
+use Rattle.tipc_types.specs.Address.{node_word}
 use Rattle.tipc_types.specs.declared.message_forms.Flow.{Flow}
 use Rattle.tipc_types.specs.declared.message_forms.Flow.TheVariants.{Zero, One, Broadcast}
 use Rattle.tipc_types.specs.declared.message_forms.Message.{Message}
@@ -8,10 +9,11 @@ use Rattle.tipc_journal.specs.Prefixes.{IsPrefixOf}
 use Rattle.tipc_link.proofs.LinkLaw.{Each}
 use Rattle.tipc_partners.proofs.Sights.{front}
 use Rattle.tipc_world.specs.declared.air.Sent.{Sent}
+use Rattle.tipc_world.specs.Answered.{AreOrderly}
 use Rattle.tipc_world.specs.Good.{IsGood}
-use Rattle.tipc_node.specs.Turns.{IsSendable, bytes_of}
+use Rattle.tipc_node.specs.Messages.{IsSendable, bytes_of}
 use Rattle.tipc_world.specs.Sound.{IsSound}
-use Rattle.tipc_world.specs.States.{MemberState, WorldState, accepted_at, delivered_at}
+use Rattle.tipc_world.specs.States.{MemberState, WorldView, accepted_at, delivered_at}
 use Rattle.tipc_world.specs.Views.{sight_at}
 use Rattle.tipc_world.specs.Watched.{AreWatched}
 use Rattle.tipc_world.proofs.Entered.{both_entered}
@@ -22,15 +24,15 @@ pub no_message : (ys : List Message) → IsPrefixOf [] ys
 no_message ys = (ys, refl)
 
 -- where packets stand in front, so do their messages
-pub messages_in_front : (xs ys : List Message) → Each IsSendable xs → Each IsSendable ys → IsPrefixOf (map bytes_of xs) (map bytes_of ys) → IsPrefixOf xs ys
-messages_in_front [] ys hx hy h = no_message ys
-messages_in_front (x ∷ xs) [] hx hy h = let is = h.1 in absurd cc
-messages_in_front (x ∷ xs) (y ∷ ys) hx hy h =
+pub messages_in_front : (own : ℕ) (xs ys : List Message) → Each (IsSendable own) xs → Each (IsSendable own) ys → IsPrefixOf (map (bytes_of own) xs) (map (bytes_of own) ys) → IsPrefixOf xs ys
+messages_in_front own [] ys hx hy h = no_message ys
+messages_in_front own (x ∷ xs) [] hx hy h = let is = h.1 in absurd cc
+messages_in_front own (x ∷ xs) (y ∷ ys) hx hy h =
     let is = h.1 in
-    let firsts : bytes_of y ≡ bytes_of x = cc in
-    let rests : map bytes_of ys ≡ map bytes_of xs ++ h.0 = cc in
-    let same = same_bytes y x (hy zero y refl) (hx zero x refl) firsts in
-    let later = messages_in_front xs ys (λ k m. hx (suc k) m) (λ k m. hy (suc k) m) (h.0, rests) in
+    let firsts : bytes_of own y ≡ bytes_of own x = cc in
+    let rests : map (bytes_of own) ys ≡ map (bytes_of own) xs ++ h.0 = cc in
+    let same = same_bytes own y x (hy zero y refl) (hx zero x refl) firsts in
+    let later = messages_in_front own xs ys (λ k m. hx (suc k) m) (λ k m. hy (suc k) m) (h.0, rests) in
     (later.0, ap (λ m. m ∷ ys) same ∙ ap (λ ms. x ∷ ms) later.1)
 
 -- two nodes of a sound world that are apart keep the promise for flow Zero
@@ -39,7 +41,7 @@ pair_promise : (members : List (Option MemberState)) (air : List Sent) (a b own 
 unfolding sight_at accepted_at delivered_at
 pair_promise members air a b own theirs h some =
     let numbers = h.nothing b a own theirs some in
-    messages_in_front (delivered_at members b a own theirs Zero) (accepted_at members a b theirs own Zero) (h.delivered b a own theirs) (λ k m is. (h.accepted a b theirs own k m is).0)
+    messages_in_front (node_word a) (delivered_at members b a own theirs Zero) (accepted_at members a b theirs own Zero) (h.delivered b a own theirs) (h.accepted a b theirs own)
     (front (sight_at members air b a) (sight_at members air a b) (h.pairs b a numbers.0 numbers.1 numbers.2) own theirs)
 
 -- what was delivered in flow Zero is nothing, or was delivered between two nodes
@@ -62,11 +64,12 @@ promise members air a b own theirs Zero h = zero_promise members air a b own the
 promise members air a b own theirs One h = other_promise members air a b own theirs One h (λ same. (let wrong : ⊥ = cc in wrong))
 promise members air a b own theirs Broadcast h = other_promise members air a b own theirs Broadcast h (λ same. (let wrong : ⊥ = cc in wrong))
 
-pub is_good : (w : WorldState) → IsSound w.members w.air → AreWatched w.members w.air → IsGood w
-is_good w h all = record {
-  prefix = λ a b a_number b_number flow. promise w.members w.air a b b_number a_number flow h;
-  entered = λ a b a_number b_number flow some. both_entered w.members w.air a b a_number b_number flow (λ n m there. (all n m there).lawful) (promise w.members w.air a b b_number a_number flow h) some;
+pub is_good : {P : Type 0} (gives : P → ℕ → ℕ → ℕ → Type 0) (w : WorldView P) → IsSound w.state.members w.state.air → AreWatched w.state.members w.state.air → AreOrderly gives w.state.members w.state.stamps w.chooser → IsGood gives w
+is_good gives w h all orderly = record {
+  prefix = λ a b a_number b_number flow. promise w.state.members w.state.air a b b_number a_number flow h;
+  entered = λ a b a_number b_number flow some. both_entered w.state.members w.state.air a b a_number b_number flow (λ n m there. (all n m there).lawful) (promise w.state.members w.state.air a b b_number a_number flow h) some;
   spelled = λ n m there k journal is i s at place peer numbers flow message by stands. ((((all n m there).lawful k journal is).steps_are i s at).entries place (entry.Delivered peer numbers flow message by) stands).1;
-  truth = frame_is_true w.members w.air h;
+  truth = frame_is_true w.state.members w.state.air h;
   lawful = λ n m there. (all n m there).lawful;
+  orderly = orderly;
 }

@@ -18,7 +18,8 @@ use Rattle.tipc_world.specs.declared.events.WorldEvent.TheVariants.{Know, Restar
 use Rattle.tipc_world.specs.Air.{sent_between}
 use Rattle.tipc_world.specs.Calls.{CanHappenAt}
 use Rattle.tipc_world.specs.Due.{unarrived}
-use Rattle.tipc_node.specs.Turns.{bytes_of, link_in}
+use Rattle.tipc_node.specs.Messages.{bytes_of}
+use Rattle.tipc_node.specs.Turns.{link_in}
 use Rattle.tipc_world.specs.Members.{IsNewcomer}
 use Rattle.tipc_world.specs.Numbers.{own_in, seen_in}
 use Rattle.tipc_world.specs.Sound.{IsAirborne, IsNumber, IsSound}
@@ -132,7 +133,7 @@ same_sight members members' air air' a b flown s =
     let entries = s.entries in
     let begun = s.begun b in
     let sent : sent_between air' a b ≡ sent_between air a b = ap (λ fs. sent_between fs a b) flown in
-    λ i. sight_from a b (boot i) (link i) (put_in (entries i) b) (given_in (entries i) b) (begun i) (λ epoch. s.numbered b epoch i) (sent i)
+    λ i. sight_from a b (boot i) (link i) (put_in (node_word a) (entries i) b) (given_in (entries i) b) (begun i) (λ epoch. s.numbered b epoch i) (sent i)
 
 joined_numbers : (old new : WorldState) (n : ℕ) → IsNumber n → IsSound old.members old.air → IsJoined old new n → (k : ℕ) (m : MemberState) → slice_index_or new.members k None ≡ Some m → IsNumber k × (m.node.own ≡ node_word k)
 joined_numbers old new n number sound j k m there = elim (cases_eq k n) [
@@ -189,8 +190,8 @@ new_sight a b a_is b_is =
       contact = ap (own_in (boot_at [] a)) link;
       seen = ap seen_in link;
       ends = λ bearer. no_ends (link_at [] a b) bearer link;
-      put = λ own theirs. ap (λ es. put_in es b own theirs) entries ∙ ap (map bytes_of) (accepted_nil (stream_of b own theirs Zero));
-      given = λ own theirs. ap (λ es. given_in es b own theirs) entries ∙ ap (map bytes_of) (delivered_nil (stream_of b own theirs Zero));
+      put = λ own theirs. ap (λ es. put_in (node_word a) es b own theirs) entries ∙ ap (map (bytes_of (node_word a))) (accepted_nil (stream_of b own theirs Zero));
+      given = λ own theirs. ap (λ es. given_in es b own theirs) entries ∙ ap (map (bytes_of (node_word b))) (delivered_nil (stream_of b own theirs Zero));
       partial = absent_begun [] a b (nothing_there a);
       numbered = λ bearer epoch. counts_alike (count_at [] a b) (λ epoch. 0) bearer epoch (λ here. counts epoch) ∙ either_way (bearer == 0) 0;
       sent = refl;

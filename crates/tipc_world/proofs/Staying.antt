@@ -16,7 +16,7 @@ use Rattle.tipc_world.specs.Calls.{node_of}
 use Rattle.tipc_world.specs.Due.{unarrived}
 use Rattle.tipc_world.specs.Growth.{Grows}
 use Rattle.tipc_world.specs.Limits.{IsAnswered, Stops}
-use Rattle.tipc_world.specs.States.{MemberState, WorldState, history_at, is_there, member_at}
+use Rattle.tipc_world.specs.States.{MemberState, WorldState, WorldView, history_at, is_there, member_at}
 use Rattle.tipc_world.specs.Steps.{stage, Becomes, Happens, IsArrival, IsJoined, IsStep, Stage}
 use Rattle.tipc_world.proofs.Growing.{step_grows}
 use Rattle.tipc_world.proofs.LookUps.{history_at-same, member_at-changed, member_at-other}
@@ -103,9 +103,9 @@ joined_grows old new n absent j = record {
 }
 
 -- whatever adding a node came to
-pub joining_grows : {E : Type 0} (old new : WorldState) (n : ℕ) (result : Result (Unit {0}) E) → is_there old n ≡ false → OnOk result (IsJoined old new n) → OnErr result (new ≡ old) → Grows old new
-joining_grows old new n (Ok done) absent joined same = joined_grows old new n absent joined
-joining_grows old new n (Err why) absent joined same = (same_stays old new same).grown
+pub joining_grows : {P E : Type 0} (old new : WorldView P) (n : ℕ) (result : Result (Unit {0}) E) → is_there old.state n ≡ false → OnOk result (IsJoined old.state new.state n) → OnErr result (new ≡ old) → Grows old.state new.state
+joining_grows old new n (Ok done) absent joined same = joined_grows old.state new.state n absent joined
+joining_grows old new n (Err why) absent joined same = (same_stays old.state new.state (ap (λ v. v.state) same)).grown
 
 pub joins_world : (old : WorldState) (members : List (Option MemberState)) (n : ℕ) → JoinsAt old.members members n
     → IsJoined old (record { members = members; air = old.air; events = old.events; stamps = old.stamps; lost = old.lost }) n

@@ -20,7 +20,7 @@ use Rattle.tipc_world.specs.declared.air.Arrived.{Arrived}
 use Rattle.tipc_world.specs.declared.air.Sent.{Sent}
 use Rattle.tipc_world.specs.Causes.{arrived_frame, tick_of, ticks, BringsUp, HasTicked, IsArrivalOf, IsCaused, IsNumberOf, IsResetOf, IsTakenFrom, Seen}
 use Rattle.tipc_world.specs.Lawful.{IsLawful, IsLawfulEntry, IsLawfulStep}
-use Rattle.tipc_node.specs.Turns.{bytes_of}
+use Rattle.tipc_node.specs.Messages.{bytes_of}
 use Rattle.tipc_world.specs.Spelled.{HasBrought, IsBy, IsSpelled}
 use Rattle.tipc_world.proofs.Within.{get_longer, within_more}
 
@@ -146,7 +146,7 @@ brought_wider old new peer by bytes w b = record {
 
 spelled_wider : (old new : Seen) (s : NodeStep) (peer : Addr) (message : Message) (by : List ℕ) → Widens old new → IsSpelled old s peer message by → IsSpelled new s peer message by
 spelled_wider old new s peer message by w h =
-    traced_weaker (λ n b. HasBrought old peer n b × IsBy s n) (λ n b. HasBrought new peer n b × IsBy s n) (λ n b both. (brought_wider old new peer n b w both.0, both.1)) (bytes_of message) by h
+    traced_weaker (λ n b. HasBrought old peer n b × IsBy s n) (λ n b. HasBrought new peer n b × IsBy s n) (λ n b both. (brought_wider old new peer n b w both.0, both.1)) (bytes_of peer.word message) by h
 
 entry_wider : (old new : Seen) (earlier : List PlacedStep) (s : PlacedStep) (e : Entry) → Widens old new → AllArrive old earlier → IsLawfulEntry old earlier s e → IsLawfulEntry new earlier s e
 entry_wider old new earlier s (entry.LinkUp peer bearer own theirs) w found h = h

@@ -9,14 +9,13 @@ use Rattle.tipc_types.specs.declared.message_forms.Message.{Message}
 use Rattle.tipc_journal.specs.Streams.{accepted, delivered}
 use Rattle.tipc_journal.proofs.StreamLaws.{accepted_nil, delivered_nil}
 use Rattle.tipc_link.proofs.LinkLaw.{Each-none}
-use Rattle.tipc_node.specs.Turns.{IsSendable}
+use Rattle.tipc_node.specs.Messages.{IsSendable}
 use Rattle.tipc_world.specs.Members.{IsNewcomer}
 use Rattle.tipc_world.specs.Sound.{IsNumber}
 use Rattle.tipc_world.specs.States.{MemberState, WorldState, accepted_at, delivered_at, history, history_at, member_at, stream_of}
 use Rattle.tipc_world.specs.Steps.{IsJoined}
 use Rattle.tipc_world.proofs.LookUps.{history_at-is, history_at-same, member_at-is}
 use Rattle.tipc_world.proofs.StreamsKept.{StreamsSound, accepted_by, delivered_by}
-use Rattle.tipc_world.proofs.TurnStreams.{IsOwn}
 
 no_history : (m : MemberState) (n : ℕ) → IsNewcomer m n → history m ≡ []
 unfolding history
@@ -43,13 +42,13 @@ none_or_same_flow members members' n b own theirs flow h (inr same) other =
     (accepted_by members members' n b own theirs flow same ∙ before.0, delivered_by members members' n b own theirs flow same ∙ before.1)
 
 none_or_same_accepted : (members members' : List (Option MemberState)) (n b own theirs k : ℕ) (m : Message) → StreamsSound members → (history_at members' n ≡ []) ⊎ (history_at members' n ≡ history_at members n)
-    → slice_get (accepted_at members' n b own theirs Zero) k ≡ Some m → IsOwn (node_word n) m
-none_or_same_accepted members members' n b own theirs k m h (inl none) is = Each-none (IsOwn (node_word n)) k m (subst (λ ms. slice_get ms k ≡ Some m) (accepted_nothing members' n b own theirs Zero none) is)
+    → slice_get (accepted_at members' n b own theirs Zero) k ≡ Some m → IsSendable (node_word n) m
+none_or_same_accepted members members' n b own theirs k m h (inl none) is = Each-none (IsSendable (node_word n)) k m (subst (λ ms. slice_get ms k ≡ Some m) (accepted_nothing members' n b own theirs Zero none) is)
 none_or_same_accepted members members' n b own theirs k m h (inr same) is = h.accepted n b own theirs k m (subst (λ ms. slice_get ms k ≡ Some m) (accepted_by members members' n b own theirs Zero same) is)
 
 none_or_same_delivered : (members members' : List (Option MemberState)) (n b own theirs k : ℕ) (m : Message) → StreamsSound members → (history_at members' n ≡ []) ⊎ (history_at members' n ≡ history_at members n)
-    → slice_get (delivered_at members' n b own theirs Zero) k ≡ Some m → IsSendable m
-none_or_same_delivered members members' n b own theirs k m h (inl none) is = Each-none IsSendable k m (subst (λ ms. slice_get ms k ≡ Some m) (delivered_nothing members' n b own theirs Zero none) is)
+    → slice_get (delivered_at members' n b own theirs Zero) k ≡ Some m → IsSendable (node_word b) m
+none_or_same_delivered members members' n b own theirs k m h (inl none) is = Each-none (IsSendable (node_word b)) k m (subst (λ ms. slice_get ms k ≡ Some m) (delivered_nothing members' n b own theirs Zero none) is)
 none_or_same_delivered members members' n b own theirs k m h (inr same) is = h.delivered n b own theirs k m (subst (λ ms. slice_get ms k ≡ Some m) (delivered_by members members' n b own theirs Zero same) is)
 
 none_or_same_nothing : (members members' : List (Option MemberState)) (n b own theirs : ℕ) → StreamsSound members → (history_at members' n ≡ []) ⊎ (history_at members' n ≡ history_at members n)
@@ -85,7 +84,7 @@ no_history_there n = refl
 pub streams_start : StreamsSound []
 streams_start = record {
   one_flow = λ n b own theirs flow other. (accepted_nothing [] n b own theirs flow (no_history_there n), delivered_nothing [] n b own theirs flow (no_history_there n));
-  accepted = λ n b own theirs k m is. Each-none (IsOwn (node_word n)) k m (subst (λ ms. slice_get ms k ≡ Some m) (accepted_nothing [] n b own theirs Zero (no_history_there n)) is);
-  delivered = λ n b own theirs k m is. Each-none IsSendable k m (subst (λ ms. slice_get ms k ≡ Some m) (delivered_nothing [] n b own theirs Zero (no_history_there n)) is);
+  accepted = λ n b own theirs k m is. Each-none (IsSendable (node_word n)) k m (subst (λ ms. slice_get ms k ≡ Some m) (accepted_nothing [] n b own theirs Zero (no_history_there n)) is);
+  delivered = λ n b own theirs k m is. Each-none (IsSendable (node_word b)) k m (subst (λ ms. slice_get ms k ≡ Some m) (delivered_nothing [] n b own theirs Zero (no_history_there n)) is);
   nothing = λ n b own theirs some. absurd (some (delivered_nothing [] n b own theirs Zero (no_history_there n)));
 }

@@ -11,20 +11,21 @@ use Rattle.tipc_journal.specs.Streams.{accepted, delivered}
 use Rattle.tipc_link.proofs.LinkLaw.{Each, Each-append}
 use Rattle.tipc_node.specs.declared.neighbours.Neighbour.{Neighbour}
 use Rattle.tipc_node.specs.Nodes.{neighbour_of}
-use Rattle.tipc_node.specs.Turns.{IsSendable, NodeTurn}
+use Rattle.tipc_node.specs.Messages.{IsSendable}
+use Rattle.tipc_node.specs.Turns.{NodeTurn}
 use Rattle.tipc_world.specs.declared.air.Sent.{Sent}
 use Rattle.tipc_world.specs.Sound.{IsNumber, IsSound}
 use Rattle.tipc_world.specs.States.{MemberState, accepted_at, delivered_at, history, history_at, stream_of}
 use Rattle.tipc_world.specs.Steps.{stage}
 use Rattle.tipc_world.proofs.LookUps.{history_at-is, history_at-same, member_at-changed, member_at-is, member_at-other}
 use Rattle.tipc_world.proofs.Standing.{acquainted, neighbour_apart}
-use Rattle.tipc_world.proofs.TurnStreams.{AreBrought, IsOwn, turn_accepts, turn_delivers}
+use Rattle.tipc_world.proofs.TurnStreams.{AreBrought, turn_accepts, turn_delivers}
 
 -- what a sound world says of messages
 pub record StreamsSound (members : List (Option MemberState)) : Type 0 where
   pub one_flow : (a b own theirs : ℕ) (flow : Flow) → flow ≢ Zero → (accepted_at members a b own theirs flow ≡ []) × (delivered_at members a b own theirs flow ≡ [])
-  pub accepted : (a b own theirs : ℕ) → Each (IsOwn (node_word a)) (accepted_at members a b own theirs Zero)
-  pub delivered : (a b own theirs : ℕ) → Each IsSendable (delivered_at members a b own theirs Zero)
+  pub accepted : (a b own theirs : ℕ) → Each (IsSendable (node_word a)) (accepted_at members a b own theirs Zero)
+  pub delivered : (a b own theirs : ℕ) → Each (IsSendable (node_word b)) (delivered_at members a b own theirs Zero)
   pub nothing : (a b own theirs : ℕ) → delivered_at members a b own theirs Zero ≢ [] → IsNumber a × IsNumber b × (a ≢ b)
 
 pub streams_of : (members : List (Option MemberState)) (air : List Sent) → IsSound members air → StreamsSound members
@@ -67,8 +68,8 @@ changed members members' a m m' was is = record {
 -- what a sound world says of the messages of node n with node b in a contact
 record OneStream (members' : List (Option MemberState)) (n b own theirs : ℕ) : Type 0 where
   one_flow : (flow : Flow) → flow ≢ Zero → (accepted_at members' n b own theirs flow ≡ []) × (delivered_at members' n b own theirs flow ≡ [])
-  accepted : Each (IsOwn (node_word n)) (accepted_at members' n b own theirs Zero)
-  delivered : Each IsSendable (delivered_at members' n b own theirs Zero)
+  accepted : Each (IsSendable (node_word n)) (accepted_at members' n b own theirs Zero)
+  delivered : Each (IsSendable (node_word b)) (delivered_at members' n b own theirs Zero)
   nothing : delivered_at members' n b own theirs Zero ≢ [] → IsNumber n × IsNumber b × (n ≢ b)
 
 same_stream : (members members' : List (Option MemberState)) (n b own theirs : ℕ) → StreamsSound members → history_at members' n ≡ history_at members n → OneStream members' n b own theirs
@@ -77,8 +78,8 @@ same_stream members members' n b own theirs h same = record {
     accepted_by members members' n b own theirs flow same ∙ (h.one_flow n b own theirs flow other).0,
     delivered_by members members' n b own theirs flow same ∙ (h.one_flow n b own theirs flow other).1,
   );
-  accepted = subst (Each (IsOwn (node_word n))) (sym (accepted_by members members' n b own theirs Zero same)) (h.accepted n b own theirs);
-  delivered = subst (Each IsSendable) (sym (delivered_by members members' n b own theirs Zero same)) (h.delivered n b own theirs);
+  accepted = subst (Each (IsSendable (node_word n))) (sym (accepted_by members members' n b own theirs Zero same)) (h.accepted n b own theirs);
+  delivered = subst (Each (IsSendable (node_word b))) (sym (delivered_by members members' n b own theirs Zero same)) (h.delivered n b own theirs);
   nothing = λ some. h.nothing n b own theirs (λ none. some (delivered_by members members' n b own theirs Zero same ∙ none));
 }
 
@@ -131,16 +132,16 @@ turned_stream members members' air a m m' bytes s frames b own theirs sound was 
     let accepts = λ (flow : Flow). turn_accepts (history m) (history m') m.node m'.node bytes s frames b own theirs flow t longer in
     let delivers = λ (flow : Flow). turn_delivers (history m) (history m') m.node m'.node bytes s frames b own theirs flow t brings longer in
     let named = (sound.numbered a m was).1 in
-    let has : Each (IsOwn m.node.own) (accepted (history m) (stream_of b own theirs Zero)) = subst (λ k. Each (IsOwn k) (accepted (history m) (stream_of b own theirs Zero))) (sym named) (subst (Each (IsOwn (node_word a))) (sym (old_accepted Zero)) (h.accepted a b own theirs)) in
+    let has : Each (IsSendable m.node.own) (accepted (history m) (stream_of b own theirs Zero)) = subst (λ k. Each (IsSendable k) (accepted (history m) (stream_of b own theirs Zero))) (sym named) (subst (Each (IsSendable (node_word a))) (sym (old_accepted Zero)) (h.accepted a b own theirs)) in
     record {
       one_flow = λ flow other. (
         new_accepted flow ∙ gained _ _ (accepts flow).more (accepts flow).is (old_accepted flow ∙ (h.one_flow a b own theirs flow other).0) ((accepts flow).zero other),
         new_delivered flow ∙ gained _ _ (delivers flow).more (delivers flow).is (old_delivered flow ∙ (h.one_flow a b own theirs flow other).1) ((delivers flow).zero other),
       );
-      accepted = subst (Each (IsOwn (node_word a))) (sym (new_accepted Zero)) (subst (λ k. Each (IsOwn k) (accepted (history m') (stream_of b own theirs Zero))) named
-          (subst (Each (IsOwn m.node.own)) (sym (accepts Zero).is) (Each-append (IsOwn m.node.own) (accepted (history m) (stream_of b own theirs Zero)) (accepts Zero).more has (accepts Zero).all)));
-      delivered = subst (Each IsSendable) (sym (new_delivered Zero ∙ (delivers Zero).is))
-          (Each-append IsSendable (delivered (history m) (stream_of b own theirs Zero)) (delivers Zero).more (subst (Each IsSendable) (sym (old_delivered Zero)) (h.delivered a b own theirs)) (delivers Zero).all);
+      accepted = subst (Each (IsSendable (node_word a))) (sym (new_accepted Zero)) (subst (λ k. Each (IsSendable k) (accepted (history m') (stream_of b own theirs Zero))) named
+          (subst (Each (IsSendable m.node.own)) (sym (accepts Zero).is) (Each-append (IsSendable m.node.own) (accepted (history m) (stream_of b own theirs Zero)) (accepts Zero).more has (accepts Zero).all)));
+      delivered = subst (Each (IsSendable (node_word b))) (sym (new_delivered Zero ∙ (delivers Zero).is))
+          (Each-append (IsSendable (node_word b)) (delivered (history m) (stream_of b own theirs Zero)) (delivers Zero).more (subst (Each (IsSendable (node_word b))) (sym (old_delivered Zero)) (h.delivered a b own theirs)) (delivers Zero).all);
       nothing = λ some. by (delivers Zero).known some;
     }
   where

@@ -33,9 +33,10 @@ use Rattle.tipc_pair.specs.Partners.{OpensTo, PairState, deferred, ignored, open
 use Rattle.tipc_pair.specs.Turns.{Happened, Opening, Outset, PutsOnto}
 use Rattle.tipc_pair.specs.Turns.Opening.{cuts, hears, mends, rests, ticks}
 use Rattle.tipc_node.specs.declared.neighbours.Neighbour.{Neighbour}
-use Rattle.tipc_node.specs.Nodes.{NodeState, accepted_entry, change_entries, message_in, neighbour_of, shown_contact}
+use Rattle.tipc_node.specs.Messages.{bytes_of, message_in}
+use Rattle.tipc_node.specs.Nodes.{NodeState, accepted_entry, change_entries, neighbour_of, shown_contact}
 use Rattle.tipc_node.specs.Telling.{IsAbreast, IsTold, TellsOf, epochs_of, shown_contact as shown_number, silence_in, silence_of}
-use Rattle.tipc_node.specs.Turns.{IsBrought, IsFrom, IsPlaced, IsTakenBy, NodeTurn, PeerTurn, Suits, addr_of, bytes_of, delivered_message, delivered_of, is_accepted_for, is_change_of, is_delivered_from, link_in}
+use Rattle.tipc_node.specs.Turns.{IsBrought, IsFrom, IsPlaced, IsTakenBy, NodeTurn, PeerTurn, Suits, addr_of, delivered_message, delivered_of, is_accepted_for, is_change_of, is_delivered_from, link_in}
 use Rattle.tipc_node.proofs.ArrivalMoves.{IsAs, IsTakenDown, arrival_met}
 use Rattle.tipc_node.proofs.Moves.{IsCutOff, IsSilenced, Tells, down_epochs, up_contact, up_epochs_are}
 use Rattle.tipc_node.proofs.Telling.{same_word}
@@ -187,10 +188,10 @@ put_entries seen earlier s b e (m ∷ ms) is =
     Each-append (IsLawfulEntry seen earlier s) (accepted_entry b e m ∷ []) (map (accepted_entry b e) ms) (one_lawful (IsLawfulEntry seen earlier s) (accepted_entry b e m) is) (put_entries seen earlier s b e ms is)
 
 -- messages that were put were accepted in the contact of the link
-put_lawful : (seen : Seen) (earlier : List PlacedStep) (s : PlacedStep) (b : ℕ) (first put last : LinkEnd) (frames : List Outgoing) (ms : List Message) → PutsOnto first (map bytes_of ms) frames put → IsAs first put first.fsm → IsAs put last put.fsm
+put_lawful : (own : ℕ) (seen : Seen) (earlier : List PlacedStep) (s : PlacedStep) (b : ℕ) (first put last : LinkEnd) (frames : List Outgoing) (ms : List Message) → PutsOnto first (map (bytes_of own) ms) frames put → IsAs first put first.fsm → IsAs put last put.fsm
     → contact (after s) (addr_of b) ≡ contact_of last → Each (IsLawfulEntry seen earlier s) (map (accepted_entry b put) ms)
-put_lawful seen earlier s b first put last frames [] puts before then_ is = none_lawful (IsLawfulEntry seen earlier s)
-put_lawful seen earlier s b first put last frames (m ∷ ms) puts before then_ is =
+put_lawful own seen earlier s b first put last frames [] puts before then_ is = none_lawful (IsLawfulEntry seen earlier s)
+put_lawful own seen earlier s b first put last frames (m ∷ ms) puts before then_ is =
     put_entries seen earlier s b put (m ∷ ms) (is ∙ contact_as put last then_ (ap (λ (f : Fsm). is_up f.state) before.fsm ∙ puts.up))
 
 message_lawful : (seen : Seen) (earlier : List PlacedStep) (s : PlacedStep) (b : ℕ) (c : ℕ × ℕ) → contact (after s) (addr_of b) ≡ Some c → (message : Option Message) (by : List ℕ)
@@ -230,14 +231,14 @@ peer_lawful seen earlier journal own bytes s frames b x x' t before then_ ticked
     let placed : PlacedStep = record { before = journal; step = s } in
     let abreast = before.abreast x.link refl in
     let first = t.turn.first in
-    let moves = turn_moves x x' t.opening (map bytes_of t.messages) t.reply t.own_frames abreast t.turn in
-    let whole = turn_as x x' t.opening (map bytes_of t.messages) t.reply t.own_frames t.turn in
-    let put = puts_as first.pair.link (map bytes_of t.messages) t.turn.put_frames t.turn.put t.turn.puts in
+    let moves = turn_moves x x' t.opening (map (bytes_of own) t.messages) t.reply t.own_frames abreast t.turn in
+    let whole = turn_as x x' t.opening (map (bytes_of own) t.messages) t.reply t.own_frames t.turn in
+    let put = puts_as first.pair.link (map (bytes_of own) t.messages) t.turn.put_frames t.turn.put t.turn.puts in
     let last : IsAs t.turn.put x'.link t.turn.put.fsm = subst (λ (y : PairState). IsAs t.turn.put y.link t.turn.put.fsm) (sym t.turn.after) (answered_as t.reply t.turn.put) in
     record {
       changes = subst (Each (IsLawfulEntry seen earlier placed)) (sym t.changes) (change_lawful seen earlier placed b x.link x'.link first.change before.contact_is before.epochs_are then_.epochs_are moves.tells
           (turn_reason seen earlier journal s bytes b x.link x'.link t.opening first t.suits t.brought carried ticked t.changes moves));
-      accepted = subst (Each (IsLawfulEntry seen earlier placed)) (sym t.accepted) (put_lawful seen earlier placed b first.pair.link t.turn.put x'.link t.turn.put_frames t.messages t.turn.puts put last then_.contact_is);
+      accepted = subst (Each (IsLawfulEntry seen earlier placed)) (sym t.accepted) (put_lawful own seen earlier placed b first.pair.link t.turn.put x'.link t.turn.put_frames t.messages t.turn.puts put last then_.contact_is);
       delivered = subst (Each (IsLawfulEntry seen earlier placed)) (sym t.delivered) (given_lawful seen earlier placed b (shown_contact first.pair.link) (opened_in first.given)
           (λ o os some. then_.contact_is ∙ contact_as first.pair.link x'.link whole (gave_up x t.opening first o os abreast t.turn.happened some)) spelled);
     }
@@ -278,7 +279,7 @@ taken_of seen own bytes s frames b x x' t carried h =
 peer_timed : (seen : Seen) (own : ℕ) (bytes : List ℕ) (s : NodeStep) (frames : List Outgoing) (b : ℕ) (x x' : PairState) (t : PeerTurn own bytes s frames b x x') → IsAbreast x.link → AreCarried seen s bytes
     → IsTimed seen s b (Some x.link) (Some x'.link)
 peer_timed seen own bytes s frames b x x' t abreast carried =
-    let moves = turn_moves x x' t.opening (map bytes_of t.messages) t.reply t.own_frames abreast t.turn in
+    let moves = turn_moves x x' t.opening (map (bytes_of own) t.messages) t.reply t.own_frames abreast t.turn in
     record { heard = heard moves; most = silence_most s x.link x'.link t.opening t.turn.first t.suits moves }
   where
     heard : TurnMoves x.link x'.link t.opening t.turn.first → BringsUp s (addr_of b) ⊎ IsTakenFrom seen s (addr_of b) → silence_of x'.link ≡ 0

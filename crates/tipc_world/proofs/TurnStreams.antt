@@ -29,8 +29,9 @@ use Rattle.tipc_link.specs.Links.{LinkEnd}
 use Rattle.tipc_link.proofs.LinkLaw.{Each, Each-append, Each-none, Each-one}
 use Rattle.tipc_pair.specs.Partners.{PairState, opened_in}
 use Rattle.tipc_node.specs.declared.neighbours.Neighbour.{Neighbour}
-use Rattle.tipc_node.specs.Nodes.{NodeState, accepted_entry, message_in, neighbour_of}
-use Rattle.tipc_node.specs.Turns.{IsOfNeighbour, IsPlaced, IsSendable, NodeTurn, PeerTurn, bytes_of, given_entries, is_accepted_for, is_delivered_from, origin_of}
+use Rattle.tipc_node.specs.Nodes.{NodeState, accepted_entry, neighbour_of}
+use Rattle.tipc_node.specs.Messages.{IsSendable, bytes_of, message_in}
+use Rattle.tipc_node.specs.Turns.{IsOfNeighbour, IsPlaced, NodeTurn, PeerTurn, given_entries, is_accepted_for, is_delivered_from}
 use Rattle.tipc_node.proofs.ArrivalMoves.{IsAs}
 use Rattle.tipc_node.proofs.Filters.{filter-none}
 use Rattle.tipc_node.proofs.TurnMoves.{answered_as, turn_as}
@@ -41,52 +42,52 @@ use Rattle.tipc_world.proofs.Messages.{bytes_are}
 
 -- ---- the messages of packets
 
--- a packet is that of a message which can be sent
-abbrev pub IsOfMessage : List ℕ → Type 0
-IsOfMessage packet = (m : Message) × IsSendable m × (bytes_of m ≡ packet)
+-- a packet is that of a message which the node of this address word can send
+abbrev pub IsOfMessage : ℕ → List ℕ → Type 0
+IsOfMessage word packet = (m : Message) × IsSendable word m × (bytes_of word m ≡ packet)
 
 -- each packet that was put is
-pub put_message : (ms : List Message) (k : ℕ) (packet : List ℕ) → Each IsSendable ms → slice_get (map bytes_of ms) k ≡ Some packet → IsOfMessage packet
-put_message ms k packet h there = case (slice_get ms k) refl
+pub put_message : (word : ℕ) (ms : List Message) (k : ℕ) (packet : List ℕ) → Each (IsSendable word) ms → slice_get (map (bytes_of word) ms) k ≡ Some packet → IsOfMessage word packet
+put_message word ms k packet h there = case (slice_get ms k) refl
   where
-    case : (o : Option Message) → slice_get ms k ≡ o → IsOfMessage packet
-    case None none = let is : option_map bytes_of None ≡ Some packet = ap (option_map bytes_of) (sym none) ∙ sym (slice_get-map bytes_of ms k) ∙ there in absurd cc
-    case (Some m) some = let is : Some (bytes_of m) ≡ Some packet = ap (option_map bytes_of) (sym some) ∙ sym (slice_get-map bytes_of ms k) ∙ there in
+    case : (o : Option Message) → slice_get ms k ≡ o → IsOfMessage word packet
+    case None none = let is : option_map (bytes_of word) None ≡ Some packet = ap (option_map (bytes_of word)) (sym none) ∙ sym (slice_get-map (bytes_of word) ms k) ∙ there in absurd cc
+    case (Some m) some = let is : Some (bytes_of word m) ≡ Some packet = ap (option_map (bytes_of word)) (sym some) ∙ sym (slice_get-map (bytes_of word) ms k) ∙ there in
         (m, h k m some, cc)
 
--- what was given is whole packets of messages
-pub record Brings (opened : List Opened) : Type 0 where
+-- what was given is whole packets of messages that the node of this address word can send
+pub record Brings (word : ℕ) (opened : List Opened) : Type 0 where
   pub whole : All IsWholePacket opened
-  pub known : Each IsOfMessage (packets_in opened)
+  pub known : Each (IsOfMessage word) (packets_in opened)
 
 -- and so is all that was given in a turn
 abbrev pub AreBrought : (n n' : NodeState) (bytes : List ℕ) (s : NodeStep) (frames : List Outgoing) → NodeTurn n n' bytes s frames → Type 0
-AreBrought n n' bytes s frames t = (b : ℕ) (x : Neighbour) (is : neighbour_of n b ≡ Some x) → Brings (opened_in (t.turns b x is).turn.turn.first.given)
+AreBrought n n' bytes s frames t = (b : ℕ) (x : Neighbour) (is : neighbour_of n b ≡ Some x) → Brings (node_word b) (opened_in (t.turns b x is).turn.turn.first.given)
 
 -- the messages of whole packets
-record AreGiven (opened : List Opened) : Type 0 where
-  sendable : Each IsSendable (messages_given opened)
-  packets : map bytes_of (messages_given opened) ≡ packets_in opened
+record AreGiven (word : ℕ) (opened : List Opened) : Type 0 where
+  sendable : Each (IsSendable word) (messages_given opened)
+  packets : map (bytes_of word) (messages_given opened) ≡ packets_in opened
 
-pub message_is_in : (m : Message) (packet : List ℕ) → IsSendable m → bytes_of m ≡ packet → message_in packet ≡ Some m
-message_is_in m packet h is =
-    let bytes : packet ≡ spelling h.packet = sym is ∙ bytes_are m h.packet h.packet_is in
-    ap (λ (b : List ℕ). message_of (fields_at b)) bytes ∙ ap message_of (again h.packet h.fits) ∙ message_of-packet_of m h.packet h.payload h.packet_is
+pub message_is_in : (word : ℕ) (m : Message) (packet : List ℕ) → IsSendable word m → bytes_of word m ≡ packet → message_in packet ≡ Some m
+message_is_in word m packet h is =
+    let bytes : packet ≡ spelling h.packet = sym is ∙ bytes_are word m h.packet h.packet_is in
+    ap (λ (b : List ℕ). message_of (fields_at b)) bytes ∙ ap message_of (again h.packet h.fits) ∙ message_of-packet_of word m h.packet h.payload h.packet_is
 
-one_more : (m : Message) (ms : List Message) → IsSendable m → Each IsSendable ms → Each IsSendable (m ∷ ms)
-one_more m ms h hs = Each-append IsSendable (m ∷ []) ms (Each-one IsSendable m h) hs
+one_more : (word : ℕ) (m : Message) (ms : List Message) → IsSendable word m → Each (IsSendable word) ms → Each (IsSendable word) (m ∷ ms)
+one_more word m ms h hs = Each-append (IsSendable word) (m ∷ []) ms (Each-one (IsSendable word) m h) hs
 
-given_messages : (opened : List Opened) → All IsWholePacket opened → Each IsOfMessage (packets_in opened) → AreGiven opened
-given_messages [] whole known = record { sendable = Each-none IsSendable; packets = refl }
-given_messages (Whole packet by ∷ os) whole known =
+given_messages : (word : ℕ) (opened : List Opened) → All IsWholePacket opened → Each (IsOfMessage word) (packets_in opened) → AreGiven word opened
+given_messages word [] whole known = record { sendable = Each-none (IsSendable word); packets = refl }
+given_messages word (Whole packet by ∷ os) whole known =
     let first = known 0 packet refl in
-    let rest = given_messages os (All-tail IsWholePacket (Whole packet by) os whole) (λ k p is. known (suc k) p is) in
-    let here : messages_given (Whole packet by ∷ os) ≡ first.0 ∷ messages_given os = ap (λ o. option_to_list o ++ messages_given os) (message_is_in first.0 packet first.1 first.2) in
+    let rest = given_messages word os (All-tail IsWholePacket (Whole packet by) os whole) (λ k p is. known (suc k) p is) in
+    let here : messages_given (Whole packet by ∷ os) ≡ first.0 ∷ messages_given os = ap (λ o. option_to_list o ++ messages_given os) (message_is_in word first.0 packet first.1 first.2) in
     record {
-      sendable = subst (Each IsSendable) (sym here) (one_more first.0 (messages_given os) first.1 rest.sendable);
-      packets = ap (map bytes_of) here ∙ ap (λ ps. bytes_of first.0 ∷ ps) rest.packets ∙ ap (λ p. p ∷ packets_in os) first.2;
+      sendable = subst (Each (IsSendable word)) (sym here) (one_more word first.0 (messages_given os) first.1 rest.sendable);
+      packets = ap (map (bytes_of word)) here ∙ ap (λ ps. bytes_of word first.0 ∷ ps) rest.packets ∙ ap (λ p. p ∷ packets_in os) first.2;
     }
-given_messages (Passed place ∷ os) whole known = absurd (All-head IsWholePacket (Passed place) os whole)
+given_messages word (Passed place ∷ os) whole known = absurd (All-head IsWholePacket (Passed place) os whole)
 
 -- ---- what concerns no neighbour
 
@@ -111,43 +112,43 @@ never_delivered n b alone other h = refl
 
 -- ---- the packets
 
--- packets were put and given in the contact that a link end shows
-pub record Recorded (old new : List Entry) (b : ℕ) (e : LinkEnd) (put given : List (List ℕ)) : Type 0 where
-  pub put_is : (own theirs : ℕ) → put_in new b own theirs ≡ put_in old b own theirs ++ (if (own == e.contact) && (theirs == e.peer_contact) then put else [])
+-- packets were put, by the node of this address word, and given in the contact that a link end shows
+pub record Recorded (word : ℕ) (old new : List Entry) (b : ℕ) (e : LinkEnd) (put given : List (List ℕ)) : Type 0 where
+  pub put_is : (own theirs : ℕ) → put_in word new b own theirs ≡ put_in word old b own theirs ++ (if (own == e.contact) && (theirs == e.peer_contact) then put else [])
   pub given_is : (own theirs : ℕ) → given_in new b own theirs ≡ given_in old b own theirs ++ (if (own == e.contact) && (theirs == e.peer_contact) then given else [])
 
-chosen_packets : (t : Bool) (ms : List Message) → map bytes_of (if t then ms else []) ≡ (if t then map bytes_of ms else [])
-chosen_packets true ms = refl
-chosen_packets false ms = refl
+chosen_packets : (word : ℕ) (t : Bool) (ms : List Message) → map (bytes_of word) (if t then ms else []) ≡ (if t then map (bytes_of word) ms else [])
+chosen_packets word true ms = refl
+chosen_packets word false ms = refl
 
-more_packets : (old new ms : List Message) (c seen own theirs : ℕ) (e : LinkEnd) → e.contact ≡ c → e.peer_contact ≡ seen → new ≡ old ++ come_to c seen ms own theirs Zero
-    → map bytes_of new ≡ map bytes_of old ++ (if (own == e.contact) && (theirs == e.peer_contact) then map bytes_of ms else [])
-more_packets old new ms c seen own theirs e c_is seen_is grew =
-    ap (map bytes_of) grew ∙ map-append bytes_of old (come_to c seen ms own theirs Zero)
-    ∙ ap (λ ps. map bytes_of old ++ ps) (chosen_packets ((own == c) && (theirs == seen)) ms)
-    ∙ ap (λ k. map bytes_of old ++ (if (own == k) && (theirs == seen) then map bytes_of ms else [])) (sym c_is)
-    ∙ ap (λ k. map bytes_of old ++ (if (own == e.contact) && (theirs == k) then map bytes_of ms else [])) (sym seen_is)
+more_packets : (word : ℕ) (old new ms : List Message) (c seen own theirs : ℕ) (e : LinkEnd) → e.contact ≡ c → e.peer_contact ≡ seen → new ≡ old ++ come_to c seen ms own theirs Zero
+    → map (bytes_of word) new ≡ map (bytes_of word) old ++ (if (own == e.contact) && (theirs == e.peer_contact) then map (bytes_of word) ms else [])
+more_packets word old new ms c seen own theirs e c_is seen_is grew =
+    ap (map (bytes_of word)) grew ∙ map-append (bytes_of word) old (come_to c seen ms own theirs Zero)
+    ∙ ap (λ ps. map (bytes_of word) old ++ ps) (chosen_packets word ((own == c) && (theirs == seen)) ms)
+    ∙ ap (λ k. map (bytes_of word) old ++ (if (own == k) && (theirs == seen) then map (bytes_of word) ms else [])) (sym c_is)
+    ∙ ap (λ k. map (bytes_of word) old ++ (if (own == e.contact) && (theirs == k) then map (bytes_of word) ms else [])) (sym seen_is)
 
 -- the turn at a neighbour: its messages were put, and what it was given is the packets of messages
 pub turn_records : (old new : List Entry) (own : ℕ) (bytes : List ℕ) (s : NodeStep) (frames : List Outgoing) (b : ℕ) (x x' : PairState) (t : PeerTurn own bytes s frames b x x') → new ≡ old ++ step_entries s
-    → Brings (opened_in t.turn.first.given) → Recorded old new b x'.link (map bytes_of t.messages) (packets_in (opened_in t.turn.first.given))
+    → Brings (node_word b) (opened_in t.turn.first.given) → Recorded own old new b x'.link (map (bytes_of own) t.messages) (packets_in (opened_in t.turn.first.given))
 turn_records old new own bytes s frames b x x' t is brings =
-    let whole = turn_as x x' t.opening (map bytes_of t.messages) t.reply t.own_frames t.turn in
+    let whole = turn_as x x' t.opening (map (bytes_of own) t.messages) t.reply t.own_frames t.turn in
     let last : IsAs t.turn.put x'.link t.turn.put.fsm = subst (λ (y : PairState). IsAs t.turn.put y.link t.turn.put.fsm) (sym t.turn.after) (answered_as t.reply t.turn.put) in
     let e = t.turn.first.pair.link in
     let opened = opened_in t.turn.first.given in
-    let given = given_messages opened brings.whole brings.known in
+    let given = given_messages (node_word b) opened brings.whole brings.known in
     record {
-      put_is = λ c seen. more_packets (accepted old (stream_of b c seen Zero)) (accepted new (stream_of b c seen Zero)) t.messages t.turn.put.contact t.turn.put.peer_contact c seen x'.link last.contact last.seen
+      put_is = λ c seen. more_packets own (accepted old (stream_of b c seen Zero)) (accepted new (stream_of b c seen Zero)) t.messages t.turn.put.contact t.turn.put.peer_contact c seen x'.link last.contact last.seen
           (accepted_grows old new s b (map (accepted_entry b t.turn.put) t.messages) c seen Zero is t.accepted ∙ ap (λ ms. accepted old (stream_of b c seen Zero) ++ ms) (accepted_holds b t.turn.put t.messages c seen Zero));
-      given_is = λ c seen. more_packets (delivered old (stream_of b c seen Zero)) (delivered new (stream_of b c seen Zero)) (messages_given opened) e.contact e.peer_contact c seen x'.link whole.contact whole.seen
+      given_is = λ c seen. more_packets (node_word b) (delivered old (stream_of b c seen Zero)) (delivered new (stream_of b c seen Zero)) (messages_given opened) e.contact e.peer_contact c seen x'.link whole.contact whole.seen
           (delivered_grows old new s b (given_entries b e t.turn.first.given) c seen Zero is t.delivered ∙ ap (λ ms. delivered old (stream_of b c seen Zero) ++ ms) (given_holds b e t.turn.first.given c seen Zero))
           ∙ ap (λ ps. given_in old b c seen ++ (if (c == x'.link.contact) && (seen == x'.link.peer_contact) then ps else [])) given.packets;
     }
 
 -- to the streams of another node nothing is added
-pub record Untold (old new : List Entry) (b : ℕ) : Type 0 where
-  pub put_same : put_in new b ≡ put_in old b
+pub record Untold (word : ℕ) (old new : List Entry) (b : ℕ) : Type 0 where
+  pub put_same : put_in word new b ≡ put_in word old b
   pub given_same : given_in new b ≡ given_in old b
 
 accepted_none : (old new : List Entry) (n : NodeState) (s : NodeStep) (b own theirs : ℕ) (flow : Flow) → neighbour_of n b ≡ None → All (IsPlaced n) s.inside → new ≡ old ++ step_entries s
@@ -162,10 +163,10 @@ delivered_none old new n s b own theirs flow alone placed is =
     delivered_grows old new s b [] own theirs flow is (filter-none (is_delivered_from b) s.inside (IsPlaced n) (never_delivered n b alone) placed)
     ∙ ap (λ ms. delivered old (stream_of b own theirs flow) ++ ms) (delivered_nil (stream_of b own theirs flow)) ∙ append-nil (delivered old (stream_of b own theirs flow))
 
-pub turn_untold : (old new : List Entry) (n : NodeState) (s : NodeStep) (b : ℕ) → neighbour_of n b ≡ None → All (IsPlaced n) s.inside → new ≡ old ++ step_entries s → Untold old new b
+pub turn_untold : (old new : List Entry) (n : NodeState) (s : NodeStep) (b : ℕ) → neighbour_of n b ≡ None → All (IsPlaced n) s.inside → new ≡ old ++ step_entries s → Untold n.own old new b
 turn_untold old new n s b alone placed is = record {
-  put_same = fun_ext (λ own. fun_ext (λ theirs. ap (map bytes_of) (accepted_none old new n s b own theirs Zero alone placed is)));
-  given_same = fun_ext (λ own. fun_ext (λ theirs. ap (map bytes_of) (delivered_none old new n s b own theirs Zero alone placed is)));
+  put_same = fun_ext (λ own. fun_ext (λ theirs. ap (map (bytes_of n.own)) (accepted_none old new n s b own theirs Zero alone placed is)));
+  given_same = fun_ext (λ own. fun_ext (λ theirs. ap (map (bytes_of (node_word b))) (delivered_none old new n s b own theirs Zero alone placed is)));
 }
 
 -- ---- the messages
@@ -200,36 +201,31 @@ gain n b x flow P old new ms c seen own theirs there all is = record {
   known = inr (ap is_some there);
 }
 
--- a message that a node accepts can be sent, and is its own
-abbrev pub IsOwn : ℕ → Message → Type 0
-IsOwn own m = IsSendable m × (origin_of m ≡ Some own)
-
-each_own : (own : ℕ) (ms : List Message) → All IsSendable ms → All (λ m. origin_of m ≡ Some own) ms → Each (IsOwn own) ms
-each_own own [] h o = Each-none (IsOwn own)
-each_own own (m ∷ ms) h o = Each-append (IsOwn own) (m ∷ []) ms (Each-one (IsOwn own) m (All-head IsSendable m ms h, All-head (λ k. origin_of k ≡ Some own) m ms o))
-    (each_own own ms (All-tail IsSendable m ms h) (All-tail (λ k. origin_of k ≡ Some own) m ms o))
+each_sendable : (own : ℕ) (ms : List Message) → All (IsSendable own) ms → Each (IsSendable own) ms
+each_sendable own [] h = Each-none (IsSendable own)
+each_sendable own (m ∷ ms) h = one_more own m ms (All-head (IsSendable own) m ms h) (each_sendable own ms (All-tail (IsSendable own) m ms h))
 
 pub turn_accepts : (old new : List Entry) (n n' : NodeState) (bytes : List ℕ) (s : NodeStep) (frames : List Outgoing) (b own theirs : ℕ) (flow : Flow) → NodeTurn n n' bytes s frames → new ≡ old ++ step_entries s
-    → Gains n b flow (IsOwn n.own) (accepted old (stream_of b own theirs flow)) (accepted new (stream_of b own theirs flow))
+    → Gains n b flow (IsSendable n.own) (accepted old (stream_of b own theirs flow)) (accepted new (stream_of b own theirs flow))
 turn_accepts old new n n' bytes s frames b own theirs flow t is = case (neighbour_of n b) refl
   where
-    case : (o : Option Neighbour) → neighbour_of n b ≡ o → Gains n b flow (IsOwn n.own) (accepted old (stream_of b own theirs flow)) (accepted new (stream_of b own theirs flow))
-    case None alone = no_gain n b flow (IsOwn n.own) (accepted old (stream_of b own theirs flow)) (accepted new (stream_of b own theirs flow)) (accepted_none old new n s b own theirs flow alone t.placed is)
+    case : (o : Option Neighbour) → neighbour_of n b ≡ o → Gains n b flow (IsSendable n.own) (accepted old (stream_of b own theirs flow)) (accepted new (stream_of b own theirs flow))
+    case None alone = no_gain n b flow (IsSendable n.own) (accepted old (stream_of b own theirs flow)) (accepted new (stream_of b own theirs flow)) (accepted_none old new n s b own theirs flow alone t.placed is)
     case (Some x) there =
         let p = (t.turns b x there).turn in
-        gain n b x flow (IsOwn n.own) (accepted old (stream_of b own theirs flow)) (accepted new (stream_of b own theirs flow)) p.messages p.turn.put.contact p.turn.put.peer_contact own theirs there (each_own n.own p.messages p.sendable p.origin)
+        gain n b x flow (IsSendable n.own) (accepted old (stream_of b own theirs flow)) (accepted new (stream_of b own theirs flow)) p.messages p.turn.put.contact p.turn.put.peer_contact own theirs there (each_sendable n.own p.messages p.sendable)
         (accepted_grows old new s b (map (accepted_entry b p.turn.put) p.messages) own theirs flow is p.accepted ∙ ap (λ ms. accepted old (stream_of b own theirs flow) ++ ms) (accepted_holds b p.turn.put p.messages own theirs flow))
 
 pub turn_delivers : (old new : List Entry) (n n' : NodeState) (bytes : List ℕ) (s : NodeStep) (frames : List Outgoing) (b own theirs : ℕ) (flow : Flow) (t : NodeTurn n n' bytes s frames) → AreBrought n n' bytes s frames t → new ≡ old ++ step_entries s
-    → Gains n b flow IsSendable (delivered old (stream_of b own theirs flow)) (delivered new (stream_of b own theirs flow))
+    → Gains n b flow (IsSendable (node_word b)) (delivered old (stream_of b own theirs flow)) (delivered new (stream_of b own theirs flow))
 turn_delivers old new n n' bytes s frames b own theirs flow t brings is = case (neighbour_of n b) refl
   where
-    case : (o : Option Neighbour) → neighbour_of n b ≡ o → Gains n b flow IsSendable (delivered old (stream_of b own theirs flow)) (delivered new (stream_of b own theirs flow))
-    case None alone = no_gain n b flow IsSendable (delivered old (stream_of b own theirs flow)) (delivered new (stream_of b own theirs flow)) (delivered_none old new n s b own theirs flow alone t.placed is)
+    case : (o : Option Neighbour) → neighbour_of n b ≡ o → Gains n b flow (IsSendable (node_word b)) (delivered old (stream_of b own theirs flow)) (delivered new (stream_of b own theirs flow))
+    case None alone = no_gain n b flow (IsSendable (node_word b)) (delivered old (stream_of b own theirs flow)) (delivered new (stream_of b own theirs flow)) (delivered_none old new n s b own theirs flow alone t.placed is)
     case (Some x) there =
         let p = (t.turns b x there).turn in
         let e = p.turn.first.pair.link in
         let given = brings b x there in
-        gain n b x flow IsSendable (delivered old (stream_of b own theirs flow)) (delivered new (stream_of b own theirs flow)) (messages_given (opened_in p.turn.first.given)) e.contact e.peer_contact own theirs there
-        (given_messages (opened_in p.turn.first.given) given.whole given.known).sendable
+        gain n b x flow (IsSendable (node_word b)) (delivered old (stream_of b own theirs flow)) (delivered new (stream_of b own theirs flow)) (messages_given (opened_in p.turn.first.given)) e.contact e.peer_contact own theirs there
+        (given_messages (node_word b) (opened_in p.turn.first.given) given.whole given.known).sendable
         (delivered_grows old new s b (given_entries b e p.turn.first.given) own theirs flow is p.delivered ∙ ap (λ ms. delivered old (stream_of b own theirs flow) ++ ms) (given_holds b e p.turn.first.given own theirs flow))

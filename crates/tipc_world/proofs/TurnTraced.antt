@@ -35,7 +35,8 @@ use Rattle.tipc_pair.specs.Turns.{Happened, Opening, Outset, PairTurn, PutsAll, 
 use Rattle.tipc_pair.specs.Turns.Opening.{cuts, hears, mends, rests, ticks}
 use Rattle.tipc_pair.proofs.Holding.{BringsBy, TakenBy, arrival_by, holds_answered, holds_settled}
 use Rattle.tipc_node.specs.declared.neighbours.Neighbour.{Neighbour}
-use Rattle.tipc_node.specs.Nodes.{NodeState, message_in, neighbour_of}
+use Rattle.tipc_node.specs.Messages.{message_in}
+use Rattle.tipc_node.specs.Nodes.{NodeState, neighbour_of}
 use Rattle.tipc_node.specs.Turns.{IsBrought, IsFrom, NodeTurn, PeerTurn, Suits, addr_of}
 use Rattle.tipc_world.specs.declared.air.Arrived.{Arrived}
 use Rattle.tipc_world.specs.declared.air.Sent.{Sent}
@@ -219,13 +220,13 @@ IsGivenSpelled seen s q (Passed place) = Unit {0}
 
 -- an arrival that brings messages spells them
 given_spelled : (seen : Seen) (s : NodeStep) (q number : ℕ) (opened : List Opened) → s.event ≡ event.Arrive 0 number → length seen.arrivals ≡ number + 1
-    → All (IsOpenedBy (HasBrought seen (addr_of q))) opened → Each IsOfMessage (packets_in opened) → All (IsGivenSpelled seen s q) opened
+    → All (IsOpenedBy (HasBrought seen (addr_of q))) opened → Each (IsOfMessage (node_word q)) (packets_in opened) → All (IsGivenSpelled seen s q) opened
 given_spelled seen s q number [] is size traced known = All-nil (IsGivenSpelled seen s q)
 given_spelled seen s q number (Whole packet by ∷ os) is size traced known =
     let P = HasBrought seen (addr_of q) in
     let first = known 0 packet refl in
     let one : IsGivenSpelled seen s q (Whole packet by) = λ m has.
-    let same : first.0 ≡ m = (let e : Some first.0 ≡ Some m = sym (message_is_in first.0 packet first.1 first.2) ∙ has in cc) in
+    let same : first.0 ≡ m = (let e : Some first.0 ≡ Some m = sym (message_is_in (node_word q) first.0 packet first.1 first.2) ∙ has in cc) in
     subst (λ k. IsSpelled seen s (addr_of q) k by) same
     (subst (λ bs. IsTraced (λ n b. P n b × IsBy s n) bs by) (sym first.2) (traced_weaker P (λ n b. P n b × IsBy s n) (brought_by_now seen s (addr_of q) number is size) packet by (All-head (IsOpenedBy P) (Whole packet by) os traced))) in
     All-cons (IsGivenSpelled seen s q) (Whole packet by) os one
@@ -236,7 +237,7 @@ given_spelled seen s q number (Passed place ∷ os) is size traced known =
 
 -- what happens first spells what it gives
 first_spelled : (seen : Seen) (s : NodeStep) (bytes : List ℕ) (b : ℕ) (x : PairState) (opening : Opening) (o : Outset) → Suits s.event opening → AreCarried seen s bytes → FirstKeeps (HasBrought seen (addr_of b)) o
-    → Each IsOfMessage (packets_in (opened_in o.given)) → Happened x opening o → All (IsGivenSpelled seen s b) (opened_in o.given)
+    → Each (IsOfMessage (node_word b)) (packets_in (opened_in o.given)) → Happened x opening o → All (IsGivenSpelled seen s b) (opened_in o.given)
 first_spelled seen s bytes b x rests o suits carried k known is = subst (λ (p : Outset). All (IsGivenSpelled seen s b) (opened_in p.given)) (sym is) (All-nil (IsGivenSpelled seen s b))
 first_spelled seen s bytes b x mends o suits carried k known is = subst (λ (p : Outset). All (IsGivenSpelled seen s b) (opened_in p.given)) (sym is) (All-nil (IsGivenSpelled seen s b))
 first_spelled seen s bytes b x cuts o suits carried k known is = subst (λ (p : Outset). All (IsGivenSpelled seen s b) (opened_in p.given)) (sym is) (All-nil (IsGivenSpelled seen s b))
@@ -251,7 +252,7 @@ record PeerTraced (seen : Seen) (s : NodeStep) (b : ℕ) (o : Outset) (x' : Pair
   spelled : All (IsGivenSpelled seen s b) (opened_in o.given)
 
 peer_traced : (seen : Seen) (own : ℕ) (bytes : List ℕ) (s : NodeStep) (frames : List Outgoing) (b : ℕ) (x x' : PairState) (t : PeerTurn own bytes s frames b x x') → KeepsBy (HasBrought seen (addr_of b)) x → AreCarried seen s bytes
-    → Brings (opened_in t.turn.first.given) → PeerTraced seen s b t.turn.first x'
+    → Brings (node_word b) (opened_in t.turn.first.given) → PeerTraced seen s b t.turn.first x'
 peer_traced seen own bytes s frames b x x' t k carried brings =
     let P = HasBrought seen (addr_of b) in
     let came = opening_brought seen s bytes b t.opening t.suits t.brought carried in

@@ -2,6 +2,7 @@
 use Rattle.std.proofs.Common.{◌≡◌, ◌≢◌, ℕ, zero, suc, ◌==◌, ◌&&◌, Bool, true, false, List, [], ◌++◌, Option, Some, None, map, take, if◌then◌else◌, refl, sym, ap, ◌∙◌, subst, append-nil, eqb-true, inl, inr, arith}
 use Rattle.std.proofs.lemmas.Bool.{cases_eq}
 use Rattle.std.proofs.lemmas.Bool.Decides.{nat_tests}
+use Rattle.tipc_types.specs.Address.{node_word}
 use Rattle.tipc_outside.specs.declared.outgoing.Outgoing.{Outgoing}
 use Rattle.tipc_link.specs.Links.{LinkEnd}
 use Rattle.tipc_fragments.specs.Joining.{Joining}
@@ -64,7 +65,7 @@ sights_apart old new a before after frames lost t c d apart =
     let begun = begun_at-same old.members new.members c d same in
     let numbered : (epoch : ℕ) → count_at new.members c d epoch ≡ count_at old.members c d epoch = λ epoch. count_at-same old.members new.members c d epoch same in
     let sent = sent_same new.members old.air new.air a c d frames lost t.leaves apart in
-    λ i. sight_from c d (boot i) (link i) (put_in (entries i) d) (given_in (entries i) d) (begun i) (λ epoch. numbered epoch i) (sent i)
+    λ i. sight_from c d (boot i) (link i) (put_in (node_word c) (entries i) d) (given_in (entries i) d) (begun i) (λ epoch. numbered epoch i) (sent i)
 
 -- so it is the partner that it was
 here_stays : (old new : Stage) (a : ℕ) (before after : MemberState) (frames : List Outgoing) (lost : Bool) → Turns old new a before after frames lost → (c d : ℕ) → c ≢ a → (w : Sight) → AreSeen (sight_in old c d) w → AreSeen (sight_in new c d) w
@@ -87,32 +88,33 @@ begun_now old new a before after frames lost t b = begun_at-is new.members a b a
 abbrev pub come_in : ℕ → ℕ → List (List ℕ) → ℕ → ℕ → List (List ℕ)
 come_in contact seen more own theirs = if (own == contact) && (theirs == seen) then more else []
 
--- The link to b became e, and fs of the frames are for it. These packets were put and given in its contact, and this message is begun.
-pub record IsChanged (before after : MemberState) (frames : List Outgoing) (b : ℕ) (e : LinkEnd) (fs : List Outgoing) (put given : List (List ℕ)) (partial : Joining) : Type 0 where
+-- The link to b became e, and fs of the frames are for it. These packets were put, by the node of this address word, and given in its
+-- contact, and this message is begun.
+pub record IsChanged (word : ℕ) (before after : MemberState) (frames : List Outgoing) (b : ℕ) (e : LinkEnd) (fs : List Outgoing) (put given : List (List ℕ)) (partial : Joining) : Type 0 where
   pub boot : after.node.boot ≡ before.node.boot
   pub link : link_in after.node b ≡ Some e
   pub begun : begun_in after.node b ≡ partial
   pub frames_are : frames_to b frames ≡ fs
-  pub put_is : (own theirs : ℕ) → put_in (history after) b own theirs ≡ put_in (history before) b own theirs ++ come_in e.contact e.peer_contact put own theirs
+  pub put_is : (own theirs : ℕ) → put_in word (history after) b own theirs ≡ put_in word (history before) b own theirs ++ come_in e.contact e.peer_contact put own theirs
   pub given_is : (own theirs : ℕ) → given_in (history after) b own theirs ≡ given_in (history before) b own theirs ++ come_in e.contact e.peer_contact given own theirs
   pub numbered_else : (epoch : ℕ) → HasNone e.session epoch → count_of after b epoch ≡ count_of before b epoch
 
 -- nothing concerned b
-pub record IsIdle (before after : MemberState) (frames : List Outgoing) (b : ℕ) : Type 0 where
+pub record IsIdle (word : ℕ) (before after : MemberState) (frames : List Outgoing) (b : ℕ) : Type 0 where
   pub boot : after.node.boot ≡ before.node.boot
   pub link : link_in after.node b ≡ link_in before.node b
   pub begun : begun_in after.node b ≡ begun_in before.node b
   pub frames_are : frames_to b frames ≡ []
-  pub put_is : (own theirs : ℕ) → put_in (history after) b own theirs ≡ put_in (history before) b own theirs
+  pub put_is : (own theirs : ℕ) → put_in word (history after) b own theirs ≡ put_in word (history before) b own theirs
   pub given_is : (own theirs : ℕ) → given_in (history after) b own theirs ≡ given_in (history before) b own theirs
   pub numbered : (epoch : ℕ) → count_of after b epoch ≡ count_of before b epoch
 
 -- the packets of two histories, as the pair has them
 put_was : (old new : Stage) (a : ℕ) (before after : MemberState) (frames : List Outgoing) (lost : Bool) (b : ℕ) (more : ℕ → ℕ → List (List ℕ)) → Turns old new a before after frames lost
-    → ((own theirs : ℕ) → put_in (history after) b own theirs ≡ put_in (history before) b own theirs ++ more own theirs) → (own theirs : ℕ) → put_in (history_at new.members a) b own theirs ≡ put_in (history_at old.members a) b own theirs ++ more own theirs
+    → ((own theirs : ℕ) → put_in (node_word a) (history after) b own theirs ≡ put_in (node_word a) (history before) b own theirs ++ more own theirs) → (own theirs : ℕ) → put_in (node_word a) (history_at new.members a) b own theirs ≡ put_in (node_word a) (history_at old.members a) b own theirs ++ more own theirs
 put_was old new a before after frames lost b more t is own theirs =
-    ap (λ es. put_in es b own theirs) (history_at-is new.members a after (is_there old new a before after frames lost t)) ∙ is own theirs
-    ∙ ap (λ es. put_in es b own theirs ++ more own theirs) (sym (history_at-is old.members a before (was_there old new a before after frames lost t)))
+    ap (λ es. put_in (node_word a) es b own theirs) (history_at-is new.members a after (is_there old new a before after frames lost t)) ∙ is own theirs
+    ∙ ap (λ es. put_in (node_word a) es b own theirs ++ more own theirs) (sym (history_at-is old.members a before (was_there old new a before after frames lost t)))
 
 given_was : (old new : Stage) (a : ℕ) (before after : MemberState) (frames : List Outgoing) (lost : Bool) (b : ℕ) (more : ℕ → ℕ → List (List ℕ)) → Turns old new a before after frames lost
     → ((own theirs : ℕ) → given_in (history after) b own theirs ≡ given_in (history before) b own theirs ++ more own theirs) → (own theirs : ℕ) → given_in (history_at new.members a) b own theirs ≡ given_in (history_at old.members a) b own theirs ++ more own theirs
@@ -127,7 +129,7 @@ come_by members air a b e more own theirs link =
     sym (ap (λ o. come_in (own_in (boot_at members a) o) (seen_in o) more own theirs) link)
 
 pub goes : (old new : Stage) (a : ℕ) (before after : MemberState) (frames : List Outgoing) (lost : Bool) (b : ℕ) (e : LinkEnd) (fs : List Outgoing) (put given : List (List ℕ)) (partial : Joining)
-    → Turns old new a before after frames lost → b ≢ a → IsChanged before after frames b e fs put given partial
+    → Turns old new a before after frames lost → b ≢ a → IsChanged (node_word a) before after frames b e fs put given partial
     → Goes (sight_in old a b) (sight_in new a b) (sight_in old b a) 0 e fs put given partial
 unfolding sight_at
 goes old new a before after frames lost b e fs put given partial t apart c =
@@ -140,7 +142,7 @@ goes old new a before after frames lost b e fs put given partial t apart c =
       node = λ i. node_from a b (boot i) (link i);
       only = record { end_is = link; alone = λ bearer else_. end_apart (link_at new.members a b) bearer else_ };
       put_is = λ own theirs. put_was old new a before after frames lost b (come_in e.contact e.peer_contact put) t c.put_is own theirs
-          ∙ ap (λ ps. put_in (history_at old.members a) b own theirs ++ ps) (come_by new.members new.air a b e put own theirs link);
+          ∙ ap (λ ps. put_in (node_word a) (history_at old.members a) b own theirs ++ ps) (come_by new.members new.air a b e put own theirs link);
       given_is = λ own theirs. given_was old new a before after frames lost b (come_in e.contact e.peer_contact given) t c.given_is own theirs
           ∙ ap (λ ps. given_in (history_at old.members a) b own theirs ++ ps) (come_by new.members new.air a b e given own theirs link);
       partial_is = begun_now old new a before after frames lost t b ∙ c.begun;
@@ -154,7 +156,7 @@ goes old new a before after frames lost b e fs put given partial t apart c =
 
 -- where no message concerned b, what was put and given is as it was
 pub same_put : (old new : Stage) (a : ℕ) (before after : MemberState) (frames : List Outgoing) (lost : Bool) (b : ℕ) → Turns old new a before after frames lost
-    → ((own theirs : ℕ) → put_in (history after) b own theirs ≡ put_in (history before) b own theirs) → (own theirs : ℕ) → put_in (history_at new.members a) b own theirs ≡ put_in (history_at old.members a) b own theirs
+    → ((own theirs : ℕ) → put_in (node_word a) (history after) b own theirs ≡ put_in (node_word a) (history before) b own theirs) → (own theirs : ℕ) → put_in (node_word a) (history_at new.members a) b own theirs ≡ put_in (node_word a) (history_at old.members a) b own theirs
 same_put old new a before after frames lost b t same own theirs =
     put_was old new a before after frames lost b (λ own theirs. []) t (λ own theirs. same own theirs ∙ sym (append-nil _)) own theirs ∙ append-nil _
 
@@ -180,7 +182,7 @@ same_numbered old new a before after frames lost b t same epoch =
 
 -- a node that nothing concerned is to b as it was
 sight_idle : (old new : Stage) (a : ℕ) (before after : MemberState) (frames : List Outgoing) (lost : Bool) (b : ℕ)
-    → Turns old new a before after frames lost → IsIdle before after frames b → sight_in new a b ≡ sight_in old a b
+    → Turns old new a before after frames lost → IsIdle (node_word a) before after frames b → sight_in new a b ≡ sight_in old a b
 unfolding sight_at
 sight_idle old new a before after frames lost b t c =
     let was = was_there old new a before after frames lost t in
@@ -196,7 +198,7 @@ sight_idle old new a before after frames lost b t c =
 
 -- so the two are partners as they were
 pub idle_pair : (old new : Stage) (a : ℕ) (before after : MemberState) (frames : List Outgoing) (lost : Bool) (b : ℕ)
-    → Turns old new a before after frames lost → IsIdle before after frames b
+    → Turns old new a before after frames lost → IsIdle (node_word a) before after frames b
     → PartnersIn old old a b → PartnersIn new old a b
 idle_pair old new a before after frames lost b t c h = subst (λ v. AreSeen v (sight_in old b a)) (sym (sight_idle old new a before after frames lost b t c)) h
 

@@ -1,8 +1,5 @@
 -- What an event needs, and what it counts for.
 use Rattle.std.specs.Prelude.{◌≡◌, ◌≢◌, ◌≤◌, ℕ, Bool, true, false, ◌&&◌, List, Option, Some, None, is_none, is_some, slice_index_or}
-use Rattle.tipc_types.specs.Address.{node_word}
-use Rattle.tipc_types.specs.declared.node_calls.EventNote.{EventNote}
-use Rattle.tipc_types.specs.declared.node_calls.EventNote.TheVariants.{SendPort}
 use Rattle.tipc_node.specs.Calls.{CanPerform}
 use Rattle.tipc_node.specs.Nodes.{NodeState, neighbour_of}
 use Rattle.tipc_node.specs.declared.recording.NodeFault.{NodeFault}
@@ -23,20 +20,15 @@ node_of (Restart node) = node
 node_of (Call node call) = node
 node_of (Arrive node bearer frame) = node
 
--- a message isn't for the node that sends it
-abbrev pub IsForAnother : ℕ → EventNote → Type 0
-IsForAnother node (SendPort port to importance body) = to.node.word ≢ node_word node
-IsForAnother node other = Unit {0}
-
 -- The node that a node comes to know is another one that is there and that it doesn't know yet. A call is one that nodes
--- perform, and a message is for another node.
+-- perform.
 abbrev pub CanHappenAt : List (Option MemberState) → WorldEvent → Type 0
 CanHappenAt members (Know node peer) =
     (is_some (slice_index_or members node None) ≡ true) × (is_some (slice_index_or members peer None) ≡ true)
     × (peer ≢ node) × (knows members node peer ≡ false)
 CanHappenAt members (Restart node) = is_some (slice_index_or members node None) ≡ true
 CanHappenAt members (Call node call) =
-    (is_some (slice_index_or members node None) ≡ true) × CanPerform call × IsForAnother node call
+    (is_some (slice_index_or members node None) ≡ true) × CanPerform call
 CanHappenAt members (Arrive node bearer frame) = (is_some (slice_index_or members node None) ≡ true) × (bearer ≤ 1)
 
 abbrev pub CanHappen : WorldState → WorldEvent → Type 0

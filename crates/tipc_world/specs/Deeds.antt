@@ -7,8 +7,10 @@ use Rattle.tipc_types.specs.declared.node_calls.EventNote.{EventNote}
 use Rattle.tipc_types.specs.declared.node_calls.EventNote.TheVariants as note
 use Rattle.tipc_outside.specs.declared.outgoing.Outgoing.{Outgoing}
 use Rattle.tipc_outside.specs.Frames.{Adds, Out}
-use Rattle.tipc_node.specs.Calls.{Arrives, CallTurn, Performs}
-use Rattle.tipc_node.specs.Nodes.{kept_answer, known_frames}
+use Rattle.tipc_node.specs.Arrivals.{Arrives}
+use Rattle.tipc_node.specs.Calls.{CallTurn, Performs}
+use Rattle.tipc_node.specs.Nodes.{known_frames}
+use Rattle.tipc_node.specs.Sockets.{kept_answer}
 use Rattle.tipc_world.specs.declared.events.WorldEvent.{WorldEvent}
 use Rattle.tipc_world.specs.declared.events.WorldEvent.TheVariants.{Know, Restart, Call, Arrive}
 use Rattle.tipc_world.specs.Members.{arrived_member, by_in, called, known_member, sender_of, IsRestarted}

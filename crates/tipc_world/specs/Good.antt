@@ -12,16 +12,18 @@ use Rattle.tipc_link.specs.Links.{is_traffic}
 use Rattle.tipc_partners.specs.Truth.{IsTold}
 use Rattle.tipc_world.specs.declared.air.Sent.{Sent}
 use Rattle.tipc_world.specs.Lawful.{AreLawful, HasBegun}
-use Rattle.tipc_node.specs.Turns.{bytes_of}
+use Rattle.tipc_node.specs.Messages.{bytes_of}
+use Rattle.tipc_world.specs.Answered.{AreOrderly}
 use Rattle.tipc_world.specs.Spelled.{AreSpelled}
-use Rattle.tipc_world.specs.States.{MemberState, WorldState, accepted_at, delivered_at, history_at}
+use Rattle.tipc_world.specs.States.{MemberState, WorldView, accepted_at, delivered_at, history_at}
 
--- the packets of the messages that node a accepted for node b in a contact, a's number first, and of those that were delivered at a
+-- the packets, each as its sender sends it, of the messages that node a accepted for node b in a contact, a's number first, and of those
+-- that were delivered at a
 abbrev pub accepted_packets : List (Option MemberState) → ℕ → ℕ → ℕ → ℕ → List (List ℕ)
-accepted_packets members a b own theirs = map bytes_of (accepted_at members a b own theirs Zero)
+accepted_packets members a b own theirs = map (bytes_of (node_word a)) (accepted_at members a b own theirs Zero)
 
 abbrev pub delivered_packets : List (Option MemberState) → ℕ → ℕ → ℕ → ℕ → List (List ℕ)
-delivered_packets members a b own theirs = map bytes_of (delivered_at members a b own theirs Zero)
+delivered_packets members a b own theirs = map (bytes_of (node_word b)) (delivered_at members a b own theirs Zero)
 
 -- A STATE or a numbered packet from node a to node b speaks the truth of their contact, node a's number first: what it acknowledges was
 -- taken at a, and gave what was delivered there; and what it carries was put into a packet by a for b, at the position of its number.
@@ -44,19 +46,22 @@ pub record IsTrue (members : List (Option MemberState)) (f : Sent) : Type 0 wher
   pub previous : packet.previous ≡ node_word a
   pub told : is_traffic packet.header ≡ true → SpeaksTruth members a b f.contact.0 f.contact.1 packet
 
-pub record IsGood (w : WorldState) : Type 0 where
+pub record IsGood {P : Type 0} (gives : P → ℕ → ℕ → ℕ → Type 0) (w : WorldView P) : Type 0 where
   -- For all nodes a and b, each contact and each flow: what was ever delivered at b from a is a prefix of what a ever accepted for b.
   pub prefix : (a b a_number b_number : ℕ) (flow : Flow) →
-      IsPrefixOf (delivered_at w.members b a b_number a_number flow) (accepted_at w.members a b a_number b_number flow)
+      IsPrefixOf (delivered_at w.state.members b a b_number a_number flow) (accepted_at w.state.members a b a_number b_number flow)
   -- Where anything was delivered in a contact, both nodes entered it: a contact that only one side entered has nothing delivered.
-  pub entered : (a b a_number b_number : ℕ) (flow : Flow) → delivered_at w.members b a b_number a_number flow ≢ [] →
-      HasBegun (history_at w.members a) (record { word = node_word b }) (a_number, b_number)
-      × HasBegun (history_at w.members b) (record { word = node_word a }) (b_number, a_number)
+  pub entered : (a b a_number b_number : ℕ) (flow : Flow) → delivered_at w.state.members b a b_number a_number flow ≢ [] →
+      HasBegun (history_at w.state.members a) (record { word = node_word b }) (a_number, b_number)
+      × HasBegun (history_at w.state.members b) (record { word = node_word a }) (b_number, a_number)
   -- For each node, in all its boots: each message that was delivered is spelled by frames that arrived there in that step or before, and
   -- that the peer sent.
-  pub spelled : (n : ℕ) (m : MemberState) → slice_index_or w.members n None ≡ Some m → AreSpelled w.air m
+  pub spelled : (n : ℕ) (m : MemberState) → slice_index_or w.state.members n None ≡ Some m → AreSpelled w.state.air m
   -- Every frame in the air is true.
-  pub truth : (k : ℕ) (f : Sent) → slice_get w.air k ≡ Some f → IsTrue w.members f
+  pub truth : (k : ℕ) (f : Sent) → slice_get w.state.air k ≡ Some f → IsTrue w.state.members f
   -- For each node and each of its boots: each link that went down shows its cause, each contact that ended stands where no link is up, and
   -- messages are accepted and delivered in the contact in which the node is.
-  pub lawful : (n : ℕ) (m : MemberState) → slice_index_or w.members n None ≡ Some m → AreLawful w.air m
+  pub lawful : (n : ℕ) (m : MemberState) → slice_index_or w.state.members n None ≡ Some m → AreLawful w.state.air m
+  -- For each node and each of its boots: each call has a licensed answer, and each message its fate; calls are counted and stamped; and
+  -- each message by name went to the match that the pick gives for its turn, which is how many were sent so before, at all nodes.
+  pub orderly : AreOrderly gives w.state.members w.state.stamps w.chooser

@@ -12,6 +12,8 @@ pub mod Events
 pub mod Causes
 pub mod Spelled
 pub mod Lawful
+pub mod Choices
+pub mod Answered
 pub mod Good
 pub mod Views
 pub mod Sound

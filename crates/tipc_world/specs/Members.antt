@@ -7,6 +7,7 @@ use Rattle.tipc_header.specs.Reading.{word_at}
 use Rattle.tipc_link.specs.Links.{LinkEnd}
 use Rattle.tipc_link.specs.Sessions.{SessionEnd}
 use Rattle.tipc_link_fsm.specs.Table.{is_up}
+use Rattle.tipc_sockets.specs.SocketTables.{no_sockets}
 use Rattle.tipc_node.specs.Nodes.{NodeState, known_node, neighbour_of}
 use Rattle.tipc_node.specs.Turns.{link_in}
 use Rattle.tipc_world.specs.Readers.{node_number}
@@ -75,7 +76,7 @@ pub record IsFresh (n : NodeState) (own boot : ℕ) : Type 0 where
   pub boot_is : n.boot ≡ boot
   pub cut : n.mended ≡ false
   pub alone : (peer : ℕ) → neighbour_of n peer ≡ None
-  pub no_sockets : n.inboxes ≡ []
+  pub sockets : n.sockets ≡ no_sockets own boot
   pub no_history : n.journal ≡ []
 
 -- A node was restarted: its journal is kept, and it begins its next boot. How many packets it ever numbered stays

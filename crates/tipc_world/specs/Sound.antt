@@ -6,7 +6,8 @@ use Rattle.tipc_types.specs.declared.message_forms.Flow.TheVariants.{Zero}
 use Rattle.tipc_types.specs.declared.message_forms.Message.{Message}
 use Rattle.tipc_partners.specs.Sights.{AreSeen}
 use Rattle.tipc_world.specs.declared.air.Sent.{Sent}
-use Rattle.tipc_node.specs.Turns.{IsSendable, is_to, origin_of}
+use Rattle.tipc_node.specs.Messages.{IsSendable}
+use Rattle.tipc_node.specs.Turns.{is_to}
 use Rattle.tipc_world.specs.States.{MemberState, accepted_at, delivered_at, link_at}
 use Rattle.tipc_world.specs.Views.{sight_at}
 
@@ -34,13 +35,13 @@ pub record IsSound (members : List (Option MemberState)) (air : List Sent) : Typ
   -- each two nodes are partners
   pub pairs : (a b : ℕ) → IsNumber a → IsNumber b → a ≢ b
       → AreSeen (sight_at members air a b) (sight_at members air b a)
-  -- messages are accepted and delivered in flow Zero alone; each can be sent, and is of the node that accepted it
+  -- messages are accepted and delivered in flow Zero alone; the node that accepted each can send it
   pub one_flow : (a b own theirs : ℕ) (flow : Flow) → flow ≢ Zero
       → (accepted_at members a b own theirs flow ≡ []) × (delivered_at members a b own theirs flow ≡ [])
   pub accepted : (a b own theirs k : ℕ) (m : Message) → slice_get (accepted_at members a b own theirs Zero) k ≡ Some m
-      → IsSendable m × (origin_of m ≡ Some (node_word a))
+      → IsSendable (node_word a) m
   pub delivered : (a b own theirs k : ℕ) (m : Message)
-      → slice_get (delivered_at members a b own theirs Zero) k ≡ Some m → IsSendable m
+      → slice_get (delivered_at members a b own theirs Zero) k ≡ Some m → IsSendable (node_word b) m
   -- what concerns a number that no node has, or the node itself, is nothing
   pub nothing : (a b own theirs : ℕ) → delivered_at members a b own theirs Zero ≢ []
       → IsNumber a × IsNumber b × (a ≢ b)

@@ -12,9 +12,9 @@ use Rattle.tipc_header.specs.Grammar.{Fits}
 use Rattle.tipc_header.specs.Spelling.{Fields, spelling}
 use Rattle.tipc_link.specs.Sessions.{as_waiting}
 use Rattle.tipc_reassembly.specs.Tracing.{IsTraced}
+use Rattle.tipc_node.specs.Messages.{bytes_of}
 use Rattle.tipc_world.specs.declared.air.Sent.{Sent}
 use Rattle.tipc_world.specs.Causes.{arrived_frame, Seen}
-use Rattle.tipc_node.specs.Turns.{bytes_of}
 use Rattle.tipc_world.specs.States.{MemberState}
 
 -- The arrival of that number at the node was of a frame that the peer sent, which brought this packet, as it waited before it was
@@ -37,10 +37,10 @@ pub record IsBy (s : NodeStep) (by : ℕ) : Type 0 where
   pub event_is : s.event ≡ event.Arrive bearer number
   pub until : by ≤ number
 
--- These arrivals, in order, spell a message: its packet came alone or in a bundle by the one, or its fragments came by all of them. They
+-- These arrivals, in order, spell a message as the peer sends it: its packet came alone or in a bundle by the one, or its fragments came by all of them. They
 -- were in this step or before it, of frames that the peer sent.
 abbrev pub IsSpelled : Seen → NodeStep → Addr → Message → List ℕ → Type 0
-IsSpelled seen s peer message by = IsTraced (λ number packet. HasBrought seen peer number packet × IsBy s number) (bytes_of message) by
+IsSpelled seen s peer message by = IsTraced (λ number packet. HasBrought seen peer number packet × IsBy s number) (bytes_of peer.word message) by
 
 -- each message that was delivered at a node, in all its boots, is spelled by the arrivals that stand beside it
 abbrev pub AreSpelled : List Sent → MemberState → Type 0

@@ -8,6 +8,7 @@ use Rattle.tipc_types.specs.declared.message_forms.Flow.TheVariants.{Zero}
 use Rattle.tipc_types.specs.declared.message_forms.Message.{Message}
 use Rattle.tipc_types.specs.declared.node_calls.Answer.{Answer}
 use Rattle.tipc_types.specs.declared.node_calls.Answer.TheVariants as answer
+use Rattle.tipc_pick.specs.Choosing.{Choosing}
 use Rattle.tipc_journal.specs.declared.entries.Entry.{Entry}
 use Rattle.tipc_journal.specs.Room.{JournalState}
 use Rattle.tipc_journal.specs.Streams.{Stream, accepted, delivered}
@@ -38,6 +39,11 @@ pub record WorldState : Type 0 where
   pub events : ℕ
   pub stamps : ℕ
   pub lost : Bool
+
+-- a world and the chooser that its messages by name are sent with
+pub record WorldView (P : Type 0) : Type 0 where
+  pub state : WorldState
+  pub chooser : Choosing P
 
 abbrev pub no_nodes : WorldState
 no_nodes = record { members = []; air = []; events = 0; stamps = 0; lost = false }

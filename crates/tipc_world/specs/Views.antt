@@ -10,16 +10,17 @@ use Rattle.tipc_partners.specs.Sights.{Sight}
 use Rattle.tipc_partners.specs.Views.{Frame, Node}
 use Rattle.tipc_world.specs.declared.air.Sent.{Sent}
 use Rattle.tipc_world.specs.Air.{sent_between}
-use Rattle.tipc_node.specs.Turns.{bytes_of}
+use Rattle.tipc_node.specs.Messages.{bytes_of}
 use Rattle.tipc_world.specs.Numbers.{own_in, seen_in}
 use Rattle.tipc_world.specs.States.{MemberState, begun_at, boot_at, count_at, history_at, link_at, stream_of}
 
--- the packets of the messages that were accepted for node b, and those that were delivered from it, in a contact
-abbrev pub put_in : List Entry → ℕ → ℕ → ℕ → List (List ℕ)
-put_in entries b own theirs = map bytes_of (accepted entries (stream_of b own theirs Zero))
+-- The packets of the messages that a node with this address word accepted for node b, and of those that were delivered from node b, in a
+-- contact. A packet is spelled for the node that sends it.
+abbrev pub put_in : ℕ → List Entry → ℕ → ℕ → ℕ → List (List ℕ)
+put_in word entries b own theirs = map (bytes_of word) (accepted entries (stream_of b own theirs Zero))
 
 abbrev pub given_in : List Entry → ℕ → ℕ → ℕ → List (List ℕ)
-given_in entries b own theirs = map bytes_of (delivered entries (stream_of b own theirs Zero))
+given_in entries b own theirs = map (bytes_of (node_word b)) (delivered entries (stream_of b own theirs Zero))
 
 -- node a, and the contact numbers that it has for node b
 abbrev pub node_from : ℕ → ℕ → ℕ → Option LinkEnd → Node
@@ -48,4 +49,4 @@ sight_from a b boot link put given partial counts sent = record {
 
 unfoldable pub sight_at : List (Option MemberState) → List Sent → ℕ → ℕ → Sight
 sight_at members air a b =
-    sight_from a b (boot_at members a) (link_at members a b) (put_in (history_at members a) b) (given_in (history_at members a) b) (begun_at members a b) (count_at members a b) (sent_between air a b)
+    sight_from a b (boot_at members a) (link_at members a b) (put_in (node_word a) (history_at members a) b) (given_in (history_at members a) b) (begun_at members a b) (count_at members a b) (sent_between air a b)

@@ -129,8 +129,10 @@ pub fn find<'a>(
     place: u64,
 ) -> Result<&'a Sent, Answer>
     requires number { (1 ≤ node) × (node ≤ 32) }
-    requires senders { (k : ℕ) (f : Sent) → slice_get air.now k ≡ Some f → (n : ℕ) × (1 ≤ n) × (n ≤ 32) × (f.from.word ≡ node_word n) }
-    ensures found { IfOk result (λ f. (frame_for air.now node bearer place ≡ Some f.now) × (unarrived members.now air.now node bearer place ≡ None)) }
+    requires senders { (k : ℕ) (f : Sent) → slice_get air.now k ≡ Some f →
+        (n : ℕ) × (1 ≤ n) × (n ≤ 32) × (f.from.word ≡ node_word n) }
+    ensures found { IfOk result (λ f. (frame_for air.now node bearer place ≡ Some f.now)
+        × (unarrived members.now air.now node bearer place ≡ None)) }
     ensures none { IfErr result (λ why. unarrived members.now air.now node bearer place ≡ Some why) }
 {
     let Some(sent) = frame_for(air, node, bearer, place) else {

@@ -6,8 +6,6 @@ mod events;
 mod flying;
 mod members;
 mod readers;
-#[cfg(test)]
-mod tests;
 mod worlds;
 
 pub use air::{Arrived, Sent};

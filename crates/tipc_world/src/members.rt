@@ -9,6 +9,7 @@ ghost use Rattle.tipc_pair.specs.Pairs.{contact_of};
 ghost use Rattle.tipc_node.specs.Calls.{CanPerform};
 ghost use Rattle.tipc_node.specs.Nodes.{has_room, load_of, neighbour_of};
 ghost use Rattle.tipc_node.specs.Turns.{link_in};
+ghost use Rattle.tipc_world.specs.Choices.{Chooses};
 ghost use Rattle.tipc_world.specs.Calls.{is_recorded, CallStops, CanDo, RecordStops};
 ghost use Rattle.tipc_world.specs.Deeds.{Did};
 ghost use Rattle.tipc_world.specs.Events.{IsSettledAt};
@@ -25,6 +26,7 @@ use std::marker::Model;
 use tipc_journal::Journal;
 use tipc_node::Node;
 use tipc_outside::Outbox;
+use tipc_pick::{Chooser, Pick};
 use tipc_types::{Addr, Answer, By, EventNote, Flow, LinkState, NoMemory};
 
 /// How many packets were numbered in sessions that are over, by the peer's number and the node's own epoch.
@@ -303,24 +305,27 @@ impl Member {
         Answer::Done
     }
 
-    /// Performs a call.
-    pub fn perform(
+    /// Performs a call, for which the chooser says to which match a message by name goes.
+    pub fn perform<P: Pick>(
         &mut self,
         alloc: Global,
         stamp: u64,
         call: EventNote,
+        chooser: &mut Chooser<P>,
         out: &mut Outbox,
     ) -> Result<Answer, WorldFault>
         requires can { CanPerform call }
         ensures did { IfOk result (λ a. (node : ℕ) →
             Did stamp (WorldEvent.Call node call) [] self.old self.new out.old out.new a) }
+        ensures chose { IfOk result (λ a. (node : ℕ) →
+            Chooses P.gives self.old (WorldEvent.Call node call) a chooser.old chooser.new) }
         ensures room { OnOk result (has_room self.old.node.journal ≡ true) }
         ensures full { IfErr result (λ fault. RecordStops (has_room self.old.node.journal) fault) }
-        ensures err { OnErr result ((self.new ≡ self.old) × (out.new ≡ out.old)) }
+        ensures err { OnErr result ((self.new ≡ self.old) × (out.new ≡ out.old) × (chooser.new ≡ chooser.old)) }
     {
         let calls = self.begin()?;
         let by = self.by(stamp);
-        let answer = self.node.perform(alloc, by, call, out)?;
+        let answer = self.node.perform(alloc, by, call, chooser, out)?;
         self.calls = calls;
         Ok(answer)
     }
@@ -390,24 +395,26 @@ impl Member {
     }
 
     /// Lets an event other than an arrival happen. Its answers are those of the calls above.
-    pub fn happen(
+    pub fn happen<P: Pick>(
         &mut self,
         alloc: Global,
         stamp: u64,
         event: WorldEvent,
+        chooser: &mut Chooser<P>,
         out: &mut Outbox,
     ) -> Result<Answer, WorldFault>
         requires can { CanDo self.old.node event }
         requires settled { (n : ℕ) × IsSettledAt self.old n }
         ensures did { IfOk result (λ a. Did stamp event [] self.old self.new out.old out.new a) }
+        ensures chose { IfOk result (λ a. Chooses P.gives self.old event a chooser.old chooser.new) }
         ensures room { is_recorded event ≡ true → OnOk result (has_room self.old.node.journal ≡ true) }
         ensures full { IfErr result (λ fault. CallStops event (has_room self.old.node.journal) fault) }
-        ensures err { OnErr result ((self.new ≡ self.old) × (out.new ≡ out.old)) }
+        ensures err { OnErr result ((self.new ≡ self.old) × (out.new ≡ out.old) × (chooser.new ≡ chooser.old)) }
     {
         match event {
             WorldEvent::Know { node: _, peer } => Ok(self.know(alloc, peer, out)),
             WorldEvent::Restart { .. } => self.restart(alloc),
-            WorldEvent::Call { node: _, call } => self.perform(alloc, stamp, call, out),
+            WorldEvent::Call { node: _, call } => self.perform(alloc, stamp, call, chooser, out),
             WorldEvent::Arrive { .. } => unreachable!(),
         }
     }

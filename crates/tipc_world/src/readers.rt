@@ -11,6 +11,7 @@ use crate::air::{Arrived, Sent};
 use crate::members::Member;
 use crate::worlds::World;
 use std::alloc::Global;
+use tipc_pick::Pick;
 use tipc_types::{Addr, Answer, LinkState, NoMemory, PeerLinks, Sequence, To};
 
 /// The number of the node of an address, where it is one of the 32.
@@ -193,10 +194,10 @@ fn links_at(members: &[Option<Member>], alloc: Global, n: u8) -> Result<Vec<Peer
     Ok(links)
 }
 
-impl World {
+impl<P: Pick> World<P> {
     /// Whether a node is there.
     pub fn has_node(&self, n: u8) -> bool
-        ensures { result ≡ is_there self.now n }
+        ensures { result ≡ is_there self.now.state n }
     {
         match self.members.get(n as usize) {
             Some(Some(_)) => true,
@@ -206,7 +207,7 @@ impl World {
 
     /// Whether a frame was lost for want of memory.
     pub fn lost(&self) -> bool
-        ensures { result ≡ self.now.lost }
+        ensures { result ≡ self.now.state.lost }
     {
         self.lost
     }
@@ -215,21 +216,21 @@ impl World {
     /// boots: NoContact exactly where it is in none. A count stops at the last number of 64 bits.
     pub fn flow(&self, a: u8, b: u8) -> Answer
         requires { (1 ≤ a) × (a ≤ 32) × (1 ≤ b) × (b ≤ 32) }
-        ensures { result ≡ flow_of self.now.members a b }
+        ensures { result ≡ flow_of self.now.state.members a b }
     {
         flow_at(&self.members, a, b)
     }
 
     /// Whether node `a` has a link end to node `b`.
     pub fn knows(&self, a: u8, b: u8) -> bool
-        ensures { result ≡ knows self.now.members a b }
+        ensures { result ≡ knows self.now.state.members a b }
     {
         link_at(&self.members, a, b).is_some()
     }
 
     /// Whether the link end at node `a` to node `b` is up.
     pub fn is_up(&self, a: u8, b: u8) -> bool
-        ensures { result ≡ is_up_at self.now.members a b }
+        ensures { result ≡ is_up_at self.now.state.members a b }
     {
         match link_at(&self.members, a, b) {
             Some(state) => is_working(state),
@@ -239,21 +240,21 @@ impl World {
 
     /// Whether bearer 0 is mended at a node.
     pub fn is_mended(&self, n: u8) -> bool
-        ensures { result ≡ is_mended_at self.now.members n }
+        ensures { result ≡ is_mended_at self.now.state.members n }
     {
         is_mended_at(&self.members, n)
     }
 
     /// How many frames were ever sent on bearer 0.
     pub fn air_len(&self) -> u64
-        ensures len { result ≡ length self.now.air }
+        ensures len { result ≡ length self.now.state.air }
     {
         self.air.len() as u64
     }
 
     /// The node that the frame of that place on bearer 0 is for, from 0 on: None exactly where there is no such frame.
     pub fn receiver(&self, place: u64) -> Option<u8>
-        ensures value { result ≡ receiver_at self.now.air place }
+        ensures value { result ≡ receiver_at self.now.state.air place }
         ensures range { IfSome result (λ n. (1 ≤ n) × (n ≤ 32)) }
     {
         receiver_at(&self.air, place)
@@ -261,7 +262,7 @@ impl World {
 
     /// The node that sent the frame of that place on bearer 0: None exactly where there is no such frame.
     pub fn sender(&self, place: u64) -> Option<u8>
-        ensures value { result ≡ sender_at self.now.air place }
+        ensures value { result ≡ sender_at self.now.state.air place }
         ensures range { IfSome result (λ n. (1 ≤ n) × (n ≤ 32)) }
     {
         sender_at(&self.air, place)
@@ -269,21 +270,21 @@ impl World {
 
     /// The frame of that place on bearer 0, from 0 on: None exactly where there is no such frame.
     pub fn frame(&self, place: u64) -> Option<&Sent>
-        ensures { option_copied result ≡ slice_get self.now.air place }
+        ensures { option_copied result ≡ slice_get self.now.state.air place }
     {
         self.air.get(place as usize)
     }
 
     /// The numbers of packets unacknowledged and waiting at all nodes. Each stops at the last number of 64 bits.
     pub fn load(&self) -> (u64, u64)
-        ensures { result ≡ load_of self.now.members }
+        ensures { result ≡ load_of self.now.state.members }
     {
         load_all(&self.members)
     }
 
     /// The link ends of a node, in order of the peers.
     pub fn links(&self, alloc: Global, n: u8) -> Result<Sequence<PeerLinks>, NoMemory>
-        ensures { IfOk result (λ links. links ≡ links_of self.now.members n) }
+        ensures { IfOk result (λ links. links ≡ links_of self.now.state.members n) }
     {
         Ok(Sequence::from_vec(links_at(&self.members, alloc, n)?))
     }

@@ -2,6 +2,8 @@
 
 ghost use Rattle.std.specs.Prelude.{◌≡◌, ◌≢◌, ◌+◌, ◌<◌, ◌≤◌, ◌==◌, ◌||◌, ◌&&◌, ◌++◌, [], List, ℕ, Bool, true, false, Some, None, Err, length, slice_get, slice_index_or, is_some, if◌then◌else◌, IfErr, IfOk, OnErr, OnOk};
 ghost use Rattle.tipc_types.specs.Address.{node_word};
+ghost use Rattle.tipc_pick.specs.Choosing.{Choosing};
+ghost use Rattle.tipc_world.specs.Choices.{ChoosesAt};
 ghost use Rattle.tipc_world.specs.Calls.{counts_at, is_call_at, is_recorded, node_of, CallStops, CanDoAt, CanHappen, CanHappenAt, RecordStops};
 ghost use Rattle.tipc_world.specs.Due.{frame_for, unarrived};
 ghost use Rattle.tipc_world.specs.Events.{AreSettled, DidAt, IsSettledAt, IsSteady, JoinsAt};
@@ -19,6 +21,7 @@ use crate::members::Member;
 use std::alloc::Global;
 use std::marker::Model;
 use tipc_outside::Outbox;
+use tipc_pick::{Chooser, Pick};
 use tipc_types::{Answer, NoMemory};
 
 /// The most events of a world. (This project's profile.)
@@ -30,27 +33,40 @@ const MOST_FRAMES: usize = 100_000;
 /// The numbers of nodes are from 1 to 32.
 const NUMBERS: usize = 33;
 
-/// Nodes, and the air: every frame that was ever sent, of which any may arrive at any time.
+/// Nodes, the air, which is every frame that was ever sent, of which any may arrive at any time, and the chooser that says to which of
+/// those that a name finds a message goes.
 #[derive(Drop)]
-pub struct World {
+pub struct World<P: Pick> {
     pub(crate) members: Vec<Option<Member>>,
     pub(crate) air: Vec<Sent>,
     events: u64,
     stamps: u64,
     pub(crate) lost: bool,
+    chooser: Chooser<P>,
 }
 
-impl Model for World {
-    ghost use Rattle.tipc_world.specs.States.{WorldState};
+impl<P: Pick> Model for World<P> {
+    ghost use Rattle.tipc_world.specs.Answered.{AreOrderly};
+    ghost use Rattle.tipc_world.specs.States.{WorldView};
     ghost use Rattle.tipc_world.specs.Events.{IsSteady};
     ghost use Rattle.tipc_world.specs.Sound.{IsSound};
     ghost use Rattle.tipc_world.specs.Watched.{AreWatched};
 
-    ghost Value = { WorldState };
+    ghost Value = { WorldView P };
 
-    ghost view = { λ w. record { members = w.members.items; air = w.air.items; events = w.events; stamps = w.stamps; lost = w.lost } };
+    ghost view = { λ w. record {
+      state = record {
+        members = w.members.items;
+        air = w.air.items;
+        events = w.events;
+        stamps = w.stamps;
+        lost = w.lost;
+      };
+      chooser = w.chooser;
+    } };
 
-    ghost invariant = { λ w. IsSound w.members.items w.air.items × IsSteady w.members.items w.events w.stamps × AreWatched w.members.items w.air.items };
+    ghost invariant = { λ w. IsSound w.members.items w.air.items × IsSteady w.members.items w.events w.stamps
+        × AreWatched w.members.items w.air.items × AreOrderly P.gives w.members.items w.stamps w.chooser };
 }
 
 /// Makes room for the node of every number, without changing any look-up.
@@ -127,8 +143,9 @@ fn is_over(counted: bool, air: &[Sent]) -> bool
 }
 
 /// Lets an event other than an arrival happen at its node, whose frames are put into the box.
-fn happen_at(
+fn happen_at<P: Pick>(
     members: &mut Vec<Option<Member>>,
+    chooser: &mut Chooser<P>,
     alloc: Global,
     stamp: u64,
     event: WorldEvent,
@@ -138,12 +155,14 @@ fn happen_at(
     requires there { is_some (slice_index_or members.old.items (node_of event) None) ≡ true }
     requires settled { AreSettled members.old.items }
     ensures did { IfOk result (λ a. DidAt members.old.items members.new.items stamp event [] out.old out.new a) }
+    ensures chose { IfOk result (λ a. ChoosesAt P.gives members.old.items event a chooser.old chooser.new) }
     ensures room { is_recorded event ≡ true → OnOk result (has_room_at members.old.items (node_of event) ≡ true) }
     ensures full { IfErr result (λ fault. CallStops event (has_room_at members.old.items (node_of event)) fault) }
-    ensures err { OnErr result ((members.new.items ≡ members.old.items) × (out.new ≡ out.old)) }
+    ensures err { OnErr result ((members.new.items ≡ members.old.items) × (out.new ≡ out.old)
+        × (chooser.new ≡ chooser.old)) }
 {
     match &mut members[event.node() as usize] {
-        Some(member) => member.happen(alloc, stamp, event, out),
+        Some(member) => member.happen(alloc, stamp, event, chooser, out),
         None => unreachable!(),
     }
 }
@@ -160,7 +179,8 @@ fn arrive_at(
     out: &mut Outbox,
 ) -> Result<Answer, WorldFault>
     requires there { is_some (slice_index_or members.old.items node None) ≡ true }
-    ensures did { IfOk result (λ a. DidAt members.old.items members.new.items stamp (WorldEvent.Arrive node bearer place) frame.now out.old out.new a) }
+    ensures did { IfOk result (λ a. DidAt members.old.items members.new.items stamp
+        (WorldEvent.Arrive node bearer place) frame.now out.old out.new a) }
     ensures room { OnOk result (has_room_at members.old.items node ≡ true) }
     ensures full { IfErr result (λ fault. RecordStops (has_room_at members.old.items node) fault) }
     ensures err { OnErr result ((members.new.items ≡ members.old.items) × (out.new ≡ out.old)) }
@@ -171,10 +191,11 @@ fn arrive_at(
     }
 }
 
-/// Lets an event other than an arrival happen to the nodes and the air.
-fn turn(
+/// Lets an event other than an arrival happen to the nodes, the air and the chooser.
+fn turn<P: Pick>(
     members: &mut Vec<Option<Member>>,
     air: &mut Vec<Sent>,
+    chooser: &mut Chooser<P>,
     alloc: Global,
     events: u64,
     stamp: u64,
@@ -183,15 +204,20 @@ fn turn(
     requires can { CanDoAt members.old.items event }
     requires there { is_some (slice_index_or members.old.items (node_of event) None) ≡ true }
     requires settled { AreSettled members.old.items }
-    ensures happens { IfOk result (λ h. Happens (stage members.old.items air.old.items) (stage members.new.items air.new.items) stamp event [] h.answer h.lost × (h.counted ≡ true)) }
-    ensures free { OnOk result ((events < 300000) × (is_recorded event ≡ true → has_room_at members.old.items (node_of event) ≡ true)) }
-    ensures stops { IfErr result (TurnStops events (is_recorded event) (has_room_at members.old.items (node_of event))) }
-    ensures err { OnErr result ((members.new.items ≡ members.old.items) × (air.new.items ≡ air.old.items)) }
+    ensures happens { IfOk result (λ h. Happens (stage members.old.items air.old.items)
+        (stage members.new.items air.new.items) stamp event [] h.answer h.lost × (h.counted ≡ true)) }
+    ensures chose { IfOk result (λ h. ChoosesAt P.gives members.old.items event h.answer chooser.old chooser.new) }
+    ensures free { OnOk result ((events < 300000)
+        × (is_recorded event ≡ true → has_room_at members.old.items (node_of event) ≡ true)) }
+    ensures stops { IfErr result
+        (TurnStops events (is_recorded event) (has_room_at members.old.items (node_of event))) }
+    ensures err { OnErr result ((members.new.items ≡ members.old.items) × (air.new.items ≡ air.old.items)
+        × (chooser.new ≡ chooser.old)) }
 {
     begin(events)?;
     let node = event.node();
     let mut out = Outbox::new(alloc);
-    let answer = happen_at(members, alloc, stamp, event, &mut out)?;
+    let answer = happen_at(members, chooser, alloc, stamp, event, &mut out)?;
     let lost = emit(members, air, node, out);
     Ok(Happened {
         answer,
@@ -214,10 +240,13 @@ fn arrive(
     requires there { is_some (slice_index_or members.old.items node None) ≡ true }
     requires settled { AreSettled members.old.items }
     requires sound { IsSound members.old.items air.old.items }
-    ensures arrives { IfOk result (λ h. IsArrival (stage members.old.items air.old.items) (stage members.new.items air.new.items) stamp node bearer place h.answer h.lost) }
-    ensures counted { IfOk result (λ h. h.counted ≡ counts_at members.old.items air.old.items (WorldEvent.Arrive node bearer place)) }
+    ensures arrives { IfOk result (λ h. IsArrival (stage members.old.items air.old.items)
+        (stage members.new.items air.new.items) stamp node bearer place h.answer h.lost) }
+    ensures counted { IfOk result (λ h.
+        h.counted ≡ counts_at members.old.items air.old.items (WorldEvent.Arrive node bearer place)) }
     ensures free { OnOk result (IsFree members.old.items air.old.items events (WorldEvent.Arrive node bearer place)) }
-    ensures stops { IfErr result (IsStopped members.old.items air.old.items events (WorldEvent.Arrive node bearer place)) }
+    ensures stops { IfErr result
+        (IsStopped members.old.items air.old.items events (WorldEvent.Arrive node bearer place)) }
     ensures err { OnErr result ((members.new.items ≡ members.old.items) × (air.new.items ≡ air.old.items)) }
 {
     let sent = match find(members, air, node, bearer, place) {
@@ -242,10 +271,11 @@ fn arrive(
     })
 }
 
-/// Lets an event happen to the nodes and the air.
-fn happen(
+/// Lets an event happen to the nodes, the air and the chooser.
+fn happen<P: Pick>(
     members: &mut Vec<Option<Member>>,
     air: &mut Vec<Sent>,
+    chooser: &mut Chooser<P>,
     alloc: Global,
     events: u64,
     stamp: u64,
@@ -254,11 +284,14 @@ fn happen(
     requires can { CanHappenAt members.old.items event }
     requires settled { AreSettled members.old.items }
     requires sound { IsSound members.old.items air.old.items }
-    ensures becomes { IfOk result (λ h. Becomes (stage members.old.items air.old.items) stamp event (stage members.new.items air.new.items) h.answer h.lost) }
+    ensures becomes { IfOk result (λ h. Becomes (stage members.old.items air.old.items) stamp event
+        (stage members.new.items air.new.items) h.answer h.lost) }
+    ensures chose { IfOk result (λ h. ChoosesAt P.gives members.old.items event h.answer chooser.old chooser.new) }
     ensures counted { IfOk result (λ h. h.counted ≡ counts_at members.old.items air.old.items event) }
     ensures free { OnOk result (IsFree members.old.items air.old.items events event) }
     ensures stops { IfErr result (IsStopped members.old.items air.old.items events event) }
-    ensures err { OnErr result ((members.new.items ≡ members.old.items) × (air.new.items ≡ air.old.items)) }
+    ensures err { OnErr result ((members.new.items ≡ members.old.items) × (air.new.items ≡ air.old.items)
+        × (chooser.new ≡ chooser.old)) }
 {
     match event {
         WorldEvent::Arrive {
@@ -266,15 +299,16 @@ fn happen(
             bearer,
             frame,
         } => arrive(members, air, alloc, events, stamp, node, bearer, frame),
-        other => turn(members, air, alloc, events, stamp, other),
+        other => turn(members, air, chooser, alloc, events, stamp, other),
     }
 }
 
-impl World {
-    /// A world without nodes.
-    pub fn new(alloc: Global) -> World
-        ensures empty { result ≡ no_nodes }
-        ensures good { IsGood result }
+impl<P: Pick> World<P> {
+    /// A world without nodes, whose messages by name go where the chooser says, from its turn 0 on.
+    pub fn new(alloc: Global, chooser: Chooser<P>) -> World<P>
+        requires start { chooser.turn ≡ 0 }
+        ensures empty { result ≡ record { state = no_nodes; chooser = chooser } }
+        ensures good { IsGood P.gives result }
     {
         World {
             members: Vec::new(alloc),
@@ -282,6 +316,7 @@ impl World {
             events: 0,
             stamps: 0,
             lost: false,
+            chooser,
         }
     }
 
@@ -292,11 +327,12 @@ impl World {
     /// NoMemory, and then nothing is changed.
     pub fn add_node(&mut self, alloc: Global, n: u8) -> Result<(), NoMemory>
         requires range { (1 ≤ n) × (n ≤ 32) }
-        requires absent { is_there self.old n ≡ false }
-        ensures joins { OnOk result (IsJoined self.old self.new n) }
-        ensures there { OnOk result ((m : ℕ) → is_there self.new m ≡ (m == n || is_there self.old m)) }
-        ensures grows { Grows self.old self.new }
-        ensures good { IsGood self.new }
+        requires absent { is_there self.old.state n ≡ false }
+        ensures joins { OnOk result (IsJoined self.old.state self.new.state n) }
+        ensures chooser { self.new.chooser ≡ self.old.chooser }
+        ensures there { OnOk result ((m : ℕ) → is_there self.new.state m ≡ (m == n || is_there self.old.state m)) }
+        ensures grows { Grows self.old.state self.new.state }
+        ensures good { IsGood P.gives self.new }
         ensures err { OnErr result (self.new ≡ self.old) }
     {
         let joined = self.join(alloc, n);
@@ -307,8 +343,9 @@ impl World {
     /// Adds a node.
     fn join(&mut self, alloc: Global, n: u8) -> Result<(), NoMemory>
         requires range { (1 ≤ n) × (n ≤ 32) }
-        requires absent { is_there self.old n ≡ false }
-        ensures joins { OnOk result (IsJoined self.old self.new n) }
+        requires absent { is_there self.old.state n ≡ false }
+        ensures joins { OnOk result (IsJoined self.old.state self.new.state n) }
+        ensures chooser { self.new.chooser ≡ self.old.chooser }
         ensures err { OnErr result (self.new ≡ self.old) }
     {
         add_at(&mut self.members, alloc, n)?;
@@ -321,14 +358,15 @@ impl World {
     ///
     /// Limit exactly where a limit is reached: at 300,000 events; where the journal of the node has no room for the call; and after an
     /// event that takes the air past 100,000 frames, which happened then. Else NoMemory. At all but the limit of frames nothing is
-    /// changed. The clause `stops` says so.
+    /// changed. The clause `stops` says so. To which match a message by name goes is a part of the clause `good`.
     pub fn step(&mut self, alloc: Global, event: WorldEvent) -> Result<Answer, WorldFault>
-        requires { CanHappen self.old event }
-        ensures answered { IfOk result (IsAnswered self.old event self.new) }
-        ensures stops { IfErr result (Stops self.old event self.new) }
-        ensures nodes { (m : ℕ) → is_there self.new m ≡ is_there self.old m }
-        ensures grows { Grows self.old self.new }
-        ensures good { IsGood self.new }
+        requires { CanHappen self.old.state event }
+        ensures answered { IfOk result (IsAnswered self.old.state event self.new.state) }
+        ensures stops { IfErr result (Stops self.old.state event self.new.state) }
+        ensures nodes { (m : ℕ) → is_there self.new.state m ≡ is_there self.old.state m }
+        ensures pick { self.new.chooser.pick ≡ self.old.chooser.pick }
+        ensures grows { Grows self.old.state self.new.state }
+        ensures good { IsGood P.gives self.new }
     {
         let answer = self.advance(alloc, event);
         let _ = &self.members;
@@ -337,14 +375,16 @@ impl World {
 
     /// Lets an event happen.
     fn advance(&mut self, alloc: Global, event: WorldEvent) -> Result<Answer, WorldFault>
-        requires { CanHappen self.old event }
-        ensures answered { IfOk result (IsAnswered self.old event self.new) }
-        ensures stops { IfErr result (Stops self.old event self.new) }
+        requires { CanHappen self.old.state event }
+        ensures answered { IfOk result (IsAnswered self.old.state event self.new.state) }
+        ensures stops { IfErr result (Stops self.old.state event self.new.state) }
+        ensures pick { self.new.chooser.pick ≡ self.old.chooser.pick }
     {
         let recorded = event.is_recorded();
         let happened = happen(
             &mut self.members,
             &mut self.air,
+            &mut self.chooser,
             alloc,
             self.events,
             self.stamps,

@@ -1,5 +1,5 @@
 use Rattle.tipc_node.proofs.Deliveries.{IsLeft}
 use Rattle.tipc_node.proofs.arriving.fits.Given as goal
 
-abbrev pub invariant-loop-delivery : goal.invariant-loop-delivery
-invariant-loop-delivery l = IsLeft l.deliveries l.delivery-index l.left
+abbrev pub invariant-loop-entry : goal.invariant-loop-entry
+invariant-loop-entry l = IsLeft l.entries l.entry-index l.left

@@ -1,24 +1,30 @@
 use Rattle.std.proofs.Common.{ap, ◌∙◌, ◌++◌, ◌∷◌, [], arith}
-use Rattle.tipc_node.proofs.Sendings.{many_pieces, many_wait, one_piece, one_waits, spelled_most}
+use Rattle.tipc_node.proofs.Sendings.{many_pieces, many_sendable, many_wait, one_piece, one_waits, sendable_by, spelled_most}
 use Rattle.tipc_node.proofs.sending.pieces.Goals as goal
 
 pub cut-requires-clause-within : goal.cut-requires-clause-within
-cut-requires-clause-within c = spelled_most c.args.message.now c.in_ok-packet.packet c.as_slice.result.now c.in_ok-packet.ensures.spelled c.as_slice.ensures
+cut-requires-clause-within c = spelled_most c.args.own.word c.args.message.now c.in_ok-packet.packet c.as_slice.result.now c.in_ok-packet.ensures.spelled c.as_slice.ensures
 
-pub returns-then-len-ge-LEAST_CUT-clause-spelled : goal.returns-then-len-ge-LEAST_CUT-clause-spelled
-returns-then-len-ge-LEAST_CUT-clause-spelled c =
+pub returns-then-len-ge-LEAST_CUT-clause-sendable : goal.returns-then-len-ge-LEAST_CUT-clause-sendable
+returns-then-len-ge-LEAST_CUT-clause-sendable c = many_sendable c.args.own.word c.args.message.now c.in_ok-packet.packet c.cut.result c.requires c.in_ok-packet.ensures.spelled
+
+pub returns-then-len-ge-LEAST_CUT-clause-value : goal.returns-then-len-ge-LEAST_CUT-clause-value
+returns-then-len-ge-LEAST_CUT-clause-value c =
     let long = c.if-len-ge-LEAST_CUT.true in
     let len = c.len.ensures in
-    many_pieces c.args.message.now c.in_ok-packet.packet c.as_slice.result.now c.cut.result c.in_ok-packet.ensures.spelled c.as_slice.ensures (omega (arith, long, len)) c.cut.ensures.packets
+    many_pieces c.args.own.word c.args.message.now c.in_ok-packet.packet c.as_slice.result.now c.cut.result c.in_ok-packet.ensures.spelled c.as_slice.ensures (omega (arith, long, len)) c.cut.ensures.packets
 
 pub returns-then-len-ge-LEAST_CUT-clause-waiting : goal.returns-then-len-ge-LEAST_CUT-clause-waiting
-returns-then-len-ge-LEAST_CUT-clause-waiting c = many_wait c.args.message.now c.in_ok-packet.packet c.as_slice.result.now c.cut.result c.in_ok-packet.ensures.spelled c.as_slice.ensures c.cut.ensures.packets
+returns-then-len-ge-LEAST_CUT-clause-waiting c = many_wait c.args.own.word c.args.message.now c.in_ok-packet.packet c.as_slice.result.now c.cut.result c.in_ok-packet.ensures.spelled c.as_slice.ensures c.cut.ensures.packets
 
-pub returns-clause-spelled : goal.returns-clause-spelled
-returns-clause-spelled c =
+pub returns-clause-sendable : goal.returns-clause-sendable
+returns-clause-sendable c = sendable_by c.args.own.word c.args.message.now c.in_ok-packet.packet c.requires c.in_ok-packet.ensures.spelled
+
+pub returns-clause-value : goal.returns-clause-value
+returns-clause-value c =
     let short = c.if-len-ge-LEAST_CUT.false in
     let len = c.len.ensures in
-    one_piece c.args.message.now c.in_ok-packet.packet c.push.new.self c.in_ok-packet.ensures.spelled (omega (arith, short, len)) (c.in_ok-push.ensures.ok ∙ ap (λ ps. ps ++ c.in_ok-packet.packet ∷ []) c.new-pieces.ensures)
+    one_piece c.args.own.word c.args.message.now c.in_ok-packet.packet c.push.new.self c.in_ok-packet.ensures.spelled (omega (arith, short, len)) (c.in_ok-push.ensures.ok ∙ ap (λ ps. ps ++ c.in_ok-packet.packet ∷ []) c.new-pieces.ensures)
 
 pub returns-clause-waiting : goal.returns-clause-waiting
-returns-clause-waiting c = one_waits c.args.message.now c.in_ok-packet.packet c.push.new.self c.in_ok-packet.ensures.spelled (c.in_ok-push.ensures.ok ∙ ap (λ ps. ps ++ c.in_ok-packet.packet ∷ []) c.new-pieces.ensures)
+returns-clause-waiting c = one_waits c.args.own.word c.args.message.now c.in_ok-packet.packet c.push.new.self c.in_ok-packet.ensures.spelled (c.in_ok-push.ensures.ok ∙ ap (λ ps. ps ++ c.in_ok-packet.packet ∷ []) c.new-pieces.ensures)

@@ -5,7 +5,7 @@ use Rattle.tipc_sim.specs.Meanings.{arrival_asked}
 use Rattle.tipc_sim.proofs.frames.deliver.Given as goal
 
 abbrev pub invariant-loop-place : goal.invariant-loop-place
-invariant-loop-place l = record {
-  goes : (count : ℕ) × Goes (arrival_asked Any) l.first l.fn.world l.place count l.world;
-  continues : Continues l.fn.world l.world;
+invariant-loop-place g l = record {
+  goes : (count : ℕ) × Goes (arrival_asked Any) l.first l.fn.world.state l.place count l.world.state;
+  continues : Continues g.P.Pick.gives l.fn.world l.world;
 }

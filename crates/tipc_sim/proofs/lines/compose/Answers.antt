@@ -3,7 +3,7 @@ use Rattle.tipc_sim.proofs.lines.compose.Goals.{in-Node+in_ok-add_node-in-Node, 
 use Rattle.tipc_sim.proofs.lines.compose.Goals as goal
 
 pub returns-clause-good : goal.returns-clause-good
-returns-clause-good c =
+returns-clause-good g c =
     elim c.match-line.branch [
       | in-Node+in_ok-add_node-in-Node w ↦ rw w.world-is w.add_node.ensures.good
       | in-Mend+in_ok-answer-in-Mend w ↦ rw w.world-is (w.mend.ensures.continues.good c.requires.good)
@@ -14,12 +14,12 @@ returns-clause-good c =
     ]
 
 pub returns-clause-grows : goal.returns-clause-grows
-returns-clause-grows c =
+returns-clause-grows g c =
     elim c.match-line.branch [
       | in-Node+in_ok-add_node-in-Node w ↦ rw w.world-is w.add_node.ensures.grows
       | in-Mend+in_ok-answer-in-Mend w ↦ rw w.world-is w.mend.ensures.continues.grown
       | in-Link+in_ok-answer-in-Link w ↦ rw w.world-is w.link_named.ensures.continues.grown
-      | in-Mark w ↦ rw w.world-is (grows_same c.args.world.now)
+      | in-Mark w ↦ rw w.world-is (grows_same c.args.world.now.state)
       | in-Pump+in_ok-answer-in-Pump w ↦ rw w.world-is w.pump_on.ensures.continues.grown
       | in-Settle+in_ok-answer-in-Settle w ↦ rw w.world-is w.settle.ensures.continues.grown
     ]

@@ -4,5 +4,5 @@ use Rattle.tipc_sim.specs.Meanings.{Links}
 use Rattle.tipc_sim.proofs.lines.link_named.Goals as goal
 
 pub returns-clause-comes : goal.returns-clause-comes
-returns-clause-comes c =
-    subst (λ named. Comes (Links named c.args.first c.args.second c.args.world.now) c.link.result c.link.new.world) (ap (λ notes. notes.named) c.in_ok-name.ensures.ok) c.link.ensures.comes
+returns-clause-comes g c =
+    subst (λ named. Comes (Links named c.args.first c.args.second c.args.world.now.state) c.link.result c.link.new.world.state) (ap (λ notes. notes.named) c.in_ok-name.ensures.ok) c.link.ensures.comes

@@ -7,25 +7,25 @@ use Rattle.tipc_sim.proofs.WorldLaws.{continues_same, continues_more}
 use Rattle.tipc_sim.proofs.linking.know_all.Goals as goal
 
 pub loop-peer-init : goal.loop-peer-init
-loop-peer-init c = record { goes = (0, begin); continues = continues_same c.args.world.now }
+loop-peer-init g c = record { goes = (0, begin); continues = continues_same c.args.world.now }
 
 pub know-requires : goal.know-requires
-know-requires c = c.loop-peer.invariant.continues.nodes c.args.node ∙ c.requires
+know-requires g c = c.loop-peer.invariant.continues.nodes c.args.node ∙ c.requires
 
 pub returns-in_err-know-clause-comes : goal.returns-in_err-know-clause-comes
-returns-in_err-know-clause-comes c =
+returns-in_err-know-clause-comes g c =
     let l = c.loop-peer in
     let p = err_from_is_err_and c.from_residual.result c.from_residual.ensures.1 in
-    rw (p.1, p.2) (all_halts (know_asked c.args.notes.now.named c.args.node) 1 33 c.args.world.now l.peer l.invariant.goes.0 l.world c.know.new.world c.in_err-know.field-0.0
+    rw (p.1, p.2) (all_halts (know_asked c.args.notes.now.named c.args.node) 1 33 c.args.world.now.state l.peer l.invariant.goes.0 l.world.state c.know.new.world.state c.in_err-know.field-0.0
     (omega (arith, c.loop-peer-test.true)) l.invariant.goes.1 c.in_err-know.ensures.comes)
 
 pub returns-in_err-know-clause-continues : goal.returns-in_err-know-clause-continues
-returns-in_err-know-clause-continues c = continues_more c.args.world.now c.loop-peer.world c.know.new.world c.loop-peer.invariant.continues c.know.ensures.continues
+returns-in_err-know-clause-continues g c = continues_more c.args.world.now c.loop-peer.world c.know.new.world c.loop-peer.invariant.continues c.know.ensures.continues
 
 pub loop-peer-preserved : goal.loop-peer-preserved
-loop-peer-preserved c =
+loop-peer-preserved g c =
     let l = c.loop-peer in
     record {
-      goes = (_, go_on l.peer l.invariant.goes.0 l.world c.in_ok-know.field-0 c.know.new.world l.invariant.goes.1 c.in_ok-know.ensures.comes);
+      goes = (_, go_on l.peer l.invariant.goes.0 l.world.state c.in_ok-know.field-0 c.know.new.world.state l.invariant.goes.1 c.in_ok-know.ensures.comes);
       continues = continues_more c.args.world.now l.world c.know.new.world l.invariant.continues c.know.ensures.continues;
     }

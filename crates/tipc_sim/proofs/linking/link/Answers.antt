@@ -8,18 +8,18 @@ use Rattle.tipc_sim.proofs.WorldLaws.{continues_more}
 use Rattle.tipc_sim.proofs.linking.link.Goals as goal
 
 pub returns-in_err-drain-clause-comes : goal.returns-in_err-drain-clause-comes
-returns-in_err-drain-clause-comes c =
+returns-in_err-drain-clause-comes g c =
     let named = c.args.notes.now.named in
-    let start = c.args.world.now in
-    let now = c.drain.new.world in
+    let start = c.args.world.now.state in
+    let now = c.drain.new.world.state in
     let place = c.air_len-place.result in
     let p = err_from_is_err_and c.from_residual-in_err-drain.result c.from_residual-in_err-drain.ensures.1 in
     rw (p.1, p.2) (links_halt named c.args.first c.args.second place start now c.in_err-drain.field-0.0 c.air_len-place.ensures.len
-    (then_came (Joins named c.args.first c.args.second) (Drains (arrival_asked (Both c.args.first c.args.second)) place) start c.join.new.world now _ (Err c.in_err-drain.field-0.0)
+    (then_came (Joins named c.args.first c.args.second) (Drains (arrival_asked (Both c.args.first c.args.second)) place) start c.join.new.world.state now _ (Err c.in_err-drain.field-0.0)
     c.in_ok-join.ensures.comes c.in_err-drain.ensures.comes))
 
 pub returns-in_err-drain-clause-continues : goal.returns-in_err-drain-clause-continues
-returns-in_err-drain-clause-continues c = continues_more c.args.world.now c.join.new.world c.drain.new.world c.join.ensures.continues c.drain.ensures.continues
+returns-in_err-drain-clause-continues g c = continues_more c.args.world.now c.join.new.world c.drain.new.world c.join.ensures.continues c.drain.ensures.continues
 
 pub returns-clause-continues : goal.returns-clause-continues
-returns-clause-continues c = continues_more c.args.world.now c.join.new.world c.drain.new.world c.join.ensures.continues c.drain.ensures.continues
+returns-clause-continues g c = continues_more c.args.world.now c.join.new.world c.drain.new.world c.join.ensures.continues c.drain.ensures.continues

@@ -6,11 +6,11 @@ use Rattle.tipc_sim.specs.Messages.{is_message, Repeats}
 use Rattle.tipc_sim.proofs.messages.receive_all.Given as goal
 
 abbrev pub decreases-loop-answer : goal.decreases-loop-answer
-decreases-loop-answer l = 300000 - l.world.events
+decreases-loop-answer g l = 300000 - l.world.state.events
 
 abbrev pub invariant-loop-answer : goal.invariant-loop-answer
-invariant-loop-answer l = record {
-  passed : Repeats (event.Call l.at.node (call.Receive l.at.port)) is_message l.fn.world l.count l.world;
-  continues : Continues l.fn.world l.world;
-  fewer : l.count ≤ l.world.events;
+invariant-loop-answer g l = record {
+  passed : Repeats (event.Call l.at.node (call.Receive l.at.port)) is_message l.fn.world.state l.count l.world.state;
+  continues : Continues g.P.Pick.gives l.fn.world l.world;
+  fewer : l.count ≤ l.world.state.events;
 }

@@ -8,7 +8,7 @@ use Rattle.tipc_sim.proofs.running.run_lines.Goals as goal
 
 pub loop-rest-init : goal.loop-rest-init
 loop-rest-init g c = record {
-  under_way = subst (λ n. IsUnderWay c.args.script.now c.args.script.now 0 (scene c.args.world.now no_notes) (scene c.args.world.now n) (g.K.Sink.contents c.args.sink.now) (g.K.Sink.contents c.args.sink.now)) (sym c.new-notes.ensures) (begins c.args.script.now c.args.world.now (g.K.Sink.contents c.args.sink.now) c.requires.empty);
+  under_way = subst (λ n. IsUnderWay c.args.script.now c.args.script.now 0 (scene c.args.world.now.state no_notes) (scene c.args.world.now.state n) (g.K.Sink.contents c.args.sink.now) (g.K.Sink.contents c.args.sink.now)) (sym c.new-notes.ensures) (begins c.args.script.now c.args.world.now.state (g.K.Sink.contents c.args.sink.now) c.requires.empty);
   shorter = omega arith;
   good = c.requires.good;
   kept = c.requires.kept;
@@ -19,7 +19,7 @@ loop-rest-init g c = record {
 pub returns-in-Err-clause-report : goal.returns-in-Err-clause-report
 returns-in-Err-clause-report g c =
     let l = c.loop-rest in
-    stops c.args.script.now l.rest.now c.first_line.result.0.now c.first_line.result.1.now l.done c.args.world.now (scene l.world l.notes) (scene c.run_line.new.world c.run_line.new.notes)
+    stops c.args.script.now l.rest.now c.first_line.result.0.now c.first_line.result.1.now l.done c.args.world.now.state (scene l.world.state l.notes) (scene c.run_line.new.world.state c.run_line.new.notes)
     (g.K.Sink.contents c.args.sink.now) (g.K.Sink.contents l.sink) (g.K.Sink.contents c.run_line.new.sink) c.in-Err.status
     l.invariant.under_way c.first_line.ensures.lines c.in-Err.ensures.run
 
@@ -29,7 +29,7 @@ loop-rest-preserved g c =
     let inv = l.invariant in
     let run = c.run_line.ensures in
     record {
-      under_way = goes_on c.args.script.now l.rest.now c.first_line.result.0.now c.first_line.result.1.now l.done (scene c.args.world.now no_notes) (scene l.world l.notes) (scene c.run_line.new.world c.run_line.new.notes)
+      under_way = goes_on c.args.script.now l.rest.now c.first_line.result.0.now c.first_line.result.1.now l.done (scene c.args.world.now.state no_notes) (scene l.world.state l.notes) (scene c.run_line.new.world.state c.run_line.new.notes)
           (g.K.Sink.contents c.args.sink.now) (g.K.Sink.contents l.sink) (g.K.Sink.contents c.run_line.new.sink)
           inv.under_way c.first_line.ensures.lines c.in_default.ensures.run;
       shorter = omega (arith, inv.shorter, c.first_line.ensures.shorter);
@@ -42,8 +42,8 @@ loop-rest-preserved g c =
 pub returns-clause-report : goal.returns-clause-report
 returns-clause-report g c =
     let l = c.loop-rest in
-    ends_whole c.args.script.now l.rest.now l.done c.args.world.now (scene l.world l.notes) (g.K.Sink.contents c.args.sink.now) (g.K.Sink.contents l.sink)
+    ends_whole c.args.script.now l.rest.now l.done c.args.world.now.state (scene l.world.state l.notes) (g.K.Sink.contents c.args.sink.now) (g.K.Sink.contents l.sink)
     l.invariant.under_way (emptied l.rest.now c.is_empty.result c.is_empty.ensures c.loop-rest-test.false)
 
 pub returns-clause-sound : goal.returns-clause-sound
-returns-clause-sound g c = λ ok. sound_at_end c.args.script.now c.args.world.now c.loop-rest.world (g.K.Sink.contents c.args.sink.now) (g.K.Sink.contents c.loop-rest.sink) _ ok (returns-clause-report g c)
+returns-clause-sound g c = λ ok. sound_at_end c.args.script.now c.args.world.now.state c.loop-rest.world.state (g.K.Sink.contents c.args.sink.now) (g.K.Sink.contents c.loop-rest.sink) _ ok (returns-clause-report g c)

@@ -10,10 +10,10 @@ decreases-loop-rest g l = length l.rest
 
 abbrev pub invariant-loop-rest : goal.invariant-loop-rest
 invariant-loop-rest g l = record {
-  under_way : IsUnderWay l.script l.rest l.done (scene l.fn.world no_notes) (scene l.world l.notes) (g.K.Sink.contents l.fn.sink) (g.K.Sink.contents l.sink);
+  under_way : IsUnderWay l.script l.rest l.done (scene l.fn.world.state no_notes) (scene l.world.state l.notes) (g.K.Sink.contents l.fn.sink) (g.K.Sink.contents l.sink);
   shorter : length l.rest ≤ length l.script;
-  good : IsGood l.world;
-  kept : l.world.lost ≡ false;
+  good : IsGood g.P.Pick.gives l.world;
+  kept : l.world.state.lost ≡ false;
   later : g.K.Sink.faults l.fn.sink ≤ g.K.Sink.faults l.sink;
   no_fewer : g.K.Sink.stalls l.fn.sink ≤ g.K.Sink.stalls l.sink;
 }

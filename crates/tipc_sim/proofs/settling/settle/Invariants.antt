@@ -4,8 +4,8 @@ use Rattle.tipc_sim.specs.Meanings.{Rounds}
 use Rattle.tipc_sim.proofs.settling.settle.Given as goal
 
 abbrev pub invariant-loop : goal.invariant-loop
-invariant-loop l = record {
-  made : Rounds l.fn.world l.counter l.place l.world;
-  continues : Continues l.fn.world l.world;
-  within : l.place ≤ length l.world.air;
+invariant-loop g l = record {
+  made : Rounds l.fn.world.state l.counter l.place l.world.state;
+  continues : Continues g.P.Pick.gives l.fn.world l.world;
+  within : l.place ≤ length l.world.state.air;
 }

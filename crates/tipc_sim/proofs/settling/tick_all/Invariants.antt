@@ -4,7 +4,7 @@ use Rattle.tipc_sim.specs.Meanings.{tick_asked}
 use Rattle.tipc_sim.proofs.settling.tick_all.Given as goal
 
 abbrev pub invariant-loop-node : goal.invariant-loop-node
-invariant-loop-node l = record {
-  goes : (count : ℕ) × Goes tick_asked 1 l.fn.world l.node count l.world;
-  continues : Continues l.fn.world l.world;
+invariant-loop-node g l = record {
+  goes : (count : ℕ) × Goes tick_asked 1 l.fn.world.state l.node count l.world.state;
+  continues : Continues g.P.Pick.gives l.fn.world l.world;
 }

@@ -5,12 +5,15 @@ use Rattle.tipc_world.specs.Air.{Emits}
 use Rattle.tipc_world.specs.Due.{frame_for, unarrived}
 use Rattle.tipc_world.specs.Events.{DidAt}
 use Rattle.tipc_world.specs.Sound.{IsSound}
-use Rattle.tipc_world.proofs.Happening.{arrival_of, happens_of, senders_of}
+use Rattle.tipc_world.proofs.Happening.{arrival_of, happens_of, senders_of, there_settled}
 use Rattle.tipc_world.proofs.worlds.arrive.Goals as goal
 
 pub find-requires-clause-senders : goal.find-requires-clause-senders
 find-requires-clause-senders c =
     senders_of c.args.members.now.items c.deref-2.result.now (subst (IsSound c.args.members.now.items) (sym c.deref-2.ensures.value) c.requires.sound)
+
+pub emit-lost-requires : goal.emit-lost-requires
+emit-lost-requires c = there_settled c.args.members.now.items c.args.node c.requires.settled c.requires.there
 
 pub returns-clause-arrives : goal.returns-clause-arrives
 returns-clause-arrives c =

@@ -1,19 +1,18 @@
 use Rattle.std.proofs.Common.{◌∙◌, ap, sym, subst}
 use Rattle.tipc_node.specs.Nodes.{NodeState, neighbour_of}
 use Rattle.tipc_node.specs.Telling.{IsTold}
-use Rattle.tipc_node.specs.Turns.{AreNamed}
-use Rattle.tipc_node.proofs.Named.{known_named}
+use Rattle.tipc_node.proofs.Keeping.{Held, held_of, kept_of}
+use Rattle.tipc_node.proofs.Kept.{known_kept}
 use Rattle.tipc_node.proofs.Told.{known_told}
 use Rattle.tipc_node.proofs.nodes.Node.know.Goals as goal
 
 pub invariant_of-self : goal.invariant_of-self
 invariant_of-self c =
-    let alone = ap (λ (n : NodeState). neighbour_of n c.args.peer) c.self.view_is ∙ c.requires.alone in (
-      subst IsTold (sym c.know.ensures.after) (known_told c.self.inside.core c.args.peer alone c.self.invariant.0),
-      subst AreNamed (sym c.know.ensures.after) (known_named c.self.inside.core c.args.peer c.self.invariant.1),
-    )
+    let n = c.self.inside.core in
+    let alone = ap (λ (x : NodeState). neighbour_of x c.args.peer) c.self.view_is ∙ c.requires.alone in
+    subst Held (sym c.know.ensures.after) (held_of _ (known_kept n c.args.peer c.requires.peer.0 alone (kept_of n c.self.invariant)))
 
 pub returns-clause-told : goal.returns-clause-told
 returns-clause-told c =
-    let alone = ap (λ (n : NodeState). neighbour_of n c.args.peer) c.self.view_is ∙ c.requires.alone in
-    subst IsTold (sym c.know.ensures.after) (known_told c.self.inside.core c.args.peer alone c.self.invariant.0)
+    let alone = ap (λ (x : NodeState). neighbour_of x c.args.peer) c.self.view_is ∙ c.requires.alone in
+    subst IsTold (sym c.know.ensures.after) (known_told c.self.inside.core c.args.peer c.requires.peer.0 alone c.self.invariant.0)

@@ -1,8 +1,20 @@
-use Rattle.tipc_node.proofs.Keeping.{new_named, new_told}
+use Rattle.std.proofs.Common.{◌∙◌, ap, sym}
+use Rattle.tipc_sockets.specs.SocketTables.{no_sockets}
+use Rattle.tipc_node.proofs.Keeping.{held_of}
+use Rattle.tipc_node.proofs.Kept.{new_kept}
+use Rattle.tipc_node.proofs.Told.{new_told}
 use Rattle.tipc_node.proofs.nodes.Node.new.Goals as goal
 
 pub invariant_of-result : goal.invariant_of-result
-invariant_of-result c = (new_told c.in_ok-new.field-0 c.in_ok-new.ensures.empty.1 c.in_ok-new.ensures.alone, new_named c.in_ok-new.field-0 c.in_ok-new.ensures.alone)
+invariant_of-result c =
+    let n = c.in_ok-core.core in
+    let made = c.in_ok-core.ensures in
+    let none = made.empty.0 ∙ ap (λ w. no_sockets w c.args.boot) (sym made.own.0) ∙ ap (no_sockets n.own) (sym made.own.1) in
+    held_of n (new_kept n none c.sound.ensures.sockets made.empty.1 made.alone)
 
 pub returns-clause-told : goal.returns-clause-told
-returns-clause-told c = new_told c.in_ok-new.field-0 c.in_ok-new.ensures.empty.1 c.in_ok-new.ensures.alone
+returns-clause-told c =
+    let n = c.in_ok-core.core in
+    let made = c.in_ok-core.ensures in
+    let none = made.empty.0 ∙ ap (λ w. no_sockets w c.args.boot) (sym made.own.0) ∙ ap (no_sockets n.own) (sym made.own.1) in
+    new_told n none c.sound.ensures.sockets made.empty.1 made.alone

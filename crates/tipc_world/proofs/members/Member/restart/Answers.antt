@@ -1,5 +1,6 @@
 use Rattle.std.proofs.Common.{◌≡◌, ◌<◌, ◌+◌, ◌++◌, ◌∷◌, ◌∙◌, ℕ, [], None, map, ap, refl, sym, subst}
 use Rattle.std.proofs.lemmas.List.{map-append}
+use Rattle.tipc_sockets.specs.SocketTables.{no_sockets}
 use Rattle.tipc_node.specs.Turns.{link_in}
 use Rattle.tipc_world.specs.Members.{IsFresh, IsRestarted}
 use Rattle.tipc_world.specs.States.{MemberState}
@@ -15,7 +16,7 @@ returns-clause-ok c =
       boot_is = c.in_ok-next.ensures.own.1 ∙ ap (λ b. b + 1) c.boot.ensures;
       cut = c.in_ok-next.ensures.own.2;
       alone = c.in_ok-next.ensures.alone;
-      no_sockets = c.in_ok-next.ensures.empty.0;
+      sockets = c.in_ok-next.ensures.empty.0 ∙ ap (λ own. no_sockets own (c.boot.result + 1)) c.own.ensures ∙ ap (λ b. no_sockets m.node.own (b + 1)) c.boot.ensures;
       no_history = c.in_ok-next.ensures.empty.1;
     }) in
     let past : map (λ j. j.entries) c.push_reserved.new.self.items ≡ m.past ++ m.node.journal ∷ [] =

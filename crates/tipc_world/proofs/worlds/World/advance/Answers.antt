@@ -1,22 +1,24 @@
 use Rattle.std.proofs.Common.{◌<◌, ◌≤◌, List, length, subst, sym}
 use Rattle.tipc_world.specs.declared.air.Sent.{Sent}
+use Rattle.tipc_world.specs.Answered.{AreOrderly}
 use Rattle.tipc_world.specs.Calls.{CanHappen}
 use Rattle.tipc_world.specs.Limits.{IsAnswered, PassesFrames}
 use Rattle.tipc_world.specs.Events.{IsSteady}
 use Rattle.tipc_world.specs.Sound.{IsSound}
 use Rattle.tipc_world.specs.Watched.{AreWatched}
-use Rattle.tipc_world.specs.States.{WorldState}
+use Rattle.tipc_world.specs.States.{WorldState, WorldView}
 use Rattle.tipc_world.proofs.Advancing.{answered_of, passes_of, world_with, Counts}
 use Rattle.tipc_world.proofs.Boots.{next_boots, settled_of, steady_after}
 use Rattle.tipc_world.proofs.KeptWorlds.{becomes_watched}
+use Rattle.tipc_world.proofs.Orderly.{orderly_after}
 use Rattle.tipc_world.proofs.SoundWorlds.{becomes_sound}
 use Rattle.tipc_world.proofs.worlds.World.advance.Goals as goal
 
 pub happen-requires-clause-settled : goal.happen-requires-clause-settled
-happen-requires-clause-settled c = settled_of _ _ _ _ c.self.invariant.0 c.self.invariant.1
+happen-requires-clause-settled g c = settled_of _ _ _ _ c.self.invariant.0 c.self.invariant.1
 
 pub invariant_of-self-then-is_over : goal.invariant_of-self-then-is_over
-invariant_of-self-then-is_over c =
+invariant_of-self-then-is_over g c =
     let w = c.self.inside in
     let old : WorldState = record { members = w.members.items; air = w.air.items; events = w.events; stamps = w.stamps; lost = w.lost } in
     let h = c.in_ok-happened.ensures in
@@ -29,13 +31,14 @@ invariant_of-self-then-is_over c =
       events_are = c.after-self-inside.ensures;
       stamps_are = c.after-self-inside-2.ensures;
     } in (
-      becomes_sound _ _ _ _ _ _ c.self.invariant.0 (next_boots _ _ _ _ c.self.invariant.0 c.self.invariant.1) (subst (λ (o : WorldState). CanHappen o c.args.event) (sym c.self.view_is) c.requires) h.becomes,
+      becomes_sound _ _ _ _ _ _ c.self.invariant.0 (next_boots _ _ _ _ c.self.invariant.0 c.self.invariant.1) (subst (λ (o : WorldView _). CanHappen o.state c.args.event) (sym c.self.view_is) c.requires) h.becomes,
       steady_after old _ _ _ _ _ _ _ _ h.becomes counts h.free c.self.invariant.1,
-      becomes_watched _ _ _ _ _ _ c.self.invariant.0 c.self.invariant.2 (next_boots _ _ _ _ c.self.invariant.0 c.self.invariant.1) (subst (λ (o : WorldState). CanHappen o c.args.event) (sym c.self.view_is) c.requires) h.becomes,
+      becomes_watched _ _ _ _ _ _ c.self.invariant.0 c.self.invariant.2 (next_boots _ _ _ _ c.self.invariant.0 c.self.invariant.1) (subst (λ (o : WorldView _). CanHappen o.state c.args.event) (sym c.self.view_is) c.requires) h.becomes,
+      orderly_after g.P.Pick.gives old _ _ _ _ _ _ _ _ _ _ (subst (λ (o : WorldView _). CanHappen o.state c.args.event) (sym c.self.view_is) c.requires) c.self.invariant.0 h.becomes counts h.chose c.self.invariant.3,
     )
 
 pub invariant_of-self-2 : goal.invariant_of-self-2
-invariant_of-self-2 c =
+invariant_of-self-2 g c =
     let w = c.self.inside in
     let old : WorldState = record { members = w.members.items; air = w.air.items; events = w.events; stamps = w.stamps; lost = w.lost } in
     let h = c.in_ok-happened.ensures in
@@ -48,13 +51,14 @@ invariant_of-self-2 c =
       events_are = c.after-self-inside.ensures;
       stamps_are = c.after-self-inside-2.ensures;
     } in (
-      becomes_sound _ _ _ _ _ _ c.self.invariant.0 (next_boots _ _ _ _ c.self.invariant.0 c.self.invariant.1) (subst (λ (o : WorldState). CanHappen o c.args.event) (sym c.self.view_is) c.requires) h.becomes,
+      becomes_sound _ _ _ _ _ _ c.self.invariant.0 (next_boots _ _ _ _ c.self.invariant.0 c.self.invariant.1) (subst (λ (o : WorldView _). CanHappen o.state c.args.event) (sym c.self.view_is) c.requires) h.becomes,
       steady_after old _ _ _ _ _ _ _ _ h.becomes counts h.free c.self.invariant.1,
-      becomes_watched _ _ _ _ _ _ c.self.invariant.0 c.self.invariant.2 (next_boots _ _ _ _ c.self.invariant.0 c.self.invariant.1) (subst (λ (o : WorldState). CanHappen o c.args.event) (sym c.self.view_is) c.requires) h.becomes,
+      becomes_watched _ _ _ _ _ _ c.self.invariant.0 c.self.invariant.2 (next_boots _ _ _ _ c.self.invariant.0 c.self.invariant.1) (subst (λ (o : WorldView _). CanHappen o.state c.args.event) (sym c.self.view_is) c.requires) h.becomes,
+      orderly_after g.P.Pick.gives old _ _ _ _ _ _ _ _ _ _ (subst (λ (o : WorldView _). CanHappen o.state c.args.event) (sym c.self.view_is) c.requires) c.self.invariant.0 h.becomes counts h.chose c.self.invariant.3,
     )
 
 pub returns-then-is_over-clause-stops : goal.returns-then-is_over-clause-stops
-returns-then-is_over-clause-stops c =
+returns-then-is_over-clause-stops g c =
     let w = c.self.inside in
     let old : WorldState = record { members = w.members.items; air = w.air.items; events = w.events; stamps = w.stamps; lost = w.lost } in
     let h = c.in_ok-happened.ensures in
@@ -68,11 +72,11 @@ returns-then-is_over-clause-stops c =
       stamps_are = c.after-self-inside-2.ensures;
     } in
     let over = c.is_over.ensures.over c.if-is_over.true in
-    subst (λ (o : WorldState). PassesFrames o c.args.event (world_with old c.happen.new.members.items c.happen.new.air.items c.after-self-inside.result c.after-self-inside-2.result c.in_ok-happened.happened.lost)) c.self.view_is
+    subst (λ (o : WorldView _). PassesFrames o.state c.args.event (world_with old c.happen.new.members.items c.happen.new.air.items c.after-self-inside.result c.after-self-inside-2.result c.in_ok-happened.happened.lost)) c.self.view_is
     (passes_of old _ _ _ _ _ _ _ _ h.becomes counts h.free over.0 (subst (λ (air : List Sent). 100000 < length air) c.as_slice.ensures.value over.1))
 
 pub returns-clause-answered : goal.returns-clause-answered
-returns-clause-answered c =
+returns-clause-answered g c =
     let w = c.self.inside in
     let old : WorldState = record { members = w.members.items; air = w.air.items; events = w.events; stamps = w.stamps; lost = w.lost } in
     let h = c.in_ok-happened.ensures in
@@ -86,12 +90,13 @@ returns-clause-answered c =
       stamps_are = c.after-self-inside-2.ensures;
     } in
     let within = c.is_over.ensures.within c.if-is_over.false in
-    subst (λ (o : WorldState). IsAnswered o c.args.event (world_with old c.happen.new.members.items c.happen.new.air.items c.after-self-inside.result c.after-self-inside-2.result c.in_ok-happened.happened.lost) c.in_ok-happened.happened.answer) c.self.view_is
+    subst (λ (o : WorldView _). IsAnswered o.state c.args.event (world_with old c.happen.new.members.items c.happen.new.air.items c.after-self-inside.result c.after-self-inside-2.result c.in_ok-happened.happened.lost) c.in_ok-happened.happened.answer) c.self.view_is
     (answered_of old _ _ _ _ _ _ _ _ h.becomes counts h.free (λ is. subst (λ (air : List Sent). length air ≤ 100000) c.as_slice.ensures.value (within is)))
 
 pub invariant_of-self : goal.invariant_of-self
-invariant_of-self c =
+invariant_of-self g c =
     let w = c.self.inside in
     let same = c.in_err-happened.ensures.err in
-    subst (λ ms. IsSound ms c.happen.new.air.items × IsSteady ms w.events w.stamps × AreWatched ms c.happen.new.air.items) (sym same.0)
-    (subst (λ air. IsSound w.members.items air × IsSteady w.members.items w.events w.stamps × AreWatched w.members.items air) (sym same.1) c.self.invariant)
+    subst (λ ms. IsSound ms c.happen.new.air.items × IsSteady ms w.events w.stamps × AreWatched ms c.happen.new.air.items × AreOrderly g.P.Pick.gives ms w.stamps c.happen.new.chooser) (sym same.0)
+    (subst (λ air. IsSound w.members.items air × IsSteady w.members.items w.events w.stamps × AreWatched w.members.items air × AreOrderly g.P.Pick.gives w.members.items w.stamps c.happen.new.chooser) (sym same.1)
+    (subst (λ k. IsSound w.members.items w.air.items × IsSteady w.members.items w.events w.stamps × AreWatched w.members.items w.air.items × AreOrderly g.P.Pick.gives w.members.items w.stamps k) (sym same.2) c.self.invariant))

@@ -1,0 +1,79 @@
+-- The answers of calls: the journal keeps all of each, but for a message that was received, and none tells of an arrival.
+use Rattle.std.proofs.Common.{◌≡◌, ℕ, List, [], ◌∷◌, Option, Some, None, length, nat_le, refl, subst}
+use Rattle.std.specs.Prelude.{◌==◌, ◌||◌, if◌then◌else◌}
+use Rattle.tipc_types.specs.declared.identity.Addr.{Addr}
+use Rattle.tipc_types.specs.declared.message_forms.Message.{Message}
+use Rattle.tipc_types.specs.declared.node_calls.Answer.{Answer}
+use Rattle.tipc_types.specs.declared.node_calls.Answer.TheVariants as answer
+use Rattle.tipc_types.specs.declared.services.Publication.{Publication}
+use Rattle.tipc_journal.specs.Refusals.{longest_body, most_sockets, most_sockets_made}
+use Rattle.tipc_link.specs.Sessions.{SessionEnd}
+use Rattle.tipc_sockets.specs.declared.publishing.PublishFault.{PublishFault}
+use Rattle.tipc_sockets.specs.declared.publishing.PublishFault.TheVariants as fault
+use Rattle.tipc_sockets.specs.Publishing.{publish_refusal, published_at}
+use Rattle.tipc_sockets.specs.SocketTables.{SocketTable, has_port}
+use Rattle.tipc_node.specs.Calls.{link_refusal, sender_refusal, way_refusal}
+use Rattle.tipc_node.specs.Nodes.{NodeState, session_with}
+use Rattle.tipc_node.specs.Sockets.{first_answer, kept_answer, key_refusal, port_refusal, publication_refusal, refused_publication, socket_refusal, withdrawal_refusal}
+use Rattle.tipc_node.specs.Works.{neighbour_at}
+use Rattle.tipc_node.proofs.Addressing.{either}
+use Rattle.tipc_node.proofs.Turning.{IsUntaken}
+
+-- an answer of which the journal keeps all, and which isn't an arrival's
+pub record IsPlain (a : Answer) : Type 0 where
+  pub kept : kept_answer a ≡ a
+  pub untaken : IsUntaken a
+
+-- so is a reason, where there is one
+abbrev pub IsPlainIn : Option Answer → Type 0
+IsPlainIn None = Unit {0}
+IsPlainIn (Some a) = IsPlain a
+
+pub plain_reason : (o : Option Answer) (reason : Answer) → IsPlainIn o → o ≡ Some reason → IsPlain reason
+plain_reason o reason plain is = subst IsPlainIn is plain
+
+pub socket_plain : (s : SocketTable) → IsPlainIn (socket_refusal s)
+socket_plain s = either IsPlainIn (nat_le most_sockets (length s.ports.present) || nat_le most_sockets_made s.ports.made) (Some (answer.Full most_sockets)) None (record { kept = refl; untaken = tt }) tt
+
+no_socket : IsPlainIn (Some answer.NoSocket)
+no_socket = record { kept = refl; untaken = tt }
+
+pub port_plain : (s : SocketTable) (port : ℕ) → IsPlainIn (port_refusal s port)
+port_plain s port = either IsPlainIn (has_port s port) None (Some answer.NoSocket) tt no_socket
+
+publish_plain : (o : Option PublishFault) → IsPlainIn (refused_publication o)
+publish_plain None = tt
+publish_plain (Some fault.NoSocket) = record { kept = refl; untaken = tt }
+publish_plain (Some fault.Reserved) = record { kept = refl; untaken = tt }
+publish_plain (Some (fault.Duplicate key)) = record { kept = refl; untaken = tt }
+publish_plain (Some fault.Full) = record { kept = refl; untaken = tt }
+publish_plain (Some fault.NoMemory) = record { kept = refl; untaken = tt }
+
+pub publication_plain : (s : SocketTable) (port kind key : ℕ) → IsPlainIn (publication_refusal s port kind key)
+publication_plain s port kind key = publish_plain (publish_refusal s port kind key)
+
+key_plain : (o : Option Publication) → IsPlainIn (key_refusal o)
+key_plain None = record { kept = refl; untaken = tt }
+key_plain (Some p) = tt
+
+pub withdrawal_plain : (s : SocketTable) (port key : ℕ) → IsPlainIn (withdrawal_refusal s port key)
+withdrawal_plain s port key = either IsPlainIn (has_port s port) (key_refusal (published_at s port key)) (Some answer.NoSocket) (key_plain (published_at s port key)) no_socket
+
+pub sender_plain : (n : NodeState) (port : ℕ) (body : List ℕ) → IsPlainIn (sender_refusal n port body)
+sender_plain n port body =
+    let long : IsPlainIn (Some (answer.TooLong (length body))) = record { kept = refl; untaken = tt } in
+    either IsPlainIn (has_port n.sockets port) (if nat_le (length body) longest_body then None else Some (answer.TooLong (length body))) (Some answer.NoSocket)
+    (either IsPlainIn (nat_le (length body) longest_body) None (Some (answer.TooLong (length body))) tt long) no_socket
+
+link_plain : (o : Option SessionEnd) (limit : ℕ) → IsPlainIn (link_refusal o limit)
+link_plain None limit = record { kept = refl; untaken = tt }
+link_plain (Some s) limit =
+    either IsPlainIn (nat_le limit (length s.sending.waiting)) (Some (answer.Congested (length s.sending.unacked) (length s.sending.waiting))) None (record { kept = refl; untaken = tt }) tt
+
+pub way_plain : (n : NodeState) (node : Addr) (limit : ℕ) → IsPlainIn (way_refusal n node limit)
+way_plain n node limit =
+    either IsPlainIn (node.word == n.own) None (link_refusal (session_with (neighbour_at n.neighbours node)) limit) tt (link_plain (session_with (neighbour_at n.neighbours node)) limit)
+
+pub received_untaken : (queue : List Message) → IsUntaken (kept_answer (first_answer queue))
+received_untaken [] = tt
+received_untaken (m ∷ queue) = tt

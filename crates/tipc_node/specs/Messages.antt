@@ -1,0 +1,59 @@
+-- The messages that a node sends, and their packets.
+use Rattle.std.specs.Prelude.{◌≡◌, ℕ, false, List, [], Option, Some, None}
+use Rattle.tipc_types.specs.declared.identity.Addr.{Addr}
+use Rattle.tipc_types.specs.declared.identity.PortId.{PortId}
+use Rattle.tipc_types.specs.declared.message_forms.Form.TheVariants as form
+use Rattle.tipc_types.specs.declared.message_forms.Importance.{Importance}
+use Rattle.tipc_types.specs.declared.message_forms.Importance.TheVariants.{Low, Medium, High, Critical}
+use Rattle.tipc_types.specs.declared.message_forms.Message.{Message}
+use Rattle.tipc_types.specs.declared.message_forms.Message.TheVariants.{Payload, Items}
+use Rattle.tipc_header.specs.Grammar.{Fits}
+use Rattle.tipc_header.specs.Reading.{fields_at}
+use Rattle.tipc_header.specs.Spelling.{Fields, spelling}
+use Rattle.tipc_message.specs.Wire.{IsPayload, message_of, packet_of}
+
+-- ---- packets
+
+abbrev pub spelled : Option Fields → List ℕ
+spelled (Some p) = spelling p
+spelled None = []
+
+-- the bytes of a message's packet, as it waits to be sent by a node of this address
+unfoldable pub bytes_of : ℕ → Message → List ℕ
+bytes_of own message = spelled (packet_of own message)
+
+-- a user's message that a node of this address may send: a packet carries it
+pub record IsSendable (own : ℕ) (m : Message) : Type 0 where
+  pub packet : Fields
+  pub packet_is : packet_of own m ≡ Some packet
+  pub fits : Fits packet
+  pub payload : IsPayload m
+
+-- the message that a packet carries, where it carries one
+abbrev pub message_in : List ℕ → Option Message
+message_in packet = message_of (fields_at packet)
+
+-- ---- users' messages
+
+-- how many packets may wait before a message of this importance is congested
+abbrev pub limit_of : Importance → ℕ
+limit_of Low = 50
+limit_of Medium = 100
+limit_of High = 150
+limit_of Critical = 200
+
+abbrev pub port_id : ℕ → ℕ → PortId
+port_id word port = record { node = record { word = word }; port = port }
+
+-- a message to a port
+abbrev pub direct : ℕ → ℕ → PortId → Importance → List ℕ → Message
+direct own port to importance body = Payload importance form.Direct (port_id own port) to 0 0 0 0 false body
+
+-- a message by name, to the port that the name found
+abbrev pub named : ℕ → ℕ → PortId → ℕ → ℕ → Importance → List ℕ → Message
+named own port to kind instance importance body = Payload importance form.Named (port_id own port) to kind instance instance 0 false body
+
+-- the node that a message is for
+abbrev pub destination_of : Message → Addr
+destination_of (Payload importance form from to kind lower upper code droppable body) = to.node
+destination_of (Items withdrawal items) = record { word = 0 }

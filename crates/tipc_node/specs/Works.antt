@@ -1,0 +1,150 @@
+-- A node's work on one step: what it has made so far of its neighbours and its sockets, and what happened inside the step. A message that
+-- arrived, or that the node sent to itself, has its fate at once; a return goes back at once.
+use Rattle.std.specs.Prelude.{◌≡◌, ◌-◌, ℕ, Bool, true, false, List, [], ◌∷◌, ◌++◌, Option, Some, None, fold, length, option_map, slice_index_or, slice_set}
+use Rattle.tipc_types.specs.Address.{node_word}
+use Rattle.tipc_types.specs.declared.identity.Addr.{Addr}
+use Rattle.tipc_types.specs.declared.message_forms.Message.{Message}
+use Rattle.tipc_types.specs.declared.node_calls.Answer.{Answer}
+use Rattle.tipc_types.specs.declared.node_calls.By.{By}
+use Rattle.tipc_types.specs.declared.node_calls.EventNote.{EventNote}
+use Rattle.tipc_outside.specs.declared.outgoing.Outgoing.{Outgoing}
+use Rattle.tipc_outside.specs.Frames.{Adds, Out}
+use Rattle.tipc_journal.specs.declared.entries.Entry.{Entry}
+use Rattle.tipc_journal.specs.Dues.{comes_home}
+use Rattle.tipc_journal.specs.Steps.{step_entries}
+use Rattle.tipc_link.specs.Links.{with_session}
+use Rattle.tipc_link.specs.Sessions.{SessionEnd, IsPut, flush_frames, flushed}
+use Rattle.tipc_pair.specs.Partners.{pieces_for}
+use Rattle.tipc_sockets.specs.declared.fates.Fate.{Fate}
+use Rattle.tipc_sockets.specs.declared.fates.Fate.TheVariants.{Returned}
+use Rattle.tipc_sockets.specs.Fates.{after_fate, fate}
+use Rattle.tipc_sockets.specs.SocketTables.{SocketTable}
+use Rattle.tipc_sockets.specs.Telling.{after_entry, fate_entry, origin_of}
+use Rattle.tipc_node.specs.declared.arriving.Delivery.{Delivery}
+use Rattle.tipc_node.specs.declared.neighbours.Neighbour.{Neighbour}
+use Rattle.tipc_node.specs.Messages.{IsSendable, bytes_of, destination_of}
+use Rattle.tipc_node.specs.Neighbours.{neighbour}
+use Rattle.tipc_node.specs.Nodes.{NodeState, accepted_entry, session_with, step_of}
+
+-- the neighbours and the sockets so far, and the entries of the step so far
+pub record Work : Type 0 where
+  pub neighbours : List (Option Neighbour)
+  pub sockets : SocketTable
+  pub inside : List Entry
+
+abbrev pub begun : NodeState → Work
+begun n = record { neighbours = n.neighbours; sockets = n.sockets; inside = [] }
+
+-- the node when the step is recorded
+abbrev pub concluded : NodeState → By → EventNote → Work → Answer → NodeState
+concluded n by event w answered = record {
+  own = n.own;
+  boot = n.boot;
+  mended = n.mended;
+  neighbours = w.neighbours;
+  sockets = w.sockets;
+  journal = n.journal ++ step_entries (step_of by event w.inside answered);
+}
+
+abbrev pub work_of : List (Option Neighbour) → SocketTable → List Entry → Work
+work_of neighbours sockets inside = record { neighbours = neighbours; sockets = sockets; inside = inside }
+
+abbrev pub addr_of_word : ℕ → Addr
+addr_of_word word = record { word = word }
+
+-- ---- what is noted
+
+-- these happened, and are no fates: names are learned and forgotten by them, and those of a peer are purged with its contact
+abbrev pub noted : Work → List Entry → Work
+noted w entries = record { neighbours = w.neighbours; sockets = fold after_entry w.sockets entries; inside = w.inside ++ entries }
+
+-- a message has this fate
+abbrev pub fated : Work → Message → Fate → Work
+fated w m f = record { neighbours = w.neighbours; sockets = after_fate w.sockets m f; inside = w.inside ++ fate_entry f ∷ [] }
+
+-- ---- what is put
+
+-- what is kept of the node of an address; nothing where the address is none of the 32
+abbrev pub neighbour_at : List (Option Neighbour) → Addr → Option Neighbour
+neighbour_at neighbours node = slice_index_or neighbours (node.word - node_word 0) None
+
+-- how many packets wait on the link to a node, where there is contact
+abbrev pub waiting_to : List (Option Neighbour) → Addr → Option ℕ
+waiting_to neighbours node = option_map (λ (s : SessionEnd). length s.sending.waiting) (session_with (neighbour_at neighbours node))
+
+-- a neighbour whose session is this one, but for the waiting packets that move up
+abbrev pub with_put : Neighbour → SessionEnd → Neighbour
+with_put x put = neighbour (with_session x.pair.link (flushed put)) x.pair.begun x.in_step
+
+-- A message is accepted for the node of that number, and put on the link to it in the packets that it takes; these frames leave.
+pub record Puts (own : ℕ) (w : Work) (peer : ℕ) (m : Message) (w' : Work) (frames : List Outgoing) : Type 0 where
+  pub neighbour : Neighbour
+  pub was : slice_index_or w.neighbours peer None ≡ Some neighbour
+  pub session : SessionEnd
+  pub session_is : session_with (Some neighbour) ≡ Some session
+  pub sendable : IsSendable own m
+  pub put : SessionEnd
+  pub put_is : IsPut session (pieces_for (bytes_of own m)) put
+  pub after : w' ≡ record {
+    neighbours = slice_set w.neighbours peer (Some (with_put neighbour put));
+    sockets = w.sockets;
+    inside = w.inside ++ accepted_entry peer neighbour.pair.link m ∷ [];
+  }
+  pub frames_are : frames ≡ flush_frames put
+
+-- what that makes of the neighbour alone, of what is told, and of the box of frames
+pub record PutsOn (own : ℕ) (x x' : Neighbour) (peer : ℕ) (m : Message) (inside inside' : List Entry) (box box' : Out) : Type 0 where
+  pub session : SessionEnd
+  pub session_is : session_with (Some x) ≡ Some session
+  pub sendable : IsSendable own m
+  pub put : SessionEnd
+  pub put_is : IsPut session (pieces_for (bytes_of own m)) put
+  pub after : x' ≡ with_put x put
+  pub told : inside' ≡ inside ++ accepted_entry peer x.pair.link m ∷ []
+  pub adds : Adds box box' (flush_frames put)
+
+-- it is put for the node that it is for
+abbrev pub GoesAway : ℕ → Work → Message → Work → List Outgoing → Type 0
+GoesAway own w m w' frames = Puts own w ((destination_of m).word - node_word 0) m w' frames
+
+-- ---- fates
+
+-- the fate of a message that arrived, or that the node sent to itself
+abbrev pub fate_of : Work → Bool → Message → Fate
+fate_of w arrived m = fate w.sockets arrived (waiting_to w.neighbours (origin_of m)) m
+
+-- what goes back by a fate
+abbrev pub back_of : Fate → Option Message
+back_of (Returned back) = Some back
+back_of f = None
+
+-- A return goes back: at the own node it has its own fate, and it isn't returned again; for a peer it is accepted.
+pub record GoesBack (own : ℕ) (w : Work) (m : Message) (w' : Work) (frames : List Outgoing) : Type 0 where
+  pub home : comes_home (addr_of_word own) m ≡ true → (w' ≡ fated w m (fate_of w false m)) × (frames ≡ [])
+  pub away : comes_home (addr_of_word own) m ≡ false → GoesAway own w m w' frames
+
+-- what follows a message with this fate: a return goes back
+abbrev pub Follows : ℕ → Work → Message → Fate → Work → List Outgoing → Type 0
+Follows own w m (Returned back) w' frames = GoesBack own (fated w m (Returned back)) back w' frames
+Follows own w m f w' frames = (w' ≡ fated w m f) × (frames ≡ [])
+
+-- a message that arrived, or that the node sent to itself, has its fate
+abbrev pub Settles : ℕ → Work → Bool → Message → Work → List Outgoing → Type 0
+Settles own w arrived m w' frames = Follows own w m (fate_of w arrived m) w' frames
+
+-- ---- what is delivered
+
+-- what arrived is noted, and a message has its fate
+abbrev pub DeliversTo : ℕ → Work → Option Message → Work → List Outgoing → Type 0
+DeliversTo own w None w' frames = (w' ≡ w) × (frames ≡ [])
+DeliversTo own w (Some m) w' frames = Settles own w true m w' frames
+
+abbrev pub Delivers : ℕ → Work → Delivery → Work → List Outgoing → Type 0
+Delivers own w d w' frames = DeliversTo own (noted w (d.entry ∷ [])) d.message w' frames
+
+-- one delivery after the other
+pub data DeliversAll (own : ℕ) : Work → List Delivery → Work → List Outgoing → Type 0 where
+  none_left : (w : Work) → DeliversAll own w [] w []
+  one_more : (w between last : Work) (d : Delivery) (ds : List Delivery) (first rest : List Outgoing)
+      → Delivers own w d between first → DeliversAll own between ds last rest
+      → DeliversAll own w (d ∷ ds) last (first ++ rest)

@@ -1,0 +1,107 @@
+//! What an arrival delivers, where each message surely waits at its port: nothing goes back by it, and what can fail
+//! is done before the node is changed.
+
+ghost use Rattle.std.specs.Prelude.{◌≡◌, ◌++◌, ◌+◌, ◌≤◌, ◌∷◌, [], true, length, vec_capacity, vec_len, IfOk, OnOk};
+ghost use Rattle.tipc_journal.specs.declared.entries.Entry.{Entry};
+ghost use Rattle.tipc_sockets.specs.Fates.{port_of};
+ghost use Rattle.tipc_node.specs.Sure.{all_wait, are_sure, message_of, messages_in, told_in, told_of, waits_surely, with_all_waiting};
+
+use crate::arriving::Delivery;
+use std::alloc::Global;
+use std::collections::VecDeque;
+use tipc_journal::{Entry, PortList};
+use tipc_sockets::{Sockets, port_of};
+use tipc_types::{Message, NoMemory};
+
+/// Whether the message of a delivery surely waits at its port, as the last of so many that arrived.
+fn waits_surely(sockets: &Sockets, count: u32, message: &Option<Message>) -> bool
+    ensures { result ≡ waits_surely sockets.now count message.now }
+{
+    match message {
+        Some(m) => sockets.surely_waits(m, count),
+        None => true,
+    }
+}
+
+/// Whether each message surely waits at its port, as the last of so many that arrived.
+pub fn all_wait(sockets: &Sockets, count: u32, deliveries: &[Delivery]) -> bool
+    ensures { result ≡ all_wait sockets.now count deliveries.now }
+{
+    for delivery in deliveries {
+        if !waits_surely(sockets, count, &delivery.message) {
+            return false;
+        }
+    }
+    true
+}
+
+/// What is told of an arrival whose messages surely wait, and the messages.
+#[derive(Drop)]
+pub struct Waiting {
+    /// What is told.
+    pub entries: Vec<Entry>,
+    /// The messages.
+    pub messages: Vec<Message>,
+}
+
+/// The entry of a message that waits at its port.
+fn queued_entry(alloc: Global, m: &Message) -> Result<Entry, NoMemory>
+    ensures { IfOk result (λ e. e ≡ Entry.Queued (port_of m.now ∷ [])) }
+{
+    let mut ports = PortList::new(alloc);
+    ports.push(port_of(m))?;
+    Ok(Entry::Queued { ports })
+}
+
+/// Tells one delivery more.
+fn tell(alloc: Global, told: &mut Waiting, delivery: Delivery) -> Result<(), NoMemory>
+    ensures entries { OnOk result (told.new.entries.items ≡ told.old.entries.items ++ told_of delivery) }
+    ensures messages { OnOk result (told.new.messages.items ≡
+        told.old.messages.items ++ message_of delivery.message) }
+{
+    told.entries.push(delivery.entry)?;
+    let Some(m) = delivery.message else {
+        return Ok(());
+    };
+    told.entries.push(queued_entry(alloc, &m)?)?;
+    told.messages.push(m)?;
+    Ok(())
+}
+
+/// What is told of deliveries whose messages surely wait, and the messages. Nothing is changed yet.
+pub fn prepare_waiting(alloc: Global, deliveries: Vec<Delivery>) -> Result<Waiting, NoMemory>
+    ensures entries { IfOk result (λ w. w.entries.items ≡ told_in deliveries.items) }
+    ensures messages { IfOk result (λ w. w.messages.items ≡ messages_in deliveries.items) }
+{
+    let mut told = Waiting {
+        entries: Vec::new(alloc),
+        messages: Vec::new(alloc),
+    };
+    let mut waiting = VecDeque::from_vec(deliveries);
+    while let Some(delivery) = waiting.pop_front() {
+        tell(alloc, &mut told, delivery)?;
+    }
+    Ok(told)
+}
+
+/// Tells these entries in a list that has room.
+pub fn tell_all(inside: &mut Vec<Entry>, entries: Vec<Entry>)
+    requires room { vec_len inside.old + length entries.items ≤ vec_capacity inside.old }
+    ensures { inside.new.items ≡ inside.old.items ++ entries.items }
+{
+    let mut waiting = VecDeque::from_vec(entries);
+    while let Some(entry) = waiting.pop_front() {
+        inside.push_reserved(entry);
+    }
+}
+
+/// Puts messages that surely wait at their ports there. It takes no memory.
+pub fn put_all(sockets: &mut Sockets, messages: Vec<Message>)
+    requires sure { are_sure sockets.old messages.items ≡ true }
+    ensures { sockets.new ≡ with_all_waiting sockets.old messages.items }
+{
+    let mut waiting = VecDeque::from_vec(messages);
+    while let Some(m) = waiting.pop_front() {
+        sockets.put(m);
+    }
+}

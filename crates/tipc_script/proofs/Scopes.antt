@@ -1,0 +1,48 @@
+-- Words of scope.
+use Rattle.std.proofs.Common.{◌≡◌, true, false, List, ℕ, refl, inl, inr}
+use Rattle.std.specs.Prelude.{codes}
+use Rattle.std.specs.Str.{bytes_eq}
+use Rattle.std.proofs.lemmas.Bool.{cases_Bool}
+use Rattle.std.proofs.lemmas.Slice.Eq.{bytes_eq-Decides}
+use Rattle.tipc_types.specs.declared.services.Scope.{Scope}
+use Rattle.tipc_types.specs.declared.services.Scope.TheVariants.{Zone, Cluster, Node}
+use Rattle.tipc_script.specs.Kinds.{is_scope, scope_in, scope_of}
+use Rattle.tipc_script.specs.Spelling.{scope_word}
+use Rattle.tipc_script.proofs.Spaces.{has_no_space}
+
+is_the_word : (token word : List ℕ) → bytes_eq token word ≡ true → token ≡ word
+is_the_word token word e = (bytes_eq-Decides token word).0 e
+
+-- a word of scope is that of the scope that it stands for
+pub scope_spelled : (token : List ℕ) → is_scope token ≡ true → token ≡ scope_word (scope_of token)
+unfolding scope_in
+scope_spelled token e =
+    elim (cases_Bool (bytes_eq token (codes "zone"))) [
+      | inl zone ↦ rw zone (is_the_word token (codes "zone") zone)
+      | inr not_zone ↦
+          elim (cases_Bool (bytes_eq token (codes "cluster"))) [
+            | inl cluster ↦ rw (not_zone, cluster) (is_the_word token (codes "cluster") cluster)
+            | inr not_cluster ↦
+                elim (cases_Bool (bytes_eq token (codes "node"))) [
+                  | inl node ↦ rw (not_zone, not_cluster, node) (is_the_word token (codes "node") node)
+                  | inr not_node ↦ absurd (let f : is_scope token ≡ false = rw (not_zone, not_cluster, not_node) refl in cc)
+                ]
+          ]
+    ]
+
+pub is_scope-word : (scope : Scope) → is_scope (scope_word scope) ≡ true
+unfolding scope_in
+is_scope-word Zone = refl
+is_scope-word Cluster = refl
+is_scope-word Node = refl
+
+pub scope_of-word : (scope : Scope) → scope_of (scope_word scope) ≡ scope
+unfolding scope_in
+scope_of-word Zone = refl
+scope_of-word Cluster = refl
+scope_of-word Node = refl
+
+pub no_space-scope : (scope : Scope) → has_no_space (scope_word scope) ≡ true
+no_space-scope Zone = refl
+no_space-scope Cluster = refl
+no_space-scope Node = refl

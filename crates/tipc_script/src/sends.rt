@@ -1,0 +1,146 @@
+//! The tokens behind the first words that send messages.
+
+ghost use Rattle.std.specs.Prelude.{◌≡◌, true, false, IfOk};
+ghost use Rattle.tipc_script.specs.Grammar.{burst_row, name_kinds, port_kinds, repeat_row, row_nodes, send_row, sent};
+ghost use Rattle.tipc_script.specs.Faults.{Tells, fault_in, row_fault};
+
+use crate::faults::{LineFault, LineWhy};
+use crate::lines::{Command, Destination, Line};
+use crate::tokens::{HIGHEST_NUMBER, Tokens};
+use std::alloc::Global;
+use tipc_types::{Addr, PortId, Sequence};
+
+/// The most times that something is done again.
+const MOST_TIMES: u32 = 1_000_000;
+
+/// The rest of a line that sends a message by name from a port of a node.
+fn send_by_name(
+    alloc: Global,
+    node: u8,
+    port: u32,
+    tokens: &mut Tokens<'_>,
+) -> Result<Line, LineFault>
+    ensures fault { Tells result (fault_in name_kinds tokens.old) }
+    ensures line { IfOk result (λ l. l ≡ sent node port true tokens.old) }
+{
+    let kind = tokens.number(0, HIGHEST_NUMBER)?;
+    let instance = tokens.number(0, HIGHEST_NUMBER)?;
+    let importance = tokens.importance()?;
+    let body = tokens.body(alloc)?;
+    tokens.finish()?;
+    Ok(Line::Send {
+        node,
+        port,
+        to: Destination::Name { kind, instance },
+        importance,
+        body,
+    })
+}
+
+/// The rest of a line that sends a message to a port from a port of a node.
+fn send_to_port(
+    alloc: Global,
+    node: u8,
+    port: u32,
+    tokens: &mut Tokens<'_>,
+) -> Result<Line, LineFault>
+    ensures fault { Tells result (fault_in port_kinds tokens.old) }
+    ensures line { IfOk result (λ l. l ≡ sent node port false tokens.old) }
+{
+    let to_node = tokens.node_number()?;
+    let to_port = tokens.number(0, HIGHEST_NUMBER)?;
+    let importance = tokens.importance()?;
+    let body = tokens.body(alloc)?;
+    tokens.finish()?;
+    let to = PortId {
+        node: Addr::node(to_node),
+        port: to_port,
+    };
+    Ok(Line::Send {
+        node,
+        port,
+        to: Destination::Port(to),
+        importance,
+        body,
+    })
+}
+
+/// What follows `send`.
+#[tactic(auto, unfolding(crate::specs::Faults::row_fault))]
+pub fn send_line(alloc: Global, tokens: &mut Tokens<'_>) -> Result<Command, LineFault>
+    ensures fault { Tells result (row_fault send_row tokens.old) }
+    ensures line { IfOk result (λ c. c.line ≡ send_row.asks tokens.old) }
+    ensures nodes { IfOk result (λ c. c.nodes ≡ row_nodes send_row tokens.old) }
+{
+    let node = tokens.node(true)?;
+    let port = tokens.number(0, HIGHEST_NUMBER)?;
+    let line = if tokens.is_by_name()? {
+        send_by_name(alloc, node.node, port, tokens)?
+    } else {
+        send_to_port(alloc, node.node, port, tokens)?
+    };
+    Ok(Command {
+        line,
+        nodes: Sequence::from_slice(alloc, [node].as_slice())?,
+    })
+}
+
+/// What follows `repeat`: how many times, and a line that sends.
+#[tactic(auto, unfolding(crate::specs::Faults::row_fault))]
+pub fn repeat_line(alloc: Global, tokens: &mut Tokens<'_>) -> Result<Command, LineFault>
+    ensures fault { Tells result (row_fault repeat_row tokens.old) }
+    ensures line { IfOk result (λ c. c.line ≡ repeat_row.asks tokens.old) }
+    ensures nodes { IfOk result (λ c. c.nodes ≡ row_nodes repeat_row tokens.old) }
+{
+    let times = tokens.number(1, MOST_TIMES)?;
+    tokens.word(b"send", LineWhy::Command)?;
+    let Command { line, nodes } = send_line(alloc, tokens)?;
+    let Line::Send {
+        node,
+        port,
+        to,
+        importance,
+        body,
+    } = line
+    else {
+        unreachable!();
+    };
+    Ok(Command {
+        line: Line::Repeat {
+            times,
+            node,
+            port,
+            to,
+            importance,
+            body,
+        },
+        nodes,
+    })
+}
+
+/// What follows `burst`.
+#[tactic(auto, unfolding(crate::specs::Faults::row_fault))]
+pub fn burst_line(alloc: Global, tokens: &mut Tokens<'_>) -> Result<Command, LineFault>
+    ensures fault { Tells result (row_fault burst_row tokens.old) }
+    ensures line { IfOk result (λ c. c.line ≡ burst_row.asks tokens.old) }
+    ensures nodes { IfOk result (λ c. c.nodes ≡ row_nodes burst_row tokens.old) }
+{
+    let node = tokens.node(true)?;
+    let port = tokens.number(0, HIGHEST_NUMBER)?;
+    let to_node = tokens.node(true)?;
+    let to_port = tokens.number(0, HIGHEST_NUMBER)?;
+    let times = tokens.number(1, MOST_TIMES)?;
+    let body = tokens.body(alloc)?;
+    tokens.finish()?;
+    Ok(Command {
+        line: Line::Burst {
+            node: node.node,
+            port,
+            to_node: to_node.node,
+            to_port,
+            times,
+            body,
+        },
+        nodes: Sequence::from_slice(alloc, [node, to_node].as_slice())?,
+    })
+}

@@ -1,0 +1,76 @@
+-- What is promised of the calls of all nodes in all their boots: how they are answered, counted and stamped.
+use Rattle.std.specs.Prelude.{◌≡◌, ◌<◌, ℕ, zero, suc, ◌+◌, ◌%◌, ◌^◌, List, [], ◌∷◌, ◌++◌, Option, Some, None, length, slice_get, slice_index_or, sum_by}
+use Rattle.std.specs.List.{All}
+use Rattle.tipc_types.specs.declared.identity.Addr.{Addr}
+use Rattle.tipc_pick.specs.Choosing.{Choosing}
+use Rattle.tipc_journal.specs.declared.entries.Entry.{Entry}
+use Rattle.tipc_journal.specs.Counting.{calls_of, names_sent_before, stamps, AllAnsweredToCallers, CallsCount, StampsRise}
+use Rattle.tipc_journal.specs.Fates.{AllHaveFates}
+use Rattle.tipc_journal.specs.Licensed.{AllLicensed, AllPicked}
+use Rattle.tipc_node.specs.Telling.{AllFull}
+use Rattle.tipc_node.specs.Turns.{addr_of}
+use Rattle.tipc_world.specs.States.{MemberState}
+
+-- ---- the journals of all boots
+
+-- the journals of a node, one for each boot
+abbrev pub journals_of : MemberState → List (List Entry)
+journals_of m = m.past ++ m.node.journal ∷ []
+
+abbrev pub journal_in : Option MemberState → ℕ → Option (List Entry)
+journal_in None boot = None
+journal_in (Some m) boot = slice_get (journals_of m) boot
+
+-- the journal of node n in the boot of that place, from 0 on
+unfoldable pub journal_at : List (Option MemberState) → ℕ → ℕ → Option (List Entry)
+journal_at members n boot = journal_in (slice_index_or members n None) boot
+
+-- ---- one journal
+
+-- Each call that a node recorded in one boot has a licensed answer, each message its fate, and a congested send told the truth. Each
+-- is answered to its caller, the calls of each caller are counted from 0, and the stamps rise.
+pub record AreAnswered (own : Addr) (journal : List Entry) : Type 0 where
+  pub licensed : AllLicensed own journal
+  pub fates : AllHaveFates own journal
+  pub full : AllFull journal
+  pub callers : AllAnsweredToCallers journal
+  pub counted : CallsCount journal
+  pub rise : StampsRise journal
+
+-- ---- stamps
+
+-- a stamp stands in the journal of a node in the boot of that place
+pub record HasStamp (members : List (Option MemberState)) (n boot stamp : ℕ) : Type 0 where
+  pub journal : List Entry
+  pub there : journal_at members n boot ≡ Some journal
+  pub place : ℕ
+  pub stands : slice_get (stamps journal) place ≡ Some stamp
+
+-- ---- turns
+
+-- how many messages a node sent by name, in all its boots, in steps with a stamp below this one
+abbrev pub sent_in : Option MemberState → ℕ → ℕ
+sent_in None stamp = 0
+sent_in (Some m) stamp = sum_by (λ journal. names_sent_before journal stamp) (journals_of m)
+
+-- the sum over the numbers from 1 to this one
+unfoldable pub sum_to : (ℕ → ℕ) → ℕ → ℕ
+sum_to count zero = 0
+sum_to count (suc n) = sum_to count n + count (suc n)
+
+-- the turn of a message by name in the step of a stamp: how many all nodes sent so in steps with a stamp below it
+unfoldable pub turn_at : List (Option MemberState) → ℕ → ℕ
+turn_at members stamp = sum_to (λ n. sent_in (slice_index_or members n None) stamp) 32
+
+-- ---- all journals
+
+-- What every world keeps of the calls of all nodes. So many were recorded, and the chooser is at that turn.
+pub record AreOrderly {P : Type 0} (gives : P → ℕ → ℕ → ℕ → Type 0) (members : List (Option MemberState)) (recorded : ℕ) (chooser : Choosing P) : Type 0 where
+  pub answered : (n boot : ℕ) (journal : List Entry) → journal_at members n boot ≡ Some journal → AreAnswered (addr_of n) journal
+  -- the stamps are the numbers of the calls, each of which is recorded in one journal alone
+  pub stamped : (n boot : ℕ) (journal : List Entry) → journal_at members n boot ≡ Some journal → All (λ stamp. stamp < recorded) (stamps journal)
+  pub once : (n boot n' boot' stamp : ℕ) → HasStamp members n boot stamp → HasStamp members n' boot' stamp → (n ≡ n') × (boot ≡ boot')
+  pub picked : (n boot : ℕ) (journal : List Entry) → journal_at members n boot ≡ Some journal
+      → AllPicked (gives chooser.pick) (turn_at members) (addr_of n) journal
+  pub calls : (n : ℕ) (m : MemberState) → slice_index_or members n None ≡ Some m → m.calls ≡ length (calls_of m.node.journal 0)
+  pub turn : turn_at members recorded % 2 ^ 64 ≡ chooser.turn
