@@ -1,6 +1,7 @@
 #!/usr/bin/env python3
 """How many messages a second the program carries over one link, whether that depends on how many it has carried, and
-how much memory it holds at the end, beside the bytes of the frames in its air.
+how much memory it holds at the end, beside the bytes of the frames in its air. What a message by name costs beside one
+by port; what a publication costs that every peer is told of; and what a contact costs that begins with publications.
 
 It runs the program that `rt ci` left in crates/tipc_sim/out, and is no part of the gate.
 """
@@ -37,12 +38,50 @@ def measure(what: str, lines: str, messages: int, body: int) -> None:
     print(f"{what}: {seconds:.3f} s, {messages / seconds:,.0f} messages a second, {frames} frames of {air:,} bytes, {held:,} bytes held")
 
 
+def seconds_of(script: str) -> float:
+    """The least of three runs."""
+    return min(run(script)[1] for _ in range(3))
+
+
+def measure_names(messages: int) -> None:
+    """Prints what messages by name cost beside messages by port, from one node to another."""
+    nodes = NODES + "publish 2 1 100 0 9 cluster 1\npump 0\n"
+    took = {way: seconds_of(nodes + f"repeat 50 send 1 1 {to} low =x\npump 0\ndrain 2 1\n" * (messages // 50))
+            for way, to in (("port", "port 2 1"), ("name", "name 100 5"))}
+    print(f"{messages} messages: {took['port']:.3f} s by port, {took['name']:.3f} s by name, {took['name'] / took['port']:.2f} times")
+
+
+def measure_publications(peers: int, publications: int) -> None:
+    """Prints what publications cost of which so many peers are told, one after the other, and what each item costs."""
+    nodes = "".join(f"node {number}\n" for number in range(1, peers + 2))
+    nodes += "".join(f"link 1 {number} 0\n" for number in range(2, peers + 2)) + "socket 1\n"
+    lines = "".join(f"publish 1 1 100 {key} {key} cluster {key}\n" + ("pump 0\n" if key % 50 == 0 else "") for key in range(publications))
+    took = seconds_of(nodes + lines + "pump 0\n") - seconds_of(nodes)
+    print(f"{publications} publications, {peers} peers told: {took:.3f} s, {took / publications / peers * 1e6:.1f} microseconds an item")
+
+
+def measure_greeting(publications: int) -> None:
+    """Prints what a contact costs that begins at a node with so many publications: the contact begins and ends a hundred times."""
+    contacts = 100
+    lines = "".join(f"publish 1 1 100 {key} {key} cluster {key}\n" for key in range(publications))
+    nodes = "node 1\nnode 2\nsocket 1\n"
+    took = seconds_of(nodes + lines + "link 1 2 0\npump 0\ncut 1 0\n" * contacts) - seconds_of(nodes + lines)
+    bare = seconds_of(nodes + "link 1 2 0\npump 0\ncut 1 0\n" * contacts) - seconds_of(nodes)
+    each = (took - bare) / contacts / publications * 1e6
+    print(f"a contact that begins with {publications} publications: {took / contacts * 1e3:.2f} ms, {each:.2f} microseconds a publication")
+
+
 def main() -> None:
     for count in (1_000, 10_000, 30_000, 65_540):
         measure(f"burst of {count} messages of 1 byte", f"burst 1 1 2 1 {count} =x\n", count, 1)
     pumped = "repeat 50 send 1 1 port 2 1 low *1000\npump 0\ndrain 2 1\n"
     for turns in (100, 400, 1_200):
         measure(f"{50 * turns} messages of 1,000 bytes, pumped in fifties", pumped * turns, 50 * turns, 1_000)
+    measure_names(30_000)
+    for publications in (256, 512, 1_024):
+        measure_publications(31, publications)
+    for publications in (256, 512, 1_024):
+        measure_greeting(publications)
 
 
 if __name__ == "__main__":

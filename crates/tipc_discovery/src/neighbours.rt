@@ -102,6 +102,7 @@ fn hear(
     ensures found { IfOk result (λ f. f ≡ found_of own previous header.now heard.old.keys) }
     ensures after { IfOk result (λ f. heard.new.keys ≡ after_hearing f previous heard.old.keys) }
     ensures err { OnErr result (heard.new.keys ≡ heard.old.keys) }
+    ensures new_only { OnErr result (found_of own previous header.now heard.old.keys ≡ Found.New) }
 {
     match finding(own, previous, header, heard) {
         Found::New => {
@@ -134,7 +135,7 @@ impl Neighbours {
     ///
     /// # Errors
     ///
-    /// `NoMemory` where memory runs out. It changes nothing.
+    /// `NoMemory` where memory runs out for a neighbour that is new. It changes nothing.
     pub fn heard(&mut self, packet: &Packet<'_>, bearer: u8) -> Result<Found, NoMemory>
         requires { bearer ≤ 1 }
         ensures found { IfOk result (λ f. f ≡ found_of self.old.own packet.now.previous packet.now.header (heard_on bearer self.old)) }
@@ -142,6 +143,8 @@ impl Neighbours {
         ensures here { IfOk result (λ f. heard_on bearer self.new ≡ after_hearing f packet.now.previous (heard_on bearer self.old)) }
         ensures there { heard_on (1 - bearer) self.new ≡ heard_on (1 - bearer) self.old }
         ensures err { OnErr result (self.new ≡ self.old) }
+        ensures new_only { OnErr result
+            (found_of self.old.own packet.now.previous packet.now.header (heard_on bearer self.old) ≡ Found.New) }
     {
         if bearer == 0 {
             return hear(

@@ -5,9 +5,17 @@ ghost use Rattle.std.specs.List.{flat_map};
 ghost use Rattle.tipc_header.specs.Frames.{sent_as};
 ghost use Rattle.tipc_header.specs.Grammar.{Fits};
 ghost use Rattle.tipc_header.specs.Spelling.{spelling};
+ghost use Rattle.tipc_fragments.specs.declared.cutting.TheConstants.{FRAGMENT_BYTES, LEAST_CUT, MOST_CUT};
 ghost use Rattle.tipc_fragments.specs.Cutting.{count_of, packet_of, Piece, piece_after, pieces_of};
 ghost use Rattle.tipc_fragments.specs.Laws.{Came, IsBegun, IsFrontOf, IsLong, IsPiece, IsWhole, JoinsFront, pieces_in};
 ghost use Rattle.tipc_fragments.specs.Streams.{CameItem, GivesFront, IsMessage, items_in, items_of};
+
+/// The numbers that callers go by: which messages are cut, and how much of one each fragment has but the last.
+pub fn lengths_are_these()
+    ensures fragment { FRAGMENT_BYTES ≡ 1412 }
+    ensures least { LEAST_CUT ≡ 1453 }
+    ensures most { MOST_CUT ≡ 66044 }
+{}
 
 /// The bytes of a message's fragments, one behind the other, are the message. The fragments are numbered from 1,
 /// and each but the last has 1,412 bytes.

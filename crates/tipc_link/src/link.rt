@@ -296,6 +296,10 @@ impl Link {
     ///
     /// It tells what becomes of the link's state, and what the session takes of a STATE or a packet with a number. Nothing is
     /// changed yet: [`Link::commit`] does it.
+    ///
+    /// # Errors
+    ///
+    /// Where memory runs out for a packet that the session hears.
     pub fn prepare(
         &self,
         alloc: Global,
@@ -309,6 +313,8 @@ impl Link {
         ensures states { IfOk result (λ a. a.states ≡ outcome_of self.now.fsm packet.now.header es er held) }
         ensures by { IfOk result (λ a. a.hearing.by ≡ by) }
         ensures arriving { IfOk result (λ a. IsArriving self.now (view packet.now) a) }
+        ensures heard_only { OnErr result
+            (is_heard packet.now.header (outcome_of self.now.fsm packet.now.header es er held).change ≡ true) }
     {
         let mut fsm = self.fsm.copy()?;
         let change = change_of(&mut fsm, &packet.header, es, er, held);
@@ -332,6 +338,7 @@ impl Link {
         requires { Fits (view packet.now) }
         ensures by { IfOk result (λ h. h.by ≡ by) }
         ensures arriving { IfOk result (λ h. IsArriving self.now (view packet.now) (record { states = record { after = fsm.now; change = change }; hearing = h })) }
+        ensures heard_only { OnErr result (is_heard packet.now.header change ≡ true) }
     {
         if !is_heard(&packet.header, change) {
             return Ok(Hearing::without_window(by, change_outcome(alloc, change)));

@@ -1,1 +1,2 @@
+pub mod ItemWords
 pub mod Wire

@@ -1,18 +1,22 @@
 -- The packet that carries a message, and the message that a packet carries.
-use Rattle.std.specs.Prelude.{◌≡◌, ◌≤◌, ◌==◌, ℕ, Bool, false, List, Option, Some, None, length, if◌then◌else◌}
+use Rattle.std.specs.Prelude.{◌≡◌, ◌≤◌, ◌==◌, ℕ, Bool, true, false, List, Option, Some, None, length, if◌then◌else◌}
 use Rattle.tipc_types.specs.declared.identity.PortId.{PortId}
 use Rattle.tipc_types.specs.declared.message_forms.Form.{Form}
 use Rattle.tipc_types.specs.declared.message_forms.Form.TheVariants as form
 use Rattle.tipc_types.specs.declared.message_forms.Importance.{Importance}
 use Rattle.tipc_types.specs.declared.message_forms.Importance.TheVariants.{Low, Medium, High, Critical}
+use Rattle.tipc_types.specs.declared.message_forms.Item.{Item}
 use Rattle.tipc_types.specs.declared.message_forms.Message.{Message}
 use Rattle.tipc_types.specs.declared.message_forms.Message.TheVariants as message
 use Rattle.tipc_header.specs.declared.packet.Addressing.{Addressing}
 use Rattle.tipc_header.specs.declared.packet.Addressing.TheVariants.{Connected, Multicast, Named, Direct}
+use Rattle.tipc_header.specs.declared.packet.DistributionType.{DistributionType}
+use Rattle.tipc_header.specs.declared.packet.DistributionType.TheVariants.{Publication, Withdrawal}
 use Rattle.tipc_header.specs.declared.packet.Payload.{Payload}
 use Rattle.tipc_header.specs.declared.packet.Header.{Header}
 use Rattle.tipc_header.specs.declared.packet.Header.TheVariants as header
 use Rattle.tipc_header.specs.Spelling.{Fields}
+use Rattle.tipc_message.specs.ItemWords.{items_bytes, items_of}
 
 -- the number of an importance, which is also the user
 abbrev pub importance_number : Importance → ℕ
@@ -52,16 +56,34 @@ payload_of importance form from to kind lower upper code droppable = record {
   addressing = addressing_of form from.node.word to.node.word kind lower upper;
 }
 
--- the packet of a user's message of this node, as it waits to be sent
-abbrev pub payload_packet : ℕ → Payload → List ℕ → Fields
-payload_packet own p body = record { acknowledgement = 0; sequence = 0; previous = own; header = header.Payload p; rest = body }
+-- the packet of this node with this header, as it waits to be sent
+abbrev pub waiting_packet : ℕ → Header → List ℕ → Fields
+waiting_packet own h rest = record { acknowledgement = 0; sequence = 0; previous = own; header = h; rest = rest }
 
--- the packet of a message as it waits to be sent by a node of this address, where the message is a user's. That node is the previous one
--- of the packet; it needn't be the message's origin.
+-- that of a user's message
+abbrev pub payload_packet : ℕ → Payload → List ℕ → Fields
+payload_packet own p body = waiting_packet own (header.Payload p) body
+
+-- the type of an item message
+abbrev pub distribution_of : Bool → DistributionType
+distribution_of true = Withdrawal
+distribution_of false = Publication
+
+-- the header of an item message
+abbrev pub distribution_header : Bool → Header
+distribution_header withdrawal =
+    header.NameDistributor (record { distribution_type = distribution_of withdrawal; broadcast_acknowledgement = 0 })
+
+-- the packet of items of this node, as it waits to be sent
+abbrev pub items_packet : ℕ → Bool → List Item → Fields
+items_packet own withdrawal items = waiting_packet own (distribution_header withdrawal) (items_bytes items)
+
+-- The packet of a message as it waits to be sent by a node of this address. That node is the previous one of the packet; it needn't be the
+-- message's origin.
 unfoldable pub packet_of : ℕ → Message → Option Fields
 packet_of own (message.Payload importance form from to kind lower upper code droppable body) =
     Some (payload_packet own (payload_of importance form from to kind lower upper code droppable) body)
-packet_of own (message.Items withdrawal items) = None
+packet_of own (message.Items withdrawal items) = Some (items_packet own withdrawal items)
 
 abbrev pub port_at : ℕ → ℕ → PortId
 port_at node port = record { node = record { word = node }; port = port }
@@ -72,11 +94,16 @@ message_by p (Multicast origin destination kind lower upper) body = message.Payl
 message_by p (Named origin destination kind instance) body = message.Payload (importance_of p.importance) form.Named (port_at origin p.origin_port) (port_at destination p.destination_port) kind instance instance p.error_code p.destination_droppable body
 message_by p (Direct origin destination) body = message.Payload (importance_of p.importance) form.Direct (port_at origin p.origin_port) (port_at destination p.destination_port) 0 0 0 p.error_code p.destination_droppable body
 
+abbrev pub is_withdrawal : DistributionType → Bool
+is_withdrawal Withdrawal = true
+is_withdrawal Publication = false
+
 abbrev pub message_with : Header → List ℕ → Option Message
 message_with (header.Payload p) rest = Some (message_by p p.addressing rest)
+message_with (header.NameDistributor d) rest = Some (message.Items (is_withdrawal d.distribution_type) (items_of rest))
 message_with _ rest = None
 
--- the message of a packet, where it carries a user's message
+-- the message of a packet, where it carries a user's message or items
 unfoldable pub message_of : Fields → Option Message
 message_of p = message_with p.header p.rest
 
@@ -92,3 +119,9 @@ abbrev pub IsPayload : Message → Type 0
 IsPayload (message.Payload importance form from to kind lower upper code droppable body) =
     HasFormFields form from to kind lower upper × (code ≤ 5) × (length body ≤ 66000)
 IsPayload (message.Items withdrawal items) = ⊥
+
+-- a message that a packet can carry: a user's, or one of 1 to 70 items
+abbrev pub IsCarried : Message → Type 0
+IsCarried (message.Payload importance form from to kind lower upper code droppable body) =
+    IsPayload (message.Payload importance form from to kind lower upper code droppable body)
+IsCarried (message.Items withdrawal items) = (1 ≤ length items) × (length items ≤ 70)

@@ -1,6 +1,8 @@
 //! Messages as packets, and packets as messages.
 #![tactic(auto)]
 
+mod distribution;
+mod encoding;
 mod laws;
 mod wire;
 

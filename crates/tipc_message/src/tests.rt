@@ -1,14 +1,14 @@
-//! Tests of messages on the wire, one for each form.
+//! Tests of messages on the wire, one for each form, and of items.
 
 ghost use Rattle.std.specs.Prelude.{◌≡◌};
-ghost use Rattle.tipc_message.specs.Wire.{IsPayload};
+ghost use Rattle.tipc_message.specs.Wire.{IsCarried};
 
 use super::{message_from, packet_bytes};
 use std::alloc::Global;
 use std::process::Abort;
 use std::test::Fail;
 use tipc_header::{Discovery, DiscoveryType, Header, Packet, decode};
-use tipc_types::{Addr, Bytes, Form, Importance, Message, PortId};
+use tipc_types::{Addr, Bytes, Form, Importance, Item, ItemList, Message, PortId};
 
 /// The port of this number at the node of this address word.
 fn port(word: u32, port: u32) -> PortId
@@ -20,6 +20,17 @@ fn port(word: u32, port: u32) -> PortId
     }
 }
 
+/// What port 7 offers under key 1: 4 to 9 of service type 1000.
+fn offered() -> Item {
+    Item {
+        kind: 1000,
+        lower: 4,
+        upper: 9,
+        port: 7,
+        key: 1,
+    }
+}
+
 /// The message's packet has these words, the body behind them, and the message is read from these bytes.
 fn is_spelled(
     rt: &impl Abort,
@@ -28,7 +39,7 @@ fn is_spelled(
     words: &[u32],
     body: &[u8],
 ) -> Result<(), Fail>
-    requires { IsPayload message.now }
+    requires { IsCarried message.now }
 {
     let mut expected = Vec::new(alloc);
     for word in words {
@@ -152,6 +163,70 @@ fn a_message_between_connected_ports(rt: HostRuntime) -> Result<(), Fail> {
     };
     let words = [0x42c0_0019, 0x0a00_0000, 0, 0x0100_1001, 7, 8];
     is_spelled(&rt, rt.alloc(), &message, &words, b"x")
+}
+
+#[test]
+fn a_message_of_publications(rt: HostRuntime) -> Result<(), Fail> {
+    let second = Item {
+        kind: 0xffff_ffff,
+        lower: 0,
+        upper: 0xffff_fffe,
+        port: 8,
+        key: 0x0102_0304,
+    };
+    let message = Message::Items {
+        withdrawal: false,
+        items: ItemList::from_slice(rt.alloc(), &[offered(), second])?,
+    };
+    let words = [
+        0x5740_0050,
+        0,
+        0,
+        0x0100_1001,
+        0,
+        0,
+        0,
+        0,
+        0,
+        0,
+        1000,
+        4,
+        9,
+        7,
+        1,
+        0xffff_ffff,
+        0,
+        0xffff_fffe,
+        8,
+        0x0102_0304,
+    ];
+    is_spelled(&rt, rt.alloc(), &message, &words, b"")
+}
+
+#[test]
+fn a_message_of_a_withdrawal(rt: HostRuntime) -> Result<(), Fail> {
+    let message = Message::Items {
+        withdrawal: true,
+        items: ItemList::from_slice(rt.alloc(), &[offered()])?,
+    };
+    let words = [
+        0x5740_003c,
+        0x2000_0000,
+        0,
+        0x0100_1001,
+        0,
+        0,
+        0,
+        0,
+        0,
+        0,
+        1000,
+        4,
+        9,
+        7,
+        1,
+    ];
+    is_spelled(&rt, rt.alloc(), &message, &words, b"")
 }
 
 #[test]

@@ -1,12 +1,14 @@
 //! A message as the packet that carries it, and the message that a packet carries.
 
-ghost use Rattle.std.specs.Prelude.{◌≡◌, ◌≤◌, ◌<◌, ◌^◌, ℕ, Some, length, IfOk, option_map};
-ghost use Rattle.tipc_header.specs.Grammar.{Fits, AddressingFits, PayloadFits};
+ghost use Rattle.std.specs.Prelude.{◌≡◌, ◌≤◌, ◌<◌, ◌^◌, Some, length, IfOk};
+ghost use Rattle.tipc_header.specs.Grammar.{Fits, AddressingFits};
 ghost use Rattle.tipc_header.specs.Spelling.{Fields, spelling, view};
-ghost use Rattle.tipc_message.specs.Wire.{addressing_of, importance_number, importance_of, lookup_scope_of, message_by, message_of, packet_of, payload_of, payload_packet, port_at, IsPayload};
+ghost use Rattle.tipc_message.specs.Wire.{addressing_of, importance_number, importance_of, lookup_scope_of, message_by, message_of, packet_of, port_at, IsCarried, IsPayload};
 
+use crate::distribution::{distribution_bytes, distribution_message};
+use crate::encoding::encoded;
 use std::alloc::Global;
-use tipc_header::{Addressing, Header, Packet, Payload, encode};
+use tipc_header::{Addressing, Header, Packet, Payload};
 use tipc_types::{Addr, Bytes, Form, Importance, Message, NoMemory, PortId};
 
 /// The number of an importance, which is also the user of its packets.
@@ -85,11 +87,12 @@ fn port_number(at: &PortId) -> u32
     at.port
 }
 
-/// The bytes of a user's message as they wait to be sent by a node: word 2 is zero, and word 3 is the node's address.
+/// The bytes of the packet of a user's message.
 #[tactic(auto, unfolding(crate::specs::Wire::packet_of))]
-pub fn packet_bytes(alloc: Global, own: Addr, message: &Message) -> Result<Bytes, NoMemory>
+fn payload_bytes(alloc: Global, own: Addr, message: &Message) -> Result<Bytes, NoMemory>
     requires { IsPayload message.now }
-    ensures spelled { IfOk result (λ bytes. (p : Fields) × (packet_of own.word message.now ≡ Some p) × Fits p × (bytes ≡ spelling p)) }
+    ensures spelled { IfOk result (λ bytes. (p : Fields) × (packet_of own.word message.now ≡ Some p) × Fits p ×
+        (bytes ≡ spelling p)) }
     ensures long { IfOk result (λ bytes. 24 ≤ length bytes) }
 {
     let Message::Payload {
@@ -126,26 +129,26 @@ pub fn packet_bytes(alloc: Global, own: Addr, message: &Message) -> Result<Bytes
             *upper,
         ),
     };
-    spelled(alloc, own.word, header, body.as_slice())
+    encoded(alloc, own, Header::Payload(header), body.as_slice())
 }
 
-/// The bytes of the packet of this node with this header and body.
-fn spelled(alloc: Global, own: u32, header: Payload, body: &[u8]) -> Result<Bytes, NoMemory>
-    requires header { PayloadFits header }
-    requires body { length body.now ≤ 66000 }
-    ensures spelled { IfOk result (λ bytes. Fits (payload_packet own header body.now) × (bytes ≡ spelling (payload_packet own header body.now))) }
+/// The bytes of a message as they wait to be sent by a node: word 2 is zero, and word 3 is the node's address.
+///
+/// # Errors
+///
+/// `NoMemory` where memory runs out.
+pub fn packet_bytes(alloc: Global, own: Addr, message: &Message) -> Result<Bytes, NoMemory>
+    requires { IsCarried message.now }
+    ensures spelled { IfOk result (λ bytes. (p : Fields) × (packet_of own.word message.now ≡ Some p) × Fits p ×
+        (bytes ≡ spelling p) × (message_of p ≡ Some message.now)) }
     ensures long { IfOk result (λ bytes. 24 ≤ length bytes) }
 {
-    let packet = Packet {
-        acknowledgement: 0,
-        sequence: 0,
-        previous: own,
-        header: Header::Payload(header),
-        rest: body,
-    };
-    let mut bytes = Vec::new(alloc);
-    encode(&packet, &mut bytes)?;
-    Ok(Bytes::from_vec(bytes))
+    match message {
+        Message::Payload { .. } => payload_bytes(alloc, own, message),
+        Message::Items { withdrawal, items } => {
+            distribution_bytes(alloc, own, *withdrawal, items.as_slice())
+        }
+    }
 }
 
 fn port_at(node: u32, port: u32) -> PortId
@@ -157,15 +160,11 @@ fn port_at(node: u32, port: u32) -> PortId
     }
 }
 
-/// The message that a packet carries: None exactly where it is no user's message.
-#[tactic(auto, unfolding(crate::specs::Wire::message_of))]
-pub fn message_from(alloc: Global, packet: &Packet<'_>) -> Result<Option<Message>, NoMemory>
-    ensures { IfOk result (λ m. m ≡ message_of (view packet.now)) }
+/// The user's message with this header and body.
+fn payload_message(alloc: Global, payload: &Payload, body: &[u8]) -> Result<Message, NoMemory>
+    ensures { IfOk result (λ m. m ≡ message_by payload.now payload.now.addressing body.now) }
 {
-    let Header::Payload(payload) = packet.header else {
-        return Ok(None);
-    };
-    let body = Bytes::from_slice(alloc, packet.rest)?;
+    let body = Bytes::from_slice(alloc, body)?;
     let (form, origin, destination, name_kind, lower, upper) = match payload.addressing {
         Addressing::Connected => (Form::Connected, 0, 0, 0, 0, 0),
         Addressing::Multicast {
@@ -204,7 +203,7 @@ pub fn message_from(alloc: Global, packet: &Packet<'_>) -> Result<Option<Message
             destination_node,
         } => { (Form::Direct, origin_node, destination_node, 0, 0, 0) }
     };
-    Ok(Some(Message::Payload {
+    Ok(Message::Payload {
         importance: importance_of(payload.importance),
         form,
         from: port_at(origin, payload.origin_port),
@@ -215,5 +214,33 @@ pub fn message_from(alloc: Global, packet: &Packet<'_>) -> Result<Option<Message
         code: payload.error_code,
         droppable: payload.destination_droppable,
         body,
-    }))
+    })
+}
+
+/// The message that a packet carries: None exactly where it is neither a user's message nor one of items.
+///
+/// # Errors
+///
+/// `NoMemory` where memory runs out.
+#[tactic(auto, unfolding(crate::specs::Wire::message_of))]
+pub fn message_from(alloc: Global, packet: &Packet<'_>) -> Result<Option<Message>, NoMemory>
+    ensures { IfOk result (λ m. m ≡ message_of (view packet.now)) }
+{
+    match &packet.header {
+        Header::Payload(payload) => {
+            let message = payload_message(alloc, payload, packet.rest)?;
+            Ok(Some(message))
+        }
+        Header::NameDistributor(distribution) => {
+            let message = distribution_message(alloc, distribution, packet.rest)?;
+            Ok(Some(message))
+        }
+        Header::Bundler(_)
+        | Header::State(_)
+        | Header::Reset(_)
+        | Header::Activate(_)
+        | Header::Changeover(_)
+        | Header::Fragmenter(_)
+        | Header::Discovery(_) => Ok(None),
+    }
 }

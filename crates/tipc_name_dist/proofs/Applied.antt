@@ -1,11 +1,8 @@
 -- What items one after the other come to, and how what was learned is taken back.
 use Rattle.std.proofs.Common.{◌≡◌, ℕ, ◌+◌, ◌≤◌, ◌<◌, ◌&&◌, ◌||◌, ◌==◌, Bool, true, false, not, List, [], ◌∷◌, ◌++◌, Option, Some, None, filter, find, length, if◌then◌else◌, refl, ap, ◌∙◌, sym, subst, drop, arith}
-use Rattle.std.specs.Prelude.{option_map}
 use Rattle.std.specs.List.{list_any}
 use Rattle.std.specs.Result.{OnErr, OnOk}
 use Rattle.std.proofs.Common.{Err, Ok, Result}
-use Rattle.tipc_name_dist.specs.declared.applying.ItemFault.{ItemFault}
-use Rattle.tipc_name_dist.specs.declared.applying.ItemFault.TheVariants.{BadItem}
 use Rattle.std.proofs.Math.ListN.{get_or}
 use Rattle.std.proofs.lemmas.List.{drop_all, drop_more, length-append}
 use Rattle.tipc_types.specs.declared.message_forms.Item.{Item}
@@ -28,12 +25,11 @@ behind_none [] table = refl
 behind_none (p ∷ ps) table = ap (behind p) (behind_none ps table)
 
 -- the next one doesn't
-pub bad_behind : (ps : List Publication) (table : List Publication) → ((behind_all ps (nothing_applied table (Some 0))).bad ≡ Some (length ps)) × ((behind_all ps (nothing_applied table (Some 0))).table ≡ table)
-bad_behind [] table = (refl, refl)
+pub bad_behind : (ps : List Publication) (table : List Publication) → behind_all ps (nothing_applied table (Some 0)) ≡ record { table = table; publications = ps; bad = Some (length ps) }
+bad_behind [] table = refl
 bad_behind (p ∷ ps) table =
-    let h = bad_behind ps table in
     let one : length ps + 1 ≡ length (p ∷ ps) = omega arith in
-    (ap (option_map (λ n. n + 1)) h.0 ∙ ap Some one, h.1)
+    ap (behind p) (bad_behind ps table) ∙ ap (λ (n : ℕ). record { table = table; publications = p ∷ ps; bad = Some n }) one
 
 -- ---- taking back
 
@@ -117,13 +113,11 @@ learning_more from start items table ps room place item h next ordered fits =
 -- the next one doesn't: its place is told, and what was learned before it stays
 pub learning_bad : (from : ℕ) (start : List Publication) (items : List Item) (table ps : List Publication) (room place : ℕ) (item : Item) → IsLearning from start items table ps room place
     → drop place items ≡ item ∷ drop (place + 1) items → is_new from table item ≡ false
-    → ((learned_from from start items).bad ≡ Some place) × (table ≡ (learned_from from start items).table)
+    → learned_from from start items ≡ record { table = table; publications = ps; bad = Some place }
 learning_bad from start items table ps room place item h next old =
     let p = told_by from item in
-    let all : learned_from from start items ≡ behind_all ps (nothing_applied table (Some 0)) =
-    h.so_far ∙ ap (λ those. behind_all ps (learned_from from table those)) next ∙ ap (λ b. behind_all ps (if b then behind p (learned_from from (put p table) (drop (place + 1) items)) else nothing_applied table (Some 0))) old in
-    let at = bad_behind ps table in
-    (ap (λ (a : Applied). a.bad) all ∙ at.0 ∙ ap Some h.count, sym (ap (λ (a : Applied). a.table) all ∙ at.1))
+    h.so_far ∙ ap (λ those. behind_all ps (learned_from from table those)) next ∙ ap (λ b. behind_all ps (if b then behind p (learned_from from (put p table) (drop (place + 1) items)) else nothing_applied table (Some 0))) old
+    ∙ bad_behind ps table ∙ ap (λ (n : ℕ). record { table = table; publications = ps; bad = Some n }) h.count
 
 -- none is left
 pub learning_done : (from : ℕ) (start : List Publication) (items : List Item) (table ps : List Publication) (room place : ℕ) → IsLearning from start items table ps room place → length items ≤ place
@@ -145,13 +139,11 @@ forgetting_more from start items table ps room place item p h next held =
 
 pub forgetting_bad : (from : ℕ) (start : List Publication) (items : List Item) (table ps : List Publication) (room place : ℕ) (item : Item) → IsForgetting from start items table ps room place
     → drop place items ≡ item ∷ drop (place + 1) items → held_as from table item ≡ None
-    → ((forgotten_from from start items).bad ≡ Some place) × (table ≡ (forgotten_from from start items).table)
+    → forgotten_from from start items ≡ record { table = table; publications = ps; bad = Some place }
 forgetting_bad from start items table ps room place item h next none =
     let rest = forgotten_from from (without from item.key table) (drop (place + 1) items) in
-    let all : forgotten_from from start items ≡ behind_all ps (nothing_applied table (Some 0)) =
-    h.so_far ∙ ap (λ those. behind_all ps (forgotten_from from table those)) next ∙ ap (λ o. behind_all ps (forgotten_if o table rest)) none in
-    let at = bad_behind ps table in
-    (ap (λ (a : Applied). a.bad) all ∙ at.0 ∙ ap Some h.count, sym (ap (λ (a : Applied). a.table) all ∙ at.1))
+    h.so_far ∙ ap (λ those. behind_all ps (forgotten_from from table those)) next ∙ ap (λ o. behind_all ps (forgotten_if o table rest)) none
+    ∙ bad_behind ps table ∙ ap (λ (n : ℕ). record { table = table; publications = ps; bad = Some n }) h.count
 
 pub forgetting_done : (from : ℕ) (start : List Publication) (items : List Item) (table ps : List Publication) (room place : ℕ) → IsForgetting from start items table ps room place → length items ≤ place
     → forgotten_from from start items ≡ record { table = table; publications = ps; bad = None }
@@ -185,7 +177,7 @@ old_by_room from table item none = ap (λ b. is_ordered item && b) none ∙ both
 -- an item whose range isn't in order
 pub learning_misplaced : (from : ℕ) (start : List Publication) (items : List Item) (table ps : List Publication) (room place : ℕ) (o : Option Publication) → IsLearning from start items table ps room place
     → place < length items → o ≡ (if is_ordered (get_or items place some_item) then Some (told_by from (get_or items place some_item)) else None) → o ≡ None
-    → ((learned_from from start items).bad ≡ Some place) × (table ≡ (learned_from from start items).table)
+    → learned_from from start items ≡ record { table = table; publications = ps; bad = Some place }
 learning_misplaced from start items table ps room place o h within told none =
     let item = get_or items place some_item in
     learning_bad from start items table ps room place item h (drop_more items place some_item within) (old_by_order from table item (told_none (is_ordered item) (told_by from item) o told none))
@@ -193,12 +185,12 @@ learning_misplaced from start items table ps room place o h within told none =
 -- one for which there is no room
 pub learning_full : (from : ℕ) (start : List Publication) (items : List Item) (table new ps : List Publication) (room place : ℕ) (p : Publication) → IsLearning from start items table ps room place
     → place < length items → Some p ≡ (if is_ordered (get_or items place some_item) then Some (told_by from (get_or items place some_item)) else None) → can_be_put table p ≡ false → new ≡ table
-    → ((learned_from from start items).bad ≡ Some place) × (new ≡ (learned_from from start items).table)
+    → learned_from from start items ≡ record { table = new; publications = ps; bad = Some place }
 learning_full from start items table new ps room place p h within told none same =
     let item = get_or items place some_item in
     let is = told_some (is_ordered item) (told_by from item) p told in
-    let bad = learning_bad from start items table ps room place item h (drop_more items place some_item within) (old_by_room from table item (ap (can_be_put table) (sym is.1) ∙ none)) in
-    (bad.0, same ∙ bad.1)
+    learning_bad from start items table ps room place item h (drop_more items place some_item within) (old_by_room from table item (ap (can_be_put table) (sym is.1) ∙ none))
+    ∙ ap (λ (now : List Publication). record { table = now; publications = ps; bad = Some place }) (sym same)
 
 -- one that is learned
 pub learning_next : (from : ℕ) (start : List Publication) (items : List Item) (table new ps more : List Publication) (room now place : ℕ) (p : Publication) → IsLearning from start items table ps room place
@@ -224,15 +216,15 @@ forgetting_next from start items table new ps more room now place p h within hel
 
 pub forgetting_none : (from : ℕ) (start : List Publication) (items : List Item) (table new ps : List Publication) (room place : ℕ) → IsForgetting from start items table ps room place
     → place < length items → None ≡ held_as from table (get_or items place some_item) → new ≡ table
-    → ((forgotten_from from start items).bad ≡ Some place) × (new ≡ (forgotten_from from start items).table)
+    → forgotten_from from start items ≡ record { table = new; publications = ps; bad = Some place }
 forgetting_none from start items table new ps room place h within none same =
     let item = get_or items place some_item in
-    let bad = forgetting_bad from start items table ps room place item h (drop_more items place some_item within) (sym none) in
-    (bad.0, same ∙ bad.1)
+    forgetting_bad from start items table ps room place item h (drop_more items place some_item within) (sym none)
+    ∙ ap (λ (now : List Publication). record { table = now; publications = ps; bad = Some place }) (sym same)
 
--- the fault of this place names it
-pub bad_place : {A : Type 0} (fault : ItemFault) (here place : ℕ) → fault ≡ BadItem here → ◌≡◌ {A = Result A ItemFault} (Err fault) (Err (BadItem place)) → here ≡ place
-bad_place fault here place is same = cc
+-- what is given of it tells it
+pub given : (a : Applied) (new those ps : List Publication) (o bad : Option ℕ) → a ≡ record { table = new; publications = those; bad = o } → ps ≡ those → bad ≡ o → a ≡ record { table = new; publications = ps; bad = bad }
+given a new those ps o bad is same at = is ∙ ap (λ (qs : List Publication). record { table = new; publications = qs; bad = o }) (sym same) ∙ ap (λ (b : Option ℕ). record { table = new; publications = ps; bad = b }) (sym at)
 
 -- ---- taking one back
 

@@ -1,6 +1,6 @@
 -- What the items of a peer make of a name table: they are applied one after the other, up to the first that doesn't
 -- fit.
-use Rattle.std.specs.Prelude.{ℕ, ◌+◌, ◌&&◌, Bool, true, false, not, nat_le, nat_lt, List, [], ◌∷◌, ◌++◌, Option, Some, None, count_by, find, if◌then◌else◌, is_none, option_map}
+use Rattle.std.specs.Prelude.{ℕ, ◌+◌, ◌&&◌, Bool, true, false, not, nat_le, nat_lt, List, [], ◌∷◌, ◌++◌, Option, Some, None, count_by, find, fold, if◌then◌else◌, is_none, map, option_map}
 use Rattle.std.specs.List.{list_any}
 use Rattle.tipc_types.specs.declared.message_forms.Item.{Item}
 use Rattle.tipc_types.specs.declared.message_forms.Message.{Message}
@@ -8,6 +8,8 @@ use Rattle.tipc_types.specs.declared.message_forms.Message.TheVariants.{Items, P
 use Rattle.tipc_types.specs.declared.services.Publication.{Publication}
 use Rattle.tipc_types.specs.declared.services.Scope.TheVariants.{Cluster}
 use Rattle.tipc_name_table.specs.Tables.{is_named, is_of, put, without}
+use Rattle.tipc_journal.specs.declared.entries.Entry.{Entry}
+use Rattle.tipc_journal.specs.declared.entries.Entry.TheVariants as entry
 use Rattle.tipc_name_dist.specs.declared.applying.Learnt.{Learnt}
 use Rattle.tipc_name_dist.specs.declared.applying.Learnt.TheVariants.{Forgot, Learned}
 
@@ -97,3 +99,23 @@ abbrev pub applied_each : ℕ → List Publication → List Message → Applied
 applied_each from table [] = nothing_applied table None
 applied_each from table (m ∷ messages) =
     after_first (applied from table m) (applied_each from (applied from table m).table messages)
+
+-- what is held of a peer after each of its messages, also where an item of one doesn't fit
+abbrev pub held_after : ℕ → List Publication → List Message → List Publication
+held_after from table messages = fold (λ ps m. (applied from ps m).table) table messages
+
+-- ---- what a journal keeps of it
+
+-- a publication that was learned or forgotten by a message
+abbrev pub learnt_entry : Message → Publication → Entry
+learnt_entry (Items true items) p = entry.Forgot p
+learnt_entry other p = entry.Learned p
+
+-- an item that doesn't fit is dropped, at its place
+abbrev pub misfit_entries : Option ℕ → List Entry
+misfit_entries None = []
+misfit_entries (Some place) = entry.Dropped place ∷ []
+
+-- what is learned or forgotten by a peer's message, in the order of its items, up to the first that doesn't fit
+abbrev pub learnt_entries : ℕ → List Publication → Message → List Entry
+learnt_entries from table m = map (learnt_entry m) (applied from table m).publications ++ misfit_entries (applied from table m).bad

@@ -1,5 +1,5 @@
 -- Item messages: what a node tells its peers of its publications.
-use Rattle.std.specs.Prelude.{◌≡◌, ◌≤◌, ◌<◌, ℕ, ◌+◌, false, List, [], ◌∷◌, Some, length, map, slice_get, if◌then◌else◌}
+use Rattle.std.specs.Prelude.{◌≡◌, ◌≤◌, ◌<◌, ℕ, ◌+◌, Bool, false, List, [], ◌∷◌, Some, length, map, slice_get, if◌then◌else◌}
 use Rattle.std.specs.List.{flat_map}
 use Rattle.tipc_types.specs.declared.message_forms.Item.{Item}
 use Rattle.tipc_types.specs.declared.message_forms.Message.{Message}
@@ -36,3 +36,11 @@ pub record IsBulk (live : List Publication) (messages : List Message) : Type 0 w
   pub each : (k : ℕ) (m : Message) → slice_get messages k ≡ Some m → IsTelling m
   pub full : (k : ℕ) (m : Message) → slice_get messages k ≡ Some m → k + 1 < length messages →
       length (items_in m) ≡ most_items
+
+-- what a node tells each peer of a publication, or of its withdrawal: one message, or none where it isn't seen in the
+-- cluster
+abbrev pub telling : Bool → Publication → List Message
+telling withdrawal p = if is_clusterwide p.scope then Items withdrawal (item_of p ∷ []) ∷ [] else []
+
+abbrev pub tellings : Bool → List Publication → List Message
+tellings withdrawal ps = flat_map (telling withdrawal) ps

@@ -1,14 +1,15 @@
 //! What a node learns of a peer's items.
 
-ghost use Rattle.std.specs.Prelude.{◌≡◌, ◌≤◌, ℕ, Err, None, Some, false, true, length, if◌then◌else◌, IfNone, IfOk, IfSome, OnErr, OnOk};
+ghost use Rattle.std.specs.Prelude.{◌≡◌, ◌≤◌, ℕ, Err, List, None, Some, false, true, length, if◌then◌else◌, IfNone, IfOk, IfSome, OnErr, OnOk};
 ghost use Rattle.tipc_types.specs.Address.{IsNodeWord};
+ghost use Rattle.tipc_types.specs.declared.services.Publication.{Publication};
 ghost use Rattle.tipc_name_table.specs.Tables.{put, without};
 ghost use Rattle.tipc_name_dist.specs.Applying.{applied, forgotten_from, can_be_put, held_as, is_ordered, learned_from, learnt_of, told_by, undone};
 ghost use Rattle.tipc_name_dist.specs.Items.{items_in};
 
-use std::alloc::{AllocError, Global};
+use std::alloc::Global;
 use tipc_name_table::{NameFault, Names};
-use tipc_types::{Addr, Item, List, Message, PortId, Publication, Scope, ServiceRange};
+use tipc_types::{Addr, Item, List, Message, NoMemory, PortId, Publication, Scope, ServiceRange};
 
 /// What a node learned of a peer's message. (This project's profile.)
 #[derive(Clone, Debug, Drop, PartialEq)]
@@ -17,6 +18,15 @@ pub enum Learnt {
     Learned(List),
     /// These were held, and are no longer.
     Forgot(List),
+}
+
+/// What a peer's message made of a name table, up to its first item that doesn't fit. (This project's profile.)
+#[derive(Clone, Debug, Drop, PartialEq)]
+pub struct AppliedFront {
+    /// What was learned or forgotten by the items that are applied.
+    pub learnt: Learnt,
+    /// The place of the first item that doesn't fit, from 0: None where all items are applied.
+    pub bad: Option<u32>,
 }
 
 /// Why an item message wasn't applied whole. (This project's profile.)
@@ -33,15 +43,22 @@ pub enum ItemFault {
     NoMemory,
 }
 
-impl From<AllocError> for ItemFault {
+impl From<NoMemory> for ItemFault {
     ghost use Rattle.std.specs.Prelude.{◌≡◌};
     ghost use Rattle.tipc_name_dist.specs.declared.applying.ItemFault.TheVariants as fault;
 
     ghost from_gives = { λ _ e. e ≡ fault.NoMemory };
 
-    fn from(_error: AllocError) -> ItemFault {
+    fn from(_error: NoMemory) -> ItemFault {
         ItemFault::NoMemory
     }
+}
+
+/// The publications of the items that are applied, and the place of the first item that doesn't fit.
+#[derive(Drop)]
+struct Front {
+    publications: List,
+    bad: Option<u32>,
 }
 
 /// Why one item wasn't applied. Nothing is changed then.
@@ -54,7 +71,7 @@ enum Unfit {
 }
 
 /// The publication of which a peer's item tells: None exactly where its lower bound is above the upper one.
-fn told_by(from: Addr, item: &Item) -> Option<Publication>
+pub fn told_by(from: Addr, item: &Item) -> Option<Publication>
     ensures told { result ≡ (if is_ordered item.now then Some (told_by from.word item.now) else None) }
 {
     let Ok(range) = ServiceRange::new(item.kind, item.lower, item.upper) else {
@@ -105,47 +122,55 @@ fn take_back<N: Names>(names: &mut N, from: Addr, mut learned: Vec<Publication>)
     }
 }
 
-/// The item at this place doesn't fit.
-fn bad(place: usize) -> ItemFault
-    requires { place ≤ 70 }
-    ensures { result ≡ ItemFault.BadItem place }
+/// All items fit.
+fn whole(publications: Vec<Publication>) -> Front
+    ensures { (result.publications ≡ publications.items) × (result.bad ≡ None) }
 {
-    ItemFault::BadItem {
-        place: place as u32,
+    Front {
+        publications: List::from_vec(publications),
+        bad: None,
     }
 }
 
-/// Learns the publications of a peer's items, one after the other.
+/// The item at this place doesn't fit.
+fn up_to(publications: Vec<Publication>, place: usize) -> Front
+    requires { place ≤ 70 }
+    ensures { (result.publications ≡ publications.items) × (result.bad ≡ Some place) }
+{
+    Front {
+        publications: List::from_vec(publications),
+        bad: Some(place as u32),
+    }
+}
+
+/// Learns the publications of a peer's items, one after the other, up to the first that doesn't fit.
 fn learn_all<N: Names>(
     alloc: Global,
     names: &mut N,
     from: Addr,
     items: &[Item],
-) -> Result<List, ItemFault>
+) -> Result<Front, NoMemory>
     requires node { IsNodeWord from.word }
     requires few { length items.now ≤ 70 }
-    ensures ok { IfOk result (λ ps. learned_from from.word (N.table names.old) items.now ≡
-        record { table = N.table names.new; publications = ps; bad = None }) }
-    ensures bad { (place : ℕ) → result ≡ Err (ItemFault.BadItem place) →
-        ((learned_from from.word (N.table names.old) items.now).bad ≡ Some place) ×
-        (N.table names.new ≡ (learned_from from.word (N.table names.old) items.now).table) }
-    ensures err { result ≡ Err ItemFault.NoMemory → N.table names.new ≡ N.table names.old }
+    ensures ok { IfOk result (λ front. learned_from from.word (N.table names.old) items.now ≡
+        record { table = N.table names.new; publications = front.publications; bad = front.bad }) }
+    ensures err { OnErr result (N.table names.new ≡ N.table names.old) }
 {
     let mut learned = Vec::with_capacity(alloc, items.len())?;
     for place in 0..items.len() {
         let Some(p) = told_by(from, &items[place]) else {
-            return Err(bad(place));
+            return Ok(up_to(learned, place));
         };
         match learn(names, &p) {
             Ok(()) => learned.push_reserved(p),
-            Err(Unfit::Bad) => return Err(bad(place)),
+            Err(Unfit::Bad) => return Ok(up_to(learned, place)),
             Err(Unfit::NoMemory) => {
                 take_back(names, from, learned);
-                return Err(ItemFault::NoMemory);
+                return Err(NoMemory);
             }
         }
     }
-    Ok(List::from_vec(learned))
+    Ok(whole(learned))
 }
 
 /// Forgets the publication that a peer's withdrawal names: None exactly where it doesn't fit.
@@ -163,29 +188,67 @@ fn forget<N: Names>(names: &mut N, from: Addr, item: &Item) -> Option<Publicatio
     }
 }
 
-/// Forgets the publications that a peer's withdrawals name, one after the other.
+/// Forgets the publications that a peer's withdrawals name, one after the other, up to the first that doesn't fit.
 fn forget_all<N: Names>(
     alloc: Global,
     names: &mut N,
     from: Addr,
     items: &[Item],
-) -> Result<List, ItemFault>
+) -> Result<Front, NoMemory>
     requires few { length items.now ≤ 70 }
-    ensures ok { IfOk result (λ ps. forgotten_from from.word (N.table names.old) items.now ≡
-        record { table = N.table names.new; publications = ps; bad = None }) }
-    ensures bad { (place : ℕ) → result ≡ Err (ItemFault.BadItem place) →
-        ((forgotten_from from.word (N.table names.old) items.now).bad ≡ Some place) ×
-        (N.table names.new ≡ (forgotten_from from.word (N.table names.old) items.now).table) }
-    ensures err { result ≡ Err ItemFault.NoMemory → N.table names.new ≡ N.table names.old }
+    ensures ok { IfOk result (λ front. forgotten_from from.word (N.table names.old) items.now ≡
+        record { table = N.table names.new; publications = front.publications; bad = front.bad }) }
+    ensures err { OnErr result (N.table names.new ≡ N.table names.old) }
 {
     let mut forgotten = Vec::with_capacity(alloc, items.len())?;
     for place in 0..items.len() {
         match forget(names, from, &items[place]) {
             Some(p) => forgotten.push_reserved(p),
-            None => return Err(bad(place)),
+            None => return Ok(up_to(forgotten, place)),
         }
     }
-    Ok(List::from_vec(forgotten))
+    Ok(whole(forgotten))
+}
+
+/// Applies a peer's message of at most 70 items to a name table, one item after the other, up to the first that
+/// doesn't fit, and tells both what was learned or forgotten and where that item stands. A user's message has no
+/// items. (TIPC 2.0 draft, name distributor.)
+///
+/// # Errors
+///
+/// `NoMemory` where memory runs out, which changes nothing.
+pub fn apply_front<N: Names>(
+    alloc: Global,
+    names: &mut N,
+    from: Addr,
+    message: &Message,
+) -> Result<AppliedFront, NoMemory>
+    requires node { IsNodeWord from.word }
+    requires few { length (items_in message.now) ≤ 70 }
+    ensures ok { IfOk result (λ front. (ps : List Publication) ×
+        (applied from.word (N.table names.old) message.now ≡
+        record { table = N.table names.new; publications = ps; bad = front.bad }) ×
+        (front.learnt ≡ learnt_of message.now ps)) }
+    ensures err { OnErr result (N.table names.new ≡ N.table names.old) }
+{
+    let Message::Items { withdrawal, items } = message else {
+        return Ok(AppliedFront {
+            learnt: Learnt::Learned(List::new(alloc)),
+            bad: None,
+        });
+    };
+    if *withdrawal {
+        let front = forget_all(alloc, names, from, items.as_slice())?;
+        return Ok(AppliedFront {
+            learnt: Learnt::Forgot(front.publications),
+            bad: front.bad,
+        });
+    }
+    let front = learn_all(alloc, names, from, items.as_slice())?;
+    Ok(AppliedFront {
+        learnt: Learnt::Learned(front.publications),
+        bad: front.bad,
+    })
 }
 
 /// Applies a peer's message of at most 70 items to a name table, one item after the other: its publications are
@@ -213,15 +276,9 @@ pub fn apply<N: Names>(
         (N.table names.new ≡ (applied from.word (N.table names.old) message.now).table) }
     ensures err { result ≡ Err ItemFault.NoMemory → N.table names.new ≡ N.table names.old }
 {
-    match message {
-        Message::Items { withdrawal, items } => {
-            if *withdrawal {
-                let forgotten = forget_all(alloc, names, from, items.as_slice())?;
-                return Ok(Learnt::Forgot(forgotten));
-            }
-            let learned = learn_all(alloc, names, from, items.as_slice())?;
-            Ok(Learnt::Learned(learned))
-        }
-        Message::Payload { .. } => Ok(Learnt::Learned(List::new(alloc))),
+    let front = apply_front(alloc, names, from, message)?;
+    match front.bad {
+        Some(place) => Err(ItemFault::BadItem { place }),
+        None => Ok(front.learnt),
     }
 }

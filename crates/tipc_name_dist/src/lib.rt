@@ -5,7 +5,7 @@ mod applying;
 mod items;
 pub mod laws;
 
-pub use applying::{ItemFault, Learnt, apply};
+pub use applying::{AppliedFront, ItemFault, Learnt, apply, apply_front, told_by};
 pub use items::{MOST_ITEMS, bulk, item};
 
 #[cfg(test)]

@@ -163,6 +163,24 @@ fn items_before_a_bad_one_are_learned(rt: HostRuntime) -> Result<(), Fail> {
 }
 
 #[test]
+fn what_is_learned_before_a_bad_item_is_told(rt: HostRuntime) -> Result<(), Fail> {
+    let alloc = rt.alloc();
+    let mut names = NameTable::new(alloc);
+    let items = ItemList::from_slice(alloc, &[named(0, 1), named(10, 2), named(0, 3)])?;
+    let message = Message::Items {
+        withdrawal: false,
+        items,
+    };
+    let front = apply_front(alloc, &mut names, Addr::node(2), &message)?;
+    assert_eq!(rt; front.bad, Some(1));
+    let Learnt::Learned(ps) = &front.learnt else {
+        panic!(rt; "nothing is learned");
+    };
+    are(&rt, alloc, ps, &[1])?;
+    holds(&rt, alloc, &names, &[1])
+}
+
+#[test]
 fn withdrawals_before_a_bad_one_are_applied(rt: HostRuntime) -> Result<(), Fail> {
     let alloc = rt.alloc();
     let mut names = NameTable::new(alloc);

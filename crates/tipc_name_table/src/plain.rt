@@ -49,6 +49,13 @@ impl NameTable {
         }
     }
 
+    /// The publications that are held, in order of node, port and key.
+    pub fn as_slice(&self) -> &[Publication]
+        ensures { result.now ≡ self.now }
+    {
+        self.held.as_slice()
+    }
+
     /// The same table.
     pub fn copy(&self) -> Result<NameTable, NoMemory>
         ensures { IfOk result (λ copy. copy ≡ self.now) }

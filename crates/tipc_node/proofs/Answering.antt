@@ -1,34 +1,41 @@
 -- What the calls on names make of the sockets.
-use Rattle.std.proofs.Common.{◌≡◌, ◌≤◌, ℕ, Bool, true, false, cond, ◌+◌, List, [], ◌∷◌, ◌++◌, Option, None, Some, length, map, filter, refl, sym, ap, subst, ◌∙◌, true≢false, eqb-true, sum_by, arith}
-use Rattle.std.specs.Prelude.{◌&&◌, ◌||◌, count_by, find, if◌then◌else◌, not}
+use Rattle.std.proofs.Common.{◌≡◌, ◌≤◌, ℕ, Bool, true, false, cond, ◌+◌, List, [], ◌∷◌, Option, None, Some, length, map, filter, refl, sym, ap, subst, ◌∙◌, true≢false, eqb-true, sum_by, arith}
+use Rattle.std.specs.Prelude.{◌&&◌, ◌||◌, count_by, find, fold, if◌then◌else◌, not, option_to_list}
 use Rattle.std.specs.List.{list_any}
-use Rattle.std.proofs.lemmas.List.{length-map}
 use Rattle.tipc_types.specs.declared.node_calls.Answer.{Answer}
 use Rattle.tipc_types.specs.declared.node_calls.Answer.TheVariants as answer
-use Rattle.tipc_types.specs.declared.node_calls.By.{By}
-use Rattle.tipc_types.specs.declared.node_calls.EventNote.TheVariants.{Withdraw}
 use Rattle.tipc_types.specs.declared.services.Publication.{Publication}
-use Rattle.tipc_journal.specs.declared.entries.Entry.{Entry}
 use Rattle.tipc_journal.specs.declared.entries.Entry.TheVariants.{Withdrawn}
 use Rattle.tipc_journal.specs.Room.{entry_bytes}
-use Rattle.tipc_journal.specs.Steps.{step_entries}
+use Rattle.tipc_name_dist.specs.Items.{tellings}
 use Rattle.tipc_name_table.specs.Tables.{is_of}
 use Rattle.tipc_sockets.specs.Publishing.{has_key, is_at, published_at, withdrawn}
 use Rattle.tipc_sockets.specs.SocketTables.{AreSockets, SocketTable, has_port}
+use Rattle.tipc_sockets.specs.Telling.{after_entry}
 use Rattle.tipc_sockets.proofs.Counting.{count_by-filter, counted, counts_none}
 use Rattle.tipc_sockets.proofs.Keeping.{own_names_count}
-use Rattle.tipc_node.specs.Calls.{Makes}
-use Rattle.tipc_node.specs.Nodes.{NodeState, step_of}
-use Rattle.tipc_node.specs.Sockets.{key_refusal, withdrawal_refusal, withdrawn_entries, withdrawn_work}
-use Rattle.tipc_node.specs.Works.{begun, concluded, noted}
-use Rattle.tipc_node.proofs.Making.{concluded_is, made, node_of}
+use Rattle.tipc_node.specs.Nodes.{NodeState}
+use Rattle.tipc_node.specs.Sockets.{key_refusal, port_refusal, told_withdrawal, withdrawal_refusal, withdrawn_entries, withdrawn_work}
 
 -- ---- names
 
 abbrev withdrawal_by : ℕ → SocketTable → ℕ → Bool → Option Answer
 withdrawal_by key s port there = if there then key_refusal (published_at s port key) else Some answer.NoSocket
 
-withdrawal_free : (s : SocketTable) (port key : ℕ) (p : Publication) → has_port s port ≡ true → published_at s port key ≡ Some p → withdrawal_refusal s port key ≡ None
+-- a port that isn't there refuses, as does a key that isn't live at one that is
+pub port_gone : (s : SocketTable) (port : ℕ) → has_port s port ≡ false → port_refusal s port ≡ Some answer.NoSocket
+port_gone s port gone = ap (λ (b : Bool). if b then None else Some answer.NoSocket) gone
+
+pub port_there : (s : SocketTable) (port : ℕ) → has_port s port ≡ true → port_refusal s port ≡ None
+port_there s port there = ap (λ (b : Bool). if b then None else Some answer.NoSocket) there
+
+pub withdrawal_gone : (s : SocketTable) (port key : ℕ) → has_port s port ≡ false → withdrawal_refusal s port key ≡ Some answer.NoSocket
+withdrawal_gone s port key gone = ap (withdrawal_by key s port) gone
+
+pub withdrawal_unknown : (s : SocketTable) (port key : ℕ) → has_port s port ≡ true → published_at s port key ≡ None → withdrawal_refusal s port key ≡ Some answer.Unknown
+withdrawal_unknown s port key there none = ap (withdrawal_by key s port) there ∙ ap key_refusal none
+
+pub withdrawal_free : (s : SocketTable) (port key : ℕ) (p : Publication) → has_port s port ≡ true → published_at s port key ≡ Some p → withdrawal_refusal s port key ≡ None
 withdrawal_free s port key p there some = ap (withdrawal_by key s port) there ∙ ap key_refusal some
 
 -- ---- what is live
@@ -85,28 +92,29 @@ filter_few test (x ∷ xs) = by (test x) (filter_few test xs)
     by true rest = omega (arith, rest)
     by false rest = omega (arith, rest)
 
--- ---- withdrawals count for nothing
+-- as many are at a port
+pub at_few : (s : SocketTable) (port : ℕ) → AreSockets s → length (filter (is_at port) s.live) ≤ 1024
+at_few s port h =
+    let all = live_few s h in
+    let some = filter_few (is_at port) s.live in
+    omega (arith, all, some)
 
+-- withdrawals count for nothing
 pub withdrawals_light : (ps : List Publication) → sum_by entry_bytes (map Withdrawn ps) ≡ 0
 withdrawals_light [] = refl
 withdrawals_light (p ∷ ps) = withdrawals_light ps
 
-pub withdrawals_few : (s : SocketTable) (port : ℕ) → AreSockets s → length (map Withdrawn (filter (is_at port) s.live)) ≤ 1024
-withdrawals_few s port h =
-    let all = live_few s h in
-    let some = filter_few (is_at port) s.live in
-    let long = length-map (filter (is_at port) s.live) Withdrawn in
-    omega (arith, all, some, long)
-
 -- ---- a withdrawal that is made
 
-pub withdrawn_made : (n k : NodeState) (by : By) (port key : ℕ) (p : Publication) (s : SocketTable) (told journal : List Entry) → k ≡ n → AreSockets n.sockets → has_port k.sockets port ≡ true → published_at k.sockets port key ≡ Some p
-    → s ≡ withdrawn k.sockets k.sockets.own key → told ≡ Withdrawn p ∷ [] → journal ≡ k.journal ++ step_entries (step_of by (Withdraw port key) told answer.Done)
-    → Makes n by (Withdraw port key) (withdrawal_refusal n.sockets port key) (withdrawn_work n port key) answer.Done (node_of k k.neighbours s journal) [] answer.Done
-withdrawn_made n k by port key p s told journal same sound there found after is recorded =
-    let own = published_own k.sockets port key p (subst (λ (z : NodeState). AreSockets z.sockets) (sym same) sound) found in
-    let those = ap (λ (word : ℕ). withdrawn k.sockets word key) (sym own.0) ∙ ap (withdrawn k.sockets p.at.node.word) (sym own.1) in
-    subst (λ (z : NodeState). Makes z by (Withdraw port key) (withdrawal_refusal z.sockets port key) (withdrawn_work z port key) answer.Done (node_of k k.neighbours s journal) [] answer.Done) same
-    (made k (node_of k k.neighbours s journal) by (Withdraw port key) (withdrawal_refusal k.sockets port key) (withdrawn_work k port key) answer.Done answer.Done (withdrawal_free k.sockets port key p there found)
-    (concluded_is k by (Withdraw port key) k.neighbours k.neighbours s (withdrawn k.sockets p.at.node.word p.key) (Withdrawn p ∷ []) told journal answer.Done refl (after ∙ those) is recorded
-    ∙ ap (λ q. concluded k by (Withdraw port key) (noted (begun k) (withdrawn_entries q)) answer.Done) (sym found)) refl)
+-- the sockets where what was found at a port is withdrawn
+pub withdrawn_sockets : (n : NodeState) (port key : ℕ) (p : Publication) (s : SocketTable) → AreSockets n.sockets → published_at n.sockets port key ≡ Some p → s ≡ withdrawn n.sockets n.sockets.own key → s ≡ (withdrawn_work n port key).sockets
+withdrawn_sockets n port key p s sound found after =
+    let own = published_own n.sockets port key p sound found in
+    after ∙ ap (λ (word : ℕ). withdrawn n.sockets word key) (sym own.0) ∙ ap (withdrawn n.sockets p.at.node.word) (sym own.1) ∙ ap (λ o. fold after_entry n.sockets (withdrawn_entries o)) (sym found)
+
+-- and what is told of it
+pub withdrawn_inside : (n : NodeState) (port key : ℕ) (p : Publication) → published_at n.sockets port key ≡ Some p → Withdrawn p ∷ [] ≡ (withdrawn_work n port key).inside
+withdrawn_inside n port key p found = ap withdrawn_entries (sym found)
+
+pub withdrawn_told : (n : NodeState) (port key : ℕ) (p : Publication) → published_at n.sockets port key ≡ Some p → tellings true (p ∷ []) ≡ told_withdrawal n.sockets port key
+withdrawn_told n port key p found = ap (λ (o : Option Publication). tellings true (option_to_list o)) (sym found)

@@ -103,7 +103,7 @@ followed_as e f change.Up = record { fsm = refl; contact = refl; seen = refl }
 followed_as e f (change.Answer (reply.State probe)) = record { fsm = refl; contact = refl; seen = refl }
 followed_as e f other = record { fsm = refl; contact = refl; seen = refl }
 
-arrival_as : (e : LinkEnd) (o : Outcome) (p : Fields) (by : ℕ) → IsAs e (arrival_end e o p by) o.after
+pub arrival_as : (e : LinkEnd) (o : Outcome) (p : Fields) (by : ℕ) → IsAs e (arrival_end e o p by) o.after
 arrival_as e o p by =
     let a = followed_as e o.after o.change in
     tested (λ (x : LinkEnd). IsAs e x o.after) (is_heard p.header o.change) _ _ (λ _. record { fsm = a.fsm; contact = a.contact; seen = a.seen }) (λ _. a)
@@ -117,7 +117,7 @@ ignored_by : (e : LinkEnd) (f : Fsm) (reason : Why) (p : Fields) (by : ℕ) → 
 ignored_by e f reason p by = ap (λ b. if b then heard_outcome (after e (gives f (change.Ignore reason))).session by (content_of p) else Ignored reason) (and_none (is_traffic p.header))
 
 -- a session that hears a packet stays one
-arrival_begun : (e : LinkEnd) (o : Outcome) (p : Fields) (by : ℕ) → is_some (after e o).session ≡ true → is_some (arrival_end e o p by).session ≡ true
+pub arrival_begun : (e : LinkEnd) (o : Outcome) (p : Fields) (by : ℕ) → is_some (after e o).session ≡ true → is_some (arrival_end e o p by).session ≡ true
 arrival_begun e o p by is = tested (λ (x : LinkEnd). is_some x.session ≡ true) (is_heard p.header o.change) _ _ (λ _. mapped_some _ (after e o).session is) (λ _. is)
 
 -- an end that is as it was, with a link that is up and has heard its peer

@@ -1,12 +1,13 @@
 -- The journal tells of the node after an arrival.
-use Rattle.std.proofs.Common.{◌≡◌, ◌≤◌, ◌<◌, ◌==◌, ◌-◌, ℕ, true, false, List, [], ◌++◌, Option, Some, None, fold, is_some, inl, inr, refl, sym, ap, ◌∙◌, subst, arith}
-use Rattle.std.specs.Prelude.{◌⊎◌, if◌then◌else◌, option_and_then, option_map, slice_index_or, slice_set}
+use Rattle.std.proofs.Common.{◌≡◌, ◌≤◌, ◌<◌, ◌==◌, ◌-◌, ℕ, true, false, List, [], ◌∷◌, ◌++◌, Option, Some, None, fold, is_some, inl, inr, refl, sym, ap, ◌∙◌, subst, arith}
+use Rattle.std.specs.Prelude.{◌⊎◌, if◌then◌else◌, map, option_and_then, option_map, slice_index_or, slice_set}
 use Rattle.std.proofs.lemmas.Bool.{cases_eq, cases_lt}
 use Rattle.std.proofs.lemmas.Bool.Decides.{nat_tests}
 use Rattle.std.proofs.lemmas.List.{append_cancel_left, get_or-set_other}
 use Rattle.tipc_types.specs.Address.{node_word}
 use Rattle.tipc_types.specs.declared.identity.Addr.{Addr}
 use Rattle.tipc_types.specs.declared.link_words.Why.{Why}
+use Rattle.tipc_types.specs.declared.packet_lists.Taken.{Taken}
 use Rattle.tipc_types.specs.declared.node_calls.Answer.{Answer}
 use Rattle.tipc_types.specs.declared.node_calls.Answer.TheVariants as answer
 use Rattle.tipc_types.specs.declared.node_calls.Arrival.{Arrival}
@@ -25,24 +26,32 @@ use Rattle.tipc_journal.proofs.ContactLaws.{contact_append}
 use Rattle.tipc_link_fsm.specs.Table.{is_up}
 use Rattle.tipc_pair.specs.declared.changes.PairChange.{PairChange}
 use Rattle.tipc_pair.specs.declared.changes.PairChange.TheVariants.{Stay, Began, Ended}
+use Rattle.tipc_recv_window.specs.declared.outcomes.LinkOutcome.{LinkOutcome}
+use Rattle.tipc_recv_window.specs.declared.outcomes.LinkOutcome.TheVariants.{Took}
+use Rattle.tipc_reassembly.specs.declared.opening.Opened.{Opened}
+use Rattle.tipc_reassembly.specs.Opening.{go_on, none}
+use Rattle.tipc_pair.specs.declared.changes.PairOutcome.{PairOutcome}
 use Rattle.tipc_pair.specs.Pairs.{Met, contact_of}
-use Rattle.tipc_pair.specs.Partners.{opened_in}
+use Rattle.tipc_pair.specs.Partners.{OpensTo, begun_after, deferred, ignored, opened_in, took}
 use Rattle.tipc_sockets.specs.SocketTables.{AreSockets}
 use Rattle.tipc_node.specs.declared.neighbours.Neighbour.{Neighbour}
 use Rattle.tipc_node.specs.Arrivals.{Arrives, Hears, answered_work, heard_work}
 use Rattle.tipc_node.specs.Neighbours.{heard_neighbour, met_by, no_broadcast}
-use Rattle.tipc_node.specs.Nodes.{NodeState, arrival_deliveries, change_entries, neighbour_of, shown_contact, step_of, stop_of}
+use Rattle.tipc_node.specs.Nodes.{NodeState, arrival_deliveries, change_entries, delivery_of, neighbour_of, shown_contact, step_of, stop_of}
 use Rattle.tipc_node.specs.Telling.{IsTold}
 use Rattle.tipc_node.specs.Turns.{NodeTurn, addr_of}
 use Rattle.tipc_node.specs.Works.{Work, addr_of_word, begun}
 use Rattle.tipc_node.proofs.ArrivalMoves.{IsMet, arrival_met}
 use Rattle.tipc_node.proofs.Calling.{done_answered}
 use Rattle.tipc_node.proofs.Concluding.{IsCall, call_told, others_kept}
-use Rattle.tipc_node.proofs.Fating.{IsLinked, contact_at}
+use Rattle.tipc_node.proofs.Fating.{IsDone, IsLinked, contact_at}
+use Rattle.tipc_node.proofs.Greeting.{greets_items}
 use Rattle.tipc_node.proofs.Happening.{changes_quiet}
 use Rattle.tipc_node.proofs.Noting.{IsWorked, all_noted, begun_worked, worked_beside}
+use Rattle.tipc_node.proofs.Moves.{up_contact}
+use Rattle.tipc_node.proofs.PeersTold.{puts_each_linked, puts_each_worked}
 use Rattle.tipc_node.proofs.Places.{set_either, set_there}
-use Rattle.tipc_node.proofs.Putting.{IsDone, all_delivered, all_given, not_nobody}
+use Rattle.tipc_node.proofs.Putting.{IsInContact, all_delivered, all_given, not_nobody, still_in_contact}
 use Rattle.tipc_node.proofs.Senders.{sender_other}
 use Rattle.tipc_node.proofs.SendsTold.{begun_linked}
 use Rattle.tipc_node.proofs.Telling.{contact_by, contact_goes, told_contact}
@@ -127,6 +136,34 @@ heard_worked n peer first x p m last h was other met =
       heard_linked n peer first x p m last h was met,
     )
 
+-- ---- where something is delivered the link is up
+
+mapped_some : {A B : Type 0} (f : A → B) (xs : List A) (y : B) (ys : List B) → map f xs ≡ y ∷ ys → (x : A) × (rest : List A) × (xs ≡ x ∷ rest)
+mapped_some f [] y ys is = absurd cc
+mapped_some f (x ∷ xs) y ys is = (x, xs, refl)
+
+-- what was given was taken
+opened_taken : (begun last : Joining) (o : LinkOutcome) (out : PairOutcome) → OpensTo begun o out last → (x : Opened) (xs : List Opened) → opened_in out ≡ x ∷ xs → (t : Taken) × (ts : List Taken) × (o ≡ Took (t ∷ ts))
+opened_taken begun last _ _ (took none) x xs is = absurd cc
+opened_taken begun last _ _ (took (go_on one rest)) x xs is = (_, _, refl)
+opened_taken begun last _ _ deferred x xs is = absurd cc
+opened_taken begun last _ _ ignored x xs is = absurd cc
+
+peer_place : (xs : List (Option Neighbour)) (peer : ℕ) (x y : Neighbour) → slice_index_or xs peer None ≡ Some x → contact_at (slice_set xs peer (Some y)) (addr_of_word (node_word peer)) ≡ contact_of y.pair.link
+peer_place xs peer x y was =
+    let here : node_word peer - node_word 0 ≡ peer = omega arith in
+    ap (λ k. option_and_then (λ (z : Neighbour). contact_of z.pair.link) (slice_index_or (slice_set xs peer (Some y)) k None)) here
+    ∙ ap (option_and_then (λ (z : Neighbour). contact_of z.pair.link)) (set_there xs peer x y was)
+
+heard_in_contact : (n n' : NodeState) (by : By) (number : ℕ) (bytes : List ℕ) (frames : List Outgoing) (answered : Arrival) (heard : Hears n n' by number bytes frames answered)
+    → IsMet heard.neighbour.pair.link heard.first heard.packet.header heard.met
+    → IsInContact heard.peer (heard_work n heard.peer heard.neighbour heard.packet heard.met heard.last) (arrival_deliveries heard.peer heard.met.after heard.out)
+heard_in_contact n n' by number bytes frames answered heard met d ds some =
+    let y = heard_neighbour heard.neighbour heard.packet heard.met heard.last in
+    let opened = mapped_some (delivery_of heard.peer (shown_contact heard.met.after)) (opened_in heard.out) d ds some in
+    let taken = opened_taken (begun_after heard.met.change heard.neighbour.pair.begun) heard.last heard.met.outcome heard.out heard.opens opened.0 opened.1 opened.2 in
+    ap is_some (peer_place n.neighbours heard.peer heard.neighbour y heard.was ∙ up_contact y.pair.link (met.brought taken.0 taken.1 taken.2))
+
 -- ---- an arrival
 
 same_note : (journal : List Entry) (by : By) (note note' : EventNote) (xs ys : List Entry) (a b : Answer) → journal ++ step_entries (step_of by note xs a) ≡ journal ++ step_entries (step_of by note' ys b) → note ≡ note'
@@ -150,7 +187,14 @@ heard_told n n' by bearer number bytes frames answered inside h passes heard t s
     let met = subst (IsMet heard.neighbour.pair.link heard.first heard.packet.header) (sym heard.met_is) (heard_is n heard.peer heard.first heard.second number heard.neighbour heard.packet h heard.was) in
     let first = heard_worked n heard.peer heard.first heard.neighbour heard.packet heard.met heard.last h heard.was other met in
     let given = all_given heard.peer (shown_contact heard.met.after) (opened_in heard.out) in
-    let done = all_delivered n NothingDue [] [] (heard_work n heard.peer heard.neighbour heard.packet heard.met heard.last) (arrival_deliveries heard.peer heard.met.after heard.out) heard.work heard.returned first given heard.delivers in
+    let ds = arrival_deliveries heard.peer heard.met.after heard.out in
+    let start = heard_work n heard.peer heard.neighbour heard.packet heard.met heard.last in
+    let told : IsDone n NothingDue [] [] heard.greeted = (
+      puts_each_worked n NothingDue [] [] start heard.peer heard.greeting heard.greeted heard.greeting_frames first.0 (greets_items n.sockets.live heard.met.change heard.greeting heard.greets) heard.greeting_put,
+      puts_each_linked n heard.peer start heard.greeting heard.greeted heard.greeting_frames first.1 heard.greeting_put,
+    ) in
+    let up = still_in_contact n.own heard.peer start heard.greeting heard.greeted heard.greeting_frames ds heard.greeting_put (heard_in_contact n n' by number bytes frames answered heard met) in
+    let done = all_delivered n NothingDue [] [] heard.peer heard.greeted ds heard.work heard.returned other told given up heard.delivers in
     let w = answered_work heard.work heard.peer heard.then in
     let worked = worked_beside n NothingDue NothingDue [] [] heard.work w.neighbours done.0 in
     call_told n n' bytes by (event.Arrive 0 number) inside (answer.Arrived answered) (answer.Arrived answered) frames w w.sockets h t (ap (λ (x : NodeState). x.journal) heard.after) (ap (λ (x : NodeState). x.sockets) heard.after) sound

@@ -1,5 +1,5 @@
 -- Each arrival is a turn of the node.
-use Rattle.std.proofs.Common.{◌≡◌, ◌≢◌, ◌==◌, ◌&&◌, ℕ, Bool, true, false, List, [], ◌++◌, Option, Some, None, drop, filter, is_some, inl, inr, refl, sym, ap, ◌∙◌, subst, append-nil, eqb-true, arith}
+use Rattle.std.proofs.Common.{◌≡◌, ◌≢◌, ◌==◌, ◌&&◌, ℕ, Bool, true, false, List, [], ◌++◌, Option, Some, None, drop, filter, is_some, inl, inr, refl, sym, ap, ◌∙◌, subst, append-nil, append_assoc, eqb-true, arith}
 use Rattle.std.specs.Prelude.{if◌then◌else◌, slice_index_or, slice_set}
 use Rattle.std.specs.List.{All}
 use Rattle.std.proofs.lemmas.Bool.{and_parts, cases_eq}
@@ -37,7 +37,8 @@ use Rattle.tipc_node.proofs.Addressing.{AreFor, MetNames, answers_for, arrival_n
 use Rattle.tipc_node.proofs.Entries.{changes_accept, changes_deliver, changes_inside, changes_other, changes_own, changes_placed, given_in, given_other, given_own, inside_both, routed_to}
 use Rattle.tipc_node.proofs.MessageRuns.{delivers_all_run, idle_run}
 use Rattle.tipc_node.proofs.Places.{set_none, set_there}
-use Rattle.tipc_node.proofs.Runs.{IsRun, RunAt, Runs, accepted_now, both_parts, stand_set}
+use Rattle.tipc_node.proofs.PeersTold.{puts_each_run}
+use Rattle.tipc_node.proofs.Runs.{IsRun, RunAt, Runs, accepted_now, both_parts, run_then, stand_set}
 use Rattle.tipc_node.proofs.Shares.{frames_to-other, frames_to-own}
 use Rattle.tipc_node.proofs.Turning.{IsTurn, named_stand, rests_turn, run_turn, shows_none, turn_as}
 
@@ -95,13 +96,22 @@ other_frames b peer first middle last apart hf hl =
 
 -- ---- a packet that was heard
 
+-- the frames between those of the packet itself and the STATE that was due: of the greeting, and of the returns
+abbrev between : (n n' : NodeState) (by : By) (number : ℕ) (bytes : List ℕ) (frames : List Outgoing) (answered : Arrival) → Hears n n' by number bytes frames answered → List Outgoing
+between n n' by number bytes frames answered h = h.greeting_frames ++ h.returned
+
+frames_between : (n n' : NodeState) (by : By) (number : ℕ) (bytes : List ℕ) (frames : List Outgoing) (answered : Arrival) (h : Hears n n' by number bytes frames answered)
+    → frames ≡ h.met.frames ++ (between n n' by number bytes frames answered h ++ answered_frames h.then.pair.link (no_broadcast h.then.in_step))
+frames_between n n' by number bytes frames answered h =
+    h.frames_are ∙ ap (λ fs. h.met.frames ++ fs) (sym (append_assoc h.greeting_frames h.returned (answered_frames h.then.pair.link (no_broadcast h.then.in_step))))
+
 heard_from : (n n' : NodeState) (by : By) (number : ℕ) (bytes : List ℕ) (frames : List Outgoing) (answered : Arrival) (h : Hears n n' by number bytes frames answered) → IsFrom h.peer bytes h.first h.second h.packet
 heard_from n n' by number bytes frames answered h = record { es_fits = h.due.first_fits; er_fits = h.due.second_fits; fits = h.due.fits; frame_is = h.due.opened; previous = h.due.previous }
 
 -- the run of work behind it, in which such entries were noted
 abbrev RunsBehind : (n n' : NodeState) (by : By) (number : ℕ) (bytes : List ℕ) (frames : List Outgoing) (answered : Arrival) → Hears n n' by number bytes frames answered → List Entry → Type 0
 RunsBehind n n' by number bytes frames answered h told =
-    Runs n (heard_work n h.peer h.neighbour h.packet h.met h.last) told (entries_in (arrival_deliveries h.peer h.met.after h.out)) h.returned h.work
+    Runs n (heard_work n h.peer h.neighbour h.packet h.met h.last) told (entries_in (arrival_deliveries h.peer h.met.after h.out)) (between n n' by number bytes frames answered h) h.work
 
 heard_names : (n n' : NodeState) (by : By) (number : ℕ) (bytes : List ℕ) (frames : List Outgoing) (answered : Arrival) → AreNamed n → (h : Hears n n' by number bytes frames answered) → MetNames (node_word h.peer) h.met
 heard_names n n' by number bytes frames answered named h =
@@ -109,19 +119,22 @@ heard_names n n' by number bytes frames answered named h =
     (arrival_names (node_word h.peer) h.neighbour.pair.link h.first h.second h.packet number (no_broadcast h.neighbour.in_step) (named h.peer h.neighbour h.was))
 
 heard_run : (n n' : NodeState) (by : By) (number : ℕ) (bytes : List ℕ) (frames : List Outgoing) (answered : Arrival) → AreNamed n → (h : Hears n n' by number bytes frames answered)
-    → IsRun n (heard_work n h.peer h.neighbour h.packet h.met h.last) (entries_in (arrival_deliveries h.peer h.met.after h.out)) h.returned h.work
+    → IsRun n (heard_work n h.peer h.neighbour h.packet h.met h.last) (entries_in (arrival_deliveries h.peer h.met.after h.out)) (between n n' by number bytes frames answered h) h.work
 heard_run n n' by number bytes frames answered named h =
     let there : is_some (neighbour_of n h.peer) ≡ true = ap is_some h.was in
     let y = heard_neighbour h.neighbour h.packet h.met h.last in
-    delivers_all_run n (heard_work n h.peer h.neighbour h.packet h.met h.last) h.work h.peer (shown_contact h.met.after) (opened_in h.out) h.returned there
-    (stand_set n n.neighbours h.peer y (named_stand n named) (heard_names n n' by number bytes frames answered named h).after there) h.delivers
+    let heard = heard_work n h.peer h.neighbour h.packet h.met h.last in
+    let stand = stand_set n n.neighbours h.peer y (named_stand n named) (heard_names n n' by number bytes frames answered named h).after there in
+    let greets = puts_each_run n h.peer heard h.greeting h.greeted h.greeting_frames stand h.greeting_put in
+    run_then n heard h.greeted h.work [] (entries_in (arrival_deliveries h.peer h.met.after h.out)) h.greeting_frames h.returned greets
+    (delivers_all_run n h.greeted h.work h.peer (shown_contact h.met.after) (opened_in h.out) h.returned there greets.runs.stand h.delivers)
 
 -- ---- the turn at the sender
 
 sender_turn : (n n' : NodeState) (by : By) (number : ℕ) (bytes : List ℕ) (frames : List Outgoing) (answered : Arrival) (h : Hears n n' by number bytes frames answered) (told inside : List Entry)
-    → RunAt n.own h.peer told h.returned (heard_neighbour h.neighbour h.packet h.met h.last) h.then → TellsBehind h.peer h.peer h.met told inside
+    → RunAt n.own h.peer told (between n n' by number bytes frames answered h) (heard_neighbour h.neighbour h.packet h.met h.last) h.then → TellsBehind h.peer h.peer h.met told inside
     → filter (is_delivered_from h.peer) told ≡ filter (is_delivered_from h.peer) (given_in h.peer (shown_contact h.met.after) (opened_in h.out))
-    → frames_to h.peer frames ≡ h.met.frames ++ (frames_to h.peer h.returned ++ answered_frames h.then.pair.link (no_broadcast h.then.in_step))
+    → frames_to h.peer frames ≡ h.met.frames ++ (frames_to h.peer (between n n' by number bytes frames answered h) ++ answered_frames h.then.pair.link (no_broadcast h.then.in_step))
     → PeerTurn n.own bytes (step_of by (event.Arrive 0 number) inside (answer.Arrived answered)) frames h.peer h.neighbour.pair (answered_neighbour h.then).pair
 sender_turn n n' by number bytes frames answered h told inside run tells delivered out = record {
   opening = hears h.first h.second h.packet number (no_broadcast h.neighbour.in_step);
@@ -132,11 +145,11 @@ sender_turn n n' by number bytes frames answered h told inside run tells deliver
   sendable = run.sendable;
   reply = Some (no_broadcast h.then.in_step);
   shows_last = shows_none h.then.in_step;
-  own_frames = h.met.frames ++ (frames_to h.peer h.returned ++ answered_frames h.then.pair.link (no_broadcast h.then.in_step));
+  own_frames = h.met.frames ++ (frames_to h.peer (between n n' by number bytes frames answered h) ++ answered_frames h.then.pair.link (no_broadcast h.then.in_step));
   turn = record {
     first = heard h.met h.last h.out;
     happened = (h.out, h.last, subst (λ (m : Met). OpensTo (begun_after m.change h.neighbour.pair.begun) m.outcome h.out h.last) h.met_is h.opens, ap (λ m. heard m h.last h.out) h.met_is);
-    put_frames = frames_to h.peer h.returned;
+    put_frames = frames_to h.peer (between n n' by number bytes frames answered h);
     put = h.then.pair.link;
     puts = run.puts;
     after = ap (pair_state (answered_neighbour h.then).pair.link) run.begun;
@@ -146,7 +159,7 @@ sender_turn n n' by number bytes frames answered h told inside run tells deliver
   changes =
       tells.changes ∙ ap (λ zs. filter (is_change_of h.peer) (change_entries h.peer h.met.change) ++ zs) run.changes
       ∙ append-nil (filter (is_change_of h.peer) (change_entries h.peer h.met.change)) ∙ changes_own h.peer h.met.change;
-  accepted = tells.accepted ∙ accepted_now n.own h.peer told h.returned (heard_neighbour h.neighbour h.packet h.met h.last) h.then run;
+  accepted = tells.accepted ∙ accepted_now n.own h.peer told (between n n' by number bytes frames answered h) (heard_neighbour h.neighbour h.packet h.met h.last) h.then run;
   delivered = tells.delivered ∙ delivered ∙ given_own h.peer (shown_contact h.met.after) (opened_in h.out);
   taken = λ a es er p is taken from.
       given_taken h.first h.second h.packet number h.neighbour.in_step h.out (arrival_deliveries h.peer h.met.after h.out)
@@ -177,9 +190,9 @@ hears_turns n n' by number bytes frames answered named h told r b x there =
           subst (λ k. NeighbourTurn n n' bytes step frames k x) (sym here) (subst (λ z. NeighbourTurn n n' bytes step frames h.peer z) same (record {
             after = answered_neighbour h.then;
             after_is = ap (λ xs. slice_index_or xs h.peer None) others ∙ set_there h.work.neighbours h.peer h.then (answered_neighbour h.then) h.then_is;
-            turn = sender_turn n n' by number bytes frames answered h told h.work.inside (subst (RunAt n.own h.peer told h.returned y) still at.run)
+            turn = sender_turn n n' by number bytes frames answered h told h.work.inside (subst (RunAt n.own h.peer told (between n n' by number bytes frames answered h) y) still at.run)
                 (tells_behind h.peer h.peer h.met told h.work.inside r.inside_is) (r.delivered h.peer)
-                (ap (frames_to h.peer) h.frames_are ∙ sender_frames h.peer h.met.frames h.returned answering first last);
+                (ap (frames_to h.peer) (frames_between n n' by number bytes frames answered h) ∙ sender_frames h.peer h.met.frames (between n n' by number bytes frames answered h) answering first last);
           }))
       | inr other ↦
           let apart : h.peer ≢ b = λ e. other (sym e) in
@@ -187,8 +200,8 @@ hears_turns n n' by number bytes frames answered named h told r b x there =
           let tells = tells_behind h.peer b h.met told h.work.inside r.inside_is in record {
             after = at.now;
             after_is = ap (λ xs. slice_index_or xs b None) others ∙ get_or-set_other h.work.neighbours h.peer b (Some (answered_neighbour h.then)) None other ∙ at.now_is;
-            turn = rests_turn n.own bytes step frames b told h.returned x at.now (record {
-              frames_are = ap (frames_to b) h.frames_are ∙ other_frames b h.peer h.met.frames h.returned answering apart first last;
+            turn = rests_turn n.own bytes step frames b told (between n n' by number bytes frames answered h) x at.now (record {
+              frames_are = ap (frames_to b) (frames_between n n' by number bytes frames answered h) ∙ other_frames b h.peer h.met.frames (between n n' by number bytes frames answered h) answering apart first last;
               changes = tells.changes ∙ ap (λ zs. zs ++ filter (is_change_of b) told) (changes_other b h.peer h.met.change apart);
               accepted = tells.accepted;
               delivered = tells.delivered ∙ r.delivered b ∙ given_other b h.peer (shown_contact h.met.after) (opened_in h.out) apart;
@@ -217,9 +230,9 @@ hears_turn n n' by number bytes frames answered named h told r =
       alone = λ b none.
           ap (λ (k : NodeState). neighbour_of k b) h.after
           ∙ set_none h.work.neighbours h.peer b h.then (answered_neighbour h.then) h.then_is (r.alone b (set_none n.neighbours h.peer b h.neighbour y h.was none));
-      routed = subst (All (IsRouted n)) (sym h.frames_are)
-          (All-append (IsRouted n) h.met.frames (h.returned ++ answering) (routed_to n h.peer h.met.frames there first)
-          (All-append (IsRouted n) h.returned answering r.routed (routed_to n h.peer answering there last)));
+      routed = subst (All (IsRouted n)) (sym (frames_between n n' by number bytes frames answered h))
+          (All-append (IsRouted n) h.met.frames ((between n n' by number bytes frames answered h) ++ answering) (routed_to n h.peer h.met.frames there first)
+          (All-append (IsRouted n) (between n n' by number bytes frames answered h) answering r.routed (routed_to n h.peer answering there last)));
       placed = subst (All (IsPlaced n)) (sym r.inside_is) (All-append (IsPlaced n) (change_entries h.peer h.met.change) told (changes_placed n h.peer h.met.change there) r.placed);
     }
 

@@ -47,6 +47,9 @@ pub record IsSameNode (s s' : SocketTable) : Type 0 where
   pub own : s'.own ≡ s.own
   pub ports : s'.ports ≡ s.ports
 
+pub same_then : (s t u : SocketTable) → IsSameNode s t → IsSameNode t u → IsSameNode s u
+same_then s t u first next = record { own = next.own ∙ first.own; ports = next.ports ∙ first.ports }
+
 same_after : (s : SocketTable) (e : Entry) → IsSameNode s (after_entry s e)
 same_after s (entry.Step by event) = record { own = refl; ports = refl }
 same_after s (entry.Accepted peer contact flow message) = record { own = refl; ports = refl }
@@ -71,6 +74,4 @@ same_after s (entry.Answered caller call answer) = record { own = refl; ports = 
 pub same_folded : (s : SocketTable) (es : List Entry) → IsSameNode s (fold after_entry s es)
 same_folded s [] = record { own = refl; ports = refl }
 same_folded s (e ∷ es) =
-    let first = same_after s e in
-    let rest = same_folded (after_entry s e) es in
-    record { own = rest.own ∙ first.own; ports = rest.ports ∙ first.ports }
+    same_then s (after_entry s e) (fold after_entry (after_entry s e) es) (same_after s e) (same_folded (after_entry s e) es)

@@ -42,6 +42,10 @@ pub record IsLinked (n : NodeState) (w : Work) : Type 0 where
   pub begun : (b : ℕ) (x : Neighbour) → slice_index_or w.neighbours b None ≡ Some x → is_up x.pair.link.fsm.state ≡ true → is_some x.pair.link.session ≡ true
   pub nobody : slice_index_or w.neighbours 0 None ≡ None
 
+-- so it is where nothing is due
+abbrev pub IsDone : NodeState → Due → List Entry → List Entry → Work → Type 0
+IsDone n d sends asked w = IsWorked n d NothingDue sends asked w × IsLinked n w
+
 -- an entry that tells of no contact
 pub linked_more : (n : NodeState) (w : Work) (e : Entry) (s : SocketTable) → IsLinked n w → ((a : Addr) (z : Option (ℕ × ℕ)) → contact_after a z e ≡ z)
     → IsLinked n (record { neighbours = w.neighbours; sockets = s; inside = w.inside ++ e ∷ [] })

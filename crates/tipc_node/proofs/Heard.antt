@@ -1,90 +1,88 @@
 -- What an arrival makes of a node, where its link heard the packet.
-use Rattle.std.proofs.Common.{◌≡◌, ℕ, ◌<◌, ◌≤◌, true, false, List, [], ◌∷◌, ◌++◌, Option, Some, None, length, refl, sym, ap, subst, ◌∙◌, arith}
-use Rattle.std.specs.Prelude.{is_some, slice_index_or, slice_set}
-use Rattle.std.proofs.lemmas.List.{get_or-set_same}
+use Rattle.std.proofs.Common.{◌≡◌, ℕ, List, [], ◌++◌, Some, refl, sym, ap, subst, ◌∙◌}
+use Rattle.std.specs.Prelude.{fold, slice_set}
 use Rattle.tipc_types.specs.declared.node_calls.Answer.TheVariants as answer
 use Rattle.tipc_types.specs.declared.node_calls.Arrival.{Arrival}
 use Rattle.tipc_types.specs.declared.node_calls.By.{By}
 use Rattle.tipc_types.specs.declared.node_calls.EventNote.TheVariants.{Arrive}
-use Rattle.tipc_outside.specs.declared.outgoing.Outgoing.{Outgoing}
-use Rattle.tipc_outside.specs.Frames.{Adds, Out}
+use Rattle.tipc_outside.specs.Frames.{Out}
 use Rattle.tipc_outside.proofs.Adding.{adds_more}
-use Rattle.tipc_header.specs.Spelling.{Fields}
-use Rattle.tipc_fragments.specs.Joining.{Joining}
+use Rattle.tipc_header.specs.Spelling.{view}
+use Rattle.tipc_journal.specs.declared.entries.Entry.{Entry}
+use Rattle.tipc_journal.specs.Steps.{step_entries}
 use Rattle.tipc_link.specs.Links.{answered_frames}
-use Rattle.tipc_pair.specs.declared.changes.PairOutcome.{PairOutcome}
-use Rattle.tipc_pair.specs.Pairs.{Met, shows_contact}
-use Rattle.tipc_pair.specs.Partners.{IsPairArriving, OpensTo, PairArrivingState, begun_after, opened_in}
-use Rattle.tipc_reassembly.specs.declared.opening.Opened.{Opened}
-use Rattle.tipc_sockets.specs.SocketTables.{SocketTable}
+use Rattle.tipc_pair.specs.declared.changes.PairChange.{PairChange}
+use Rattle.tipc_sockets.specs.Telling.{after_entry}
 use Rattle.tipc_node.specs.declared.arriving.Delivery.{Delivery}
+use Rattle.tipc_node.specs.declared.arriving.Due.{Due}
+use Rattle.tipc_node.specs.declared.listening.HeardPacket.{HeardPacket}
 use Rattle.tipc_node.specs.declared.neighbours.Neighbour.{Neighbour}
-use Rattle.tipc_node.specs.Arrivals.{Hears, IsDue, answered_work, heard_work}
-use Rattle.tipc_node.specs.Drafts.{AllDelivered, Worked, plain_work}
-use Rattle.tipc_node.specs.Neighbours.{answered_neighbour, heard_neighbour, met_by, no_broadcast}
-use Rattle.tipc_node.specs.Nodes.{NodeState, arrival_answer, arrival_deliveries, change_entries, deliveries_of, neighbour_of, shown_contact}
-use Rattle.tipc_node.specs.Works.{DeliversAll, Work, concluded, none_left, work_of}
-use Rattle.tipc_node.proofs.Hearings.{told_contact, told_names, told_opens}
+use Rattle.tipc_node.specs.Arrivals.{Greets, IsDue, heard_work}
+use Rattle.tipc_node.specs.Hearings.{HasHeard, IsHeard, Worked, heard_at, met_due}
+use Rattle.tipc_node.specs.Neighbours.{no_broadcast}
+use Rattle.tipc_node.specs.Nodes.{NodeState, arrival_answer, change_entries, neighbour_of, step_of}
+use Rattle.tipc_node.specs.Works.{DeliversAll, PutsEach, Work, concluded, noted, work_of}
+use Rattle.tipc_node.proofs.Greeting.{greets_before}
 
--- an arrival is heard, and what left is in the box
-abbrev pub IsHeard : NodeState → NodeState → Out → Out → By → ℕ → List ℕ → Arrival → Type 0
-IsHeard n n' box box' by number bytes answered = (frames : List Outgoing) × Hears n n' by number bytes frames answered × Adds box box' frames
+-- the work when the neighbour has heard it, as the node has it
+work_then : (n : NodeState) (x y : Neighbour) (d : Due) (number : ℕ) (given : HeardPacket) (a b : Out) (h : HasHeard x d number y given a b)
+    → heard_at n.neighbours n.sockets d.peer y given.change ≡ heard_work n d.peer x (view d.packet) (met_due x d number) h.last
+work_then n x y d number given a b h =
+    ap (λ (z : Neighbour). noted (work_of (slice_set n.neighbours d.peer (Some z)) n.sockets []) (change_entries d.peer given.change)) h.after
+    ∙ ap (heard_at n.neighbours n.sockets d.peer _) h.change
 
--- ---- a packet that shows no contact number
-
--- what it makes of the parts of the node, put together
-pub worked : (own : ℕ) (neighbours : List (Option Neighbour)) (sockets : SocketTable) (peer : ℕ) (x : Neighbour) (p : Fields) (m : Met) (last : Joining) (ds : List Delivery) (work w' : Work) (y : Neighbour) (a b c d : Out)
-    → Adds a b m.frames → AllDelivered own (plain_work neighbours sockets peer x p m last) ds work b c → slice_index_or work.neighbours peer None ≡ Some y → w' ≡ answered_work work peer y
-    → Adds c d (answered_frames y.pair.link (no_broadcast y.in_step)) → Worked own neighbours sockets peer x p m last ds w' a d
-worked own neighbours sockets peer x p m last ds work w' y a b c d met delivered is after answered = record {
-  work = work;
-  returned = delivered.frames;
-  delivers = delivered.delivers;
-  then = y;
-  then_is = is;
-  after = after;
-  adds = adds_more a b d m.frames _ met (adds_more b c d delivered.frames _ delivered.adds answered);
-}
-
--- who heard what, and what it told
-pub record IsTaken (n : NodeState) (bytes : List ℕ) (peer first second number : ℕ) (x : Neighbour) (p : Fields) (a : PairArrivingState) (ds : List Delivery) (answered : Arrival) : Type 0 where
-  pub due : IsDue n bytes peer first second p
-  pub was : neighbour_of n peer ≡ Some x
-  pub plain : shows_contact p.header ≡ false
-  pub told : IsPairArriving x.pair first second p number a
-  pub deliveries : ds ≡ deliveries_of peer (shown_contact x.pair.link) (opened_in a.outcome)
-  pub answer : answered ≡ arrival_answer a.outcome ds
-
-pub heard_worked : (n : NodeState) (by : By) (bytes : List ℕ) (peer first second number : ℕ) (x : Neighbour) (p : Fields) (a : PairArrivingState) (ds : List Delivery) (answered : Arrival) (w' : Work) (box box' : Out)
-    → IsTaken n bytes peer first second number x p a ds answered → Worked n.own n.neighbours n.sockets peer x p (met_by x first second p number) a.begun ds w' box box'
-    → IsHeard n (concluded n by (Arrive 0 number) w' (answer.Arrived answered)) box box' by number bytes answered
-heard_worked n by bytes peer first second number x p a ds answered w' box box' t h =
-    let m = met_by x first second p number in
-    let given : ds ≡ arrival_deliveries peer m.after a.outcome = t.deliveries ∙ ap (λ k. deliveries_of peer k (opened_in a.outcome)) (sym (told_contact x first second number p a t.told t.plain)) in
-    let start : plain_work n.neighbours n.sockets peer x p m a.begun ≡ heard_work n peer x p m a.begun =
-    ap (λ (s : SocketTable). work_of (slice_set n.neighbours peer (Some (heard_neighbour x p m a.begun))) s (change_entries peer m.change)) (sym (told_names x first second number p peer n.sockets t.plain)) in (
-      m.frames ++ (h.returned ++ answered_frames h.then.pair.link (no_broadcast h.then.in_step)),
+-- what was heard and what followed, put together
+pub heard_worked : (n : NodeState) (by : By) (bytes : List ℕ) (x : Neighbour) (d : Due) (number : ℕ) (answered : Arrival) (w' : Work) (box box' : Out) → IsDue n bytes d.peer d.first d.second (view d.packet)
+    → neighbour_of n d.peer ≡ Some x → Worked n.own n.neighbours n.sockets x d number answered w' box box'
+    → IsHeard n (concluded n by (Arrive 0 number) w' (answer.Arrived answered)) by number bytes box box' answered
+heard_worked n by bytes x d number answered w' box box' due was h =
+    let m = met_due x d number in
+    let given = h.given in
+    let heard = h.heard.heard in
+    let f = h.followed in
+    let g = f.greeted in
+    let same : h.work ≡ heard_work n d.peer x (view d.packet) m heard.last = h.heard.work ∙ work_then n x h.heard.after d number given box h.between heard in
+    let live : Greets (fold after_entry n.sockets (change_entries d.peer given.change)).live given.change g.messages = subst (λ (u : Work). Greets u.sockets.live given.change g.messages) h.heard.work g.greets in
+    let answering = answered_frames f.then.pair.link (no_broadcast f.then.in_step) in (
+      m.frames ++ (g.frames ++ (f.delivered.frames ++ answering)),
       record {
-        peer = peer;
-        first = first;
-        second = second;
-        packet = p;
-        due = t.due;
+        peer = d.peer;
+        first = d.first;
+        second = d.second;
+        packet = view d.packet;
+        due = due;
         neighbour = x;
-        was = t.was;
+        was = was;
         met = m;
         met_is = refl;
-        out = a.outcome;
-        last = a.begun;
-        opens = told_opens x first second number p a t.told t.plain;
-        work = h.work;
-        returned = h.returned;
-        delivers = subst (λ (u : Work). DeliversAll n.own u (arrival_deliveries peer m.after a.outcome) h.work h.returned) start (subst (λ (es : List Delivery). DeliversAll n.own (plain_work n.neighbours n.sockets peer x p m a.begun) es h.work h.returned) given h.delivers);
-        then = h.then;
-        then_is = h.then_is;
-        after = ap (λ (u : Work). concluded n by (Arrive 0 number) u (answer.Arrived answered)) h.after;
+        out = heard.out;
+        last = heard.last;
+        opens = heard.opens;
+        greeting = g.messages;
+        greets = subst (λ (c : PairChange). Greets n.sockets.live c g.messages) heard.change (greets_before n.sockets d.peer given.change g.messages live);
+        greeted = f.told;
+        greeting_frames = g.frames;
+        greeting_put = subst (λ (u : Work). PutsEach n.own d.peer u g.messages f.told g.frames) same g.puts;
+        work = f.work;
+        returned = f.delivered.frames;
+        delivers = subst (λ (es : List Delivery). DeliversAll n.own d.peer f.told es f.work f.delivered.frames) heard.deliveries f.delivered.delivers;
+        then = f.then;
+        then_is = f.then_is;
+        after = ap (λ (u : Work). concluded n by (Arrive 0 number) u (answer.Arrived answered)) f.after;
         frames_are = refl;
-        answer_is = t.answer ∙ ap (arrival_answer a.outcome) given;
+        answer_is = h.answer ∙ heard.answer ∙ ap (arrival_answer heard.out) heard.deliveries;
       },
-      h.adds,
+      adds_more box h.between box' m.frames _ heard.adds (adds_more h.between f.told_box box' g.frames _ g.adds (adds_more f.told_box f.work_box box' f.delivered.frames _ f.delivered.adds f.adds)),
     )
+
+-- so it is in the node's journal
+pub journal_heard : (n m : NodeState) (by : By) (bytes : List ℕ) (number : ℕ) (answered : Arrival) (w : Work) (es journal : List Entry) (box box' : Out)
+    → IsHeard n (concluded n by (Arrive 0 number) w (answer.Arrived answered)) by number bytes box box' answered
+    → es ≡ journal ++ step_entries (step_of by (Arrive 0 number) w.inside (answer.Arrived answered)) → journal ≡ n.journal → n ≡ m
+    → IsHeard m (record { own = n.own; boot = n.boot; mended = n.mended; neighbours = w.neighbours; sockets = w.sockets; journal = es }) by number bytes box box' answered
+journal_heard n m by bytes number answered w es journal box box' h recorded kept same =
+    let steps = step_entries (step_of by (Arrive 0 number) w.inside (answer.Arrived answered)) in
+    let there = recorded ∙ ap (λ js. js ++ steps) kept in
+    let the_node : List Entry → NodeState = λ js. record { own = n.own; boot = n.boot; mended = n.mended; neighbours = w.neighbours; sockets = w.sockets; journal = js } in
+    subst (λ (k : NodeState). IsHeard k (the_node es) by number bytes box box' answered) same
+    (subst (λ (n' : NodeState). IsHeard n n' by number bytes box box' answered) (ap the_node (sym there)) h)

@@ -1,13 +1,14 @@
 -- What a neighbour makes of a packet that it hears.
-use Rattle.std.proofs.Common.{◌≡◌, ◌||◌, ◌&&◌, ℕ, Bool, true, false, if◌then◌else◌, refl, sym, ap, ◌∙◌, subst}
-use Rattle.std.specs.Prelude.{fold, not}
+use Rattle.std.proofs.Common.{◌≡◌, ◌||◌, ◌&&◌, ℕ, Bool, true, false, [], Option, Some, if◌then◌else◌, refl, sym, ap, ◌∙◌, subst}
+use Rattle.std.specs.Prelude.{fold, not, unwrap_or}
 use Rattle.tipc_types.specs.declared.link_words.BroadcastState.{BroadcastState}
 use Rattle.tipc_header.specs.declared.packet.Header.{Header}
 use Rattle.tipc_header.specs.declared.packet.Header.TheVariants as header
-use Rattle.tipc_header.specs.Spelling.{Fields}
+use Rattle.tipc_header.specs.Spelling.{Fields, view}
+use Rattle.tipc_outside.specs.Frames.{Adds, Out}
 use Rattle.tipc_fragments.specs.Joining.{Joining}
 use Rattle.tipc_recv_window.specs.declared.outcomes.LinkOutcome.{LinkOutcome}
-use Rattle.tipc_link.specs.Links.{LinkEnd, after, answered_end, answered_frames, arrival_end, heard_end, is_heard, outcome_of}
+use Rattle.tipc_link.specs.Links.{LinkEnd, after, arrival_end, heard_end, is_heard, outcome_of}
 use Rattle.tipc_link.specs.Sessions.{content_of}
 use Rattle.tipc_link_fsm.specs.declared.changes.Change.{Change}
 use Rattle.tipc_link_fsm.specs.declared.changes.Change.TheVariants.{Stay, Up, Down, Answer, Ignore}
@@ -18,11 +19,16 @@ use Rattle.tipc_sockets.specs.Telling.{after_entry}
 use Rattle.tipc_pair.specs.declared.changes.PairChange.{PairChange}
 use Rattle.tipc_pair.specs.declared.changes.PairOutcome.{PairOutcome}
 use Rattle.tipc_pair.specs.Pairs.{Met, arrival, change_of, link_met, shows_contact, told_of}
-use Rattle.tipc_pair.specs.Partners.{IsPairArriving, OpensTo, PairArrivingState, PairState, begun_after, deferred, ignored, pair_state, took}
+use Rattle.tipc_pair.specs.Partners.{IsPairArriving, OpensTo, PairArrivingState, PairState, begun_after, deferred, ignored, opened_in, took}
 use Rattle.tipc_pair.proofs.Meeting.{heard_arrival}
+use Rattle.tipc_node.proofs.Quiet.{gives_nothing}
 use Rattle.tipc_pair.proofs.Ends.{contact_after, seen_after}
-use Rattle.tipc_node.specs.Nodes.{change_entries, shown_contact}
+use Rattle.tipc_node.specs.declared.arriving.Due.{Due}
+use Rattle.tipc_node.specs.declared.arriving.Hearing.{Hearing}
+use Rattle.tipc_node.specs.declared.listening.HeardPacket.{HeardPacket}
 use Rattle.tipc_node.specs.declared.neighbours.Neighbour.{Neighbour}
+use Rattle.tipc_node.specs.Hearings.{HasHeard, IsNumbered, IsPrepared, met_due}
+use Rattle.tipc_node.specs.Nodes.{arrival_answer, change_entries, deliveries_of, shown_contact}
 use Rattle.tipc_node.specs.Neighbours.{heard_neighbour, in_step_after, is_given, is_state, is_taken, met_by, neighbour, no_broadcast, stays_in_step}
 
 -- what a neighbour is then: y is its pair after it
@@ -141,3 +147,64 @@ told_names x es er by p peer s plain =
     let o = outcome_of x.pair.link.fsm p.header es er false in
     ap (λ (m : Met). fold after_entry s (change_entries peer m.change)) (heard_arrival x.pair.link es er p by (no_broadcast x.in_step) plain)
     ∙ quiet_names x.pair.link o.after o.change 0 peer s (not_down p.header x.pair.link.fsm es er plain)
+
+-- ---- what a neighbour's hearing gave
+
+pub same_neighbour : (x y : Neighbour) → Some x ≡ Some y → x ≡ y
+same_neighbour x y is = ap (λ (o : Option Neighbour). unwrap_or o x) is
+
+-- what was prepared is told of the neighbour that is there
+pub arriving_there : (place : Option Neighbour) (x : Neighbour) (d : Due) (h : Hearing) → place ≡ Some x → IsPrepared place d h → IsPairArriving x.pair d.first d.second (view d.packet) h.number h.arriving
+arriving_there place x d h was prepared =
+    subst (λ (z : Neighbour). IsPairArriving z.pair d.first d.second (view d.packet) h.number h.arriving) (same_neighbour prepared.neighbour x (sym prepared.was ∙ was)) prepared.arriving
+
+-- what became of the neighbour and of the box of frames
+pub record HasTurned (x : Neighbour) (d : Due) (number : ℕ) (last : Joining) (y : Neighbour) (change : PairChange) (box box' : Out) : Type 0 where
+  pub after : y ≡ heard_neighbour x (view d.packet) (met_due x d number) last
+  pub change_is : change ≡ (met_due x d number).change
+  pub adds : Adds box box' (met_due x d number).frames
+
+-- a RESET or an ACTIVATE gives nothing to deliver
+pub noticed_heard : (x : Neighbour) (d : Due) (number : ℕ) (y : Neighbour) (given : HeardPacket) (out : PairOutcome) (box box' : Out) → shows_contact d.packet.header ≡ true
+    → OpensTo (begun_after (met_due x d number).change x.pair.begun) (met_due x d number).outcome out y.pair.begun → HasTurned x d number y.pair.begun y given.change box box'
+    → given.deliveries.items ≡ [] → given.answer ≡ arrival_answer out [] → HasHeard x d number y given box box'
+noticed_heard x d number y given out box box' shows opens h none answer =
+    let m = met_due x d number in
+    let nothing = gives_nothing x.pair.link d.first d.second (view d.packet) number (no_broadcast x.in_step) _ y.pair.begun out shows opens in
+    record {
+      out = out;
+      last = y.pair.begun;
+      opens = opens;
+      after = h.after;
+      change = h.change_is;
+      deliveries = none ∙ ap (deliveries_of d.peer (shown_contact m.after)) (sym nothing);
+      answer = answer ∙ ap (arrival_answer out) (sym none);
+      adds = h.adds;
+    }
+
+pub nothing_given : (x : Neighbour) (d : Due) (number : ℕ) (y : Neighbour) (given : HeardPacket) (box box' : Out) → shows_contact d.packet.header ≡ true → HasHeard x d number y given box box' → given.deliveries.items ≡ []
+nothing_given x d number y given box box' shows h =
+    h.deliveries
+    ∙ ap (deliveries_of d.peer (shown_contact (met_due x d number).after)) (gives_nothing x.pair.link d.first d.second (view d.packet) number (no_broadcast x.in_step) _ h.last h.out shows h.opens)
+
+-- any other packet gives what was prepared
+pub taken_heard : (place : Option Neighbour) (x : Neighbour) (d : Due) (h : Hearing) (number : ℕ) (y : Neighbour) (given : HeardPacket) (box box' : Out) → place ≡ Some x → shows_contact d.packet.header ≡ false → h.number ≡ number
+    → IsPrepared place d h → HasTurned x d h.number h.arriving.begun y given.change box box' → given.deliveries.items ≡ h.deliveries.items → given.answer ≡ h.answer → HasHeard x d number y given box box'
+taken_heard place x d h number y given box box' was plain numbered prepared turned deliveries answer =
+    let told = arriving_there place x d h was prepared in
+    let same = same_neighbour prepared.neighbour x (sym prepared.was ∙ was) in
+    let there : h.deliveries.items ≡ deliveries_of d.peer (shown_contact x.pair.link) (opened_in h.arriving.outcome) =
+    prepared.deliveries ∙ ap (λ (z : Neighbour). deliveries_of d.peer (shown_contact z.pair.link) (opened_in h.arriving.outcome)) same in
+    subst (λ k. HasHeard x d k y given box box') numbered (record {
+      out = h.arriving.outcome;
+      last = h.arriving.begun;
+      opens = told_opens x d.first d.second h.number (view d.packet) h.arriving told plain;
+      after = turned.after;
+      change = turned.change_is;
+      deliveries = deliveries ∙ there ∙ ap (λ k. deliveries_of d.peer k (opened_in h.arriving.outcome)) (sym (told_contact x d.first d.second h.number (view d.packet) h.arriving told plain));
+      answer = answer ∙ prepared.answer ∙ ap (arrival_answer h.arriving.outcome) (sym deliveries);
+      adds = turned.adds;
+    })
+
+pub numbered_by : (heard : Option Hearing) (h : Hearing) (number : ℕ) → heard ≡ Some h → IsNumbered number heard → h.number ≡ number
+numbered_by heard h number is numbered = subst (IsNumbered number) is numbered

@@ -1,5 +1,5 @@
 -- What the calls of a node promise, from what the parts of the node tell of them.
-use Rattle.std.proofs.Common.{◌≡◌, ℕ, List, [], Result, Ok, Err, subst, sym}
+use Rattle.std.proofs.Common.{◌≡◌, ℕ, List, [], Result, Ok, Err, length, subst, sym}
 use Rattle.std.specs.Prelude.{IfOk, OnErr}
 use Rattle.std.proofs.lemmas.Result.{IfOk-weaker}
 use Rattle.tipc_types.specs.declared.node_calls.Answer.{Answer}
@@ -14,24 +14,25 @@ use Rattle.tipc_outside.specs.Frames.{Adds, Out}
 use Rattle.tipc_journal.specs.Licensed.{IsPicked, IsPickedOf}
 use Rattle.tipc_sockets.specs.SocketTables.{AreSockets}
 use Rattle.tipc_node.specs.Arrivals.{Arrived, Arrives}
-use Rattle.tipc_node.specs.Calls.{CanPerform, IsPickedFrom, Performed, Performs}
+use Rattle.tipc_node.specs.Calls.{CanPerform, HasInstances, IsPickedFrom, Performed, Performs}
 use Rattle.tipc_node.specs.Nodes.{NodeState}
+use Rattle.tipc_node.specs.Sharing.{SharesNames}
 use Rattle.tipc_node.specs.Sockets.{kept_answer}
 use Rattle.tipc_node.specs.Telling.{ArePacked, IsTold}
 use Rattle.tipc_node.specs.Turns.{AreNamed}
 use Rattle.tipc_node.specs.Works.{addr_of_word}
-use Rattle.tipc_node.proofs.Refusing.{told_found}
 use Rattle.tipc_node.proofs.Kept.{IsKept, arrives_kept, performs_kept, turn_kept}
+use Rattle.tipc_node.proofs.Refusing.{told_found}
 
 -- the invariant of a node, as its fields
 abbrev pub Held : NodeState → Type 0
-Held n = IsTold n × AreNamed n × ArePacked n
+Held n = IsTold n × AreNamed n × ArePacked n × SharesNames n
 
 pub kept_of : (n : NodeState) → Held n → IsKept n
-kept_of n h = record { told = h.0; named = h.1; packed = h.2 }
+kept_of n h = record { told = h.0; named = h.1; packed = h.2; shares = h.3 }
 
 pub held_of : (n : NodeState) → IsKept n → Held n
-held_of n k = (k.told, k.named, k.packed)
+held_of n k = (k.told, k.named, k.packed, k.shares)
 
 -- ---- a call
 
@@ -39,20 +40,21 @@ held_of n k = (k.told, k.named, k.packed)
 abbrev pub IsDone : NodeState → By → EventNote → NodeState → Out → Out → Answer → Type 0
 IsDone n by call n' box box' answered = (frames : List Outgoing) × Performs n by call n' frames answered × Adds box box' frames
 
-performed_by : (n n' : NodeState) (by : By) (call : EventNote) (box box' : Out) (answered : Answer) → Held n → AreSockets n'.sockets → CanPerform call → IsDone n by call n' box box' answered → Performed n by call n' box box' answered
-performed_by n n' by call box box' answered held sound can d =
-    record { frames = d.0; performs = d.1; turn = performs_kept n n' by call d.0 answered (kept_of n held) can d.1 sound; adds = d.2 }
+performed_by : (n n' : NodeState) (by : By) (call : EventNote) (box box' : Out) (answered : Answer) → Held n → AreSockets n'.sockets → length n'.neighbours ≡ 33 → CanPerform call → HasInstances call → IsDone n by call n' box box' answered → Performed n by call n' box box' answered
+performed_by n n' by call box box' answered held sound wide can ranges d =
+    record { frames = d.0; performs = d.1; turn = performs_kept n n' by call d.0 answered (kept_of n held) can ranges d.1 sound wide; adds = d.2 }
 
-pub call_performed : {E : Type 0} (n n' : NodeState) (by : By) (call : EventNote) (box box' : Out) (r : Result Answer E) → Held n → AreSockets n'.sockets → CanPerform call → IfOk r (IsDone n by call n' box box')
+pub call_performed : {E : Type 0} (n n' : NodeState) (by : By) (call : EventNote) (box box' : Out) (r : Result Answer E) → Held n → AreSockets n'.sockets → length n'.neighbours ≡ 33 → CanPerform call → HasInstances call → IfOk r (IsDone n by call n' box box')
     → IfOk r (Performed n by call n' box box')
-call_performed n n' by call box box' r held sound can done = IfOk-weaker r (IsDone n by call n' box box') (Performed n by call n' box box') (λ a. performed_by n n' by call box box' a held sound can) done
+call_performed n n' by call box box' r held sound wide can ranges done =
+    IfOk-weaker r (IsDone n by call n' box box') (Performed n by call n' box box') (λ a. performed_by n n' by call box box' a held sound wide can ranges) done
 
-pub call_kept : {E : Type 0} (n n' : NodeState) (by : By) (call : EventNote) (box box' : Out) (r : Result Answer E) → Held n → AreSockets n'.sockets → CanPerform call → IfOk r (IsDone n by call n' box box') → OnErr r (n' ≡ n)
+pub call_kept : {E : Type 0} (n n' : NodeState) (by : By) (call : EventNote) (box box' : Out) (r : Result Answer E) → Held n → AreSockets n'.sockets → length n'.neighbours ≡ 33 → CanPerform call → HasInstances call → IfOk r (IsDone n by call n' box box') → OnErr r (n' ≡ n)
     → Held n'
-call_kept n n' by call box box' (Ok a) held sound can done same =
-    let p = performed_by n n' by call box box' a held sound can done in
+call_kept n n' by call box box' (Ok a) held sound wide can ranges done same =
+    let p = performed_by n n' by call box box' a held sound wide can ranges done in
     held_of n' (turn_kept n n' by call [] (kept_answer a) p.frames (kept_of n held) p.turn)
-call_kept n n' by call box box' (Err e) held sound can done same = subst Held (sym same) held
+call_kept n n' by call box box' (Err e) held sound wide can ranges done same = subst Held (sym same) held
 
 -- ---- an arrival
 

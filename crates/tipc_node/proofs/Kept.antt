@@ -1,6 +1,6 @@
--- What always holds of a node stays so: its journal tells of it, its link ends are for the peers of their numbers, and its sessions are
--- packed.
-use Rattle.std.proofs.Common.{◌≡◌, ◌≤◌, ℕ, List, [], None}
+-- What always holds of a node stays so: its journal tells of it, its link ends are for the peers of their numbers, its sessions are packed,
+-- and it shares its names with its peers.
+use Rattle.std.proofs.Common.{◌≡◌, ◌≤◌, ℕ, List, [], None, length}
 use Rattle.tipc_types.specs.declared.node_calls.Answer.{Answer}
 use Rattle.tipc_types.specs.declared.node_calls.Answer.TheVariants as answer
 use Rattle.tipc_types.specs.declared.node_calls.Arrival.{Arrival}
@@ -10,8 +10,9 @@ use Rattle.tipc_types.specs.declared.node_calls.EventNote.TheVariants as event
 use Rattle.tipc_outside.specs.declared.outgoing.Outgoing.{Outgoing}
 use Rattle.tipc_sockets.specs.SocketTables.{AreSockets, no_sockets}
 use Rattle.tipc_node.specs.Arrivals.{Arrives}
-use Rattle.tipc_node.specs.Calls.{CallTurn, CanPerform, Performs}
+use Rattle.tipc_node.specs.Calls.{CallTurn, CanPerform, HasInstances, Performs}
 use Rattle.tipc_node.specs.Nodes.{NodeState, known_node, neighbour_of, step_of}
+use Rattle.tipc_node.specs.Sharing.{SharesNames}
 use Rattle.tipc_node.specs.Sockets.{kept_answer}
 use Rattle.tipc_node.specs.Telling.{ArePacked, IsTold}
 use Rattle.tipc_node.specs.Turns.{AreNamed}
@@ -20,12 +21,15 @@ use Rattle.tipc_node.proofs.Arrivals.{arrives_turn}
 use Rattle.tipc_node.proofs.Named.{known_named, turn_named}
 use Rattle.tipc_node.proofs.Packed.{known_packed, new_packed, turn_packed}
 use Rattle.tipc_node.proofs.Performing.{performs_turn}
+use Rattle.tipc_node.proofs.SharedNames.{known_shares, new_shares, performs_shares}
+use Rattle.tipc_node.proofs.SharingArrivals.{arrives_shares}
 use Rattle.tipc_node.proofs.Told.{known_told, new_told, performs_told}
 
 pub record IsKept (n : NodeState) : Type 0 where
   pub told : IsTold n
   pub named : AreNamed n
   pub packed : ArePacked n
+  pub shares : SharesNames n
 
 -- a node that knows nobody
 pub new_kept : (n : NodeState) → n.sockets ≡ no_sockets n.own n.boot → AreSockets n.sockets → n.journal ≡ [] → ((peer : ℕ) → neighbour_of n peer ≡ None) → IsKept n
@@ -33,11 +37,17 @@ new_kept n none sound empty nobody = record {
   told = new_told n none sound empty nobody;
   named = λ b x there. absurd (let alone = nobody b in let wrong : ⊥ = cc in wrong);
   packed = new_packed n nobody;
+  shares = new_shares n empty;
 }
 
 -- a link end is made
 pub known_kept : (n : NodeState) (peer : ℕ) → 1 ≤ peer → neighbour_of n peer ≡ None → IsKept n → IsKept (known_node n peer)
-known_kept n peer some none k = record { told = known_told n peer some none k.told; named = known_named n peer k.named; packed = known_packed n peer k.packed }
+known_kept n peer some none k = record {
+  told = known_told n peer some none k.told;
+  named = known_named n peer k.named;
+  packed = known_packed n peer k.packed;
+  shares = known_shares n peer none k.shares;
+}
 
 -- a step was recorded
 pub turn_kept : (n n' : NodeState) (by : By) (note : EventNote) (bytes : List ℕ) (kept : Answer) (frames : List Outgoing) → IsKept n → CallTurn n n' by note bytes kept frames → IsKept n'
@@ -45,18 +55,21 @@ turn_kept n n' by note bytes kept frames k t = record {
   told = t.told;
   named = turn_named n n' bytes (step_of by note t.inside kept) frames k.named t.turn;
   packed = turn_packed n n' bytes (step_of by note t.inside kept) frames k.packed t.turn;
+  shares = t.shared;
 }
 
--- a call
-pub performs_kept : (n n' : NodeState) (by : By) (call : EventNote) (frames : List Outgoing) (answered : Answer) → IsKept n → CanPerform call → Performs n by call n' frames answered → AreSockets n'.sockets
-    → CallTurn n n' by call [] (kept_answer answered) frames
-performs_kept n n' by call frames answered k can performs sound =
+-- a call; a publication of it has a range with instances
+pub performs_kept : (n n' : NodeState) (by : By) (call : EventNote) (frames : List Outgoing) (answered : Answer) → IsKept n → CanPerform call → HasInstances call → Performs n by call n' frames answered → AreSockets n'.sockets
+    → length n'.neighbours ≡ 33 → CallTurn n n' by call [] (kept_answer answered) frames
+performs_kept n n' by call frames answered k can ranges performs sound wide =
     let t = performs_turn n n' by call frames answered k.named can performs in
-    record { inside = t.0; turn = t.1; told_before = k.told; told = performs_told n n' by call frames answered k.told k.packed can performs t.0 t.1 sound }
+    let told = performs_told n n' by call frames answered k.told k.packed can performs t.0 t.1 sound in
+    record { inside = t.0; turn = t.1; told_before = k.told; told = told; shared = performs_shares n n' by call frames answered k.told k.shares can performs t.0 t.1 told ranges wide }
 
 -- an arrival
 pub arrives_kept : (n n' : NodeState) (by : By) (bearer number : ℕ) (bytes : List ℕ) (frames : List Outgoing) (answered : Arrival) → IsKept n → Arrives n n' by bearer number bytes frames answered → AreSockets n'.sockets
     → CallTurn n n' by (event.Arrive bearer number) bytes (answer.Arrived answered) frames
 arrives_kept n n' by bearer number bytes frames answered k arrives sound =
     let t = arrives_turn n n' by bearer number bytes frames answered k.named arrives in
-    record { inside = t.0; turn = t.1; told_before = k.told; told = arrives_told n n' by bearer number bytes frames answered k.told arrives t.0 t.1 sound }
+    let told = arrives_told n n' by bearer number bytes frames answered k.told arrives t.0 t.1 sound in
+    record { inside = t.0; turn = t.1; told_before = k.told; told = told; shared = arrives_shares n n' by bearer number bytes frames answered k.told k.shares arrives t.0 t.1 told }

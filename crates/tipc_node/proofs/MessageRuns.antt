@@ -1,18 +1,21 @@
 -- The work on one message is a run: it is put for a peer, or has its fate; and so is the work on what is delivered.
-use Rattle.std.proofs.Common.{◌≡◌, ◌≢◌, ℕ, Bool, true, false, List, [], ◌∷◌, ◌++◌, Option, Some, None, filter, is_some, if◌then◌else◌, inl, inr, refl, sym, ap, ◌∙◌, subst, append-nil}
+use Rattle.std.proofs.Common.{◌≡◌, ◌≢◌, ℕ, Bool, true, false, List, [], ◌∷◌, ◌++◌, Option, Some, None, filter, is_some, if◌then◌else◌, inl, inr, refl, sym, ap, ◌∙◌, subst, append-nil, map}
 use Rattle.std.specs.Prelude.{slice_index_or, slice_set}
 use Rattle.std.specs.List.{All}
 use Rattle.std.proofs.lemmas.Bool.{cases_eq}
 use Rattle.std.proofs.lemmas.List.{get_or-set_other}
-use Rattle.std.proofs.lemmas.List.Elements.{All-cons, All-nil}
+use Rattle.std.proofs.lemmas.List.Elements.{All-append, All-cons, All-nil}
 use Rattle.tipc_types.specs.Address.{node_word}
+use Rattle.tipc_types.specs.declared.message_forms.Item.{Item}
 use Rattle.tipc_types.specs.declared.message_forms.Message.{Message}
 use Rattle.tipc_types.specs.declared.message_forms.Message.TheVariants.{Items, Payload}
+use Rattle.tipc_types.specs.declared.services.Publication.{Publication}
 use Rattle.tipc_outside.specs.declared.outgoing.Outgoing.{Outgoing}
 use Rattle.tipc_journal.specs.declared.entries.Entry.{Entry}
 use Rattle.tipc_journal.specs.declared.entries.Entry.TheVariants as entry
 use Rattle.tipc_journal.specs.Dues.{comes_home}
 use Rattle.tipc_journal.specs.Steps.{IsInside, is_inner}
+use Rattle.tipc_name_dist.specs.Applying.{applied, learnt_entries, learnt_entry, misfit_entries}
 use Rattle.tipc_link_fsm.specs.Table.{is_up}
 use Rattle.tipc_link.specs.Links.{with_session}
 use Rattle.tipc_link.specs.Sessions.{IsPut, SessionEnd, flush_frames, flushed}
@@ -30,13 +33,13 @@ use Rattle.tipc_node.specs.Calls.{Goes}
 use Rattle.tipc_node.specs.Messages.{IsSendable, bytes_of, message_in}
 use Rattle.tipc_node.specs.Nodes.{NodeState, accepted_entry, deliveries_of, delivered_by, entries_in, neighbour_of, session_with}
 use Rattle.tipc_node.specs.Turns.{IsOfNeighbour, IsPlaced, addr_of, is_accepted_for, is_change_of, is_delivered_from}
-use Rattle.tipc_node.specs.Works.{Delivers, DeliversAll, DeliversTo, Follows, GoesBack, Puts, Settles, Work, addr_of_word, fate_of, fated, noted, with_put}
+use Rattle.tipc_node.specs.Works.{Delivers, DeliversAll, DeliversTo, Follows, GoesBack, Puts, Settles, Work, addr_of_word, fate_of, fated, noted, with_items, with_put}
 use Rattle.tipc_node.specs.Works.DeliversAll.{none_left, one_more}
 use Rattle.tipc_node.proofs.Addressing.{AreFor, flush_for}
-use Rattle.tipc_node.proofs.Entries.{other_word, own_word, routed_to}
+use Rattle.tipc_node.proofs.Entries.{inside_both, other_word, own_word, routed_to}
 use Rattle.tipc_node.proofs.Named.{onto_by, put_peer}
 use Rattle.tipc_node.proofs.Places.{set_none, set_there}
-use Rattle.tipc_node.proofs.Runs.{IsRun, NowAt, RunAt, Runs, StandFor, run_as, run_then, stand_set, still_at}
+use Rattle.tipc_node.proofs.Runs.{IsRun, NowAt, RunAt, Runs, StandFor, both_parts, run_as, run_then, stand_set, still_at}
 use Rattle.tipc_node.proofs.Shares.{frames_to-other, frames_to-own}
 
 -- ---- what is noted
@@ -152,7 +155,7 @@ put_runs n w w' peer x s put m stand was contact is sendable after inside =
       stand = subst (StandFor n) (sym after) (stand_set n w.neighbours peer (with_put x put) stand onto.end_is there);
     }
 
-put_run : (n : NodeState) (w w' : Work) (peer : ℕ) (m : Message) (frames : List Outgoing) → StandFor n w.neighbours → Puts n.own w peer m w' frames → IsRun n w [] frames w'
+pub put_run : (n : NodeState) (w w' : Work) (peer : ℕ) (m : Message) (frames : List Outgoing) → StandFor n w.neighbours → Puts n.own w peer m w' frames → IsRun n w [] frames w'
 put_run n w w' peer m frames stand h = record {
   noted = accepted_entry peer h.neighbour.pair.link m ∷ [];
   runs = subst (λ fs. Runs n w (accepted_entry peer h.neighbour.pair.link m ∷ []) [] fs w') (sym h.frames_are)
@@ -201,6 +204,37 @@ goes_run n w w' m frames stand h = by (comes_home (addr_of_word n.own) m) refl
     by true is = settles_run n w w' false m frames stand (h.home is)
     by false is = put_run n w w' _ m frames stand (h.away is)
 
+-- ---- items that are applied
+
+both_quiet : (n : NodeState) (xs ys : List Entry) → AreQuiet n xs [] → AreQuiet n ys [] → AreQuiet n (xs ++ ys) []
+both_quiet n xs ys first later = record {
+  changes = λ b. both_parts (is_change_of b) xs ys [] [] (first.changes b) (later.changes b);
+  accepted = λ b. both_parts (is_accepted_for b) xs ys [] [] (first.accepted b) (later.accepted b);
+  delivered = λ b. both_parts (is_delivered_from b) xs ys [] [] (first.delivered b) (later.delivered b);
+  inside = inside_both xs ys first.inside later.inside;
+  placed = All-append (IsPlaced n) xs ys first.placed later.placed;
+}
+
+one_quiet : (n : NodeState) (withdrawal : Bool) (items : List Item) (p : Publication) → AreQuiet n (learnt_entry (Items withdrawal items) p ∷ []) []
+one_quiet n false items p = quiet_one n (entry.Learned p) (λ b. refl) (λ b. refl) (λ b. refl) refl tt
+one_quiet n true items p = quiet_one n (entry.Forgot p) (λ b. refl) (λ b. refl) (λ b. refl) refl tt
+
+learnt_quiet : (n : NodeState) (withdrawal : Bool) (items : List Item) (ps : List Publication) → AreQuiet n (map (learnt_entry (Items withdrawal items)) ps) []
+learnt_quiet n withdrawal items [] = none_quiet n
+learnt_quiet n withdrawal items (p ∷ ps) =
+    both_quiet n (learnt_entry (Items withdrawal items) p ∷ []) (map (learnt_entry (Items withdrawal items)) ps) (one_quiet n withdrawal items p) (learnt_quiet n withdrawal items ps)
+
+misfit_quiet : (n : NodeState) (bad : Option ℕ) → AreQuiet n (misfit_entries bad) []
+misfit_quiet n None = none_quiet n
+misfit_quiet n (Some place) = quiet_one n (entry.Dropped place) (λ b. refl) (λ b. refl) (λ b. refl) refl tt
+
+with_items_run : (n : NodeState) (peer : ℕ) (w : Work) (withdrawal : Bool) (items : List Item) → StandFor n w.neighbours → IsRun n w [] [] (with_items peer w (Items withdrawal items))
+with_items_run n peer w withdrawal items stand =
+    let m = Items withdrawal items in
+    let a = applied (node_word peer) w.sockets.names m in
+    quiet_run n w (with_items peer w m) (learnt_entries (node_word peer) w.sockets.names m) [] stand refl refl
+    (both_quiet n (map (learnt_entry m) a.publications) (misfit_entries a.bad) (learnt_quiet n withdrawal items a.publications) (misfit_quiet n a.bad))
+
 -- ---- what is delivered
 
 abbrev AllQuiet : NodeState → List Delivery → Type 0
@@ -222,22 +256,26 @@ all_given n peer contact [] there = tt
 all_given n peer contact (Passed place ∷ opened) there = (not_given n (entry.Dropped place) (quiet_one n (entry.Dropped place) (λ b. refl) (λ b. refl) (λ b. refl) refl tt), all_given n peer contact opened there)
 all_given n peer contact (Whole packet by ∷ opened) there = (one_given n peer contact (message_in packet) by there, all_given n peer contact opened there)
 
-delivers_to_run : (n : NodeState) (w w' : Work) (o : Option Message) (frames : List Outgoing) → StandFor n w.neighbours → DeliversTo n.own w o w' frames → IsRun n w [] frames w'
-delivers_to_run n w w' None frames stand h = run_as n w w w' [] frames [] h.0 h.1 (idle_run n w w stand refl refl)
-delivers_to_run n w w' (Some m) frames stand h = settles_run n w w' true m frames stand h
+delivers_to_run : (n : NodeState) (peer : ℕ) (w w' : Work) (o : Option Message) (frames : List Outgoing) → StandFor n w.neighbours → DeliversTo n.own peer w o w' frames → IsRun n w [] frames w'
+delivers_to_run n peer w w' None frames stand h = run_as n w w w' [] frames [] h.0 h.1 (idle_run n w w stand refl refl)
+delivers_to_run n peer w w' (Some (Items withdrawal items)) frames stand h =
+    run_as n w (with_items peer w (Items withdrawal items)) w' [] frames [] h.0 h.1 (with_items_run n peer w withdrawal items stand)
+delivers_to_run n peer w w' (Some (Payload importance form from to kind lower upper code droppable body)) frames stand h =
+    settles_run n w w' true (Payload importance form from to kind lower upper code droppable body) frames stand h
 
-delivers_run : (n : NodeState) (w w' : Work) (d : Delivery) (frames : List Outgoing) → StandFor n w.neighbours → AreQuiet n (d.entry ∷ []) (d.entry ∷ []) → Delivers n.own w d w' frames → IsRun n w (d.entry ∷ []) frames w'
-delivers_run n w w' d frames stand quiet h =
+delivers_run : (n : NodeState) (peer : ℕ) (w w' : Work) (d : Delivery) (frames : List Outgoing) → StandFor n w.neighbours → AreQuiet n (d.entry ∷ []) (d.entry ∷ []) → Delivers n.own peer w d w' frames
+    → IsRun n w (d.entry ∷ []) frames w'
+delivers_run n peer w w' d frames stand quiet h =
     let v = noted w (d.entry ∷ []) in
     let first = quiet_run n w v (d.entry ∷ []) (d.entry ∷ []) stand refl refl quiet in
-    run_then n w v w' (d.entry ∷ []) [] [] frames first (delivers_to_run n v w' d.message frames first.runs.stand h)
+    run_then n w v w' (d.entry ∷ []) [] [] frames first (delivers_to_run n peer v w' d.message frames first.runs.stand h)
 
-quiet_all_run : (n : NodeState) (w w' : Work) (ds : List Delivery) (frames : List Outgoing) → StandFor n w.neighbours → AllQuiet n ds → DeliversAll n.own w ds w' frames → IsRun n w (entries_in ds) frames w'
-quiet_all_run n w _ _ _ stand quiet (none_left _) = idle_run n w w stand refl refl
-quiet_all_run n w w' _ _ stand quiet (one_more _ v _ d ds fs fs' one all) =
-    let first = delivers_run n w v d fs stand quiet.0 one in
-    run_then n w v w' (d.entry ∷ []) (entries_in ds) fs fs' first (quiet_all_run n v w' ds fs' first.runs.stand quiet.1 all)
+quiet_all_run : (n : NodeState) (peer : ℕ) (w w' : Work) (ds : List Delivery) (frames : List Outgoing) → StandFor n w.neighbours → AllQuiet n ds → DeliversAll n.own peer w ds w' frames → IsRun n w (entries_in ds) frames w'
+quiet_all_run n peer w _ _ _ stand quiet (none_left _) = idle_run n w w stand refl refl
+quiet_all_run n peer w w' _ _ stand quiet (one_more _ v _ d ds fs fs' one all) =
+    let first = delivers_run n peer w v d fs stand quiet.0 one in
+    run_then n w v w' (d.entry ∷ []) (entries_in ds) fs fs' first (quiet_all_run n peer v w' ds fs' first.runs.stand quiet.1 all)
 
 pub delivers_all_run : (n : NodeState) (w w' : Work) (peer : ℕ) (contact : ℕ × ℕ) (opened : List Opened) (frames : List Outgoing) → is_some (neighbour_of n peer) ≡ true → StandFor n w.neighbours
-    → DeliversAll n.own w (deliveries_of peer contact opened) w' frames → IsRun n w (entries_in (deliveries_of peer contact opened)) frames w'
-delivers_all_run n w w' peer contact opened frames there stand h = quiet_all_run n w w' (deliveries_of peer contact opened) frames stand (all_given n peer contact opened there) h
+    → DeliversAll n.own peer w (deliveries_of peer contact opened) w' frames → IsRun n w (entries_in (deliveries_of peer contact opened)) frames w'
+delivers_all_run n w w' peer contact opened frames there stand h = quiet_all_run n peer w w' (deliveries_of peer contact opened) frames stand (all_given n peer contact opened there) h

@@ -1,5 +1,5 @@
 -- Messages by name: the journal tells of the node after each, and which match it went to.
-use Rattle.std.proofs.Common.{◌≡◌, ◌%◌, ◌^◌, ◌&&◌, ◌||◌, ℕ, Bool, true, false, not, List, [], ◌∷◌, ◌++◌, Option, Some, None, Contains, filter, length, inl, refl, sym, ap, ◌∙◌, subst, true≢false}
+use Rattle.std.proofs.Common.{◌≡◌, ◌&&◌, ◌||◌, ℕ, Bool, true, false, not, List, [], ◌∷◌, ◌++◌, Option, Some, None, Contains, filter, inl, refl, sym, ap, ◌∙◌, subst, true≢false}
 use Rattle.std.specs.Prelude.{if◌then◌else◌, slice_get}
 use Rattle.std.specs.List.{list_all, list_any}
 use Rattle.std.proofs.lemmas.Bool.{and_from, and_parts}
@@ -16,9 +16,8 @@ use Rattle.tipc_types.specs.declared.node_calls.EventNote.TheVariants as event
 use Rattle.tipc_types.specs.declared.services.Publication.{Publication}
 use Rattle.tipc_outside.specs.declared.outgoing.Outgoing.{Outgoing}
 use Rattle.tipc_journal.specs.declared.entries.Entry.{Entry}
-use Rattle.tipc_journal.specs.Counting.{is_sent_by_name}
 use Rattle.tipc_journal.specs.Dues.{NothingDue}
-use Rattle.tipc_journal.specs.Licensed.{IsAnswered, IsPicked, IsPickedOf, is_reached}
+use Rattle.tipc_journal.specs.Licensed.{IsAnswered, is_reached}
 use Rattle.tipc_journal.specs.Matches.{matches}
 use Rattle.tipc_journal.specs.Names.{table}
 use Rattle.tipc_journal.specs.Refusals.{is_nothing, refusal}

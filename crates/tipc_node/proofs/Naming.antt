@@ -10,14 +10,16 @@ use Rattle.tipc_types.specs.declared.node_calls.By.{By}
 use Rattle.tipc_types.specs.declared.node_calls.EventNote.TheVariants as event
 use Rattle.tipc_types.specs.declared.services.Publication.{Publication}
 use Rattle.tipc_types.specs.declared.services.Scope.{Scope}
+use Rattle.tipc_outside.specs.declared.outgoing.Outgoing.{Outgoing}
 use Rattle.tipc_journal.specs.declared.entries.Entry.{Entry}
 use Rattle.tipc_journal.specs.declared.entries.Entry.TheVariants as entry
 use Rattle.tipc_journal.specs.Contacts.{contact}
-use Rattle.tipc_journal.specs.Dues.{Due, NothingDue}
+use Rattle.tipc_journal.specs.Dues.{NothingDue}
 use Rattle.tipc_journal.specs.Refusals.{is_offer, refusal}
 use Rattle.tipc_journal.specs.Steps.{IsInside, step_entries}
 use Rattle.tipc_journal.proofs.MatchLaws.{live_at_home}
 use Rattle.tipc_name_table.specs.Tables.{is_of}
+use Rattle.tipc_name_dist.specs.Items.{telling}
 use Rattle.tipc_sockets.specs.declared.publishing.PublishFault.TheVariants as fault
 use Rattle.tipc_sockets.specs.Publishing.{closed, has_key, is_at, own_publication, published, published_at, withdrawn, withdrawn_each}
 use Rattle.tipc_sockets.specs.SocketTables.{AreSockets, SocketTable, has_port}
@@ -27,12 +29,13 @@ use Rattle.tipc_sockets.proofs.Entries.{told_entry}
 use Rattle.tipc_sockets.proofs.Keeping.{eq_itself}
 use Rattle.tipc_sockets.proofs.StepsTold.{told_closed}
 use Rattle.tipc_node.specs.Nodes.{NodeState, step_of}
-use Rattle.tipc_node.specs.Sockets.{published_work, publication_refusal, refused_publication, withdrawn_entries, withdrawn_work}
+use Rattle.tipc_node.specs.Sockets.{closed_work, published_work, publication_refusal, refused_publication, told_closing, told_withdrawal, withdrawn_entries, withdrawn_work}
 use Rattle.tipc_node.specs.Telling.{IsTold, is_in_reach}
-use Rattle.tipc_node.specs.Works.{Work, addr_of_word, begun, noted}
+use Rattle.tipc_node.specs.Works.{TellsPeers, Work, addr_of_word, begun, in_contact, noted, work_of}
 use Rattle.tipc_node.proofs.Calling.{done_answered}
 use Rattle.tipc_node.proofs.Concluding.{IsCall, others_kept, same_made}
 use Rattle.tipc_node.proofs.Noting.{IsWorked, all_kept, all_put, begun_worked, queues_none, reach_same, reached_same, worked_more}
+use Rattle.tipc_node.proofs.PeersTold.{telling_items, tellings_items, tells_each_worked}
 use Rattle.tipc_node.proofs.Refusing.{told_live}
 
 -- ---- publications are withdrawn
@@ -81,27 +84,29 @@ folded_each : (s : SocketTable) (ps : List Publication) → fold after_entry s (
 folded_each s [] = refl
 folded_each s (p ∷ ps) = folded_each (withdrawn s p.at.node.word p.key) ps
 
-pub close_call : (n : NodeState) (by : By) (port : ℕ) → IsTold n → refusal (addr_of_word n.own) n.journal (event.Close port) ≡ None → IsInside (map entry.Withdrawn (filter (is_at port) n.sockets.live))
-    → IsCall n by (event.Close port) answer.Done (noted (begun n) (map entry.Withdrawn (filter (is_at port) n.sockets.live))) (closed n.sockets port)
-close_call n by port h none inner =
+pub close_call : (n : NodeState) (by : By) (port : ℕ) (last : Work) (frames : List Outgoing) → IsTold n → refusal (addr_of_word n.own) n.journal (event.Close port) ≡ None
+    → TellsPeers n.own (closed_work n port) (told_closing n.sockets port) last frames → IsInside last.inside
+    → IsCall n by (event.Close port) answer.Done (work_of last.neighbours (fold after_entry n.sockets (closed_work n port).inside) last.inside) (closed n.sockets port)
+close_call n by port last frames h none tells inner =
     let own = addr_of_word n.own in
     let ps = filter (is_at port) n.sockets.live in
     let es = map entry.Withdrawn ps in
-    let st = step_of by (event.Close port) es answer.Done in
+    let st = step_of by (event.Close port) last.inside answer.Done in
     let mine : list_all (is_of n.own) ps ≡ true = all_kept (is_of n.own) (is_of n.own) (is_at port) (λ p at is. is) n.sockets.live (live_mine n h) in
-    let worked = all_withdrawn n [] [] (begun n) ps (begun_worked n NothingDue h) mine in
-    let each = folded_each n.sockets ps in
     let s = fold after_entry n.sockets es in
+    let withdrawn = all_withdrawn n [] [] (begun n) ps (begun_worked n NothingDue h) mine in
+    let worked = tells_each_worked n NothingDue [] es s (told_closing n.sockets port) (closed_work n port) (in_contact n.neighbours) last frames withdrawn (tellings_items true ps) tells in
+    let each = folded_each n.sockets ps in
     let bare : list_any (is_at port) s.live ≡ false = ap (λ (x : SocketTable). list_any (is_at port) x.live) each ∙ none_left_at n.sockets h.sockets.sound port in
     let same : closed s port ≡ closed n.sockets port = ap (λ x. closed x port) each ∙ withdrawn_then_closed n.sockets h.sockets.sound port in
-    let reached = all_kept (is_in_reach n.own (n.journal ++ es)) (is_in_reach n.own (n.journal ++ es)) (λ p. not (is_of s.own p && is_at port p)) (λ p kept is. is) s.names worked.reached in
+    let reached = all_kept (is_in_reach n.own (n.journal ++ last.inside)) (is_in_reach n.own (n.journal ++ last.inside)) (λ p. not (is_of s.own p && is_at port p)) (λ p kept is. is) s.names worked.reached in
     record {
-      answered = done_answered own n.journal by (event.Close port) es answer.Done none refl;
-      worked = subst (λ xs. IsWorked n NothingDue NothingDue [] xs (noted (begun n) es)) (ap (λ (xs : List Publication). map entry.Withdrawn (filter (is_at port) xs)) (told_live n h)) worked;
+      answered = done_answered own n.journal by (event.Close port) last.inside answer.Done none refl;
+      worked = subst (λ xs. IsWorked n NothingDue NothingDue [] xs (work_of last.neighbours s last.inside)) (ap (λ (xs : List Publication). map entry.Withdrawn (filter (is_at port) xs)) (told_live n h)) worked;
       kept = record {
         told = λ later. subst (AreTold own (n.journal ++ step_entries st) later []) same (told_closed own n.journal st s later h.whole inner worked.told port worked.sound bare (λ ports. refl) refl (λ other. refl));
         boot = refl;
-        reached = subst (λ (x : SocketTable). list_all (is_in_reach n.own (n.journal ++ es)) x.names ≡ true) same reached;
+        reached = subst (λ (x : SocketTable). list_all (is_in_reach n.own (n.journal ++ last.inside)) x.names ≡ true) same reached;
         unmade = λ later above. same_made n st n.sockets.ports.made n.sockets.ports.boot later h inner refl refl refl above;
       };
       full = tt;
@@ -123,19 +128,23 @@ found_mine own test (p ∷ ps) is =
     by true here later = ap (λ c. c && true) here
     by false here later = later
 
-pub withdraw_call : (n : NodeState) (by : By) (port key : ℕ) → IsTold n → refusal (addr_of_word n.own) n.journal (event.Withdraw port key) ≡ None → IsInside (withdrawn_work n port key).inside
-    → IsCall n by (event.Withdraw port key) answer.Done (withdrawn_work n port key) (withdrawn_work n port key).sockets
-withdraw_call n by port key h none inner =
+pub withdraw_call : (n : NodeState) (by : By) (port key : ℕ) (last : Work) (frames : List Outgoing) → IsTold n → refusal (addr_of_word n.own) n.journal (event.Withdraw port key) ≡ None
+    → TellsPeers n.own (withdrawn_work n port key) (told_withdrawal n.sockets port key) last frames → IsInside last.inside
+    → IsCall n by (event.Withdraw port key) answer.Done (work_of last.neighbours (withdrawn_work n port key).sockets last.inside) (withdrawn_work n port key).sockets
+withdraw_call n by port key last frames h none tells inner =
     let own = addr_of_word n.own in
     let o = published_at n.sockets port key in
+    let w = withdrawn_work n port key in
     let mine = found_mine n.own (is_offer port key) n.sockets.live (live_mine n h) in
     let one = all_withdrawn n [] [] (begun n) (option_to_list o) (begun_worked n NothingDue h) mine in
     let two = subst (λ es. IsWorked n NothingDue NothingDue [] (map entry.Withdrawn (option_to_list o)) (noted (begun n) es)) (sym (entries_of o)) one in
-    let worked = subst (λ es. IsWorked n NothingDue NothingDue [] es (withdrawn_work n port key)) (ap (λ (ps : List Publication). map entry.Withdrawn (option_to_list (find (is_offer port key) ps))) (told_live n h)) two in
+    let three = tells_each_worked n NothingDue [] (map entry.Withdrawn (option_to_list o)) w.sockets (told_withdrawal n.sockets port key) w (in_contact n.neighbours) last frames two (tellings_items true (option_to_list o)) tells in
+    let after = work_of last.neighbours w.sockets last.inside in
+    let worked = subst (λ es. IsWorked n NothingDue NothingDue [] es after) (ap (λ (ps : List Publication). map entry.Withdrawn (option_to_list (find (is_offer port key) ps))) (told_live n h)) three in
     record {
-      answered = done_answered own n.journal by (event.Withdraw port key) (withdrawn_work n port key).inside answer.Done none refl;
+      answered = done_answered own n.journal by (event.Withdraw port key) last.inside answer.Done none refl;
       worked = worked;
-      kept = others_kept n by (event.Withdraw port key) answer.Done NothingDue _ _ (withdrawn_work n port key) h inner worked (record { stays = λ ports. refl; none = refl; quiet = λ q. refl });
+      kept = others_kept n by (event.Withdraw port key) answer.Done NothingDue _ _ after h inner worked (record { stays = λ ports. refl; none = refl; quiet = λ q. refl });
       full = tt;
     }
 
@@ -151,16 +160,18 @@ published_there n port kind key is = by (has_port n.sockets port) (nat_lt kind 6
     by true low used full none = refl
     by false low used full none = absurd cc
 
-pub publish_call : (n : NodeState) (by : By) (port : ℕ) (range : Span) (scope : Scope) (key : ℕ) → IsTold n → refusal (addr_of_word n.own) n.journal (event.Publish port range scope key) ≡ None
-    → has_port n.sockets port ≡ true → AreSockets (published n.sockets (own_publication n.own port range scope key)) → IsInside (published_work n port range scope key).inside
-    → IsCall n by (event.Publish port range scope key) answer.Done (published_work n port range scope key) (published_work n port range scope key).sockets
-publish_call n by port range scope key h none there sound inner =
+pub publish_call : (n : NodeState) (by : By) (port : ℕ) (range : Span) (scope : Scope) (key : ℕ) (last : Work) (frames : List Outgoing) → IsTold n
+    → refusal (addr_of_word n.own) n.journal (event.Publish port range scope key) ≡ None → has_port n.sockets port ≡ true → AreSockets (published n.sockets (own_publication n.own port range scope key))
+    → TellsPeers n.own (published_work n port range scope key) (telling false (own_publication n.own port range scope key)) last frames → IsInside last.inside
+    → IsCall n by (event.Publish port range scope key) answer.Done (work_of last.neighbours (published_work n port range scope key).sockets last.inside) (published_work n port range scope key).sockets
+publish_call n by port range scope key last frames h none there sound tells inner =
     let own = addr_of_word n.own in
     let p = own_publication n.own port range scope key in
     let e = entry.Published p in
+    let w = published_work n port range scope key in
     let mine : is_of n.own p ≡ true = eq_itself n.own in
     let was = begun_worked n NothingDue h in
-    let worked = worked_more n NothingDue NothingDue [] [] (begun n) e (published n.sockets p) n.neighbours was (record {
+    let one = worked_more n NothingDue NothingDue [] [] (begun n) e (published n.sockets p) n.neighbours was (record {
       told = told_entry own n.journal NothingDue [] n.sockets was.told e mine (λ port. queues_none port _ e was.due) there;
       sound = sound;
       ports = refl;
@@ -168,9 +179,11 @@ publish_call n by port range scope key h none there sound inner =
       stands = tt;
       leaves = λ z. refl;
     }) in
+    let worked = tells_each_worked n NothingDue [] (e ∷ []) w.sockets (telling false p) w (in_contact n.neighbours) last frames one (telling_items false p) tells in
+    let after = work_of last.neighbours w.sockets last.inside in
     record {
-      answered = done_answered own n.journal by (event.Publish port range scope key) (e ∷ []) answer.Done none refl;
+      answered = done_answered own n.journal by (event.Publish port range scope key) last.inside answer.Done none refl;
       worked = worked;
-      kept = others_kept n by (event.Publish port range scope key) answer.Done NothingDue _ _ (published_work n port range scope key) h inner worked (record { stays = λ ports. refl; none = refl; quiet = λ q. refl });
+      kept = others_kept n by (event.Publish port range scope key) answer.Done NothingDue _ _ after h inner worked (record { stays = λ ports. refl; none = refl; quiet = λ q. refl });
       full = tt;
     }

@@ -1,5 +1,5 @@
 -- Each call is a turn of the node.
-use Rattle.std.proofs.Common.{◌≡◌, ℕ, List, [], ◌∷◌, Option, Some, None, filter, map, slice_index_or, refl, sym, ap, ◌∙◌, subst}
+use Rattle.std.proofs.Common.{◌≡◌, ℕ, false, List, [], ◌∷◌, Option, Some, None, filter, map, slice_index_or, refl, sym, ap, ◌∙◌, subst}
 use Rattle.std.proofs.lemmas.List.Elements.{All-cons, All-nil}
 use Rattle.tipc_types.specs.Address.{node_word}
 use Rattle.tipc_types.specs.declared.identity.PortId.{PortId}
@@ -15,6 +15,7 @@ use Rattle.tipc_outside.specs.declared.outgoing.Outgoing.{Outgoing}
 use Rattle.tipc_journal.specs.declared.entries.Entry.{Entry}
 use Rattle.tipc_journal.specs.declared.entries.Entry.TheVariants.{Published, Withdrawn}
 use Rattle.tipc_journal.specs.Steps.{NodeStep}
+use Rattle.tipc_name_dist.specs.Items.{telling}
 use Rattle.tipc_pair.specs.Turns.{Happened, Opening, Outset, ShowsIn, called}
 use Rattle.tipc_pair.specs.Turns.Opening.{cuts, mends, ticks}
 use Rattle.tipc_sockets.specs.Publishing.{is_at, own_publication, published_at}
@@ -22,18 +23,19 @@ use Rattle.tipc_sockets.specs.SocketTables.{with_socket}
 use Rattle.tipc_node.specs.declared.neighbours.Deed.{Deed}
 use Rattle.tipc_node.specs.declared.neighbours.Deed.TheVariants as deed
 use Rattle.tipc_node.specs.declared.neighbours.Neighbour.{Neighbour}
-use Rattle.tipc_node.specs.Calls.{CanPerform, Makes, Performs, Sends, SendsByName, SendsTo, TakesPart, deed_work, sender_refusal, way_refusal}
+use Rattle.tipc_node.specs.Calls.{CanPerform, Makes, Performs, Sends, SendsByName, SendsTo, TakesPart, Tells, deed_work, sender_refusal, way_refusal}
 use Rattle.tipc_node.specs.Messages.{destination_of, direct, limit_of, named}
 use Rattle.tipc_node.specs.Neighbours.{done, no_broadcast}
 use Rattle.tipc_node.specs.Nodes.{NodeState, after_one, change_entries, deed_note, entries_all, entries_one, frames_all, frames_one, mended_by, recorded, step_of, with_mended}
-use Rattle.tipc_node.specs.Sockets.{closed_work, first_answer, found_at, kept_answer, next_port, port_refusal, publication_refusal, published_work, received_work, socket_refusal, waiting_at, with_sockets_of, withdrawal_refusal, withdrawn_entries, withdrawn_work}
+use Rattle.tipc_node.specs.Sockets.{closed_work, crowd_refusal, first_answer, found_at, kept_answer, next_port, port_refusal, publication_refusal, published_work, received_work, socket_refusal, told_closing, told_withdrawal, waiting_at, with_sockets_of, withdrawal_refusal, withdrawn_entries, withdrawn_work}
 use Rattle.tipc_node.specs.Turns.{AreNamed, IsBrought, IsPlaced, Names, NodeTurn, PeerTurn, Suits, frames_to, is_accepted_for, is_change_of, is_delivered_from}
-use Rattle.tipc_node.specs.Works.{Work, begun, concluded}
+use Rattle.tipc_node.specs.Works.{Work, begun, concluded, in_contact}
 use Rattle.tipc_node.proofs.Addressing.{AreFor, mend_for, tick_for}
 use Rattle.tipc_node.proofs.Entries.{all_accept, all_changes, all_deliver, all_inside, all_placed, all_routed}
 use Rattle.tipc_node.proofs.MessageRuns.{AreQuiet, goes_run, idle_run, none_quiet, quiet_run}
-use Rattle.tipc_node.proofs.Plain.{IsPlain, IsPlainIn, plain_reason, port_plain, publication_plain, received_untaken, sender_plain, socket_plain, way_plain, withdrawal_plain}
-use Rattle.tipc_node.proofs.Runs.{IsRun}
+use Rattle.tipc_node.proofs.PeersTold.{tells_each_run}
+use Rattle.tipc_node.proofs.Plain.{IsPlain, IsPlainIn, crowd_plain, plain_reason, port_plain, publication_plain, received_untaken, sender_plain, socket_plain, way_plain, withdrawal_plain}
+use Rattle.tipc_node.proofs.Runs.{IsRun, run_then}
 use Rattle.tipc_node.proofs.Shares.{after_at, shares}
 use Rattle.tipc_node.proofs.Turning.{IsTurn, IsUntaken, named_stand, opens_turn, run_turn, shows_none, turn_as}
 
@@ -54,6 +56,27 @@ makes_turn : (n n' : NodeState) (by : By) (call : EventNote) (refusal : Option A
 makes_turn n n' by call (Some reason) w given frames answered named plain untaken run h = refused_turn n n' by call reason frames answered named plain h.0 h.1 h.2
 makes_turn n n' by call None w given frames answered named plain untaken run h =
     turn_as n n' (concluded n by call w (kept_answer given)) by call [] frames [] (kept_answer answered) (kept_answer given) h.0 h.1 (ap kept_answer h.2) (run_turn n by call [] (kept_answer given) w [] untaken run)
+
+-- a call that changes names, and tells peers of it
+tells_turn : (n n' : NodeState) (by : By) (call : EventNote) (refusal : Option Answer) (w : Work) (told : List Message) (frames : List Outgoing) (answered : Answer) → AreNamed n → IsPlainIn refusal → IsRun n (begun n) [] [] w
+    → Tells n n' by call refusal w told frames answered → IsCall n n' by call frames answered
+tells_turn n n' by call refusal w told frames answered named plain run h = case refusal refl
+  where
+    crowd : (o : Option Answer) → refusal ≡ None → crowd_refusal n.neighbours told ≡ o → IsCall n n' by call frames answered
+    crowd (Some reason) none is =
+        let r = h.crowded reason none is in
+        refused_turn n n' by call reason frames answered named (plain_reason (crowd_refusal n.neighbours told) reason (crowd_plain n.neighbours told) is) r.0 r.1 r.2
+    crowd None none is =
+        let t = h.tells none is in
+        let last = tells_each_run n told w (in_contact w.neighbours) t.0 frames run.runs.stand t.1 in
+        turn_as n n' (concluded n by call t.0 answer.Done) by call [] frames frames (kept_answer answered) answer.Done t.2 refl (ap kept_answer t.3)
+        (run_turn n by call [] answer.Done t.0 frames tt (run_then n (begun n) w t.0 [] [] [] frames run last))
+
+    case : (o : Option Answer) → refusal ≡ o → IsCall n n' by call frames answered
+    case (Some reason) is =
+        let r = h.refused reason is in
+        refused_turn n n' by call reason frames answered named (plain_reason refusal reason plain is) r.0 r.1 r.2
+    case None is = crowd (crowd_refusal n.neighbours told) is refl
 
 one_withdrawn : (n : NodeState) (p : Publication) (es : List Entry) → AreQuiet n es [] → AreQuiet n (Withdrawn p ∷ es) []
 one_withdrawn n p es quiet = record {
@@ -202,16 +225,16 @@ performs_turn n n' by event.Socket frames answered are can h =
     makes_turn n n' by event.Socket (socket_refusal n.sockets) w (answer.Socket (next_port n.sockets)) frames answered are (socket_plain n.sockets) tt (idle_run n (begun n) w (named_stand n are) refl refl) h
 performs_turn n n' by (event.Close port) frames answered are can h =
     let ps = filter (is_at port) n.sockets.live in
-    makes_turn n n' by (event.Close port) (port_refusal n.sockets port) (closed_work n port) answer.Done frames answered are (port_plain n.sockets port) tt
+    tells_turn n n' by (event.Close port) (port_refusal n.sockets port) (closed_work n port) (told_closing n.sockets port) frames answered are (port_plain n.sockets port)
     (quiet_run n (begun n) (closed_work n port) (map Withdrawn ps) [] (named_stand n are) refl refl (all_withdrawn n ps)) h
 performs_turn n n' by (event.Publish port range scope key) frames answered are can h =
     let w = published_work n port range scope key in
     let p = own_publication n.own port range scope key in
-    makes_turn n n' by (event.Publish port range scope key) (publication_refusal n.sockets port range.kind key) w answer.Done frames answered are (publication_plain n.sockets port range.kind key) tt
+    tells_turn n n' by (event.Publish port range scope key) (publication_refusal n.sockets port range.kind key) w (telling false p) frames answered are (publication_plain n.sockets port range.kind key)
     (quiet_run n (begun n) w (Published p ∷ []) [] (named_stand n are) refl refl (published_quiet n p)) h
 performs_turn n n' by (event.Withdraw port key) frames answered are can h =
     let o = published_at n.sockets port key in
-    makes_turn n n' by (event.Withdraw port key) (withdrawal_refusal n.sockets port key) (withdrawn_work n port key) answer.Done frames answered are (withdrawal_plain n.sockets port key) tt
+    tells_turn n n' by (event.Withdraw port key) (withdrawal_refusal n.sockets port key) (withdrawn_work n port key) (told_withdrawal n.sockets port key) frames answered are (withdrawal_plain n.sockets port key)
     (quiet_run n (begun n) (withdrawn_work n port key) (withdrawn_entries o) [] (named_stand n are) refl refl (withdrawn_quiet n o)) h
 performs_turn n n' by (event.SendName port kind instance importance body) frames answered are can h = named_turn n n' by port kind instance importance body frames answered are h
 performs_turn n n' by (event.SendPort port to importance body) frames answered are can h = sends_turn n n' by port to importance body frames answered are h

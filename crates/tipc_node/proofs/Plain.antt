@@ -1,6 +1,6 @@
 -- The answers of calls: the journal keeps all of each, but for a message that was received, and none tells of an arrival.
 use Rattle.std.proofs.Common.{◌≡◌, ℕ, List, [], ◌∷◌, Option, Some, None, length, nat_le, refl, subst}
-use Rattle.std.specs.Prelude.{◌==◌, ◌||◌, if◌then◌else◌}
+use Rattle.std.specs.Prelude.{◌==◌, ◌||◌, if◌then◌else◌, option_map}
 use Rattle.tipc_types.specs.declared.identity.Addr.{Addr}
 use Rattle.tipc_types.specs.declared.message_forms.Message.{Message}
 use Rattle.tipc_types.specs.declared.node_calls.Answer.{Answer}
@@ -12,9 +12,10 @@ use Rattle.tipc_sockets.specs.declared.publishing.PublishFault.{PublishFault}
 use Rattle.tipc_sockets.specs.declared.publishing.PublishFault.TheVariants as fault
 use Rattle.tipc_sockets.specs.Publishing.{publish_refusal, published_at}
 use Rattle.tipc_sockets.specs.SocketTables.{SocketTable, has_port}
+use Rattle.tipc_node.specs.declared.neighbours.Neighbour.{Neighbour}
 use Rattle.tipc_node.specs.Calls.{link_refusal, sender_refusal, way_refusal}
 use Rattle.tipc_node.specs.Nodes.{NodeState, session_with}
-use Rattle.tipc_node.specs.Sockets.{first_answer, kept_answer, key_refusal, port_refusal, publication_refusal, refused_publication, socket_refusal, withdrawal_refusal}
+use Rattle.tipc_node.specs.Sockets.{crowd_refusal, crowded_answer, first_answer, first_crowded, kept_answer, key_refusal, port_refusal, publication_refusal, refused_publication, socket_refusal, withdrawal_refusal}
 use Rattle.tipc_node.specs.Works.{neighbour_at}
 use Rattle.tipc_node.proofs.Addressing.{either}
 use Rattle.tipc_node.proofs.Turning.{IsUntaken}
@@ -47,7 +48,7 @@ publish_plain (Some fault.NoSocket) = record { kept = refl; untaken = tt }
 publish_plain (Some fault.Reserved) = record { kept = refl; untaken = tt }
 publish_plain (Some (fault.Duplicate key)) = record { kept = refl; untaken = tt }
 publish_plain (Some fault.Full) = record { kept = refl; untaken = tt }
-publish_plain (Some fault.NoMemory) = record { kept = refl; untaken = tt }
+publish_plain (Some fault.NoMemory) = tt
 
 pub publication_plain : (s : SocketTable) (port kind key : ℕ) → IsPlainIn (publication_refusal s port kind key)
 publication_plain s port kind key = publish_plain (publish_refusal s port kind key)
@@ -58,6 +59,14 @@ key_plain (Some p) = tt
 
 pub withdrawal_plain : (s : SocketTable) (port key : ℕ) → IsPlainIn (withdrawal_refusal s port key)
 withdrawal_plain s port key = either IsPlainIn (has_port s port) (key_refusal (published_at s port key)) (Some answer.NoSocket) (key_plain (published_at s port key)) no_socket
+
+crowded_plain : (xs : List (Option Neighbour)) (o : Option ℕ) → IsPlainIn (option_map (crowded_answer xs) o)
+crowded_plain xs None = tt
+crowded_plain xs (Some peer) = record { kept = refl; untaken = tt }
+
+pub crowd_plain : (xs : List (Option Neighbour)) (ms : List Message) → IsPlainIn (crowd_refusal xs ms)
+crowd_plain xs [] = tt
+crowd_plain xs (m ∷ ms) = crowded_plain xs (first_crowded xs)
 
 pub sender_plain : (n : NodeState) (port : ℕ) (body : List ℕ) → IsPlainIn (sender_refusal n port body)
 sender_plain n port body =

@@ -1,5 +1,5 @@
 -- A message that goes away, or back; and what is delivered, one after the other: a node's work on a step tells of it.
-use Rattle.std.proofs.Common.{◌≡◌, ◌-◌, ℕ, zero, suc, Bool, true, false, List, [], ◌∷◌, ◌++◌, Option, Some, None, is_some, inl, inr, refl, sym, ap, ◌∙◌, subst, arith}
+use Rattle.std.proofs.Common.{◌≡◌, ◌-◌, ◌==◌, ℕ, zero, suc, Bool, true, false, List, [], ◌∷◌, ◌++◌, Option, Some, None, is_some, inl, inr, refl, sym, ap, ◌∙◌, subst, arith}
 use Rattle.std.specs.Prelude.{◌⊎◌, if◌then◌else◌, option_and_then, slice_index_or, slice_set}
 use Rattle.std.proofs.lemmas.Bool.{cases_eq}
 use Rattle.std.proofs.lemmas.List.{append-nil, get_or-set_other}
@@ -15,6 +15,7 @@ use Rattle.tipc_journal.specs.Contacts.{contact}
 use Rattle.tipc_journal.specs.Dues.{Due, FateDue, NothingDue, ReturnDue, comes_home, due_after, due_of_delivered, due_of_returned}
 use Rattle.tipc_journal.specs.Fates.{MayStand, scene_at}
 use Rattle.tipc_journal.specs.Queues.{queued_by}
+use Rattle.tipc_journal.proofs.Insides.{contact_inside}
 use Rattle.tipc_link_fsm.specs.Table.{is_up}
 use Rattle.tipc_link.specs.Sessions.{SessionEnd}
 use Rattle.tipc_pair.specs.Pairs.{contact_of}
@@ -29,10 +30,13 @@ use Rattle.tipc_node.specs.declared.arriving.Delivery.{Delivery}
 use Rattle.tipc_node.specs.declared.neighbours.Neighbour.{Neighbour}
 use Rattle.tipc_node.specs.Messages.{destination_of, message_in}
 use Rattle.tipc_node.specs.Nodes.{NodeState, accepted_entry, deliveries_of, delivered_by, delivery_of, session_with, shown_contact}
-use Rattle.tipc_node.specs.Works.{DeliversAll, DeliversTo, Follows, GoesAway, GoesBack, Puts, Settles, Work, addr_of_word, fate_of, fated, none_left, noted, one_more, waiting_to, with_put}
-use Rattle.tipc_node.proofs.Fating.{IsLinked, IsReturn, contact_at, fate_leaves, fated_worked, linked_more, returned_is}
-use Rattle.tipc_node.proofs.Noting.{IsNext, IsWorked, delivered_worked, quiet_worked, reached_same, sent_by, worked_more, worked_on}
+use Rattle.tipc_node.specs.Works.{DeliversAll, DeliversTo, Follows, GoesAway, GoesBack, Puts, PutsEach, Settles, Work, addr_of_word, fate_of, fated, noted, waiting_to, with_put}
+use Rattle.tipc_node.specs.Works.DeliversAll.{none_left, one_more}
+use Rattle.tipc_node.proofs.Fating.{IsDone, IsLinked, IsReturn, contact_at, fate_leaves, fated_worked, linked_more, returned_is}
+use Rattle.tipc_node.proofs.LearntTold.{IsPeer, dropped_done, with_items_done}
+use Rattle.tipc_node.proofs.Noting.{IsNext, IsWorked, delivered_worked, reached_same, sent_by, worked_more, worked_on}
 use Rattle.tipc_node.proofs.Places.{set_either, set_there}
+use Rattle.tipc_node.proofs.Stable.{IsStable, delivers_stable, puts_stable}
 
 -- ---- what is put leaves each contact
 
@@ -109,7 +113,7 @@ unqueued port NothingDue peer numbers m = refl
 unqueued port (FateDue back arrived) peer numbers m = refl
 unqueued port (ReturnDue back) peer numbers m = refl
 
-put_next : (n : NodeState) (d now : Due) (sends asked : List Entry) (w : Work) (peer : Addr) (numbers : ℕ × ℕ) (m : Message) → IsWorked n d now sends asked w
+pub put_next : (n : NodeState) (d now : Due) (sends asked : List Entry) (w : Work) (peer : Addr) (numbers : ℕ × ℕ) (m : Message) → IsWorked n d now sends asked w
     → MayStand (scene_at (addr_of_word n.own) n.journal d w.inside) now (entry.Accepted peer numbers Zero m) → IsNext n d now w (entry.Accepted peer numbers Zero m) w.sockets
 put_next n d now sends asked w peer numbers m h stands = record {
   told = told_entry (addr_of_word n.own) n.journal d w.inside w.sockets h.told (entry.Accepted peer numbers Zero m) refl (λ port. unqueued port _ peer numbers m) refl;
@@ -156,9 +160,6 @@ passed_worked n d sends asked w m w' frames h linked payload p =
     (worked_on n d (ReturnDue m) NothingDue sends asked w e w.sockets xs h (put_next n d (ReturnDue m) sends asked w a numbers m h stands) refl refl refl)
 
 -- ---- a message has its fate, and a return goes back
-
-abbrev pub IsDone : NodeState → Due → List Entry → List Entry → Work → Type 0
-IsDone n d sends asked w = IsWorked n d NothingDue sends asked w × IsLinked n w
 
 fated_linked : (n : NodeState) (w : Work) (m : Message) (f : Fate) → IsLinked n w → IsLinked n (fated w m f)
 fated_linked n w m f h = linked_more n w (fate_entry f) (after_fate w.sockets m f) h (fate_leaves f)
@@ -228,30 +229,49 @@ pub all_given : (peer : ℕ) (numbers : ℕ × ℕ) (opened : List Opened) → A
 all_given peer numbers [] = tt
 all_given peer numbers (o ∷ opened) = (given_one peer numbers o, all_given peer numbers opened)
 
--- name items are dropped
-settles_any : (n : NodeState) (d : Due) (sends asked : List Entry) (w : Work) (m : Message) (w' : Work) (frames : List Outgoing) → IsWorked n d (due_of_delivered m) sends asked w → IsLinked n w
-    → Settles n.own w true m w' frames → IsDone n d sends asked w'
-settles_any n d sends asked w (Payload importance form from to kind lower upper code droppable body) w' frames h linked settles =
-    settles_worked n d sends asked w true (Payload importance form from to kind lower upper code droppable body) w' frames h linked refl (λ wrong. absurd cc) settles
-settles_any n d sends asked w (Items withdrawal items) w' frames h linked settles = (
-  subst (IsWorked n d NothingDue sends asked) (sym settles.0) (quiet_worked n d sends asked w (entry.Dropped 0) h tt),
-  subst (IsLinked n) (sym settles.0) (linked_more n w (entry.Dropped 0) w.sockets linked (λ a z. refl)),
-)
+-- the contact with a node stays while messages are put
+reached_stable : (own : ℕ) (a : Addr) → IsStable own (λ w. is_some (contact_at w.neighbours a) ≡ true)
+reached_stable own a = record {
+  put = λ w peer m w' frames h is.
+      ap (λ (u : Work). is_some (contact_at u.neighbours a)) h.after ∙ ap is_some (contact_set w.neighbours peer h.neighbour (with_put h.neighbour h.put) h.was refl a) ∙ is;
+  fate = λ w m f is. is;
+  note = λ w es is. is;
+}
 
-one_delivered : (n : NodeState) (d : Due) (sends asked : List Entry) (w : Work) (e : Entry) (o : Option Message) (w' : Work) (frames : List Outgoing) → IsDone n d sends asked w → IsGiven e o
-    → DeliversTo n.own (noted w (e ∷ [])) o w' frames → IsDone n d sends asked w'
-one_delivered n d sends asked w (entry.Dropped place) None w' frames h given step = (
-  subst (IsWorked n d NothingDue sends asked) (sym step.0) (quiet_worked n d sends asked w (entry.Dropped place) h.0 tt),
-  subst (IsLinked n) (sym step.0) (linked_more n w (entry.Dropped place) w.sockets h.1 (λ a z. refl)),
-)
-one_delivered n d sends asked w (entry.Delivered peer numbers flow m by) (Some x) w' frames h given step =
-    let after = noted w (entry.Delivered peer numbers flow m by ∷ []) in
-    let now = subst (λ y. IsWorked n d (due_of_delivered y) sends asked after) given (delivered_worked n d sends asked w peer numbers flow m by h.0) in
-    settles_any n d sends asked after x w' frames now (linked_more n w (entry.Delivered peer numbers flow m by) w.sockets h.1 (λ a z. refl)) step
-one_delivered n d sends asked w e o w' frames h given step = absurd given
+-- where something is delivered from a peer there is contact with it
+abbrev pub IsInContact : ℕ → Work → List Delivery → Type 0
+IsInContact peer w ds = (x : Delivery) (xs : List Delivery) → ds ≡ x ∷ xs → is_some (contact_at w.neighbours (addr_of_word (node_word peer))) ≡ true
 
-pub all_delivered : (n : NodeState) (d : Due) (sends asked : List Entry) (w : Work) (ds : List Delivery) (w' : Work) (frames : List Outgoing) → IsDone n d sends asked w → AreGiven ds
-    → DeliversAll n.own w ds w' frames → IsDone n d sends asked w'
-all_delivered n d sends asked _ _ _ _ h given (none_left w) = h
-all_delivered n d sends asked _ _ _ _ h given (one_more w between last x ds first rest one more) =
-    all_delivered n d sends asked between ds last rest (one_delivered n d sends asked w x.entry x.message between first h given.0 one) given.1 more
+pub still_in_contact : (own peer : ℕ) (w : Work) (ms : List Message) (w' : Work) (frames : List Outgoing) (ds : List Delivery) → PutsEach own peer w ms w' frames → IsInContact peer w ds → IsInContact peer w' ds
+still_in_contact own peer w ms w' frames ds puts is x xs some =
+    let a = addr_of_word (node_word peer) in
+    puts_stable own peer (λ (u : Work). is_some (contact_at u.neighbours a) ≡ true) (reached_stable own a) w ms w' frames puts (is x xs some)
+
+-- a user's message has its fate, and items are applied
+taken_in : (n : NodeState) (d : Due) (sends asked : List Entry) (peer : ℕ) (w : Work) (m : Message) (w' : Work) (frames : List Outgoing) → IsWorked n d (due_of_delivered m) sends asked w → IsLinked n w
+    → IsPeer n w.inside (node_word peer) → DeliversTo n.own peer w (Some m) w' frames → IsDone n d sends asked w'
+taken_in n d sends asked peer w (Payload importance form from to kind lower upper code droppable body) w' frames h linked is step =
+    settles_worked n d sends asked w true (Payload importance form from to kind lower upper code droppable body) w' frames h linked refl (λ wrong. absurd cc) step
+taken_in n d sends asked peer w (Items withdrawal items) w' frames h linked is step =
+    subst (IsDone n d sends asked) (sym step.0) (with_items_done n d sends asked peer withdrawal items w (h, linked) is)
+
+one_delivered : (n : NodeState) (d : Due) (sends asked : List Entry) (peer : ℕ) (w : Work) (e : Entry) (o : Option Message) (w' : Work) (frames : List Outgoing) → IsDone n d sends asked w → IsGiven e o
+    → IsPeer n w.inside (node_word peer) → DeliversTo n.own peer (noted w (e ∷ [])) o w' frames → IsDone n d sends asked w'
+one_delivered n d sends asked peer w (entry.Dropped place) None w' frames h given is step = subst (IsDone n d sends asked) (sym step.0) (dropped_done n d sends asked w place h)
+one_delivered n d sends asked peer w (entry.Delivered from numbers flow m by) (Some x) w' frames h given is step =
+    let e = entry.Delivered from numbers flow m by in
+    let after = noted w (e ∷ []) in
+    let now = subst (λ y. IsWorked n d (due_of_delivered y) sends asked after) given (delivered_worked n d sends asked w from numbers flow m by h.0) in
+    let still : IsPeer n after.inside (node_word peer) = record { other = is.other; contact = ap is_some (contact_inside n.journal w.inside e (addr_of_word (node_word peer))) ∙ is.contact } in
+    taken_in n d sends asked peer after x w' frames now (linked_more n w e w.sockets h.1 (λ a z. refl)) still step
+one_delivered n d sends asked peer w e o w' frames h given is step = absurd given
+
+pub all_delivered : (n : NodeState) (d : Due) (sends asked : List Entry) (peer : ℕ) (w : Work) (ds : List Delivery) (w' : Work) (frames : List Outgoing) → (node_word peer == n.own) ≡ false → IsDone n d sends asked w → AreGiven ds
+    → IsInContact peer w ds → DeliversAll n.own peer w ds w' frames → IsDone n d sends asked w'
+all_delivered n d sends asked peer _ _ _ _ other h given is (none_left w) = h
+all_delivered n d sends asked peer _ _ _ _ other h given is (one_more w between last x ds first rest one more) =
+    let a = addr_of_word (node_word peer) in
+    let some = is x ds refl in
+    let here : IsPeer n w.inside (node_word peer) = record { other = other; contact = ap is_some (h.1.contacts a) ∙ some } in
+    let later = delivers_stable n.own peer (λ (u : Work). is_some (contact_at u.neighbours a) ≡ true) (reached_stable n.own a) w x between first one some in
+    all_delivered n d sends asked peer between ds last rest other (one_delivered n d sends asked peer w x.entry x.message between first h given.0 here one) given.1 (λ y ys same. later) more

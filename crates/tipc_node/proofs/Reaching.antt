@@ -9,9 +9,11 @@ use Rattle.tipc_types.specs.declared.node_calls.By.{By}
 use Rattle.tipc_outside.specs.declared.outgoing.Outgoing.{Outgoing}
 use Rattle.tipc_outside.specs.Frames.{Adds, Out}
 use Rattle.tipc_outside.proofs.Adding.{adds_none}
-use Rattle.tipc_node.specs.Arrivals.{Arrives}
+use Rattle.tipc_header.specs.Spelling.{view}
+use Rattle.tipc_node.specs.declared.arriving.Due.{Due}
+use Rattle.tipc_node.specs.Arrivals.{Arrives, IsDue}
+use Rattle.tipc_node.specs.Hearings.{HearsDue}
 use Rattle.tipc_node.specs.Nodes.{NodeState, has_room, stop_of, stopped_node}
-use Rattle.tipc_node.proofs.Heard.{IsHeard}
 
 -- a frame arrived, and these frames left
 abbrev pub IsMet : NodeState → By → ℕ → ℕ → List ℕ → NodeState → Out → Out → Arrival → Type 0
@@ -32,9 +34,9 @@ stopped_met n n' by bearer number bytes box why r stopped ok =
       adds_none box,
     )
 
-pub heard_met : {E : Type 0} (n n' : NodeState) (by : By) (bearer number : ℕ) (bytes : List ℕ) (box box' : Out) (r : Result Arrival E) → stop_of n bearer bytes ≡ None
-    → IfOk r (IsHeard n n' box box' by number bytes) → IfOk r (IsMet n by bearer number bytes n' box box')
-heard_met n n' by bearer number bytes box box' r clear ok = IfOk-weaker r (IsHeard n n' box box' by number bytes) (IsMet n by bearer number bytes n' box box') met ok
+pub heard_met : {E : Type 0} (n n' : NodeState) (by : By) (bearer number : ℕ) (bytes : List ℕ) (d : Due) (box box' : Out) (r : Result Arrival E) → stop_of n bearer bytes ≡ None → IsDue n bytes d.peer d.first d.second (view d.packet)
+    → IfOk r (HearsDue n n' by number d box box') → IfOk r (IsMet n by bearer number bytes n' box box')
+heard_met n n' by bearer number bytes d box box' r clear due ok = IfOk-weaker r (HearsDue n n' by number d box box') (IsMet n by bearer number bytes n' box box') met ok
   where
-    met : (a : Arrival) → IsHeard n n' box box' by number bytes a → IsMet n by bearer number bytes n' box box' a
-    met a h = (h.0, record { stopped = λ reason is. absurd (let wrong : None ≡ Some reason = sym clear ∙ is in cc); heard = λ _. h.1 }, h.2)
+    met : (a : Arrival) → HearsDue n n' by number d box box' a → IsMet n by bearer number bytes n' box box' a
+    met a hears = let h = hears bytes due in (h.0, record { stopped = λ reason is. absurd (let wrong : None ≡ Some reason = sym clear ∙ is in cc); heard = λ _. h.1 }, h.2)

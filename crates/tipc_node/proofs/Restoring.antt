@@ -35,6 +35,11 @@ change_one (Some c ∷ cs) (x ∷ xs) zero y there = refl
 change_one (None ∷ cs) (x ∷ xs) (suc i) y there = ap (λ ys. x ∷ ys) (change_one cs xs i y there)
 change_one (Some c ∷ cs) (x ∷ xs) (suc i) y there = ap (λ ys. Some c ∷ ys) (change_one cs xs i y there)
 
+-- what was copied is changed, as the neighbours were seen when they were copied
+pub kept_changed : (copies copies' seen xs : List (Option Neighbour)) (i : ℕ) (y : Option Neighbour) → seen ≡ xs → is_some (slice_index_or copies' i None) ≡ true → restored copies' seen ≡ restored copies seen
+    → restored copies' (slice_set xs i y) ≡ restored copies xs
+kept_changed copies copies' seen xs i y seen_is there same = change_one copies' xs i y there ∙ ap (restored copies') (sym seen_is) ∙ same ∙ ap (restored copies) seen_is
+
 -- ---- one after the other
 
 -- those before a place are as they were, and so many copies are left for the others

@@ -1,29 +1,30 @@
 -- What goes back by a fate, and where.
-use Rattle.std.proofs.Common.{◌≡◌, ℕ, ◌+◌, ◌-◌, ◌<◌, ◌≤◌, ◌==◌, ◌&&◌, ◌||◌, not, Bool, true, false, List, [], ◌∷◌, ◌++◌, Option, Some, None, Result, Ok, Err, if◌then◌else◌, refl, sym, ap, subst, ◌∙◌, arith, length, take, true≢false}
-use Rattle.std.specs.Prelude.{OnOk, nat_le, nat_lt, min, slice_index_or, slice_set, unwrap_or}
+use Rattle.std.proofs.Common.{◌≡◌, ℕ, ◌-◌, ◌<◌, ◌≤◌, ◌==◌, ◌&&◌, ◌||◌, not, Bool, true, false, List, [], ◌∷◌, ◌++◌, Option, Some, None, Result, Ok, Err, if◌then◌else◌, refl, sym, ap, subst, ◌∙◌, arith, length, take, true≢false}
+use Rattle.std.specs.Prelude.{OnOk, is_some, option_map, nat_le, nat_lt, slice_index_or, slice_set, unwrap_or}
 use Rattle.std.proofs.lemmas.Bool.Decides.{nat_tests}
 use Rattle.std.proofs.lemmas.List.{length-take}
 use Rattle.tipc_types.specs.Address.{node_word}
+use Rattle.tipc_types.specs.declared.identity.Addr.{Addr}
 use Rattle.tipc_types.specs.declared.message_forms.Form.{Form}
 use Rattle.tipc_types.specs.declared.message_forms.Form.TheVariants.{Connected, Direct, Multicast, Named}
 use Rattle.tipc_types.specs.declared.message_forms.Message.{Message}
 use Rattle.tipc_types.specs.declared.message_forms.Message.TheVariants.{Payload, Items}
-use Rattle.tipc_outside.specs.Frames.{Adds, Out}
+use Rattle.tipc_outside.specs.Frames.{Out}
 use Rattle.tipc_outside.proofs.Adding.{adds_none}
 use Rattle.tipc_journal.specs.declared.entries.Entry.{Entry}
 use Rattle.tipc_journal.specs.Dues.{comes_home, returned_message}
 use Rattle.tipc_journal.specs.Fates.{inbox_size, no_name, overload, return_limit}
-use Rattle.tipc_link.specs.Sessions.{flush_frames}
-use Rattle.tipc_message.specs.Wire.{IsPayload}
+use Rattle.tipc_link.specs.Sessions.{SessionEnd, flush_frames}
+use Rattle.tipc_message.specs.Wire.{IsCarried, IsPayload}
 use Rattle.tipc_sockets.specs.declared.fates.Fate.{Fate}
 use Rattle.tipc_sockets.specs.declared.fates.Fate.TheVariants.{Queued, Returned, ReturnDropped, Dropped}
 use Rattle.tipc_sockets.specs.Fates.{after_fate, fate, is_by_name, is_offered, one_port_fate, refusal, return_fate, room_refusal, unqueued_fate}
 use Rattle.tipc_sockets.specs.SocketTables.{queue_at, SocketTable}
 use Rattle.tipc_sockets.specs.Telling.{fate_entry, origin_of}
 use Rattle.tipc_node.specs.declared.neighbours.Neighbour.{Neighbour}
-use Rattle.tipc_node.specs.Drafts.{Settled, WentAway, WentBack}
+use Rattle.tipc_node.specs.Hearings.{Settled, WentAway, WentBack}
 use Rattle.tipc_node.specs.Messages.{destination_of}
-use Rattle.tipc_node.specs.Nodes.{accepted_entry}
+use Rattle.tipc_node.specs.Nodes.{session_with}
 use Rattle.tipc_node.specs.Works.{Follows, GoesBack, Puts, PutsOn, Work, addr_of_word, back_of, fate_of, fated, waiting_to, with_put, work_of}
 
 -- ---- what a return is like
@@ -99,6 +100,22 @@ fate_return s arrived waiting (Items withdrawal items) back h = absurd cc
 
 -- ---- it goes back
 
+-- a packet carries a user's message
+pub payload_carried : (m : Message) → IsPayload m → IsCarried m
+payload_carried (Payload importance form from to kind lower upper code droppable body) is = is
+payload_carried (Items withdrawal items) is = absurd is
+
+-- where packets are counted on the link to a node there is a session with the neighbour of its number
+pub session_to : (xs : List (Option Neighbour)) (node : Addr) (peer waiting : ℕ) (y : Neighbour) → node.word ≡ node_word peer → waiting_to xs node ≡ Some waiting → slice_index_or xs peer None ≡ Some y
+    → is_some (session_with (Some y)) ≡ true
+session_to xs node peer waiting y word counted was =
+    let number : node.word - node_word 0 ≡ peer = omega (arith, word) in
+    some_session (session_with (Some y)) (ap (λ o. option_map (λ (s : SessionEnd). length s.sending.waiting) (session_with o)) (sym (ap (λ k. slice_index_or xs k None) number ∙ was)) ∙ counted)
+  where
+    some_session : (o : Option SessionEnd) → option_map (λ (s : SessionEnd). length s.sending.waiting) o ≡ Some waiting → is_some o ≡ true
+    some_session None is = absurd cc
+    some_session (Some s) is = refl
+
 pub went_away : (own : ℕ) (w : Work) (peer : ℕ) (x x' : Neighbour) (m : Message) (inside' : List Entry) (box box' : Out) → slice_index_or w.neighbours peer None ≡ Some x → (destination_of m).word ≡ node_word peer
     → PutsOn own x x' peer m w.inside inside' box box' → WentAway own w m (work_of (slice_set w.neighbours peer (Some x')) w.sockets inside') box box'
 went_away own w peer x x' m inside' box box' was to h =
@@ -170,20 +187,10 @@ fate_same s m (Returned back) = (refl, refl)
 fate_same s m (ReturnDropped waiting) = (refl, refl)
 fate_same s m Dropped = (refl, refl)
 
-pub same_after : (s s' : SocketTable) (m : Message) (f : Fate) → s' ≡ after_fate s m f → (s'.own ≡ s.own) × (s'.ports ≡ s.ports)
-same_after s s' m f is = subst (λ (t : SocketTable). (t.own ≡ s.own) × (t.ports ≡ s.ports)) (sym is) (fate_same s m f)
-
-pub same_twice : (s t u : SocketTable) → (t.own ≡ s.own) × (t.ports ≡ s.ports) → (u.own ≡ t.own) × (u.ports ≡ t.ports) → (u.own ≡ s.own) × (u.ports ≡ s.ports)
-same_twice s t u one two = (two.0 ∙ one.0, two.1 ∙ one.1)
-
 -- what an answer without an error tells
 pub on_ok : {T E P Q : Type 0} (r : Result T E) → (P → Q) → OnOk r P → OnOk r Q
 on_ok (Ok x) goes h = goes h
 on_ok (Err e) goes h = tt
-
-pub any_ok : {T E P : Type 0} (r : Result T E) → P → OnOk r P
-any_ok (Ok x) h = h
-any_ok (Err e) h = tt
 
 -- a return to a peer, as the work has it
 pub contact_there : (w : Work) (own : ℕ) (m back : Message) → w.sockets.own ≡ own → back_of (fate_of w true m) ≡ Some back → comes_home (addr_of_word own) back ≡ false
@@ -196,15 +203,19 @@ contact_there w own m back same is away =
 pub return_payload : (w : Work) (m back : Message) → back_of (fate_of w true m) ≡ Some back → IsPayload back
 return_payload w m back is = (fate_return w.sockets true (waiting_to w.neighbours (origin_of m)) m back is).payload
 
--- what giving a message its fate made of the sockets and of what is told, and what goes back
-pub record IsGiven (xs : List (Option Neighbour)) (s s' : SocketTable) (es es' : List Entry) (arrived : Bool) (m : Message) : Type 0 where
-  pub sockets_are : s' ≡ after_fate s m (fate_of (work_of xs s es) arrived m)
-  pub entries_are : es' ≡ es ++ fate_entry (fate_of (work_of xs s es) arrived m) ∷ []
+-- What giving a message its fate made of the sockets and of what is told, and what goes back by it, as the neighbours were seen.
+pub record HasMet (xs seen : List (Option Neighbour)) (s s' : SocketTable) (es es' : List Entry) (arrived : Bool) (m : Message) (back : Option Message) : Type 0 where
+  pub seen_is : seen ≡ xs
+  pub back_is : back ≡ back_of (fate_of (work_of seen s es) arrived m)
+  pub sockets_are : s' ≡ after_fate s m (fate_of (work_of seen s es) arrived m)
+  pub entries_are : es' ≡ es ++ fate_entry (fate_of (work_of seen s es) arrived m) ∷ []
 
-pub given_is : (xs : List (Option Neighbour)) (s s' : SocketTable) (es es' : List Entry) (arrived : Bool) (m : Message) → IsGiven xs s s' es es' arrived m
+pub met_back : (xs seen : List (Option Neighbour)) (s s' : SocketTable) (es es' : List Entry) (arrived : Bool) (m : Message) (back : Option Message) → HasMet xs seen s s' es es' arrived m back
+    → back_of (fate_of (work_of xs s es) arrived m) ≡ back
+met_back xs seen s s' es es' arrived m back h = sym (h.back_is ∙ ap (λ zs. back_of (fate_of (work_of zs s es) arrived m)) h.seen_is)
+
+pub met_work : (xs seen : List (Option Neighbour)) (s s' : SocketTable) (es es' : List Entry) (arrived : Bool) (m : Message) (back : Option Message) → HasMet xs seen s s' es es' arrived m back
     → work_of xs s' es' ≡ fated (work_of xs s es) m (fate_of (work_of xs s es) arrived m)
-given_is xs s s' es es' arrived m h = fated_is (work_of xs s es) m (fate_of (work_of xs s es) arrived m) s' es' h.sockets_are h.entries_are
-
--- the same of neighbours that are these
-pub given_at : (xs ys : List (Option Neighbour)) (s s' : SocketTable) (es es' : List Entry) (arrived : Bool) (m : Message) → xs ≡ ys → IsGiven xs s s' es es' arrived m → IsGiven ys s s' es es' arrived m
-given_at xs ys s s' es es' arrived m same h = subst (λ zs. IsGiven zs s s' es es' arrived m) same h
+met_work xs seen s s' es es' arrived m back h =
+    let f : List (Option Neighbour) → Fate = λ zs. fate_of (work_of zs s es) arrived m in
+    fated_is (work_of xs s es) m (f xs) s' es' (h.sockets_are ∙ ap (λ zs. after_fate s m (f zs)) h.seen_is) (h.entries_are ∙ ap (λ zs. es ++ fate_entry (f zs) ∷ []) h.seen_is)

@@ -1,4 +1,4 @@
--- The packets in which a user's message is sent.
+-- The packets in which a message is sent.
 use Rattle.std.proofs.Common.{◌≡◌, ◌<◌, ◌≤◌, ◌+◌, ◌*◌, ℕ, true, false, List, [], ◌∷◌, Some, Result, Ok, Err, length, nat_le, refl, sym, ap, ◌∙◌, subst, arith}
 use Rattle.std.specs.Prelude.{All, IfOk, slice_index_or}
 use Rattle.std.proofs.lemmas.Bool.Decides.{nat_tests}
@@ -11,7 +11,7 @@ use Rattle.tipc_header.specs.Spelling.{Fields, size_of, spelling}
 use Rattle.tipc_header.specs.Users.{header_size}
 use Rattle.tipc_header.proofs.Again.{length-spelling}
 use Rattle.tipc_header.proofs.FrameWords.{length-spelling as spelling-long}
-use Rattle.tipc_message.specs.Wire.{IsPayload, packet_of, payload_of, payload_packet}
+use Rattle.tipc_message.specs.Wire.{items_packet, message_of, packet_of, payload_of, payload_packet}
 use Rattle.tipc_bundle.specs.Bundles.{IsInner, may_stand_inside}
 use Rattle.tipc_fragments.specs.Cutting.{Piece, packet_of as piece_packet, packets_of, pieces_of}
 use Rattle.tipc_reassembly.specs.Slots.{IsCut}
@@ -22,41 +22,44 @@ use Rattle.tipc_pair.specs.Partners.{pieces_for}
 use Rattle.tipc_pair.proofs.Pieces.{All-one, pieces_cut}
 use Rattle.tipc_node.specs.Messages.{IsSendable, bytes_of, spelled}
 
--- these bytes spell the packet of a message that a node of this address sends
+-- these bytes spell the packet of a message that a node of this address sends, and it is read again from that
 abbrev pub IsSpelled : ℕ → Message → List ℕ → Type 0
-IsSpelled own m bytes = (p : Fields) × (packet_of own m ≡ Some p) × Fits p × (bytes ≡ spelling p)
+IsSpelled own m bytes = (p : Fields) × (packet_of own m ≡ Some p) × Fits p × (bytes ≡ spelling p) × (message_of p ≡ Some m)
 
 -- so it may be sent, and these are its bytes
-pub sendable_by : (own : ℕ) (m : Message) (bytes : List ℕ) → IsPayload m → IsSpelled own m bytes → IsSendable own m
-sendable_by own m bytes payload s = record { packet = s.0; packet_is = s.1; fits = s.2; payload = payload }
+pub sendable_by : (own : ℕ) (m : Message) (bytes : List ℕ) → IsSpelled own m bytes → IsSendable own m
+sendable_by own m bytes s = record { packet = s.0; packet_is = s.1; fits = s.2; read = s.4 }
 
 pub spelled_bytes : (own : ℕ) (m : Message) (bytes : List ℕ) → IsSpelled own m bytes → bytes ≡ bytes_of own m
 unfolding bytes_of
 spelled_bytes own m bytes s = s.3 ∙ sym (ap spelled s.1)
 
-abbrev IsUsers : Fields → Type 0
-IsUsers p = (may_stand_inside p.header ≡ true) × (4 * header_size p.header ≤ 44) × (size_of p ≡ 4 * header_size p.header + length p.rest) × (length p.rest ≤ 66000)
+-- a packet that carries a message
+abbrev IsCarrier : Fields → Type 0
+IsCarrier p = (may_stand_inside p.header ≡ true) × (4 * header_size p.header ≤ 44) × (size_of p ≡ 4 * header_size p.header + length p.rest) × (length p.rest ≤ 66000)
 
-users_with : (own : ℕ) (m : Message) (p : Fields) → packet_of own m ≡ Some p → Fits p → IsUsers p
+carrier_with : (own : ℕ) (m : Message) (p : Fields) → packet_of own m ≡ Some p → Fits p → IsCarrier p
 unfolding packet_of
-users_with own (message.Payload importance form.Connected from to kind lower upper code droppable body) p is fits =
+carrier_with own (message.Payload importance form.Connected from to kind lower upper code droppable body) p is fits =
     let same : payload_packet own (payload_of importance form.Connected from to kind lower upper code droppable) body ≡ p = cc in
-    subst (λ q. Fits q → IsUsers q) same (λ f. (refl, omega arith, refl, f.rest)) fits
-users_with own (message.Payload importance form.Multicast from to kind lower upper code droppable body) p is fits =
+    subst (λ q. Fits q → IsCarrier q) same (λ f. (refl, omega arith, refl, f.rest)) fits
+carrier_with own (message.Payload importance form.Multicast from to kind lower upper code droppable body) p is fits =
     let same : payload_packet own (payload_of importance form.Multicast from to kind lower upper code droppable) body ≡ p = cc in
-    subst (λ q. Fits q → IsUsers q) same (λ f. (refl, omega arith, refl, f.rest)) fits
-users_with own (message.Payload importance form.Named from to kind lower upper code droppable body) p is fits =
+    subst (λ q. Fits q → IsCarrier q) same (λ f. (refl, omega arith, refl, f.rest)) fits
+carrier_with own (message.Payload importance form.Named from to kind lower upper code droppable body) p is fits =
     let same : payload_packet own (payload_of importance form.Named from to kind lower upper code droppable) body ≡ p = cc in
-    subst (λ q. Fits q → IsUsers q) same (λ f. (refl, omega arith, refl, f.rest)) fits
-users_with own (message.Payload importance form.Direct from to kind lower upper code droppable body) p is fits =
+    subst (λ q. Fits q → IsCarrier q) same (λ f. (refl, omega arith, refl, f.rest)) fits
+carrier_with own (message.Payload importance form.Direct from to kind lower upper code droppable body) p is fits =
     let same : payload_packet own (payload_of importance form.Direct from to kind lower upper code droppable) body ≡ p = cc in
-    subst (λ q. Fits q → IsUsers q) same (λ f. (refl, omega arith, refl, f.rest)) fits
-users_with own (message.Items withdrawal items) p is fits = absurd cc
+    subst (λ q. Fits q → IsCarrier q) same (λ f. (refl, omega arith, refl, f.rest)) fits
+carrier_with own (message.Items withdrawal items) p is fits =
+    let same : items_packet own withdrawal items ≡ p = cc in
+    subst (λ q. Fits q → IsCarrier q) same (λ f. (let most = f.rest.1 in (refl, omega arith, refl, omega (arith, most)))) fits
 
 -- they are 66,044 at most
 pub spelled_most : (own : ℕ) (m : Message) (bytes given : List ℕ) → IsSpelled own m bytes → given ≡ bytes → length given ≤ 66044
 spelled_most own m bytes given s same =
-    let u = users_with own m s.0 s.1 s.2 in
+    let u = carrier_with own m s.0 s.1 s.2 in
     let header = u.1 in
     let size = u.2 in
     let rest = u.3 in
@@ -66,7 +69,7 @@ spelled_most own m bytes given s same =
 -- and may wait
 spelled_waits : (own : ℕ) (m : Message) (bytes : List ℕ) → IsSpelled own m bytes → IsWaiting bytes
 spelled_waits own m bytes s =
-    let inner : IsInner bytes = record { packet = s.0; fits = s.2; spelled = s.3; inside = (users_with own m s.0 s.1 s.2).0 } in
+    let inner : IsInner bytes = record { packet = s.0; fits = s.2; spelled = s.3; inside = (carrier_with own m s.0 s.1 s.2).0 } in
     record { long = subst (λ b. 16 ≤ length b) (sym s.3) (spelling-long s.0); made = λ bundled. absurd (inner_no_bundle bytes inner bundled) }
 
 cut_waits : (piece : Piece) → IsCut piece → IsWaiting (spelling (piece_packet piece))
@@ -99,9 +102,9 @@ pub many_pieces : {E : Type 0} (own : ℕ) (m : Message) (bytes given : List ℕ
 many_pieces own m bytes given (Ok packets) s same long is = is ∙ ap packets_of same ∙ sym (in_fragments bytes long) ∙ ap pieces_for (spelled_bytes own m bytes s)
 many_pieces own m bytes given (Err e) s same long is = tt
 
-pub many_sendable : {E : Type 0} (own : ℕ) (m : Message) (bytes : List ℕ) (r : Result (List (List ℕ)) E) → IsPayload m → IsSpelled own m bytes → IfOk r (λ packets. IsSendable own m)
-many_sendable own m bytes (Ok packets) payload s = sendable_by own m bytes payload s
-many_sendable own m bytes (Err e) payload s = tt
+pub many_sendable : {E : Type 0} (own : ℕ) (m : Message) (bytes : List ℕ) (r : Result (List (List ℕ)) E) → IsSpelled own m bytes → IfOk r (λ packets. IsSendable own m)
+many_sendable own m bytes (Ok packets) s = sendable_by own m bytes s
+many_sendable own m bytes (Err e) s = tt
 
 pub many_wait : {E : Type 0} (own : ℕ) (m : Message) (bytes given : List ℕ) (r : Result (List (List ℕ)) E) → IsSpelled own m bytes → given ≡ bytes → IfOk r (λ packets. packets ≡ packets_of given) → IfOk r (All IsWaiting)
 many_wait own m bytes given (Ok packets) s same is = subst (All IsWaiting) (sym is) (packets_wait given (spelled_most own m bytes given s same))

@@ -1,22 +1,22 @@
 -- Messages that surely wait at their ports wait there, one after the other.
-use Rattle.std.proofs.Common.{◌≡◌, ℕ, ◌+◌, ◌≤◌, ◌&&◌, Bool, true, false, List, [], ◌∷◌, ◌++◌, Option, Some, None, refl, sym, ap, subst, ◌∙◌, arith, append-nil, append_assoc, sum_by}
+use Rattle.std.proofs.Common.{◌≡◌, ℕ, ◌+◌, ◌≤◌, ◌&&◌, Bool, true, false, List, [], ◌∷◌, ◌++◌, Option, Some, None, refl, sym, ap, subst, ◌∙◌, arith, append-nil, append_assoc}
 use Rattle.std.specs.List.{list_all}
 use Rattle.std.proofs.lemmas.List.Sums.{sum_by-cons}
 use Rattle.tipc_types.specs.declared.message_forms.Message.{Message}
+use Rattle.tipc_types.specs.declared.message_forms.Message.TheVariants.{Items, Payload}
 use Rattle.tipc_outside.specs.Frames.{Out}
 use Rattle.tipc_outside.proofs.Adding.{adds_none}
-use Rattle.tipc_ports.specs.Numbers.{PortTable}
 use Rattle.tipc_sockets.specs.declared.fates.Fate.{Fate}
-use Rattle.tipc_sockets.specs.declared.fates.Fate.TheVariants.{Queued}
-use Rattle.tipc_sockets.specs.Fates.{port_of, surely_waits, with_waiting}
+use Rattle.tipc_sockets.specs.Fates.{surely_waits, with_waiting}
 use Rattle.tipc_sockets.specs.SocketTables.{SocketTable}
+use Rattle.tipc_sockets.specs.Telling.{is_payload}
 use Rattle.tipc_sockets.proofs.Waiting.{sure_fate, waits_among, waits_behind}
 use Rattle.tipc_node.specs.declared.arriving.Delivery.{Delivery}
-use Rattle.tipc_node.specs.Drafts.{is_plain, AllDelivered, Delivered, Settled}
+use Rattle.tipc_node.specs.Hearings.{is_plain, AllDelivered, Settled}
 use Rattle.tipc_node.specs.Nodes.{entries_in, message_count, taken_count}
-use Rattle.tipc_node.specs.Sure.{all_wait, are_sure, message_of, messages_in, told_in, told_of, waiting_entries, waits_surely, with_all_waiting}
-use Rattle.tipc_node.specs.Works.{Follows, Work, fate_of, fated, work_of}
-use Rattle.tipc_node.proofs.Delivering.{delivered_first, delivered_none, delivered_some, nothing_delivered}
+use Rattle.tipc_node.specs.Sure.{all_wait, are_sure, message_of, messages_in, told_in, waiting_entries, waits_surely, with_all_waiting}
+use Rattle.tipc_node.specs.Works.{Follows, Work, work_of}
+use Rattle.tipc_node.proofs.Delivering.{delivered_first, delivered_none, delivered_some, nothing_delivered, took_user}
 
 and_left : (a b : Bool) → (a && b) ≡ true → a ≡ true
 and_left true b h = refl
@@ -86,6 +86,11 @@ one_settled own w count m box some h = record {
   adds = adds_none box;
 }
 
+-- it is a user's
+sure_user : (s : SocketTable) (count : ℕ) (m : Message) → surely_waits s count m ≡ true → is_payload m ≡ true
+sure_user s count (Payload importance form from to kind lower upper code droppable body) h = refl
+sure_user s count (Items withdrawal items) h = absurd cc
+
 -- the work when the deliveries are told and each message waits
 abbrev pub sure_work : Work → List Delivery → Work
 sure_work w ds = work_of w.neighbours (with_all_waiting w.sockets (messages_in ds)) (w.inside ++ told_in ds)
@@ -102,11 +107,11 @@ one_more_waits w d ds m is =
     (append_assoc (w.inside ++ d.entry ∷ []) (waiting_entries (Some m)) (told_in ds) ∙ append_assoc w.inside (d.entry ∷ []) (waiting_entries (Some m) ++ told_in ds))
     ∙ ap (λ (o : Option Message). work_of w.neighbours (with_all_waiting w.sockets (message_of o ++ messages_in ds)) (w.inside ++ ((d.entry ∷ waiting_entries o) ++ told_in ds))) (sym is)
 
-pub sure_delivered : (own : ℕ) (w : Work) (ds : List Delivery) (box : Out) → all_wait w.sockets (message_count ds) ds ≡ true → list_all is_plain (entries_in ds) ≡ true
-    → AllDelivered own w ds (sure_work w ds) box box
-sure_delivered own w [] box h plain =
-    subst (λ (u : Work). AllDelivered own w [] u box box) (ap (work_of w.neighbours w.sockets) (sym (append-nil w.inside))) (nothing_delivered own w box)
-sure_delivered own w (d ∷ ds) box h plain = by d.message refl (λ u k. sure_delivered own u ds box k others)
+pub sure_delivered : (own peer : ℕ) (w : Work) (ds : List Delivery) (box : Out) → all_wait w.sockets (message_count ds) ds ≡ true → list_all is_plain (entries_in ds) ≡ true
+    → AllDelivered own peer w ds (sure_work w ds) box box
+sure_delivered own peer w [] box h plain =
+    subst (λ (u : Work). AllDelivered own peer w [] u box box) (ap (work_of w.neighbours w.sockets) (sym (append-nil w.inside))) (nothing_delivered own peer w box)
+sure_delivered own peer w (d ∷ ds) box h plain = by d.message refl (λ u k. sure_delivered own peer u ds box k others)
   where
     first : is_plain d.entry ≡ true
     first = and_left (is_plain d.entry) (list_all is_plain (entries_in ds)) plain
@@ -114,18 +119,18 @@ sure_delivered own w (d ∷ ds) box h plain = by d.message refl (λ u k. sure_de
     others : list_all is_plain (entries_in ds) ≡ true
     others = and_right (is_plain d.entry) (list_all is_plain (entries_in ds)) plain
 
-    by : (m : Option Message) → d.message ≡ m → ((u : Work) → all_wait u.sockets (message_count ds) ds ≡ true → AllDelivered own u ds (sure_work u ds) box box) → AllDelivered own w (d ∷ ds) (sure_work w (d ∷ ds)) box box
+    by : (m : Option Message) → d.message ≡ m → ((u : Work) → all_wait u.sockets (message_count ds) ds ≡ true → AllDelivered own peer u ds (sure_work u ds) box box) → AllDelivered own peer w (d ∷ ds) (sure_work w (d ∷ ds)) box box
     by None is rest =
         let between = work_of w.neighbours w.sockets (w.inside ++ d.entry ∷ []) in
-        subst (λ (u : Work). AllDelivered own w (d ∷ ds) u box box) (none_more w d ds is)
-        (delivered_first own w between (sure_work between ds) d ds box box box (delivered_none own w d box first is) (rest between (none_sure w.sockets d ds is h)))
+        subst (λ (u : Work). AllDelivered own peer w (d ∷ ds) u box box) (none_more w d ds is)
+        (delivered_first own peer w between (sure_work between ds) d ds box box box (delivered_none own peer w d box first is) (rest between (none_sure w.sockets d ds is h)))
     by (Some m) is rest =
         let sure = some_sure w.sockets d ds m is h in
         let told = work_of w.neighbours w.sockets (w.inside ++ d.entry ∷ []) in
         let between = work_of w.neighbours (with_waiting w.sockets m) (told.inside ++ waiting_entries (Some m)) in
-        subst (λ (u : Work). AllDelivered own w (d ∷ ds) u box box) (one_more_waits w d ds m is)
-        (delivered_first own w between (sure_work between ds) d ds box box box
-        (delivered_some own w d m between box box first is (one_settled own told (message_count ds + 1) m box (omega arith) sure.0))
+        subst (λ (u : Work). AllDelivered own peer w (d ∷ ds) u box box) (one_more_waits w d ds m is)
+        (delivered_first own peer w between (sure_work between ds) d ds box box box
+        (delivered_some own peer w d m between box box first is (took_user own peer told m between box box (sure_user w.sockets (message_count ds + 1) m sure.0) (one_settled own told (message_count ds + 1) m box (omega arith) sure.0)))
         (rest between (all_behind w.sockets (message_count ds) m ds sure.1)))
 
 -- ---- what stays

@@ -1,5 +1,5 @@
 -- The journal tells of a node that knows nobody, of one that comes to know a peer, and of a node after each call.
-use Rattle.std.proofs.Common.{◌≡◌, ◌≤◌, ℕ, Bool, true, false, List, [], Option, Some, None, filter, map, option_map, inl, inr, refl, sym, ap, ◌∙◌, subst, arith}
+use Rattle.std.proofs.Common.{◌≡◌, ◌≤◌, ℕ, Bool, true, false, List, [], Option, Some, None, fold, option_map, inl, inr, refl, sym, ap, ◌∙◌, subst, arith}
 use Rattle.std.specs.Prelude.{if◌then◌else◌}
 use Rattle.std.specs.List.{All, list_all}
 use Rattle.std.proofs.lemmas.Bool.{cases_eq}
@@ -14,7 +14,6 @@ use Rattle.tipc_types.specs.declared.node_calls.EventNote.TheVariants as event
 use Rattle.tipc_outside.specs.declared.outgoing.Outgoing.{Outgoing}
 use Rattle.tipc_fragments.specs.Joining.{fresh}
 use Rattle.tipc_journal.specs.declared.entries.Entry.{Entry}
-use Rattle.tipc_journal.specs.declared.entries.Entry.TheVariants as entry
 use Rattle.tipc_journal.specs.Contacts.{contact}
 use Rattle.tipc_journal.specs.Counting.{AllAnsweredToCallers}
 use Rattle.tipc_journal.specs.Fates.{AllHaveFates}
@@ -28,19 +27,20 @@ use Rattle.tipc_journal.proofs.LicenceLaws.{AllLicensed_nil}
 use Rattle.tipc_journal.proofs.StepLaws.{IsWhole_nil, steps_nil}
 use Rattle.tipc_link_fsm.specs.Table.{is_up}
 use Rattle.tipc_link.specs.Links.{LinkEnd, mended_end}
-use Rattle.tipc_sockets.specs.Publishing.{is_at}
+use Rattle.tipc_name_dist.specs.Items.{telling}
+use Rattle.tipc_sockets.specs.Publishing.{own_publication}
 use Rattle.tipc_sockets.specs.SocketTables.{AreSockets, SocketTable, no_sockets, with_socket}
-use Rattle.tipc_sockets.specs.Telling.{AreTold}
+use Rattle.tipc_sockets.specs.Telling.{AreTold, after_entry}
 use Rattle.tipc_sockets.proofs.Entries.{told_nil}
 use Rattle.tipc_node.specs.declared.neighbours.Neighbour.{Neighbour}
 use Rattle.tipc_node.specs.declared.neighbours.Deed.TheVariants as deed
 use Rattle.tipc_node.specs.Calls.{CanPerform, Performs}
 use Rattle.tipc_node.specs.Neighbours.{neighbour}
 use Rattle.tipc_node.specs.Nodes.{NodeState, known_node, neighbour_of, new_pair, step_of}
-use Rattle.tipc_node.specs.Sockets.{closed_work, first_answer, kept_answer, next_port, port_refusal, publication_refusal, published_work, received_work, socket_refusal, waiting_at, with_sockets_of, withdrawal_refusal, withdrawn_work}
+use Rattle.tipc_node.specs.Sockets.{closed_work, first_answer, kept_answer, next_port, port_refusal, publication_refusal, published_work, received_work, socket_refusal, told_closing, told_withdrawal, waiting_at, with_sockets_of, withdrawal_refusal, withdrawn_work}
 use Rattle.tipc_node.specs.Telling.{AllFull, ArePacked, IsAbreast, IsFull, IsTold, TellsOf, is_in_reach}
 use Rattle.tipc_node.specs.Turns.{NodeTurn, addr_of, link_in}
-use Rattle.tipc_node.specs.Works.{addr_of_word, begun, noted}
+use Rattle.tipc_node.specs.Works.{addr_of_word, begun}
 use Rattle.tipc_node.proofs.Calling.{makes_told, receive_call, socket_call}
 use Rattle.tipc_node.proofs.Happening.{deed_told}
 use Rattle.tipc_node.proofs.Moves.{down_contact, down_epochs, unknown_abreast}
@@ -49,6 +49,7 @@ use Rattle.tipc_node.proofs.Naming.{close_call, publish_call, published_there, w
 use Rattle.tipc_node.proofs.Places.{set_either}
 use Rattle.tipc_node.proofs.PortCalls.{port_told}
 use Rattle.tipc_node.proofs.Refusing.{port_refused, publication_refused, socket_refused, withdrawal_refused}
+use Rattle.tipc_node.proofs.TellsTold.{tells_told}
 
 -- ---- a call
 
@@ -58,18 +59,19 @@ performs_told n n' by event.Socket frames answered h packed can performs inside 
     makes_told n n' by event.Socket (socket_refusal n.sockets) (with_sockets_of (begun n) (with_socket n.sockets (next_port n.sockets))) (begun n) (answer.Socket (next_port n.sockets)) answered inside frames h t sound
     (socket_refused n h) (tt, tt) (λ reason. tt) refl (λ none after inner. socket_call n by h none inner) performs
 performs_told n n' by (event.Close port) frames answered h packed can performs inside t sound =
-    let w0 = noted (begun n) (map entry.Withdrawn (filter (is_at port) n.sockets.live)) in
-    makes_told n n' by (event.Close port) (port_refusal n.sockets port) (closed_work n port) w0 answer.Done answered inside frames h t sound
-    (port_refused n port h) (tt, tt) (λ reason. tt) refl (λ none after inner. close_call n by port h none inner) performs
+    let s = fold after_entry n.sockets (closed_work n port).inside in
+    tells_told n n' by (event.Close port) (port_refusal n.sockets port) (closed_work n port) s (told_closing n.sockets port) answered inside frames h t sound
+    (port_refused n port h) (tt, tt) (λ reason. tt) (λ peer waiting. refl) (λ last none tells after inner. close_call n by port last frames h none tells inner) performs
 performs_told n n' by (event.Publish port range scope key) frames answered h packed can performs inside t sound =
     let w = published_work n port range scope key in
     let is = publication_refused n port range scope key h in
-    makes_told n n' by (event.Publish port range scope key) (publication_refusal n.sockets port range.kind key) w w answer.Done answered inside frames h t sound
-    is (tt, (tt, (tt, (tt, tt)))) (λ reason. tt) refl (λ none after inner. publish_call n by port range scope key h none (published_there n port range.kind key (is ∙ none)) after inner) performs
+    tells_told n n' by (event.Publish port range scope key) (publication_refusal n.sockets port range.kind key) w w.sockets (telling false (own_publication n.own port range scope key)) answered inside frames h t sound
+    is (tt, (tt, (tt, (tt, tt)))) (λ reason. tt) (λ peer waiting. refl)
+    (λ last none tells after inner. publish_call n by port range scope key last frames h none (published_there n port range.kind key (is ∙ none)) after tells inner) performs
 performs_told n n' by (event.Withdraw port key) frames answered h packed can performs inside t sound =
     let w = withdrawn_work n port key in
-    makes_told n n' by (event.Withdraw port key) (withdrawal_refusal n.sockets port key) w w answer.Done answered inside frames h t sound
-    (withdrawal_refused n port key h) (tt, (tt, tt)) (λ reason. tt) refl (λ none after inner. withdraw_call n by port key h none inner) performs
+    tells_told n n' by (event.Withdraw port key) (withdrawal_refusal n.sockets port key) w w.sockets (told_withdrawal n.sockets port key) answered inside frames h t sound
+    (withdrawal_refused n port key h) (tt, (tt, tt)) (λ reason. tt) (λ peer waiting. refl) (λ last none tells after inner. withdraw_call n by port key last frames h none tells inner) performs
 performs_told n n' by (event.Receive port) frames answered h packed can performs inside t sound =
     makes_told n n' by (event.Receive port) (port_refusal n.sockets port) (received_work n port) (begun n) (first_answer (waiting_at n.sockets port)) answered inside frames h t sound
     (port_refused n port h) (tt, tt) (λ reason. tt) refl (λ none after inner. receive_call n by port h none inner) performs

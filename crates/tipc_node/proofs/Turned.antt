@@ -21,7 +21,7 @@ use Rattle.tipc_node.proofs.TurnMoves.{turn_moves}
 
 -- ---- a peer that is no neighbour
 
-other_word : (n : NodeState) (b : ℕ) (word : ℕ) → neighbour_of n b ≡ None → (c : ℕ) → is_some (neighbour_of n c) ≡ true → word ≡ node_word c → (word == node_word b) ≡ false
+pub other_word : (n : NodeState) (b : ℕ) (word : ℕ) → neighbour_of n b ≡ None → (c : ℕ) → is_some (neighbour_of n c) ≡ true → word ≡ node_word c → (word == node_word b) ≡ false
 other_word n b word none c there is = ap (λ w. w == node_word b) is ∙ by (cases_eq c b)
   where
     by : (c ≡ b) ⊎ (c ≡ b → ⊥) → (node_word c == node_word b) ≡ false

@@ -1,5 +1,5 @@
 -- What each call makes of a node, exactly: the node after it, the frames that leave, and the answer.
-use Rattle.std.specs.Prelude.{◌≡◌, ◌≢◌, ◌==◌, ℕ, true, false, nat_le, if◌then◌else◌, List, [], Option, None, Some, length, slice_get}
+use Rattle.std.specs.Prelude.{◌≡◌, ◌≢◌, ◌≤◌, ◌==◌, ℕ, true, false, nat_le, if◌then◌else◌, List, [], Option, None, Some, length, slice_get}
 use Rattle.tipc_types.specs.declared.identity.Addr.{Addr}
 use Rattle.tipc_types.specs.declared.identity.PortId.{PortId}
 use Rattle.tipc_types.specs.declared.message_forms.Importance.{Importance}
@@ -16,21 +16,33 @@ use Rattle.tipc_journal.specs.declared.entries.Entry.{Entry}
 use Rattle.tipc_journal.specs.Dues.{comes_home}
 use Rattle.tipc_journal.specs.Licensed.{IsPickedOf}
 use Rattle.tipc_journal.specs.Refusals.{longest_body}
+use Rattle.tipc_name_dist.specs.Items.{telling}
 use Rattle.tipc_link.specs.Sessions.{SessionEnd}
+use Rattle.tipc_sockets.specs.Publishing.{own_publication}
 use Rattle.tipc_sockets.specs.SocketTables.{has_port, with_socket}
 use Rattle.tipc_node.specs.declared.neighbours.Deed.{Deed}
 use Rattle.tipc_node.specs.declared.neighbours.Deed.TheVariants as deed
 use Rattle.tipc_node.specs.Messages.{destination_of, direct, limit_of, named}
 use Rattle.tipc_node.specs.Nodes.{NodeState, after_all, deed_note, entries_all, frames_all, mended_by, recorded, session_with, step_of, with_mended}
-use Rattle.tipc_node.specs.Sockets.{closed_work, first_answer, found_at, kept_answer, next_port, port_refusal, publication_refusal, published_work, received_work, socket_refusal, waiting_at, with_sockets_of, withdrawal_refusal, withdrawn_work}
+use Rattle.tipc_node.specs.Sockets.{closed_work, crowd_refusal, first_answer, found_at, kept_answer, next_port, port_refusal, publication_refusal, published_work, received_work, socket_refusal, told_closing, told_withdrawal, waiting_at, with_sockets_of, withdrawal_refusal, withdrawn_work}
+use Rattle.tipc_node.specs.Sharing.{SharesNames}
 use Rattle.tipc_node.specs.Telling.{IsTold}
 use Rattle.tipc_node.specs.Turns.{NodeTurn}
-use Rattle.tipc_node.specs.Works.{GoesAway, Settles, Work, addr_of_word, begun, concluded, neighbour_at, noted}
+use Rattle.tipc_node.specs.Works.{GoesAway, Settles, TellsPeers, Work, addr_of_word, begun, concluded, neighbour_at, noted}
 
 -- A call that sends nothing is refused for this reason, where there is one; else it makes this of the node.
 abbrev pub Makes : NodeState → By → EventNote → Option Answer → Work → Answer → NodeState → List Outgoing → Answer → Type 0
 Makes n by event (Some reason) w given n' frames answered = (n' ≡ recorded n by event [] reason) × (frames ≡ []) × (answered ≡ reason)
 Makes n by event None w given n' frames answered = (n' ≡ concluded n by event w (kept_answer given)) × (frames ≡ []) × (answered ≡ given)
+
+-- Names change: the call is refused for this reason, where there is one, or since too many packets wait for a peer that is to be told;
+-- else this is the work on the names, and then every peer in contact is told by these messages.
+pub record Tells (n n' : NodeState) (by : By) (event : EventNote) (reason : Option Answer) (w : Work) (told : List Message) (frames : List Outgoing) (answered : Answer) : Type 0 where
+  pub refused : (why : Answer) → reason ≡ Some why → (n' ≡ recorded n by event [] why) × (frames ≡ []) × (answered ≡ why)
+  pub crowded : (why : Answer) → reason ≡ None → crowd_refusal n.neighbours told ≡ Some why
+      → (n' ≡ recorded n by event [] why) × (frames ≡ []) × (answered ≡ why)
+  pub tells : reason ≡ None → crowd_refusal n.neighbours told ≡ None
+      → (last : Work) × TellsPeers n.own w told last frames × (n' ≡ concluded n by event last answer.Done) × (answered ≡ answer.Done)
 
 -- ---- messages
 
@@ -103,11 +115,12 @@ abbrev pub Performs : NodeState → By → EventNote → NodeState → List Outg
 Performs n by Socket n' frames answered =
     Makes n by Socket (socket_refusal n.sockets) (with_sockets_of (begun n) (with_socket n.sockets (next_port n.sockets))) (answer.Socket (next_port n.sockets)) n' frames answered
 Performs n by (Close port) n' frames answered =
-    Makes n by (Close port) (port_refusal n.sockets port) (closed_work n port) answer.Done n' frames answered
+    Tells n n' by (Close port) (port_refusal n.sockets port) (closed_work n port) (told_closing n.sockets port) frames answered
 Performs n by (Publish port range scope key) n' frames answered =
-    Makes n by (Publish port range scope key) (publication_refusal n.sockets port range.kind key) (published_work n port range scope key) answer.Done n' frames answered
+    Tells n n' by (Publish port range scope key) (publication_refusal n.sockets port range.kind key) (published_work n port range scope key)
+    (telling false (own_publication n.own port range scope key)) frames answered
 Performs n by (Withdraw port key) n' frames answered =
-    Makes n by (Withdraw port key) (withdrawal_refusal n.sockets port key) (withdrawn_work n port key) answer.Done n' frames answered
+    Tells n n' by (Withdraw port key) (withdrawal_refusal n.sockets port key) (withdrawn_work n port key) (told_withdrawal n.sockets port key) frames answered
 Performs n by (SendName port kind instance importance body) n' frames answered = SendsByName n n' by port kind instance importance body frames answered
 Performs n by (SendPort port to importance body) n' frames answered = Sends n n' by port to importance body frames answered
 Performs n by (Receive port) n' frames answered =
@@ -131,13 +144,19 @@ CanPerform (Cut bearer) = bearer ≡ 0
 CanPerform (Mend bearer) = bearer ≡ 0
 CanPerform other = ⊥
 
+-- the range of a publication has instances, as each service range
+abbrev pub HasInstances : EventNote → Type 0
+HasInstances (Publish port range scope key) = range.lower ≤ range.upper
+HasInstances other = Unit {0}
+
 -- A call in the form that all have: a step with this answer was recorded, and it tells of the node's turns. The journal tells of the
--- node before and after.
+-- node before and after, and the node shares its names with its peers.
 pub record CallTurn (n n' : NodeState) (by : By) (note : EventNote) (bytes : List ℕ) (kept : Answer) (frames : List Outgoing) : Type 0 where
   pub inside : List Entry
   pub turn : NodeTurn n n' bytes (step_of by note inside kept) frames
   pub told_before : IsTold n
   pub told : IsTold n'
+  pub shared : SharesNames n'
 
 -- it was performed, and what left is in the box
 pub record Performed (n : NodeState) (by : By) (call : EventNote) (n' : NodeState) (box box' : Out) (answered : Answer) : Type 0 where

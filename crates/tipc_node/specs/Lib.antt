@@ -6,8 +6,11 @@ pub mod Works
 pub mod Sockets
 pub mod Turns
 pub mod Telling
+pub mod Sharing
 pub mod Calls
 pub mod Arrivals
 pub mod Deliveries
 pub mod Drafts
+pub mod Hearings
+pub mod Learning
 pub mod Sure

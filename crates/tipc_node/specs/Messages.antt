@@ -10,7 +10,7 @@ use Rattle.tipc_types.specs.declared.message_forms.Message.TheVariants.{Payload,
 use Rattle.tipc_header.specs.Grammar.{Fits}
 use Rattle.tipc_header.specs.Reading.{fields_at}
 use Rattle.tipc_header.specs.Spelling.{Fields, spelling}
-use Rattle.tipc_message.specs.Wire.{IsPayload, message_of, packet_of}
+use Rattle.tipc_message.specs.Wire.{message_of, packet_of}
 
 -- ---- packets
 
@@ -22,12 +22,12 @@ spelled None = []
 unfoldable pub bytes_of : ℕ → Message → List ℕ
 bytes_of own message = spelled (packet_of own message)
 
--- a user's message that a node of this address may send: a packet carries it
+-- a message that a node of this address may send, a user's or one of name items: a packet carries it, in which it is read again
 pub record IsSendable (own : ℕ) (m : Message) : Type 0 where
   pub packet : Fields
   pub packet_is : packet_of own m ≡ Some packet
   pub fits : Fits packet
-  pub payload : IsPayload m
+  pub read : message_of packet ≡ Some m
 
 -- the message that a packet carries, where it carries one
 abbrev pub message_in : List ℕ → Option Message

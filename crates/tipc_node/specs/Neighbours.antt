@@ -1,5 +1,5 @@
 -- What a node keeps of a peer, and what each call makes of it.
-use Rattle.std.specs.Prelude.{ℕ, Bool, true, false, List, [], ◌++◌, ◌||◌, ◌&&◌}
+use Rattle.std.specs.Prelude.{ℕ, Bool, true, false, List, [], ◌||◌, ◌&&◌}
 use Rattle.tipc_types.specs.declared.link_words.BroadcastState.{BroadcastState}
 use Rattle.tipc_outside.specs.declared.outgoing.Outgoing.{Outgoing}
 use Rattle.tipc_header.specs.declared.packet.Header.{Header}
@@ -8,7 +8,7 @@ use Rattle.tipc_header.specs.Spelling.{Fields}
 use Rattle.tipc_link_fsm.specs.Table.{on_cut, on_tick}
 use Rattle.tipc_recv_window.specs.declared.outcomes.LinkOutcome.{LinkOutcome}
 use Rattle.tipc_fragments.specs.Joining.{Joining}
-use Rattle.tipc_link.specs.Links.{LinkEnd, answered_end, answered_frames, mend_frames, mended_end}
+use Rattle.tipc_link.specs.Links.{LinkEnd, answered_end, mend_frames, mended_end}
 use Rattle.tipc_pair.specs.declared.changes.PairChange.{PairChange}
 use Rattle.tipc_pair.specs.declared.changes.PairChange.TheVariants.{Stay}
 use Rattle.tipc_pair.specs.declared.changes.PairOutcome.{PairOutcome}

@@ -1,17 +1,12 @@
 -- A node, and what each call makes of it.
-use Rattle.std.specs.Prelude.{ℕ, ◌+◌, ◌-◌, ◌*◌, ◌%◌, ◌==◌, Bool, true, false, List, [], ◌∷◌, ◌++◌, Option, Some, None, drop, length, map, nat_le, nat_lt, not, is_some, option_and_then, slice_index_or, slice_set, sum_by, ◌&&◌, if◌then◌else◌}
+use Rattle.std.specs.Prelude.{ℕ, ◌+◌, ◌-◌, ◌==◌, Bool, true, false, List, [], ◌∷◌, ◌++◌, Option, Some, None, drop, length, map, nat_le, nat_lt, not, is_some, option_and_then, slice_index_or, slice_set, sum_by, ◌&&◌, if◌then◌else◌}
 use Rattle.std.specs.List.{flat_map}
 use Rattle.tipc_types.specs.Address.{node_word}
-use Rattle.tipc_types.specs.declared.identity.PortId.{PortId}
 use Rattle.tipc_types.specs.declared.link_words.LinkState.TheVariants.{ResetUnknown}
 use Rattle.tipc_types.specs.declared.link_words.Why.{Why}
 use Rattle.tipc_types.specs.declared.link_words.Why.TheVariants as why
 use Rattle.tipc_types.specs.declared.message_forms.Flow.TheVariants.{Zero}
-use Rattle.tipc_types.specs.declared.message_forms.Form.TheVariants as form
-use Rattle.tipc_types.specs.declared.message_forms.Importance.{Importance}
-use Rattle.tipc_types.specs.declared.message_forms.Importance.TheVariants.{Low, Medium, High, Critical}
 use Rattle.tipc_types.specs.declared.message_forms.Message.{Message}
-use Rattle.tipc_types.specs.declared.message_forms.Message.TheVariants.{Payload, Items}
 use Rattle.tipc_types.specs.declared.node_calls.Answer.{Answer}
 use Rattle.tipc_types.specs.declared.node_calls.Answer.TheVariants as answer
 use Rattle.tipc_types.specs.declared.node_calls.Arrival.{Arrival}
@@ -26,18 +21,16 @@ use Rattle.tipc_journal.specs.Room.{message_bytes}
 use Rattle.tipc_journal.specs.Steps.{NodeStep, step_entries}
 use Rattle.tipc_header.specs.declared.fault.HeaderFault.{HeaderFault}
 use Rattle.tipc_header.specs.Faults.{fault_of, number_of}
-use Rattle.tipc_header.specs.Reading.{fields_at, word_at}
-use Rattle.tipc_header.specs.Spelling.{Fields}
-use Rattle.tipc_message.specs.Wire.{message_of}
+use Rattle.tipc_header.specs.Reading.{word_at}
 use Rattle.tipc_link_fsm.specs.Table.{is_up}
-use Rattle.tipc_link.specs.Links.{LinkEnd, mend_frames, mended_end, with_session}
-use Rattle.tipc_link.specs.Sessions.{SessionEnd, flushed}
+use Rattle.tipc_link.specs.Links.{LinkEnd, mend_frames, mended_end}
+use Rattle.tipc_link.specs.Sessions.{SessionEnd}
 use Rattle.tipc_pair.specs.declared.changes.PairChange.{PairChange}
 use Rattle.tipc_pair.specs.declared.changes.PairChange.TheVariants.{Stay, Began, Ended}
 use Rattle.tipc_pair.specs.declared.changes.PairOutcome.{PairOutcome}
-use Rattle.tipc_pair.specs.Pairs.{Met, contact_of, lonely}
+use Rattle.tipc_pair.specs.Pairs.{contact_of, lonely}
 use Rattle.tipc_pair.specs.Partners.{opened_in}
-use Rattle.tipc_fragments.specs.Joining.{Joining, fresh}
+use Rattle.tipc_fragments.specs.Joining.{fresh}
 use Rattle.tipc_reassembly.specs.declared.opening.Opened.{Opened}
 use Rattle.tipc_sockets.specs.SocketTables.{SocketTable}
 use Rattle.tipc_reassembly.specs.declared.opening.Opened.TheVariants.{Whole, Passed}
@@ -48,7 +41,7 @@ use Rattle.tipc_node.specs.declared.neighbours.Deed.{Deed}
 use Rattle.tipc_node.specs.declared.neighbours.Deed.TheVariants as deed
 use Rattle.tipc_node.specs.Limits.{free_entries, free_message_bytes, most_frame_bytes}
 use Rattle.tipc_node.specs.Messages.{message_in}
-use Rattle.tipc_node.specs.Neighbours.{done, heard_neighbour, neighbour}
+use Rattle.tipc_node.specs.Neighbours.{done, neighbour}
 
 -- a node: its address word, its boot number, whether bearer 0 is mended, its neighbours by number, its sockets, and its journal
 pub record NodeState : Type 0 where

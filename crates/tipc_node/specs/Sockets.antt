@@ -1,5 +1,6 @@
 -- What the calls on sockets and names make of a node, and why each is refused.
-use Rattle.std.specs.Prelude.{ℕ, ◌+◌, ◌||◌, nat_le, not, if◌then◌else◌, List, [], ◌∷◌, Option, Some, None, filter, find, length, map, unwrap_or}
+use Rattle.std.specs.Prelude.{ℕ, ◌+◌, ◌||◌, Bool, true, nat_le, if◌then◌else◌, List, [], ◌∷◌, Option, Some, None, filter, find, length, map, option_map, option_to_list, slice_index_or, unwrap_or}
+use Rattle.std.specs.List.{range_with_len}
 use Rattle.tipc_types.specs.Span.{Span}
 use Rattle.tipc_types.specs.declared.message_forms.Message.{Message}
 use Rattle.tipc_types.specs.declared.node_calls.Answer.{Answer}
@@ -10,12 +11,14 @@ use Rattle.tipc_journal.specs.declared.entries.Entry.{Entry}
 use Rattle.tipc_journal.specs.declared.entries.Entry.TheVariants.{Published, Withdrawn}
 use Rattle.tipc_journal.specs.Refusals.{most_publications, most_sockets, most_sockets_made}
 use Rattle.tipc_name_table.specs.Matching.{closest, covers}
+use Rattle.tipc_name_dist.specs.Items.{tellings}
 use Rattle.tipc_ports.specs.Numbers.{port_number}
 use Rattle.tipc_sockets.specs.declared.publishing.PublishFault.{PublishFault}
 use Rattle.tipc_sockets.specs.declared.publishing.PublishFault.TheVariants as fault
 use Rattle.tipc_sockets.specs.Publishing.{closed, is_at, own_publication, published_at, publish_refusal}
-use Rattle.tipc_sockets.specs.SocketTables.{has_port, queue_at, taken_from, with_queues, with_socket, SocketTable}
-use Rattle.tipc_node.specs.Nodes.{NodeState}
+use Rattle.tipc_sockets.specs.SocketTables.{has_port, queue_at, taken_from, with_queues, SocketTable}
+use Rattle.tipc_node.specs.declared.neighbours.Neighbour.{Neighbour}
+use Rattle.tipc_node.specs.Nodes.{NodeState, session_with, waiting_in}
 use Rattle.tipc_node.specs.Works.{Work, begun, noted}
 
 -- the work on a step that changed the sockets so, and nothing else
@@ -63,16 +66,14 @@ closed_work n port = record {
 
 -- ---- names
 
-abbrev pub publish_answer : PublishFault → Answer
-publish_answer fault.NoSocket = answer.NoSocket
-publish_answer fault.Reserved = answer.Reserved
-publish_answer (fault.Duplicate key) = answer.Duplicate key
-publish_answer fault.Full = answer.Full most_publications
-publish_answer fault.NoMemory = answer.NoSocket
-
+-- the answer of a publication that is refused. That memory runs out is no refusal.
 abbrev pub refused_publication : Option PublishFault → Option Answer
 refused_publication None = None
-refused_publication (Some why) = Some (publish_answer why)
+refused_publication (Some fault.NoSocket) = Some answer.NoSocket
+refused_publication (Some fault.Reserved) = Some answer.Reserved
+refused_publication (Some (fault.Duplicate key)) = Some (answer.Duplicate key)
+refused_publication (Some fault.Full) = Some (answer.Full most_publications)
+refused_publication (Some fault.NoMemory) = None
 
 abbrev pub publication_refusal : SocketTable → ℕ → ℕ → ℕ → Option Answer
 publication_refusal s port kind key = refused_publication (publish_refusal s port kind key)
@@ -99,3 +100,32 @@ withdrawn_work n port key = noted (begun n) (withdrawn_entries (published_at n.s
 -- the publications that a name finds at the node, closest first
 abbrev pub found_at : NodeState → ℕ → ℕ → List Publication
 found_at n kind instance = closest n.own (filter (covers kind instance) n.sockets.names)
+
+-- ---- what peers are told of names
+
+-- no name item is put while so many packets wait on the link to a peer
+abbrev pub names_limit : ℕ
+names_limit = 1000
+
+-- whether as many packets wait on the link to the peer of that number
+abbrev pub is_crowded : List (Option Neighbour) → ℕ → Bool
+is_crowded xs peer = nat_le names_limit (waiting_in (session_with (slice_index_or xs peer None)))
+
+abbrev pub crowded_answer : List (Option Neighbour) → ℕ → Answer
+crowded_answer xs peer = answer.NamesCongested peer (waiting_in (session_with (slice_index_or xs peer None)))
+
+-- the lowest peer on whose link as many packets wait
+unfoldable pub first_crowded : List (Option Neighbour) → Option ℕ
+first_crowded xs = find (is_crowded xs) (range_with_len 1 32)
+
+-- why peers aren't told by these messages: one is crowded; nothing where there are no messages
+abbrev pub crowd_refusal : List (Option Neighbour) → List Message → Option Answer
+crowd_refusal xs [] = None
+crowd_refusal xs (m ∷ ms) = option_map (crowded_answer xs) (first_crowded xs)
+
+-- what peers are told where a key is withdrawn, and where a port is closed
+abbrev pub told_withdrawal : SocketTable → ℕ → ℕ → List Message
+told_withdrawal s port key = tellings true (option_to_list (published_at s port key))
+
+abbrev pub told_closing : SocketTable → ℕ → List Message
+told_closing s port = tellings true (filter (is_at port) s.live)

@@ -1,9 +1,11 @@
 -- A node's work on one step: what it has made so far of its neighbours and its sockets, and what happened inside the step. A message that
 -- arrived, or that the node sent to itself, has its fate at once; a return goes back at once.
-use Rattle.std.specs.Prelude.{◌≡◌, ◌-◌, ℕ, Bool, true, false, List, [], ◌∷◌, ◌++◌, Option, Some, None, fold, length, option_map, slice_index_or, slice_set}
+use Rattle.std.specs.Prelude.{◌≡◌, ◌-◌, ℕ, Bool, true, false, List, [], ◌∷◌, ◌++◌, Option, Some, None, filter, fold, is_some, length, option_map, slice_index_or, slice_set}
+use Rattle.std.specs.List.{range_with_len}
 use Rattle.tipc_types.specs.Address.{node_word}
 use Rattle.tipc_types.specs.declared.identity.Addr.{Addr}
 use Rattle.tipc_types.specs.declared.message_forms.Message.{Message}
+use Rattle.tipc_types.specs.declared.message_forms.Message.TheVariants.{Items}
 use Rattle.tipc_types.specs.declared.node_calls.Answer.{Answer}
 use Rattle.tipc_types.specs.declared.node_calls.By.{By}
 use Rattle.tipc_types.specs.declared.node_calls.EventNote.{EventNote}
@@ -12,6 +14,7 @@ use Rattle.tipc_outside.specs.Frames.{Adds, Out}
 use Rattle.tipc_journal.specs.declared.entries.Entry.{Entry}
 use Rattle.tipc_journal.specs.Dues.{comes_home}
 use Rattle.tipc_journal.specs.Steps.{step_entries}
+use Rattle.tipc_name_dist.specs.Applying.{learnt_entries}
 use Rattle.tipc_link.specs.Links.{with_session}
 use Rattle.tipc_link.specs.Sessions.{SessionEnd, IsPut, flush_frames, flushed}
 use Rattle.tipc_pair.specs.Partners.{pieces_for}
@@ -107,6 +110,34 @@ pub record PutsOn (own : ℕ) (x x' : Neighbour) (peer : ℕ) (m : Message) (ins
 abbrev pub GoesAway : ℕ → Work → Message → Work → List Outgoing → Type 0
 GoesAway own w m w' frames = Puts own w ((destination_of m).word - node_word 0) m w' frames
 
+-- ---- what is told to peers
+
+-- messages are put for one peer, one behind the other
+pub data PutsEach (own peer : ℕ) : Work → List Message → Work → List Outgoing → Type 0 where
+  none_left : (w : Work) → PutsEach own peer w [] w []
+  one_more : (w between last : Work) (m : Message) (ms : List Message) (first rest : List Outgoing)
+      → Puts own w peer m between first → PutsEach own peer between ms last rest
+      → PutsEach own peer w (m ∷ ms) last (first ++ rest)
+
+-- whether there is contact with the peer of that number
+abbrev pub is_in_contact : List (Option Neighbour) → ℕ → Bool
+is_in_contact xs peer = is_some (session_with (slice_index_or xs peer None))
+
+-- the peers with which there is contact, in order of their numbers
+unfoldable pub in_contact : List (Option Neighbour) → List ℕ
+in_contact xs = filter (is_in_contact xs) (range_with_len 1 32)
+
+-- the same messages are put for each of these peers, for one peer after the other
+pub data TellsEach (own : ℕ) (ms : List Message) : Work → List ℕ → Work → List Outgoing → Type 0 where
+  all_told : (w : Work) → TellsEach own ms w [] w []
+  one_told : (w between last : Work) (peer : ℕ) (peers : List ℕ) (first rest : List Outgoing)
+      → PutsEach own peer w ms between first → TellsEach own ms between peers last rest
+      → TellsEach own ms w (peer ∷ peers) last (first ++ rest)
+
+-- every peer in contact is told by these messages
+abbrev pub TellsPeers : ℕ → Work → List Message → Work → List Outgoing → Type 0
+TellsPeers own w ms w' frames = TellsEach own ms w (in_contact w.neighbours) w' frames
+
 -- ---- fates
 
 -- the fate of a message that arrived, or that the node sent to itself
@@ -134,17 +165,23 @@ Settles own w arrived m w' frames = Follows own w m (fate_of w arrived m) w' fra
 
 -- ---- what is delivered
 
--- what arrived is noted, and a message has its fate
-abbrev pub DeliversTo : ℕ → Work → Option Message → Work → List Outgoing → Type 0
-DeliversTo own w None w' frames = (w' ≡ w) × (frames ≡ [])
-DeliversTo own w (Some m) w' frames = Settles own w true m w' frames
+-- the items of a peer's message are applied, and what is learned or forgotten by them is noted
+abbrev pub with_items : ℕ → Work → Message → Work
+with_items peer w m = noted w (learnt_entries (node_word peer) w.sockets.names m)
 
-abbrev pub Delivers : ℕ → Work → Delivery → Work → List Outgoing → Type 0
-Delivers own w d w' frames = DeliversTo own (noted w (d.entry ∷ [])) d.message w' frames
+-- a user's message has its fate, and name items are applied
+abbrev pub DeliversTo : (own peer : ℕ) → Work → Option Message → Work → List Outgoing → Type 0
+DeliversTo own peer w None w' frames = (w' ≡ w) × (frames ≡ [])
+DeliversTo own peer w (Some (Items withdrawal items)) w' frames = (w' ≡ with_items peer w (Items withdrawal items)) × (frames ≡ [])
+DeliversTo own peer w (Some m) w' frames = Settles own w true m w' frames
 
--- one delivery after the other
-pub data DeliversAll (own : ℕ) : Work → List Delivery → Work → List Outgoing → Type 0 where
-  none_left : (w : Work) → DeliversAll own w [] w []
+-- what arrived is noted before
+abbrev pub Delivers : (own peer : ℕ) → Work → Delivery → Work → List Outgoing → Type 0
+Delivers own peer w d w' frames = DeliversTo own peer (noted w (d.entry ∷ [])) d.message w' frames
+
+-- what arrived from a peer, one delivery after the other
+pub data DeliversAll (own peer : ℕ) : Work → List Delivery → Work → List Outgoing → Type 0 where
+  none_left : (w : Work) → DeliversAll own peer w [] w []
   one_more : (w between last : Work) (d : Delivery) (ds : List Delivery) (first rest : List Outgoing)
-      → Delivers own w d between first → DeliversAll own between ds last rest
-      → DeliversAll own w (d ∷ ds) last (first ++ rest)
+      → Delivers own peer w d between first → DeliversAll own peer between ds last rest
+      → DeliversAll own peer w (d ∷ ds) last (first ++ rest)

@@ -10,7 +10,7 @@ ghost use Rattle.tipc_journal.specs.Room.{counted_bytes, entry_bytes};
 ghost use Rattle.tipc_reassembly.specs.declared.opening.Opened.TheVariants.{Whole};
 ghost use Rattle.tipc_pair.specs.Partners.{opened_in};
 ghost use Rattle.tipc_node.specs.Deliveries.{HasNoFault};
-ghost use Rattle.tipc_node.specs.Drafts.{IsPrepared};
+ghost use Rattle.tipc_node.specs.Hearings.{IsPrepared};
 ghost use Rattle.tipc_node.specs.Limits.{free_entries, free_message_bytes};
 ghost use Rattle.tipc_node.specs.Nodes.{arrival_answer, deliveries_of, delivered_by, delivery_of, is_other, message_count, shown_contact, stop_among, taken_count};
 
@@ -239,9 +239,10 @@ fn counted_bytes(entry: &Entry) -> u64
 
 /// Whether these entries have room in the step that tells of an arrival, beside its begin, its end, and two changes.
 ///
-/// They always have: what is given at once came in the packets that were held, 50 at most, and in this one. A frame
-/// has at most 1,516 bytes, so these are some thousand messages at most, each with three entries at most, and some
-/// 160,000 bytes with their returns beside the 66,044 of a message that was begun.
+/// They always have: what is given at once came in the packets that were held, 50 at most, and in this one, beside a
+/// message that was begun. A frame has at most 1,516 bytes, and each user's message in it has three entries at most
+/// in 24 bytes or more, each message of items one more than it has items, of 20 bytes: some ten thousand entries at
+/// most, and some 300,000 bytes with the returns. A greeting has 1,024 items at most, in 15 messages.
 pub fn fits(entries: &[Entry]) -> bool
     ensures { result ≡ true → (length entries.now ≤ free_entries - 4) ×
         (sum_by entry_bytes entries.now ≤ free_message_bytes) }
@@ -317,8 +318,7 @@ pub fn prepare(
     requires peer { (1 ≤ due.now.peer) × (due.now.peer ≤ 32) }
     requires fits { Fits (view due.now.packet) }
     ensures number { IfOk result (λ h. h.number ≡ number) }
-    ensures prepared { IfOk result (λ h. IsPrepared (Some neighbour.now) due.now.peer due.now.first due.now.second
-        (view due.now.packet) number h.arriving h.deliveries.items h.answer) }
+    ensures prepared { IfOk result (λ h. IsPrepared (Some neighbour.now) due.now h) }
 {
     let arriving = neighbour
         .pair

@@ -138,10 +138,11 @@ impl Core {
         self.journal
     }
 
-    /// Its sockets hold together. It does nothing.
+    /// Its sockets hold together, and there is a place for each peer. It does nothing.
     pub fn sound(&self)
         ensures sockets { AreSockets self.now.sockets }
         ensures boot { self.now.sockets.ports.boot ≡ self.now.boot }
+        ensures wide { length self.now.neighbours ≡ 33 }
     {
         let _ = self.sockets.live();
     }
@@ -220,14 +221,14 @@ impl Core {
     {
         match call {
             EventNote::Socket => self.socket(alloc, by),
-            EventNote::Close { port } => self.close(alloc, by, port),
+            EventNote::Close { port } => self.close(alloc, by, port, out),
             EventNote::Publish {
                 port,
                 range,
                 scope,
                 key,
-            } => self.publish(alloc, by, port, range, scope, key),
-            EventNote::Withdraw { port, key } => self.withdraw(alloc, by, port, key),
+            } => self.publish(alloc, by, port, range, scope, key, out),
+            EventNote::Withdraw { port, key } => self.withdraw(alloc, by, port, key, out),
             EventNote::Receive { port } => self.receive(alloc, by, port),
             EventNote::SendPort {
                 port,

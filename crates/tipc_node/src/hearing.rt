@@ -1,26 +1,40 @@
 //! What an arrival makes of a node.
 
-ghost use Rattle.std.specs.Prelude.{◌≡◌, ℕ, ◌≤◌, List, true, false, None, Some, Err, is_some, IfErr, IfOk, OnErr, OnOk};
+ghost use Rattle.std.specs.Prelude.{◌≡◌, ℕ, ◌≤◌, ◌-◌, List, true, false, Some, Err, length, IfErr, IfOk, OnErr, OnOk};
+ghost use Rattle.std.specs.List.{list_any};
 ghost use Rattle.tipc_outside.specs.declared.outgoing.Outgoing.{Outgoing};
 ghost use Rattle.tipc_outside.specs.Frames.{Adds};
-ghost use Rattle.tipc_header.specs.Grammar.{Fits};
 ghost use Rattle.tipc_header.specs.Spelling.{view};
+ghost use Rattle.tipc_journal.specs.Names.{is_clusterwide};
 ghost use Rattle.tipc_pair.specs.Pairs.{shows_contact};
-ghost use Rattle.tipc_node.specs.Arrivals.{Arrives, Hears, IsDue};
-ghost use Rattle.tipc_node.specs.Drafts.{IsPrepared};
-ghost use Rattle.tipc_node.specs.Sure.{all_wait};
+ghost use Rattle.tipc_node.specs.Arrivals.{Arrives, IsDue};
+ghost use Rattle.tipc_node.specs.Hearings.{greets_at, HearsDue, IsDueAt, IsNumbered, IsPrepared, IsReady};
+ghost use Rattle.tipc_node.specs.Limits.{free_entries};
 ghost use Rattle.tipc_node.specs.Nodes.{has_room, message_count, neighbour_of, stop_of, stopped_node};
+ghost use Rattle.tipc_node.specs.Sure.{all_wait};
 
-use crate::arriving::{Due, Hearing, arrival_answer, fits, look, message_count, prepare};
+use crate::arriving::{Delivery, Due, Hearing, fits, look, message_count, prepare};
 use crate::cores::Core;
-use crate::drafts::{begin_draft, hear_each, leave, restore};
+use crate::drafts::{begin_draft, leave, restore};
+use crate::following::hear_in;
+use crate::neighbours::Neighbour;
 use crate::recording::{NodeFault, begin, has_room, note_change, record};
 use crate::settling::purge_ended;
 use crate::waiting::{all_wait, prepare_waiting, put_all, tell_all};
 use std::alloc::Global;
 use tipc_outside::Outbox;
 use tipc_pair::shows_contact;
-use tipc_types::{Answer, Arrival, By, EventNote, NoMemory, Why};
+use tipc_types::{Answer, Arrival, By, EventNote, NoMemory, Publication, Scope, Why};
+
+/// Whether one of these publications is seen in the cluster.
+fn has_clusterwide(live: &[Publication]) -> bool
+    ensures { result ≡ list_any (λ p. is_clusterwide p.scope) live.now }
+{
+    live.iter().any(|p| match p.scope {
+        Scope::Zone | Scope::Cluster => true,
+        Scope::Node => false,
+    })
+}
 
 impl Core {
     /// A frame arrives on a bearer; `number` is its number among all that arrived at this node. A packet that it
@@ -94,8 +108,9 @@ impl Core {
     }
 
     /// A frame arrives whose packet is due at the link of a peer; `number` is its number among all that arrived at
-    /// this node. The link makes of it what its states and the contact numbers say. A message that is given is
-    /// recorded as delivered, and has its fate. A STATE that is due is sent last.
+    /// this node. The link makes of it what its states and the contact numbers say. A peer with which a contact
+    /// begins is told of the live publications. A message that is given is recorded as delivered, and has its fate,
+    /// or its items are applied. A STATE that is due is sent last.
     ///
     /// # Errors
     ///
@@ -108,13 +123,8 @@ impl Core {
         due: Due<'_>,
         out: &mut Outbox,
     ) -> Result<Arrival, NodeFault>
-        requires peer { (1 ≤ due.peer) × (due.peer ≤ 32) }
-        requires fits { Fits (view due.packet) }
-        requires there { is_some (neighbour_of self.old due.peer) ≡ true }
-        ensures heard { (bytes : List ℕ) →
-            IsDue self.old bytes due.entry.peer due.entry.first due.entry.second (view due.entry.packet) →
-            IfOk result (λ a. (frames : List Outgoing)
-            × Hears self.old self.new by number bytes frames a × Adds out.old out.new frames) }
+        requires due { IsDueAt self.old due }
+        ensures heard { IfOk result (λ a. HearsDue self.old self.new by number due.entry out.old out.new a) }
         ensures room { OnOk result (has_room self.old.journal ≡ true) }
         ensures full { has_room self.old.journal ≡ false → result ≡ Err NodeFault.JournalFull }
         ensures only { result ≡ Err NodeFault.JournalFull → has_room self.old.journal ≡ false }
@@ -131,6 +141,16 @@ impl Core {
         Ok(arrived)
     }
 
+    /// Whether a peer is to be told of live publications where a contact with it begins by what arrives.
+    fn greets(&self, peer: u8) -> bool
+        ensures { result ≡ greets_at (neighbour_of self.now peer) self.now.sockets.live }
+    {
+        match self.neighbour(peer) {
+            Some(neighbour) => !neighbour.pair.is_up() && has_clusterwide(self.sockets.live()),
+            None => false,
+        }
+    }
+
     /// A RESET or an ACTIVATE arrives, and there is room for the call: as [`Core::hear`].
     fn notice(
         &mut self,
@@ -140,29 +160,38 @@ impl Core {
         due: Due<'_>,
         out: &mut Outbox,
     ) -> Result<Arrival, NoMemory>
-        requires peer { (1 ≤ due.peer) × (due.peer ≤ 32) }
-        requires there { is_some (neighbour_of self.old due.peer) ≡ true }
+        requires due { IsDueAt self.old due }
         requires room { has_room self.old.journal ≡ true }
         requires shows { shows_contact due.packet.header ≡ true }
-        ensures heard { (bytes : List ℕ) →
-            IsDue self.old bytes due.entry.peer due.entry.first due.entry.second (view due.entry.packet) →
-            IfOk result (λ a. (frames : List Outgoing)
-            × Hears self.old self.new by number bytes frames a × Adds out.old out.new frames) }
+        ensures heard { IfOk result (λ a. HearsDue self.old self.new by number due.entry out.old out.new a) }
         ensures err { OnErr result ((self.new ≡ self.old) × (out.new ≡ out.old)) }
     {
+        if self.greets(due.peer) {
+            return self.hear_each(alloc, by, number, due, None, out);
+        }
         self.journal.reserve(4)?;
         let mut inside = Vec::with_capacity(alloc, 2)?;
         let Some(neighbour) = &mut self.neighbours[due.peer as usize] else {
             unreachable!()
         };
-        let arrival = neighbour.notice(alloc, due.first, due.second, due.packet.header, out);
+        let heard = neighbour.hear(alloc, &due, None, out);
         neighbour.answer(alloc, out);
-        note_change(&mut inside, due.peer, arrival.change);
+        note_change(&mut inside, due.peer, heard.change);
         purge_ended(&mut self.sockets, inside.as_slice());
-        let answer = arrival_answer(&arrival.outcome, &[]);
         let note = EventNote::Arrive { bearer: 0, number };
-        record(&mut self.journal, by, note, inside, Answer::Arrived(answer));
-        Ok(answer)
+        let kept = Answer::Arrived(heard.answer);
+        record(&mut self.journal, by, note, inside, kept);
+        Ok(heard.answer)
+    }
+
+    /// Whether nothing is told to a peer, and nothing goes back, by an arrival from it that delivers this: no greeting
+    /// is due, and each message surely waits at its port.
+    fn is_sure(&self, peer: u8, deliveries: &[Delivery]) -> bool
+        requires { length deliveries.now ≤ free_entries - 4 }
+        ensures { result ≡ true → (greets_at (neighbour_of self.now peer) self.now.sockets.live ≡ false) ×
+            (all_wait self.now.sockets (message_count deliveries.now) deliveries.now ≡ true) }
+    {
+        !self.greets(peer) && all_wait(&self.sockets, message_count(deliveries), deliveries)
     }
 
     /// A packet arrives that shows no contact number, and there is room for the call: as [`Core::hear`].
@@ -174,31 +203,25 @@ impl Core {
         due: Due<'_>,
         out: &mut Outbox,
     ) -> Result<Arrival, NoMemory>
-        requires peer { (1 ≤ due.peer) × (due.peer ≤ 32) }
-        requires fits { Fits (view due.packet) }
-        requires there { is_some (neighbour_of self.old due.peer) ≡ true }
+        requires due { IsDueAt self.old due }
         requires room { has_room self.old.journal ≡ true }
         requires plain { shows_contact due.packet.header ≡ false }
-        ensures heard { (bytes : List ℕ) →
-            IsDue self.old bytes due.entry.peer due.entry.first due.entry.second (view due.entry.packet) →
-            IfOk result (λ a. (frames : List Outgoing)
-            × Hears self.old self.new by number bytes frames a × Adds out.old out.new frames) }
+        ensures heard { IfOk result (λ a. HearsDue self.old self.new by number due.entry out.old out.new a) }
         ensures err { OnErr result ((self.new ≡ self.old) × (out.new ≡ out.old)) }
     {
-        let Some(neighbour) = &self.neighbours[due.peer as usize] else {
+        let Some(neighbour) = self.neighbour(due.peer) else {
             unreachable!()
         };
         let heard = prepare(alloc, neighbour, number, &due)?;
-        let count = message_count(heard.deliveries.as_slice());
-        if all_wait(&self.sockets, count, heard.deliveries.as_slice()) {
+        if self.is_sure(due.peer, heard.deliveries.as_slice()) {
             self.take_all(alloc, by, due, heard, out)
         } else {
-            self.take_each(alloc, by, due, heard, out)
+            self.hear_each(alloc, by, number, due, Some(heard), out)
         }
     }
 
-    /// A packet arrives that shows no contact number, and each message that is given surely waits at its port: as
-    /// [`Core::take`]. What can fail is done first.
+    /// A packet arrives that shows no contact number, nobody is greeted, and each message that is given surely waits
+    /// at its port: as [`Core::take`]. What can fail is done first.
     fn take_all(
         &mut self,
         alloc: Global,
@@ -207,17 +230,14 @@ impl Core {
         heard: Hearing,
         out: &mut Outbox,
     ) -> Result<Arrival, NoMemory>
-        requires peer { (1 ≤ due.peer) × (due.peer ≤ 32) }
+        requires due { IsDueAt self.old due }
         requires room { has_room self.old.journal ≡ true }
         requires plain { shows_contact due.packet.header ≡ false }
-        requires heard { IsPrepared (neighbour_of self.old due.peer) due.peer due.first due.second (view due.packet)
-            heard.number heard.arriving heard.deliveries.items heard.answer }
+        requires heard { IsPrepared (neighbour_of self.old due.peer) due heard }
+        requires quiet { greets_at (neighbour_of self.old due.peer) self.old.sockets.live ≡ false }
         requires sure { all_wait self.old.sockets (message_count heard.deliveries.items)
             heard.deliveries.items ≡ true }
-        ensures heard { (bytes : List ℕ) →
-            IsDue self.old bytes due.entry.peer due.entry.first due.entry.second (view due.entry.packet) →
-            IfOk result (λ a. (frames : List Outgoing)
-            × Hears self.old self.new by heard.number bytes frames a × Adds out.old out.new frames) }
+        ensures heard { IfOk result (λ a. HearsDue self.old self.new by heard.number due.entry out.old out.new a) }
         ensures err { OnErr result ((self.new ≡ self.old) × (out.new ≡ out.old)) }
     {
         let told = prepare_waiting(alloc, heard.deliveries)?;
@@ -244,30 +264,28 @@ impl Core {
         Ok(heard.answer)
     }
 
-    /// A packet arrives that shows no contact number, and something may go back: as [`Core::take`]. Where memory runs
-    /// out, the node is made what it was.
-    fn take_each(
+    /// A packet arrives, and a peer may be greeted, or something may go back, or items are applied: as
+    /// [`Core::hear`]. Of a packet that shows no contact number `heard` is what was prepared. Where memory runs out,
+    /// the node is made what it was.
+    fn hear_each(
         &mut self,
         alloc: Global,
         by: By,
+        number: u64,
         due: Due<'_>,
-        heard: Hearing,
+        heard: Option<Hearing>,
         out: &mut Outbox,
     ) -> Result<Arrival, NoMemory>
-        requires peer { (1 ≤ due.peer) × (due.peer ≤ 32) }
+        requires due { IsDueAt self.old due }
         requires room { has_room self.old.journal ≡ true }
-        requires plain { shows_contact due.packet.header ≡ false }
-        requires heard { IsPrepared (neighbour_of self.old due.peer) due.peer due.first due.second (view due.packet)
-            heard.number heard.arriving heard.deliveries.items heard.answer }
-        ensures heard { (bytes : List ℕ) →
-            IsDue self.old bytes due.entry.peer due.entry.first due.entry.second (view due.entry.packet) →
-            IfOk result (λ a. (frames : List Outgoing)
-            × Hears self.old self.new by heard.number bytes frames a × Adds out.old out.new frames) }
+        requires ready { IsReady (neighbour_of self.old due.peer) due heard }
+        requires numbered { IsNumbered number heard }
+        ensures heard { IfOk result (λ a. HearsDue self.old self.new by number due.entry out.old out.new a) }
         ensures err { OnErr result ((self.new ≡ self.old) × (out.new ≡ out.old)) }
     {
-        let mut draft = begin_draft(alloc, &self.sockets)?;
-        let (number, answer) = (heard.number, heard.answer);
-        let Ok(()) = hear_each(
+        let mut draft = begin_draft(alloc)?;
+        let before = self.sockets.copy()?;
+        let Ok(answer) = hear_in(
             alloc,
             self.own,
             &mut self.neighbours,
@@ -278,7 +296,7 @@ impl Core {
             heard,
         ) else {
             restore(draft.copies, &mut self.neighbours);
-            self.sockets = draft.sockets;
+            self.sockets = before;
             return Err(NoMemory);
         };
         leave(draft.out, out);

@@ -3,8 +3,11 @@
 
 mod arriving;
 mod cores;
+mod delivery;
 mod drafts;
+mod following;
 mod hearing;
+mod items;
 mod listening;
 mod neighbours;
 mod nodes;
@@ -13,6 +16,7 @@ mod recording;
 mod sending;
 mod serving;
 mod settling;
+mod sharing;
 mod waiting;
 
 pub use neighbours::Neighbour;

@@ -1,19 +1,32 @@
 //! What a node makes of a peer by what it hears of it.
 
-ghost use Rattle.std.specs.Prelude.{◌≡◌, ℕ, ◌||◌, ◌&&◌, true, false, IfOk};
+ghost use Rattle.std.specs.Prelude.{◌≡◌, ℕ, ◌||◌, ◌&&◌, Some, true, false, IfOk};
 ghost use Rattle.tipc_outside.specs.Frames.{Adds};
 ghost use Rattle.tipc_header.specs.Spelling.{Fields, view};
 ghost use Rattle.tipc_link.specs.Links.{answered_frames};
 ghost use Rattle.tipc_pair.specs.Pairs.{shows_contact};
 ghost use Rattle.tipc_pair.specs.Partners.{IsPairArriving, OpensTo, begun_after};
+ghost use Rattle.tipc_node.specs.Hearings.{HasHeard, IsNumbered, IsReady};
 ghost use Rattle.tipc_node.specs.Neighbours.{answered_neighbour, heard_neighbour, is_given, is_state, met_by, no_broadcast, stays_in_step};
 
+use crate::arriving::{Delivery, Due, Hearing, arrival_answer};
 use crate::neighbours::{Neighbour, no_broadcast, stays_in_step};
 use std::alloc::Global;
 use tipc_header::{Header, Packet};
 use tipc_outside::Outbox;
 use tipc_pair::{PairArrival, PairArriving, PairChange, PairOutcome};
-use tipc_types::NoMemory;
+use tipc_types::{Arrival, NoMemory};
+
+/// What came of a packet that a neighbour heard.
+#[derive(Drop)]
+pub struct HeardPacket {
+    /// What became of the link and the contact.
+    pub change: PairChange,
+    /// What it delivers.
+    pub deliveries: Vec<Delivery>,
+    /// What became of the arrival.
+    pub answer: Arrival,
+}
 
 /// Whether a packet is a STATE.
 fn is_state(header: &Header) -> bool
@@ -108,6 +121,34 @@ impl Neighbour {
         let change = self.pair.commit(alloc, arriving, packet, shown, out);
         self.in_step = is_in_step(self.in_step, change, gets_in_step);
         change
+    }
+
+    /// Hears the packet that is due. Of a packet that shows no contact number `heard` is what was prepared when the
+    /// neighbour was as it is.
+    pub fn hear(
+        &mut self,
+        alloc: Global,
+        due: &Due<'_>,
+        heard: Option<Hearing>,
+        out: &mut Outbox,
+    ) -> HeardPacket
+        requires { IsReady (Some self.old) due.now heard }
+        ensures { (number : ℕ) → IsNumbered number heard →
+            HasHeard self.old due.now number self.new result out.old out.new }
+    {
+        let Some(heard) = heard else {
+            let arrival = self.notice(alloc, due.first, due.second, due.packet.header, out);
+            return HeardPacket {
+                change: arrival.change,
+                deliveries: Vec::new(alloc),
+                answer: arrival_answer(&arrival.outcome, &[]),
+            };
+        };
+        HeardPacket {
+            change: self.take(alloc, heard.arriving, &due.packet, out),
+            deliveries: heard.deliveries,
+            answer: heard.answer,
+        }
     }
 
     /// Sends the STATE that is due.

@@ -1,6 +1,6 @@
 //! The peers of a node, and what a call does at each.
 
-ghost use Rattle.std.specs.Prelude.{◌≡◌, ◌+◌, ◌++◌, ◌<◌, ◌≤◌, [], All, Some, None, length, slice_index_or, vec_capacity, vec_len, IfSome, IfNone, OnErr, OnOk};
+ghost use Rattle.std.specs.Prelude.{◌≡◌, ◌+◌, ◌++◌, ◌≤◌, [], true, All, Some, None, is_some, length, slice_index_or, vec_capacity, vec_len, IfSome, IfNone, OnErr, OnOk};
 ghost use Rattle.tipc_outside.specs.Frames.{Adds};
 ghost use Rattle.tipc_link.specs.Links.{with_session};
 ghost use Rattle.tipc_link.specs.Sessions.{SessionEnd, IsPut, IsWaiting, flush_frames, flushed};
@@ -113,16 +113,10 @@ impl Neighbour {
         }
     }
 
-    /// Puts the packets of a message on the link, where there is a contact and fewer packets than the limit wait.
-    pub fn send(
-        &mut self,
-        alloc: Global,
-        pieces: Pieces,
-        limit: u32,
-        out: &mut Outbox,
-    ) -> Result<(), NoMemory>
-        requires link { (s : SessionEnd) × (session_with (Some self.old) ≡ Some s) ×
-            (length s.sending.waiting < limit) }
+    /// Puts the packets of a message on the link, where there is a contact. The caller has asked whether as many
+    /// packets wait as may before such a message. For more than 4,294,967,294 that wait there is no memory.
+    pub fn send(&mut self, alloc: Global, pieces: Pieces, out: &mut Outbox) -> Result<(), NoMemory>
+        requires contact { is_some (session_with (Some self.old)) ≡ true }
         requires pieces { All IsWaiting pieces }
         ensures ok { (s : SessionEnd) → session_with (Some self.old) ≡ Some s →
             OnOk result ((put : SessionEnd) × IsPut s pieces put ×
@@ -130,7 +124,7 @@ impl Neighbour {
             self.old.in_step) × Adds out.old out.new (flush_frames put)) }
         ensures err { OnErr result ((self.new ≡ self.old) × (out.new ≡ out.old)) }
     {
-        match self.pair.send(alloc, pieces, limit, out) {
+        match self.pair.send(alloc, pieces, u32::MAX, out) {
             Ok(()) => Ok(()),
             Err(_) => Err(NoMemory),
         }
@@ -212,7 +206,7 @@ pub fn take_part_all(
 }
 
 /// The numbers of packets unacknowledged and waiting on the link to a neighbour: none where there is no contact.
-fn load_at(place: &Option<Neighbour>) -> (u32, u32)
+pub fn load_at(place: &Option<Neighbour>) -> (u32, u32)
     ensures unacked { result.0 ≡ unacked_in (session_with place.now) }
     ensures waiting { result.1 ≡ waiting_in (session_with place.now) }
 {

@@ -5,11 +5,13 @@ ghost use Rattle.tipc_types.specs.Address.{node_word, IsNodeWord};
 ghost use Rattle.tipc_outside.specs.Frames.{Adds};
 ghost use Rattle.tipc_journal.specs.Streams.{accepted, delivered};
 ghost use Rattle.tipc_journal.specs.Counting.{is_sent_by_name};
+ghost use Rattle.tipc_journal.specs.Matches.{names};
 ghost use Rattle.tipc_journal.specs.Licensed.{IsPicked};
 ghost use Rattle.tipc_sockets.specs.SocketTables.{no_sockets};
 ghost use Rattle.tipc_node.specs.Arrivals.{Arrived};
-ghost use Rattle.tipc_node.specs.Calls.{CanPerform, Performed};
+ghost use Rattle.tipc_node.specs.Calls.{CanPerform, HasInstances, Performed};
 ghost use Rattle.tipc_node.specs.Nodes.{contact_with, has_room, known_frames, known_node, load_of, neighbour_of};
+ghost use Rattle.tipc_node.specs.Sharing.{SharesNames};
 ghost use Rattle.tipc_node.specs.Telling.{IsTold};
 
 use crate::cores::Core;
@@ -20,10 +22,10 @@ use std::marker::Model;
 use tipc_journal::{Entry, Journal};
 use tipc_outside::Outbox;
 use tipc_pick::{Chooser, Pick};
-use tipc_types::{Addr, Answer, Arrival, By, EventNote, Flow, LinkState, NoMemory};
+use tipc_types::{Addr, Answer, Arrival, By, EventNote, Flow, LinkState, NoMemory, Publication};
 
-/// A node in one boot. Its journal tells of its contacts and its links, and its frames are for the peers whose
-/// numbers they name.
+/// A node in one boot. Its journal tells of its contacts and its links, its frames are for the peers whose numbers they
+/// name, and what it told a peer, and heard from it, makes the two agree on their names.
 #[derive(Drop)]
 pub struct Node {
     core: Core,
@@ -31,6 +33,7 @@ pub struct Node {
 
 impl Model for Node {
     ghost use Rattle.tipc_node.specs.Nodes.{NodeState};
+    ghost use Rattle.tipc_node.specs.Sharing.{SharesNames};
     ghost use Rattle.tipc_node.specs.Telling.{ArePacked, IsTold};
     ghost use Rattle.tipc_node.specs.Turns.{AreNamed};
 
@@ -38,7 +41,16 @@ impl Model for Node {
 
     ghost view = { λ n. n.core };
 
-    ghost invariant = { λ n. IsTold n.core × AreNamed n.core × ArePacked n.core };
+    ghost invariant = { λ n. IsTold n.core × AreNamed n.core × ArePacked n.core × SharesNames n.core };
+}
+
+/// A publication of it has a range with instances. It does nothing.
+fn ranged(call: &EventNote)
+    ensures { HasInstances call.now }
+{
+    if let EventNote::Publish { range, .. } = call {
+        let _ = range.lower();
+    }
 }
 
 impl Node {
@@ -50,6 +62,7 @@ impl Node {
         ensures alone { IfOk result (λ n. (peer : ℕ) → neighbour_of n peer ≡ None) }
         ensures empty { IfOk result (λ n. (n.sockets ≡ no_sockets own.word boot) × (n.journal ≡ [])) }
         ensures told { IfOk result (λ n. IsTold n) }
+        ensures shares { IfOk result (λ n. SharesNames n) }
     {
         let core = Core::new(alloc, own, boot)?;
         core.sound();
@@ -150,6 +163,15 @@ impl Node {
         Some(self.neighbour(peer)?.pair.state())
     }
 
+    /// All publications that it knows, in order of node, port and key.
+    #[tactic(auto, using(crate::proofs::Refusing::told_names))]
+    pub fn names(&self) -> &[Publication]
+        ensures held { result.now ≡ self.now.sockets.names }
+        ensures told { result.now ≡ names self.now.journal }
+    {
+        self.core.sockets.names()
+    }
+
     /// Gives up its journal: the boot is over.
     pub fn into_journal(self) -> Journal
         ensures { result.entries ≡ self.journal }
@@ -165,6 +187,7 @@ impl Node {
         ensures frames { Adds out.old out.new (known_frames self.old peer) }
         ensures within { peer < length self.old.neighbours }
         ensures told { IsTold self.new }
+        ensures shares { SharesNames self.new }
     {
         self.core.know(alloc, peer, out);
     }
@@ -197,6 +220,7 @@ impl Node {
         ensures only { result ≡ Err NodeFault.JournalFull → has_room self.old.journal ≡ false }
         ensures err { OnErr result ((self.new ≡ self.old) × (out.new ≡ out.old) × (chooser.new ≡ chooser.old)) }
     {
+        ranged(&call);
         let answer = self.core.perform(alloc, by, call, chooser, out);
         self.core.sound();
         answer

@@ -1,6 +1,6 @@
 //! The calls that send a message, to a port and by name.
 
-ghost use Rattle.std.specs.Prelude.{◌≡◌, ℕ, ◌+◌, ◌%◌, ◌^◌, ◌<◌, ◌≤◌, List, [], false, true, if◌then◌else◌, None, Some, length, slice_index_or, sum_by, unwrap_or, IfOk, OnErr, OnOk};
+ghost use Rattle.std.specs.Prelude.{◌≡◌, ℕ, ◌+◌, ◌%◌, ◌^◌, ◌≤◌, List, [], false, true, if◌then◌else◌, None, Some, is_some, length, slice_index_or, sum_by, unwrap_or, IfOk, OnErr, OnOk};
 ghost use Rattle.tipc_outside.specs.Frames.{Adds};
 ghost use Rattle.tipc_outside.specs.declared.outgoing.Outgoing.{Outgoing};
 ghost use Rattle.tipc_journal.specs.Counting.{is_sent_by_name};
@@ -8,7 +8,6 @@ ghost use Rattle.tipc_journal.specs.Dues.{comes_home};
 ghost use Rattle.tipc_journal.specs.Licensed.{IsPickedOf};
 ghost use Rattle.tipc_journal.specs.Refusals.{longest_body};
 ghost use Rattle.tipc_journal.specs.Room.{counted_bytes, entry_bytes};
-ghost use Rattle.tipc_link.specs.Sessions.{SessionEnd};
 ghost use Rattle.tipc_message.specs.Wire.{IsPayload};
 ghost use Rattle.tipc_sockets.specs.Telling.{origin_of};
 ghost use Rattle.tipc_node.specs.Calls.{Sends, SendsByName, SendsTo, sender_refusal, way_refusal};
@@ -111,8 +110,7 @@ impl Core {
         Ok(())
     }
 
-    /// Puts a message on the link to the peer, with which there is a contact and on whose link fewer packets than the limit
-    /// wait.
+    /// Puts a message on the link to the peer, with which there is a contact.
     fn send_away(
         &mut self,
         alloc: Global,
@@ -120,7 +118,6 @@ impl Core {
         note: EventNote,
         peer: u8,
         m: Message,
-        limit: u32,
         sent: Answer,
         out: &mut Outbox,
     ) -> Result<(), NoMemory>
@@ -128,8 +125,7 @@ impl Core {
         requires peer { (1 ≤ peer) × (peer ≤ 32) }
         requires payload { IsPayload m }
         requires small { counted_bytes m ≤ longest_body }
-        requires link { (s : SessionEnd) × (session_with (slice_index_or self.old.neighbours peer None) ≡ Some s) ×
-            (length s.sending.waiting < limit) }
+        requires contact { is_some (session_with (slice_index_or self.old.neighbours peer None)) ≡ true }
         ensures sent { OnOk result ((w : Work) × (frames : List Outgoing)
             × Puts self.old.own (begun self.old) peer m w frames ×
             (self.new ≡ concluded self.old by note w sent) × Adds out.old out.new frames) }
@@ -140,7 +136,7 @@ impl Core {
         let Some(neighbour) = &mut self.neighbours[peer as usize] else {
             unreachable!()
         };
-        put_on(neighbour, alloc, self.own, peer, m, limit, &mut inside, out)?;
+        put_on(neighbour, alloc, self.own, peer, m, &mut inside, out)?;
         record(&mut self.journal, by, note, inside, sent);
         Ok(())
     }
@@ -178,7 +174,7 @@ impl Core {
         let Some(peer) = to.number() else {
             unreachable!()
         };
-        self.send_away(alloc, by, note, peer, m, limit, sent, out)?;
+        self.send_away(alloc, by, note, peer, m, sent, out)?;
         Ok(None)
     }
 

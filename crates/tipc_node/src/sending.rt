@@ -5,7 +5,7 @@ ghost use Rattle.tipc_journal.specs.Refusals.{longest_body};
 ghost use Rattle.tipc_journal.specs.Room.{counted_bytes};
 ghost use Rattle.tipc_link.specs.Sessions.{IsWaiting};
 ghost use Rattle.tipc_pair.specs.Partners.{pieces_for};
-ghost use Rattle.tipc_message.specs.Wire.{IsPayload};
+ghost use Rattle.tipc_message.specs.Wire.{IsCarried, IsPayload};
 ghost use Rattle.tipc_node.specs.Messages.{IsSendable, bytes_of, direct, limit_of, named};
 
 use std::alloc::Global;
@@ -109,9 +109,9 @@ pub fn limit(importance: Importance) -> u32
     }
 }
 
-/// The packets in which a node sends a user's message: its own, or its fragments where that is too long for one packet.
+/// The packets in which a node sends a message: its own, or its fragments where that is too long for one packet.
 pub fn pieces(alloc: Global, own: Addr, message: &Message) -> Result<Pieces, NoMemory>
-    requires { IsPayload message.now }
+    requires { IsCarried message.now }
     ensures sendable { IfOk result (λ pieces. IsSendable own.word message.now) }
     ensures value { IfOk result (λ pieces. pieces ≡ pieces_for (bytes_of own.word message.now)) }
     ensures waiting { IfOk result (All IsWaiting) }

@@ -1,18 +1,23 @@
 //! The calls on sockets and names.
 
-ghost use Rattle.std.specs.Prelude.{◌≡◌, List, [], true, map, filter, slice_get, IfOk, OnErr};
+ghost use Rattle.std.specs.Prelude.{◌≡◌, ◌∷◌, List, [], true, map, slice_get, IfOk, OnErr};
 ghost use Rattle.tipc_types.specs.declared.message_forms.Message.{Message};
+ghost use Rattle.tipc_outside.specs.Frames.{Adds};
+ghost use Rattle.tipc_outside.specs.declared.outgoing.Outgoing.{Outgoing};
 ghost use Rattle.tipc_journal.specs.declared.entries.Entry.TheVariants.{Withdrawn};
-ghost use Rattle.tipc_sockets.specs.Publishing.{is_at};
+ghost use Rattle.tipc_sockets.specs.Publishing.{own_publication};
 ghost use Rattle.tipc_node.specs.Calls.{Performs};
 ghost use Rattle.tipc_node.specs.Nodes.{has_room};
-ghost use Rattle.tipc_node.specs.Sockets.{first_answer, kept_answer, publish_answer};
+ghost use Rattle.tipc_node.specs.Sockets.{first_answer, kept_answer, publication_refusal};
 
 use crate::cores::Core;
+use crate::drafts::{leave, restore};
 use crate::recording::record;
+use crate::sharing::{crowd_refusal, share, telling, tellings};
 use std::alloc::Global;
 use tipc_journal::Entry;
 use tipc_name_table::MOST_PUBLICATIONS;
+use tipc_outside::Outbox;
 use tipc_ports::{MOST_PORTS, PortFault};
 use tipc_sockets::PublishFault;
 use tipc_types::{
@@ -31,29 +36,24 @@ fn first_answers(first: Option<Message>) -> (Answer, Answer)
     }
 }
 
-/// Why a publication is refused.
-fn publish_answer(fault: PublishFault) -> Answer
-    ensures { result ≡ publish_answer fault }
+/// The withdrawals of these publications.
+fn withdrawals(alloc: Global, publications: &[Publication]) -> Result<Vec<Entry>, NoMemory>
+    ensures { IfOk result (λ entries. entries.items ≡ map Withdrawn publications.now) }
 {
-    match fault {
-        PublishFault::NoSocket => Answer::NoSocket,
-        PublishFault::Reserved => Answer::Reserved,
-        PublishFault::Duplicate(key) => Answer::Duplicate(key),
-        PublishFault::Full => Answer::Full(MOST_PUBLICATIONS as u32),
-        PublishFault::NoMemory => Answer::NoSocket,
-    }
-}
-
-/// The withdrawals of those publications that are at a port.
-fn withdrawals(alloc: Global, live: &[Publication], port: u32) -> Result<Vec<Entry>, NoMemory>
-    ensures { IfOk result (λ es. es.items ≡ map Withdrawn (filter (is_at port) live.now)) }
-{
-    let inside = live
+    let inside = publications
         .iter()
         .copied()
-        .filter(|p| p.at.port == port)
         .map(|publication| Entry::Withdrawn { publication })
         .collect(alloc)?;
+    Ok(inside)
+}
+
+/// One entry, as a list.
+fn alone(alloc: Global, entry: Entry) -> Result<Vec<Entry>, NoMemory>
+    ensures { IfOk result (λ entries. entries.items ≡ entry ∷ []) }
+{
+    let mut inside = Vec::with_capacity(alloc, 1)?;
+    inside.push_reserved(entry);
     Ok(inside)
 }
 
@@ -84,27 +84,65 @@ impl Core {
         }
     }
 
-    /// Closes a socket: what is published there is withdrawn, and what waits there is dropped. NoSocket exactly where the
-    /// port isn't there.
-    pub(crate) fn close(&mut self, alloc: Global, by: By, port: u32) -> Result<Answer, NoMemory>
+    /// Closes a socket: what is published there is withdrawn, of which peers are told, and what waits there is
+    /// dropped. NoSocket exactly where the port isn't there, else NamesCongested exactly where peers are to be told
+    /// and 1,000 packets wait on the link to one: the lowest is named.
+    pub(crate) fn close(
+        &mut self,
+        alloc: Global,
+        by: By,
+        port: u32,
+        out: &mut Outbox,
+    ) -> Result<Answer, NoMemory>
         requires room { has_room self.old.journal ≡ true }
-        ensures ok { IfOk result (Performs self.old by (EventNote.Close port) self.new []) }
-        ensures err { OnErr result (self.new ≡ self.old) }
+        ensures ok { IfOk result (λ a. (frames : List Outgoing) ×
+            Performs self.old by (EventNote.Close port) self.new frames a × Adds out.old out.new frames) }
+        ensures err { OnErr result ((self.new ≡ self.old) × (out.new ≡ out.old)) }
     {
         let note = EventNote::Close { port };
         if !self.sockets.has(port) {
             return self.refuse(alloc, by, note, Answer::NoSocket);
         }
-        let inside = withdrawals(alloc, self.sockets.live(), port)?;
-        self.journal.reserve(inside.len() as u64 + 2)?;
+        self.sound();
+        let those = self.sockets.live_at(alloc, port)?;
+        let told = tellings(alloc, those.as_slice(), true)?;
+        if let Some(why) = crowd_refusal(self.neighbours.as_slice(), told.as_slice()) {
+            return self.refuse(alloc, by, note, why);
+        }
+        let inside = withdrawals(alloc, those.as_slice())?;
+        let draft = share(
+            alloc,
+            self.own,
+            &mut self.neighbours,
+            &mut self.journal,
+            inside,
+            told.as_slice(),
+        )?;
         let Ok(()) = self.sockets.close(port) else {
             unreachable!()
         };
-        record(&mut self.journal, by, note, inside, Answer::Done);
+        leave(draft.out, out);
+        record(&mut self.journal, by, note, draft.inside, Answer::Done);
         Ok(Answer::Done)
     }
 
-    /// Publishes a range at a port: refused for the first reason that holds.
+    /// Why a publication of a service type and key is refused at a port, as far as the sockets tell it: the first
+    /// reason that holds.
+    fn publication_refusal(&self, port: u32, kind: u32, key: u32) -> Option<Answer>
+        ensures { result ≡ publication_refusal self.now.sockets port kind key }
+    {
+        match self.sockets.publish_refusal(port, kind, key)? {
+            PublishFault::NoSocket => Some(Answer::NoSocket),
+            PublishFault::Reserved => Some(Answer::Reserved),
+            PublishFault::Duplicate(key) => Some(Answer::Duplicate(key)),
+            PublishFault::Full => Some(Answer::Full(MOST_PUBLICATIONS as u32)),
+            PublishFault::NoMemory => None,
+        }
+    }
+
+    /// Publishes a range at a port, of which peers are told where it is seen in the cluster: refused for the first
+    /// reason that holds. NamesCongested is the last: peers are to be told, and 1,000 packets wait on the link to one;
+    /// the lowest is named.
     pub(crate) fn publish(
         &mut self,
         alloc: Global,
@@ -113,10 +151,13 @@ impl Core {
         range: ServiceRange,
         scope: Scope,
         key: u32,
+        out: &mut Outbox,
     ) -> Result<Answer, NoMemory>
         requires room { has_room self.old.journal ≡ true }
-        ensures ok { IfOk result (Performs self.old by (EventNote.Publish port range scope key) self.new []) }
-        ensures err { OnErr result (self.new ≡ self.old) }
+        ensures ok { IfOk result (λ a. (frames : List Outgoing) ×
+            Performs self.old by (EventNote.Publish port range scope key) self.new frames a ×
+            Adds out.old out.new frames) }
+        ensures err { OnErr result ((self.new ≡ self.old) × (out.new ≡ out.old)) }
     {
         let note = EventNote::Publish {
             port,
@@ -124,42 +165,63 @@ impl Core {
             scope,
             key,
         };
-        if let Some(fault) = self.sockets.publish_refusal(port, range.kind(), key) {
-            return self.refuse(alloc, by, note, publish_answer(fault));
+        if let Some(why) = self.publication_refusal(port, range.kind(), key) {
+            return self.refuse(alloc, by, note, why);
         }
-        self.journal.reserve(3)?;
-        let mut inside = Vec::with_capacity(alloc, 1)?;
+        let publication = self.own_publication(port, range, scope, key);
+        let told = telling(alloc, &publication, false)?;
+        if let Some(why) = crowd_refusal(self.neighbours.as_slice(), told.as_slice()) {
+            return self.refuse(alloc, by, note, why);
+        }
+        let inside = alone(alloc, Entry::Published { publication })?;
+        let draft = share(
+            alloc,
+            self.own,
+            &mut self.neighbours,
+            &mut self.journal,
+            inside,
+            told.as_slice(),
+        )?;
         let Ok(()) = self.sockets.publish_at(port, range, scope, key) else {
+            restore(draft.copies, &mut self.neighbours);
             return Err(NoMemory);
         };
-        let at = PortId {
-            node: self.own,
-            port,
-        };
-        inside.push_reserved(Entry::Published {
-            publication: Publication {
-                range,
-                scope,
-                at,
-                key,
-            },
-        });
-        record(&mut self.journal, by, note, inside, Answer::Done);
+        leave(draft.out, out);
+        record(&mut self.journal, by, note, draft.inside, Answer::Done);
         Ok(Answer::Done)
     }
 
-    /// Withdraws the publication of a key at a port: NoSocket exactly where the port isn't there, else Unknown exactly where
-    /// that key isn't live at it.
+    /// The publication of a range at a port of this node.
+    fn own_publication(&self, port: u32, range: ServiceRange, scope: Scope, key: u32) -> Publication
+        ensures { result ≡ own_publication self.now.own port range scope key }
+    {
+        Publication {
+            range,
+            scope,
+            at: PortId {
+                node: self.own,
+                port,
+            },
+            key,
+        }
+    }
+
+    /// Withdraws the publication of a key at a port, of which peers are told where it is seen in the cluster:
+    /// NoSocket exactly where the port isn't there, else Unknown exactly where that key isn't live at it, else
+    /// NamesCongested exactly where peers are to be told and 1,000 packets wait on the link to one: the lowest is
+    /// named.
     pub(crate) fn withdraw(
         &mut self,
         alloc: Global,
         by: By,
         port: u32,
         key: u32,
+        out: &mut Outbox,
     ) -> Result<Answer, NoMemory>
         requires room { has_room self.old.journal ≡ true }
-        ensures ok { IfOk result (Performs self.old by (EventNote.Withdraw port key) self.new []) }
-        ensures err { OnErr result (self.new ≡ self.old) }
+        ensures ok { IfOk result (λ a. (frames : List Outgoing) ×
+            Performs self.old by (EventNote.Withdraw port key) self.new frames a × Adds out.old out.new frames) }
+        ensures err { OnErr result ((self.new ≡ self.old) × (out.new ≡ out.old)) }
     {
         let note = EventNote::Withdraw { port, key };
         if !self.sockets.has(port) {
@@ -169,13 +231,24 @@ impl Core {
             return self.refuse(alloc, by, note, Answer::Unknown);
         };
         self.sound();
-        self.journal.reserve(3)?;
-        let mut inside = Vec::with_capacity(alloc, 1)?;
+        let told = telling(alloc, &publication, true)?;
+        if let Some(why) = crowd_refusal(self.neighbours.as_slice(), told.as_slice()) {
+            return self.refuse(alloc, by, note, why);
+        }
+        let inside = alone(alloc, Entry::Withdrawn { publication })?;
+        let draft = share(
+            alloc,
+            self.own,
+            &mut self.neighbours,
+            &mut self.journal,
+            inside,
+            told.as_slice(),
+        )?;
         let Ok(_) = self.sockets.withdraw_at(port, key) else {
             unreachable!()
         };
-        inside.push_reserved(Entry::Withdrawn { publication });
-        record(&mut self.journal, by, note, inside, Answer::Done);
+        leave(draft.out, out);
+        record(&mut self.journal, by, note, draft.inside, Answer::Done);
         Ok(Answer::Done)
     }
 

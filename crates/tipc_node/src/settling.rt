@@ -1,10 +1,10 @@
 //! What a message comes to at a node: its fate at the sockets, or its way on a link.
 
-ghost use Rattle.std.specs.Prelude.{◌≡◌, ◌<◌, ◌≤◌, ◌++◌, ◌∷◌, [], true, None, Some, fold, length, IfOk, IfSome, IfNone, OnErr, OnOk};
+ghost use Rattle.std.specs.Prelude.{◌≡◌, ◌≤◌, ◌++◌, ◌∷◌, [], true, None, Some, fold, is_some, length, IfOk, IfSome, IfNone, OnErr, OnOk};
 ghost use Rattle.std.specs.List.{list_all};
 ghost use Rattle.tipc_journal.specs.Dues.{comes_home};
 ghost use Rattle.tipc_link.specs.Sessions.{SessionEnd};
-ghost use Rattle.tipc_message.specs.Wire.{IsPayload};
+ghost use Rattle.tipc_message.specs.Wire.{IsCarried};
 ghost use Rattle.tipc_sockets.specs.Fates.{after_fate};
 ghost use Rattle.tipc_sockets.specs.Telling.{after_entry, fate_entry, origin_of};
 ghost use Rattle.tipc_node.specs.Messages.{destination_of};
@@ -135,14 +135,12 @@ pub fn put_on(
     own: Addr,
     peer: u8,
     m: Message,
-    limit: u32,
     inside: &mut Vec<Entry>,
     out: &mut Outbox,
 ) -> Result<(), NoMemory>
     requires peer { (1 ≤ peer) × (peer ≤ 32) }
-    requires payload { IsPayload m }
-    requires link { (s : SessionEnd) × (session_with (Some neighbour.old) ≡ Some s) ×
-        (length s.sending.waiting < limit) }
+    requires carried { IsCarried m }
+    requires contact { is_some (session_with (Some neighbour.old)) ≡ true }
     ensures put { OnOk result (PutsOn own.word neighbour.old neighbour.new peer m inside.old.items inside.new.items
         out.old out.new) }
     ensures err { OnErr result ((neighbour.new ≡ neighbour.old) × (inside.new.items ≡ inside.old.items) ×
@@ -151,7 +149,7 @@ pub fn put_on(
     let pieces = pieces(alloc, own, &m)?;
     inside.reserve(1)?;
     let entry = neighbour.accepted(peer, m);
-    neighbour.send(alloc, pieces, limit, out)?;
+    neighbour.send(alloc, pieces, out)?;
     inside.push_reserved(entry);
     Ok(())
 }

@@ -61,6 +61,7 @@ impl<W: io::Write + Drop> StdSink<W> {
     pub fn new(writer: W) -> StdSink<W>
         ensures writer { result.writer ≡ writer }
         ensures faults { result.faults ≡ 0 }
+        ensures stalls { result.stalls ≡ 0 }
     {
         StdSink {
             writer,

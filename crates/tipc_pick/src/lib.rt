@@ -3,6 +3,7 @@
 #![tactic(auto)]
 
 mod chooser;
+pub mod laws;
 mod picks;
 mod stored;
 mod turns;

@@ -1,6 +1,6 @@
 //! The receive window: the next number, and the packets that came before their turn.
 
-ghost use Rattle.std.specs.Prelude.{◌≡◌, ◌+◌, ◌-◌, ◌<◌, ◌≤◌, ◌^◌, ◌++◌, ◌∷◌, ◌⊎◌, ◌↔◌, [], drop, false, is_some, length, replicate, position, IfOk, IfSome, IsTrue, None, OnErr, Some};
+ghost use Rattle.std.specs.Prelude.{◌≡◌, ◌+◌, ◌-◌, ◌<◌, ◌≤◌, ◌^◌, ◌++◌, ◌∷◌, ◌⊎◌, ◌↔◌, [], drop, false, true, is_some, length, replicate, position, IfOk, IfSome, IsTrue, None, OnErr, Some};
 ghost use Rattle.std.specs.VecDeque.{deque_capacity};
 ghost use Rattle.tipc_types.specs.declared.packet_lists.Taken.{Taken};
 ghost use Rattle.tipc_recv_window.specs.Receiving.{filled};
@@ -183,7 +183,7 @@ impl RecvWindow {
     ///
     /// # Errors
     ///
-    /// Where memory runs out; positions past 2^62 count as want of memory.
+    /// Where memory runs out, but not for an old packet; positions past 2^62 count as want of memory.
     pub fn prepare(
         &self,
         alloc: Global,
@@ -192,6 +192,8 @@ impl RecvWindow {
         requires { next_of self.now ≡ None }
         ensures arrival { IfOk result (λ told. told.0 ≡ coming self.now packet) }
         ensures due { IfOk result (λ told. told.1 ≡ run_of (with_packet self.now packet).held) }
+        ensures not_old { OnErr result (place_at self.now (past_wanted self.now packet.number) ≡ Place.Old →
+            2 ^ 62 < self.now.wanted + 50) }
     {
         if self.is_last() {
             return Err(NoMemory);
@@ -302,6 +304,7 @@ impl RecvWindow {
     /// Whether a position behind the wanted one is too high.
     fn is_last(&self) -> bool
         ensures counted { result ≡ false → self.now.wanted + 50 ≤ 2 ^ 62 }
+        ensures last { result ≡ true → 2 ^ 62 < self.now.wanted + 50 }
         ensures window { IsReceiving self.now }
     {
         self.wanted > LAST_POSITION - WINDOW as u64

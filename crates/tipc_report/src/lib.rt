@@ -6,6 +6,7 @@ mod bodies;
 mod limits;
 mod links;
 mod printing;
+mod tables;
 mod told;
 mod words;
 

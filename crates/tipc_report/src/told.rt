@@ -7,9 +7,10 @@ ghost use Rattle.tipc_report.specs.Answering.{text_of};
 ghost use Rattle.tipc_report.specs.Telling.{byte_text, hex_digit, hex_text, to_text, told_text};
 
 use crate::answers::answer_text;
+use crate::tables::table_text;
 use crate::words::{numbered, word};
 use std::alloc::Global;
-use tipc_types::{Addr, Answer, Bytes, NoMemory, To};
+use tipc_types::{Addr, Answer, Bytes, List, NoMemory, To};
 
 /// What is told of a line of a script. (This project's profile.)
 #[derive(Debug, Drop)]
@@ -25,6 +26,8 @@ pub enum Told {
         /// The last answer.
         last: Answer,
     },
+    /// The publications that a node knows, in order.
+    Table(List),
     /// A frame that was sent.
     Frame {
         /// The node that sent it.
@@ -115,6 +118,7 @@ pub fn told_text(alloc: Global, told: &Told) -> Result<Vec<u8>, NoMemory>
         Told::Nothing => word(alloc, "-"),
         Told::Answer(answer) => answer_text(alloc, answer),
         Told::Times { count, last } => times_text(alloc, *count, last),
+        Told::Table(publications) => table_text(alloc, publications.as_slice()),
         Told::Frame { from, to, bytes } => frame_text(alloc, *from, *to, bytes.as_slice()),
     }
 }

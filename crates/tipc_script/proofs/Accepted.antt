@@ -2,9 +2,9 @@
 use Rattle.std.proofs.Common.{◌≡◌, ℕ, true, List, [], ◌∷◌, refl, arith}
 use Rattle.std.specs.Fmt.{decimal}
 use Rattle.tipc_script.specs.declared.lines.Line.{Line}
-use Rattle.tipc_script.specs.declared.lines.Line.TheVariants.{Nothing, Node, Mend, Cut, Tick, Restart, Link, Mark, Socket, Close, Publish, Withdraw, Send, Repeat, Arrive, Receive, Drain, Pump, Burst, Settle, Air, Show, Links, Flow}
+use Rattle.tipc_script.specs.declared.lines.Line.TheVariants.{Nothing, Node, Mend, Cut, Tick, Restart, Link, Mark, Socket, Close, Publish, Withdraw, Send, Repeat, Arrive, Receive, Drain, Pump, Burst, Settle, Air, Show, Links, Table, Flow}
 use Rattle.tipc_script.specs.Kinds.{is_remark}
-use Rattle.tipc_script.specs.Grammar.{row_of, asked, node_row, mend_row, cut_row, tick_row, restart_row, link_row, mark_row, socket_row, arrive_row, receive_row, drain_row, pump_row, settle_row, air_row, show_row, links_row, flow_row}
+use Rattle.tipc_script.specs.Grammar.{row_of, asked, node_row, mend_row, cut_row, tick_row, restart_row, link_row, mark_row, socket_row, arrive_row, receive_row, drain_row, pump_row, settle_row, air_row, show_row, links_row, table_row, flow_row}
 use Rattle.tipc_script.specs.Spelling.{Asks}
 use Rattle.tipc_script.specs.Faults.{row_fault, fault_of, first_fault, end_fault}
 use Rattle.tipc_script.proofs.Numerals.{is_number-decimal, number_of-decimal}
@@ -139,6 +139,12 @@ links_accepted text n h =
     spelled text links_row (decimal n ∷ []) (Links n) h.1 refl (rw (no_space-decimal n (omega arith)) refl) refl
     (rw (is_number-decimal 1 32 n h.0.0 h.0.1 (omega arith)) refl) (rw (number_of-decimal n (omega arith)) refl)
 
+table_accepted : (text : List ℕ) (n : ℕ) → Asks text (Table n) → IsAccepted text (Table n)
+unfolding row_of row_fault first_fault end_fault
+table_accepted text n h =
+    spelled text table_row (decimal n ∷ []) (Table n) h.1 refl (rw (no_space-decimal n (omega arith)) refl) refl
+    (rw (is_number-decimal 1 32 n h.0.0 h.0.1 (omega arith)) refl) (rw (number_of-decimal n (omega arith)) refl)
+
 flow_accepted : (text : List ℕ) (a b : ℕ) → Asks text (Flow a b) → IsAccepted text (Flow a b)
 unfolding row_of row_fault first_fault end_fault
 flow_accepted text a b h =
@@ -177,4 +183,5 @@ asks_accepted text (Settle r) h = settle_accepted text r h
 asks_accepted text (Air x) h = air_accepted text x h
 asks_accepted text (Show x k) h = show_accepted text x k h
 asks_accepted text (Links n) h = links_accepted text n h
+asks_accepted text (Table n) h = table_accepted text n h
 asks_accepted text (Flow a b) h = flow_accepted text a b h

@@ -6,7 +6,7 @@ use Rattle.std.proofs.lemmas.Bool.{cases_Bool}
 use Rattle.std.proofs.lemmas.List.Splits.{join_with_byte-slice_split, length-slice_split}
 use Rattle.tipc_script.specs.Splitting.{whole, first_token, behind, is_space, tokens_of}
 use Rattle.tipc_script.specs.Kinds.{is_remark}
-use Rattle.tipc_script.specs.Grammar.{Row, rows, frame_rows, service_rows, traffic_rows, row_of, asked, asked_by, first_number, node_row, mend_row, cut_row, tick_row, restart_row, link_row, mark_row, socket_row, arrive_row, receive_row, drain_row, pump_row, settle_row, air_row, show_row, links_row, flow_row}
+use Rattle.tipc_script.specs.Grammar.{Row, rows, frame_rows, service_rows, traffic_rows, row_of, asked, asked_by, first_number, node_row, mend_row, cut_row, tick_row, restart_row, link_row, mark_row, socket_row, arrive_row, receive_row, drain_row, pump_row, settle_row, air_row, show_row, links_row, table_row, flow_row}
 use Rattle.tipc_script.specs.Spelling.{Asks, spaced}
 use Rattle.tipc_script.specs.Faults.{row_fault, fault_of, fault_by}
 use Rattle.tipc_script.proofs.Reading.{OfRows, are_taken, row_found}
@@ -128,6 +128,12 @@ links_found text left e h =
     let last = h.1 in
     ((node.1, node.2), respelled text links_row.word left.tokens (decimal (first_number left) ∷ []) e cc)
 
+table_found : IsFound table_row
+table_found text left e h =
+    let node = number_taken 1 32 left h.0 in
+    let last = h.1 in
+    ((node.1, node.2), respelled text table_row.word left.tokens (decimal (first_number left) ∷ []) e cc)
+
 flow_found : IsFound flow_row
 flow_found text left e h =
     let b = behind left in
@@ -137,7 +143,7 @@ flow_found text left e h =
     (((from.1, from.2), (to.1, to.2)), respelled text flow_row.word left.tokens (decimal (first_number left) ∷ decimal (first_number b) ∷ []) e cc)
 
 frames_found : OfRows IsFound frame_rows
-frames_found = (arrive_found, (pump_found, (settle_found, (air_found, (show_found, (links_found, (flow_found, tt)))))))
+frames_found = (arrive_found, (pump_found, (settle_found, (air_found, (show_found, (links_found, (table_found, (flow_found, tt))))))))
 
 traffic_found : OfRows IsFound traffic_rows
 traffic_found = (send_found, (repeat_found, (receive_found, (drain_found, (burst_found, frames_found)))))

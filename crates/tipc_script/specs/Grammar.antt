@@ -145,12 +145,15 @@ show_row = record { word = codes "show"; kinds = λ left. BearerNumber ∷ Frame
 abbrev pub links_row : Row
 links_row = record { word = codes "links"; kinds = λ left. OldNode ∷ []; asks = λ node. line.Links (first_number node) }
 
+abbrev pub table_row : Row
+table_row = record { word = codes "table"; kinds = λ left. OldNode ∷ []; asks = λ node. line.Table (first_number node) }
+
 abbrev pub flow_row : Row
 flow_row = record { word = codes "flow"; kinds = λ left. OldNode ∷ OldNode ∷ []; asks = λ from. line.Flow (first_number from) (first_number (behind from)) }
 
 -- the rows of lines about frames and links
 abbrev pub frame_rows : List Row
-frame_rows = arrive_row ∷ pump_row ∷ settle_row ∷ air_row ∷ show_row ∷ links_row ∷ flow_row ∷ []
+frame_rows = arrive_row ∷ pump_row ∷ settle_row ∷ air_row ∷ show_row ∷ links_row ∷ table_row ∷ flow_row ∷ []
 
 -- the rows of lines about messages, frames and links
 abbrev pub traffic_rows : List Row

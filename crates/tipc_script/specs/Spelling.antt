@@ -11,7 +11,7 @@ use Rattle.tipc_types.specs.declared.services.Scope.TheVariants as scope
 use Rattle.tipc_script.specs.declared.lines.Destination.{Destination}
 use Rattle.tipc_script.specs.declared.lines.Destination.TheVariants as destination
 use Rattle.tipc_script.specs.declared.lines.Line.{Line}
-use Rattle.tipc_script.specs.declared.lines.Line.TheVariants.{Nothing, Node, Mend, Cut, Tick, Restart, Link, Mark, Socket, Close, Publish, Withdraw, Send, Repeat, Arrive, Receive, Drain, Pump, Burst, Settle, Air, Show, Links, Flow}
+use Rattle.tipc_script.specs.declared.lines.Line.TheVariants.{Nothing, Node, Mend, Cut, Tick, Restart, Link, Mark, Socket, Close, Publish, Withdraw, Send, Repeat, Arrive, Receive, Drain, Pump, Burst, Settle, Air, Show, Links, Table, Flow}
 use Rattle.tipc_script.specs.Kinds.{is_remark, is_visible, pattern}
 
 -- words with single spaces between them
@@ -79,6 +79,7 @@ words_of (Settle rounds) = codes "settle" ∷ decimal rounds ∷ []
 words_of (Air bearer) = codes "air" ∷ decimal bearer ∷ []
 words_of (Show bearer frame) = codes "show" ∷ decimal bearer ∷ decimal frame ∷ []
 words_of (Links node) = codes "links" ∷ decimal node ∷ []
+words_of (Table node) = codes "table" ∷ decimal node ∷ []
 words_of (Flow from to) = codes "flow" ∷ decimal from ∷ decimal to ∷ []
 
 abbrev pub spelling_of : Line → List ℕ
@@ -148,6 +149,7 @@ Fits (Settle rounds) = rounds ≤ 1000000
 Fits (Air bearer) = bearer ≡ 0
 Fits (Show bearer frame) = (bearer ≡ 0) × (frame ≤ 1000000)
 Fits (Links node) = IsNode node
+Fits (Table node) = IsNode node
 Fits (Flow from to) = IsNode from × IsNode to
 
 -- a text asks for a line: it is a remark, which asks for nothing, or the spelling of the line
@@ -176,4 +178,5 @@ Asks text (Settle rounds) = Fits (Settle rounds) × (text ≡ spelling_of (Settl
 Asks text (Air bearer) = Fits (Air bearer) × (text ≡ spelling_of (Air bearer))
 Asks text (Show bearer frame) = Fits (Show bearer frame) × (text ≡ spelling_of (Show bearer frame))
 Asks text (Links node) = Fits (Links node) × (text ≡ spelling_of (Links node))
+Asks text (Table node) = Fits (Table node) × (text ≡ spelling_of (Table node))
 Asks text (Flow from to) = Fits (Flow from to) × (text ≡ spelling_of (Flow from to))

@@ -1,7 +1,7 @@
 //! The tokens that each first word asks for which tells of nodes, links and frames.
 
 ghost use Rattle.std.specs.Prelude.{◌≡◌, IfOk};
-ghost use Rattle.tipc_script.specs.Grammar.{air_row, arrive_row, cut_row, drain_row, flow_row, link_row, links_row, mark_row, mend_row, node_row, pump_row, receive_row, restart_row, row_nodes, settle_row, show_row, socket_row, tick_row};
+ghost use Rattle.tipc_script.specs.Grammar.{air_row, arrive_row, cut_row, drain_row, flow_row, link_row, links_row, table_row, mark_row, mend_row, node_row, pump_row, receive_row, restart_row, row_nodes, settle_row, show_row, socket_row, tick_row};
 ghost use Rattle.tipc_script.specs.Faults.{Tells, row_fault};
 
 use crate::faults::LineFault;
@@ -290,6 +290,21 @@ pub fn links_line(alloc: Global, tokens: &mut Tokens<'_>) -> Result<Command, Lin
     tokens.finish()?;
     Ok(Command {
         line: Line::Links { node: node.node },
+        nodes: Sequence::from_slice(alloc, [node].as_slice())?,
+    })
+}
+
+/// What follows `table`.
+#[tactic(auto, unfolding(crate::specs::Faults::row_fault))]
+pub fn table_line(alloc: Global, tokens: &mut Tokens<'_>) -> Result<Command, LineFault>
+    ensures fault { Tells result (row_fault table_row tokens.old) }
+    ensures line { IfOk result (λ c. c.line ≡ table_row.asks tokens.old) }
+    ensures nodes { IfOk result (λ c. c.nodes ≡ row_nodes table_row tokens.old) }
+{
+    let node = tokens.node(true)?;
+    tokens.finish()?;
+    Ok(Command {
+        line: Line::Table { node: node.node },
         nodes: Sequence::from_slice(alloc, [node].as_slice())?,
     })
 }

@@ -193,6 +193,11 @@ pub enum Line {
         /// The node.
         node: u8,
     },
+    /// The publications that a node knows are shown.
+    Table {
+        /// The node.
+        node: u8,
+    },
     /// The messages from one node to another are counted.
     Flow {
         /// The node that accepted them.

@@ -47,6 +47,7 @@ enum FirstWord {
     Air,
     Show,
     Links,
+    Table,
     Flow,
 }
 
@@ -142,6 +143,9 @@ fn frame_word(token: &[u8]) -> Option<FirstWord>
     if is_word(token, b"links") {
         return Some(FirstWord::Links);
     }
+    if is_word(token, b"table") {
+        return Some(FirstWord::Table);
+    }
     if is_word(token, b"flow") {
         return Some(FirstWord::Flow);
     }
@@ -181,6 +185,7 @@ fn line_behind(
         FirstWord::Air => forms::air_line(alloc, tokens),
         FirstWord::Show => forms::show_line(alloc, tokens),
         FirstWord::Links => forms::links_line(alloc, tokens),
+        FirstWord::Table => forms::table_line(alloc, tokens),
         FirstWord::Flow => forms::flow_line(alloc, tokens),
     }
 }

@@ -83,7 +83,9 @@ fn lines_of_nodes_are_read(rt: HostRuntime) -> Result<(), Fail> {
     let restart = Line::Restart { node: 10 };
     is_read_as(&rt, rt.alloc(), b"restart 10", restart, &[old_node(9, 10)])?;
     let links = Line::Links { node: 2 };
-    is_read_as(&rt, rt.alloc(), b"links 2", links, &[old_node(7, 2)])
+    is_read_as(&rt, rt.alloc(), b"links 2", links, &[old_node(7, 2)])?;
+    let table = Line::Table { node: 2 };
+    is_read_as(&rt, rt.alloc(), b"table 2", table, &[old_node(7, 2)])
 }
 
 #[test]

@@ -6,7 +6,7 @@ use Rattle.tipc_script.specs.declared.lines.NodeToken.{NodeToken}
 use Rattle.tipc_script.specs.declared.faults.LineWhy.TheVariants as why
 use Rattle.tipc_script.specs.Splitting.{Left, whole, first_token, behind}
 use Rattle.tipc_script.specs.Kinds.{Kind, OldNode, BearerNumber, is_remark}
-use Rattle.tipc_script.specs.Grammar.{Row, rows, frame_rows, service_rows, traffic_rows, row_of, asked, asked_by, nodes_of, nodes_by, nodes_in, row_nodes, send_kinds, first_number, node_row, mend_row, cut_row, tick_row, restart_row, link_row, mark_row, socket_row, close_row, publish_row, withdraw_row, send_row, repeat_row, arrive_row, receive_row, drain_row, burst_row, pump_row, settle_row, air_row, show_row, links_row, flow_row}
+use Rattle.tipc_script.specs.Grammar.{Row, rows, frame_rows, service_rows, traffic_rows, row_of, asked, asked_by, nodes_of, nodes_by, nodes_in, row_nodes, send_kinds, first_number, node_row, mend_row, cut_row, tick_row, restart_row, link_row, mark_row, socket_row, close_row, publish_row, withdraw_row, send_row, repeat_row, arrive_row, receive_row, drain_row, burst_row, pump_row, settle_row, air_row, show_row, links_row, table_row, flow_row}
 use Rattle.tipc_script.specs.Spelling.{Asks}
 use Rattle.tipc_types.specs.declared.message_forms.Importance.{Importance}
 use Rattle.tipc_types.specs.declared.services.Scope.{Scope}
@@ -16,7 +16,7 @@ use Rattle.tipc_script.proofs.Found.{asks_found}
 use Rattle.tipc_script.specs.declared.lines.Destination.{Destination}
 use Rattle.tipc_script.specs.declared.lines.Destination.TheVariants as destination
 use Rattle.tipc_script.specs.declared.lines.Line.{Line}
-use Rattle.tipc_script.specs.declared.lines.Line.TheVariants.{Nothing, Node, Mend, Cut, Tick, Restart, Link, Mark, Socket, Close, Publish, Withdraw, Send, Repeat, Arrive, Receive, Drain, Pump, Burst, Settle, Air, Show, Links, Flow}
+use Rattle.tipc_script.specs.declared.lines.Line.TheVariants.{Nothing, Node, Mend, Cut, Tick, Restart, Link, Mark, Socket, Close, Publish, Withdraw, Send, Repeat, Arrive, Receive, Drain, Pump, Burst, Settle, Air, Show, Links, Table, Flow}
 use Rattle.tipc_world.specs.declared.events.WorldEvent.{WorldEvent}
 use Rattle.tipc_world.specs.Calls.{CanHappen}
 use Rattle.tipc_world.specs.States.{WorldState, is_there}
@@ -120,6 +120,9 @@ show_can there text left asks e = tt
 links_can : CanDo links_row
 links_can there text left asks e = ((old_in_place there [] left e).0, asks.0)
 
+table_can : CanDo table_row
+table_can there text left asks e = ((old_in_place there [] left e).0, asks.0)
+
 flow_can : CanDo flow_row
 flow_can there text left asks e =
     let from = old_in_place there (OldNode ∷ []) left e in
@@ -127,7 +130,7 @@ flow_can there text left asks e =
     (from.0, to.0, asks.0.0, asks.0.1)
 
 frames_can : OfRows CanDo frame_rows
-frames_can = (arrive_can, (pump_can, (settle_can, (air_can, (show_can, (links_can, (flow_can, tt)))))))
+frames_can = (arrive_can, (pump_can, (settle_can, (air_can, (show_can, (links_can, (table_can, (flow_can, tt))))))))
 
 traffic_can : OfRows CanDo traffic_rows
 traffic_can = (send_can, (repeat_can, (receive_can, (drain_can, (burst_can, frames_can)))))
@@ -206,6 +209,7 @@ can_happen w notes (Show bearer frame) event can e = absurd cc
 can_happen w notes (Pump bearer) event can e = absurd cc
 can_happen w notes (Settle rounds) event can e = absurd cc
 can_happen w notes (Links node) event can e = absurd cc
+can_happen w notes (Table node) event can e = absurd cc
 can_happen w notes (Flow from to) event can e = absurd cc
 
 -- a line that is an event makes no node

@@ -12,6 +12,7 @@ use Rattle.tipc_world.specs.States.{WorldState, WorldView, history_at, no_nodes}
 use Rattle.tipc_world.proofs.KeptWorlds.{start_watched}
 use Rattle.tipc_world.proofs.Promise.{is_good}
 use Rattle.tipc_world.proofs.Quiet.{start_orderly}
+use Rattle.tipc_world.proofs.Sharing.{start_shared}
 use Rattle.tipc_world.proofs.SoundWorlds.{start_sound}
 use Rattle.tipc_sim.specs.Courses.{Continues}
 
@@ -34,7 +35,7 @@ pub empty_good : {P : Type 0} (gives : P → ℕ → ℕ → ℕ → Type 0) (w 
 empty_good {P} gives w none first =
     let empty : WorldView P = record { state = no_nodes; chooser = w.chooser } in
     let same : empty ≡ w = ap (λ s. let v : WorldView P = record { state = s; chooser = w.chooser } in v) (sym none) in
-    subst (IsGood gives) same (is_good gives empty start_sound start_watched (start_orderly gives w.chooser first))
+    subst (IsGood gives) same (is_good gives empty start_sound start_watched (start_orderly gives w.chooser first) start_shared)
 
 pub grows_same : (w : WorldState) → Grows w w
 grows_same w = record { air = prefix_same w.air; histories = λ n. prefix_same (history_at w.members n) }

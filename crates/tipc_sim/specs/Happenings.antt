@@ -8,7 +8,7 @@ use Rattle.tipc_types.specs.declared.node_calls.Answer.TheVariants as answer
 use Rattle.tipc_script.specs.declared.lines.Destination.{Destination}
 use Rattle.tipc_script.specs.declared.lines.Destination.TheVariants as destination
 use Rattle.tipc_script.specs.declared.lines.Line.{Line}
-use Rattle.tipc_script.specs.declared.lines.Line.TheVariants.{Node, Mend, Cut, Tick, Restart, Link, Mark, Socket, Close, Publish, Withdraw, Send, Repeat, Arrive, Receive, Drain, Pump, Burst, Settle, Air, Show, Links, Flow}
+use Rattle.tipc_script.specs.declared.lines.Line.TheVariants.{Node, Mend, Cut, Tick, Restart, Link, Mark, Socket, Close, Publish, Withdraw, Send, Repeat, Arrive, Receive, Drain, Pump, Burst, Settle, Air, Show, Links, Table, Flow}
 use Rattle.tipc_script.specs.Grammar.{asked}
 use Rattle.tipc_report.specs.Text.{told_line}
 use Rattle.tipc_report.specs.declared.told.Told.{Told}
@@ -21,7 +21,7 @@ use Rattle.tipc_world.specs.declared.events.Limit.TheVariants as limit
 use Rattle.tipc_world.specs.declared.events.WorldEvent.{WorldEvent}
 use Rattle.tipc_world.specs.declared.events.WorldEvent.TheVariants as event
 use Rattle.tipc_world.specs.Growth.{Grows}
-use Rattle.tipc_world.specs.Readers.{links_of}
+use Rattle.tipc_world.specs.Readers.{links_of, table_of}
 use Rattle.tipc_world.specs.States.{WorldState, counted, flow_of, is_there}
 use Rattle.tipc_world.specs.Steps.{IsJoined}
 use Rattle.tipc_sim.specs.Courses.{Course, Once}
@@ -112,6 +112,7 @@ abbrev pub told_of : Line → NotesState → WorldState → Told
 told_of (Air bearer) notes w = told.Answer (answer.Air (length w.air - notes.base))
 told_of (Show bearer frame) notes w = shown (slice_get w.air (counted (notes.base + frame)))
 told_of (Links node) notes w = told.Answer (answer.Links (links_of w.members node))
+told_of (Table node) notes w = told.Table (table_of w.members node)
 told_of (Flow from to) notes w = told.Answer (flow_of w.members from to)
 told_of (Publish node port kind lower upper scope key) notes w = told.Answer answer.BadRange
 told_of other notes w = told.Nothing

@@ -4,7 +4,7 @@ use Rattle.std.specs.List.{list_any}
 use Rattle.std.specs.Option.{option_or, option_map}
 use Rattle.tipc_script.specs.declared.faults.LineWhy.TheVariants as why
 use Rattle.tipc_script.specs.declared.lines.Line.{Line}
-use Rattle.tipc_script.specs.declared.lines.Line.TheVariants.{Nothing, Node, Mend, Cut, Tick, Restart, Link, Mark, Socket, Close, Publish, Withdraw, Send, Repeat, Arrive, Receive, Drain, Pump, Burst, Settle, Air, Show, Links, Flow}
+use Rattle.tipc_script.specs.declared.lines.Line.TheVariants.{Nothing, Node, Mend, Cut, Tick, Restart, Link, Mark, Socket, Close, Publish, Withdraw, Send, Repeat, Arrive, Receive, Drain, Pump, Burst, Settle, Air, Show, Links, Table, Flow}
 use Rattle.tipc_script.specs.declared.lines.NodeToken.{NodeToken}
 use Rattle.tipc_script.specs.Grammar.{asked, nodes_of}
 use Rattle.tipc_script.specs.Faults.{Fault, fault_of}
@@ -68,4 +68,5 @@ CanBeDone there (Settle rounds) = Unit {0}
 CanBeDone there (Air bearer) = Unit {0}
 CanBeDone there (Show bearer frame) = Unit {0}
 CanBeDone there (Links node) = (there node ≡ true) × IsNode node
+CanBeDone there (Table node) = (there node ≡ true) × IsNode node
 CanBeDone there (Flow from to) = (there from ≡ true) × (there to ≡ true) × IsNode from × IsNode to

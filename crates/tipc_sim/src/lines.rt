@@ -279,6 +279,7 @@ fn tell<P: Pick>(
         }
         Line::Show { bearer: _, frame } => shown(*frame, world, notes)?,
         Line::Links { node } => Told::Answer(Answer::Links(world.links(alloc, *node)?)),
+        Line::Table { node } => Told::Table(world.table(alloc, *node)?),
         Line::Flow { from, to } => Told::Answer(world.flow(*from, *to)),
         Line::Publish { .. } => Told::Answer(Answer::BadRange),
         _ => Told::Nothing,

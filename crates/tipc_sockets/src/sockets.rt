@@ -379,7 +379,8 @@ impl Sockets {
     ///
     /// # Errors
     ///
-    /// `NoMemory` where memory runs out. Nothing is changed then, but the message is gone.
+    /// `NoMemory` where memory runs out for a message that is to wait. Nothing is changed then, but the message is
+    /// gone.
     pub fn dispatch(
         &mut self,
         alloc: Global,
@@ -390,6 +391,8 @@ impl Sockets {
         ensures fate { IfOk result (λ f. f ≡ fate self.old arrived waiting m) }
         ensures ok { IfOk result (λ f. self.new ≡ after_fate self.old m f) }
         ensures err { OnErr result (self.new ≡ self.old) }
+        ensures not_dropped { OnErr result (fate self.old arrived waiting m ≡ Fate.Dropped → ⊥) }
+        ensures not_returned { (r : Message) → OnErr result (fate self.old arrived waiting m ≡ Fate.Returned r → ⊥) }
     {
         let Message::Payload {
             form,
@@ -458,6 +461,13 @@ impl Sockets {
     {
         let at = port_of(&m);
         put(&mut self.queues, at, m);
+    }
+
+    /// All publications that are known, in order of node, port and key.
+    pub fn names(&self) -> &[Publication]
+        ensures { result.now ≡ self.now.names }
+    {
+        self.names.as_slice()
     }
 
     /// The same sockets, with the same names, publications, queues, and number for the next port.

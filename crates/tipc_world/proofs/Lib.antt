@@ -42,4 +42,7 @@ pub mod Quiet
 pub mod Recording
 pub mod Orderly
 pub mod Entered
+pub mod Shown
+pub mod Sharing
+pub mod Agreed
 pub mod Promise

@@ -7,8 +7,7 @@ use Rattle.tipc_types.specs.declared.message_forms.Message.TheVariants.{Items, P
 use Rattle.tipc_header.specs.Grammar.{Fits}
 use Rattle.tipc_header.specs.Spelling.{Fields, spelling}
 use Rattle.tipc_header.proofs.RoundTrip.{one_packet}
-use Rattle.tipc_message.specs.Wire.{message_of, packet_of, payload_of, payload_packet}
-use Rattle.tipc_message.proofs.WireLaws.{message_of-packet_of}
+use Rattle.tipc_message.specs.Wire.{items_packet, message_of, packet_of, payload_of, payload_packet}
 use Rattle.tipc_pair.specs.Partners.{IsMessage}
 use Rattle.tipc_node.specs.Messages.{IsSendable, bytes_of, spelled}
 use Rattle.tipc_world.proofs.Outcomes.{some_is}
@@ -23,9 +22,9 @@ pub same_bytes : (own : ℕ) (m m' : Message) → IsSendable own m → IsSendabl
 same_bytes own m m' h h' same =
     let spellings : spelling h.packet ≡ spelling h'.packet = sym (bytes_are own m h.packet h.packet_is) ∙ same ∙ bytes_are own m' h'.packet h'.packet_is in
     let packets = one_packet h.packet h'.packet h.fits h'.fits spellings in
-    some_is m m' (sym (message_of-packet_of own m h.packet h.payload h.packet_is) ∙ ap message_of packets ∙ message_of-packet_of own m' h'.packet h'.payload h'.packet_is)
+    some_is m m' (sym h.read ∙ ap message_of packets ∙ h'.read)
 
--- the packet of a user's message is one of the node that sends it
+-- the packet of a message is one of the node that sends it
 pub message_is : (own : ℕ) (m : Message) → IsSendable own m → IsMessage own (bytes_of own m)
 unfolding packet_of
 message_is own (Payload importance form from to kind lower upper code droppable body) h =
@@ -39,7 +38,16 @@ message_is own (Payload importance form from to kind lower upper code droppable 
       waits = refl;
       inside = refl;
     }
-message_is own (Items withdrawal items) h = absurd h.payload
+message_is own (Items withdrawal items) h =
+    let m = Items withdrawal items in
+    let same : items_packet own withdrawal items ≡ h.packet = some_is _ h.packet h.packet_is in
+    record {
+      packet = items_packet own withdrawal items;
+      spelled = bytes_are own m h.packet h.packet_is ∙ ap spelling (sym same);
+      fits = subst Fits (sym same) h.fits;
+      waits = refl;
+      inside = refl;
+    }
 
 pub messages_are : (own : ℕ) (ms : List Message) → All (IsSendable own) ms → All (IsMessage own) (map (bytes_of own) ms)
 messages_are own [] sendable = All-nil (IsMessage own)

@@ -12,10 +12,12 @@ use Rattle.tipc_world.specs.declared.air.Sent.{Sent}
 use Rattle.tipc_world.specs.Answered.{AreOrderly}
 use Rattle.tipc_world.specs.Good.{IsGood}
 use Rattle.tipc_node.specs.Messages.{IsSendable, bytes_of}
+use Rattle.tipc_world.specs.Shared.{AreShared}
 use Rattle.tipc_world.specs.Sound.{IsSound}
 use Rattle.tipc_world.specs.States.{MemberState, WorldView, accepted_at, delivered_at}
 use Rattle.tipc_world.specs.Views.{sight_at}
 use Rattle.tipc_world.specs.Watched.{AreWatched}
+use Rattle.tipc_world.proofs.Agreed.{tables_agree}
 use Rattle.tipc_world.proofs.Entered.{both_entered}
 use Rattle.tipc_world.proofs.Messages.{same_bytes}
 use Rattle.tipc_world.proofs.Truth.{frame_is_true}
@@ -64,12 +66,13 @@ promise members air a b own theirs Zero h = zero_promise members air a b own the
 promise members air a b own theirs One h = other_promise members air a b own theirs One h (λ same. (let wrong : ⊥ = cc in wrong))
 promise members air a b own theirs Broadcast h = other_promise members air a b own theirs Broadcast h (λ same. (let wrong : ⊥ = cc in wrong))
 
-pub is_good : {P : Type 0} (gives : P → ℕ → ℕ → ℕ → Type 0) (w : WorldView P) → IsSound w.state.members w.state.air → AreWatched w.state.members w.state.air → AreOrderly gives w.state.members w.state.stamps w.chooser → IsGood gives w
-is_good gives w h all orderly = record {
+pub is_good : {P : Type 0} (gives : P → ℕ → ℕ → ℕ → Type 0) (w : WorldView P) → IsSound w.state.members w.state.air → AreWatched w.state.members w.state.air → AreOrderly gives w.state.members w.state.stamps w.chooser → AreShared w.state.members → IsGood gives w
+is_good gives w h all orderly shared = record {
   prefix = λ a b a_number b_number flow. promise w.state.members w.state.air a b b_number a_number flow h;
   entered = λ a b a_number b_number flow some. both_entered w.state.members w.state.air a b a_number b_number flow (λ n m there. (all n m there).lawful) (promise w.state.members w.state.air a b b_number a_number flow h) some;
   spelled = λ n m there k journal is i s at place peer numbers flow message by stands. ((((all n m there).lawful k journal is).steps_are i s at).entries place (entry.Delivered peer numbers flow message by) stands).1;
   truth = frame_is_true w.state.members w.state.air h;
   lawful = λ n m there. (all n m there).lawful;
+  tables = tables_agree w.state.members w.state.air h shared (λ a b own theirs. promise w.state.members w.state.air a b own theirs Zero h);
   orderly = orderly;
 }

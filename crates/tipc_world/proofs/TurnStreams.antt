@@ -16,7 +16,6 @@ use Rattle.tipc_header.specs.Reading.{fields_at}
 use Rattle.tipc_header.specs.Spelling.{spelling}
 use Rattle.tipc_header.proofs.Again.{again}
 use Rattle.tipc_message.specs.Wire.{message_of}
-use Rattle.tipc_message.proofs.WireLaws.{message_of-packet_of}
 use Rattle.tipc_journal.specs.declared.entries.Entry.{Entry}
 use Rattle.tipc_journal.specs.declared.entries.Entry.TheVariants as entry
 use Rattle.tipc_journal.specs.Steps.{NodeStep, step_entries}
@@ -72,7 +71,7 @@ record AreGiven (word : ℕ) (opened : List Opened) : Type 0 where
 pub message_is_in : (word : ℕ) (m : Message) (packet : List ℕ) → IsSendable word m → bytes_of word m ≡ packet → message_in packet ≡ Some m
 message_is_in word m packet h is =
     let bytes : packet ≡ spelling h.packet = sym is ∙ bytes_are word m h.packet h.packet_is in
-    ap (λ (b : List ℕ). message_of (fields_at b)) bytes ∙ ap message_of (again h.packet h.fits) ∙ message_of-packet_of word m h.packet h.payload h.packet_is
+    ap (λ (b : List ℕ). message_of (fields_at b)) bytes ∙ ap message_of (again h.packet h.fits) ∙ h.read
 
 one_more : (word : ℕ) (m : Message) (ms : List Message) → IsSendable word m → Each (IsSendable word) ms → Each (IsSendable word) (m ∷ ms)
 one_more word m ms h hs = Each-append (IsSendable word) (m ∷ []) ms (Each-one (IsSendable word) m h) hs

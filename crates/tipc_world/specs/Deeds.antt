@@ -10,6 +10,8 @@ use Rattle.tipc_outside.specs.Frames.{Adds, Out}
 use Rattle.tipc_node.specs.Arrivals.{Arrives}
 use Rattle.tipc_node.specs.Calls.{CallTurn, Performs}
 use Rattle.tipc_node.specs.Nodes.{known_frames}
+use Rattle.tipc_node.specs.Sharing.{SharesNames}
+use Rattle.tipc_node.specs.Telling.{IsTold}
 use Rattle.tipc_node.specs.Sockets.{kept_answer}
 use Rattle.tipc_world.specs.declared.events.WorldEvent.{WorldEvent}
 use Rattle.tipc_world.specs.declared.events.WorldEvent.TheVariants.{Know, Restart, Call, Arrive}
@@ -37,7 +39,7 @@ pub record Meets (stamp bearer place : ℕ) (bytes : List ℕ) (m m' : MemberSta
 -- the frame.
 abbrev pub Does : ℕ → WorldEvent → List ℕ → MemberState → MemberState → List Outgoing → Answer → Type 0
 Does stamp (Know node peer) bytes m m' frames answered = (m' ≡ known_member m peer)
-    × (frames ≡ known_frames m.node peer) × (answered ≡ answer.Done) × (peer < length m.node.neighbours)
+    × (frames ≡ known_frames m.node peer) × (answered ≡ answer.Done) × (peer < length m.node.neighbours) × IsTold m'.node × SharesNames m'.node
 Does stamp (Restart node) bytes m m' frames answered = IsRestarted m m' × (frames ≡ []) × (answered ≡ answer.Done)
 Does stamp (Call node call) bytes m m' frames answered = Makes stamp call m m' frames answered
 Does stamp (Arrive node bearer place) bytes m m' frames answered = Meets stamp bearer place bytes m m' frames answered

@@ -15,6 +15,7 @@ use Rattle.tipc_world.specs.Lawful.{AreLawful, HasBegun}
 use Rattle.tipc_node.specs.Messages.{bytes_of}
 use Rattle.tipc_world.specs.Answered.{AreOrderly}
 use Rattle.tipc_world.specs.Spelled.{AreSpelled}
+use Rattle.tipc_world.specs.Tables.{AreTables}
 use Rattle.tipc_world.specs.States.{MemberState, WorldView, accepted_at, delivered_at, history_at}
 
 -- the packets, each as its sender sends it, of the messages that node a accepted for node b in a contact, a's number first, and of those
@@ -62,6 +63,8 @@ pub record IsGood {P : Type 0} (gives : P → ℕ → ℕ → ℕ → Type 0) (w
   -- For each node and each of its boots: each link that went down shows its cause, each contact that ended stands where no link is up, and
   -- messages are accepted and delivered in the contact in which the node is.
   pub lawful : (n : ℕ) (m : MemberState) → slice_index_or w.state.members n None ≡ Some m → AreLawful w.state.air m
+  -- Nodes whose name items are all delivered hold one another's live publications that are seen in the cluster.
+  pub tables : AreTables w.state.members
   -- For each node and each of its boots: each call has a licensed answer, and each message its fate; calls are counted and stamped; and
   -- each message by name went to the match that the pick gives for its turn, which is how many were sent so before, at all nodes.
   pub orderly : AreOrderly gives w.state.members w.state.stamps w.chooser

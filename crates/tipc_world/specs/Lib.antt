@@ -14,8 +14,10 @@ pub mod Spelled
 pub mod Lawful
 pub mod Choices
 pub mod Answered
+pub mod Tables
 pub mod Good
 pub mod Views
 pub mod Sound
 pub mod Watched
+pub mod Shared
 pub mod Readers

@@ -9,6 +9,8 @@ use Rattle.tipc_link.specs.Sessions.{SessionEnd}
 use Rattle.tipc_link_fsm.specs.Table.{is_up}
 use Rattle.tipc_sockets.specs.SocketTables.{no_sockets}
 use Rattle.tipc_node.specs.Nodes.{NodeState, known_node, neighbour_of}
+use Rattle.tipc_node.specs.Sharing.{SharesNames}
+use Rattle.tipc_node.specs.Telling.{IsTold}
 use Rattle.tipc_node.specs.Turns.{link_in}
 use Rattle.tipc_world.specs.Readers.{node_number}
 use Rattle.tipc_world.specs.States.{MemberState, count_in, count_of, count_with, same_session}
@@ -70,7 +72,7 @@ abbrev pub known_member : MemberState → ℕ → MemberState
 known_member m peer =
     record { node = known_node m.node peer; past = m.past; calls = m.calls; arrivals = m.arrivals; counts = m.counts }
 
--- a node at the beginning of a boot: it knows nobody, and has no sockets and no history
+-- a node at the beginning of a boot: it knows nobody, and has no sockets and no history, which is what its journal tells
 pub record IsFresh (n : NodeState) (own boot : ℕ) : Type 0 where
   pub own_is : n.own ≡ own
   pub boot_is : n.boot ≡ boot
@@ -78,6 +80,8 @@ pub record IsFresh (n : NodeState) (own boot : ℕ) : Type 0 where
   pub alone : (peer : ℕ) → neighbour_of n peer ≡ None
   pub sockets : n.sockets ≡ no_sockets own boot
   pub no_history : n.journal ≡ []
+  pub told : IsTold n
+  pub shares : SharesNames n
 
 -- A node was restarted: its journal is kept, and it begins its next boot. How many packets it ever numbered stays
 -- known.

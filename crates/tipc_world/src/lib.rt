@@ -6,6 +6,7 @@ mod events;
 mod flying;
 mod members;
 mod readers;
+mod tables;
 mod worlds;
 
 pub use air::{Arrived, Sent};

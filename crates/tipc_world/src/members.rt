@@ -3,6 +3,7 @@
 ghost use Rattle.std.specs.Prelude.{◌≡◌, ◌+◌, ◌<◌, ◌≤◌, [], ℕ, true, false, None, length, map, option_and_then, option_map, IfErr, IfOk, OnErr, OnOk};
 ghost use Rattle.indexmap.specs.IndexMap.{spare};
 ghost use Rattle.tipc_header.specs.Reading.{word_at};
+ghost use Rattle.tipc_journal.specs.Matches.{names};
 ghost use Rattle.tipc_journal.specs.Streams.{accepted, delivered};
 ghost use Rattle.tipc_link.specs.Links.{numbered_in};
 ghost use Rattle.tipc_pair.specs.Pairs.{contact_of};
@@ -27,7 +28,7 @@ use tipc_journal::Journal;
 use tipc_node::Node;
 use tipc_outside::Outbox;
 use tipc_pick::{Chooser, Pick};
-use tipc_types::{Addr, Answer, By, EventNote, Flow, LinkState, NoMemory};
+use tipc_types::{Addr, Answer, By, EventNote, Flow, LinkState, NoMemory, Publication};
 
 /// How many packets were numbered in sessions that are over, by the peer's number and the node's own epoch.
 type Counts = IndexMap<(u8, u64), u64>;
@@ -292,6 +293,13 @@ impl Member {
         ensures { result ≡ load_of self.now.node }
     {
         self.node.load()
+    }
+
+    /// All publications that it knows, in order of node, port and key.
+    pub fn names(&self) -> &[Publication]
+        ensures { result.now ≡ names self.now.node.journal }
+    {
+        self.node.names()
     }
 
     /// Comes to know a peer.

@@ -1,18 +1,19 @@
-//! What is told of a world. None of these takes memory but `links`.
+//! What is told of a world. None of these takes memory but `links` and `table`.
 
 ghost use Rattle.std.specs.Prelude.{◌≡◌, ◌≤◌, ◌+◌, ◌++◌, [], ℕ, Some, None, length, is_some, slice_get, slice_index_or, option_map, IfOk, IfSome, OnErr, OnOk};
 ghost use Rattle.std.specs.Option.{option_copied};
 ghost use Rattle.tipc_link_fsm.specs.Table.{is_up};
 ghost use Rattle.tipc_types.specs.declared.message_forms.Flow.TheVariants.{Zero};
-ghost use Rattle.tipc_world.specs.Readers.{link_shown, links_of, load_of, node_number, receiver_at, receiver_number, sender_at, unacked_in, waiting_in};
+ghost use Rattle.tipc_world.specs.Readers.{link_shown, links_of, load_of, node_number, receiver_at, receiver_number, sender_at, table_of, unacked_in, waiting_in};
 ghost use Rattle.tipc_world.specs.States.{contact_at, counted, accepted_at, delivered_at, flow_of, is_mended_at, link_at, is_there, is_up_at, knows};
 
 use crate::air::{Arrived, Sent};
 use crate::members::Member;
+use crate::tables::told_of;
 use crate::worlds::World;
 use std::alloc::Global;
 use tipc_pick::Pick;
-use tipc_types::{Addr, Answer, LinkState, NoMemory, PeerLinks, Sequence, To};
+use tipc_types::{Addr, Answer, LinkState, List, NoMemory, PeerLinks, Publication, Sequence, To};
 
 /// The number of the node of an address, where it is one of the 32.
 #[tactic(auto, unfolding(crate::specs::Readers::node_number))]
@@ -194,6 +195,17 @@ fn links_at(members: &[Option<Member>], alloc: Global, n: u8) -> Result<Vec<Peer
     Ok(links)
 }
 
+/// The publications that node `n` knows and that are seen in the cluster.
+#[tactic(auto, using(crate::proofs::Shown::none_known), unfolding(crate::specs::Readers::table_of, crate::specs::States::member_at, crate::specs::Tables::journal_now))]
+fn table_at(members: &[Option<Member>], alloc: Global, n: u8) -> Result<Vec<Publication>, NoMemory>
+    ensures { IfOk result (λ ps. ps.items ≡ table_of members.now n) }
+{
+    match members.get(n as usize) {
+        Some(Some(member)) => told_of(alloc, member.names()),
+        _ => Ok(Vec::new(alloc)),
+    }
+}
+
 impl<P: Pick> World<P> {
     /// Whether a node is there.
     pub fn has_node(&self, n: u8) -> bool
@@ -287,5 +299,12 @@ impl<P: Pick> World<P> {
         ensures { IfOk result (λ links. links ≡ links_of self.now.state.members n) }
     {
         Ok(Sequence::from_vec(links_at(&self.members, alloc, n)?))
+    }
+
+    /// The publications of zone and cluster scope that a node knows, in order of type, bounds, node, port and key.
+    pub fn table(&self, alloc: Global, n: u8) -> Result<List, NoMemory>
+        ensures { IfOk result (λ ps. ps ≡ table_of self.now.state.members n) }
+    {
+        Ok(List::from_vec(table_at(&self.members, alloc, n)?))
     }
 }

@@ -49,6 +49,7 @@ impl<P: Pick> Model for World<P> {
     ghost use Rattle.tipc_world.specs.Answered.{AreOrderly};
     ghost use Rattle.tipc_world.specs.States.{WorldView};
     ghost use Rattle.tipc_world.specs.Events.{IsSteady};
+    ghost use Rattle.tipc_world.specs.Shared.{AreShared};
     ghost use Rattle.tipc_world.specs.Sound.{IsSound};
     ghost use Rattle.tipc_world.specs.Watched.{AreWatched};
 
@@ -66,7 +67,8 @@ impl<P: Pick> Model for World<P> {
     } };
 
     ghost invariant = { λ w. IsSound w.members.items w.air.items × IsSteady w.members.items w.events w.stamps
-        × AreWatched w.members.items w.air.items × AreOrderly P.gives w.members.items w.stamps w.chooser };
+        × AreWatched w.members.items w.air.items × AreOrderly P.gives w.members.items w.stamps w.chooser
+        × AreShared w.members.items };
 }
 
 /// Makes room for the node of every number, without changing any look-up.

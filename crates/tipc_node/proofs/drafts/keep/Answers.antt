@@ -1,4 +1,4 @@
-use Rattle.std.proofs.Common.{◌≡◌, Some, None, Option, ap, ◌∙◌, sym}
+use Rattle.std.proofs.Common.{Some, None, Option, ap, ◌∙◌, sym}
 use Rattle.std.specs.Prelude.{is_some}
 use Rattle.std.proofs.lemmas.List.{get_or_default}
 use Rattle.tipc_node.specs.declared.neighbours.Neighbour.{Neighbour}

@@ -6,7 +6,7 @@ pub cut-requires-clause-within : goal.cut-requires-clause-within
 cut-requires-clause-within c = spelled_most c.args.own.word c.args.message.now c.in_ok-packet.packet c.as_slice.result.now c.in_ok-packet.ensures.spelled c.as_slice.ensures
 
 pub returns-then-len-ge-LEAST_CUT-clause-sendable : goal.returns-then-len-ge-LEAST_CUT-clause-sendable
-returns-then-len-ge-LEAST_CUT-clause-sendable c = many_sendable c.args.own.word c.args.message.now c.in_ok-packet.packet c.cut.result c.requires c.in_ok-packet.ensures.spelled
+returns-then-len-ge-LEAST_CUT-clause-sendable c = many_sendable c.args.own.word c.args.message.now c.in_ok-packet.packet c.cut.result c.in_ok-packet.ensures.spelled
 
 pub returns-then-len-ge-LEAST_CUT-clause-value : goal.returns-then-len-ge-LEAST_CUT-clause-value
 returns-then-len-ge-LEAST_CUT-clause-value c =
@@ -18,7 +18,7 @@ pub returns-then-len-ge-LEAST_CUT-clause-waiting : goal.returns-then-len-ge-LEAS
 returns-then-len-ge-LEAST_CUT-clause-waiting c = many_wait c.args.own.word c.args.message.now c.in_ok-packet.packet c.as_slice.result.now c.cut.result c.in_ok-packet.ensures.spelled c.as_slice.ensures c.cut.ensures.packets
 
 pub returns-clause-sendable : goal.returns-clause-sendable
-returns-clause-sendable c = sendable_by c.args.own.word c.args.message.now c.in_ok-packet.packet c.requires c.in_ok-packet.ensures.spelled
+returns-clause-sendable c = sendable_by c.args.own.word c.args.message.now c.in_ok-packet.packet c.in_ok-packet.ensures.spelled
 
 pub returns-clause-value : goal.returns-clause-value
 returns-clause-value c =

@@ -3,7 +3,7 @@ use Rattle.tipc_outside.specs.Frames.{Adds}
 use Rattle.tipc_header.specs.Spelling.{view}
 use Rattle.tipc_pair.specs.Pairs.{Met}
 use Rattle.tipc_pair.specs.Partners.{PairState}
-use Rattle.tipc_node.specs.Neighbours.{heard_neighbour, in_step_after, is_given, is_state, met_by, neighbour, stays_in_step}
+use Rattle.tipc_node.specs.Neighbours.{is_given, is_state, met_by, stays_in_step}
 use Rattle.tipc_node.proofs.Hearings.{heard_is, taken_in_step, told_met}
 use Rattle.tipc_node.proofs.neighbours.Neighbour.take.Goals as goal
 

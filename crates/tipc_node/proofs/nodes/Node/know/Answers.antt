@@ -1,8 +1,10 @@
 use Rattle.std.proofs.Common.{◌∙◌, ap, sym, subst}
 use Rattle.tipc_node.specs.Nodes.{NodeState, neighbour_of}
+use Rattle.tipc_node.specs.Sharing.{SharesNames}
 use Rattle.tipc_node.specs.Telling.{IsTold}
 use Rattle.tipc_node.proofs.Keeping.{Held, held_of, kept_of}
 use Rattle.tipc_node.proofs.Kept.{known_kept}
+use Rattle.tipc_node.proofs.SharedNames.{known_shares}
 use Rattle.tipc_node.proofs.Told.{known_told}
 use Rattle.tipc_node.proofs.nodes.Node.know.Goals as goal
 
@@ -16,3 +18,8 @@ pub returns-clause-told : goal.returns-clause-told
 returns-clause-told c =
     let alone = ap (λ (x : NodeState). neighbour_of x c.args.peer) c.self.view_is ∙ c.requires.alone in
     subst IsTold (sym c.know.ensures.after) (known_told c.self.inside.core c.args.peer c.requires.peer.0 alone c.self.invariant.0)
+
+pub returns-clause-shares : goal.returns-clause-shares
+returns-clause-shares c =
+    let alone = ap (λ (x : NodeState). neighbour_of x c.args.peer) c.self.view_is ∙ c.requires.alone in
+    subst SharesNames (sym c.know.ensures.after) (known_shares c.self.inside.core c.args.peer alone c.self.invariant.3)

@@ -2,6 +2,7 @@ use Rattle.std.proofs.Common.{◌∙◌, ap, sym}
 use Rattle.tipc_sockets.specs.SocketTables.{no_sockets}
 use Rattle.tipc_node.proofs.Keeping.{held_of}
 use Rattle.tipc_node.proofs.Kept.{new_kept}
+use Rattle.tipc_node.proofs.SharedNames.{new_shares}
 use Rattle.tipc_node.proofs.Told.{new_told}
 use Rattle.tipc_node.proofs.nodes.Node.new.Goals as goal
 
@@ -18,3 +19,6 @@ returns-clause-told c =
     let made = c.in_ok-core.ensures in
     let none = made.empty.0 ∙ ap (λ w. no_sockets w c.args.boot) (sym made.own.0) ∙ ap (no_sockets n.own) (sym made.own.1) in
     new_told n none c.sound.ensures.sockets made.empty.1 made.alone
+
+pub returns-clause-shares : goal.returns-clause-shares
+returns-clause-shares c = new_shares c.in_ok-core.core c.in_ok-core.ensures.empty.1

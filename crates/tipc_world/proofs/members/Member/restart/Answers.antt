@@ -18,6 +18,8 @@ returns-clause-ok c =
       alone = c.in_ok-next.ensures.alone;
       sockets = c.in_ok-next.ensures.empty.0 ∙ ap (λ own. no_sockets own (c.boot.result + 1)) c.own.ensures ∙ ap (λ b. no_sockets m.node.own (b + 1)) c.boot.ensures;
       no_history = c.in_ok-next.ensures.empty.1;
+      told = c.in_ok-next.ensures.told;
+      shares = c.in_ok-next.ensures.shares;
     }) in
     let past : map (λ j. j.entries) c.push_reserved.new.self.items ≡ m.past ++ m.node.journal ∷ [] =
     ap (map (λ j. j.entries)) (c.push_reserved.ensures.items ∙ ap (λ js. js ++ c.into_journal.result ∷ []) c.in_ok-reserve.ensures.items) ∙ map-append (λ j. j.entries) w.past.items (c.into_journal.result ∷ [])

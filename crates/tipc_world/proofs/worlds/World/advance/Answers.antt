@@ -4,6 +4,7 @@ use Rattle.tipc_world.specs.Answered.{AreOrderly}
 use Rattle.tipc_world.specs.Calls.{CanHappen}
 use Rattle.tipc_world.specs.Limits.{IsAnswered, PassesFrames}
 use Rattle.tipc_world.specs.Events.{IsSteady}
+use Rattle.tipc_world.specs.Shared.{AreShared}
 use Rattle.tipc_world.specs.Sound.{IsSound}
 use Rattle.tipc_world.specs.Watched.{AreWatched}
 use Rattle.tipc_world.specs.States.{WorldState, WorldView}
@@ -11,6 +12,7 @@ use Rattle.tipc_world.proofs.Advancing.{answered_of, passes_of, world_with, Coun
 use Rattle.tipc_world.proofs.Boots.{next_boots, settled_of, steady_after}
 use Rattle.tipc_world.proofs.KeptWorlds.{becomes_watched}
 use Rattle.tipc_world.proofs.Orderly.{orderly_after}
+use Rattle.tipc_world.proofs.Sharing.{becomes_shared}
 use Rattle.tipc_world.proofs.SoundWorlds.{becomes_sound}
 use Rattle.tipc_world.proofs.worlds.World.advance.Goals as goal
 
@@ -35,6 +37,7 @@ invariant_of-self-then-is_over g c =
       steady_after old _ _ _ _ _ _ _ _ h.becomes counts h.free c.self.invariant.1,
       becomes_watched _ _ _ _ _ _ c.self.invariant.0 c.self.invariant.2 (next_boots _ _ _ _ c.self.invariant.0 c.self.invariant.1) (subst (λ (o : WorldView _). CanHappen o.state c.args.event) (sym c.self.view_is) c.requires) h.becomes,
       orderly_after g.P.Pick.gives old _ _ _ _ _ _ _ _ _ _ (subst (λ (o : WorldView _). CanHappen o.state c.args.event) (sym c.self.view_is) c.requires) c.self.invariant.0 h.becomes counts h.chose c.self.invariant.3,
+      becomes_shared _ _ _ _ _ _ c.self.invariant.0 c.self.invariant.4 h.becomes,
     )
 
 pub invariant_of-self-2 : goal.invariant_of-self-2
@@ -55,6 +58,7 @@ invariant_of-self-2 g c =
       steady_after old _ _ _ _ _ _ _ _ h.becomes counts h.free c.self.invariant.1,
       becomes_watched _ _ _ _ _ _ c.self.invariant.0 c.self.invariant.2 (next_boots _ _ _ _ c.self.invariant.0 c.self.invariant.1) (subst (λ (o : WorldView _). CanHappen o.state c.args.event) (sym c.self.view_is) c.requires) h.becomes,
       orderly_after g.P.Pick.gives old _ _ _ _ _ _ _ _ _ _ (subst (λ (o : WorldView _). CanHappen o.state c.args.event) (sym c.self.view_is) c.requires) c.self.invariant.0 h.becomes counts h.chose c.self.invariant.3,
+      becomes_shared _ _ _ _ _ _ c.self.invariant.0 c.self.invariant.4 h.becomes,
     )
 
 pub returns-then-is_over-clause-stops : goal.returns-then-is_over-clause-stops
@@ -97,6 +101,6 @@ pub invariant_of-self : goal.invariant_of-self
 invariant_of-self g c =
     let w = c.self.inside in
     let same = c.in_err-happened.ensures.err in
-    subst (λ ms. IsSound ms c.happen.new.air.items × IsSteady ms w.events w.stamps × AreWatched ms c.happen.new.air.items × AreOrderly g.P.Pick.gives ms w.stamps c.happen.new.chooser) (sym same.0)
-    (subst (λ air. IsSound w.members.items air × IsSteady w.members.items w.events w.stamps × AreWatched w.members.items air × AreOrderly g.P.Pick.gives w.members.items w.stamps c.happen.new.chooser) (sym same.1)
-    (subst (λ k. IsSound w.members.items w.air.items × IsSteady w.members.items w.events w.stamps × AreWatched w.members.items w.air.items × AreOrderly g.P.Pick.gives w.members.items w.stamps k) (sym same.2) c.self.invariant))
+    subst (λ ms. IsSound ms c.happen.new.air.items × IsSteady ms w.events w.stamps × AreWatched ms c.happen.new.air.items × AreOrderly g.P.Pick.gives ms w.stamps c.happen.new.chooser × AreShared ms) (sym same.0)
+    (subst (λ air. IsSound w.members.items air × IsSteady w.members.items w.events w.stamps × AreWatched w.members.items air × AreOrderly g.P.Pick.gives w.members.items w.stamps c.happen.new.chooser × AreShared w.members.items) (sym same.1)
+    (subst (λ k. IsSound w.members.items w.air.items × IsSteady w.members.items w.events w.stamps × AreWatched w.members.items w.air.items × AreOrderly g.P.Pick.gives w.members.items w.stamps k × AreShared w.members.items) (sym same.2) c.self.invariant))

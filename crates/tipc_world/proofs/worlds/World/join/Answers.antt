@@ -1,12 +1,14 @@
 use Rattle.std.proofs.Common.{◌≡◌, false, List, Option, subst, sym}
 use Rattle.tipc_world.specs.Answered.{AreOrderly}
 use Rattle.tipc_world.specs.Events.{IsSteady}
+use Rattle.tipc_world.specs.Shared.{AreShared}
 use Rattle.tipc_world.specs.Sound.{IsSound}
 use Rattle.tipc_world.specs.Watched.{AreWatched}
 use Rattle.tipc_world.specs.States.{MemberState, WorldState, WorldView, is_there}
 use Rattle.tipc_world.proofs.Boots.{steady_joined}
 use Rattle.tipc_world.proofs.KeptWorlds.{joined_watched}
 use Rattle.tipc_world.proofs.Quiet.{joined_orderly}
+use Rattle.tipc_world.proofs.Sharing.{joined_shared}
 use Rattle.tipc_world.proofs.SoundWorlds.{joined_sound}
 use Rattle.tipc_world.proofs.Staying.{absent_at, joins_world}
 use Rattle.tipc_world.proofs.worlds.World.join.Goals as goal
@@ -21,9 +23,10 @@ invariant_of-self-2 g c =
       steady_joined _ _ c.args.n _ _ joins c.self.invariant.1,
       joined_watched _ _ _ c.args.n joins c.self.invariant.2,
       joined_orderly g.P.Pick.gives _ _ c.args.n _ _ absent joins c.self.invariant.3,
+      joined_shared _ _ c.args.n joins c.self.invariant.4,
     )
 
 pub invariant_of-self : goal.invariant_of-self
 invariant_of-self g c =
     let w = c.self.inside in
-    subst (λ ms. IsSound ms w.air.items × IsSteady ms w.events w.stamps × AreWatched ms w.air.items × AreOrderly g.P.Pick.gives ms w.stamps w.chooser) (sym {A = List (Option MemberState)} c.in_err-add_at.ensures.err) c.self.invariant
+    subst (λ ms. IsSound ms w.air.items × IsSteady ms w.events w.stamps × AreWatched ms w.air.items × AreOrderly g.P.Pick.gives ms w.stamps w.chooser × AreShared ms) (sym {A = List (Option MemberState)} c.in_err-add_at.ensures.err) c.self.invariant

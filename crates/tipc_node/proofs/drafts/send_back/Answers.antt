@@ -1,9 +1,0 @@
-use Rattle.std.proofs.Common.{◌≡◌, Some, ap, sym, ◌∙◌}
-use Rattle.tipc_node.specs.Drafts.{restored}
-use Rattle.tipc_node.proofs.Restoring.{change_one}
-use Rattle.tipc_node.proofs.drafts.send_back.Goals as goal
-
-pub returns-clause-kept : goal.returns-clause-kept
-returns-clause-kept c =
-    change_one c.keep.new.copies.items c.args.neighbours.now.items c.in-Some.peer (Some c.put_on.new.neighbour) c.in_ok-keep.ensures.kept
-    ∙ ap (restored c.keep.new.copies.items) (sym c.as_slice.ensures.value) ∙ c.keep.ensures.same ∙ ap (restored c.args.draft.now.copies.items) c.as_slice.ensures.value

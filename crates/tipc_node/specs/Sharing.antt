@@ -1,0 +1,51 @@
+-- What a node and its peers know of one another's names: what it told a peer in their contact makes the peer hold what it has published,
+-- and it holds what the peer told it.
+use Rattle.std.specs.Prelude.{◌≡◌, ◌<◌, ℕ, false, List, [], Some, None, filter}
+use Rattle.tipc_types.specs.Address.{node_word}
+use Rattle.tipc_types.specs.declared.message_forms.Flow.TheVariants.{Zero}
+use Rattle.tipc_types.specs.declared.message_forms.Message.{Message}
+use Rattle.tipc_types.specs.declared.services.Publication.{Publication}
+use Rattle.tipc_name_table.specs.Tables.{IsTable, is_of}
+use Rattle.tipc_journal.specs.declared.entries.Entry.{Entry}
+use Rattle.tipc_journal.specs.Contacts.{contact}
+use Rattle.tipc_journal.specs.Names.{live}
+use Rattle.tipc_journal.specs.Streams.{Stream, accepted, delivered}
+use Rattle.tipc_name_dist.specs.Agreeing.{Agrees, AreOwn}
+use Rattle.tipc_name_dist.specs.Applying.{applied_each, held_after}
+use Rattle.tipc_link_fsm.specs.Table.{is_up}
+use Rattle.tipc_node.specs.declared.neighbours.Neighbour.{Neighbour}
+use Rattle.tipc_node.specs.Nodes.{NodeState, neighbour_of}
+use Rattle.tipc_node.specs.Turns.{addr_of}
+
+-- the messages of one contact with a peer: the node's own number, then the peer's
+abbrev pub flow_with : ℕ → ℕ × ℕ → Stream
+flow_with peer numbers = record { peer = addr_of peer; contact = numbers; flow = Zero }
+
+-- A peer that holds nothing of a node, and applies these messages of it, holds what the node has published. Each item fits.
+pub record HasTold (own : ℕ) (published : List Publication) (messages : List Message) : Type 0 where
+  pub fits : (applied_each own [] messages).bad ≡ None
+  pub table : IsTable (applied_each own [] messages).table
+  pub agrees : Agrees own published (applied_each own [] messages).table
+
+-- nothing was accepted for a peer, or delivered from it, in a contact of this own number
+abbrev pub IsUnused : List Entry → ℕ → ℕ → Type 0
+IsUnused journal peer number = (theirs : ℕ)
+    → (accepted journal (flow_with peer (number, theirs)) ≡ []) × (delivered journal (flow_with peer (number, theirs)) ≡ [])
+
+-- so it is with a contact that is yet to begin: of a peer that isn't known, under a later number, and under the next one
+pub record AreUnused (n : NodeState) : Type 0 where
+  pub strangers : (b number : ℕ) → neighbour_of n b ≡ None → IsUnused n.journal b number
+  pub later : (b number : ℕ) (x : Neighbour) → neighbour_of n b ≡ Some x → x.pair.link.contact < number → IsUnused n.journal b number
+  pub next : (b : ℕ) (x : Neighbour) → neighbour_of n b ≡ Some x → is_up x.pair.link.fsm.state ≡ false
+      → IsUnused n.journal b x.pair.link.contact
+
+pub record SharesNames (n : NodeState) : Type 0 where
+  -- its live publications are its own, each of a range that has instances
+  pub own_names : AreOwn n.own (live n.journal)
+  -- what it accepted for a peer in the present contact tells what it has published
+  pub told : (b : ℕ) (numbers : ℕ × ℕ) → contact n.journal (addr_of b) ≡ Some numbers
+      → HasTold n.own (live n.journal) (accepted n.journal (flow_with b numbers))
+  -- it holds of a peer what was delivered from it in the present contact, applied
+  pub holds : (b : ℕ) (numbers : ℕ × ℕ) → contact n.journal (addr_of b) ≡ Some numbers
+      → filter (is_of (node_word b)) n.sockets.names ≡ held_after (node_word b) [] (delivered n.journal (flow_with b numbers))
+  pub unused : AreUnused n
