@@ -8,6 +8,3 @@ pub mod laws;
 mod receiving;
 
 pub use broadcast::Broadcast;
-
-#[cfg(test)]
-mod tests;

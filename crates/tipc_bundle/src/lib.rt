@@ -17,6 +17,3 @@ pub use splitting::{SplitFault, split};
 
 /// The bytes of a bundle's header.
 const HEADER_BYTES: usize = 40;
-
-#[cfg(test)]
-mod tests;

@@ -5,6 +5,3 @@ mod contact;
 pub mod laws;
 
 pub use contact::{Contact, Standing};
-
-#[cfg(test)]
-mod tests;

@@ -6,6 +6,3 @@ mod neighbours;
 
 pub use laws::a_neighbour_is_new_once;
 pub use neighbours::{Found, NETWORK, Neighbours};
-
-#[cfg(test)]
-mod tests;

@@ -10,6 +10,3 @@ pub use cutting::{FRAGMENT_BYTES, LEAST_CUT, MOST_CUT, cut};
 pub use joining::{Arrivals, JoinFault, Joined, Joiner};
 /// Which fragment of its message one is: the first, a middle one, or the last.
 pub use tipc_header::FragmentType as FragmentKind;
-
-#[cfg(test)]
-mod tests;

@@ -23,6 +23,3 @@ pub use packet::{
     Addressing, Bundle, Changeover, ChangeoverType, Discovery, DiscoveryType, DistributionType,
     Fragment, FragmentType, Header, NameDistribution, Packet, Payload, Reset, State,
 };
-
-#[cfg(test)]
-mod tests;

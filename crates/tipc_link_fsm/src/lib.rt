@@ -9,6 +9,3 @@ mod laws;
 pub use changes::Change;
 pub use ends::LinkFsm;
 pub use laws::{each_epoch_is_up_at_most_once, epochs_rise, up_with_the_epoch_that_was_told};
-
-#[cfg(test)]
-mod tests;

@@ -8,6 +8,3 @@ mod wire;
 
 pub use laws::messages_are_read_again;
 pub use wire::{message_from, packet_bytes};
-
-#[cfg(test)]
-mod tests;

@@ -8,6 +8,3 @@ mod publications;
 
 pub use names::{MOST_PUBLICATIONS, NameFault, Names, Unknown};
 pub use plain::NameTable;
-
-#[cfg(test)]
-mod tests;

@@ -13,6 +13,3 @@ pub use pacing::{Clock, FreeGate, Gate, StepClock};
 pub use standard::{StdSink, StdSource};
 pub use streams::{Failed, MemorySink, MemorySource, Sink, SinkFault, Source};
 pub use transport::{Bearer, BearerFault, Heard};
-
-#[cfg(test)]
-mod tests;

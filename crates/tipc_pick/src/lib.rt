@@ -12,6 +12,3 @@ pub use chooser::Chooser;
 pub use picks::{MOST_CHOICES, Pick};
 pub use stored::{PickClosure, StoredPick};
 pub use turns::RoundRobin;
-
-#[cfg(test)]
-mod tests;

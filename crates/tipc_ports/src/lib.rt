@@ -6,6 +6,3 @@ mod ports;
 
 pub use laws::numbers_are_not_used_again;
 pub use ports::{MOST_MADE, MOST_PORTS, PortFault, Ports, Unknown};
-
-#[cfg(test)]
-mod tests;

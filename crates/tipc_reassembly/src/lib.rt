@@ -10,6 +10,3 @@ pub use laws::{
     slots_of_messages_give_a_front, what_is_opened_is_traced,
 };
 pub use opening::{Opened, OpenedList, Reassembly};
-
-#[cfg(test)]
-mod tests;

@@ -8,6 +8,3 @@ mod window;
 
 pub use outcomes::{LinkOutcome, Place};
 pub use window::{RecvWindow, WINDOW, WindowArrival};
-
-#[cfg(test)]
-mod tests;

@@ -13,6 +13,3 @@ mod words;
 pub use limits::Which;
 pub use printing::{print, print_bad, print_limit};
 pub use told::Told;
-
-#[cfg(test)]
-mod tests;

@@ -16,6 +16,3 @@ pub use laws::{
 pub use tipc_header::ChangeoverType as TunnelKind;
 pub use unwrapping::{Tunnel, TunnelFault, unwrap_packet};
 pub use wrapping::wrap;
-
-#[cfg(test)]
-mod tests;

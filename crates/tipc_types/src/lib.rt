@@ -21,6 +21,3 @@ pub use packet_lists::{Kept, KeptList, Taken, TakenList};
 pub use positions::{number_distance, sequence_number};
 pub use sequences::{Bytes, Inner, Pieces, Sequence};
 pub use services::{BadRange, List, Publication, Scope, ServiceRange};
-
-#[cfg(test)]
-mod tests;

@@ -1,0 +1,15 @@
+//! Tests of the crates of windows, link states, pairs and broadcast. They stand apart, so that their proof begins with what those crates have proved.
+#![tactic(auto)]
+
+#[cfg(test)]
+mod broadcast;
+#[cfg(test)]
+mod contact;
+#[cfg(test)]
+mod link_fsm;
+#[cfg(test)]
+mod pair;
+#[cfg(test)]
+mod recv_window;
+#[cfg(test)]
+mod send_window;

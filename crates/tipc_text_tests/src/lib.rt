@@ -1,0 +1,9 @@
+//! Tests of the crates of scripts and reports, and of what is outside. They stand apart, so that their proof begins with what those crates have proved.
+#![tactic(auto)]
+
+#[cfg(test)]
+mod outside;
+#[cfg(test)]
+mod report;
+#[cfg(test)]
+mod script;

@@ -1,0 +1,122 @@
+//! Tests of the edge, with fakes and with the standard library.
+
+use std::alloc::Global;
+use std::test::Fail;
+use tipc_outside::{
+    Clock, Failed, MemorySink, MemorySource, Outbox, Sink, SinkFault, Source, StdSink, StdSource,
+    StepClock,
+};
+use tipc_types::{Addr, Bytes, To};
+
+/// What four reads of four bytes each give of `abcdefg` where these calls fail: how many bytes, and the first.
+fn reads(alloc: Global, failing: &[u64]) -> Result<Vec<Result<(usize, u8), Failed>>, Fail> {
+    let mut source = MemorySource::new(b"abcdefg".to_vec(alloc)?, failing.to_vec(alloc)?);
+    let mut answers = Vec::new(alloc);
+    for _ in 0..4 {
+        let mut into = [0; 4];
+        let answer = source.read(&mut into);
+        answers.push(answer.map(|count| (count, into[0])))?;
+    }
+    Ok(answers)
+}
+
+#[test]
+fn a_source_fails_at_its_calls(rt: HostRuntime) -> Result<(), Fail> {
+    let fault = Err(Failed);
+    let table = [
+        (
+            [].as_slice(),
+            [Ok((4, b'a')), Ok((3, b'e')), Ok((0, 0)), Ok((0, 0))],
+        ),
+        (
+            [1].as_slice(),
+            [fault, Ok((4, b'a')), Ok((3, b'e')), Ok((0, 0))],
+        ),
+        (
+            [3, 2].as_slice(),
+            [Ok((4, b'a')), fault, fault, Ok((3, b'e'))],
+        ),
+        (
+            [0, 5].as_slice(),
+            [Ok((4, b'a')), Ok((3, b'e')), Ok((0, 0)), Ok((0, 0))],
+        ),
+    ];
+    for (failing, answers) in table {
+        let given = reads(rt.alloc(), failing)?;
+        assert_eq!(rt; given.as_slice(), answers.as_slice());
+    }
+    Ok(())
+}
+
+#[test]
+fn a_sink_fails_at_its_calls(rt: HostRuntime) -> Result<(), Fail> {
+    let fault = Err(SinkFault::Failed);
+    let table = [
+        ([].as_slice(), [Ok(2), Ok(0), Ok(3)], b"abcde".as_slice()),
+        ([1].as_slice(), [fault, Ok(0), Ok(3)], b"cde".as_slice()),
+        ([2, 3].as_slice(), [Ok(2), fault, fault], b"ab".as_slice()),
+        (
+            [0, 4].as_slice(),
+            [Ok(2), Ok(0), Ok(3)],
+            b"abcde".as_slice(),
+        ),
+    ];
+    for (failing, answers, written) in table {
+        let mut sink = MemorySink::new(rt.alloc(), failing.to_vec(rt.alloc())?);
+        let pieces = [b"ab".as_slice(), b"".as_slice(), b"cde".as_slice()];
+        for (piece, answer) in pieces.iter().zip(answers.iter()) {
+            assert_eq!(rt; sink.write(piece), *answer);
+        }
+        assert_eq!(rt; sink.written(), written);
+    }
+    Ok(())
+}
+
+#[test]
+fn standard_streams_are_sources_and_sinks(rt: HostRuntime) -> Result<(), Fail> {
+    let mut source = StdSource::new(b"abc".as_slice());
+    let mut into = [0; 2];
+    for (count, first) in [(2, b'a'), (1, b'c'), (0, b'c')] {
+        assert_eq!(rt; (source.read(&mut into), into[0]), (Ok(count), first));
+    }
+    let mut written = Vec::new(rt.alloc());
+    let mut sink = StdSink::new(&mut written);
+    assert_eq!(rt; sink.write(b"abc"), Ok(3));
+    drop(sink);
+    assert_eq!(rt; written.as_slice(), b"abc".as_slice());
+    Ok(())
+}
+
+#[test]
+fn frames_go_out_in_order_until_one_is_lost(rt: HostRuntime) -> Result<(), Fail> {
+    let mut out = Outbox::new(rt.alloc());
+    for byte in [7, 8] {
+        let frame = Bytes::from_slice(rt.alloc(), &[byte])?;
+        out.push(0, To::Node(Addr::node(byte)), frame);
+    }
+    assert!(rt; !out.lost());
+    out.mark_lost();
+    out.push(1, To::All, Bytes::new(rt.alloc()));
+    assert!(rt; out.lost());
+    let kept = out.frames().len();
+    let mut seen = Vec::new(rt.alloc());
+    for outgoing in out.into_frames() {
+        let first = outgoing.frame.as_slice().first().copied();
+        seen.push((outgoing.bearer, outgoing.to, first))?;
+    }
+    let expected = [
+        (0, To::Node(Addr::node(7)), Some(7)),
+        (0, To::Node(Addr::node(8)), Some(8)),
+    ];
+    assert_eq!(rt; seen.as_slice(), expected.as_slice());
+    assert_eq!(rt; kept, 2);
+    Ok(())
+}
+
+#[test]
+fn the_clock_tells_1_first(rt: HostRuntime) {
+    let mut clock = StepClock::new();
+    assert_eq!(rt; (clock.now(), clock.now()), (1, 2));
+    let mut last = StepClock { time: u64::MAX };
+    assert_eq!(rt; last.now(), u64::MAX);
+}
