@@ -7,12 +7,14 @@ use Rattle.tipc_outside.proofs.Adding.{adds_more}
 use Rattle.tipc_header.specs.Spelling.{Fields}
 use Rattle.tipc_types.specs.declared.packet_lists.Kept.{Kept}
 use Rattle.tipc_send_window.specs.Sending.{Sending, acked_of, kept_after}
+use Rattle.tipc_recv_window.specs.Receiving.{Receiving}
 use Rattle.tipc_link_fsm.specs.declared.changes.Change.{Change}
 use Rattle.tipc_link_fsm.specs.declared.changes.Change.TheVariants.{Stay, Up, Down, Answer, Ignore}
 use Rattle.tipc_link_fsm.specs.Table.{Fsm, Outcome}
-use Rattle.tipc_link.specs.Sessions.{SessionEnd, Content, Shows, Carries, Nothing, arrival_frames, begun, content_of, flush_frames, heard, is_behind, packet_frame, packet_frames, released, repeat_frames, repeated, room, spoke}
+use Rattle.tipc_link.specs.Records.{Received}
+use Rattle.tipc_link.specs.Sessions.{SessionEnd, Content, Shows, Carries, Nothing, arrival_frames, begun_with, content_of, due_with, flush_frames, heard, is_behind, outcome, packet_frame, packet_frames, receiving, released, repeat_frames, repeated, room, spoke}
 use Rattle.tipc_link.specs.Links.{LinkEnd, after, followed, frames, heard_by, heard_frames, heard_outcome, is_heard, link_frames, link_outcome}
-use Rattle.tipc_link.specs.Hearings.{HearingState, IsArriving, IsHearing}
+use Rattle.tipc_link.specs.Hearings.{HearingState, IsArriving, IsHearing, IsWindowHearing, window_outcome}
 
 -- a packet that the session doesn't hear
 pub unheard_frames : (e : LinkEnd) (o : Outcome) (p : Fields) (by : ℕ) (shown : BroadcastState) → is_heard p.header o.change ≡ false → link_frames e o p by shown ≡ frames e o shown
@@ -40,20 +42,21 @@ spoke-sending : {A : Type 0} (e : SessionEnd) (xs : List A) → (spoke e xs).sen
 spoke-sending e [] = refl
 spoke-sending e (x ∷ xs) = refl
 
--- a session that has just begun has nothing to send
-begun_sends_none : (own peer bearer epoch peer_epoch by acknowledgement : ℕ) (c : Content) → arrival_frames (begun own peer bearer epoch peer_epoch) by acknowledgement c ≡ []
-begun_sends_none own peer bearer epoch peer_epoch by acknowledgement (Shows next gap probe) =
-    let e = released (begun own peer bearer epoch peer_epoch) acknowledgement in
+-- a session that has just begun has nothing to send, whatever its record has
+begun_sends_none : (own peer bearer epoch peer_epoch : ℕ) (r : Received) (by acknowledgement : ℕ) (c : Content) → arrival_frames (begun_with own peer bearer epoch peer_epoch r) by acknowledgement c ≡ []
+begun_sends_none own peer bearer epoch peer_epoch r by acknowledgement (Shows next gap probe) =
+    let new = begun_with own peer bearer epoch peer_epoch r in
+    let e = released new acknowledgement in
     let again : repeat_frames e acknowledgement gap ≡ [] = repeats_none e acknowledgement gap (drop-none _) in
-    let more : flush_frames (heard (begun own peer bearer epoch peer_epoch) by acknowledgement (Shows next gap probe)) ≡ [] =
-    moves_none (heard (begun own peer bearer epoch peer_epoch) by acknowledgement (Shows next gap probe)) (ap (λ (s : Sending). s.waiting) (spoke-sending e (repeated e acknowledgement gap))) in
-    ap (λ fs. fs ++ flush_frames (heard (begun own peer bearer epoch peer_epoch) by acknowledgement (Shows next gap probe))) again ∙ more
-begun_sends_none own peer bearer epoch peer_epoch by acknowledgement (Carries number packet) =
-    moves_none (heard (begun own peer bearer epoch peer_epoch) by acknowledgement (Carries number packet)) refl
-begun_sends_none own peer bearer epoch peer_epoch by acknowledgement Nothing = refl
+    let more : flush_frames (heard new by acknowledgement (Shows next gap probe)) ≡ [] =
+    moves_none (heard new by acknowledgement (Shows next gap probe)) (ap (λ (s : Sending). s.waiting) (spoke-sending e (repeated e acknowledgement gap))) in
+    ap (λ fs. fs ++ flush_frames (heard new by acknowledgement (Shows next gap probe))) again ∙ more
+begun_sends_none own peer bearer epoch peer_epoch r by acknowledgement (Carries number packet) =
+    moves_none (heard (begun_with own peer bearer epoch peer_epoch r) by acknowledgement (Carries number packet)) refl
+begun_sends_none own peer bearer epoch peer_epoch r by acknowledgement Nothing = refl
 
 heard_is : (e : LinkEnd) (change : Change) (by acknowledgement : ℕ) (c : Content) → heard_by (followed e change).session by acknowledgement c ≡ heard_frames (followed e change) change by acknowledgement c
-heard_is e Up by acknowledgement c = begun_sends_none _ _ _ _ _ by acknowledgement c
+heard_is e Up by acknowledgement c = begun_sends_none _ _ _ _ _ _ by acknowledgement c
 heard_is e Stay by acknowledgement c = refl
 heard_is e (Down cause) by acknowledgement c = refl
 heard_is e (Answer reply) by acknowledgement c = refl
@@ -83,3 +86,20 @@ arriving_stays (Ok h) e p fsm change by stay heard numbered hearing brings =
     let told : h.outcome ≡ link_outcome e (record { after = fsm; change = Stay }) p h.by =
     brings ∙ ap (λ n. heard_outcome e.session n (content_of p)) (sym numbered) ∙ sym (link_outcome-heard e (record { after = fsm; change = Stay }) p h.by heard_stay) in
     subst (λ ch. IsArriving e p (record { states = record { after = fsm; change = ch }; hearing = h })) (sym stay) (record { heard = λ s _ is. hearing s is; outcome = told })
+
+-- ---- what a packet makes of a record, and of the session that keeps it
+
+outcome-window : (e : SessionEnd) (by : ℕ) (c : Content) → window_outcome (receiving e) by c ≡ outcome e by c
+unfolding due_with
+outcome-window e by (Shows next gap probe) = refl
+outcome-window e by (Carries number packet) = refl
+outcome-window e by Nothing = refl
+
+hearing_at : (e : SessionEnd) (w : Receiving) (p : Fields) (h : HearingState) → w ≡ receiving e → IsWindowHearing w p h → IsHearing e p h
+hearing_at e w p h same is =
+    let at = subst (λ v. IsWindowHearing v p h) same is in
+    record { window = at.window; outcome = at.outcome ∙ outcome-window e h.by (content_of p) }
+
+pub hears_at : {F : Type 0} (r : Result HearingState F) (e : SessionEnd) (w : Receiving) (p : Fields) → w ≡ receiving e → IfOk r (λ h. IsWindowHearing w p h) → IfOk r (λ h. IsHearing e p h)
+hears_at (Err fault) e w p same is = is
+hears_at (Ok h) e w p same is = hearing_at e w p h same is

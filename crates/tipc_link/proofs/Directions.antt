@@ -17,7 +17,9 @@ use Rattle.tipc_recv_window.specs.Receiving.{Receiving, arrived_at, filled, is_n
 use Rattle.tipc_recv_window.proofs.ArrivalLaws as by_position
 use Rattle.tipc_recv_window.proofs.Holding.{filled-other, filled-same, length-filled}
 use Rattle.tipc_recv_window.proofs.Runs.{run_leaves}
-use Rattle.tipc_link.specs.Sessions.{SessionEnd, Carries, IsPut, advanced, due_with, is_behind, joins, past, receiving, repeated, room, took, waits, window_with}
+use Rattle.tipc_link.specs.Sessions.{SessionEnd, Carries, IsPut, advanced, due_with, is_behind, joins, receiving, repeated, room, took, waits, window_with}
+use Rattle.tipc_link.specs.Records.{standing}
+use Rattle.tipc_link.proofs.Standing.{arrived_early, standing_either}
 use Rattle.tipc_link.specs.Direction.{IsDirection, IsReceiver, Flight, IsCarried, IsFlight, IsFresh, packet_flight, state_flight}
 
 pub slice_get-append : {A : Type 0} (xs ys : List A) (i : ℕ) (x : A) → slice_get xs i ≡ Some x → slice_get (xs ++ ys) i ≡ Some x
@@ -270,7 +272,7 @@ IsFlight-state s peer taken gap probe line peer_line back = record {
 -- ---- taking
 
 -- each packet that is held was numbered, and stands at its place
-pub Holds : List (Option Taken) → ℕ → List (List ℕ) → Type 0
+unfoldable pub Holds : List (Option Taken) → ℕ → List (List ℕ) → Type 0
 Holds held taken line = (d : ℕ) (t : Taken) → slice_index_or held d None ≡ Some t → slice_get line (taken + d) ≡ Some t.packet
 
 -- one more is held, at its place
@@ -313,20 +315,23 @@ holds_with e line t c h =
     let law = by_position.arrives r (e.taken + 1) c.position t refl c.near c.recent in
     let number = c.number_is in
     let positive = c.positive in
-    elim (cases_lt c.position (e.taken + 1)) [
-      | inl before ↦
-          let same : window_with e t ≡ r = ap (λ n. arrived_at r (past_wanted r n) t) number ∙ law.unchanged before in
-          subst (λ (w : Receiving). Holds w.held e.taken line) (sym same) h
-      | inr from ↦
-          let d = c.position - (e.taken + 1) in
-          let same : window_with e t ≡ arrived_at r d t = ap (λ n. arrived_at r (past_wanted r n) t) number ∙ law.after from in
-          let place : c.position - 1 ≡ e.taken + d = omega arith in
-          let there : slice_get line (e.taken + d) ≡ Some t.packet = subst (λ i. slice_get line i ≡ Some t.packet) place c.packet_is in
-          subst (λ (w : Receiving). Holds w.held e.taken line) (sym same) (holds_arrived r e.taken d t line h there)
+    elim (standing_either r t) [
+      | inl early ↦ subst (λ (w : Receiving). Holds w.held e.taken line) (sym (arrived_early r t early)) h
+      | inr plain ↦ elim (cases_lt c.position (e.taken + 1)) [
+        | inl before ↦
+            let same : window_with e t ≡ r = ap (λ d. arrived_at r d t) plain ∙ ap (λ n. arrived_at r (past_wanted r n) t) number ∙ law.unchanged before in
+            subst (λ (w : Receiving). Holds w.held e.taken line) (sym same) h
+        | inr from ↦
+            let d = c.position - (e.taken + 1) in
+            let same : window_with e t ≡ arrived_at r d t = ap (λ k. arrived_at r k t) plain ∙ ap (λ n. arrived_at r (past_wanted r n) t) number ∙ law.after from in
+            let place : c.position - 1 ≡ e.taken + d = omega arith in
+            let there : slice_get line (e.taken + d) ≡ Some t.packet = subst (λ i. slice_get line i ≡ Some t.packet) place c.packet_is in
+            subst (λ (w : Receiving). Holds w.held e.taken line) (sym same) (holds_arrived r e.taken d t line h there)
+      ]
     ]
 
 -- what can be taken are the next packets of the line
-run_is : (held : List (Option Taken)) (taken : ℕ) (line : List (List ℕ)) → Holds held taken line → take (length (run_of held)) (drop taken line) ≡ map (λ (t : Taken). t.packet) (run_of held)
+pub run_is : (held : List (Option Taken)) (taken : ℕ) (line : List (List ℕ)) → Holds held taken line → take (length (run_of held)) (drop taken line) ≡ map (λ (t : Taken). t.packet) (run_of held)
 unfolding Holds
 run_is [] taken line h = refl
 run_is (None ∷ held) taken line h = refl
@@ -339,7 +344,7 @@ run_is (Some t ∷ held) taken line h =
     ap (λ xs. take (suc (length (run_of held))) xs) split ∙ ap (λ xs. t.packet ∷ xs) (run_is held (taken + 1) line rest)
 
 -- and each of the others is nearer then
-holds_drained : (held : List (Option Taken)) (n taken : ℕ) (line : List (List ℕ)) → Holds held taken line → Holds (drop n held) (taken + n) line
+pub holds_drained : (held : List (Option Taken)) (n taken : ℕ) (line : List (List ℕ)) → Holds held taken line → Holds (drop n held) (taken + n) line
 unfolding Holds
 holds_drained held n taken line h d t is =
     let there : slice_index_or held (n + d) None ≡ Some t = sym (get_or-drop n held d None) ∙ is in
@@ -347,6 +352,31 @@ holds_drained held n taken line h d t is =
     subst (λ i. slice_get line i ≡ Some t.packet) place (h (n + d) t there)
 
 -- the receiver after a numbered packet arrived, and what it then takes
+pub record IsTook (e : SessionEnd) (line : List (List ℕ)) (t : Taken) : Type 0 where
+  pub receiver : IsReceiver (took e t).held (took e t).taken line
+  pub next : take (length (due_with e t)) (drop e.taken line) ≡ map (λ (d : Taken). d.packet) (due_with e t)
+  pub each : (k : ℕ) (d : Taken) → slice_get (due_with e t) k ≡ Some d → slice_get line (e.taken + k) ≡ Some d.packet
+  pub within : (took e t).taken ≤ length line
+
+pub takes_near : (e : SessionEnd) (line : List (List ℕ)) (t : Taken) → e.taken ≤ length line → IsReceiver e.held e.taken line → IsComing e line t → IsTook e line t
+unfolding due_with Holds
+takes_near e line t short held c =
+    let w = (window_with e t).held in
+    let n = length (run_of w) in
+    let all : Holds w e.taken line = holds_with e line t c held.holds in
+    let next : take n (drop e.taken line) ≡ map (λ (d : Taken). d.packet) (run_of w) = run_is w e.taken line all in
+    let long : length (take n (drop e.taken line)) ≡ n = ap length next ∙ length-map (run_of w) (λ (d : Taken). d.packet) in
+    let within : e.taken + n ≤ length line = omega (arith, long, length-take n (drop e.taken line), length-drop e.taken line, short) in
+    record {
+      receiver = record { window = omega (arith, length-drop n w, window_arrived (receiving e) (standing (receiving e) t) t held.window); wants = run_leaves w; holds = holds_drained w n e.taken line all };
+      next = next;
+      each = λ k d is.
+          let there : slice_get (take n (drop e.taken line)) k ≡ Some d.packet = ap (λ ps. slice_get ps k) next ∙ slice_get-map (λ (d : Taken). d.packet) (run_of w) k ∙ ap (λ o. option_map (λ (d : Taken). d.packet) o) is in
+          slice_get-drop e.taken line k d.packet (slice_get-from_take n (drop e.taken line) k d.packet there);
+      within = within;
+    }
+
+-- with the direction in which it was numbered
 pub record IsTaken (s : Sending) (e : SessionEnd) (line : List (List ℕ)) (t : Taken) : Type 0 where
   pub direction : IsDirection s (took e t).taken line
   pub receiver : IsReceiver (took e t).held (took e t).taken line
@@ -355,24 +385,17 @@ pub record IsTaken (s : Sending) (e : SessionEnd) (line : List (List ℕ)) (t : 
   pub within : (took e t).taken ≤ length line
 
 pub arrives_near : (s : Sending) (e : SessionEnd) (line : List (List ℕ)) (t : Taken) → IsDirection s e.taken line → IsReceiver e.held e.taken line → IsComing e line t → IsTaken s e line t
-unfolding due_with Holds
 arrives_near s e line t h held c =
-    let w = (window_with e t).held in
-    let n = length (run_of w) in
-    let all : Holds w e.taken line = holds_with e line t c held.holds in
-    let next : take n (drop e.taken line) ≡ map (λ (d : Taken). d.packet) (run_of w) = run_is w e.taken line all in
-    let long : length (take n (drop e.taken line)) ≡ n = ap length next ∙ length-map (run_of w) (λ (d : Taken). d.packet) in
     let count = h.count in
     let numbered = h.taken_numbered in
-    let within : e.taken + n ≤ length line = omega (arith, long, length-take n (drop e.taken line), length-drop e.taken line, count, numbered) in
+    let now = takes_near e line t (omega arith) held c in
+    let within = now.within in
     record {
       direction = record { window = h.window; below = h.below; count = h.count; kept = h.kept; acked_taken = omega (arith, h.acked_taken); taken_numbered = omega arith };
-      receiver = record { window = omega (arith, length-drop n w, window_arrived (receiving e) (past e t.number) t held.window); wants = run_leaves w; holds = holds_drained w n e.taken line all };
-      next = next;
-      each = λ k d is.
-          let there : slice_get (take n (drop e.taken line)) k ≡ Some d.packet = ap (λ ps. slice_get ps k) next ∙ slice_get-map (λ (d : Taken). d.packet) (run_of w) k ∙ ap (λ o. option_map (λ (d : Taken). d.packet) o) is in
-          slice_get-drop e.taken line k d.packet (slice_get-from_take n (drop e.taken line) k d.packet there);
-      within = within;
+      receiver = now.receiver;
+      next = now.next;
+      each = now.each;
+      within = now.within;
     }
 
 -- A numbered packet of a frame that isn't too old arrives.

@@ -1,3 +1,4 @@
+pub mod Standing
 pub mod Arrivals
 pub mod Flushing
 pub mod Directions
@@ -5,3 +6,5 @@ pub mod JoinLaws
 pub mod Repeating
 pub mod Takings
 pub mod LinkLaw
+pub mod Outliving
+pub mod KeptRecords

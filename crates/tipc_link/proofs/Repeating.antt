@@ -2,12 +2,15 @@
 use Rattle.std.proofs.Common.{◌≡◌, ℕ, ◌+◌, ◌<◌, ◌≤◌, Bool, true, false, if◌then◌else◌, List, [], ◌∷◌, ◌++◌, length, take, filter, map, refl, sym, ap, ◌∙◌, subst, append-nil, get_or}
 use Rattle.std.proofs.lemmas.List.{map_push, take_more, take_all}
 use Rattle.std.proofs.lemmas.List.Elements.{All-cons, All-head, All-nil, All-tail, filter-append}
-use Rattle.std.specs.Prelude.{All}
+use Rattle.std.specs.Prelude.{All, cond, count_by}
+use Rattle.std.proofs.lemmas.List.Sums.{sum_by-cons}
+use Rattle.tipc_types.specs.Position.{number_of}
 use Rattle.tipc_types.specs.declared.packet_lists.Kept.{Kept}
 use Rattle.tipc_outside.specs.Frames.{Adds, Out}
 use Rattle.tipc_outside.specs.declared.outgoing.Outgoing.{Outgoing}
 use Rattle.tipc_outside.proofs.Adding.{adds_more, adds_none}
 use Rattle.tipc_send_window.specs.Sending.{kept_after, kept_of}
+use Rattle.tipc_link.specs.Records.{is_tunnel}
 use Rattle.tipc_link.specs.Sessions.{SessionEnd, is_behind, packet_frame, repeat_frames, repeated, spoke}
 
 abbrev frame_again : SessionEnd → Kept → Outgoing
@@ -76,3 +79,12 @@ pub kept_long : (before : ℕ) (packets : List (List ℕ)) → All (λ packet. 1
 kept_long before [] h = All-nil (λ (k : Kept). 16 ≤ length k.packet)
 kept_long before (packet ∷ packets) h =
     All-cons (λ (k : Kept). 16 ≤ length k.packet) _ _ (All-head (λ packet. 16 ≤ length packet) packet packets h) (kept_long (before + 1) packets (All-tail (λ packet. 16 ≤ length packet) packet packets h))
+
+-- the tunnel packets among them are those among the packets
+pub kept_tunnels : (before : ℕ) (packets : List (List ℕ)) → count_by (λ (k : Kept). is_tunnel k.packet) (kept_after before packets) ≡ count_by is_tunnel packets
+kept_tunnels before [] = refl
+kept_tunnels before (packet ∷ packets) =
+    let first : Kept = record { number = number_of (before + 1); packet = packet } in
+    sum_by-cons (λ (k : Kept). cond (is_tunnel k.packet) 1 0) first (kept_after (before + 1) packets)
+    ∙ ap (λ n. cond (is_tunnel packet) 1 0 + n) (kept_tunnels (before + 1) packets)
+    ∙ sym (sum_by-cons (λ (q : List ℕ). cond (is_tunnel q) 1 0) packet packets)

@@ -1,13 +1,15 @@
 -- What an arrival will make of a session and of a link, told before anything of them is changed; and what is true of every session.
-use Rattle.std.specs.Prelude.{◌≡◌, ℕ, ◌+◌, ◌<◌, ◌≤◌, true, List, [], ◌∷◌, ◌++◌, Option, Some, None, All, length}
+use Rattle.std.specs.Prelude.{◌≡◌, ℕ, ◌+◌, ◌≤◌, true, List, [], ◌∷◌, ◌++◌, Option, Some, None, All, length, if◌then◌else◌}
 use Rattle.tipc_header.specs.Spelling.{Fields}
 use Rattle.tipc_link_fsm.specs.Table.{Outcome}
 use Rattle.tipc_recv_window.specs.declared.outcomes.LinkOutcome.{LinkOutcome}
-use Rattle.tipc_recv_window.specs.Receiving.{Coming, Receiving, coming, next_of}
+use Rattle.tipc_recv_window.specs.Receiving.{Coming, Receiving, arrived_at, coming, next_of, place_at, run_of}
+use Rattle.tipc_types.specs.declared.link_words.Why.TheVariants as why
 use Rattle.tipc_types.specs.declared.packet_lists.Taken.{Taken}
 use Rattle.tipc_bundle.specs.Bundles.{Carries as Waits}
 use Rattle.tipc_send_window.specs.Sending.{Sending}
-use Rattle.tipc_link.specs.Sessions.{SessionEnd, Content, Carries, IsWaiting, brought, content_of, due_with, outcome, place_of, placed, receiving, MayJoin}
+use Rattle.tipc_link.specs.Records.{Received, is_early_tunnel, standing}
+use Rattle.tipc_link.specs.Sessions.{SessionEnd, Content, Carries, Nothing, Shows, IsWaiting, brought, content_of, outcome, placed, receiving, MayJoin}
 use Rattle.tipc_link.specs.Links.{LinkEnd, after, is_heard, link_outcome}
 
 -- the arrival's number at the node, what it brings, and for a packet with a number what it will make of the receive window
@@ -16,18 +18,34 @@ pub record HearingState : Type 0 where
   pub window : Option Coming
   pub outcome : LinkOutcome
 
-abbrev pub window_by : SessionEnd → ℕ → Content → Option Coming
-window_by e by (Carries number packet) = Some (coming (receiving e) (brought number packet by))
-window_by e by other = None
+-- what a packet with a number makes of a receive window: nothing, where it is a tunnel packet that isn't wanted
+abbrev pub coming_of : Receiving → Taken → Option Coming
+coming_of w t = if is_early_tunnel w t then None else Some (coming w t)
+
+abbrev pub window_by : Receiving → ℕ → Content → Option Coming
+window_by w by (Carries number packet) = coming_of w (brought number packet by)
+window_by w by other = None
 
 -- of a packet with a number
-abbrev pub numbered_hearing : SessionEnd → Taken → HearingState
-numbered_hearing e t =
-    record { by = t.by; window = Some (coming (receiving e) t); outcome = placed (place_of e t) (due_with e t) }
+abbrev pub numbered_outcome : Receiving → Taken → LinkOutcome
+numbered_outcome w t = placed (place_at w (standing w t)) (run_of (arrived_at w (standing w t) t).held)
 
--- it tells what this packet does to the session
+abbrev pub numbered_hearing : Receiving → Taken → HearingState
+numbered_hearing w t = record { by = t.by; window = coming_of w t; outcome = numbered_outcome w t }
+
+abbrev pub window_outcome : Receiving → ℕ → Content → LinkOutcome
+window_outcome w by (Shows next gap probe) = LinkOutcome.Took []
+window_outcome w by (Carries number packet) = numbered_outcome w (brought number packet by)
+window_outcome w by Nothing = LinkOutcome.Ignored why.Epoch
+
+-- it tells what this packet does to a receive window
+pub record IsWindowHearing (w : Receiving) (p : Fields) (h : HearingState) : Type 0 where
+  pub window : h.window ≡ window_by w h.by (content_of p)
+  pub outcome : h.outcome ≡ window_outcome w h.by (content_of p)
+
+-- and to a session
 pub record IsHearing (e : SessionEnd) (p : Fields) (h : HearingState) : Type 0 where
-  pub window : h.window ≡ window_by e h.by (content_of p)
+  pub window : h.window ≡ window_by (receiving e) h.by (content_of p)
   pub outcome : h.outcome ≡ outcome e h.by (content_of p)
 
 -- the link states after an arrival with their change, and what the session will make of it
@@ -40,15 +58,28 @@ pub record IsArriving (e : LinkEnd) (p : Fields) (a : ArrivingState) : Type 0 wh
   pub heard : (s : SessionEnd) → is_heard p.header a.states.change ≡ true → (after e a.states).session ≡ Some s → IsHearing s p a.hearing
   pub outcome : a.hearing.outcome ≡ link_outcome e a.states p a.hearing.by
 
--- what is true of every session: the wanted packet isn't held, the counts are below 2^64, and what was put may be sent
-pub record IsSession (bearer shown unanswered : ℕ) (window : Sending) (receiving : Receiving) : Type 0 where
+-- what is true of every record: the wanted packet isn't held, and what was shown is near
+pub record IsRecord (window : Receiving) (shown : ℕ) : Type 0 where
+  pub wanted : 1 ≤ window.wanted
+  pub wants : next_of window ≡ None
+  pub near : shown ≤ window.wanted + 32767
+
+-- what is true of every session: the counts are below 2^64, and what was put may be sent
+pub record IsSession (bearer unanswered : ℕ) (window : Sending) (r : Received) : Type 0 where
   pub two_bearers : bearer ≤ 1
-  pub wanted : 1 ≤ receiving.wanted
-  pub wants : next_of receiving ≡ None
-  pub near : shown ≤ receiving.wanted + 32767
-  pub few : unanswered < receiving.wanted
+  pub few : unanswered ≤ r.taken
   pub waiting : All IsWaiting window.waiting
   pub unacked : All (λ packet. 16 ≤ length packet) window.unacked
+
+-- none is held of a record that was made before there was a session, and the peer has shown nothing
+abbrev pub HoldsNone : Option Received → Type 0
+HoldsNone None = Unit {0}
+HoldsNone (Some r) = (r.held ≡ []) × (r.shown ≡ 1)
+
+-- what is true of every link end
+pub record IsLink (bearer : ℕ) (before : Option Received) : Type 0 where
+  pub two_bearers : bearer ≤ 1
+  pub early : HoldsNone before
 
 -- this bundle is made of the last packet that waits and the only one of these
 pub record IsJoined (e : SessionEnd) (pieces : List (List ℕ)) (bundle : List ℕ) : Type 0 where

@@ -6,6 +6,7 @@ use Rattle.tipc_types.specs.declared.link_words.LinkState.{LinkState}
 use Rattle.tipc_types.specs.declared.link_words.LinkState.TheVariants.{ResetUnknown}
 use Rattle.tipc_types.specs.declared.link_words.Reply.TheVariants as reply
 use Rattle.tipc_types.specs.declared.link_words.Why.TheVariants as why
+use Rattle.tipc_types.specs.declared.packet_lists.Taken.{Taken}
 use Rattle.tipc_outside.specs.declared.outgoing.Outgoing.{Outgoing}
 use Rattle.tipc_header.specs.declared.packet.Header.{Header}
 use Rattle.tipc_header.specs.declared.packet.Header.TheVariants as header
@@ -14,9 +15,10 @@ use Rattle.tipc_header.specs.Spelling.{Fields, spelling}
 use Rattle.tipc_header.specs.Frames.{frame_of}
 use Rattle.tipc_link_fsm.specs.declared.changes.Change.{Change}
 use Rattle.tipc_link_fsm.specs.declared.changes.Change.TheVariants.{Stay, Up, Down, Answer, Ignore}
-use Rattle.tipc_link_fsm.specs.Table.{Fsm, Outcome, fresh, gives, is_up, on_activate, on_cut, on_reset, on_traffic, contact_ended, forget_peer}
+use Rattle.tipc_link_fsm.specs.Table.{Fsm, Outcome, fresh, gives, is_up, on_activate, on_cut, on_peer_tunnel, on_reset, on_traffic, contact_ended, forget_peer, release}
 use Rattle.tipc_recv_window.specs.declared.outcomes.LinkOutcome.{LinkOutcome}
-use Rattle.tipc_link.specs.Sessions.{SessionEnd, Content, answer_frames, answered, arrival_frames, arrival_moving, arrived, begun, content_of, outcome, priority_of, state_frame, told}
+use Rattle.tipc_link.specs.Records.{Early, Received, early_of, early_record, kept_for, named, tunnelled}
+use Rattle.tipc_link.specs.Sessions.{SessionEnd, Content, answer_frames, answered, arrival_frames, arrival_moving, arrived, begun_with, content_of, given_up, outcome, priority_of, receiving_record, state_frame, told, tunnel_count, waiting_given, with_record}
 
 pub record LinkEnd : Type 0 where
   -- address words
@@ -30,11 +32,40 @@ pub record LinkEnd : Type 0 where
   pub peer_contact : ℕ
   -- the present session, or the last one where the link is down; none where there was none
   pub session : Option SessionEnd
+  -- the receiving record that tunnel packets made before there was a session
+  pub early : Option Early
 
 -- a new end, on a cut bearer
 abbrev pub made : ℕ → ℕ → ℕ → ℕ → LinkEnd
-made own peer bearer epoch =
-    record { own = own; peer = peer; bearer = bearer; mended = false; fsm = fresh epoch; contact = epoch; peer_contact = 0; session = None }
+made own peer bearer epoch = record {
+  own = own;
+  peer = peer;
+  bearer = bearer;
+  mended = false;
+  fsm = fresh epoch;
+  contact = epoch;
+  peer_contact = 0;
+  session = None;
+  early = None;
+}
+
+-- ---- the receiving record
+
+-- it is the session's, also where the link is down
+abbrev pub record_in : Option SessionEnd → Option Early → Option Received
+record_in None early = option_map early_record early
+record_in (Some s) early = Some (receiving_record s)
+
+abbrev pub record_of : LinkEnd → Option Received
+record_of e = record_in e.session e.early
+
+abbrev pub early_with : Option SessionEnd → Option Early → Received → Option Early
+early_with None early r = Some (early_of r)
+early_with (Some s) early r = early
+
+-- the end with another record
+abbrev pub recorded : LinkEnd → Received → LinkEnd
+recorded e r = record e { session = option_map (λ s. with_record s r) e.session; early = early_with e.session e.early r }
 
 -- ---- frames
 
@@ -73,12 +104,13 @@ state_frames (Some s) shown probe = state_frame s shown probe ∷ []
 
 -- ---- what follows a change of the link states
 
+-- the session of an end that goes up, which keeps a record of the peer's epoch
 abbrev pub session_of : LinkEnd → SessionEnd
-session_of e = begun e.own e.peer e.bearer e.fsm.own (known e.fsm.peer)
+session_of e = begun_with e.own e.peer e.bearer e.fsm.own (known e.fsm.peer) (kept_for (record_of e) (known e.fsm.peer))
 
 -- a link that goes up begins a session and sends a STATE; a STATE that is sent is the session's
 abbrev pub followed : LinkEnd → Change → LinkEnd
-followed e Up = record e { session = Some (session_of e) }
+followed e Up = record e { session = Some (session_of e); early = None }
 followed e (Answer (reply.State probe)) = record e { session = option_map told e.session }
 followed e other = e
 
@@ -129,6 +161,43 @@ is_down other = false
 -- an end that forgets the peer says RESET only where that took it down
 abbrev pub forget_frames : LinkEnd → List Outgoing
 forget_frames e = if is_down (forget_peer e.fsm).change then reset_frames (with_fsm e (forget_peer e.fsm).after) else []
+
+-- the original of a tunnel packet of this end came through the other link
+abbrev pub tunnelled_down : LinkEnd → ℕ → LinkEnd
+tunnelled_down e epoch = with_fsm e (on_peer_tunnel e.fsm epoch).after
+
+abbrev pub is_answer : Change → Bool
+is_answer (Answer reply) = true
+is_answer other = false
+
+-- a Held end is released, and says RESET
+abbrev pub release_frames : LinkEnd → List Outgoing
+release_frames e = if is_answer (release e.fsm).change then reset_frames (with_fsm e (release e.fsm).after) else []
+
+-- ---- changeover
+
+-- the session's packets were given up, or those that wait
+abbrev pub handed_over : LinkEnd → LinkEnd
+handed_over e = record e { session = option_map given_up e.session }
+
+abbrev pub without_waiting : LinkEnd → LinkEnd
+without_waiting e = record e { session = option_map waiting_given e.session }
+
+abbrev pub waiting_of : Option SessionEnd → List (List ℕ)
+waiting_of None = []
+waiting_of (Some s) = s.sending.waiting
+
+abbrev pub tunnels_of : Option SessionEnd → ℕ
+tunnels_of None = 0
+tunnels_of (Some s) = tunnel_count s
+
+-- a tunnel packet on the other link named this epoch of the peer
+abbrev pub named_end : LinkEnd → ℕ → LinkEnd
+named_end e epoch = recorded e (named (record_of e) epoch)
+
+-- and a packet of that epoch came in it
+abbrev pub tunnelled_end : LinkEnd → ℕ → Taken → LinkEnd
+tunnelled_end e epoch t = recorded e (tunnelled (named (record_of e) epoch) epoch t)
 
 -- how many packets were numbered under an epoch of this end, where that is the epoch of the present session or the last one
 abbrev pub numbered_in : Option SessionEnd → ℕ → Option ℕ

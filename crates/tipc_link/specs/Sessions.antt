@@ -1,5 +1,5 @@
--- One end of a link in one session, and what each call makes of it. Packets are bytes as they wait to be sent, word 2 zero.
-use Rattle.std.specs.Prelude.{◌≡◌, ℕ, ◌+◌, ◌-◌, ◌<◌, ◌≤◌, Bool, true, false, ◌||◌, List, [], ◌∷◌, ◌++◌, Option, length, take, drop, filter, map, max, min, nat_le, nat_lt, slice_index_or, ◌==◌, ◌&&◌, if◌then◌else◌}
+-- One end of a link in one session, with its receiving record, and what each call makes of it. Packets are bytes as they wait to be sent, word 2 zero.
+use Rattle.std.specs.Prelude.{◌≡◌, ℕ, ◌+◌, ◌-◌, ◌<◌, ◌≤◌, Bool, true, false, ◌||◌, List, [], ◌∷◌, ◌++◌, Option, length, take, drop, count_by, filter, map, max, min, nat_le, nat_lt, slice_index_or, ◌==◌, ◌&&◌, if◌then◌else◌}
 use Rattle.tipc_types.specs.Position.{number_of, distance_of}
 use Rattle.tipc_types.specs.declared.identity.To.TheVariants as to
 use Rattle.tipc_types.specs.declared.link_words.BroadcastState.{BroadcastState}
@@ -11,11 +11,12 @@ use Rattle.tipc_header.specs.declared.packet.Header.{Header}
 use Rattle.tipc_header.specs.declared.packet.Header.TheVariants as header
 use Rattle.tipc_header.specs.Spelling.{Fields, spelling}
 use Rattle.tipc_header.specs.Frames.{frame_of, sent_as, stamped}
-use Rattle.tipc_send_window.specs.Sending.{Sending, fresh, offered, acknowledged, kept_of, swapped}
+use Rattle.tipc_send_window.specs.Sending.{Sending, fresh, offered, acknowledged, emptied, kept_of, swapped, without_waiting}
 use Rattle.tipc_recv_window.specs.declared.outcomes.LinkOutcome.{LinkOutcome}
 use Rattle.tipc_recv_window.specs.declared.outcomes.Place.{Place}
 use Rattle.tipc_recv_window.specs.declared.outcomes.Place.TheVariants as place
 use Rattle.tipc_recv_window.specs.Receiving.{Receiving, arrived_at, deferred_count, gap_of, past_wanted, place_at, run_of}
+use Rattle.tipc_link.specs.Records.{Received, is_tunnel, standing, unheard}
 use Rattle.tipc_bundle.specs.Bundles.{Carries as Waits, IsInner, joined}
 use Rattle.tipc_bundle.specs.Splitting.{IsBundle}
 
@@ -29,10 +30,11 @@ pub record SessionEnd : Type 0 where
   pub peer_epoch : ℕ
   -- what it sends
   pub sending : Sending
-  -- how many packets of the peer it has taken, and what it holds of those behind them
+  -- the receiving record: the epoch of the peer that it is of, how many packets of the peer were taken, what is held of those behind
+  -- them, and the position that the next packet of the peer will have, as far as the peer has shown
+  pub record_epoch : ℕ
   pub taken : ℕ
   pub held : List (Option Taken)
-  -- the position that the next packet of the peer will have, as far as the peer has shown
   pub shown : ℕ
   -- how many packets it has taken since it last sent a frame
   pub unanswered : ℕ
@@ -40,6 +42,20 @@ pub record SessionEnd : Type 0 where
   pub owes : Bool
 
 -- ---- receiving
+
+-- its receiving record
+abbrev pub receiving_record : SessionEnd → Received
+receiving_record e = record { epoch = e.record_epoch; taken = e.taken; held = e.held; shown = e.shown }
+
+-- the end with another record: where that is of another epoch, nothing of it is unanswered
+abbrev pub with_record : SessionEnd → Received → SessionEnd
+with_record e r = record e {
+  record_epoch = r.epoch;
+  taken = r.taken;
+  held = r.held;
+  shown = r.shown;
+  unanswered = if r.epoch == e.record_epoch then e.unanswered else 0;
+}
 
 -- the number that it wants
 abbrev pub wanted : SessionEnd → ℕ
@@ -114,10 +130,10 @@ brought number packet by = record { number = number; packet = packet; by = by }
 
 -- where it stands, the receive window with it, and the packets that can be taken then
 abbrev pub place_of : SessionEnd → Taken → Place
-place_of e t = place_at (receiving e) (past e t.number)
+place_of e t = place_at (receiving e) (standing (receiving e) t)
 
 abbrev pub window_with : SessionEnd → Taken → Receiving
-window_with e t = arrived_at (receiving e) (past e t.number) t
+window_with e t = arrived_at (receiving e) (standing (receiving e) t) t
 
 unfoldable pub due_with : SessionEnd → Taken → List Taken
 due_with e t = run_of (window_with e t).held
@@ -156,7 +172,7 @@ spoke e [] = e
 spoke e (first ∷ others) = record e { unanswered = 0 }
 
 -- The acknowledgement of a packet is read first, then what it brings: missing packets are repeated, the wanted packet is taken
--- with those behind it, and one that is early is held.
+-- with those behind it, and one that is early is held, but for a tunnel packet, which is passed over then.
 abbrev pub heard : SessionEnd → ℕ → ℕ → Content → SessionEnd
 heard e by acknowledgement (Shows next gap probe) =
     noted (spoke (released e acknowledgement) (repeated (released e acknowledgement) acknowledgement gap)) next probe
@@ -205,10 +221,40 @@ pub data IsPut (e : SessionEnd) : List (List ℕ) → SessionEnd → Type 0 wher
   joins : (packets : List (List ℕ)) (packet : List ℕ) → MayJoin e packets packet → IsPut e (packet ∷ []) (with_last e (joined (packets ++ packet ∷ [])))
   waits : (pieces : List (List ℕ)) → ((packets : List (List ℕ)) (packet : List ℕ) → pieces ≡ packet ∷ [] → MayJoin e packets packet → ⊥) → IsPut e pieces (put e pieces)
 
--- a new end, which is up
+-- a new end, which is up, with this record; and with a new one
+abbrev pub begun_with : ℕ → ℕ → ℕ → ℕ → ℕ → Received → SessionEnd
+begun_with own peer bearer epoch peer_epoch r = record {
+  own = own;
+  peer = peer;
+  bearer = bearer;
+  epoch = epoch;
+  peer_epoch = peer_epoch;
+  sending = fresh;
+  record_epoch = r.epoch;
+  taken = r.taken;
+  held = r.held;
+  shown = r.shown;
+  unanswered = 0;
+  owes = false;
+}
+
 abbrev pub begun : ℕ → ℕ → ℕ → ℕ → ℕ → SessionEnd
-begun own peer bearer epoch peer_epoch =
-    record { own = own; peer = peer; bearer = bearer; epoch = epoch; peer_epoch = peer_epoch; sending = fresh; taken = 0; held = []; shown = 1; unanswered = 0; owes = false }
+begun own peer bearer epoch peer_epoch = begun_with own peer bearer epoch peer_epoch (unheard peer_epoch)
+
+-- ---- giving packets up
+
+-- all packets were given up, or those that wait
+abbrev pub given_up : SessionEnd → SessionEnd
+given_up e = record e { sending = emptied e.sending }
+
+abbrev pub waiting_given : SessionEnd → SessionEnd
+waiting_given e = record e { sending = without_waiting e.sending }
+
+-- how many of the unacknowledged and the waiting packets are tunnel packets; counted up to 4,294,967,295
+abbrev pub tunnel_count : SessionEnd → ℕ
+tunnel_count e = min (count_by is_tunnel e.sending.unacked + count_by is_tunnel e.sending.waiting) 4294967295
+
+-- ---- moving up
 
 -- how many of the waiting packets the window has room for
 abbrev pub room : Sending → ℕ

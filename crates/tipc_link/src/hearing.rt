@@ -1,14 +1,16 @@
 //! What a packet will make of a session, before anything of it is changed.
 
-ghost use Rattle.std.specs.Prelude.{◌≡◌, ◌==◌, ◌&&◌, None, IfOk};
+ghost use Rattle.std.specs.Prelude.{◌≡◌, ◌==◌, ◌&&◌, true, None, IfOk};
 ghost use Rattle.tipc_recv_window.specs.Receiving.{deferred_count};
 ghost use Rattle.tipc_header.specs.Spelling.{spelling, view};
 ghost use Rattle.tipc_header.specs.Grammar.{Fits};
+ghost use Rattle.tipc_link.specs.Links.{is_heard, is_taken, is_traffic};
 ghost use Rattle.tipc_link.specs.Sessions.{as_waiting, is_deferred, placed, previous_waiting};
 
 use std::alloc::Global;
 use std::marker::Model;
 use tipc_header::{Header, Packet, encode};
+use tipc_link_fsm::Change;
 use tipc_recv_window::{LinkOutcome, Place, RecvWindow, WindowArrival};
 use tipc_types::{Bytes, NoMemory, TakenList, Why};
 
@@ -110,4 +112,42 @@ pub(crate) fn outcome_at(place: Place, due: TakenList) -> LinkOutcome
         Place::Deferred => LinkOutcome::Deferred,
         Place::Old => LinkOutcome::Ignored(Why::Old),
     }
+}
+
+/// Whether a packet is a STATE or has a number: it belongs to a session.
+pub fn is_traffic(header: &Header) -> bool
+    ensures { result ≡ is_traffic header.now }
+{
+    match header {
+        Header::Reset(_) => false,
+        Header::Activate(_) => false,
+        Header::Discovery(_) => false,
+        Header::State(_) => true,
+        Header::Payload(_) => true,
+        Header::Bundler(_) => true,
+        Header::Changeover(_) => true,
+        Header::NameDistributor(_) => true,
+        Header::Fragmenter(_) => true,
+    }
+}
+
+/// Whether the link states took it as a packet of the session.
+fn is_taken(change: Change) -> bool
+    ensures { result ≡ is_taken change }
+{
+    match change {
+        Change::Up => true,
+        Change::Stay => true,
+        Change::Down(_) => false,
+        Change::Answer(_) => false,
+        Change::Ignore(_) => false,
+    }
+}
+
+/// Whether a packet is heard by the session.
+pub(crate) fn is_heard(header: &Header, change: Change) -> bool
+    ensures value { result ≡ is_heard header.now change }
+    ensures taken { result ≡ true → is_taken change ≡ true }
+{
+    is_traffic(header) && is_taken(change)
 }

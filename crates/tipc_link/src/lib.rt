@@ -3,15 +3,19 @@
 #![tactic(auto)]
 
 mod arriving;
+mod changeover;
 mod hearing;
 mod joining;
 mod laws;
 mod link;
+mod record;
 mod session;
 
 pub use arriving::Arriving;
-pub use laws::two_ends_stay_joined;
-pub use link::{Link, LinkArrival, is_down, is_traffic};
+pub use changeover::HandedOver;
+pub use hearing::is_traffic;
+pub use laws::{a_record_outlives_its_session, two_ends_stay_joined};
+pub use link::{Link, LinkArrival, is_down};
 
 #[cfg(test)]
 mod tests;

@@ -1,16 +1,18 @@
 //! A link end: its states, its session while it is up, and the frames that it sends.
 
-ghost use Rattle.std.specs.Prelude.{◌≡◌, ℕ, ◌⊎◌, ◌<◌, ◌≤◌, [], true, false, is_some, Some, None, Err, length, All, IfOk, OnErr, OnOk};
+ghost use Rattle.std.specs.Prelude.{◌≡◌, ℕ, ◌⊎◌, ◌<◌, ◌≤◌, [], true, false, is_some, Some, None, Err, length, All, IfNone, IfOk, IfSome, OnErr, OnOk};
 ghost use Rattle.tipc_header.specs.Grammar.{Fits, ResetFits};
 ghost use Rattle.tipc_header.specs.Spelling.{view};
 ghost use Rattle.tipc_outside.specs.Frames.{Adds};
 ghost use Rattle.tipc_link_fsm.specs.Table.{is_up, on_activate, on_cut, on_reset, on_tick, contact_ended, forget_peer};
-ghost use Rattle.tipc_link.specs.Links.{change_outcome, is_down, is_heard, is_reset_unknown, is_taken, is_traffic, numbered_in, outcome_of};
+ghost use Rattle.tipc_link.specs.Links.{change_outcome, is_down, is_heard, is_reset_unknown, known, numbered_in, outcome_of};
+ghost use Rattle.tipc_link.specs.Records.{kept_for, unheard};
 ghost use Rattle.tipc_link.specs.Sessions.{SessionEnd, IsPut, IsWaiting, content_of, flush_frames, flushed};
 ghost use Rattle.tipc_link.specs.Hearings.{IsArriving, IsHearing};
 
 use crate::arriving::Arriving;
-use crate::hearing::Hearing;
+use crate::hearing::{Hearing, is_heard};
+use crate::record::Record;
 use crate::session::Session;
 use std::alloc::{AllocError, Global};
 use std::marker::Model;
@@ -42,15 +44,20 @@ pub struct Link {
     peer: Addr,
     bearer: u8,
     mended: bool,
-    fsm: LinkFsm,
+    pub(crate) fsm: LinkFsm,
     contact: u64,
     peer_contact: u64,
-    session: Option<Session>,
+    /// The present session or the last one, with the receiving record.
+    pub(crate) session: Option<Session>,
+    /// The receiving record, where tunnel packets on the other link came before there was a session.
+    pub(crate) early: Option<Record>,
 }
 
 impl Model for Link {
-    ghost use Rattle.std.specs.Prelude.{◌≤◌};
+    ghost use Rattle.std.specs.Prelude.{option_map};
+    ghost use Rattle.tipc_link.specs.Records.{early_of};
     ghost use Rattle.tipc_link.specs.Links.{LinkEnd};
+    ghost use Rattle.tipc_link.specs.Hearings.{IsLink};
 
     ghost Value = { LinkEnd };
 
@@ -63,13 +70,14 @@ impl Model for Link {
       contact = l.contact;
       peer_contact = l.peer_contact;
       session = l.session;
+      early = option_map early_of l.early;
     } };
 
-    ghost invariant = { λ l. l.bearer ≤ 1 };
+    ghost invariant = { λ l. IsLink l.bearer l.early };
 }
 
 impl Link {
-    ghost use Rattle.tipc_link.specs.Links.{activate_frames, after, answered_end, answered_frames, arrival_end, cut_end, ended_end, follow_frames, followed, forget_frames, frames, heard_by, heard_end, heard_outcome, link_frames, link_outcome, made, mend_frames, mended_end, notice, on_bearer, reset_frames, session_of, shown_by, state_frames, with_fsm, with_session};
+    ghost use Rattle.tipc_link.specs.Links.{activate_frames, after, answered_end, answered_frames, arrival_end, cut_end, ended_end, follow_frames, followed, forget_frames, frames, heard_by, heard_end, heard_outcome, link_frames, link_outcome, made, mend_frames, mended_end, notice, on_bearer, record_of, reset_frames, session_of, shown_by, state_frames, with_fsm, with_session};
 
     /// A link end in RESET_UNKNOWN under this epoch, on a bearer 0 or 1 that counts as cut.
     pub fn new(own: Addr, peer: Addr, bearer: u8, epoch: u64) -> Link
@@ -85,6 +93,7 @@ impl Link {
             contact: epoch,
             peer_contact: 0,
             session: None,
+            early: None,
         }
     }
 
@@ -101,6 +110,7 @@ impl Link {
             contact: self.contact,
             peer_contact: self.peer_contact,
             session: copy_session(&self.session)?,
+            early: copy_record(&self.early)?,
         })
     }
 
@@ -126,7 +136,7 @@ impl Link {
             header,
             rest: &[],
         };
-        let peer_epoch = self.fsm.peer().unwrap_or(0);
+        let peer_epoch = known_epoch(&self.fsm);
         Ok(Bytes::from_vec(encode_frame(alloc, self.fsm.own(), peer_epoch, &packet)?))
     }
 
@@ -162,7 +172,7 @@ impl Link {
     }
 
     /// Sends a RESET.
-    fn send_reset(&self, alloc: Global, out: &mut Outbox)
+    pub(crate) fn send_reset(&self, alloc: Global, out: &mut Outbox)
         ensures { Adds out.old out.new (reset_frames self.now) }
     {
         self.send_notice(alloc, Header::Reset(self.shown()), out);
@@ -175,26 +185,35 @@ impl Link {
         self.send_notice(alloc, Header::Activate(self.shown()), out);
     }
 
-    /// A session of the epochs of these link states.
-    fn new_session(&self, alloc: Global, fsm: &LinkFsm) -> Session
-        ensures { result ≡ session_of (with_fsm self.now fsm.now) }
+    /// Gives the receiving record, and with it the last session: an end that goes up begins another.
+    #[tactic(auto, using(crate::proofs::Takings::early_whole))]
+    fn take_record(&mut self) -> Option<Record>
+        ensures given { result ≡ record_of self.old }
+        ensures after { self.new ≡ record self.old { session = None; early = None } }
     {
-        Session::established(
-            alloc,
-            self.own,
-            self.peer,
-            self.bearer,
-            fsm.own(),
-            fsm.peer().unwrap_or(0),
-        )
+        let early = self.early.take();
+        match self.session.take() {
+            Some(session) => Some(session.into_received()),
+            None => early,
+        }
     }
 
-    /// Begins a session, whose first frame is a STATE.
+    /// Begins a session, whose first frame is a STATE. It keeps a receiving record of the peer's epoch.
     fn begin(&mut self, alloc: Global, shown: BroadcastState, out: &mut Outbox)
         ensures after { self.new ≡ followed self.old Change.Up }
         ensures frames { Adds out.old out.new (follow_frames self.old Change.Up shown) }
     {
-        let mut session = self.new_session(alloc, &self.fsm);
+        let peer_epoch = known_epoch(&self.fsm);
+        let received = kept_for(alloc, self.take_record(), peer_epoch);
+        let mut session = Session::established(
+            alloc,
+            self.own,
+            self.peer,
+            self.bearer,
+            self.fsm.own(),
+            peer_epoch,
+            received,
+        );
         session.tell(alloc, shown, false, out);
         self.session = Some(session);
     }
@@ -344,11 +363,59 @@ impl Link {
             return Ok(Hearing::without_window(by, change_outcome(alloc, change)));
         }
         match change {
-            Change::Up => self.new_session(alloc, fsm).prepare(alloc, packet, by),
+            Change::Up => self.prepare_first(alloc, fsm, packet, by),
             Change::Stay => self.prepare_more(alloc, packet, by),
             Change::Down(_) => unreachable!(),
             Change::Answer(_) => unreachable!(),
             Change::Ignore(_) => unreachable!(),
+        }
+    }
+
+    /// What a packet makes of the session that begins with it.
+    fn prepare_first(
+        &self,
+        alloc: Global,
+        fsm: &LinkFsm,
+        packet: &Packet<'_>,
+        by: u64,
+    ) -> Result<Hearing, NoMemory>
+        requires { Fits (view packet.now) }
+        ensures by { IfOk result (λ h. h.by ≡ by) }
+        ensures hearing { IfOk result (λ h. IsHearing (session_of (with_fsm self.now fsm.now)) (view packet.now) h) }
+    {
+        let peer_epoch = known_epoch(fsm);
+        match self.kept(peer_epoch) {
+            Some(received) => received.prepare(alloc, packet, by),
+            None => Record::new(alloc, peer_epoch).prepare(alloc, packet, by),
+        }
+    }
+
+    /// The receiving record, where it is of this epoch of the peer: a link that goes up under it keeps that.
+    #[tactic(auto, using(crate::proofs::KeptRecords::kept_same, crate::proofs::KeptRecords::kept_other))]
+    fn kept(&self, epoch: u64) -> Option<&Record>
+        ensures some { IfSome result (λ received. received.now ≡ kept_for (record_of self.now) epoch) }
+        ensures none { IfNone result (unheard epoch ≡ kept_for (record_of self.now) epoch) }
+    {
+        let received = self.received()?;
+        if received.epoch() == epoch {
+            Some(received)
+        } else {
+            None
+        }
+    }
+
+    /// The receiving record. None exactly where there is none.
+    #[tactic(auto, using(crate::proofs::Takings::early_whole))]
+    fn received(&self) -> Option<&Record>
+        ensures some { IfSome result (λ received. record_of self.now ≡ Some received.now) }
+        ensures none { IfNone result (record_of self.now ≡ None) }
+    {
+        match &self.session {
+            Some(session) => Some(session.received()),
+            None => match &self.early {
+                Some(received) => Some(received),
+                None => None,
+            },
         }
     }
 
@@ -619,6 +686,36 @@ fn copy_session(session: &Option<Session>) -> Result<Option<Session>, NoMemory>
     }
 }
 
+/// The peer's epoch in an envelope: 0 where it isn't known.
+fn known_epoch(fsm: &LinkFsm) -> u64
+    ensures { result ≡ known fsm.now.peer }
+{
+    fsm.peer().unwrap_or(0)
+}
+
+/// A record, or none, that is as this one.
+fn copy_record(early: &Option<Record>) -> Result<Option<Record>, NoMemory>
+    ensures { IfOk result (λ copy. copy ≡ early.now) }
+{
+    match early {
+        Some(received) => Ok(Some(received.copy()?)),
+        None => Ok(None),
+    }
+}
+
+/// The record with which a link goes up under this epoch of the peer: the one of that epoch, or a new one.
+#[tactic(auto, using(crate::proofs::KeptRecords::kept_same, crate::proofs::KeptRecords::kept_other))]
+fn kept_for(alloc: Global, kept: Option<Record>, epoch: u64) -> Record
+    ensures { result ≡ kept_for kept epoch }
+{
+    if let Some(received) = kept {
+        if received.epoch() == epoch {
+            return received;
+        }
+    }
+    Record::new(alloc, epoch)
+}
+
 /// Whether a change took the link down.
 pub fn is_down(change: Change) -> bool
     ensures { result ≡ is_down change }
@@ -648,44 +745,6 @@ fn change_of(fsm: &mut LinkFsm, header: &Header, es: u64, er: u64, held: bool) -
         Header::NameDistributor(_) => fsm.on_traffic(es, er),
         Header::Fragmenter(_) => fsm.on_traffic(es, er),
     }
-}
-
-/// Whether a packet is a STATE or has a number: it belongs to a session.
-pub fn is_traffic(header: &Header) -> bool
-    ensures { result ≡ is_traffic header.now }
-{
-    match header {
-        Header::Reset(_) => false,
-        Header::Activate(_) => false,
-        Header::Discovery(_) => false,
-        Header::State(_) => true,
-        Header::Payload(_) => true,
-        Header::Bundler(_) => true,
-        Header::Changeover(_) => true,
-        Header::NameDistributor(_) => true,
-        Header::Fragmenter(_) => true,
-    }
-}
-
-/// Whether the link states took it as a packet of the session.
-fn is_taken(change: Change) -> bool
-    ensures { result ≡ is_taken change }
-{
-    match change {
-        Change::Up => true,
-        Change::Stay => true,
-        Change::Down(_) => false,
-        Change::Answer(_) => false,
-        Change::Ignore(_) => false,
-    }
-}
-
-/// Whether a packet is heard by the session.
-fn is_heard(header: &Header, change: Change) -> bool
-    ensures value { result ≡ is_heard header.now change }
-    ensures taken { result ≡ true → is_taken change ≡ true }
-{
-    is_traffic(header) && is_taken(change)
 }
 
 /// What an arrival brought that no session heard.

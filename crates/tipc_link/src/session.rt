@@ -1,27 +1,30 @@
 //! A session: the packets of a link end that is up, sent and taken.
 
-ghost use Rattle.std.specs.Prelude.{◌≡◌, ◌+◌, ◌-◌, ◌<◌, ◌≤◌, [], ◌∷◌, ◌==◌, if◌then◌else◌, List, ℕ, None, Err, length, take, slice_get, All, IfNone, IfOk, IfSome, OnErr, OnOk, Some};
+ghost use Rattle.std.specs.Prelude.{◌≡◌, ◌+◌, ◌-◌, ◌<◌, ◌≤◌, [], ◌∷◌, ◌==◌, false, true, if◌then◌else◌, List, ℕ, None, Err, count_by, length, take, slice_get, All, IfNone, IfOk, IfSome, OnErr, OnOk, Some};
 ghost use Rattle.tipc_types.specs.Position.{number_of};
-ghost use Rattle.tipc_header.specs.Spelling.{spelling, view};
+ghost use Rattle.tipc_header.specs.Spelling.{view};
 ghost use Rattle.tipc_header.specs.Grammar.{Fits};
 ghost use Rattle.tipc_outside.specs.Frames.{Adds};
 ghost use Rattle.tipc_types.specs.declared.packet_lists.Taken.{Taken};
 ghost use Rattle.tipc_send_window.specs.Sending.{kept_of};
 ghost use Rattle.tipc_recv_window.specs.Receiving.{coming, next_of};
+ghost use Rattle.tipc_link.specs.Records.{is_early_tunnel, is_tunnel, named, tunnelled, tunnelled_outcome};
 ghost use Rattle.tipc_link.specs.Sessions.{is_behind};
 
-use crate::hearing::{Hearing, is_only_deferred, outcome_at, waiting_bytes};
+use crate::changeover::{HandedOver, is_tunnel};
+use crate::hearing::{Hearing, is_only_deferred};
 use crate::joining::{joined_with, may_be_joined};
+use crate::record::Record;
 use std::alloc::{AllocError, Global};
 use std::marker::Model;
 use tipc_bundle::may_be_bundled;
 use tipc_header::{Header, Packet, State, encode_frame, stamp_frame};
 use tipc_outside::Outbox;
-use tipc_recv_window::{LinkOutcome, RecvWindow, WindowArrival};
+use tipc_recv_window::{LinkOutcome, Place, RecvWindow, WindowArrival};
 use tipc_send_window::{OfferFault, SendWindow, WINDOW};
 use tipc_types::{
-    Addr, BroadcastState, Bytes, Kept, NoMemory, Pieces, Taken, TakenList, To, Why,
-    number_distance, sequence_number,
+    Addr, BroadcastState, Bytes, Kept, NoMemory, OldSession, Pieces, Taken, To, number_distance,
+    sequence_number,
 };
 
 /// How many packets may be taken before a STATE is sent. (This project's profile.)
@@ -30,7 +33,7 @@ const UNANSWERED: u64 = 16;
 /// A number further ahead of the wanted one lies behind it.
 const FURTHEST_AHEAD: u16 = 32_767;
 
-/// What one end of a link to a peer on one bearer keeps in one session.
+/// What one end of a link to a peer on one bearer keeps in one session: what it sends, and the receiving record.
 #[derive(Drop)]
 pub(crate) struct Session {
     own: Addr,
@@ -39,9 +42,8 @@ pub(crate) struct Session {
     epoch: u64,
     peer_epoch: u64,
     window: SendWindow,
-    receiving: RecvWindow,
-    /// The position that the peer's next packet will have, as far as the peer has shown.
-    shown: u64,
+    /// What is received of the peer. It outlives the session.
+    received: Record,
     /// How many packets were taken since the last frame.
     unanswered: u64,
     /// Whether the last arrival asks for a STATE.
@@ -49,7 +51,6 @@ pub(crate) struct Session {
 }
 
 impl Model for Session {
-    ghost use Rattle.std.specs.Prelude.{◌-◌};
     ghost use Rattle.tipc_link.specs.Sessions.{SessionEnd};
     ghost use Rattle.tipc_link.specs.Hearings.{IsSession};
 
@@ -62,21 +63,22 @@ impl Model for Session {
       epoch = l.epoch;
       peer_epoch = l.peer_epoch;
       sending = l.window;
-      taken = l.receiving.wanted - 1;
-      held = l.receiving.held;
-      shown = l.shown;
+      record_epoch = l.received.epoch;
+      taken = l.received.taken;
+      held = l.received.held;
+      shown = l.received.shown;
       unanswered = l.unanswered;
       owes = l.owes;
     } };
 
-    ghost invariant = { λ l. IsSession l.bearer l.shown l.unanswered l.window l.receiving };
+    ghost invariant = { λ l. IsSession l.bearer l.unanswered l.window l.received };
 }
 
 impl Session {
-    ghost use Rattle.tipc_link.specs.Sessions.{ahead, answer_frames, answered, arrival_frames, arrived, as_waiting, begun, brought, content_of, flush_frames, flushed, gap, highest, missing, noted, outcome, packet_frame, past, put, priority_of, receiving, released, repeat_frames, repeated, room, sent, shows_more, spoke, state_fields, state_frame, told, took, wanted, with_last, Content, IsPut, IsWaiting, MayJoin, SessionEnd};
-    ghost use Rattle.tipc_link.specs.Hearings.{IsHearing, IsJoined, numbered_hearing};
+    ghost use Rattle.tipc_link.specs.Sessions.{ahead, answer_frames, answered, arrival_frames, arrived, begun_with, content_of, flush_frames, flushed, gap, given_up, highest, missing, noted, outcome, packet_frame, past, put, priority_of, receiving, receiving_record, released, repeat_frames, repeated, room, sent, shows_more, spoke, state_fields, state_frame, told, took, tunnel_count, waiting_given, wanted, with_last, with_record, Content, IsPut, IsWaiting, MayJoin, SessionEnd};
+    ghost use Rattle.tipc_link.specs.Hearings.{coming_of, IsHearing, IsJoined};
 
-    /// An end that is up, in the session of these two epochs, over a bearer 0 or 1.
+    /// An end that is up, in the session of these two epochs, over a bearer 0 or 1, with this receiving record.
     pub fn established(
         alloc: Global,
         own: Addr,
@@ -84,9 +86,10 @@ impl Session {
         bearer: u8,
         epoch: u64,
         peer_epoch: u64,
+        received: Record,
     ) -> Session
         requires { bearer ≤ 1 }
-        ensures { result ≡ begun own.word peer.word bearer epoch peer_epoch }
+        ensures { result ≡ begun_with own.word peer.word bearer epoch peer_epoch received }
     {
         Session {
             own,
@@ -95,8 +98,7 @@ impl Session {
             epoch,
             peer_epoch,
             window: SendWindow::new(alloc),
-            receiving: RecvWindow::new(alloc, 1),
-            shown: 1,
+            received,
             unanswered: 0,
             owes: false,
         }
@@ -113,18 +115,31 @@ impl Session {
             epoch: self.epoch,
             peer_epoch: self.peer_epoch,
             window: self.window.copy()?,
-            receiving: self.receiving.copy()?,
-            shown: self.shown,
+            received: self.received.copy()?,
             unanswered: self.unanswered,
             owes: self.owes,
         })
+    }
+
+    /// Its receiving record.
+    pub fn received(&self) -> &Record
+        ensures { result.now ≡ receiving_record self.now }
+    {
+        &self.received
+    }
+
+    /// Its receiving record, where the session is over.
+    pub fn into_received(self) -> Record
+        ensures { result ≡ receiving_record self }
+    {
+        self.received
     }
 
     /// How many packets it has taken.
     fn taken(&self) -> u64
         ensures { result ≡ self.now.taken }
     {
-        self.receiving.wanted_position() - 1
+        self.received.taken()
     }
 
     /// How many packets each direction numbered in this session: the own one exactly, and the peer's as taken.
@@ -315,7 +330,7 @@ impl Session {
         ensures wants { result.now.wanted ≡ self.now.taken + 1 }
         ensures next { next_of result.now ≡ None }
     {
-        &self.receiving
+        self.received.window()
     }
 
     /// How far a number lies past the wanted one.
@@ -348,9 +363,9 @@ impl Session {
     fn note(&mut self, next: u16, probe: bool)
         ensures { self.new ≡ noted self.old next probe }
     {
-        let position = self.receiving.wanted_position() + self.ahead(next) as u64;
+        let position = self.receive_window().wanted_position() + self.ahead(next) as u64;
         self.owes = probe || self.shows_more(next);
-        self.shown = self.shown.max(position);
+        self.received.show(position);
     }
 
     /// Releases every packet up to the one with this number.
@@ -393,56 +408,14 @@ impl Session {
         any
     }
 
-    /// What a packet that arrived in this session makes of it. `by` is the arrival's number at this node. A packet that carries
-    /// nothing for a link end that is up is ignored with `Epoch`.
-    ///
-    /// A packet with a number is taken where it is the wanted one, and with it those behind it that are held; it is deferred where
-    /// it is one of the next 49 and isn't held; else it is ignored with `Old`. A packet that is taken is given as it waited to be
-    /// sent. (TIPC 2.0 draft; this project's profile.)
-    #[tactic(auto, unfolding(crate::specs::Sessions::content_of))]
+    /// What a packet that arrived in this session makes of it: as [`Record::prepare`].
+    #[tactic(auto, using(crate::proofs::Arrivals::hears_at))]
     pub fn prepare(&self, alloc: Global, packet: &Packet<'_>, by: u64) -> Result<Hearing, NoMemory>
         requires { Fits (view packet.now) }
         ensures by { IfOk result (λ h. h.by ≡ by) }
         ensures hearing { IfOk result (λ h. IsHearing self.now (view packet.now) h) }
     {
-        match packet.header {
-            Header::Reset(_) | Header::Activate(_) | Header::Discovery(_) => {
-                Ok(Hearing::without_window(by, LinkOutcome::Ignored(Why::Epoch)))
-            }
-            Header::State(_) => {
-                Ok(Hearing::without_window(by, LinkOutcome::Took(TakenList::new(alloc))))
-            }
-            Header::Payload(_)
-            | Header::Bundler(_)
-            | Header::Changeover(_)
-            | Header::NameDistributor(_)
-            | Header::Fragmenter(_) => self.prepare_numbered(alloc, packet, by),
-        }
-    }
-
-    /// What a packet with a number makes of it.
-    fn prepare_numbered(
-        &self,
-        alloc: Global,
-        packet: &Packet<'_>,
-        by: u64,
-    ) -> Result<Hearing, NoMemory>
-        requires { Fits (view packet.now) }
-        ensures { IfOk result (λ h. h ≡ numbered_hearing self.now (brought packet.now.sequence (spelling (as_waiting (view packet.now))) by)) }
-    {
-        let number = packet.sequence;
-        let taken = Taken {
-            number,
-            packet: waiting_bytes(alloc, packet)?,
-            by,
-        };
-        let (arrival, due) = self.receive_window().prepare(alloc, taken)?;
-        let outcome = outcome_at(arrival.place(), due);
-        Ok(Hearing {
-            by,
-            window: Some(arrival),
-            outcome,
-        })
+        self.received.prepare(alloc, packet, by)
     }
 
     /// Takes a packet that arrived in this session, as it was prepared: the acknowledgement is read first, and packets that the
@@ -495,35 +468,150 @@ impl Session {
         hearing: Hearing,
         out: &mut Outbox,
     ) -> LinkOutcome
-        requires { (t : Taken) × (hearing ≡ numbered_hearing self.old t) }
+        requires { (t : Taken) × (hearing.window ≡ coming_of (receiving self.old) t) }
         ensures answer { result ≡ hearing.outcome }
-        ensures after { (t : Taken) → hearing ≡ numbered_hearing self.old t → self.new ≡ flushed (took (released self.old acknowledgement) t) }
-        ensures frames { (t : Taken) → hearing ≡ numbered_hearing self.old t → Adds out.old out.new (flush_frames (took (released self.old acknowledgement) t)) }
+        ensures after { (t : Taken) → hearing.window ≡ coming_of (receiving self.old) t → self.new ≡ flushed (took (released self.old acknowledgement) t) }
+        ensures frames { (t : Taken) → hearing.window ≡ coming_of (receiving self.old) t → Adds out.old out.new (flush_frames (took (released self.old acknowledgement) t)) }
     {
         let Hearing {
             window,
             outcome,
             ..
         } = hearing;
-        match window {
-            Some(arrival) => self.take(arrival),
-            None => unreachable!(),
-        }
+        self.take_or_pass(window);
         self.acknowledge(acknowledgement);
         self.flush(alloc, out);
         outcome
     }
 
+    /// Does what a packet with a number makes of the receive window: nothing, where it is a tunnel packet that isn't the wanted one.
+    #[tactic(auto, using(crate::proofs::Standing::coming_none, crate::proofs::Standing::coming_some))]
+    fn take_or_pass(&mut self, window: Option<WindowArrival>)
+        requires { (t : Taken) × (window ≡ coming_of (receiving self.old) t) }
+        ensures { (t : Taken) → window ≡ coming_of (receiving self.old) t → self.new ≡ took self.old t }
+    {
+        match window {
+            Some(arrival) => self.take(arrival),
+            None => self.pass_over(),
+        }
+    }
+
     /// Lets the receive window do what a packet with a number makes of it. The only packet that is deferred asks for a STATE.
     fn take(&mut self, arrival: WindowArrival)
-        requires { (t : Taken) × (arrival ≡ coming (receiving self.old) t) }
-        ensures { (t : Taken) → arrival ≡ coming (receiving self.old) t → self.new ≡ took self.old t }
+        requires { (t : Taken) × (is_early_tunnel (receiving self.old) t ≡ false) × (arrival ≡ coming (receiving self.old) t) }
+        ensures { (t : Taken) → is_early_tunnel (receiving self.old) t ≡ false → arrival ≡ coming (receiving self.old) t → self.new ≡ took self.old t }
     {
         let place = arrival.place();
-        let before = self.receiving.wanted_position();
-        self.receiving.commit(arrival);
-        self.unanswered += self.receiving.wanted_position() - before;
-        self.owes = is_only_deferred(place, &self.receiving);
+        let before = self.received.taken();
+        self.received.commit(arrival);
+        self.unanswered += self.received.taken() - before;
+        self.owes = is_only_deferred(place, self.received.window());
+    }
+
+    /// Passes over a tunnel packet that isn't the wanted one: like any that is old, it asks for no STATE.
+    #[tactic(auto, using(crate::proofs::Takings::took_early))]
+    fn pass_over(&mut self)
+        ensures { (t : Taken) → is_early_tunnel (receiving self.old) t ≡ true → self.new ≡ took self.old t }
+    {
+        self.owes = is_only_deferred(Place::Old, self.receive_window());
+    }
+
+    /// A tunnel packet on the other link names this epoch of the peer: a new receiving record is made where that is above the
+    /// record's, and nothing of it is unanswered.
+    #[tactic(auto, using(crate::proofs::Takings::named_above, crate::proofs::Takings::named_below, crate::proofs::Takings::with_itself))]
+    pub fn name_epoch(&mut self, alloc: Global, epoch: u64)
+        ensures { self.new ≡ with_record self.old (named (Some (receiving_record self.old)) epoch) }
+    {
+        if self.received.epoch() >= epoch {
+            return;
+        }
+        self.renew(Record::new(alloc, epoch));
+    }
+
+    /// Takes a packet that came in such a tunnel packet: as [`Record::receive`], on the record that the tunnel packet names.
+    ///
+    /// # Errors
+    ///
+    /// Where memory runs out. Nothing is changed then.
+    #[tactic(auto, using(crate::proofs::Takings::named_above, crate::proofs::Takings::named_below, crate::proofs::Takings::tunnelled_epoch))]
+    pub fn take_tunnelled(
+        &mut self,
+        alloc: Global,
+        epoch: u64,
+        packet: Taken,
+    ) -> Result<LinkOutcome, NoMemory>
+        ensures outcome { IfOk result (λ o. o ≡ tunnelled_outcome (named (Some (receiving_record self.old)) epoch) epoch packet) }
+        ensures after { OnOk result (self.new ≡ with_record self.old (tunnelled (named (Some (receiving_record self.old)) epoch) epoch packet)) }
+        ensures err { OnErr result (self.new ≡ self.old) }
+    {
+        if self.received.epoch() >= epoch {
+            return self.receive(alloc, epoch, packet);
+        }
+        let mut received = Record::new(alloc, epoch);
+        let outcome = received.receive(alloc, epoch, packet)?;
+        self.renew(received);
+        Ok(outcome)
+    }
+
+    /// Takes such a packet on the record that there is.
+    #[tactic(auto, using(crate::proofs::Takings::with_same, crate::proofs::Takings::with_itself, crate::proofs::Takings::tunnelled_epoch))]
+    fn receive(&mut self, alloc: Global, epoch: u64, packet: Taken) -> Result<LinkOutcome, NoMemory>
+        ensures outcome { IfOk result (λ o. o ≡ tunnelled_outcome (receiving_record self.old) epoch packet) }
+        ensures after { OnOk result (self.new ≡ with_record self.old (tunnelled (receiving_record self.old) epoch packet)) }
+        ensures err { OnErr result (self.new ≡ self.old) }
+    {
+        self.received.receive(alloc, epoch, packet)
+    }
+
+    /// Puts a record of another epoch in the place of this one.
+    #[tactic(auto, using(crate::proofs::Takings::with_other))]
+    fn renew(&mut self, received: Record)
+        requires { (received.epoch == self.old.record_epoch) ≡ false }
+        ensures { self.new ≡ with_record self.old received }
+    {
+        self.received = received;
+        self.unanswered = 0;
+    }
+
+    /// Gives its packets, and the session in which they were numbered.
+    pub fn hand_over(&mut self) -> HandedOver
+        ensures unacked { result.unacked ≡ kept_of self.old.sending }
+        ensures waiting { result.waiting ≡ self.old.sending.waiting }
+        ensures session { (result.old.bearer ≡ self.old.bearer) × (result.old.epoch ≡ self.old.epoch) }
+        ensures after { self.new ≡ given_up self.old }
+    {
+        let (unacked, waiting) = self.window.hand_over();
+        HandedOver {
+            unacked,
+            waiting,
+            old: OldSession {
+                bearer: self.bearer,
+                epoch: self.epoch,
+            },
+        }
+    }
+
+    /// Gives the packets that wait.
+    pub fn take_waiting(&mut self) -> Pieces
+        ensures given { result ≡ self.old.sending.waiting }
+        ensures after { self.new ≡ waiting_given self.old }
+    {
+        self.window.take_waiting()
+    }
+
+    /// How many of its packets are tunnel packets, unacknowledged or waiting; counted up to 4,294,967,295.
+    #[tactic(auto, using(crate::proofs::Repeating::kept_tunnels))]
+    pub fn tunnels(&self) -> u32
+        ensures { result ≡ tunnel_count self.now }
+    {
+        let unacked = tunnels_kept(self.window.unacked());
+        let waiting = self
+            .window
+            .waiting_packets()
+            .iter()
+            .filter(|packet| is_tunnel(packet.as_slice()))
+            .count();
+        (unacked + waiting).min(u32::MAX as usize) as u32
     }
 
     /// Sends the STATE that is due where the last arrival asks for one, or once 16 packets were taken since the last frame on this
@@ -562,7 +650,8 @@ impl Session {
         ensures value { result ≡ missing self.now }
         ensures within { result ≤ 50 }
     {
-        let missing = self.shown.saturating_sub(self.receiving.wanted_position());
+        let wanted = self.receive_window().wanted_position();
+        let missing = self.received.shown().saturating_sub(wanted);
         if missing <= WINDOW as u64 {
             missing as u16
         } else {
@@ -631,6 +720,15 @@ fn only_piece(pieces: &Pieces) -> Option<&[u8]>
         [packet] => Some(packet.as_slice()),
         _ => None,
     }
+}
+
+/// How many of these packets are tunnel packets.
+fn tunnels_kept(kept: &[Kept]) -> usize
+    ensures { result ≡ count_by (λ k. is_tunnel k.packet) kept.now }
+{
+    kept.iter()
+        .filter(|kept| is_tunnel(kept.packet.as_slice()))
+        .count()
 }
 
 /// Whether an unacknowledged packet is among the `gap` ones behind an acknowledgement.

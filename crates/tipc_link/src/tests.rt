@@ -4,6 +4,7 @@ ghost use Rattle.std.specs.Prelude.{IfOk};
 ghost use Rattle.tipc_link.specs.Sessions.{IsWaiting};
 
 use super::{Link, LinkArrival};
+use crate::record::Record;
 use crate::session::Session;
 use std::alloc::Global;
 use std::process::Abort;
@@ -14,7 +15,7 @@ use tipc_link_fsm::Change;
 use tipc_outside::Outbox;
 use tipc_recv_window::LinkOutcome;
 use tipc_send_window::OfferFault;
-use tipc_types::{Addr, BroadcastState, Bytes, Cause, Pieces, Reply, Why};
+use tipc_types::{Addr, BroadcastState, Bytes, Cause, Pieces, Reply, Taken, Why};
 
 /// The epochs of the two ends.
 const LEFT: u64 = 0x1_0000_0001;
@@ -37,8 +38,24 @@ impl Ends {
     fn new(alloc: Global) -> Ends {
         let (left, right) = (Addr::node(1), Addr::node(2));
         Ends {
-            left: Session::established(alloc, left, right, 0, LEFT, RIGHT),
-            right: Session::established(alloc, right, left, 0, RIGHT, LEFT),
+            left: Session::established(
+                alloc,
+                left,
+                right,
+                0,
+                LEFT,
+                RIGHT,
+                Record::new(alloc, RIGHT),
+            ),
+            right: Session::established(
+                alloc,
+                right,
+                left,
+                0,
+                RIGHT,
+                LEFT,
+                Record::new(alloc, LEFT),
+            ),
             sent: Outbox::new(alloc),
             answers: Outbox::new(alloc),
         }
@@ -129,11 +146,16 @@ fn arrive(
     let hearing = link.prepare(alloc, &packet, 40)?;
     let outcome = link.hear(alloc, hearing, &packet, out);
     link.answer(alloc, no_broadcast(), out);
-    Ok(match outcome {
+    Ok(last_taken(&outcome))
+}
+
+/// The number of the last packet that is taken, or 0 where none is; why, where the packet is ignored; and None where it is deferred.
+fn last_taken(outcome: &LinkOutcome) -> Result<u16, Option<Why>> {
+    match outcome {
         LinkOutcome::Took(taken) => Ok(taken.as_slice().last().map_or(0, |one| one.number)),
         LinkOutcome::Deferred => Err(None),
-        LinkOutcome::Ignored(why) => Err(Some(why)),
-    })
+        LinkOutcome::Ignored(why) => Err(Some(*why)),
+    }
 }
 
 /// The bytes of these words.
@@ -143,20 +165,6 @@ fn bytes_of(alloc: Global, words: &[u32]) -> Result<Vec<u8>, Fail> {
         bytes.extend_from_slice(&word.to_be_bytes())?;
     }
     Ok(bytes)
-}
-
-#[test]
-fn the_101st_packet_is_congested(rt: HostRuntime) -> Result<(), Fail> {
-    let alloc = rt.alloc();
-    let mut ends = Ends::new(alloc);
-    ends.send_all(alloc, LONG, 100)?;
-    let congested = OfferFault::Congested {
-        in_flight: 50,
-        waiting: 50,
-    };
-    assert_eq!(rt; ends.send(alloc, 24)?, Err(congested));
-    assert_eq!(rt; ends.sent.frames().len(), 50);
-    Ok(())
 }
 
 #[test]
@@ -237,6 +245,75 @@ fn frames_are_spelled(rt: HostRuntime) -> Result<(), Fail> {
     ];
     let state = ends.answers.frames().first().ok_or("no STATE")?;
     assert_eq!(rt; state.frame.as_slice(), bytes_of(alloc, &words)?.as_slice());
+    Ok(())
+}
+
+/// Packets of a session that is over come through the other link, the last as a placeholder: each is taken once and in order. The
+/// record goes on to a higher epoch alone, and to the session of its epoch.
+#[test]
+fn a_record_outlives_its_session(rt: HostRuntime) -> Result<(), Fail> {
+    let alloc = rt.alloc();
+    let mut ends = Ends::new(alloc);
+    ends.send_all(alloc, LONG, 4)?;
+    assert_eq!(rt; ends.to_right(alloc, 0)?, Ok(1));
+    assert_eq!(rt; ends.to_right(alloc, 2)?, Err(None));
+    let handed = ends.left.hand_over();
+    assert_eq!(rt; (handed.unacked.len(), handed.old.epoch), (4, LEFT));
+    assert_eq!(rt; ends.left.load(), (0, 0));
+    for (epoch, number, outcome) in [
+        (LEFT, 1, Err(Some(Why::Old))),
+        (LEFT - 1, 2, Err(Some(Why::Old))),
+        (LEFT, 4, Err(Some(Why::Old))),
+        (LEFT, 2, Ok(3)),
+        (LEFT, 4, Ok(4)),
+        (LEFT + 1, 1, Ok(1)),
+        (LEFT, 5, Err(Some(Why::Old))),
+    ] {
+        let packet = Taken {
+            number,
+            packet: Bytes::new(alloc),
+            by: 41,
+        };
+        let given = ends.right.take_tunnelled(alloc, epoch, packet)?;
+        assert_eq!(rt; last_taken(&given), outcome, "{number} of {epoch}");
+    }
+    let received = ends.right.into_received();
+    assert_eq!(rt; (received.epoch(), received.taken()), (LEFT + 1, 1));
+    Ok(())
+}
+
+/// A tunnel packet isn't deferred: it is taken where it is the wanted one, and is old else.
+#[test]
+fn an_early_tunnel_packet_is_old(rt: HostRuntime) -> Result<(), Fail> {
+    let alloc = rt.alloc();
+    let mut ends = Ends::new(alloc);
+    for (number, outcome) in [
+        (2, Err(Some(Why::Old))),
+        (1, Ok(1)),
+        (1, Err(Some(Why::Old))),
+    ] {
+        let words = [
+            1,
+            1,
+            1,
+            2,
+            0x5540_0030,
+            0x2000_0000,
+            number,
+            0x0100_1001,
+            0x0001_0001,
+            1,
+            0,
+            0,
+            0,
+            0,
+            1,
+            1,
+        ];
+        let frame = bytes_of(alloc, &words)?;
+        let given = arrive(alloc, &mut ends.right, frame.as_slice(), &mut ends.answers)?;
+        assert_eq!(rt; given, outcome, "{number}");
+    }
     Ok(())
 }
 

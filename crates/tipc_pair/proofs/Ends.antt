@@ -9,8 +9,10 @@ use Rattle.tipc_link_fsm.specs.declared.changes.Change.{Change}
 use Rattle.tipc_link_fsm.specs.declared.changes.Change.TheVariants.{Answer, Up}
 use Rattle.tipc_link_fsm.proofs.Moves.{cases_on}
 use Rattle.tipc_contact.specs.Sides.{boot_of}
-use Rattle.tipc_link.specs.Links.{LinkEnd, after, followed, is_down, session_of, with_fsm}
-use Rattle.tipc_link.specs.Sessions.{SessionEnd, told}
+use Rattle.tipc_link.specs.Links.{LinkEnd, after, followed, is_down, known, record_in, record_of, session_of, with_fsm}
+use Rattle.tipc_link.specs.Records.{Early, kept_for}
+use Rattle.tipc_link.specs.Sessions.{SessionEnd, receiving_record, told}
+use Rattle.tipc_link.proofs.KeptRecords.{session_again}
 use Rattle.tipc_pair.specs.Pairs.{is_quiet, parted, risen, settled}
 use Rattle.tipc_pair.proofs.EndsTurns.{Learns, Rises, Stays}
 
@@ -55,12 +57,17 @@ followed_session e Up = Some (session_of e)
 followed_session e (Answer (reply.State probe)) = option_map told e.session
 followed_session e other = e.session
 
-pub followed-is : (e : LinkEnd) (change : Change) → followed e change ≡ record e { session = followed_session e change }
+-- a session that begins takes the record of before with it
+abbrev pub followed_early : LinkEnd → Change → Option Early
+followed_early e Up = None
+followed_early e other = e.early
+
+pub followed-is : (e : LinkEnd) (change : Change) → followed e change ≡ record e { session = followed_session e change; early = followed_early e change }
 followed-is e Up = refl
 followed-is e (Answer (reply.State probe)) = refl
 followed-is e other = refl
 
-pub after-is : (e : LinkEnd) (o : Outcome) → after e o ≡ record e { fsm = o.after; session = followed_session (with_fsm e o.after) o.change }
+pub after-is : (e : LinkEnd) (o : Outcome) → after e o ≡ record e { fsm = o.after; session = followed_session (with_fsm e o.after) o.change; early = followed_early (with_fsm e o.after) o.change }
 after-is e o = followed-is (with_fsm e o.after) o.change
 
 pub seen_after : (e : LinkEnd) (o : Outcome) → (after e o).peer_contact ≡ e.peer_contact
@@ -73,6 +80,16 @@ quiet_session : (e : LinkEnd) (change : Change) → is_quiet change ≡ true →
 quiet_session e Up quiet = absurd (let wrong : ⊥ = cc in wrong)
 quiet_session e (Answer (reply.State probe)) quiet = like-map told e.session (λ s. record { own = refl; peer = refl; bearer = refl; epoch = refl; peer_epoch = refl })
 quiet_session e other quiet = like-same e.session e.session refl
+
+told_record : (o : Option SessionEnd) (early : Option Early) → record_in (option_map told o) early ≡ record_in o early
+told_record None early = refl
+told_record (Some s) early = refl
+
+-- and its receiving record
+pub quiet_record : (e : LinkEnd) (change : Change) → is_quiet change ≡ true → record_in (followed_session e change) (followed_early e change) ≡ record_of e
+quiet_record e Up quiet = absurd (let wrong : ⊥ = cc in wrong)
+quiet_record e (Answer (reply.State probe)) quiet = told_record e.session e.early
+quiet_record e other quiet = refl
 
 -- ---- an end that stays as it was, but for silence and what a session has done
 
@@ -140,6 +157,8 @@ pub record IsRaised (e e' : LinkEnd) : Type 0 where
   pub peer_epoch : ℕ
   pub peer_is : e'.fsm.peer ≡ Some peer_epoch
   pub session : e'.session ≡ Some (session_of e')
+  -- with the record of the peer's epoch, or a new one
+  pub kept : receiving_record (session_of e') ≡ kept_for (record_of e) peer_epoch
 
 pub rises_raised : (e : LinkEnd) (shown : Option (ℕ × ℕ)) (o : Outcome) → Rises e.fsm shown o → IsRaised e (after e o)
 rises_raised e shown o m = subst (IsRaised e) (sym (ap (followed (with_fsm e o.after)) m.change)) (record {
@@ -153,7 +172,8 @@ rises_raised e shown o m = subst (IsRaised e) (sym (ap (followed (with_fsm e o.a
   up = m.up;
   peer_epoch = m.es;
   peer_is = m.peer;
-  session = refl;
+  session = ap Some (session_again (with_fsm e o.after));
+  kept = ap receiving_record (sym (session_again (with_fsm e o.after))) ∙ ap (λ p. kept_for (record_of e) (known p)) m.peer;
 })
 
 -- ---- an end that goes down, and its contact ends

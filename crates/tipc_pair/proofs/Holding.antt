@@ -16,8 +16,9 @@ use Rattle.tipc_recv_window.specs.Receiving.{Receiving, arrived_at, filled, is_n
 use Rattle.tipc_link_fsm.specs.declared.changes.Change.{Change}
 use Rattle.tipc_link_fsm.specs.declared.changes.Change.TheVariants.{Up, Answer, Ignore}
 use Rattle.tipc_link_fsm.specs.Table.{Outcome, is_up, on_reset, forget_peer}
-use Rattle.tipc_link.specs.Links.{LinkEnd, after, answered_end, change_outcome, followed, heard_outcome, is_down, is_heard, outcome_of, session_of, with_fsm}
-use Rattle.tipc_link.specs.Sessions.{Content, Shows, Carries, Nothing, SessionEnd, answered, arrived, brought, content_of, due_with, flushed, heard, outcome, past, place_of, placed, receiving, released, repeated, spoke, told, window_with}
+use Rattle.tipc_link.specs.Links.{LinkEnd, after, answered_end, change_outcome, followed, heard_outcome, is_down, is_heard, known, outcome_of, record_in, record_of, session_of, with_fsm}
+use Rattle.tipc_link.specs.Records.{Early, Received, early_record, kept_for, standing, unheard}
+use Rattle.tipc_link.specs.Sessions.{Content, Shows, Carries, Nothing, SessionEnd, answered, arrived, brought, content_of, due_with, flushed, heard, outcome, place_of, placed, receiving, receiving_record, released, repeated, spoke, told, window_with}
 use Rattle.tipc_pair.specs.Held.{CameBy, HoldsBy}
 use Rattle.tipc_pair.specs.Pairs.{Met, arrival, arrival_of, by_number, link_met, parted, reset_down, reset_met, reset_up, risen, risen_activate, risen_reset, settled}
 
@@ -63,7 +64,7 @@ heard_held P s by acknowledgement (Shows next gap probe) h came =
 heard_held P s by acknowledgement (Carries number packet) h came =
     let e = released s acknowledgement in
     let t = brought number packet by in
-    All-drop (CameBy P) (length (due_with e t)) (window_with e t).held (arrived_by P (receiving e) (past e t.number) t h came)
+    All-drop (CameBy P) (length (due_with e t)) (window_with e t).held (arrived_by P (receiving e) (standing (receiving e) t) t h came)
 heard_held P s by acknowledgement Nothing h came = h
 
 flushed_held : (s : SessionEnd) → (flushed s).held ≡ s.held
@@ -84,7 +85,7 @@ placed_by P place.Old due h = tt
 
 due_by : (P : ℕ → List ℕ → Type 0) (e : SessionEnd) (t : Taken) → All (CameBy P) e.held → P t.by t.packet → All (λ (u : Taken). P u.by u.packet) (due_with e t)
 unfolding due_with
-due_by P e t h came = run_by P (window_with e t).held (arrived_by P (receiving e) (past e t.number) t h came)
+due_by P e t h came = run_by P (window_with e t).held (arrived_by P (receiving e) (standing (receiving e) t) t h came)
 
 outcome_by : (P : ℕ → List ℕ → Type 0) (s : SessionEnd) (by : ℕ) (c : Content) → All (CameBy P) s.held → BringsBy P by c → TakenBy P (outcome s by c)
 outcome_by P s by (Shows next gap probe) h came = All-nil (λ (t : Taken). P t.by t.packet)
@@ -98,11 +99,27 @@ mapped_held : (P : ℕ → List ℕ → Type 0) (f : SessionEnd → SessionEnd) 
 mapped_held P f None keeps h s has = absurd cc
 mapped_held P f (Some t) keeps h s has = let same : f t ≡ s = cc in subst (λ (u : SessionEnd). All (CameBy P) u.held) same (keeps t (h t refl))
 
-begun_held : (P : ℕ → List ℕ → Type 0) (e : LinkEnd) (s : SessionEnd) → Some (session_of e) ≡ Some s → All (CameBy P) s.held
-begun_held P e s has = let same : session_of e ≡ s = cc in subst (λ (u : SessionEnd). All (CameBy P) u.held) same (All-nil (CameBy P))
+-- what was held of a session, or came before there was one
+record_held : (P : ℕ → List ℕ → Type 0) (session : Option SessionEnd) (early : Option Early) (r : Received) → ((s : SessionEnd) → session ≡ Some s → All (CameBy P) s.held) → record_in session early ≡ Some r → All (CameBy P) r.held
+record_held P None None r h is = absurd (let wrong : ⊥ = cc in wrong)
+record_held P None (Some a) r h is = let same : early_record a ≡ r = cc in subst (λ (x : Received). All (CameBy P) x.held) same (All-nil (CameBy P))
+record_held P (Some s) early r h is = let same : receiving_record s ≡ r = cc in subst (λ (x : Received). All (CameBy P) x.held) same (h s refl)
+
+-- a link that goes up keeps it, or holds nothing
+kept_held : (P : ℕ → List ℕ → Type 0) (o : Option Received) (epoch : ℕ) → ((r : Received) → o ≡ Some r → All (CameBy P) r.held) → All (CameBy P) (kept_for o epoch).held
+kept_held P None epoch h = All-nil (CameBy P)
+kept_held P (Some r) epoch h = elim (r.epoch == epoch) as (λ b. All (CameBy P) (if b then r else unheard epoch).held) [
+  | true ↦ h r refl
+  | false ↦ All-nil (CameBy P)
+]
+
+begun_held : (P : ℕ → List ℕ → Type 0) (e : LinkEnd) → HoldsBy P e → (s : SessionEnd) → Some (session_of e) ≡ Some s → All (CameBy P) s.held
+begun_held P e h s has =
+    let same : session_of e ≡ s = cc in
+    subst (λ (u : SessionEnd). All (CameBy P) u.held) same (kept_held P (record_of e) (known e.fsm.peer) (λ r is. record_held P e.session e.early r h is))
 
 holds_followed : (P : ℕ → List ℕ → Type 0) (e : LinkEnd) (change : Change) → HoldsBy P e → HoldsBy P (followed e change)
-holds_followed P e Up h = begun_held P e
+holds_followed P e Up h = begun_held P e h
 holds_followed P e (Answer (reply.State probe)) h = mapped_held P told e.session (λ s k. k) h
 holds_followed P e other h = h
 

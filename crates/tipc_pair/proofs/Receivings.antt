@@ -10,7 +10,9 @@ use Rattle.tipc_types.specs.Position.{number_of}
 use Rattle.tipc_recv_window.specs.Receiving.{Receiving, arrived_at, filled, held_at, is_new, past_wanted, place_at, run_of}
 use Rattle.tipc_recv_window.proofs.ArrivalLaws.{arrives, place_at-wanted}
 use Rattle.tipc_recv_window.proofs.Holding.{filled-other, filled-same, length-filled}
-use Rattle.tipc_link.specs.Sessions.{SessionEnd, due_with, past, place_of, receiving, released, took, window_with}
+use Rattle.tipc_link.specs.Records.{standing}
+use Rattle.tipc_link.specs.Sessions.{SessionEnd, due_with, place_of, receiving, released, took, window_with}
+use Rattle.tipc_link.proofs.Standing.{arrived_early, standing_either}
 use Rattle.tipc_pair.specs.Pairs.{packets_in}
 
 -- what a session makes of a packet, against the packets that were numbered
@@ -24,10 +26,10 @@ abbrev Holds : List (Option Taken) → ℕ → List (List ℕ) → Type 0
 Holds held from line = (d : ℕ) (t : Taken) → slice_index_or held d None ≡ Some t → slice_get line (from + d) ≡ Some t.packet
 
 -- what stands at a place stands first behind those before it
-standing : (line : List (List ℕ)) (n : ℕ) (x : List ℕ) → slice_get line n ≡ Some x → drop n line ≡ x ∷ drop (suc n) line
-standing [] n x is = absurd (let none : ⊥ = cc in none)
-standing (l ∷ line) zero x is = (let same : l ≡ x = cc in ap (λ y. y ∷ line) same)
-standing (l ∷ line) (suc n) x is = standing line n x is
+stands_first : (line : List (List ℕ)) (n : ℕ) (x : List ℕ) → slice_get line n ≡ Some x → drop n line ≡ x ∷ drop (suc n) line
+stands_first [] n x is = absurd (let none : ⊥ = cc in none)
+stands_first (l ∷ line) zero x is = (let same : l ≡ x = cc in ap (λ y. y ∷ line) same)
+stands_first (l ∷ line) (suc n) x is = stands_first line n x is
 
 -- packets that are held one behind the other stand so in the line
 pub record IsRun (held : List (Option Taken)) (from : ℕ) (line : List (List ℕ)) : Type 0 where
@@ -56,7 +58,7 @@ run_in (Some packet ∷ held) from line within h =
     let rest = run_in held (suc from) line (omega arith) later in
     let more = rest.within in
     record {
-      front = ap (λ xs. take (suc (length (run_of held))) xs) (standing line from packet.packet first) ∙ ap (λ xs. packet.packet ∷ xs) rest.front;
+      front = ap (λ xs. take (suc (length (run_of held))) xs) (stands_first line from packet.packet first) ∙ ap (λ xs. packet.packet ∷ xs) rest.front;
       within = omega arith;
       wants = rest.wants;
       holds = λ d t is. subst (λ n. slice_get line (n + d) ≡ Some t.packet) (let same : suc from + length (run_of held) ≡ from + suc (length (run_of held)) = omega arith in same) (rest.holds d t is);
@@ -110,14 +112,18 @@ pub received : (s : SessionEnd) (t : Taken) (line : List (List ℕ)) (numbered :
 received s t line numbered h within c high low =
     let r = receiving s in
     let by = arrives r (s.taken + 1) c.position t refl (omega arith) (omega arith) in
-    let number : window_with s t ≡ arrived_at r (past_wanted r (number_of c.position)) t = ap (λ n. arrived_at r (past_wanted r n) t) c.number_is in
-    elim (cases_lt c.position (s.taken + 1)) [
-      | inl before ↦ received_held s t line r (number ∙ by.unchanged before) within h.window h.holds
-      | inr from ↦
-          let place : s.taken + (c.position - (s.taken + 1)) ≡ c.position - 1 = omega arith in
-          let stands : slice_get line (s.taken + (c.position - (s.taken + 1))) ≡ Some t.packet = ap (λ i. slice_get line i) place ∙ c.packet_is in
-          let held = arrived_holds r (c.position - (s.taken + 1)) s.taken t line h.window h.holds stands in
-          received_held s t line (arrived_at r (c.position - (s.taken + 1)) t) (number ∙ by.after from) within held.0 held.1
+    elim (standing_either r t) [
+      | inl early ↦ received_held s t line r (arrived_early r t early) within h.window h.holds
+      | inr plain ↦
+          let number : window_with s t ≡ arrived_at r (past_wanted r (number_of c.position)) t = ap (λ d. arrived_at r d t) plain ∙ ap (λ n. arrived_at r (past_wanted r n) t) c.number_is in
+          elim (cases_lt c.position (s.taken + 1)) [
+            | inl before ↦ received_held s t line r (number ∙ by.unchanged before) within h.window h.holds
+            | inr from ↦
+                let place : s.taken + (c.position - (s.taken + 1)) ≡ c.position - 1 = omega arith in
+                let stands : slice_get line (s.taken + (c.position - (s.taken + 1))) ≡ Some t.packet = ap (λ i. slice_get line i) place ∙ c.packet_is in
+                let held = arrived_holds r (c.position - (s.taken + 1)) s.taken t line h.window h.holds stands in
+                received_held s t line (arrived_at r (c.position - (s.taken + 1)) t) (number ∙ by.after from) within held.0 held.1
+          ]
     ]
 
 -- ---- packets that free none
@@ -142,7 +148,7 @@ pub due_none : (s : SessionEnd) (t : Taken) → slice_index_or s.held 0 None ≡
 unfolding due_with
 due_none s t wants other =
     let r = receiving s in
-    run_none (window_with s t).held (still_none r (past s t.number) t wants (first_in_order r (past s t.number) wants other))
+    run_none (window_with s t).held (still_none r (standing r t) t wants (first_in_order r (standing r t) wants other))
 
 -- what is released makes nothing else of it
 pub due_released : (s : SessionEnd) (acknowledgement : ℕ) (t : Taken) → due_with (released s acknowledgement) t ≡ due_with s t

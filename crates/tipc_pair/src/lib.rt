@@ -7,6 +7,3 @@ mod pair;
 
 pub use changes::{PairArrival, PairChange, PairOutcome};
 pub use pair::{Pair, PairArriving, shows_contact};
-
-#[cfg(test)]
-mod tests;

@@ -1,5 +1,5 @@
 -- A frame arrives: what it makes of a pair, as deeds; and what it gives.
-use Rattle.std.proofs.Common.{◌≡◌, ◌⊎◌, ◌<◌, ◌^◌, ◌&&◌, ℕ, true, false, List, [], ◌∷◌, ◌++◌, Some, length, option_map, refl, sym, ap, ◌∙◌, subst, inl, inr, eqb-true, arith}
+use Rattle.std.proofs.Common.{◌≡◌, ◌⊎◌, ◌<◌, ◌^◌, ◌&&◌, ℕ, true, false, List, [], ◌∷◌, ◌++◌, Some, None, length, option_map, refl, sym, ap, ◌∙◌, subst, inl, inr, eqb-true, arith}
 use Rattle.std.specs.Prelude.{All, not}
 use Rattle.std.proofs.lemmas.Bool.{and_parts}
 use Rattle.tipc_types.specs.declared.link_words.BroadcastState.{BroadcastState}
@@ -214,7 +214,7 @@ raised_met : (x y : Partner) (b : ℕ) (e : LinkEnd) (es er : ℕ) (p : Fields) 
 raised_met x y b e es er p by shown out last h has r showable traffic peer own is o =
     let raise : Outcome = gives (heard e.fsm) Up in
     let s = session_of (with_fsm e (heard e.fsm)) in
-    let d = with_session (with_fsm e (heard e.fsm)) s in
+    let d : LinkEnd = record (with_fsm e (heard e.fsm)) { session = Some s; early = None } in
     let c = content_of p in
     let told = state_frame s shown false ∷ [] in
     let did = settled_did x y b e (TrafficArrives es er) shown h has (reached_shown x.view y.view b es er p r) showable in

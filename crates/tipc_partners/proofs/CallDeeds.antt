@@ -5,14 +5,14 @@ use Rattle.std.proofs.lemmas.Bool.{true≢false}
 use Rattle.tipc_contact.specs.Sides.{IsTold, Notice}
 use Rattle.tipc_header.specs.Spelling.{spelling}
 use Rattle.tipc_partners.proofs.Frames.{es_of-frame}
-use Rattle.tipc_link.specs.Links.{LinkEnd, after, with_fsm}
+use Rattle.tipc_link.specs.Links.{LinkEnd, after, record_of, with_fsm}
 use Rattle.tipc_link.specs.Sessions.{SessionEnd, told}
 use Rattle.tipc_link_fsm.specs.declared.changes.Change.{Change}
 use Rattle.tipc_link_fsm.specs.declared.changes.Change.TheVariants.{Up, Answer}
 use Rattle.tipc_link_fsm.specs.Runs.{Call, ActivateArrives, BearerIsCut, ContactEnds, ForgetsPeer, Releases, ResetArrives, TickPasses, TrafficArrives, TunnelNames, outcome}
 use Rattle.tipc_link_fsm.specs.Table.{Outcome, is_up}
 use Rattle.tipc_types.specs.declared.link_words.Reply.TheVariants as reply
-use Rattle.tipc_pair.proofs.Ends.{Alike, IsStill, after-is, alike-same, followed_session, learns_taught, like-same, stays_still}
+use Rattle.tipc_pair.proofs.Ends.{Alike, IsStill, after-is, alike-same, followed_early, followed_session, learns_taught, like-same, quiet_record, stays_still}
 use Rattle.tipc_pair.proofs.EndsTurns.{Turn, fall, learn, rise, stay}
 use Rattle.tipc_pair.specs.Pairs.{is_quiet}
 use Rattle.tipc_partners.proofs.Ends.{still_end, taught_end}
@@ -37,19 +37,20 @@ pub record AreSame (s s' : SessionEnd) : Type 0 where
   pub sending : s'.sending ≡ s.sending
   pub taken : s'.taken ≡ s.taken
   pub held : s'.held ≡ s.held
+  pub record_epoch : s'.record_epoch ≡ s.record_epoch
 
 pub record HaveSame (a b : Option SessionEnd) : Type 0 where
   pub onward : (s : SessionEnd) → a ≡ Some s → (s' : SessionEnd) × (b ≡ Some s') × AreSame s s'
   pub back : (s' : SessionEnd) → b ≡ Some s' → (s : SessionEnd) × (a ≡ Some s) × AreSame s s'
 
 same_same : (s : SessionEnd) → AreSame s s
-same_same s = record { alike = alike-same s; sending = refl; taken = refl; held = refl }
+same_same s = record { alike = alike-same s; sending = refl; taken = refl; held = refl; record_epoch = refl }
 
 have_same : (a b : Option SessionEnd) → b ≡ a → HaveSame a b
 have_same a b same = record { onward = λ s is. (s, same ∙ is, same_same s); back = λ s is. (s, sym same ∙ is, same_same s) }
 
 told_same : (s : SessionEnd) → AreSame s (told s)
-told_same s = record { alike = record { own = refl; peer = refl; bearer = refl; epoch = refl; peer_epoch = refl }; sending = refl; taken = refl; held = refl }
+told_same s = record { alike = record { own = refl; peer = refl; bearer = refl; epoch = refl; peer_epoch = refl }; sending = refl; taken = refl; held = refl; record_epoch = refl }
 
 have_told : (a : Option SessionEnd) → HaveSame a (option_map told a)
 have_told None = record { onward = λ s is. absurd (let wrong : ⊥ = cc in wrong); back = λ s is. absurd (let wrong : ⊥ = cc in wrong) }
@@ -70,6 +71,7 @@ pub record GoesOn (w : Wire) (e e' : LinkEnd) : Type 0 where
   pub highest : e.fsm.highest ≤ e'.fsm.highest
   pub up : is_up e'.fsm.state ≡ is_up e.fsm.state
   pub sessions : HaveSame e.session e'.session
+  pub record_is : record_of e' ≡ record_of e
 
 pub session_onward : (w : Wire) (e e' : LinkEnd) → GoesOn w e e' → (s : SessionEnd) → session_on w ≡ Some s → (s' : SessionEnd) × (session_on (with_end w e') ≡ Some s') × AreSame s s'
 session_onward w e e' m s on =
@@ -108,6 +110,7 @@ going_same own w v e' s s' g m = record {
   holds = subst (λ z. IsReceiver z s'.taken (v.line s'.peer_epoch)) (sym m.held)
       (subst (λ n. IsReceiver s.held n (v.line s'.peer_epoch)) (sym m.taken)
       (subst (λ n. IsReceiver s.held s.taken (v.line n)) (sym m.alike.peer_epoch) g.holds));
+  record_is = m.record_epoch ∙ g.record_is ∙ sym m.alike.peer_epoch;
 }
 
 wire_on : (own : ℕ) (w v : Wire) (e e' : LinkEnd) → IsWire own w v → GoesOn w e e' → IsWire own (with_end w e') v
@@ -118,6 +121,7 @@ wire_on own w v e e' h m = record {
   prefix = h.prefix;
   met = λ epoch. met_or_none w (with_end w e') v epoch (λ k. refl) refl (h.met epoch);
   going = λ s' on. (let old = session_back w e e' m s' on in going_same own w v e' old.0 s' (h.going old.0 old.1) old.2);
+  kept = λ d r is has. (let same : e' ≡ d = cc in let k = h.kept e r m.end_is (sym m.record_is ∙ ap record_of same ∙ has) in record { takes = k.takes; holds = k.holds });
 }
 
 grows_end : (w : Wire) (e' : LinkEnd) → Grows w (with_end w e')
@@ -128,7 +132,7 @@ pub turns_paired : (x y : View) (b : ℕ) (e : LinkEnd) (mended : Bool) → AreP
 turns_paired x y b e mended h is =
     let w = x.wires b in
     let e' : LinkEnd = record e { mended = mended } in
-    let on : GoesOn w e e' = record { end_is = is; own = refl; highest = omega arith; up = refl; sessions = have_same e.session e.session refl } in
+    let on : GoesOn w e e' = record { end_is = is; own = refl; highest = omega arith; up = refl; sessions = have_same e.session e.session refl; record_is = refl } in
     let still : IsStill e e' = record {
       own = refl;
       peer = refl;
@@ -186,7 +190,7 @@ shown_fits x y b ContactEnds es er h may is = absurd may
 
 -- the end after a call, written out
 abbrev called : LinkEnd → Outcome → LinkEnd
-called e o = record e { fsm = o.after; session = followed_session (with_fsm e o.after) o.change }
+called e o = record e { fsm = o.after; session = followed_session (with_fsm e o.after) o.change; early = followed_early (with_fsm e o.after) o.change }
 
 on_paired : (x y : View) (b : ℕ) (e : LinkEnd) (call : Call) → ArePaired x y → (x.wires b).end ≡ Some e → MayCall x y b call → GoesOn (x.wires b) e (called e (outcome e.fsm call)) → IsEnd x.node b (after e (outcome e.fsm call))
     → ArePaired (with_wire x b (with_end (x.wires b) (after e (outcome e.fsm call)))) y
@@ -216,6 +220,7 @@ calls_turn x y b e call h is may quiet (stay m) =
       highest = (let high = m.highest in omega arith);
       up = m.up;
       sessions = quiet_same (with_fsm e (outcome e.fsm call).after) (outcome e.fsm call).change quiet;
+      record_is = quiet_record (with_fsm e (outcome e.fsm call).after) (outcome e.fsm call).change quiet;
     }) (still_end x.node b e (after e (outcome e.fsm call)) (h.here.ends b e is) (stays_still e (outcome e.fsm call) m))
 calls_turn x y b e call h is may quiet (learn m) =
     let o = outcome e.fsm call in
@@ -231,6 +236,7 @@ calls_turn x y b e call h is may quiet (learn m) =
       highest = (let low = m.no_lower in let to = m.highest in omega arith);
       up = m.down ∙ sym m.was;
       sessions = learned_session (with_fsm e o.after) o.change m.change;
+      record_is = quiet_record (with_fsm e o.after) o.change quiet;
     }) (taught_end x.node b e (after e o) end (learns_taught e (shown_to call) o m) (seen ∙ end.seen)
     (λ epoch known. (let same : m.es ≡ epoch = (let here = peer in cc) in (subst (λ n. n < 2 ^ 64) same fits, sym same ∙ sym high))))
 calls_turn x y b e call h is may quiet (rise m) = absurd (true≢false (sym quiet ∙ ap is_quiet m.change))
@@ -245,16 +251,17 @@ calls_paired x y b e call h is may quiet =
 -- ---- an end that goes on, as it is called
 
 pub turns_on : (w : Wire) (e : LinkEnd) (mended : Bool) → w.end ≡ Some e → GoesOn w e (record e { mended = mended })
-turns_on w e mended is = record { end_is = is; own = refl; highest = omega arith; up = refl; sessions = have_same e.session e.session refl }
+turns_on w e mended is = record { end_is = is; own = refl; highest = omega arith; up = refl; sessions = have_same e.session e.session refl; record_is = refl }
 
 turn_on : (w : Wire) (e : LinkEnd) (call : Call) → w.end ≡ Some e → is_quiet (outcome e.fsm call).change ≡ true → Turn e.fsm (shown_to call) (outcome e.fsm call) → GoesOn w e (called e (outcome e.fsm call))
-turn_on w e call is quiet (stay m) = record { end_is = is; own = m.own; highest = (let high = m.highest in omega arith); up = m.up; sessions = quiet_same (with_fsm e (outcome e.fsm call).after) (outcome e.fsm call).change quiet }
+turn_on w e call is quiet (stay m) = record { end_is = is; own = m.own; highest = (let high = m.highest in omega arith); up = m.up; sessions = quiet_same (with_fsm e (outcome e.fsm call).after) (outcome e.fsm call).change quiet; record_is = quiet_record (with_fsm e (outcome e.fsm call).after) (outcome e.fsm call).change quiet }
 turn_on w e call is quiet (learn m) = record {
   end_is = is;
   own = m.own;
   highest = (let low = m.no_lower in let to = m.highest in omega arith);
   up = m.down ∙ sym m.was;
   sessions = learned_session (with_fsm e (outcome e.fsm call).after) (outcome e.fsm call).change m.change;
+  record_is = quiet_record (with_fsm e (outcome e.fsm call).after) (outcome e.fsm call).change quiet;
 }
 turn_on w e call is quiet (rise m) = absurd (true≢false (sym quiet ∙ ap is_quiet m.change))
 turn_on w e call is quiet (fall m) = absurd (true≢false (sym quiet ∙ ap is_quiet m.change))

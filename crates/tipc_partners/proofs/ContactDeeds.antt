@@ -8,7 +8,8 @@ use Rattle.tipc_contact.specs.Sides.{ContactEnded, EndMade, HigherShown, Restart
 use Rattle.tipc_contact.proofs.Calls.{next_boot, next_of_last, next_of_other, same_boot}
 use Rattle.tipc_contact.proofs.Sessions.{acts}
 use Rattle.tipc_contact.proofs.Speaking.{at_other, at_same}
-use Rattle.tipc_link.specs.Links.{LinkEnd, after, followed, with_fsm}
+use Rattle.tipc_link.specs.Links.{LinkEnd, after, followed, record_of, with_fsm}
+use Rattle.tipc_link.specs.Records.{Received}
 use Rattle.tipc_link.specs.Sessions.{SessionEnd}
 use Rattle.tipc_link_fsm.specs.declared.changes.Change.TheVariants.{Down}
 use Rattle.tipc_link_fsm.specs.Runs.{Call, ContactEnds, ForgetsPeer, outcome}
@@ -25,7 +26,7 @@ use Rattle.tipc_partners.proofs.Turns.{call_turns, shown_to}
 use Rattle.tipc_partners.proofs.WireDeeds.{agree_turned, wire_deed}
 use Rattle.tipc_partners.proofs.Wires.{epoch_of_end, epoch_of_none, is_up_of, map_at, none_some, prefix_same, put_other, put_same, same_some, session_of_down, session_of_none}
 use Rattle.tipc_partners.specs.Deeds.{MayCall, ended_with, forgot_with, made_on, parted, restarted, risen}
-use Rattle.tipc_partners.specs.Paired.{ArePaired, IsEnd, IsFrame, IsNode, IsWire}
+use Rattle.tipc_partners.specs.Paired.{ArePaired, IsEnd, IsFrame, IsNode, IsRecordOf, IsWire}
 use Rattle.tipc_partners.specs.Views.{Frame, IsApart, Node, View, Wire, epoch_in, epoch_on, er_of, es_of, fsm_in, notice_of, put_at, said_by, session_on, side_of, with_end, with_wire}
 
 -- ---- other ends, and nothing else done
@@ -44,6 +45,8 @@ pub record Rests (x y : View) (n : Node) (ends : ℕ → Option LinkEnd) : Type 
   pub node : IsNode n
   pub end : (b : ℕ) (e : LinkEnd) → ends b ≡ Some e → IsEnd n b e
   pub none : (b : ℕ) (s : SessionEnd) → session_on ((rested x n ends).wires b) ≡ Some s → ⊥
+  -- their receiving records are those of before
+  pub kept : (b : ℕ) (e : LinkEnd) → ends b ≡ Some e → (d : LinkEnd) × ((x.wires b).end ≡ Some d) × (record_of e ≡ record_of d)
   pub unborn : (b epoch : ℕ) → epoch_on n ((rested x n ends).wires b) ≤ epoch → (x.wires b).begun epoch ≡ None
   pub named : (b k : ℕ) (f : Frame) (e : LinkEnd) → slice_get x.told k ≡ Some f → f.bearer ≡ b → ends b ≡ Some e → es_of f.bytes ≡ e.fsm.own → er_of f.bytes ≤ e.fsm.highest
   pub peers : ArePeers (side_of (rested x n ends)) (said_by x) (side_of y) (said_by y)
@@ -66,6 +69,7 @@ rests_paired x y n ends h m =
               prefix = old.prefix;
               met = λ epoch. met_or_none (x.wires b) (x'.wires b) (y.wires b) epoch (λ k. refl) refl (old.met epoch);
               going = λ s on. absurd (m.none b s on);
+              kept = λ e r is has. (let at = m.kept b e is in let k = old.kept at.0 r at.1 (sym at.2 ∙ has) in record { takes = k.takes; holds = k.holds });
             }));
         epochs = λ b. (
             let old = h.here.epochs b in
@@ -191,6 +195,7 @@ parted_paired x y h goes_on =
       none = λ b s on. down_none ((rested x n ends).wires b) s (λ e' is. (
           let at = mapped_end (ended_with contact) (x.wires b).end e' is in
           ap (λ (d : LinkEnd). is_up d.fsm.state) (sym at.2) ∙ ended_down contact at.0)) on;
+      kept = λ b e' is. (let at = mapped_end (ended_with contact) (x.wires b).end e' is in (at.0, at.1, ap record_of (sym at.2)));
       unborn = λ b epoch least. (let same = epoch_computed n ((rested x n ends).wires b) in unborn_after x y b epoch contact h refl (x.wires b).end refl (omega arith));
       named = λ b k f e' there bearer is own. (
           let at = mapped_end (ended_with contact) (x.wires b).end e' is in
@@ -232,14 +237,15 @@ fell_end n b e f h own peer highest down =
     }
 
 -- a wire whose end has no session now
-none_wire : (own : ℕ) (w v : Wire) (e' : LinkEnd) → IsWire own w v → is_up e'.fsm.state ≡ false → IsWire own (with_end w e') v
-none_wire own w v e' h down = record {
+none_wire : (own : ℕ) (w v : Wire) (e' : LinkEnd) → IsWire own w v → is_up e'.fsm.state ≡ false → ((r : Received) → record_of e' ≡ Some r → IsRecordOf w v r) → IsWire own (with_end w e') v
+none_wire own w v e' h down kept = record {
   unborn = h.unborn;
   packets = h.packets;
   window = h.window;
   prefix = h.prefix;
   met = λ epoch. met_or_none w (with_end w e') v epoch (λ k. refl) refl (h.met epoch);
   going = λ s on. absurd (none_some s _ (session_of_down (with_end w e') e' refl down) on);
+  kept = λ d r is has. (let same : e' ≡ d = cc in let k = kept r (ap record_of same ∙ has) in record { takes = k.takes; holds = k.holds });
 }
 
 fell : (x y : View) (b : ℕ) (e : LinkEnd) (call : Call) → ArePaired x y → (x.wires b).end ≡ Some e → MayCall x y b call → Falls e.fsm (outcome e.fsm call)
@@ -258,7 +264,7 @@ fell x y b e call h is may m =
     subst (λ (k : LinkEnd). ArePaired (with_wire x b (with_end w k)) y) same (wire_deed x y b w' h (record {
       grows = record { line = λ epoch. prefix_same (w.line epoch); got = λ epoch. prefix_same (w.got epoch); begun = λ epoch g is. is };
       end = λ k there. (let one : d ≡ k = cc in subst (IsEnd x.node b) one (fell_end x.node b e o.after (h.here.ends b e is) m.own m.peer m.highest m.down));
-      wire = none_wire x.node.own w (y.wires b) d (h.here.wires b) m.down;
+      wire = none_wire x.node.own w (y.wires b) d (h.here.wires b) m.down (λ r has. (h.here.wires b).kept e r is has);
       epochs = record {
         unborn = λ epoch least. (let low = least.0 in begun_none x y b epoch e h is (omega arith));
         lasts = old.lasts;
@@ -331,6 +337,7 @@ shows_paired x y number h higher fits apart =
       none = λ b s on. down_none ((rested x n ends).wires b) s (λ e' is. (
           let at = mapped_end (forgot_with number) (x.wires b).end e' is in
           ap (λ (d : LinkEnd). is_up d.fsm.state) (sym at.2) ∙ ap (λ (f : Fsm). is_up f.state) (forgotten-is at.0.fsm (apart b at.0 at.1)))) on;
+      kept = λ b e' is. (let at = mapped_end (forgot_with number) (x.wires b).end e' is in (at.0, at.1, ap record_of (sym at.2)));
       unborn = λ b epoch least. (let same = epoch_computed n ((rested x n ends).wires b) in unborn_apart x y b epoch number h apart (x.wires b).end refl (omega arith));
       named = λ b k f e' there bearer is own. (
           let at = mapped_end (forgot_with number) (x.wires b).end e' is in
@@ -366,7 +373,7 @@ makes_paired x y b h none =
     wire_deed x y b w' h (record {
       grows = record { line = λ epoch. prefix_same (w.line epoch); got = λ epoch. prefix_same (w.got epoch); begun = λ epoch g is. is };
       end = λ k there. (let one : d ≡ k = cc in subst (IsEnd x.node b) one (made_end x.node b h.here.node));
-      wire = none_wire x.node.own w (y.wires b) d (h.here.wires b) refl;
+      wire = none_wire x.node.own w (y.wires b) d (h.here.wires b) refl (λ r has. absurd (let wrong : ⊥ = cc in wrong));
       epochs = record {
         unborn = λ epoch least. (let low = least.0 in old.unborn epoch ((let few : epoch_on x.node w ≤ epoch = omega arith in few), λ s on. absurd (none_some s _ (session_of_none w none) on)));
         lasts = old.lasts;
@@ -416,6 +423,7 @@ restarts_paired x y boot h more fits =
       node = record { own = h.here.node.own; peer = h.here.node.peer; boot = fits; contact = first_boot boot; seen = omega arith };
       end = λ b e is. absurd (let wrong : ⊥ = cc in wrong);
       none = λ b s on. none_some s _ (session_of_none ((rested x n (λ b. None)).wires b) refl) on;
+      kept = λ b e is. absurd (let wrong : ⊥ = cc in wrong);
       unborn = λ b epoch least. (let same = epoch_computed n ((rested x n (λ b. None)).wires b) in unborn_restarted x y b epoch boot h more (omega arith) (x.wires b).end refl);
       named = λ b k f e there bearer is own. absurd (let wrong : ⊥ = cc in wrong);
       peers = peers;

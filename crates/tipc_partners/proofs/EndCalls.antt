@@ -1,5 +1,5 @@
 -- What a pair makes of its one link end in each call, as deeds.
-use Rattle.std.proofs.Common.{◌≡◌, ◌⊎◌, ◌+◌, ℕ, length, arith, Bool, true, false, if◌then◌else◌, List, [], ◌∷◌, Some, option_map, refl, sym, ap, ◌∙◌, subst, inl, inr}
+use Rattle.std.proofs.Common.{◌≡◌, ◌⊎◌, ◌+◌, ℕ, length, arith, Bool, true, false, if◌then◌else◌, List, [], ◌∷◌, Some, None, option_map, refl, sym, ap, ◌∙◌, subst, inl, inr}
 use Rattle.std.specs.Prelude.{slice_get}
 use Rattle.std.proofs.lemmas.Bool.{cases_eq}
 use Rattle.tipc_types.specs.declared.link_words.BroadcastState.{BroadcastState}
@@ -211,7 +211,7 @@ rose_did x y b e call shown h end may m showable =
     let o = outcome e.fsm call in
     let d = after e o in
     let s = session_of (with_fsm e o.after) in
-    let same : d ≡ record (with_fsm e o.after) { session = Some s } = ap (followed (with_fsm e o.after)) m.change in
+    let same : d ≡ record (with_fsm e o.after) { session = Some s; early = None } = ap (followed (with_fsm e o.after)) m.change in
     let apart : IsApart x.view = λ c k is. elim (cases_eq c b) [
       | inl here ↦ (let one : k ≡ e = same_some k e _ (ap (λ i. (x.view.wires i).end) (sym here) ∙ is) end.end_is in ap (λ (z : LinkEnd). is_up z.fsm.state) one ∙ m.was)
       | inr other ↦ absurd (none_some k _ (end.alone c other) is)

@@ -49,7 +49,9 @@ wire_back own v w w' h grows within = record {
     sends = more_taken s.sending _ _ (v.line s.epoch) (prefix_long _ _ (grows.got s.epoch)) (prefix_long _ _ (within s.epoch)) g.sends;
     takes = g.takes;
     holds = IsReceiver-stays s.held s.taken _ _ (prefix_extends _ _ (grows.line s.peer_epoch)) g.holds;
+    record_is = g.record_is;
   });
+  kept = λ e r is has. (let k = h.kept e r is has in record { takes = k.takes; holds = IsReceiver-stays r.held r.taken _ _ (prefix_extends _ _ (grows.line r.epoch)) k.holds });
 }
 
 -- the session of a node that went on is with the peer's still

@@ -57,6 +57,7 @@ unused_wire own = record {
   prefix = λ epoch. prefix_same [];
   met = λ epoch. inl refl;
   going = λ s on. absurd (none_some s _ (session_of_none unused refl) on);
+  kept = λ e r is has. absurd (let wrong : ⊥ = cc in wrong);
 }
 
 unused_epochs : (n : Node) (b : ℕ) → IsEpochs n b [] [] unused unused

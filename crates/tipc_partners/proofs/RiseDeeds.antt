@@ -1,13 +1,15 @@
 -- A link goes up, and a session begins.
-use Rattle.std.proofs.Common.{◌≡◌, ◌⊎◌, ◌<◌, ◌≤◌, ◌^◌, ℕ, false, List, [], Option, Some, None, length, refl, sym, ap, ◌∙◌, subst, inl, inr, arith}
+use Rattle.std.proofs.Common.{◌≡◌, ◌==◌, ◌⊎◌, ◌<◌, ◌≤◌, ◌^◌, ℕ, if◌then◌else◌, true, false, List, [], Option, Some, None, length, refl, sym, ap, ◌∙◌, subst, inl, inr, arith}
 use Rattle.std.specs.Prelude.{slice_get}
 use Rattle.std.proofs.lemmas.Bool.{cases_lt, true≢false}
 use Rattle.tipc_contact.specs.Peers.{ArePeers}
 use Rattle.tipc_contact.proofs.Sessions.{sent_in_contact, turned}
 use Rattle.tipc_send_window.specs.Sending.{fresh as none_sent}
-use Rattle.tipc_link.specs.Direction.{IsDirection}
-use Rattle.tipc_link.specs.Links.{LinkEnd, after, known, session_of}
-use Rattle.tipc_link.specs.Sessions.{SessionEnd, begun}
+use Rattle.tipc_link.specs.Direction.{IsDirection, IsReceiver}
+use Rattle.tipc_link.specs.Links.{LinkEnd, after, known, record_in, record_of, session_of}
+use Rattle.tipc_link.specs.Records.{Received, kept_for, unheard}
+use Rattle.tipc_link.specs.Sessions.{SessionEnd, receiving_record}
+use Rattle.tipc_link.proofs.KeptRecords.{kept_epoch}
 use Rattle.tipc_link.proofs.Directions.{holds_none}
 use Rattle.tipc_link_fsm.specs.declared.changes.Change.TheVariants.{Up}
 use Rattle.tipc_link_fsm.specs.Runs.{Call, ActivateArrives, BearerIsCut, ContactEnds, ForgetsPeer, Releases, ResetArrives, TickPasses, TrafficArrives, TunnelNames, outcome}
@@ -23,7 +25,7 @@ use Rattle.tipc_partners.proofs.Turns.{call_turns, shown_to}
 use Rattle.tipc_partners.proofs.WireDeeds.{wire_deed}
 use Rattle.tipc_partners.proofs.Wires.{epoch_of_end, map_at, none_some, on_put, on_put_else, prefix_of_none, prefix_same, put_other, put_same, same_some, session_of_down, session_of_up}
 use Rattle.tipc_partners.specs.Deeds.{MayCall, begun_by, with_begun}
-use Rattle.tipc_partners.specs.Paired.{ArePaired, IsEnd, IsEpochs, IsGoing, IsShown, IsWire, Met}
+use Rattle.tipc_partners.specs.Paired.{ArePaired, IsEnd, IsEpochs, IsGoing, IsRecordOf, IsShown, IsWire, Met}
 use Rattle.tipc_partners.specs.Views.{Begun, Frame, IsApart, View, Wire, epoch_on, er_of, es_of, fsm_in, notice_of, put_at, said_by, session_on, side_of, with_wire}
 
 -- A link end e of wire b went up and is e', under the peer's epoch es, which the peer told beside the end's own one.
@@ -91,6 +93,20 @@ met_before w w' v epoch begun (inr m) = inr (record {
   epoch_is = m.epoch_is;
 })
 
+-- the record with which it goes up has what was taken of the peer's session, which is nothing
+risen_record : (own : ℕ) (w v : Wire) (e : LinkEnd) (es : ℕ) → IsWire own w v → w.end ≡ Some e → w.got es ≡ [] → IsRecordOf w v (kept_for (record_of e) es)
+risen_record own w v e es h is none = of (record_of e) (λ r has. h.kept e r is has)
+  where
+    new : IsRecordOf w v (unheard es)
+    new = record { takes = ap (λ (xs : List (List ℕ)). length xs) none; holds = holds_none _ }
+
+    of : (o : Option Received) → ((r : Received) → o ≡ Some r → IsRecordOf w v r) → IsRecordOf w v (kept_for o es)
+    of None kept = new
+    of (Some r) kept = elim (r.epoch == es) as (λ b. IsRecordOf w v (if b then r else unheard es)) [
+      | true ↦ kept r refl
+      | false ↦ new
+    ]
+
 pub went_wire : (x y : View) (b : ℕ) (e e' : LinkEnd) (es : ℕ) → ArePaired x y → Went x y b e e' es → IsWire x.node.own (with_begun x.node (x.wires b) e') (y.wires b)
 went_wire x y b e e' es h m =
     let w = x.wires b in
@@ -104,7 +120,10 @@ went_wire x y b e e' es h m =
     let fresh : w.begun e'.fsm.own ≡ None = ap w.begun own ∙ fresh_epoch x y b e e' es h m in
     let no_line : w.line e'.fsm.own ≡ [] = wire.unborn e'.fsm.own fresh in
     let no_got : v.got e'.fsm.own ≡ [] = prefix_of_none (v.got e'.fsm.own) (w.line e'.fsm.own) ((h.there.wires b).prefix e'.fsm.own) no_line in
-    let none : w.got (known e'.fsm.peer) ≡ [] = ap w.got peer ∙ none_taken x y b e e' es h m (wire.met es) in
+    let same_epoch : m.raised.peer_epoch ≡ es = same_some m.raised.peer_epoch es e'.fsm.peer m.raised.peer_is m.peer_is in
+    let kept : receiving_record s ≡ kept_for (record_of e) es = m.raised.kept ∙ ap (kept_for (record_of e)) same_epoch in
+    let record_is : s.record_epoch ≡ s.peer_epoch = ap (λ (r : Received). r.epoch) kept ∙ kept_epoch (record_of e) es ∙ sym peer in
+    let kept_record : IsRecordOf w v (receiving_record s) = subst (IsRecordOf w v) (sym kept) (risen_record x.node.own w v e es wire m.end_is (none_taken x y b e e' es h m (wire.met es))) in
     let now : w'.begun e'.fsm.own ≡ Some g = put_same w.begun e'.fsm.own (Some g) in
     record {
       unborn = λ epoch is. wire.unborn epoch (none_before w e'.fsm.own g epoch is);
@@ -118,9 +137,16 @@ went_wire x y b e e' es h m =
         peer_is = refl;
         waiting = λ k bytes is. absurd (let wrong : ⊥ = cc in wrong);
         sends = new_direction 0 _ _ no_line no_got;
-        takes = ap (λ (xs : List (List ℕ)). length xs) none;
-        holds = holds_none _;
+        takes = ap (λ n. length (w.got n)) (sym record_is) ∙ kept_record.takes;
+        holds = subst (λ n. IsReceiver s.held s.taken (v.line n)) record_is kept_record.holds;
+        record_is = record_is;
       });
+      kept = λ d r end has. (
+          let one : e' ≡ d = cc in
+          let is : record_in e'.session e'.early ≡ Some (receiving_record s) = ap (λ o. record_in o e'.early) m.raised.session in
+          let same : receiving_record s ≡ r = same_some (receiving_record s) r (record_of e') is (ap record_of one ∙ has) in
+          let k = subst (IsRecordOf w v) same kept_record in
+          record { takes = k.takes; holds = k.holds });
     }
 
 -- ---- the contact of the session

@@ -2,9 +2,10 @@
 use Rattle.std.proofs.Common.{◌≡◌, ◌⊎◌, ℕ, ◌<◌, ◌^◌, true, List, [], Option, Some, length, refl, sym, ap, ◌∙◌, subst, inl, inr, arith}
 use Rattle.tipc_header.specs.Frames.{frame_of}
 use Rattle.tipc_header.specs.Spelling.{Fields, spelling}
-use Rattle.tipc_link.specs.Direction.{IsDirection}
-use Rattle.tipc_link.specs.Links.{LinkEnd, is_traffic, with_session}
-use Rattle.tipc_link.specs.Sessions.{SessionEnd, released}
+use Rattle.tipc_link.specs.Direction.{IsDirection, IsReceiver}
+use Rattle.tipc_link.specs.Links.{LinkEnd, is_traffic, record_of, with_session}
+use Rattle.tipc_link.specs.Records.{Received}
+use Rattle.tipc_link.specs.Sessions.{SessionEnd, receiving_record, released}
 use Rattle.tipc_link.proofs.Directions.{releases as direction_releases}
 use Rattle.tipc_link.proofs.LinkLaw.{Each}
 use Rattle.tipc_pair.proofs.Ends.{Alike}
@@ -16,7 +17,7 @@ use Rattle.tipc_partners.proofs.Sides.{peers_still}
 use Rattle.tipc_partners.proofs.WireDeeds.{wire_deed}
 use Rattle.tipc_partners.proofs.Wires.{prefix_same, same_some, session_of_up}
 use Rattle.tipc_partners.specs.Deeds.{Hears, IsUp, with_going}
-use Rattle.tipc_partners.specs.Paired.{ArePaired, IsEnd, IsFrame, IsGoing, IsOfSession, IsPacket, IsWire, Met}
+use Rattle.tipc_partners.specs.Paired.{ArePaired, IsEnd, IsFrame, IsGoing, IsOfSession, IsPacket, IsRecordOf, IsWire, Met}
 use Rattle.tipc_partners.specs.Views.{Frame, View, Wire, er_of, es_of, fsm_in, with_wire}
 use Rattle.std.specs.Prelude.{Bool}
 use Rattle.tipc_contact.specs.Sides.{boot_of}
@@ -61,6 +62,20 @@ pub met_or_none : (w w' v : Wire) (epoch : ℕ) → ((k : ℕ) → w'.begun k �
 met_or_none w w' v epoch begun same (inl none) = inl (same ∙ none)
 met_or_none w w' v epoch begun same (inr m) = inr (met_same w w' v epoch begun m)
 
+-- a session tells of its record
+record_going : (own : ℕ) (w v : Wire) (s : SessionEnd) → IsGoing own w v s → IsRecordOf w v (receiving_record s)
+record_going own w v s g = record {
+  takes = ap (λ n. length (w.got n)) g.record_is ∙ g.takes;
+  holds = subst (λ n. IsReceiver s.held s.taken (v.line n)) (sym g.record_is) g.holds;
+}
+
+-- the record of the end whose session this is
+pub kept_going : (own : ℕ) (w v : Wire) (e : LinkEnd) (s : SessionEnd) → w.end ≡ Some (with_session e s) → IsGoing own w v s → (d : LinkEnd) (r : Received) → w.end ≡ Some d → record_of d ≡ Some r → IsRecordOf w v r
+kept_going own w v e s end g d r is has =
+    let one : with_session e s ≡ d = same_some (with_session e s) d w.end end is in
+    let same : receiving_record s ≡ r = same_some (receiving_record s) r (record_of (with_session e s)) refl (ap record_of one ∙ has) in
+    subst (IsRecordOf w v) same (record_going own w v s g)
+
 wire_quiet : (own : ℕ) (w v : Wire) (e : LinkEnd) (s s' : SessionEnd) → IsWire own w v → IsUp w e s → IsGoing own (with_going w e s') v s' → IsWire own (with_going w e s') v
 wire_quiet own w v e s s' h up going = record {
   unborn = h.unborn;
@@ -69,6 +84,7 @@ wire_quiet own w v e s s' h up going = record {
   prefix = h.prefix;
   met = λ epoch. met_or_none w (with_going w e s') v epoch (λ k. refl) refl (h.met epoch);
   going = λ t is. subst (IsGoing own (with_going w e s') v) (same_some s' t _ (session_is e s s' w.begun w.line w.got up.up) is) going;
+  kept = kept_going own (with_going w e s') v e s' refl going;
 }
 
 grows_going : (w : Wire) (e : LinkEnd) (s' : SessionEnd) → Grows w (with_going w e s')
@@ -94,6 +110,7 @@ notes_paired x y b e s shown unanswered owes h up =
       sends = g.sends;
       takes = g.takes;
       holds = g.holds;
+      record_is = g.record_is;
     }))
 
 pub puts_paired : (x y : View) (b : ℕ) (e : LinkEnd) (s : SessionEnd) (waiting : List (List ℕ)) → ArePaired x y → IsUp (x.wires b) e s → Each (IsPacket x.node.own) waiting
@@ -112,6 +129,7 @@ puts_paired x y b e s waiting h up packets =
       sends = record { window = d.window; below = d.below; count = d.count; kept = d.kept; acked_taken = d.acked_taken; taken_numbered = d.taken_numbered };
       takes = g.takes;
       holds = g.holds;
+      record_is = g.record_is;
     }))
 
 -- ---- a frame of the peer
@@ -171,4 +189,5 @@ releases_paired x y b e s p h up a =
       sends = subst (λ n. IsDirection (released s n).sending (length ((y.wires b).got s.epoch)) (w.line s.epoch)) (sym o.told_is) d;
       takes = g.takes;
       holds = g.holds;
+      record_is = g.record_is;
     }))

@@ -13,7 +13,7 @@ use Rattle.tipc_pair.proofs.Receivings.{received}
 use Rattle.tipc_partners.proofs.Packets.{each_front}
 use Rattle.tipc_pair.specs.Pairs.{packets_in}
 use Rattle.tipc_partners.proofs.EpochsKept.{session_is}
-use Rattle.tipc_partners.proofs.SessionDeeds.{hears_session, met_or_none, met_same, session_step}
+use Rattle.tipc_partners.proofs.SessionDeeds.{hears_session, kept_going, met_or_none, met_same, session_step}
 use Rattle.tipc_partners.proofs.Wires.{none_some, on_put, on_put_else, prefix_append, prefix_long, prefix_same, put_same, same_some, session_of_up}
 use Rattle.tipc_partners.specs.Deeds.{Hears, IsUp, with_going, with_taken}
 use Rattle.tipc_partners.specs.Paired.{ArePaired, IsGoing, IsPacket, Met}
@@ -85,6 +85,16 @@ takes_paired x y b e s p number by packet h up a is =
       there_is = o.begun_is;
       epoch_is = o.peer_is;
     } in
+    let going : IsGoing x.node.own w' v s' = record {
+      begun = g.begun;
+      begun_is = g.begun_is;
+      peer_is = g.peer_is;
+      waiting = g.waiting;
+      sends = g.sends;
+      takes = ap (λ (xs : List (List ℕ)). length xs) now ∙ (let sum : length (w.got s.peer_epoch ++ due) ≡ s'.taken = omega arith in sum);
+      holds = m.receiver;
+      record_is = g.record_is;
+    } in
     session_step x y b e s s' w.line got h up (record { own = refl; peer = refl; bearer = refl; epoch = refl; peer_epoch = refl })
     (record {
       line = λ epoch. prefix_same (w.line epoch);
@@ -97,15 +107,8 @@ takes_paired x y b e s p number by packet h up a is =
       window = wire.window;
       prefix = on_put w.got s.peer_epoch (w.got s.peer_epoch ++ due) (λ epoch xs. IsPrefixOf xs (v.line epoch)) (more_front (w.got s.peer_epoch) due (v.line s.peer_epoch) (wire.prefix s.peer_epoch) front) wire.prefix;
       met = on_put_else w.got s.peer_epoch (w.got s.peer_epoch ++ due) (λ epoch xs. (xs ≡ []) ⊎ Met w' v epoch) (inr met_now) (λ epoch other. met_else w w' v epoch (λ k. refl) (wire.met epoch));
-      going = λ r r_is. subst (IsGoing x.node.own w' v) (same_some s' r _ (session_is e s s' w.begun w.line got up.up) r_is) (record {
-        begun = g.begun;
-        begun_is = g.begun_is;
-        peer_is = g.peer_is;
-        waiting = g.waiting;
-        sends = g.sends;
-        takes = ap (λ (xs : List (List ℕ)). length xs) now ∙ (let sum : length (w.got s.peer_epoch ++ due) ≡ s'.taken = omega arith in sum);
-        holds = m.receiver;
-      });
+      going = λ r r_is. subst (IsGoing x.node.own w' v) (same_some s' r _ (session_is e s s' w.begun w.line got up.up) r_is) going;
+      kept = kept_going x.node.own w' v e s' refl going;
     })
 
 -- ---- packets are numbered
@@ -126,6 +129,16 @@ numbers_paired x y b e s h up =
     let recently = taken_recently s'.sending (length (v.got s.epoch)) (w.line s.epoch ++ moving s) moved in
     let count = moved.count in
     let now : line s.epoch ≡ w.line s.epoch ++ moving s = put_same w.line s.epoch (w.line s.epoch ++ moving s) in
+    let going : IsGoing x.node.own w' v s' = record {
+      begun = g.begun;
+      begun_is = g.begun_is;
+      peer_is = g.peer_is;
+      waiting = each_behind n s.sending.waiting g.waiting;
+      sends = subst (IsDirection s'.sending (length (v.got s.epoch))) (sym now) moved;
+      takes = g.takes;
+      holds = g.holds;
+      record_is = g.record_is;
+    } in
     session_step x y b e s s' line w.got h up (record { own = refl; peer = refl; bearer = refl; epoch = refl; peer_epoch = refl })
     (record {
       line = on_put w.line s.epoch (w.line s.epoch ++ moving s) (λ epoch xs. IsPrefixOf (w.line epoch) xs) (prefix_append (w.line s.epoch) (moving s)) (λ epoch. prefix_same (w.line epoch));
@@ -139,13 +152,6 @@ numbers_paired x y b e s h up =
       window = on_put w.line s.epoch (w.line s.epoch ++ moving s) (λ epoch (xs : List (List ℕ)). length xs ≤ length (v.got epoch) + 50) (omega arith) wire.window;
       prefix = wire.prefix;
       met = λ epoch. met_or_none w w' v epoch (λ k. refl) refl (wire.met epoch);
-      going = λ r r_is. subst (IsGoing x.node.own w' v) (same_some s' r _ (session_is e s s' w.begun line w.got up.up) r_is) (record {
-        begun = g.begun;
-        begun_is = g.begun_is;
-        peer_is = g.peer_is;
-        waiting = each_behind n s.sending.waiting g.waiting;
-        sends = subst (IsDirection s'.sending (length (v.got s.epoch))) (sym now) moved;
-        takes = g.takes;
-        holds = g.holds;
-      });
+      going = λ r r_is. subst (IsGoing x.node.own w' v) (same_some s' r _ (session_is e s s' w.begun line w.got up.up) r_is) going;
+      kept = kept_going x.node.own w' v e s' refl going;
     })

@@ -11,7 +11,8 @@ use Rattle.tipc_contact.specs.Peers.{ArePeers}
 use Rattle.tipc_contact.specs.Sides.{boot_of, first_number}
 use Rattle.tipc_link.specs.Direction.{IsCarried, IsDirection, IsReceiver}
 use Rattle.tipc_link.specs.Laws.{IsPrefixOf}
-use Rattle.tipc_link.specs.Links.{LinkEnd, is_traffic}
+use Rattle.tipc_link.specs.Links.{LinkEnd, is_traffic, record_of}
+use Rattle.tipc_link.specs.Records.{Received}
 use Rattle.tipc_link.specs.Sessions.{Carries, SessionEnd, content_of}
 use Rattle.tipc_partners.specs.Views.{Begun, Frame, Node, View, Wire, epoch_on, er_of, es_of, said_by, session_on, side_of, unused}
 
@@ -75,6 +76,11 @@ pub record Met (w v : Wire) (peer_epoch : ℕ) : Type 0 where
 abbrev pub IsWith : Wire → ℕ → ℕ → Type 0
 IsWith v er es = (there : Begun) × (v.begun er ≡ Some there) × (there.peer_epoch ≡ es)
 
+-- the receiving record of an end on wire w, against the wire v of the peer: what was taken of the peer's session, and what is held of it
+pub record IsRecordOf (w v : Wire) (r : Received) : Type 0 where
+  pub takes : length (w.got r.epoch) ≡ r.taken
+  pub holds : IsReceiver r.held r.taken (v.line r.epoch)
+
 -- the session on wire w, against the wire v of the peer
 pub record IsGoing (own : ℕ) (w v : Wire) (s : SessionEnd) : Type 0 where
   pub begun : Begun
@@ -87,6 +93,8 @@ pub record IsGoing (own : ℕ) (w v : Wire) (s : SessionEnd) : Type 0 where
   -- what it took and holds, against what the peer numbered
   pub takes : length (w.got s.peer_epoch) ≡ s.taken
   pub holds : IsReceiver s.held s.taken (v.line s.peer_epoch)
+  -- its record is of the peer's epoch
+  pub record_is : s.record_epoch ≡ s.peer_epoch
 
 -- what a node did on one bearer, beside what its peer did there
 pub record IsWire (own : ℕ) (w v : Wire) : Type 0 where
@@ -99,6 +107,8 @@ pub record IsWire (own : ℕ) (w v : Wire) : Type 0 where
   pub prefix : (epoch : ℕ) → IsPrefixOf (w.got epoch) (v.line epoch)
   pub met : (epoch : ℕ) → (w.got epoch ≡ []) ⊎ Met w v epoch
   pub going : (s : SessionEnd) → session_on w ≡ Some s → IsGoing own w v s
+  -- the receiving record is true, also once the session is over
+  pub kept : (e : LinkEnd) (r : Received) → w.end ≡ Some e → record_of e ≡ Some r → IsRecordOf w v r
 
 -- ---- frames
 

@@ -56,6 +56,10 @@ swapped s packet = record { numbered = s.numbered; unacked = s.unacked; waiting 
 abbrev pub without_waiting : Sending → Sending
 without_waiting s = record { numbered = s.numbered; unacked = s.unacked; waiting = [] }
 
+-- all packets are given up; those that wait were never numbered
+abbrev pub emptied : Sending → Sending
+emptied s = record { numbered = s.numbered; unacked = []; waiting = [] }
+
 -- all is given up, and the numbers that the waiting packets would have had are passed over
 abbrev pub passed_over : Sending → Sending
 passed_over s = record { numbered = s.numbered + length s.waiting; unacked = []; waiting = [] }

@@ -6,6 +6,3 @@ pub mod laws;
 mod window;
 
 pub use window::{OfferFault, SendWindow, WINDOW};
-
-#[cfg(test)]
-mod tests;

@@ -7,7 +7,7 @@ use std::alloc::{AllocError, Global};
 use std::collections::VecDeque;
 use std::marker::Model;
 use std::mem;
-use tipc_types::{Bytes, Kept, NoMemory, Pieces, number_distance, sequence_number};
+use tipc_types::{Bytes, Kept, KeptList, NoMemory, Pieces, number_distance, sequence_number};
 
 /// How many packets may be unacknowledged at a time. (TIPC 2.0 draft, default window.)
 pub const WINDOW: usize = 50;
@@ -85,7 +85,7 @@ impl Model for SendWindow {
 }
 
 impl SendWindow {
-    ghost use Rattle.tipc_send_window.specs.Sending.{acknowledged, fresh, IsSending, kept_of, moved, offered, passed_over, released, swapped, without_waiting};
+    ghost use Rattle.tipc_send_window.specs.Sending.{acknowledged, emptied, fresh, IsSending, kept_of, moved, offered, passed_over, released, swapped, without_waiting};
 
     /// A window in which nothing was numbered, so that the first packet will have number 1.
     pub fn new(alloc: Global) -> SendWindow
@@ -135,6 +135,13 @@ impl SendWindow {
         ensures { result ≡ length self.now.waiting }
     {
         self.waiting.len() as u32
+    }
+
+    /// The packets that wait, in order.
+    pub fn waiting_packets(&self) -> &VecDeque<Bytes>
+        ensures { result.now.items ≡ self.now.waiting }
+    {
+        &self.waiting
     }
 
     /// The first packet that waits: None exactly where none does.
@@ -270,6 +277,30 @@ impl SendWindow {
     {
         let empty = VecDeque::new(*self.waiting.allocator());
         Pieces::from_vec(mem::replace(&mut self.waiting, empty).into_vec())
+    }
+
+    /// Gives every packet: the unacknowledged ones in order, beside their numbers, and those that wait. Those were never numbered. It
+    /// takes no memory.
+    pub fn hand_over(&mut self) -> (KeptList, Pieces)
+        ensures unacked { result.0 ≡ kept_of self.old }
+        ensures waiting { result.1 ≡ self.old.waiting }
+        ensures after { self.new ≡ emptied self.old }
+        ensures window { IsSending self.new }
+    {
+        let waiting = self.take_waiting();
+        (self.take_unacked(), waiting)
+    }
+
+    /// Gives the unacknowledged packets in order, beside their numbers, where none waits.
+    fn take_unacked(&mut self) -> KeptList
+        requires { self.old.waiting ≡ [] }
+        ensures given { result ≡ kept_of self.old }
+        ensures after { self.new ≡ emptied self.old }
+    {
+        self.stored.drain(..self.released);
+        self.released = 0;
+        let empty = Vec::new(*self.stored.allocator());
+        KeptList::from_vec(mem::replace(&mut self.stored, empty))
     }
 
     /// Gives up every packet, unacknowledged or waiting. The numbers that the waiting packets would have had are

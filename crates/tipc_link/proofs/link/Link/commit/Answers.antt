@@ -1,7 +1,8 @@
-use Rattle.std.proofs.Common.{◌≡◌, true, false, sym, ◌∙◌, subst}
+use Rattle.std.proofs.Common.{◌≡◌, true, false, option_map, sym, ◌∙◌, subst}
 use Rattle.tipc_header.specs.Spelling.{view}
 use Rattle.tipc_outside.specs.Frames.{Adds, Out}
 use Rattle.tipc_link_fsm.specs.Table.{Outcome}
+use Rattle.tipc_link.specs.Records.{early_of}
 use Rattle.tipc_link.specs.Sessions.{content_of}
 use Rattle.tipc_link.specs.Links.{LinkEnd, heard_by, is_heard, link_frames}
 use Rattle.tipc_link.specs.Hearings.{ArrivingState}
@@ -12,7 +13,7 @@ use Rattle.tipc_link.proofs.link.Link.commit.Goals.{then-is_heard, else-is_heard
 pub returns-clause-frames : goal.returns-clause-frames
 returns-clause-frames c =
     let i = c.self.inside in
-    let e : LinkEnd = record { own = i.own.word; peer = i.peer.word; bearer = i.bearer; mended = i.mended; fsm = i.fsm; contact = i.contact; peer_contact = i.peer_contact; session = i.session } in
+    let e : LinkEnd = record { own = i.own.word; peer = i.peer.word; bearer = i.bearer; mended = i.mended; fsm = i.fsm; contact = i.contact; peer_contact = i.peer_contact; session = i.session; early = option_map early_of i.early } in
     let o : Outcome = record { after = c.arriving.inside.fsm; change = c.arriving.inside.change } in
     let a : ArrivingState = record { states = o; hearing = c.arriving.inside.hearing } in
     let p = view c.args.packet.now in

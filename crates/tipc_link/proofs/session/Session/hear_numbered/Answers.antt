@@ -1,23 +1,17 @@
-use Rattle.std.proofs.Common.{◌≡◌, sym, ap, subst, ◌∙◌}
-use Rattle.std.proofs.lemmas.Option.{same_Some}
+use Rattle.std.proofs.Common.{◌≡◌, ap, subst, ◌∙◌}
 use Rattle.tipc_types.specs.declared.packet_lists.Taken.{Taken}
-use Rattle.tipc_recv_window.specs.Receiving.{coming}
 use Rattle.tipc_outside.specs.Frames.{Adds}
 use Rattle.tipc_link.specs.Sessions.{SessionEnd, flush_frames, flushed, receiving, released, took}
-use Rattle.tipc_link.specs.Hearings.{HearingState, numbered_hearing}
+use Rattle.tipc_link.specs.Hearings.{HearingState, coming_of}
 use Rattle.tipc_link.proofs.Takings.{took-released}
 use Rattle.tipc_link.proofs.session.Session.hear_numbered.Goals as goal
 
-pub take-requires : goal.take-requires
-take-requires c =
-    let t = c.requires.0 in
-    (t, same_Some _ _ (sym c.in-Some.is ∙ ap (λ (h : HearingState). h.window) (c.hearing.view_is ∙ c.requires.1)))
+pub take_or_pass-requires : goal.take_or_pass-requires
+take_or_pass-requires c = (c.requires.0, ap (λ (h : HearingState). h.window) c.hearing.view_is ∙ c.requires.1)
 
-released_after : (c : goal.After-flush) (t : Taken) → c.args.hearing ≡ numbered_hearing c.args.self.now t → c.acknowledge.new.self ≡ took (released c.args.self.now c.args.acknowledgement) t
+released_after : (c : goal.After-flush) (t : Taken) → c.args.hearing.window ≡ coming_of (receiving c.args.self.now) t → c.acknowledge.new.self ≡ took (released c.args.self.now c.args.acknowledgement) t
 released_after c t is =
-    let whole = c.hearing.view_is ∙ is in
-    let window : c.in-Some.arrival ≡ coming (receiving c.args.self.now) t = same_Some _ _ (sym c.in-Some.is ∙ ap (λ (h : HearingState). h.window) whole) in
-    c.acknowledge.ensures ∙ ap (λ (e : SessionEnd). released e c.args.acknowledgement) (c.take.ensures t window) ∙ took-released c.args.self.now c.args.acknowledgement t
+    c.acknowledge.ensures ∙ ap (λ (e : SessionEnd). released e c.args.acknowledgement) (c.take_or_pass.ensures t (ap (λ (h : HearingState). h.window) c.hearing.view_is ∙ is)) ∙ took-released c.args.self.now c.args.acknowledgement t
 
 pub returns-clause-after : goal.returns-clause-after
 returns-clause-after c = λ t is. c.flush.ensures.after ∙ ap flushed (released_after c t is)
