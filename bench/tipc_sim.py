@@ -1,7 +1,8 @@
 #!/usr/bin/env python3
 """How many messages a second the program carries over one link, whether that depends on how many it has carried, and
 how much memory it holds at the end, beside the bytes of the frames in its air. What a message by name costs beside one
-by port; what a publication costs that every peer is told of; and what a contact costs that begins with publications.
+by port; what a publication costs that every peer is told of; what a contact costs that begins with publications, and what
+a change costs that subscribers are told of.
 
 It runs the program that `rt ci` left in crates/tipc_sim/out, and is no part of the gate.
 """
@@ -71,6 +72,17 @@ def measure_greeting(publications: int) -> None:
     print(f"a contact that begins with {publications} publications: {took / contacts * 1e3:.2f} ms, {each:.2f} microseconds a publication")
 
 
+def measure_subscribers(subscribers: int, publications: int) -> None:
+    """Prints what publications and their withdrawals cost that so many subscribers watch, and that they don't watch."""
+    nodes = "node 1\nsocket 1\n"
+    lines = "".join(f"publish 1 1 100 {key} {key} cluster {key}\nwithdraw 1 1 {key}\n" for key in range(publications))
+    bare = seconds_of(nodes + lines)
+    for what, kind in (("watched", 100), ("not watched", 200)):
+        watching = nodes + f"subscribe 1 {kind} 0 4294967295 4294967295 ports\n" * subscribers
+        took = (seconds_of(watching + lines) - seconds_of(watching) - bare) / (2 * publications)
+        print(f"{subscribers} subscribers, a change that is {what}: {took * 1e6:.1f} microseconds more, {took / subscribers * 1e9:.0f} nanoseconds a subscriber")
+
+
 def main() -> None:
     for count in (1_000, 10_000, 30_000, 65_540):
         measure(f"burst of {count} messages of 1 byte", f"burst 1 1 2 1 {count} =x\n", count, 1)
@@ -82,6 +94,8 @@ def main() -> None:
         measure_publications(31, publications)
     for publications in (256, 512, 1_024):
         measure_greeting(publications)
+    for subscribers in (16, 256):
+        measure_subscribers(subscribers, 10_000)
 
 
 if __name__ == "__main__":

@@ -18,7 +18,6 @@ use Rattle.tipc_journal.specs.Licensed.{is_send, received, sends_in, AllLicensed
 use Rattle.tipc_journal.specs.Queues.{queue, queued_in, sockets, is_taking, IsFed}
 use Rattle.tipc_journal.specs.Refusals.{is_among, refusal}
 use Rattle.tipc_journal.specs.Steps.{IsInside, IsWhole, NodeStep, PlacedStep, step_entries, steps}
-use Rattle.tipc_journal.specs.Subscriptions.{AllTimely, IsTimely}
 use Rattle.tipc_journal.proofs.DueLaws.{due_behind_cons, due_behind_nil}
 use Rattle.tipc_journal.proofs.QueueLaws.{IsFed_step}
 use Rattle.tipc_journal.proofs.StepLaws.{steps_more, steps_nil}
@@ -49,16 +48,6 @@ pub AllLicensed_step : (own : Addr) (J : List Entry) (s : NodeStep) → IsWhole 
     → AllLicensed own J → IsLicensed own (record { before = J; step = s }) → AllLicensed own (J ++ step_entries s)
 AllLicensed_step own J s whole clean all one =
     subst (λ (w : List PlacedStep). All (IsLicensed own) w) (sym (steps_more J s whole clean)) (All-push (IsLicensed own) (steps J) (record { before = J; step = s }) all one)
-
--- in each step of an empty journal just those subscriptions time out that are due
-pub AllTimely_nil : AllTimely []
-AllTimely_nil = subst (λ (w : List PlacedStep). All IsTimely w) (sym steps_nil) (λ i d within. absurd (omega (arith, within)))
-
--- one more step in which just those subscriptions time out that are due
-pub AllTimely_step : (J : List Entry) (s : NodeStep) → IsWhole J → IsInside s.inside
-    → AllTimely J → IsTimely (record { before = J; step = s }) → AllTimely (J ++ step_entries s)
-AllTimely_step J s whole clean all one =
-    subst (λ (w : List PlacedStep). All IsTimely w) (sym (steps_more J s whole clean)) (All-push IsTimely (steps J) (record { before = J; step = s }) all one)
 
 -- a receive that gives a message has one that is queued
 gives_one : (ms : List Message) → Got ≡ received ms → 0 < length ms

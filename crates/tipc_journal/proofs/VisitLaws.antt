@@ -14,11 +14,12 @@ use Rattle.tipc_journal.specs.Queues.{ever_queued, queue, queued_in, sockets, ta
 use Rattle.tipc_journal.specs.Refusals.{sockets_made}
 use Rattle.tipc_journal.specs.Steps.{steps}
 use Rattle.tipc_journal.specs.Story.{teller}
+use Rattle.tipc_journal.specs.Subscriptions.{subscriptions}
 use Rattle.tipc_journal.specs.Visits.{away_offer, home_offer, visit_steps, visits}
 
 -- each step of the story is licensed
 pub visits_licensed : AllLicensed teller visits
-unfolding visit_steps visits steps sockets sockets_made live learned arranged contact queue ever_queued taken_count queued_in due_behind sends_in cluster IsStrictlySortedBy
+unfolding visit_steps visits steps sockets sockets_made live learned arranged contact queue ever_queued taken_count queued_in due_behind sends_in cluster subscriptions IsStrictlySortedBy
 visits_licensed =
     All-from_recursion (IsLicensed teller) (steps visits) (
       record { answered = inr (1, refl, refl); asked = refl; sends = refl },

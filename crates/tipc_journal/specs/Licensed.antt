@@ -26,7 +26,7 @@ use Rattle.tipc_journal.specs.Names.{live, table}
 use Rattle.tipc_journal.specs.Queues.{queue}
 use Rattle.tipc_journal.specs.Refusals.{is_among, is_congested, is_offer, refusal, sockets_made, subscriptions_made}
 use Rattle.tipc_journal.specs.Steps.{steps, NodeStep, PlacedStep}
-use Rattle.tipc_journal.specs.Subscriptions.{transitions}
+use Rattle.tipc_journal.specs.Subscriptions.{timeouts, transitions}
 
 -- ---- the answers of calls that are done
 
@@ -87,10 +87,11 @@ is_asked_for (entry.Published p) = true
 is_asked_for (entry.Withdrawn p) = true
 is_asked_for (entry.Subscribed number s) = true
 is_asked_for (entry.Cancelled number) = true
+is_asked_for (entry.TimedOut number) = true
 is_asked_for _ = false
 
 -- the entries that a call asks for: a publication, its withdrawal, that of each publication of a port that is
--- closed, in the order of publishing; a subscription, its end
+-- closed, in the order of publishing; a subscription, its end; a tick the end of those that time out in it
 abbrev pub asked : Addr → List Entry → EventNote → Answer → List Entry
 asked own J (event.Publish port range scope key) answer.Done =
     entry.Published (record { range = range; scope = scope; at = record { node = own; port = port }; key = key }) ∷ []
@@ -99,6 +100,7 @@ asked own J (event.Withdraw port key) answer.Done =
 asked own J (event.Close port) answer.Done = map entry.Withdrawn (filter (λ p. p.at.port == port) (live J))
 asked own J (event.Subscribe s) (answer.Subscribed number) = entry.Subscribed number s ∷ []
 asked own J (event.Cancel number) answer.Done = entry.Cancelled number ∷ []
+asked own J event.Tick answer.Done = map entry.TimedOut (timeouts J)
 asked own J event given = []
 
 -- whether an entry accepts a user's message, where d is due: not a return that is due, and not items
@@ -144,8 +146,8 @@ accepted_of own J (Some (Items withdrawal items)) = []
 
 -- ---- licensed steps
 
--- a step is licensed: its answer is, and it made just the publications, withdrawals, subscriptions, cancellations
--- and sends that it asks for
+-- a step is licensed: its answer is, and it made just the publications, withdrawals, subscriptions, cancellations,
+-- timeouts and sends that it asks for
 pub record IsLicensed (own : Addr) (p : PlacedStep) : Type 0 where
   pub answered : IsAnswered own p.before p.step (refusal own p.before p.step.event)
   pub asked : filter is_asked_for p.step.inside ≡ asked own p.before p.step.event p.step.answer

@@ -1,9 +1,6 @@
 -- Subscriptions in a journal, the events that each was told, and when it times out.
-use Rattle.std.specs.Prelude.{◌≡◌, ◌==◌, ◌&&◌, ◌+◌, if◌then◌else◌, not, max, ℕ, Bool, false, List, [], ◌∷◌, ◌++◌, Option, Some, None, fold, filter}
-use Rattle.std.specs.List.{All, filter_map}
-use Rattle.tipc_types.specs.declared.node_calls.By.{By}
+use Rattle.std.specs.Prelude.{◌==◌, ◌&&◌, ◌+◌, if◌then◌else◌, not, max, ℕ, Bool, false, List, [], ◌∷◌, ◌++◌, Option, Some, None, fold, filter}
 use Rattle.tipc_types.specs.declared.node_calls.Event.{Event}
-use Rattle.tipc_types.specs.declared.node_calls.EventNote.{EventNote}
 use Rattle.tipc_types.specs.declared.node_calls.EventNote.TheVariants.{Tick}
 use Rattle.tipc_types.specs.declared.node_calls.Subscription.{Subscription}
 use Rattle.tipc_types.specs.declared.services.Publication.{Publication}
@@ -12,7 +9,6 @@ use Rattle.tipc_journal.specs.declared.entries.Entry.{Entry}
 use Rattle.tipc_journal.specs.declared.entries.Entry.TheVariants.{Step, Published, Withdrawn, Learned, Forgot, ContactDown, Subscribed, Cancelled, TimedOut}
 use Rattle.tipc_journal.specs.Names.{table}
 use Rattle.tipc_journal.specs.Prefixes.{each_behind}
-use Rattle.tipc_journal.specs.Steps.{steps, PlacedStep}
 
 -- what the subscription of a number asks for after an entry, while it lasts
 abbrev pub watching_after : ℕ → Option Subscription → Entry → Option Subscription
@@ -82,24 +78,7 @@ abbrev pub is_due_at : Option Subscription → ℕ → Bool
 is_due_at None ticks = false
 is_due_at (Some s) ticks = not (s.timeout == 4294967295) && (ticks == max s.timeout 1)
 
--- whether the subscription of a number times out in the tick that the journal's last Step began
-abbrev pub is_due : List Entry → ℕ → Bool
-is_due entries n = is_due_at (watching entries n) (ticks_since entries n)
-
--- the number of a subscription that timed out at an entry
-abbrev pub timed_out : Entry → Option ℕ
-timed_out (TimedOut number) = Some number
-timed_out _ = None
-
--- the subscriptions that time out in a step behind a journal: in a tick those that are due, in the order of subscribing
-abbrev pub timeouts : List Entry → By → EventNote → List ℕ
-timeouts J by Tick = filter (is_due (J ++ Step by Tick ∷ [])) (subscriptions J)
-timeouts J by event = []
-
--- in a step just those subscriptions time out that are due in it
-abbrev pub IsTimely : PlacedStep → Type 0
-IsTimely p = filter_map timed_out p.step.inside ≡ timeouts p.before p.step.by p.step.event
-
--- in each step of a journal just those subscriptions time out that are due in it
-abbrev pub AllTimely : List Entry → Type 0
-AllTimely entries = All IsTimely (steps entries)
+-- the subscriptions that time out in a tick behind a journal, in the order of subscribing: those that last, and whose
+-- timeout is reached with this tick
+abbrev pub timeouts : List Entry → List ℕ
+timeouts J = filter (λ n. is_due_at (watching J n) (ticks_since J n + 1)) (subscriptions J)

@@ -22,7 +22,7 @@ ghost use Rattle.tipc_journal.specs.Room.{message_bytes, entry_bytes};
 ghost use Rattle.tipc_journal.specs.Steps.{NodeStep, PlacedStep, step_entries, steps, IsWhole, IsInside};
 ghost use Rattle.tipc_journal.specs.Story.{came_back, story, story_after, teller};
 ghost use Rattle.tipc_journal.specs.Streams.{Stream, accepted, accepted_message, delivered, delivered_message, is_items};
-ghost use Rattle.tipc_journal.specs.Subscriptions.{watching, watching_after, subscriptions, subscriptions_after, transitions, told, AllTimely, IsTimely};
+ghost use Rattle.tipc_journal.specs.Subscriptions.{watching, watching_after, subscriptions, subscriptions_after, transitions, told};
 ghost use Rattle.tipc_journal.specs.Visits.{visits};
 
 use crate::entries::Entry;
@@ -257,8 +257,6 @@ pub fn licences_follow()
     ensures told { (own : Addr) (J : List Entry) (s : NodeStep) (n : ℕ) → IsWhole J → IsInside s.inside →
         IsLicensed own (record { before = J; step = s }) → IsPrefixOf (events_given J n) (transitions J n) →
         IsPrefixOf (events_given (J ++ step_entries s) n) (transitions (J ++ step_entries s) n) }
-    ensures timely { (J : List Entry) (s : NodeStep) → IsWhole J → IsInside s.inside → AllTimely J →
-        IsTimely (record { before = J; step = s }) → AllTimely (J ++ step_entries s) }
 {}
 
 /// Two stories whose answers and fates are known: one node alone, and one with a peer. Each step is licensed, each

@@ -16,6 +16,3 @@ pub use laws::{
     readings_follow_inside, readings_follow_steps, stamps_and_calls_follow, steps_follow,
     stories_are_licensed, subscriptions_follow, transitions_follow, what_is_due_stands_next,
 };
-
-#[cfg(test)]
-mod tests;

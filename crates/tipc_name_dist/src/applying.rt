@@ -20,13 +20,13 @@ pub enum Learnt {
     Forgot(List),
 }
 
-/// What a peer's message made of a name table, up to its first item that doesn't fit. (This project's profile.)
-#[derive(Clone, Debug, Drop, PartialEq)]
-pub struct AppliedFront {
+/// What a peer's message made of a name table, up to its first item that doesn't fit.
+#[derive(Drop)]
+struct AppliedFront {
     /// What was learned or forgotten by the items that are applied.
-    pub learnt: Learnt,
+    learnt: Learnt,
     /// The place of the first item that doesn't fit, from 0: None where all items are applied.
-    pub bad: Option<u32>,
+    bad: Option<u32>,
 }
 
 /// Why an item message wasn't applied whole. (This project's profile.)
@@ -210,14 +210,8 @@ fn forget_all<N: Names>(
     Ok(whole(forgotten))
 }
 
-/// Applies a peer's message of at most 70 items to a name table, one item after the other, up to the first that
-/// doesn't fit, and tells both what was learned or forgotten and where that item stands. A user's message has no
-/// items. (TIPC 2.0 draft, name distributor.)
-///
-/// # Errors
-///
-/// `NoMemory` where memory runs out, which changes nothing.
-pub fn apply_front<N: Names>(
+/// Applies a peer's message to a name table, one item after the other, up to the first that doesn't fit.
+fn apply_front<N: Names>(
     alloc: Global,
     names: &mut N,
     from: Addr,

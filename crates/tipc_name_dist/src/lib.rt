@@ -5,8 +5,5 @@ mod applying;
 mod items;
 pub mod laws;
 
-pub use applying::{AppliedFront, ItemFault, Learnt, apply, apply_front, told_by};
+pub use applying::{ItemFault, Learnt, apply, told_by};
 pub use items::{MOST_ITEMS, bulk, item};
-
-#[cfg(test)]
-mod tests;

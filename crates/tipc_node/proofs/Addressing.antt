@@ -99,7 +99,7 @@ begun_names : (word : ℕ) (e : LinkEnd) (s t : SessionEnd) → Names word e →
 begun_names word e s t n begun same = let is : s ≡ t = cc in ap (λ (u : SessionEnd). u.peer) (sym is) ∙ begun ∙ n.peer
 
 names_followed : (word : ℕ) (e : LinkEnd) (change : Change) → Names word e → Names word (followed e change)
-names_followed word e Up n = names_session word e _ n (λ s has. begun_names word e _ s n refl has)
+names_followed word e Up n = record { peer = n.peer; session = λ s has. begun_names word e _ s n refl has }
 names_followed word e (Answer (reply.State probe)) n = names_mapped word e told n (λ s. refl)
 names_followed word e other n = n
 

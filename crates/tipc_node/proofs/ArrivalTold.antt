@@ -176,7 +176,7 @@ arrived_call : (n : NodeState) (by : By) (bearer number : ℕ) (answered : Arriv
 arrived_call n by bearer number answered w h worked inner = record {
   answered = done_answered (addr_of_word n.own) n.journal by (event.Arrive bearer number) w.inside (answer.Arrived answered) refl (answered, refl);
   worked = worked;
-  kept = others_kept n by (event.Arrive bearer number) (answer.Arrived answered) NothingDue [] [] w h inner worked (record { stays = λ ports. refl; none = refl; quiet = λ q. refl });
+  kept = others_kept n by (event.Arrive bearer number) (answer.Arrived answered) NothingDue [] [] w h inner worked (record { stays = λ ports. refl; none = refl; quiet = λ q. refl; still = refl; nothing = λ number. refl });
   full = tt;
 }
 

@@ -15,13 +15,14 @@ use Rattle.tipc_types.specs.declared.node_calls.EventNote.TheVariants as event
 use Rattle.tipc_outside.specs.declared.outgoing.Outgoing.{Outgoing}
 use Rattle.tipc_journal.specs.declared.entries.Entry.{Entry}
 use Rattle.tipc_journal.specs.Dues.{NothingDue, first_due, sent_message}
-use Rattle.tipc_journal.specs.Licensed.{IsAnswered, IsDone, accepted_of, asked, received}
+use Rattle.tipc_journal.specs.Licensed.{IsAnswered, IsDone, accepted_of, asked, event_given, received}
 use Rattle.tipc_journal.specs.Queues.{is_taking, queue, sockets_after}
 use Rattle.tipc_journal.specs.Refusals.{first_holding, is_among, made_by, refusal, refusals, sockets_made}
 use Rattle.tipc_journal.specs.Steps.{IsInside, step_entries}
 use Rattle.tipc_journal.proofs.CountLaws.{sockets_made_step}
 use Rattle.tipc_journal.proofs.DueLaws.{queue_inside_nil}
 use Rattle.tipc_sockets.specs.SocketTables.{AreSockets, SocketTable, has_port, queue_at, taken_from, with_queues, with_socket}
+use Rattle.tipc_sockets.specs.Telling.{is_tick}
 use Rattle.tipc_sockets.proofs.StepsTold.{told_made, told_taken}
 use Rattle.tipc_node.specs.Calls.{Makes}
 use Rattle.tipc_node.specs.Nodes.{NodeState, step_of}
@@ -47,6 +48,8 @@ IsRefusal answer.Reserved = Unit {0}
 IsRefusal (answer.Duplicate key) = Unit {0}
 IsRefusal (answer.Full limit) = Unit {0}
 IsRefusal answer.Unknown = Unit {0}
+IsRefusal answer.BadRange = Unit {0}
+IsRefusal answer.BadFilter = Unit {0}
 IsRefusal other = ⊥
 
 -- with this answer a call sends nothing, asks for nothing, and changes no socket
@@ -57,39 +60,45 @@ pub record IsNothing (own : Addr) (journal : List Entry) (note : EventNote) (giv
   pub other : IsOther note given
 
 nothing : (own : Addr) (journal : List Entry) (note : EventNote) (given : Answer) → first_due own note given ≡ NothingDue → accepted_of own journal (sent_message own note given) ≡ []
-    → asked own journal note given ≡ [] → ((ports : List ℕ) → sockets_after ports note given ≡ ports) → made_by note given ≡ None → ((port : ℕ) → is_taking port note given ≡ false) → IsNothing own journal note given
-nothing own journal note given due sends asks stays none quiet = record { due = due; sends = sends; asks = asks; other = record { stays = stays; none = none; quiet = quiet } }
+    → asked own journal note given ≡ [] → ((ports : List ℕ) → sockets_after ports note given ≡ ports) → made_by note given ≡ None → ((port : ℕ) → is_taking port note given ≡ false) → is_tick note ≡ false
+    → ((number : ℕ) → event_given number note given ≡ None) → IsNothing own journal note given
+nothing own journal note given due sends asks stays none quiet still unsaid =
+    record { due = due; sends = sends; asks = asks; other = record { stays = stays; none = none; quiet = quiet; still = still; nothing = unsaid } }
 
-pub nothing_done : (own : Addr) (journal : List Entry) (note : EventNote) (given : Answer) → IsRefusal given → IsNothing own journal note given
-nothing_done own journal event.Socket answer.NoSocket h = nothing own journal event.Socket answer.NoSocket refl refl refl (λ ports. refl) refl (λ port. refl)
-nothing_done own journal note answer.NoSocket h = nothing own journal note answer.NoSocket refl refl refl (λ ports. refl) refl (λ port. refl)
-nothing_done own journal event.Socket (answer.TooLong bytes) h = nothing own journal event.Socket (answer.TooLong bytes) refl refl refl (λ ports. refl) refl (λ port. refl)
-nothing_done own journal note (answer.TooLong bytes) h = nothing own journal note (answer.TooLong bytes) refl refl refl (λ ports. refl) refl (λ port. refl)
-nothing_done own journal event.Socket answer.NoName h = nothing own journal event.Socket answer.NoName refl refl refl (λ ports. refl) refl (λ port. refl)
-nothing_done own journal note answer.NoName h = nothing own journal note answer.NoName refl refl refl (λ ports. refl) refl (λ port. refl)
-nothing_done own journal event.Socket answer.NoNode h = nothing own journal event.Socket answer.NoNode refl refl refl (λ ports. refl) refl (λ port. refl)
-nothing_done own journal note answer.NoNode h = nothing own journal note answer.NoNode refl refl refl (λ ports. refl) refl (λ port. refl)
-nothing_done own journal event.Socket (answer.Congested in_flight waiting) h = nothing own journal event.Socket (answer.Congested in_flight waiting) refl refl refl (λ ports. refl) refl (λ port. refl)
-nothing_done own journal note (answer.Congested in_flight waiting) h = nothing own journal note (answer.Congested in_flight waiting) refl refl refl (λ ports. refl) refl (λ port. refl)
-nothing_done own journal event.Socket (answer.NamesCongested peer waiting) h = nothing own journal event.Socket (answer.NamesCongested peer waiting) refl refl refl (λ ports. refl) refl (λ port. refl)
-nothing_done own journal note (answer.NamesCongested peer waiting) h = nothing own journal note (answer.NamesCongested peer waiting) refl refl refl (λ ports. refl) refl (λ port. refl)
-nothing_done own journal event.Socket answer.Reserved h = nothing own journal event.Socket answer.Reserved refl refl refl (λ ports. refl) refl (λ port. refl)
-nothing_done own journal note answer.Reserved h = nothing own journal note answer.Reserved refl refl refl (λ ports. refl) refl (λ port. refl)
-nothing_done own journal event.Socket (answer.Duplicate key) h = nothing own journal event.Socket (answer.Duplicate key) refl refl refl (λ ports. refl) refl (λ port. refl)
-nothing_done own journal note (answer.Duplicate key) h = nothing own journal note (answer.Duplicate key) refl refl refl (λ ports. refl) refl (λ port. refl)
-nothing_done own journal event.Socket (answer.Full limit) h = nothing own journal event.Socket (answer.Full limit) refl refl refl (λ ports. refl) refl (λ port. refl)
-nothing_done own journal note (answer.Full limit) h = nothing own journal note (answer.Full limit) refl refl refl (λ ports. refl) refl (λ port. refl)
-nothing_done own journal event.Socket answer.Unknown h = nothing own journal event.Socket answer.Unknown refl refl refl (λ ports. refl) refl (λ port. refl)
-nothing_done own journal note answer.Unknown h = nothing own journal note answer.Unknown refl refl refl (λ ports. refl) refl (λ port. refl)
-nothing_done own journal note given h = absurd h
+pub nothing_done : (own : Addr) (journal : List Entry) (note : EventNote) (given : Answer) → IsRefusal given → is_tick note ≡ false → IsNothing own journal note given
+nothing_done own journal event.Socket answer.NoSocket h still = nothing own journal event.Socket answer.NoSocket refl refl refl (λ ports. refl) refl (λ port. refl) still (λ number. refl)
+nothing_done own journal note answer.NoSocket h still = nothing own journal note answer.NoSocket refl refl refl (λ ports. refl) refl (λ port. refl) still (λ number. refl)
+nothing_done own journal event.Socket (answer.TooLong bytes) h still = nothing own journal event.Socket (answer.TooLong bytes) refl refl refl (λ ports. refl) refl (λ port. refl) still (λ number. refl)
+nothing_done own journal note (answer.TooLong bytes) h still = nothing own journal note (answer.TooLong bytes) refl refl refl (λ ports. refl) refl (λ port. refl) still (λ number. refl)
+nothing_done own journal event.Socket answer.NoName h still = nothing own journal event.Socket answer.NoName refl refl refl (λ ports. refl) refl (λ port. refl) still (λ number. refl)
+nothing_done own journal note answer.NoName h still = nothing own journal note answer.NoName refl refl refl (λ ports. refl) refl (λ port. refl) still (λ number. refl)
+nothing_done own journal event.Socket answer.NoNode h still = nothing own journal event.Socket answer.NoNode refl refl refl (λ ports. refl) refl (λ port. refl) still (λ number. refl)
+nothing_done own journal note answer.NoNode h still = nothing own journal note answer.NoNode refl refl refl (λ ports. refl) refl (λ port. refl) still (λ number. refl)
+nothing_done own journal event.Socket (answer.Congested in_flight waiting) h still = nothing own journal event.Socket (answer.Congested in_flight waiting) refl refl refl (λ ports. refl) refl (λ port. refl) still (λ number. refl)
+nothing_done own journal note (answer.Congested in_flight waiting) h still = nothing own journal note (answer.Congested in_flight waiting) refl refl refl (λ ports. refl) refl (λ port. refl) still (λ number. refl)
+nothing_done own journal event.Socket (answer.NamesCongested peer waiting) h still = nothing own journal event.Socket (answer.NamesCongested peer waiting) refl refl refl (λ ports. refl) refl (λ port. refl) still (λ number. refl)
+nothing_done own journal note (answer.NamesCongested peer waiting) h still = nothing own journal note (answer.NamesCongested peer waiting) refl refl refl (λ ports. refl) refl (λ port. refl) still (λ number. refl)
+nothing_done own journal event.Socket answer.Reserved h still = nothing own journal event.Socket answer.Reserved refl refl refl (λ ports. refl) refl (λ port. refl) still (λ number. refl)
+nothing_done own journal note answer.Reserved h still = nothing own journal note answer.Reserved refl refl refl (λ ports. refl) refl (λ port. refl) still (λ number. refl)
+nothing_done own journal event.Socket (answer.Duplicate key) h still = nothing own journal event.Socket (answer.Duplicate key) refl refl refl (λ ports. refl) refl (λ port. refl) still (λ number. refl)
+nothing_done own journal note (answer.Duplicate key) h still = nothing own journal note (answer.Duplicate key) refl refl refl (λ ports. refl) refl (λ port. refl) still (λ number. refl)
+nothing_done own journal event.Socket (answer.Full limit) h still = nothing own journal event.Socket (answer.Full limit) refl refl refl (λ ports. refl) refl (λ port. refl) still (λ number. refl)
+nothing_done own journal note (answer.Full limit) h still = nothing own journal note (answer.Full limit) refl refl refl (λ ports. refl) refl (λ port. refl) still (λ number. refl)
+nothing_done own journal event.Socket answer.Unknown h still = nothing own journal event.Socket answer.Unknown refl refl refl (λ ports. refl) refl (λ port. refl) still (λ number. refl)
+nothing_done own journal note answer.Unknown h still = nothing own journal note answer.Unknown refl refl refl (λ ports. refl) refl (λ port. refl) still (λ number. refl)
+nothing_done own journal event.Socket answer.BadRange h still = nothing own journal event.Socket answer.BadRange refl refl refl (λ ports. refl) refl (λ port. refl) still (λ number. refl)
+nothing_done own journal note answer.BadRange h still = nothing own journal note answer.BadRange refl refl refl (λ ports. refl) refl (λ port. refl) still (λ number. refl)
+nothing_done own journal event.Socket answer.BadFilter h still = nothing own journal event.Socket answer.BadFilter refl refl refl (λ ports. refl) refl (λ port. refl) still (λ number. refl)
+nothing_done own journal note answer.BadFilter h still = nothing own journal note answer.BadFilter refl refl refl (λ ports. refl) refl (λ port. refl) still (λ number. refl)
+nothing_done own journal note given h still = absurd h
 
 -- a call that was refused recorded a step that holds nothing
-pub refused_call : (n : NodeState) (by : By) (note : EventNote) (reason : Answer) → IsTold n → IsRefusal reason
+pub refused_call : (n : NodeState) (by : By) (note : EventNote) (reason : Answer) → IsTold n → is_tick note ≡ false → IsRefusal reason
     → IsAnswered (addr_of_word n.own) n.journal (step_of by note [] reason) (refusal (addr_of_word n.own) n.journal note) → IsFull note reason → IsCall n by note reason (begun n) n.sockets
-refused_call n by note reason h refuses answered full =
+refused_call n by note reason h still refuses answered full =
     let own = addr_of_word n.own in
     let d = first_due own note reason in
-    let none = nothing_done own n.journal note reason refuses in
+    let none = nothing_done own n.journal note reason refuses still in
     let one = subst (λ x. IsWorked n d x [] [] (begun n)) none.due (begun_worked n d h) in
     let two = subst (λ es. IsWorked n d NothingDue es [] (begun n)) (sym none.sends) one in
     let three = subst (λ es. IsWorked n d NothingDue (accepted_of own n.journal (sent_message own note reason)) es (begun n)) (sym none.asks) two in
@@ -109,15 +118,15 @@ holding_refuses (r ∷ rs) reason all is = by r.0 is (λ later. holding_refuses 
     by false later others = others later
 
 -- a call that is refused, or makes this of the node, is told
-pub makes_told : (n n' : NodeState) (by : By) (note : EventNote) (r : Option Answer) (w w0 : Work) (given answered : Answer) (inside : List Entry) (frames : List Outgoing) → IsTold n
+pub makes_told : (n n' : NodeState) (by : By) (note : EventNote) (r : Option Answer) (w w0 : Work) (given answered : Answer) (inside : List Entry) (frames : List Outgoing) → IsTold n → is_tick note ≡ false
     → NodeTurn n n' [] (step_of by note inside (kept_answer answered)) frames → AreSockets n'.sockets → r ≡ refusal (addr_of_word n.own) n.journal note → AreRefusals (refusals (addr_of_word n.own) n.journal note)
     → ((reason : Answer) → IsFull note reason) → w.inside ≡ w0.inside
     → (refusal (addr_of_word n.own) n.journal note ≡ None → AreSockets w.sockets → IsInside w0.inside → IsCall n by note (kept_answer given) w0 w.sockets) → Makes n by note r w given n' frames answered → IsTold n'
-makes_told n n' by note (Some reason) w w0 given answered inside frames h t sound is refuse full same done makes =
+makes_told n n' by note (Some reason) w w0 given answered inside frames h still t sound is refuse full same done makes =
     let own = addr_of_word n.own in
     call_told n n' [] by note inside (kept_answer answered) reason frames (begun n) n.sockets h t (ap (λ (x : NodeState). x.journal) makes.0) (ap (λ (x : NodeState). x.sockets) makes.0) sound
-    (λ inner. refused_call n by note reason h (holding_refuses (refusals own n.journal note) reason refuse (sym is)) (subst (IsAnswered own n.journal (step_of by note [] reason)) is (refl, refl)) (full reason))
-makes_told n n' by note None w w0 given answered inside frames h t sound is refuse full same done makes =
+    (λ inner. refused_call n by note reason h still (holding_refuses (refusals own n.journal note) reason refuse (sym is)) (subst (IsAnswered own n.journal (step_of by note [] reason)) is (refl, refl)) (full reason))
+makes_told n n' by note None w w0 given answered inside frames h still t sound is refuse full same done makes =
     call_told n n' [] by note inside (kept_answer answered) (kept_answer given) frames w0 w.sockets h t
     (ap (λ (x : NodeState). x.journal) makes.0 ∙ ap (λ es. n.journal ++ step_entries (step_of by note es (kept_answer given))) same) (ap (λ (x : NodeState). x.sockets) makes.0) sound
     (done (sym is) (subst AreSockets (ap (λ (x : NodeState). x.sockets) makes.0) sound))
@@ -145,7 +154,7 @@ socket_call n by h none inner =
       answered = done_answered own n.journal by event.Socket [] (answer.Socket port) none (port, refl, h.sockets.unmade port (omega arith));
       worked = worked;
       kept = record {
-        told = λ later. told_made own n.journal st n.sockets later h.whole inner worked.told port refl (λ ports. refl) refl (λ other. refl);
+        told = λ later. told_made own n.journal st n.sockets later h.whole inner worked.told port refl (λ ports. refl) refl (λ other. refl) refl (λ number. refl);
         boot = refl;
         reached = worked.reached;
         unmade = λ later above. ap (λ ps. is_among ps later) (sockets_made_step n.journal st h.whole inner) ∙ above_all (sockets_made n.journal) port later (h.sockets.unmade later (omega (arith, above))) above;
@@ -191,7 +200,7 @@ receive_call n by port h none inner = of (queue_at n.sockets port) refl (there_i
         let same : n.sockets ≡ after =
         ap (with_queues n.sockets) (sym (ap (λ (o : Option (List Message)). set_value (nat_eq port) n.sockets.queues (drop 1 (unwrap_or o []))) found ∙ set_value_same (nat_eq port) n.sockets.queues [] found)) in
         let worked = begun_worked n NothingDue h in
-        let kept = others_kept n by (event.Receive port) answer.Empty NothingDue [] [] (begun n) h inner worked (record { stays = λ ports. refl; none = refl; quiet = λ q. refl }) in
+        let kept = others_kept n by (event.Receive port) answer.Empty NothingDue [] [] (begun n) h inner worked (record { stays = λ ports. refl; none = refl; quiet = λ q. refl; still = refl; nothing = λ number. refl }) in
         record { answered = answered [] found; worked = worked; kept = subst (IsKeptBy n (step_of by (event.Receive port) [] answer.Empty)) same kept; full = tt }
     with (first ∷ rest) found =
         let worked = begun_worked n NothingDue h in
@@ -201,7 +210,7 @@ receive_call n by port h none inner = of (queue_at n.sockets port) refl (there_i
           answered = answered (first ∷ rest) found;
           worked = worked;
           kept = record {
-            told = λ later. told_taken own n.journal st n.sockets later h.whole inner worked.told port some (λ ports. refl) refl (λ other. refl);
+            told = λ later. told_taken own n.journal st n.sockets later h.whole inner worked.told port some (λ ports. refl) refl (λ other. refl) refl (λ number. refl);
             boot = refl;
             reached = worked.reached;
             unmade = λ later above. same_made n st n.sockets.ports.made n.sockets.ports.boot later h inner refl refl refl above;

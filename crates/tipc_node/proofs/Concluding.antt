@@ -18,7 +18,7 @@ use Rattle.tipc_journal.specs.Contacts.{contact, contact_after}
 use Rattle.tipc_journal.specs.Counting.{AllAnsweredToCallers}
 use Rattle.tipc_journal.specs.Dues.{Due, NothingDue, first_due, sent_message}
 use Rattle.tipc_journal.specs.Fates.{AllHaveFates}
-use Rattle.tipc_journal.specs.Licensed.{AllLicensed, IsAnswered, accepted_of, asked}
+use Rattle.tipc_journal.specs.Licensed.{AllLicensed, IsAnswered, accepted_of, asked, event_given}
 use Rattle.tipc_journal.specs.Prefixes.{list_with}
 use Rattle.tipc_journal.specs.Queues.{is_taking, sockets_after}
 use Rattle.tipc_journal.specs.Refusals.{is_among, made_by, refusal, sockets_made}
@@ -30,7 +30,7 @@ use Rattle.tipc_journal.proofs.StepLaws.{steps_more}
 use Rattle.tipc_journal.proofs.WholeSteps.{contact_step as contact_whole}
 use Rattle.tipc_ports.specs.Numbers.{port_number}
 use Rattle.tipc_sockets.specs.SocketTables.{AreSockets, SocketTable}
-use Rattle.tipc_sockets.specs.Telling.{AreTold}
+use Rattle.tipc_sockets.specs.Telling.{AreTold, is_tick}
 use Rattle.tipc_sockets.proofs.FatesTold.{list_all_agree}
 use Rattle.tipc_sockets.proofs.StepsTold.{told_other}
 use Rattle.tipc_node.specs.Nodes.{NodeState, step_of}
@@ -83,11 +83,13 @@ sockets_told n n' bytes st frames s h t sound is k = record {
   unmade = λ port above. ap (λ es. is_among (sockets_made es) port) t.journal ∙ k.unmade port (subst (λ (x : SocketTable). port_number x.ports.boot x.ports.made < port) is above);
 }
 
--- a call that makes no socket, closes none, and takes no message
+-- a call that makes no socket, closes none, takes no message, gives no event, and is no tick
 pub record IsOther (note : EventNote) (given : Answer) : Type 0 where
   pub stays : (ports : List ℕ) → sockets_after ports note given ≡ ports
   pub none : made_by note given ≡ None
   pub quiet : (port : ℕ) → is_taking port note given ≡ false
+  pub still : is_tick note ≡ false
+  pub nothing : (number : ℕ) → event_given number note given ≡ None
 
 pub same_made : (n : NodeState) (st : NodeStep) (made : ℕ) (boot port : ℕ) → IsTold n → IsInside st.inside → made_by st.event st.answer ≡ None → boot ≡ n.sockets.ports.boot → made ≡ n.sockets.ports.made
     → port_number boot made < port → is_among (sockets_made (n.journal ++ step_entries st)) port ≡ false
@@ -98,7 +100,7 @@ same_made n st made boot port h inner none boot_is made_is above =
 pub others_kept : (n : NodeState) (by : By) (note : EventNote) (given : Answer) (now : Due) (sends asks : List Entry) (w : Work) → IsTold n → IsInside w.inside
     → IsWorked n (first_due (addr_of_word n.own) note given) now sends asks w → IsOther note given → IsKeptBy n (step_of by note w.inside given) w.sockets
 others_kept n by note given now sends asks w h inner k o = record {
-  told = λ later. told_other (addr_of_word n.own) n.journal (step_of by note w.inside given) w.sockets later h.whole inner k.told o.stays o.none o.quiet;
+  told = λ later. told_other (addr_of_word n.own) n.journal (step_of by note w.inside given) w.sockets later h.whole inner k.told o.stays o.none o.quiet o.still o.nothing;
   boot = ap (λ p. p.boot) k.ports;
   reached = k.reached;
   unmade = λ port above. same_made n (step_of by note w.inside given) w.sockets.ports.made w.sockets.ports.boot port h inner o.none (ap (λ p. p.boot) k.ports) (ap (λ p. p.made) k.ports) above;

@@ -101,40 +101,44 @@ all_quiet n d first (x ∷ xs) h all =
 
 -- ---- the call
 
-deed_call : (n : NodeState) (by : By) (d : Deed) → IsTold n → IsInside (deed_work d n).inside → IsCall n by (deed_note d) answer.Done (deed_work d n) (deed_work d n).sockets
-deed_call n by d h inner = of d refl
+-- the work on what happens to all neighbours, whose entries are quiet
+pub deed_worked : (n : NodeState) (d : Deed) → IsTold n → IsWorked n NothingDue NothingDue [] [] (deed_work d n) × AreQuiet n.own (entries_all d 0 n.neighbours)
+deed_worked n d h =
+    let es = entries_all d 0 n.neighbours in
+    let quiet : AreQuiet n.own es = all_quiet n d 0 n.neighbours h (λ k x there. subst (λ j. neighbour_of n j ≡ Some x) (omega arith) there) in (
+      all_noted n NothingDue [] [] (record { neighbours = after_all d n.neighbours; sockets = n.sockets; inside = [] }) es
+          (worked_beside n NothingDue NothingDue [] [] _ (after_all d n.neighbours) (begun_worked n NothingDue h)) quiet,
+      quiet,
+    )
+
+-- a tick is another call
+abbrev pub IsNoTick : Deed → Type 0
+IsNoTick deed.Tick = ⊥
+IsNoTick d = Unit {0}
+
+deed_call : (n : NodeState) (by : By) (d : Deed) → IsTold n → IsNoTick d → IsInside (deed_work d n).inside → IsCall n by (deed_note d) answer.Done (deed_work d n) (deed_work d n).sockets
+deed_call n by d h other inner = of d refl
   where
-    es : List Entry
-    es = entries_all d 0 n.neighbours
-
-    quiet : AreQuiet n.own es
-    quiet = all_quiet n d 0 n.neighbours h (λ k x there. subst (λ j. neighbour_of n j ≡ Some x) (omega arith) there)
-
     worked : IsWorked n NothingDue NothingDue [] [] (deed_work d n)
-    worked = all_noted n NothingDue [] [] (record { neighbours = after_all d n.neighbours; sockets = n.sockets; inside = [] }) es (worked_beside n NothingDue NothingDue [] [] _ (after_all d n.neighbours) (begun_worked n NothingDue h)) quiet
+    worked = (deed_worked n d h).0
 
     of : (kind : Deed) → d ≡ kind → IsCall n by (deed_note d) answer.Done (deed_work d n) (deed_work d n).sockets
     of deed.Mend is = subst (λ k. IsCall n by (deed_note k) answer.Done (deed_work d n) (deed_work d n).sockets) (sym is) (record {
       answered = done_answered (addr_of_word n.own) n.journal by (deed_note deed.Mend) (deed_work d n).inside answer.Done refl refl;
       worked = worked;
-      kept = others_kept n by (deed_note deed.Mend) answer.Done NothingDue [] [] (deed_work d n) h inner worked (record { stays = λ ports. refl; none = refl; quiet = λ q. refl });
+      kept = others_kept n by (deed_note deed.Mend) answer.Done NothingDue [] [] (deed_work d n) h inner worked (record { stays = λ ports. refl; none = refl; quiet = λ q. refl; still = refl; nothing = λ number. refl });
       full = tt;
     })
     of deed.Cut is = subst (λ k. IsCall n by (deed_note k) answer.Done (deed_work d n) (deed_work d n).sockets) (sym is) (record {
       answered = done_answered (addr_of_word n.own) n.journal by (deed_note deed.Cut) (deed_work d n).inside answer.Done refl refl;
       worked = worked;
-      kept = others_kept n by (deed_note deed.Cut) answer.Done NothingDue [] [] (deed_work d n) h inner worked (record { stays = λ ports. refl; none = refl; quiet = λ q. refl });
+      kept = others_kept n by (deed_note deed.Cut) answer.Done NothingDue [] [] (deed_work d n) h inner worked (record { stays = λ ports. refl; none = refl; quiet = λ q. refl; still = refl; nothing = λ number. refl });
       full = tt;
     })
-    of deed.Tick is = subst (λ k. IsCall n by (deed_note k) answer.Done (deed_work d n) (deed_work d n).sockets) (sym is) (record {
-      answered = done_answered (addr_of_word n.own) n.journal by (deed_note deed.Tick) (deed_work d n).inside answer.Done refl refl;
-      worked = worked;
-      kept = others_kept n by (deed_note deed.Tick) answer.Done NothingDue [] [] (deed_work d n) h inner worked (record { stays = λ ports. refl; none = refl; quiet = λ q. refl });
-      full = tt;
-    })
+    of deed.Tick is = absurd (subst IsNoTick is other)
 
-pub deed_told : (n n' : NodeState) (by : By) (d : Deed) (inside : List Entry) (frames : List Outgoing) (answered : Answer) → IsTold n → NodeTurn n n' [] (step_of by (deed_note d) inside (kept_answer answered)) frames
+pub deed_told : (n n' : NodeState) (by : By) (d : Deed) (inside : List Entry) (frames : List Outgoing) (answered : Answer) → IsTold n → IsNoTick d → NodeTurn n n' [] (step_of by (deed_note d) inside (kept_answer answered)) frames
     → AreSockets n'.sockets → TakesPart n by d n' frames answered → IsTold n'
-deed_told n n' by d inside frames answered h t sound takes =
+deed_told n n' by d inside frames answered h other t sound takes =
     call_told n n' [] by (deed_note d) inside (kept_answer answered) answer.Done frames (deed_work d n) (deed_work d n).sockets h t (ap (λ (x : NodeState). x.journal) takes.0) (ap (λ (x : NodeState). x.sockets) takes.0) sound
-    (deed_call n by d h)
+    (deed_call n by d h other)

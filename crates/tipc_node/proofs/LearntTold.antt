@@ -1,6 +1,6 @@
 -- What is learned and forgotten by a peer's items: a node's work on a step tells of it.
 use Rattle.std.proofs.Common.{◌≡◌, ◌+◌, ◌<◌, ◌==◌, ◌||◌, ℕ, Bool, true, false, not, List, [], ◌∷◌, ◌++◌, Option, Some, None, fold, if◌then◌else◌, is_some, append-nil, append_assoc, refl, sym, ap, ◌∙◌, subst, arith}
-use Rattle.std.specs.Prelude.{count_by, nat_lt}
+use Rattle.std.specs.Prelude.{count_by, find, nat_lt}
 use Rattle.std.specs.List.{list_any}
 use Rattle.std.proofs.lemmas.Bool.{and_parts}
 use Rattle.std.proofs.lemmas.Bool.Decides.{nat_tests}
@@ -54,22 +54,22 @@ learned_next n d sends asked w p h peer room =
     let here : is_in_reach n.own (n.journal ++ (w.inside ++ e ∷ [])) p ≡ true =
     ap (λ (b : Bool). b || is_some (contact (n.journal ++ (w.inside ++ e ∷ [])) p.at.node)) peer.other ∙ ap is_some (contact_inside n.journal w.inside e p.at.node) ∙ peer.contact in
     record {
-      told = told_entry (addr_of_word n.own) n.journal d w.inside w.sockets h.told e (ap not peer.other) (λ port. queues_none port _ e h.due) refl;
-      sound = sockets_published w.sockets p (put p w.sockets.names) (if is_of w.sockets.own p then w.sockets.live ++ p ∷ [] else w.sockets.live) h.sound (table_put p w.sockets.names h.sound.names place.0 place.1) refl refl;
+      told = told_entry (addr_of_word n.own) n.journal d w.inside w.sockets h.told h.sound e (ap not peer.other) (λ port. queues_none port _ e h.due) refl tt;
+      sound = sockets_published w.sockets p (put p w.sockets.names) (if is_of w.sockets.own p then w.sockets.live ++ p ∷ [] else w.sockets.live) (published w.sockets p).watchers h.sound (table_put p w.sockets.names h.sound.names place.0 place.1) refl refl;
       ports = refl;
       reached = all_put (is_in_reach n.own (n.journal ++ (w.inside ++ e ∷ []))) p here w.sockets.names (reached_same n.own n.journal w.inside e w.sockets.names (λ a z. refl) h.reached);
       stands = tt;
       leaves = λ z. refl;
     }
 
-forgot_next : (n : NodeState) (d : Due) (sends asked : List Entry) (w : Work) (p : Publication) → IsWorked n d NothingDue sends asked w → (p.at.node.word == n.own) ≡ false
+forgot_next : (n : NodeState) (d : Due) (sends asked : List Entry) (w : Work) (p : Publication) → IsWorked n d NothingDue sends asked w → (p.at.node.word == n.own) ≡ false → find (is_named p.at.node.word p.key) w.sockets.names ≡ Some p
     → IsNext n d NothingDue w (entry.Forgot p) (withdrawn w.sockets p.at.node.word p.key)
-forgot_next n d sends asked w p h other =
+forgot_next n d sends asked w p h other found =
     let e = entry.Forgot p in
     let kept : Publication → Bool = λ q. not (is_named p.at.node.word p.key q) in
     record {
-      told = told_entry (addr_of_word n.own) n.journal d w.inside w.sockets h.told e (ap not other) (λ port. queues_none port _ e h.due) refl;
-      sound = sockets_kept w.sockets kept (without p.at.node.word p.key w.sockets.names) (without p.at.node.word p.key w.sockets.live) h.sound (table_kept kept w.sockets.names h.sound.names) refl refl;
+      told = told_entry (addr_of_word n.own) n.journal d w.inside w.sockets h.told h.sound e (ap not other) (λ port. queues_none port _ e h.due) refl found;
+      sound = sockets_kept w.sockets kept (without p.at.node.word p.key w.sockets.names) (without p.at.node.word p.key w.sockets.live) (withdrawn w.sockets p.at.node.word p.key).watchers h.sound (table_kept kept w.sockets.names h.sound.names) refl refl;
       ports = refl;
       reached = all_kept (is_in_reach n.own (n.journal ++ w.inside)) (is_in_reach n.own (n.journal ++ (w.inside ++ e ∷ []))) kept
           (λ q stays is. reach_same n.own n.journal w.inside e (λ a z. refl) q ∙ is) w.sockets.names h.reached;
@@ -86,9 +86,10 @@ learned_done n d sends asked w p h peer room = (
   linked_more n w (entry.Learned p) (published w.sockets p) h.1 (λ a z. refl),
 )
 
-forgot_done : (n : NodeState) (d : Due) (sends asked : List Entry) (w : Work) (p : Publication) → IsDone n d sends asked w → (p.at.node.word == n.own) ≡ false → IsDone n d sends asked (noted w (entry.Forgot p ∷ []))
-forgot_done n d sends asked w p h other = (
-  worked_on n d NothingDue NothingDue sends asked w (entry.Forgot p) (withdrawn w.sockets p.at.node.word p.key) w.neighbours h.0 (forgot_next n d sends asked w p h.0 other) refl refl refl,
+forgot_done : (n : NodeState) (d : Due) (sends asked : List Entry) (w : Work) (p : Publication) → IsDone n d sends asked w → (p.at.node.word == n.own) ≡ false → find (is_named p.at.node.word p.key) w.sockets.names ≡ Some p
+    → IsDone n d sends asked (noted w (entry.Forgot p ∷ []))
+forgot_done n d sends asked w p h other found = (
+  worked_on n d NothingDue NothingDue sends asked w (entry.Forgot p) (withdrawn w.sockets p.at.node.word p.key) w.neighbours h.0 (forgot_next n d sends asked w p h.0 other found) refl refl refl,
   linked_more n w (entry.Forgot p) (withdrawn w.sockets p.at.node.word p.key) h.1 (λ a z. refl),
 )
 
@@ -106,8 +107,10 @@ fitting_done n d sends asked w word false item p h peer fits = by (is_new word w
         subst (λ q. IsDone n d sends asked (noted w (entry.Learned q ∷ []))) is (learned_done n d sends asked w (told_by word item) h peer (and_parts (is_ordered item) (can_be_put w.sockets.names (told_by word item)) new).1)
     by false old same = absurd cc
 fitting_done n d sends asked w word true item p h peer fits =
-    let named = found_named word item.key w.sockets.names p (held_found word w.sockets.names item p fits) in
+    let found = held_found word w.sockets.names item p fits in
+    let named = found_named word item.key w.sockets.names p found in
     forgot_done n d sends asked w p h (ap (λ k. k == n.own) named.0 ∙ peer.other)
+    (subst (λ k. find (is_named k p.key) w.sockets.names ≡ Some p) (sym named.0) (subst (λ k. find (is_named word k) w.sockets.names ≡ Some p) (sym named.1) found))
 
 -- an entry that tells of no contact leaves a peer one
 peer_more : (n : NodeState) (inside : List Entry) (word : ℕ) (withdrawal : Bool) (p : Publication) → IsPeer n inside word → IsPeer n (inside ++ learnt_by withdrawal p ∷ []) word

@@ -72,11 +72,13 @@ pub mod SharingWork
 pub mod Sizes
 pub mod Stable
 pub mod Stops
+pub mod Subscribing
 pub mod Surely
 pub mod Taking
 pub mod Telling
 pub mod Tellings
 pub mod TellsTold
+pub mod Ticking
 pub mod Told
 pub mod TurnMoves
 pub mod Turned

@@ -129,7 +129,7 @@ name_way n n' by port kind instance importance body p _ kept inside frames h t s
 name_way n n' by port kind instance importance body p _ kept inside frames h t sound journal same none reached (crowded in_flight waiting fifty most there) =
     let note = event.SendName port kind instance importance body in
     let reason = answer.Congested in_flight waiting in
-    refused_told n n' by note reason kept inside frames h t sound journal same tt (subst (IsAnswered (addr_of_word n.own) n.journal (step_of by note [] reason)) (sym none) (inl (refl, refl))) (fifty, most)
+    refused_told n n' by note reason kept inside frames h refl t sound journal same tt (subst (IsAnswered (addr_of_word n.own) n.journal (step_of by note [] reason)) (sym none) (inl (refl, refl))) (fifty, most)
 
 pub name_told : (n n' : NodeState) (by : By) (port kind instance : ℕ) (importance : Importance) (body : List ℕ) (answered : Answer) (inside : List Entry) (frames : List Outgoing) → IsTold n → ArePacked n
     → NodeTurn n n' [] (step_of by (event.SendName port kind instance importance body) inside (kept_answer answered)) frames → AreSockets n'.sockets
@@ -156,7 +156,7 @@ name_told n n' by port kind instance importance body answered inside frames h pa
         call_told n n' [] by note inside (kept_answer answered) (answer.SentTo p.at) frames w w.sockets h t (ap (λ (x : NodeState). x.journal) step.2) (ap (λ (x : NodeState). x.sockets) step.2) sound (λ inner. record {
           answered = done_answered own n.journal by note w.inside (answer.SentTo p.at) none (p, refl, found, found_reached n kind instance k p h is);
           worked = worked;
-          kept = others_kept n by note (answer.SentTo p.at) NothingDue _ _ w h inner worked (record { stays = λ ports. refl; none = refl; quiet = λ q. refl });
+          kept = others_kept n by note (answer.SentTo p.at) NothingDue _ _ w h inner worked (record { stays = λ ports. refl; none = refl; quiet = λ q. refl; still = refl; nothing = λ number. refl });
           full = tt;
         })
     goes p k is none to (Some reason) refused =
@@ -168,7 +168,7 @@ name_told n n' by port kind instance importance body answered inside frames h pa
     by_found [] sender is =
         let step = sends.unnamed sender is in
         let refused = name_first n port kind instance importance body h ∙ ap (λ o. or_else o (name_answer n kind instance)) sender ∙ ap (λ (ps : List Publication). if is_nothing ps then Some answer.NoName else None) is in
-        refused_told n n' by note answer.NoName (kept_answer answered) inside frames h t sound (ap (λ (x : NodeState). x.journal) step.0) (ap (λ (x : NodeState). x.sockets) step.0) tt
+        refused_told n n' by note answer.NoName (kept_answer answered) inside frames h refl t sound (ap (λ (x : NodeState). x.journal) step.0) (ap (λ (x : NodeState). x.sockets) step.0) tt
         (subst (IsAnswered own n.journal (step_of by note [] answer.NoName)) (sym refused) (refl, refl)) tt
     by_found (q ∷ qs) sender is =
         let none = name_first n port kind instance importance body h ∙ ap (λ o. or_else o (name_answer n kind instance)) sender ∙ ap (λ (ps : List Publication). if is_nothing ps then Some answer.NoName else None) is in
@@ -180,5 +180,5 @@ name_told n n' by port kind instance importance body answered inside frames h pa
     by_sender (Some reason) is =
         let step = sends.refused reason is in
         let refused = name_first n port kind instance importance body h ∙ ap (λ o. or_else o (name_answer n kind instance)) is in
-        refused_told n n' by note reason (kept_answer answered) inside frames h t sound (ap (λ (x : NodeState). x.journal) step.0) (ap (λ (x : NodeState). x.sockets) step.0) (sender_is IsRefusal n port body reason tt tt is)
+        refused_told n n' by note reason (kept_answer answered) inside frames h refl t sound (ap (λ (x : NodeState). x.journal) step.0) (ap (λ (x : NodeState). x.sockets) step.0) (sender_is IsRefusal n port body reason tt tt is)
         (subst (IsAnswered own n.journal (step_of by note [] reason)) (sym refused) (refl, refl)) (sender_is (IsFull note) n port body reason tt tt is)

@@ -18,13 +18,14 @@ use Rattle.tipc_journal.specs.Dues.{NothingDue}
 use Rattle.tipc_journal.specs.Refusals.{is_offer, refusal}
 use Rattle.tipc_journal.specs.Steps.{IsInside, step_entries}
 use Rattle.tipc_journal.proofs.MatchLaws.{live_at_home}
-use Rattle.tipc_name_table.specs.Tables.{is_of}
+use Rattle.tipc_name_table.specs.Tables.{is_named, is_of}
 use Rattle.tipc_name_dist.specs.Items.{telling}
 use Rattle.tipc_sockets.specs.declared.publishing.PublishFault.TheVariants as fault
 use Rattle.tipc_sockets.specs.Publishing.{closed, has_key, is_at, own_publication, published, published_at, withdrawn, withdrawn_each}
 use Rattle.tipc_sockets.specs.SocketTables.{AreSockets, SocketTable, has_port}
 use Rattle.tipc_sockets.specs.Telling.{AreTold, after_entry}
-use Rattle.tipc_sockets.proofs.Closing.{none_left_at, sockets_withdrawn_each, withdrawn_then_closed}
+use Rattle.tipc_sockets.proofs.Closing.{closing_removable, none_left_at, offer_removable, removable_found, removable_rest, sockets_withdrawn_each, withdrawn_then_closed}
+use Rattle.tipc_topology.specs.Transitions.{AreRemovable}
 use Rattle.tipc_sockets.proofs.Entries.{told_entry}
 use Rattle.tipc_sockets.proofs.Keeping.{eq_itself}
 use Rattle.tipc_sockets.proofs.StepsTold.{told_closed}
@@ -41,15 +42,15 @@ use Rattle.tipc_node.proofs.Refusing.{told_live}
 -- ---- publications are withdrawn
 
 -- an own publication is withdrawn
-withdrawn_worked : (n : NodeState) (sends asks : List Entry) (w : Work) (p : Publication) → IsWorked n NothingDue NothingDue sends asks w → is_of n.own p ≡ true
+withdrawn_worked : (n : NodeState) (sends asks : List Entry) (w : Work) (p : Publication) → IsWorked n NothingDue NothingDue sends asks w → is_of n.own p ≡ true → find (is_named p.at.node.word p.key) w.sockets.names ≡ Some p
     → IsWorked n NothingDue NothingDue sends (asks ++ entry.Withdrawn p ∷ []) (noted w (entry.Withdrawn p ∷ []))
-withdrawn_worked n sends asks w p h mine =
+withdrawn_worked n sends asks w p h mine found =
     let e = entry.Withdrawn p in
     let s = withdrawn w.sockets p.at.node.word p.key in
     let after : Work = record { neighbours = w.neighbours; sockets = s; inside = w.inside ++ e ∷ [] } in
     subst (λ es. IsWorked n NothingDue NothingDue es (asks ++ e ∷ []) after) (append-nil sends)
     (worked_more n NothingDue NothingDue sends asks w e s w.neighbours h (record {
-      told = told_entry (addr_of_word n.own) n.journal NothingDue w.inside w.sockets h.told e mine (λ port. queues_none port _ e h.due) refl;
+      told = told_entry (addr_of_word n.own) n.journal NothingDue w.inside w.sockets h.told h.sound e mine (λ port. queues_none port _ e h.due) refl found;
       sound = sockets_withdrawn_each w.sockets (p ∷ []) h.sound;
       ports = refl;
       reached = all_kept _ _ _ (λ q kept is. reach_same n.own n.journal w.inside e (λ a z. refl) q ∙ is) w.sockets.names h.reached;
@@ -58,15 +59,15 @@ withdrawn_worked n sends asks w p h mine =
     }))
 
 -- several are, one after the other
-all_withdrawn : (n : NodeState) (sends asks : List Entry) (w : Work) (ps : List Publication) → IsWorked n NothingDue NothingDue sends asks w → list_all (is_of n.own) ps ≡ true
+all_withdrawn : (n : NodeState) (sends asks : List Entry) (w : Work) (ps : List Publication) → IsWorked n NothingDue NothingDue sends asks w → list_all (is_of n.own) ps ≡ true → AreRemovable w.sockets.names ps
     → IsWorked n NothingDue NothingDue sends (asks ++ map entry.Withdrawn ps) (noted w (map entry.Withdrawn ps))
-all_withdrawn n sends asks w [] h mine =
+all_withdrawn n sends asks w [] h mine may =
     subst (λ (xs : List Entry). IsWorked n NothingDue NothingDue sends (asks ++ []) (record { neighbours = w.neighbours; sockets = w.sockets; inside = xs })) (sym (append-nil w.inside))
     (subst (λ es. IsWorked n NothingDue NothingDue sends es w) (sym (append-nil asks)) h)
-all_withdrawn n sends asks w (p ∷ ps) h mine =
+all_withdrawn n sends asks w (p ∷ ps) h mine may =
     let both = and_parts (is_of n.own p) (list_all (is_of n.own) ps) mine in
     let e = entry.Withdrawn p in
-    let rest = all_withdrawn n sends (asks ++ e ∷ []) (noted w (e ∷ [])) ps (withdrawn_worked n sends asks w p h both.0) both.1 in
+    let rest = all_withdrawn n sends (asks ++ e ∷ []) (noted w (e ∷ [])) ps (withdrawn_worked n sends asks w p h both.0 (removable_found p ps w.sockets.names may)) both.1 (removable_rest p ps w.sockets.names may) in
     let s = fold after_entry (after_entry w.sockets e) (map entry.Withdrawn ps) in
     subst (λ es. IsWorked n NothingDue NothingDue sends es (record { neighbours = w.neighbours; sockets = s; inside = w.inside ++ (e ∷ map entry.Withdrawn ps) })) (append_assoc asks (e ∷ []) (map entry.Withdrawn ps))
     (subst (λ (xs : List Entry). IsWorked n NothingDue NothingDue sends ((asks ++ e ∷ []) ++ map entry.Withdrawn ps) (record { neighbours = w.neighbours; sockets = s; inside = xs }))
@@ -94,7 +95,7 @@ close_call n by port last frames h none tells inner =
     let st = step_of by (event.Close port) last.inside answer.Done in
     let mine : list_all (is_of n.own) ps ≡ true = all_kept (is_of n.own) (is_of n.own) (is_at port) (λ p at is. is) n.sockets.live (live_mine n h) in
     let s = fold after_entry n.sockets es in
-    let withdrawn = all_withdrawn n [] [] (begun n) ps (begun_worked n NothingDue h) mine in
+    let withdrawn = all_withdrawn n [] [] (begun n) ps (begun_worked n NothingDue h) mine (closing_removable n.sockets h.sockets.sound port) in
     let worked = tells_each_worked n NothingDue [] es s (told_closing n.sockets port) (closed_work n port) (in_contact n.neighbours) last frames withdrawn (tellings_items true ps) tells in
     let each = folded_each n.sockets ps in
     let bare : list_any (is_at port) s.live ≡ false = ap (λ (x : SocketTable). list_any (is_at port) x.live) each ∙ none_left_at n.sockets h.sockets.sound port in
@@ -104,7 +105,7 @@ close_call n by port last frames h none tells inner =
       answered = done_answered own n.journal by (event.Close port) last.inside answer.Done none refl;
       worked = subst (λ xs. IsWorked n NothingDue NothingDue [] xs (work_of last.neighbours s last.inside)) (ap (λ (xs : List Publication). map entry.Withdrawn (filter (is_at port) xs)) (told_live n h)) worked;
       kept = record {
-        told = λ later. subst (AreTold own (n.journal ++ step_entries st) later []) same (told_closed own n.journal st s later h.whole inner worked.told port worked.sound bare (λ ports. refl) refl (λ other. refl));
+        told = λ later. subst (AreTold own (n.journal ++ step_entries st) later []) same (told_closed own n.journal st s later h.whole inner worked.told port worked.sound bare (λ ports. refl) refl (λ other. refl) refl (λ number. refl));
         boot = refl;
         reached = subst (λ (x : SocketTable). list_all (is_in_reach n.own (n.journal ++ last.inside)) x.names ≡ true) same reached;
         unmade = λ later above. same_made n st n.sockets.ports.made n.sockets.ports.boot later h inner refl refl refl above;
@@ -136,7 +137,7 @@ withdraw_call n by port key last frames h none tells inner =
     let o = published_at n.sockets port key in
     let w = withdrawn_work n port key in
     let mine = found_mine n.own (is_offer port key) n.sockets.live (live_mine n h) in
-    let one = all_withdrawn n [] [] (begun n) (option_to_list o) (begun_worked n NothingDue h) mine in
+    let one = all_withdrawn n [] [] (begun n) (option_to_list o) (begun_worked n NothingDue h) mine (offer_removable n.sockets h.sockets.sound port key) in
     let two = subst (λ es. IsWorked n NothingDue NothingDue [] (map entry.Withdrawn (option_to_list o)) (noted (begun n) es)) (sym (entries_of o)) one in
     let three = tells_each_worked n NothingDue [] (map entry.Withdrawn (option_to_list o)) w.sockets (told_withdrawal n.sockets port key) w (in_contact n.neighbours) last frames two (tellings_items true (option_to_list o)) tells in
     let after = work_of last.neighbours w.sockets last.inside in
@@ -144,7 +145,7 @@ withdraw_call n by port key last frames h none tells inner =
     record {
       answered = done_answered own n.journal by (event.Withdraw port key) last.inside answer.Done none refl;
       worked = worked;
-      kept = others_kept n by (event.Withdraw port key) answer.Done NothingDue _ _ after h inner worked (record { stays = λ ports. refl; none = refl; quiet = λ q. refl });
+      kept = others_kept n by (event.Withdraw port key) answer.Done NothingDue _ _ after h inner worked (record { stays = λ ports. refl; none = refl; quiet = λ q. refl; still = refl; nothing = λ number. refl });
       full = tt;
     }
 
@@ -172,7 +173,7 @@ publish_call n by port range scope key last frames h none there sound tells inne
     let mine : is_of n.own p ≡ true = eq_itself n.own in
     let was = begun_worked n NothingDue h in
     let one = worked_more n NothingDue NothingDue [] [] (begun n) e (published n.sockets p) n.neighbours was (record {
-      told = told_entry own n.journal NothingDue [] n.sockets was.told e mine (λ port. queues_none port _ e was.due) there;
+      told = told_entry own n.journal NothingDue [] n.sockets was.told was.sound e mine (λ port. queues_none port _ e was.due) there tt;
       sound = sound;
       ports = refl;
       reached = all_put (is_in_reach n.own (n.journal ++ e ∷ [])) p (ap (λ b. b || is_some (contact (n.journal ++ e ∷ []) own)) mine) n.sockets.names (reached_same n.own n.journal [] e n.sockets.names (λ a z. refl) was.reached);
@@ -184,6 +185,6 @@ publish_call n by port range scope key last frames h none there sound tells inne
     record {
       answered = done_answered own n.journal by (event.Publish port range scope key) last.inside answer.Done none refl;
       worked = worked;
-      kept = others_kept n by (event.Publish port range scope key) answer.Done NothingDue _ _ after h inner worked (record { stays = λ ports. refl; none = refl; quiet = λ q. refl });
+      kept = others_kept n by (event.Publish port range scope key) answer.Done NothingDue _ _ after h inner worked (record { stays = λ ports. refl; none = refl; quiet = λ q. refl; still = refl; nothing = λ number. refl });
       full = tt;
     }

@@ -1,5 +1,5 @@
 -- A node's work on a step tells of the sockets, as the entries so far do; and what each entry that is noted changes.
-use Rattle.std.proofs.Common.{◌≡◌, ◌==◌, ◌&&◌, ◌||◌, ℕ, Bool, true, false, not, cond, List, [], ◌∷◌, ◌++◌, Option, Some, None, filter, fold, is_some, refl, sym, ap, ◌∙◌, subst}
+use Rattle.std.proofs.Common.{◌≡◌, ◌==◌, ◌&&◌, ◌||◌, ℕ, Bool, true, false, not, cond, List, [], ◌∷◌, ◌++◌, Option, Some, None, filter, fold, is_some, map, refl, sym, ap, ◌∙◌, subst}
 use Rattle.std.specs.Prelude.{if◌then◌else◌}
 use Rattle.std.specs.List.{list_all}
 use Rattle.std.proofs.lemmas.Bool.{and_from, and_parts}
@@ -28,7 +28,8 @@ use Rattle.tipc_sockets.specs.Telling.{AreTold, after_entry}
 use Rattle.tipc_sockets.proofs.Closing.{eq_turned}
 use Rattle.tipc_sockets.proofs.Entries.{told_entry}
 use Rattle.tipc_sockets.proofs.FatesTold.{list_all_agree}
-use Rattle.tipc_sockets.proofs.Keeping.{sockets_kept}
+use Rattle.tipc_topology.specs.Changing.{ended_at}
+use Rattle.tipc_sockets.proofs.Keeping.{other_watchers, sockets_kept}
 use Rattle.tipc_node.specs.declared.neighbours.Neighbour.{Neighbour}
 use Rattle.tipc_node.specs.Nodes.{NodeState}
 use Rattle.tipc_node.specs.Telling.{IsTold, is_in_reach}
@@ -179,7 +180,7 @@ reach_down own journal front e word ends p other is =
 -- ---- entries of a link and a contact
 
 purged_sockets : (s : SocketTable) (node : ℕ) → AreSockets s → AreSockets (purged s node)
-purged_sockets s node h = sockets_kept s (λ p. not (is_of node p)) (without_node node s.names) (without_node node s.live) h (table_kept (λ p. not (is_of node p)) s.names h.names) refl refl
+purged_sockets s node h = sockets_kept s (λ p. not (is_of node p)) (without_node node s.names) (without_node node s.live) (purged s node).watchers h (table_kept (λ p. not (is_of node p)) s.names h.names) refl refl
 
 -- an entry that tells of the link to another node, or of the contact with it, or that something was dropped
 abbrev pub IsQuiet : ℕ → Entry → Type 0
@@ -200,7 +201,7 @@ queues_none port x e is = ap (λ y. queued_by port y e) is
 
 quiet_next : (n : NodeState) (d : Due) (sends asked : List Entry) (w : Work) (e : Entry) → IsWorked n d NothingDue sends asked w → IsQuiet n.own e → IsNext n d NothingDue w e (after_entry w.sockets e)
 quiet_next n d sends asked w (entry.LinkUp peer bearer mine theirs) h quiet = record {
-  told = told_entry (addr_of_word n.own) n.journal d w.inside w.sockets h.told (entry.LinkUp peer bearer mine theirs) refl (λ port. queues_none port _ (entry.LinkUp peer bearer mine theirs) h.due) refl;
+  told = told_entry (addr_of_word n.own) n.journal d w.inside w.sockets h.told h.sound (entry.LinkUp peer bearer mine theirs) refl (λ port. queues_none port _ (entry.LinkUp peer bearer mine theirs) h.due) refl tt;
   sound = h.sound;
   ports = refl;
   reached = reached_same n.own n.journal w.inside (entry.LinkUp peer bearer mine theirs) w.sockets.names (λ a z. refl) h.reached;
@@ -208,7 +209,7 @@ quiet_next n d sends asked w (entry.LinkUp peer bearer mine theirs) h quiet = re
   leaves = λ z. refl;
 }
 quiet_next n d sends asked w (entry.LinkDown peer bearer because shown) h quiet = record {
-  told = told_entry (addr_of_word n.own) n.journal d w.inside w.sockets h.told (entry.LinkDown peer bearer because shown) refl (λ port. queues_none port _ (entry.LinkDown peer bearer because shown) h.due) refl;
+  told = told_entry (addr_of_word n.own) n.journal d w.inside w.sockets h.told h.sound (entry.LinkDown peer bearer because shown) refl (λ port. queues_none port _ (entry.LinkDown peer bearer because shown) h.due) refl tt;
   sound = h.sound;
   ports = refl;
   reached = reached_same n.own n.journal w.inside (entry.LinkDown peer bearer because shown) w.sockets.names (λ a z. refl) h.reached;
@@ -216,7 +217,7 @@ quiet_next n d sends asked w (entry.LinkDown peer bearer because shown) h quiet 
   leaves = λ z. refl;
 }
 quiet_next n d sends asked w (entry.Dropped reason) h quiet = record {
-  told = told_entry (addr_of_word n.own) n.journal d w.inside w.sockets h.told (entry.Dropped reason) refl (λ port. queues_none port _ (entry.Dropped reason) h.due) refl;
+  told = told_entry (addr_of_word n.own) n.journal d w.inside w.sockets h.told h.sound (entry.Dropped reason) refl (λ port. queues_none port _ (entry.Dropped reason) h.due) refl tt;
   sound = h.sound;
   ports = refl;
   reached = reached_same n.own n.journal w.inside (entry.Dropped reason) w.sockets.names (λ a z. refl) h.reached;
@@ -224,7 +225,7 @@ quiet_next n d sends asked w (entry.Dropped reason) h quiet = record {
   leaves = λ z. refl;
 }
 quiet_next n d sends asked w (entry.ContactUp peer numbers) h quiet = record {
-  told = told_entry (addr_of_word n.own) n.journal d w.inside w.sockets h.told (entry.ContactUp peer numbers) refl (λ port. queues_none port _ (entry.ContactUp peer numbers) h.due) refl;
+  told = told_entry (addr_of_word n.own) n.journal d w.inside w.sockets h.told h.sound (entry.ContactUp peer numbers) refl (λ port. queues_none port _ (entry.ContactUp peer numbers) h.due) refl tt;
   sound = h.sound;
   ports = refl;
   reached = all_from _ _ (reach_up n.own n.journal w.inside peer numbers) w.sockets.names h.reached;
@@ -232,7 +233,7 @@ quiet_next n d sends asked w (entry.ContactUp peer numbers) h quiet = record {
   leaves = λ z. ap (λ b. if b then Some numbers else z) quiet;
 }
 quiet_next n d sends asked w (entry.ContactDown peer numbers states shown) h quiet = record {
-  told = told_entry (addr_of_word n.own) n.journal d w.inside w.sockets h.told (entry.ContactDown peer numbers states shown) (ap not quiet) (λ port. queues_none port _ (entry.ContactDown peer numbers states shown) h.due) refl;
+  told = told_entry (addr_of_word n.own) n.journal d w.inside w.sockets h.told h.sound (entry.ContactDown peer numbers states shown) (ap not quiet) (λ port. queues_none port _ (entry.ContactDown peer numbers states shown) h.due) refl tt;
   sound = purged_sockets w.sockets peer.word h.sound;
   ports = refl;
   reached = all_kept _ _ _ (reach_down n.own n.journal w.inside (entry.ContactDown peer numbers states shown) peer.word (λ a z. refl)) w.sockets.names h.reached;
@@ -260,6 +261,35 @@ all_noted n d sends asked w (e ∷ es) h quiet =
     subst (λ (xs : List Entry). IsWorked n d NothingDue sends asked (record { neighbours = w.neighbours; sockets = fold after_entry (after_entry w.sockets e) es; inside = xs })) (append_assoc w.inside (e ∷ []) es)
     (all_noted n d sends asked (noted w (e ∷ [])) es (quiet_worked n d sends asked w e h quiet.0) quiet.1)
 
+-- ---- subscriptions time out
+
+timeout_worked : (n : NodeState) (d : Due) (sends asked : List Entry) (w : Work) (number : ℕ) → IsWorked n d NothingDue sends asked w
+    → IsWorked n d NothingDue sends (asked ++ entry.TimedOut number ∷ []) (noted w (entry.TimedOut number ∷ []))
+timeout_worked n d sends asked w number h =
+    let e = entry.TimedOut number in
+    let s = after_entry w.sockets e in
+    subst (λ es. IsWorked n d NothingDue es (asked ++ e ∷ []) (noted w (e ∷ []))) (append-nil sends) (worked_more n d NothingDue sends asked w e s w.neighbours h (record {
+      told = told_entry (addr_of_word n.own) n.journal d w.inside w.sockets h.told h.sound e refl (λ port. queues_none port _ e h.due) refl tt;
+      sound = other_watchers w.sockets (ended_at number w.sockets.watchers) h.sound;
+      ports = refl;
+      reached = reached_same n.own n.journal w.inside e w.sockets.names (λ a z. refl) h.reached;
+      stands = tt;
+      leaves = λ z. refl;
+    }))
+
+-- each of the timeouts is asked for
+pub all_timed_out : (n : NodeState) (d : Due) (sends asked : List Entry) (w : Work) (numbers : List ℕ) → IsWorked n d NothingDue sends asked w
+    → IsWorked n d NothingDue sends (asked ++ map entry.TimedOut numbers) (noted w (map entry.TimedOut numbers))
+all_timed_out n d sends asked w [] h =
+    subst (λ (xs : List Entry). IsWorked n d NothingDue sends xs (noted w [])) (sym (append-nil asked))
+    (subst (λ (xs : List Entry). IsWorked n d NothingDue sends asked (record { neighbours = w.neighbours; sockets = w.sockets; inside = xs })) (sym (append-nil w.inside)) h)
+all_timed_out n d sends asked w (number ∷ numbers) h =
+    let e = entry.TimedOut number in
+    let es = map entry.TimedOut numbers in
+    subst (λ (xs : List Entry). IsWorked n d NothingDue sends xs (noted w (e ∷ es))) (append_assoc asked (e ∷ []) es)
+    (subst (λ (xs : List Entry). IsWorked n d NothingDue sends ((asked ++ e ∷ []) ++ es) (record { neighbours = w.neighbours; sockets = fold after_entry (after_entry w.sockets e) es; inside = xs })) (append_assoc w.inside (e ∷ []) es)
+    (all_timed_out n d sends (asked ++ e ∷ []) (noted w (e ∷ [])) numbers (timeout_worked n d sends asked w number h)))
+
 -- ---- a message is delivered
 
 pub delivered_worked : (n : NodeState) (d : Due) (sends asked : List Entry) (w : Work) (peer : Addr) (numbers : ℕ × ℕ) (flow : Flow) (m : Message) (by : List ℕ) → IsWorked n d NothingDue sends asked w
@@ -267,7 +297,7 @@ pub delivered_worked : (n : NodeState) (d : Due) (sends asked : List Entry) (w :
 delivered_worked n d sends asked w peer numbers flow m by h =
     let e = entry.Delivered peer numbers flow m by in
     worked_on n d NothingDue (due_of_delivered m) sends asked w e w.sockets w.neighbours h (record {
-      told = told_entry (addr_of_word n.own) n.journal d w.inside w.sockets h.told e refl (λ port. queues_none port _ e h.due) refl;
+      told = told_entry (addr_of_word n.own) n.journal d w.inside w.sockets h.told h.sound e refl (λ port. queues_none port _ e h.due) refl tt;
       sound = h.sound;
       ports = refl;
       reached = reached_same n.own n.journal w.inside e w.sockets.names (λ a z. refl) h.reached;

@@ -1,6 +1,6 @@
 -- Each call is a turn of the node.
-use Rattle.std.proofs.Common.{◌≡◌, ℕ, false, List, [], ◌∷◌, Option, Some, None, filter, map, slice_index_or, refl, sym, ap, ◌∙◌, subst}
-use Rattle.std.proofs.lemmas.List.Elements.{All-cons, All-nil}
+use Rattle.std.proofs.Common.{◌≡◌, ℕ, Bool, false, List, [], ◌∷◌, ◌++◌, append-nil, Option, Some, None, filter, map, slice_index_or, refl, sym, ap, ◌∙◌, subst}
+use Rattle.std.proofs.lemmas.List.Elements.{All-append, All-cons, All-nil, filter-append}
 use Rattle.tipc_types.specs.Address.{node_word}
 use Rattle.tipc_types.specs.declared.identity.PortId.{PortId}
 use Rattle.tipc_types.specs.declared.message_forms.Importance.{Importance}
@@ -13,8 +13,10 @@ use Rattle.tipc_types.specs.declared.node_calls.EventNote.TheVariants as event
 use Rattle.tipc_types.specs.declared.services.Publication.{Publication}
 use Rattle.tipc_outside.specs.declared.outgoing.Outgoing.{Outgoing}
 use Rattle.tipc_journal.specs.declared.entries.Entry.{Entry}
-use Rattle.tipc_journal.specs.declared.entries.Entry.TheVariants.{Published, Withdrawn}
+use Rattle.tipc_journal.specs.declared.entries.Entry.TheVariants.{Published, Withdrawn, Subscribed, Cancelled, TimedOut}
+use Rattle.tipc_journal.specs.Licensed.{next_answer}
 use Rattle.tipc_journal.specs.Steps.{NodeStep}
+use Rattle.tipc_topology.specs.Changing.{due}
 use Rattle.tipc_name_dist.specs.Items.{telling}
 use Rattle.tipc_pair.specs.Turns.{Happened, Opening, Outset, ShowsIn, called}
 use Rattle.tipc_pair.specs.Turns.Opening.{cuts, mends, ticks}
@@ -23,18 +25,18 @@ use Rattle.tipc_sockets.specs.SocketTables.{with_socket}
 use Rattle.tipc_node.specs.declared.neighbours.Deed.{Deed}
 use Rattle.tipc_node.specs.declared.neighbours.Deed.TheVariants as deed
 use Rattle.tipc_node.specs.declared.neighbours.Neighbour.{Neighbour}
-use Rattle.tipc_node.specs.Calls.{CanPerform, Makes, Performs, Sends, SendsByName, SendsTo, TakesPart, Tells, deed_work, sender_refusal, way_refusal}
+use Rattle.tipc_node.specs.Calls.{CanPerform, Makes, Performs, Sends, SendsByName, SendsTo, TakesPart, Tells, deed_work, sender_refusal, tick_work, way_refusal}
 use Rattle.tipc_node.specs.Messages.{destination_of, direct, limit_of, named}
 use Rattle.tipc_node.specs.Neighbours.{done, no_broadcast}
 use Rattle.tipc_node.specs.Nodes.{NodeState, after_one, change_entries, deed_note, entries_all, entries_one, frames_all, frames_one, mended_by, recorded, step_of, with_mended}
-use Rattle.tipc_node.specs.Sockets.{closed_work, crowd_refusal, first_answer, found_at, kept_answer, next_port, port_refusal, publication_refusal, published_work, received_work, socket_refusal, told_closing, told_withdrawal, waiting_at, with_sockets_of, withdrawal_refusal, withdrawn_entries, withdrawn_work}
+use Rattle.tipc_node.specs.Sockets.{cancelled_work, closed_work, crowd_refusal, first_answer, first_event, found_at, kept_answer, next_number, next_port, next_work, number_refusal, port_refusal, publication_refusal, published_work, received_work, socket_refusal, subscribed_work, subscription_refusal, timeouts_of, told_closing, told_withdrawal, waiting_at, with_sockets_of, withdrawal_refusal, withdrawn_entries, withdrawn_work}
 use Rattle.tipc_node.specs.Turns.{AreNamed, IsBrought, IsPlaced, Names, NodeTurn, PeerTurn, Suits, frames_to, is_accepted_for, is_change_of, is_delivered_from}
 use Rattle.tipc_node.specs.Works.{Work, begun, concluded, in_contact}
 use Rattle.tipc_node.proofs.Addressing.{AreFor, mend_for, tick_for}
-use Rattle.tipc_node.proofs.Entries.{all_accept, all_changes, all_deliver, all_inside, all_placed, all_routed}
+use Rattle.tipc_node.proofs.Entries.{all_accept, all_changes, all_deliver, all_inside, all_placed, all_routed, inside_both}
 use Rattle.tipc_node.proofs.MessageRuns.{AreQuiet, goes_run, idle_run, none_quiet, quiet_run}
 use Rattle.tipc_node.proofs.PeersTold.{tells_each_run}
-use Rattle.tipc_node.proofs.Plain.{IsPlain, IsPlainIn, crowd_plain, plain_reason, port_plain, publication_plain, received_untaken, sender_plain, socket_plain, way_plain, withdrawal_plain}
+use Rattle.tipc_node.proofs.Plain.{IsPlain, IsPlainIn, crowd_plain, next_untaken, number_plain, plain_reason, port_plain, publication_plain, received_untaken, sender_plain, socket_plain, subscription_plain, way_plain, withdrawal_plain}
 use Rattle.tipc_node.proofs.Runs.{IsRun, run_then}
 use Rattle.tipc_node.proofs.Shares.{after_at, shares}
 use Rattle.tipc_node.proofs.Turning.{IsTurn, IsUntaken, named_stand, opens_turn, run_turn, shows_none, turn_as}
@@ -216,6 +218,62 @@ takes_part_turn n n' by d call frames answered named is h =
     subst (λ note. IsCall n n' by note frames answered) (sym is)
     (turn_as n n' (deed_node n by d) by (deed_note d) [] frames (frames_all d n.neighbours) (kept_answer answered) answer.Done h.0 h.1 (ap kept_answer h.2) (entries_all d 0 n.neighbours, deed_turn n by d named))
 
+-- ---- a tick
+
+timed_quiet : (n : NodeState) (numbers : List ℕ) → AreQuiet n (map TimedOut numbers) []
+timed_quiet n [] = none_quiet n
+timed_quiet n (number ∷ numbers) =
+    let later = timed_quiet n numbers in record {
+      changes = later.changes;
+      accepted = later.accepted;
+      delivered = later.delivered;
+      inside = later.inside;
+      placed = All-cons (IsPlaced n) (TimedOut number) (map TimedOut numbers) tt later.placed;
+    }
+
+-- what is told behind quiet entries is what is told before them
+quiet_behind : (test : Entry → Bool) (es ts : List Entry) → filter test ts ≡ [] → filter test (es ++ ts) ≡ filter test es
+quiet_behind test es ts none = filter-append test es ts ∙ ap (λ xs. filter test es ++ xs) none ∙ append-nil (filter test es)
+
+abbrev tick_node : NodeState → By → NodeState
+tick_node n by = concluded n by event.Tick (tick_work n) answer.Done
+
+tick_turn : (n : NodeState) (by : By) → AreNamed n
+    → NodeTurn n (tick_node n by) [] (step_of by event.Tick (entries_all deed.Tick 0 n.neighbours ++ timeouts_of n.sockets) answer.Done) (frames_all deed.Tick n.neighbours)
+tick_turn n by named = record {
+  own = refl;
+  boot = refl;
+  journal = refl;
+  inside = inside_both es ts (all_inside deed.Tick 0 n.neighbours) quiet.inside;
+  turns = λ b x there. record {
+    after = (done deed.Tick x).after;
+    after_is = after_at deed.Tick n.neighbours b ∙ ap (after_one deed.Tick) there;
+    turn = done_turn n.own deed.Tick (step_of by event.Tick (es ++ ts) answer.Done) (frames_all deed.Tick n.neighbours) b x (record {
+      event_is = refl;
+      answer_is = refl;
+      frames_are = shares deed.Tick n.neighbours b each ∙ ap (frames_one deed.Tick) there;
+      changes = quiet_behind (is_change_of b) es ts (quiet.changes b) ∙ all_changes deed.Tick n.neighbours b ∙ ap (entries_one deed.Tick b) there;
+      accepted = quiet_behind (is_accepted_for b) es ts (quiet.accepted b) ∙ all_accept deed.Tick b 0 n.neighbours;
+      delivered = quiet_behind (is_delivered_from b) es ts (quiet.delivered b) ∙ all_deliver deed.Tick b 0 n.neighbours;
+    });
+  };
+  alone = λ b none. after_at deed.Tick n.neighbours b ∙ ap (after_one deed.Tick) none;
+  routed = all_routed n deed.Tick each;
+  placed = All-append (IsPlaced n) es ts (all_placed n deed.Tick) quiet.placed;
+}
+  where
+    es : List Entry
+    es = entries_all deed.Tick 0 n.neighbours
+
+    ts : List Entry
+    ts = timeouts_of n.sockets
+
+    quiet : AreQuiet n ts []
+    quiet = timed_quiet n (due n.sockets.watchers.kept)
+
+    each : (b : ℕ) (x : Neighbour) → slice_index_or n.neighbours b None ≡ Some x → AreFor (node_word b) (done deed.Tick x).frames
+    each b x there = done_for deed.Tick b x (named b x there)
+
 -- ---- every call
 
 pub performs_turn : (n n' : NodeState) (by : By) (call : EventNote) (frames : List Outgoing) (answered : Answer) → AreNamed n → CanPerform call → Performs n by call n' frames answered
@@ -242,7 +300,22 @@ performs_turn n n' by (event.Receive port) frames answered are can h =
     let queue = waiting_at n.sockets port in
     makes_turn n n' by (event.Receive port) (port_refusal n.sockets port) (received_work n port) (first_answer queue) frames answered are (port_plain n.sockets port) (received_untaken queue)
     (idle_run n (begun n) (received_work n port) (named_stand n are) refl refl) h
-performs_turn n n' by event.Tick frames answered are can h = takes_part_turn n n' by deed.Tick event.Tick frames answered are refl h
+performs_turn n n' by (event.Subscribe asked) frames answered are can h =
+    let e = Subscribed (next_number n.sockets) asked in
+    makes_turn n n' by (event.Subscribe asked) (subscription_refusal n.sockets asked) (subscribed_work n asked) (answer.Subscribed (next_number n.sockets)) frames answered are (subscription_plain n.sockets asked) tt
+    (quiet_run n (begun n) (subscribed_work n asked) (e ∷ []) [] (named_stand n are) refl refl
+    (record { changes = λ b. refl; accepted = λ b. refl; delivered = λ b. refl; inside = refl; placed = All-cons (IsPlaced n) e [] tt (All-nil (IsPlaced n)) })) h
+performs_turn n n' by (event.Cancel number) frames answered are can h =
+    let e = Cancelled number in
+    makes_turn n n' by (event.Cancel number) (number_refusal n.sockets number) (cancelled_work n number) answer.Done frames answered are (number_plain n.sockets number) tt
+    (quiet_run n (begun n) (cancelled_work n number) (e ∷ []) [] (named_stand n are) refl refl
+    (record { changes = λ b. refl; accepted = λ b. refl; delivered = λ b. refl; inside = refl; placed = All-cons (IsPlaced n) e [] tt (All-nil (IsPlaced n)) })) h
+performs_turn n n' by (event.NextEvent number) frames answered are can h =
+    makes_turn n n' by (event.NextEvent number) (number_refusal n.sockets number) (next_work n number) (next_answer (first_event n.sockets number)) frames answered are (number_plain n.sockets number) (next_untaken (first_event n.sockets number))
+    (idle_run n (begun n) (next_work n number) (named_stand n are) refl refl) h
+performs_turn n n' by event.Tick frames answered are can h =
+    turn_as n n' (tick_node n by) by event.Tick [] frames (frames_all deed.Tick n.neighbours) (kept_answer answered) answer.Done h.0 h.1 (ap kept_answer h.2)
+    (entries_all deed.Tick 0 n.neighbours ++ timeouts_of n.sockets, tick_turn n by are)
 performs_turn n n' by (event.Cut bearer) frames answered are can h = takes_part_turn n n' by deed.Cut (event.Cut bearer) frames answered are (ap event.Cut can) h
 performs_turn n n' by (event.Mend bearer) frames answered are can h = takes_part_turn n n' by deed.Mend (event.Mend bearer) frames answered are (ap event.Mend can) h
 performs_turn n n' by other frames answered are can h = absurd h

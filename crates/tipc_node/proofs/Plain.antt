@@ -1,12 +1,16 @@
 -- The answers of calls: the journal keeps all of each, but for a message that was received, and none tells of an arrival.
-use Rattle.std.proofs.Common.{◌≡◌, ℕ, List, [], ◌∷◌, Option, Some, None, length, nat_le, refl, subst}
-use Rattle.std.specs.Prelude.{◌==◌, ◌||◌, if◌then◌else◌, option_map}
+use Rattle.std.proofs.Common.{◌≡◌, ℕ, List, [], ◌∷◌, Option, Some, None, is_some, length, nat_le, not, refl, subst}
+use Rattle.std.specs.Prelude.{◌==◌, ◌||◌, if◌then◌else◌, nat_lt, option_map}
 use Rattle.tipc_types.specs.declared.identity.Addr.{Addr}
 use Rattle.tipc_types.specs.declared.message_forms.Message.{Message}
 use Rattle.tipc_types.specs.declared.node_calls.Answer.{Answer}
 use Rattle.tipc_types.specs.declared.node_calls.Answer.TheVariants as answer
+use Rattle.tipc_types.specs.declared.node_calls.Event.{Event}
+use Rattle.tipc_types.specs.declared.node_calls.Subscription.{Subscription}
 use Rattle.tipc_types.specs.declared.services.Publication.{Publication}
-use Rattle.tipc_journal.specs.Refusals.{longest_body, most_sockets, most_sockets_made}
+use Rattle.tipc_journal.specs.Licensed.{next_answer}
+use Rattle.tipc_journal.specs.Refusals.{longest_body, most_sockets, most_sockets_made, most_subscriptions, most_subscriptions_made}
+use Rattle.tipc_topology.specs.Changing.{is_filter, of_number}
 use Rattle.tipc_link.specs.Sessions.{SessionEnd}
 use Rattle.tipc_sockets.specs.declared.publishing.PublishFault.{PublishFault}
 use Rattle.tipc_sockets.specs.declared.publishing.PublishFault.TheVariants as fault
@@ -15,7 +19,7 @@ use Rattle.tipc_sockets.specs.SocketTables.{SocketTable, has_port}
 use Rattle.tipc_node.specs.declared.neighbours.Neighbour.{Neighbour}
 use Rattle.tipc_node.specs.Calls.{link_refusal, sender_refusal, way_refusal}
 use Rattle.tipc_node.specs.Nodes.{NodeState, session_with}
-use Rattle.tipc_node.specs.Sockets.{crowd_refusal, crowded_answer, first_answer, first_crowded, kept_answer, key_refusal, port_refusal, publication_refusal, refused_publication, socket_refusal, withdrawal_refusal}
+use Rattle.tipc_node.specs.Sockets.{crowd_refusal, crowded_answer, first_answer, first_crowded, kept_answer, key_refusal, number_refusal, port_refusal, publication_refusal, refused_publication, socket_refusal, subscription_refusal, withdrawal_refusal}
 use Rattle.tipc_node.specs.Works.{neighbour_at}
 use Rattle.tipc_node.proofs.Addressing.{either}
 use Rattle.tipc_node.proofs.Turning.{IsUntaken}
@@ -41,6 +45,26 @@ no_socket = record { kept = refl; untaken = tt }
 
 pub port_plain : (s : SocketTable) (port : ℕ) → IsPlainIn (port_refusal s port)
 port_plain s port = either IsPlainIn (has_port s port) None (Some answer.NoSocket) tt no_socket
+
+pub subscription_plain : (s : SocketTable) (asked : Subscription) → IsPlainIn (subscription_refusal s asked)
+subscription_plain s asked =
+    let full : Option Answer =
+    if nat_le most_subscriptions (length s.watchers.kept) || nat_le most_subscriptions_made s.watchers.made then Some (answer.Full most_subscriptions) else None in
+    either IsPlainIn (nat_lt asked.upper asked.lower) (Some answer.BadRange) (if not (is_filter asked) then Some answer.BadFilter else full) (record { kept = refl; untaken = tt })
+    (either IsPlainIn (not (is_filter asked)) (Some answer.BadFilter) full (record { kept = refl; untaken = tt })
+    (either IsPlainIn (nat_le most_subscriptions (length s.watchers.kept) || nat_le most_subscriptions_made s.watchers.made) (Some (answer.Full most_subscriptions)) None (record { kept = refl; untaken = tt }) tt))
+
+pub number_plain : (s : SocketTable) (number : ℕ) → IsPlainIn (number_refusal s number)
+number_plain s number = either IsPlainIn (is_some (of_number s.watchers number)) None (Some answer.Unknown) tt (record { kept = refl; untaken = tt })
+
+-- what a call for the next event answers
+pub next_untaken : (o : Option Event) → IsUntaken (kept_answer (next_answer o))
+next_untaken None = tt
+next_untaken (Some e) = tt
+
+pub next_kept : (o : Option Event) → kept_answer (next_answer o) ≡ next_answer o
+next_kept None = refl
+next_kept (Some e) = refl
 
 publish_plain : (o : Option PublishFault) → IsPlainIn (refused_publication o)
 publish_plain None = tt

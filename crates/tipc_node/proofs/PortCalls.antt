@@ -23,6 +23,7 @@ use Rattle.tipc_node.specs.Calls.{Sends, sender_refusal, way_refusal}
 use Rattle.tipc_node.specs.Messages.{direct, limit_of}
 use Rattle.tipc_node.specs.Nodes.{NodeState, step_of}
 use Rattle.tipc_node.specs.Sockets.{kept_answer}
+use Rattle.tipc_sockets.specs.Telling.{is_tick}
 use Rattle.tipc_node.specs.Telling.{ArePacked, IsFull, IsTold}
 use Rattle.tipc_node.specs.Turns.{NodeTurn}
 use Rattle.tipc_node.specs.Works.{addr_of_word, begun}
@@ -43,11 +44,11 @@ sender_is P n port body reason no_socket too_long is = by (has_port n.sockets po
     by false short gone = (let here : answer.NoSocket ≡ reason = cc in subst P here no_socket)
 
 -- a step that a refused call recorded
-pub refused_told : (n n' : NodeState) (by : By) (note : EventNote) (reason kept : Answer) (inside : List Entry) (frames : List Outgoing) → IsTold n → NodeTurn n n' [] (step_of by note inside kept) frames
+pub refused_told : (n n' : NodeState) (by : By) (note : EventNote) (reason kept : Answer) (inside : List Entry) (frames : List Outgoing) → IsTold n → is_tick note ≡ false → NodeTurn n n' [] (step_of by note inside kept) frames
     → AreSockets n'.sockets → n'.journal ≡ n.journal ++ step_entries (step_of by note [] reason) → n'.sockets ≡ n.sockets → IsRefusal reason
     → IsAnswered (addr_of_word n.own) n.journal (step_of by note [] reason) (refusal (addr_of_word n.own) n.journal note) → IsFull note reason → IsTold n'
-refused_told n n' by note reason kept inside frames h t sound journal same refuses answered full =
-    call_told n n' [] by note inside kept reason frames (begun n) n.sockets h t journal same sound (λ inner. refused_call n by note reason h refuses answered full)
+refused_told n n' by note reason kept inside frames h still t sound journal same refuses answered full =
+    call_told n n' [] by note inside kept reason frames (begun n) n.sockets h t journal same sound (λ inner. refused_call n by note reason h still refuses answered full)
 
 pub some_limit : (importance : Importance) → 1 ≤ limit_of importance
 some_limit Low = omega arith
@@ -85,12 +86,12 @@ port_way : (n n' : NodeState) (by : By) (port : ℕ) (to : PortId) (importance :
 port_way n n' by port to importance body _ kept inside frames h t sound journal same sender (unreached gone) =
     let note = event.SendPort port to importance body in
     let is = port_refused_as n port to importance body false h sender gone in
-    refused_told n n' by note answer.NoNode kept inside frames h t sound journal same tt (subst (IsAnswered (addr_of_word n.own) n.journal (step_of by note [] answer.NoNode)) (sym is) (refl, refl)) tt
+    refused_told n n' by note answer.NoNode kept inside frames h refl t sound journal same tt (subst (IsAnswered (addr_of_word n.own) n.journal (step_of by note [] answer.NoNode)) (sym is) (refl, refl)) tt
 port_way n n' by port to importance body _ kept inside frames h t sound journal same sender (crowded in_flight waiting fifty most reached) =
     let note = event.SendPort port to importance body in
     let reason = answer.Congested in_flight waiting in
     let is = port_refused_as n port to importance body true h sender reached in
-    refused_told n n' by note reason kept inside frames h t sound journal same tt (subst (IsAnswered (addr_of_word n.own) n.journal (step_of by note [] reason)) (sym is) (inl (refl, refl))) (fifty, most)
+    refused_told n n' by note reason kept inside frames h refl t sound journal same tt (subst (IsAnswered (addr_of_word n.own) n.journal (step_of by note [] reason)) (sym is) (inl (refl, refl))) (fifty, most)
 
 pub port_told : (n n' : NodeState) (by : By) (port : ℕ) (to : PortId) (importance : Importance) (body : List ℕ) (answered : Answer) (inside : List Entry) (frames : List Outgoing) → IsTold n → ArePacked n
     → NodeTurn n n' [] (step_of by (event.SendPort port to importance body) inside (kept_answer answered)) frames → AreSockets n'.sockets → Sends n n' by port to importance body frames answered → IsTold n'
@@ -114,7 +115,7 @@ port_told n n' by port to importance body answered inside frames h packed t soun
         call_told n n' [] by note inside (kept_answer answered) answer.Sent frames w w.sockets h t (ap (λ (x : NodeState). x.journal) step.2) (ap (λ (x : NodeState). x.sockets) step.2) sound (λ inner. record {
           answered = done_answered own n.journal by note w.inside answer.Sent (port_refused_as n port to importance body true h sender reached) refl;
           worked = worked;
-          kept = others_kept n by note answer.Sent NothingDue _ _ w h inner worked (record { stays = λ ports. refl; none = refl; quiet = λ q. refl });
+          kept = others_kept n by note answer.Sent NothingDue _ _ w h inner worked (record { stays = λ ports. refl; none = refl; quiet = λ q. refl; still = refl; nothing = λ number. refl });
           full = tt;
         })
 
@@ -130,5 +131,5 @@ port_told n n' by port to importance body answered inside frames h packed t soun
     by_sender (Some reason) is =
         let step = sends.refused reason is in
         let refused = port_first n port to importance body h ∙ ap (λ o. or_else o (link_answer n to.node)) is in
-        refused_told n n' by note reason (kept_answer answered) inside frames h t sound (ap (λ (x : NodeState). x.journal) step.0) (ap (λ (x : NodeState). x.sockets) step.0) (sender_is IsRefusal n port body reason tt tt is)
+        refused_told n n' by note reason (kept_answer answered) inside frames h refl t sound (ap (λ (x : NodeState). x.journal) step.0) (ap (λ (x : NodeState). x.sockets) step.0) (sender_is IsRefusal n port body reason tt tt is)
         (subst (IsAnswered own n.journal (step_of by note [] reason)) (sym refused) (refl, refl)) (sender_is (IsFull note) n port body reason tt tt is)

@@ -116,7 +116,7 @@ unqueued port (ReturnDue back) peer numbers m = refl
 pub put_next : (n : NodeState) (d now : Due) (sends asked : List Entry) (w : Work) (peer : Addr) (numbers : ℕ × ℕ) (m : Message) → IsWorked n d now sends asked w
     → MayStand (scene_at (addr_of_word n.own) n.journal d w.inside) now (entry.Accepted peer numbers Zero m) → IsNext n d now w (entry.Accepted peer numbers Zero m) w.sockets
 put_next n d now sends asked w peer numbers m h stands = record {
-  told = told_entry (addr_of_word n.own) n.journal d w.inside w.sockets h.told (entry.Accepted peer numbers Zero m) refl (λ port. unqueued port _ peer numbers m) refl;
+  told = told_entry (addr_of_word n.own) n.journal d w.inside w.sockets h.told h.sound (entry.Accepted peer numbers Zero m) refl (λ port. unqueued port _ peer numbers m) refl tt;
   sound = h.sound;
   ports = refl;
   reached = reached_same n.own n.journal w.inside (entry.Accepted peer numbers Zero m) w.sockets.names (λ a z. refl) h.reached;

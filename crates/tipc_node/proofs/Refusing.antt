@@ -1,6 +1,6 @@
 -- What a node refuses, and for which reason, is what its journal tells.
-use Rattle.std.proofs.Common.{◌≡◌, ◌==◌, ◌||◌, ℕ, Bool, true, false, not, List, [], ◌∷◌, Option, Some, None, filter, length, refl, sym, ap, ◌∙◌, arith}
-use Rattle.std.specs.Prelude.{if◌then◌else◌, find, nat_eq, nat_le, nat_lt}
+use Rattle.std.proofs.Common.{◌≡◌, ◌+◌, ◌==◌, ◌||◌, ℕ, Bool, true, false, not, List, [], ◌∷◌, Option, Some, None, filter, length, refl, sym, ap, subst, ◌∙◌, arith}
+use Rattle.std.specs.Prelude.{if◌then◌else◌, find, is_some, nat_eq, nat_le, nat_lt, slice_get}
 use Rattle.std.specs.List.{list_any}
 use Rattle.std.specs.Map.{keys_of}
 use Rattle.std.proofs.lemmas.Bool.Decides.{nat_tests}
@@ -9,23 +9,29 @@ use Rattle.tipc_types.specs.Span.{Span}
 use Rattle.tipc_types.specs.declared.node_calls.Answer.{Answer}
 use Rattle.tipc_types.specs.declared.node_calls.Answer.TheVariants as answer
 use Rattle.tipc_types.specs.declared.node_calls.EventNote.TheVariants as event
+use Rattle.tipc_types.specs.declared.node_calls.Subscription.{Subscription}
 use Rattle.tipc_types.specs.declared.services.Publication.{Publication}
 use Rattle.tipc_types.specs.declared.services.Scope.{Scope}
 use Rattle.tipc_journal.specs.declared.entries.Entry.{Entry}
 use Rattle.tipc_journal.specs.Dues.{NothingDue}
+use Rattle.tipc_journal.specs.Licensed.{events_given}
 use Rattle.tipc_journal.specs.Matches.{matches, names}
 use Rattle.tipc_journal.specs.Names.{live, table}
 use Rattle.tipc_journal.specs.Queues.{sockets}
-use Rattle.tipc_journal.specs.Refusals.{first_free_type, first_holding, is_among, is_offer, no_socket, refusal, too_long}
+use Rattle.tipc_journal.specs.Refusals.{first_free_type, first_holding, is_among, is_offer, no_socket, refusal, subscriptions_made, too_long}
+use Rattle.tipc_journal.specs.Subscriptions.{subscriptions, transitions}
+use Rattle.tipc_topology.specs.Changing.{is_filter, of_number}
 use Rattle.tipc_name_table.specs.Matching.{closest, covers}
 use Rattle.tipc_sockets.specs.declared.publishing.PublishFault.TheVariants as fault
 use Rattle.tipc_sockets.specs.Publishing.{has_key}
 use Rattle.tipc_sockets.specs.SocketTables.{has_port}
 use Rattle.tipc_sockets.proofs.Closing.{eq_turned}
+use Rattle.tipc_sockets.specs.Watched.{AreWatchersTold}
 use Rattle.tipc_sockets.proofs.Keeping.{queue_there}
+use Rattle.tipc_sockets.proofs.Subscribers.{count_told, next_told, there_told}
 use Rattle.tipc_node.specs.Calls.{sender_refusal}
 use Rattle.tipc_node.specs.Nodes.{NodeState}
-use Rattle.tipc_node.specs.Sockets.{found_at, key_refusal, port_refusal, publication_refusal, refused_publication, socket_refusal, withdrawal_refusal}
+use Rattle.tipc_node.specs.Sockets.{first_event, found_at, key_refusal, next_number, number_refusal, port_refusal, publication_refusal, refused_publication, socket_refusal, subscription_refusal, withdrawal_refusal}
 use Rattle.tipc_node.specs.Telling.{IsTold}
 use Rattle.tipc_node.specs.Works.{addr_of_word}
 
@@ -65,6 +71,32 @@ turned false x y = refl
 pub port_refused : (n : NodeState) (port : ℕ) → IsTold n → port_refusal n.sockets port ≡ first_holding (no_socket n.journal port ∷ [])
 port_refused n port h =
     turned (has_port n.sockets port) None (Some answer.NoSocket) ∙ ap (λ b. if not b then Some answer.NoSocket else None) (told_port n h port)
+
+-- ---- subscriptions
+
+-- the whole steps tell of the subscriptions
+watched : (n : NodeState) → IsTold n → AreWatchersTold n.journal (events_given n.journal) n.sockets.watchers
+watched n h = subst (λ (es : List Entry). AreWatchersTold es (events_given n.journal) n.sockets.watchers) (append-nil n.journal) (h.sockets.told NothingDue).watchers
+
+pub number_refused : (n : NodeState) (number : ℕ) → IsTold n → number_refusal n.sockets number ≡ first_holding ((not (is_among (subscriptions n.journal) number), answer.Unknown) ∷ [])
+number_refused n number h =
+    turned (is_some (of_number n.sockets.watchers number)) None (Some answer.Unknown)
+    ∙ ap (λ b. if not b then Some answer.Unknown else None) (sym (there_told n.journal (events_given n.journal) n.sockets.watchers number (watched n h)))
+
+pub subscription_refused : (n : NodeState) (asked : Subscription) → IsTold n → subscription_refusal n.sockets asked ≡ refusal (addr_of_word n.own) n.journal (event.Subscribe asked)
+subscription_refused n asked h =
+    (λ i. if nat_lt asked.upper asked.lower then Some answer.BadRange
+    else (if not (is_filter asked) then Some answer.BadFilter
+    else (if nat_le 256 (sym (count_told n.journal (events_given n.journal) n.sockets.watchers (watched n h)) i) || nat_le 4294967295 ((watched n h).made i) then Some (answer.Full 256) else None)))
+
+-- the next event is that of the transitions
+pub next_is : (n : NodeState) (number : ℕ) → IsTold n → is_some (of_number n.sockets.watchers number) ≡ true
+    → slice_get (transitions n.journal number) (length (events_given n.journal number)) ≡ first_event n.sockets number
+next_is n number h there = next_told n.journal (events_given n.journal) n.sockets.watchers number (watched n h) there
+
+-- as many were made
+pub made_is : (n : NodeState) → IsTold n → next_number n.sockets ≡ subscriptions_made n.journal + 1
+made_is n h = ap (λ k. k + 1) (watched n h).made
 
 -- ---- names
 

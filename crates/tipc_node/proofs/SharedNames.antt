@@ -19,11 +19,12 @@ use Rattle.tipc_node.specs.declared.neighbours.Deed.TheVariants as deed
 use Rattle.tipc_node.specs.Calls.{CanPerform, HasInstances, Performs}
 use Rattle.tipc_node.specs.Nodes.{NodeState, known_node, neighbour_of}
 use Rattle.tipc_node.specs.Sharing.{SharesNames}
-use Rattle.tipc_node.specs.Sockets.{closed_work, first_answer, next_port, port_refusal, publication_refusal, published_work, received_work, socket_refusal, told_closing, told_withdrawal, waiting_at, with_sockets_of, withdrawal_refusal, withdrawn_work}
+use Rattle.tipc_journal.specs.Licensed.{next_answer}
+use Rattle.tipc_node.specs.Sockets.{cancelled_work, closed_work, first_answer, first_event, next_number, next_port, next_work, number_refusal, port_refusal, publication_refusal, published_work, received_work, socket_refusal, subscribed_work, subscription_refusal, told_closing, told_withdrawal, waiting_at, with_sockets_of, withdrawal_refusal, withdrawn_work}
 use Rattle.tipc_node.specs.Telling.{IsTold}
 use Rattle.tipc_node.specs.Turns.{addr_of}
 use Rattle.tipc_node.specs.Works.{begun}
-use Rattle.tipc_node.proofs.SharingCalls.{IsTurnOf, deed_shares, makes_shares, name_shares, port_shares}
+use Rattle.tipc_node.proofs.SharingCalls.{IsTurnOf, deed_shares, makes_shares, name_shares, port_shares, tick_shares}
 use Rattle.tipc_node.proofs.SharingNaming.{closing_is, publishing_is, tells_shares, withdrawal_is}
 use Rattle.tipc_node.proofs.SharingUnused.{known_unused, new_unused}
 
@@ -72,7 +73,13 @@ performs_shares n n' by (event.SendName port kind instance importance body) fram
     name_shares n n' by port kind instance importance body inside frames answered h h' shares t performs
 performs_shares n n' by (event.SendPort port to importance body) frames answered h shares can performs inside t h' ranges wide =
     port_shares n n' by port to importance body inside frames answered h h' shares t performs
-performs_shares n n' by event.Tick frames answered h shares can performs inside t h' ranges wide = deed_shares n n' by deed.Tick inside frames answered h h' shares t performs
+performs_shares n n' by (event.Subscribe asked) frames answered h shares can performs inside t h' ranges wide =
+    makes_shares n n' by (event.Subscribe asked) (subscription_refusal n.sockets asked) (subscribed_work n asked) (answer.Subscribed (next_number n.sockets)) inside frames answered h h' shares t tt refl performs
+performs_shares n n' by (event.Cancel number) frames answered h shares can performs inside t h' ranges wide =
+    makes_shares n n' by (event.Cancel number) (number_refusal n.sockets number) (cancelled_work n number) answer.Done inside frames answered h h' shares t tt refl performs
+performs_shares n n' by (event.NextEvent number) frames answered h shares can performs inside t h' ranges wide =
+    makes_shares n n' by (event.NextEvent number) (number_refusal n.sockets number) (next_work n number) (next_answer (first_event n.sockets number)) inside frames answered h h' shares t tt refl performs
+performs_shares n n' by event.Tick frames answered h shares can performs inside t h' ranges wide = tick_shares n n' by inside frames answered h h' shares t performs
 performs_shares n n' by (event.Cut bearer) frames answered h shares can performs inside t h' ranges wide =
     deed_shares n n' by deed.Cut inside frames answered h h' shares (subst (λ b. IsTurnOf n n' by (event.Cut b) inside frames answered) can t) performs
 performs_shares n n' by (event.Mend bearer) frames answered h shares can performs inside t h' ranges wide =

@@ -1,5 +1,5 @@
 -- A node shares its names with its peers after each call.
-use Rattle.std.proofs.Common.{◌≡◌, ◌+◌, ◌==◌, ◌||◌, ℕ, Bool, true, false, not, List, [], ◌∷◌, ◌++◌, Option, Some, None, filter, if◌then◌else◌, refl, sym, ap, ◌∙◌, subst, append-nil, true≢false}
+use Rattle.std.proofs.Common.{◌≡◌, ◌+◌, ◌==◌, ◌||◌, ℕ, Bool, true, false, not, List, [], ◌∷◌, ◌++◌, Option, Some, None, filter, if◌then◌else◌, map, refl, sym, ap, ◌∙◌, subst, append-nil, true≢false}
 use Rattle.std.specs.List.{list_all}
 use Rattle.std.proofs.lemmas.Bool.{and_from, and_parts}
 use Rattle.tipc_types.specs.Address.{node_word}
@@ -30,12 +30,13 @@ use Rattle.tipc_sockets.specs.Telling.{fate_entry, is_payload}
 use Rattle.tipc_node.specs.declared.neighbours.Deed.{Deed}
 use Rattle.tipc_node.specs.declared.neighbours.Deed.TheVariants as deed
 use Rattle.tipc_node.specs.declared.neighbours.Neighbour.{Neighbour}
-use Rattle.tipc_node.specs.Calls.{Makes, Sends, SendsByName, SendsTo, TakesPart, sender_refusal, way_refusal}
+use Rattle.tipc_topology.specs.Changing.{due}
+use Rattle.tipc_node.specs.Calls.{Makes, Sends, SendsByName, SendsTo, TakesPart, Ticks, sender_refusal, way_refusal}
 use Rattle.tipc_node.specs.Messages.{destination_of, direct, limit_of, named}
 use Rattle.tipc_node.specs.Neighbours.{done}
 use Rattle.tipc_node.specs.Nodes.{NodeState, change_entries, deed_note, entries_all, entries_one, step_of}
 use Rattle.tipc_node.specs.Sharing.{HasTold, SharesNames, flow_with}
-use Rattle.tipc_node.specs.Sockets.{found_at, kept_answer}
+use Rattle.tipc_node.specs.Sockets.{found_at, kept_answer, timeouts_of}
 use Rattle.tipc_node.specs.Telling.{IsTold}
 use Rattle.tipc_node.specs.Turns.{NodeTurn, addr_of, is_change_of}
 use Rattle.tipc_node.specs.Works.{Work, begun}
@@ -222,3 +223,17 @@ pub deed_shares : (n n' : NodeState) (by : By) (d : Deed) (inside : List Entry) 
     → TakesPart n by d n' frames answered → SharesNames n'
 deed_shares n n' by d inside frames answered h h' shares t takes =
     record_shares n n' by (deed_note d) inside (entries_all d 0 n.neighbours) answer.Done frames answered h h' shares t (own_deed d) (ap JournalOf takes.0) (all_usual d 0 n.neighbours)
+
+-- ---- a tick
+
+timed_usual : (numbers : List ℕ) → list_all is_usual (map entry.TimedOut numbers) ≡ true
+timed_usual [] = refl
+timed_usual (number ∷ numbers) = timed_usual numbers
+
+pub tick_shares : (n n' : NodeState) (by : By) (inside : List Entry) (frames : List Outgoing) (answered : Answer) → IsTold n → IsTold n' → SharesNames n → IsTurnOf n n' by event.Tick inside frames answered
+    → Ticks n by n' frames answered → SharesNames n'
+tick_shares n n' by inside frames answered h h' shares t ticks =
+    let es = entries_all deed.Tick 0 n.neighbours in
+    let ts = timeouts_of n.sockets in
+    record_shares n n' by event.Tick inside (es ++ ts) answer.Done frames answered h h' shares t tt (ap JournalOf ticks.0)
+    (all_both is_usual es ts (all_usual deed.Tick 0 n.neighbours) (timed_usual (due n.sockets.watchers.kept)))

@@ -1,6 +1,7 @@
 -- How many entries a step has inside, and how much they count for.
-use Rattle.std.proofs.Common.{◌≡◌, ◌+◌, ◌*◌, ℕ, ◌≤◌, Option, Some, None, List, [], ◌∷◌, length, length-append, refl, ap, sum_by, slice_index_or, arith}
+use Rattle.std.proofs.Common.{◌≡◌, ◌+◌, ◌*◌, ℕ, ◌≤◌, Option, Some, None, List, [], ◌∷◌, map, length, length-append, refl, ap, sum_by, slice_index_or, arith}
 use Rattle.std.proofs.lemmas.List.Sums.{sum_by-append}
+use Rattle.tipc_journal.specs.declared.entries.Entry.TheVariants as entry
 use Rattle.tipc_journal.specs.Room.{entry_bytes}
 use Rattle.tipc_pair.specs.declared.changes.PairChange.{PairChange}
 use Rattle.tipc_pair.specs.declared.changes.PairChange.TheVariants.{Stay, Began, Ended}
@@ -56,3 +57,12 @@ all_few d (x ∷ xs) none wide =
     let first : length (entries_one d 0 x) ≡ 0 = ap (λ z. length (entries_one d 0 z)) none in
     let both = length-append (entries_one d 0 x) (entries_all d 1 xs) in
     omega (arith, both, wide)
+
+-- what times out counts for nothing
+pub timed_size : (numbers : List ℕ) → sum_by entry_bytes (map entry.TimedOut numbers) ≡ 0
+timed_size [] = refl
+timed_size (number ∷ numbers) =
+    let first = sum_by-append entry_bytes (entry.TimedOut number ∷ []) (map entry.TimedOut numbers) in
+    let others = timed_size numbers in
+    let here : sum_by entry_bytes (entry.TimedOut number ∷ []) ≡ 0 = refl in
+    omega (arith, first, others, here)

@@ -1,5 +1,5 @@
 -- Calls that change names and tell peers of it: the journal tells of the node after each, whether it was refused or not.
-use Rattle.std.proofs.Common.{◌≡◌, ℕ, true, List, [], ◌∷◌, Option, Some, None, inl, refl, sym, ap, ◌∙◌, subst}
+use Rattle.std.proofs.Common.{◌≡◌, ℕ, false, true, List, [], ◌∷◌, Option, Some, None, inl, refl, sym, ap, ◌∙◌, subst}
 use Rattle.std.specs.Prelude.{option_map}
 use Rattle.tipc_types.specs.declared.identity.Addr.{Addr}
 use Rattle.tipc_types.specs.declared.message_forms.Message.{Message}
@@ -17,6 +17,7 @@ use Rattle.tipc_node.specs.declared.neighbours.Neighbour.{Neighbour}
 use Rattle.tipc_node.specs.Calls.{Tells}
 use Rattle.tipc_node.specs.Nodes.{NodeState, step_of}
 use Rattle.tipc_node.specs.Sockets.{crowd_refusal, crowded_answer, first_crowded, kept_answer}
+use Rattle.tipc_sockets.specs.Telling.{is_tick}
 use Rattle.tipc_node.specs.Telling.{IsFull, IsTold}
 use Rattle.tipc_node.specs.Turns.{NodeTurn}
 use Rattle.tipc_node.specs.Works.{TellsPeers, Work, addr_of_word, in_contact, work_of}
@@ -44,12 +45,12 @@ IsCrowded note why = is_congested note why ≡ true
 
 -- a call that is refused, or makes this of the names and tells peers of it, is told. The entries tell of sockets that may be others than
 -- those in the work, as where a port is closed behind its withdrawals.
-pub tells_told : (n n' : NodeState) (by : By) (note : EventNote) (r : Option Answer) (w : Work) (s : SocketTable) (told : List Message) (answered : Answer) (inside : List Entry) (frames : List Outgoing) → IsTold n
+pub tells_told : (n n' : NodeState) (by : By) (note : EventNote) (r : Option Answer) (w : Work) (s : SocketTable) (told : List Message) (answered : Answer) (inside : List Entry) (frames : List Outgoing) → IsTold n → is_tick note ≡ false
     → NodeTurn n n' [] (step_of by note inside (kept_answer answered)) frames → AreSockets n'.sockets → r ≡ refusal (addr_of_word n.own) n.journal note → AreRefusals (refusals (addr_of_word n.own) n.journal note)
     → ((reason : Answer) → IsFull note reason) → ((peer waiting : ℕ) → IsCrowded note (answer.NamesCongested peer waiting))
     → ((last : Work) → refusal (addr_of_word n.own) n.journal note ≡ None → TellsPeers n.own w told last frames → AreSockets w.sockets → IsInside last.inside → IsCall n by note answer.Done (work_of last.neighbours s last.inside) w.sockets)
     → Tells n n' by note r w told frames answered → IsTold n'
-tells_told n n' by note r w s told answered inside frames h t sound is refuse full congested done tells = by_reason r refl
+tells_told n n' by note r w s told answered inside frames h still t sound is refuse full congested done tells = by_reason r refl
   where
     own : Addr
     own = addr_of_word n.own
@@ -58,7 +59,7 @@ tells_told n n' by note r w s told answered inside frames h t sound is refuse fu
     by_crowd (Some why) none crowd =
         let step = tells.crowded why none crowd in
         let crowded = crowd_has (IsCrowded note) congested n.neighbours told why crowd in
-        refused_told n n' by note why (kept_answer answered) inside frames h t sound (ap (λ (x : NodeState). x.journal) step.0) (ap (λ (x : NodeState). x.sockets) step.0)
+        refused_told n n' by note why (kept_answer answered) inside frames h still t sound (ap (λ (x : NodeState). x.journal) step.0) (ap (λ (x : NodeState). x.sockets) step.0)
         (crowd_has IsRefusal (λ peer waiting. tt) n.neighbours told why crowd)
         (subst (IsAnswered own n.journal (step_of by note [] why)) (sym none ∙ is) (inl (crowded, refl))) (full why)
     by_crowd None none crowd =
@@ -71,6 +72,6 @@ tells_told n n' by note r w s told answered inside frames h t sound is refuse fu
     by_reason : (o : Option Answer) → r ≡ o → IsTold n'
     by_reason (Some reason) some =
         let step = tells.refused reason some in
-        refused_told n n' by note reason (kept_answer answered) inside frames h t sound (ap (λ (x : NodeState). x.journal) step.0) (ap (λ (x : NodeState). x.sockets) step.0)
+        refused_told n n' by note reason (kept_answer answered) inside frames h still t sound (ap (λ (x : NodeState). x.journal) step.0) (ap (λ (x : NodeState). x.sockets) step.0)
         (holding_refuses (refusals own n.journal note) reason refuse (sym is ∙ some)) (subst (IsAnswered own n.journal (step_of by note [] reason)) (sym some ∙ is) (refl, refl)) (full reason)
     by_reason None none = by_crowd (crowd_refusal n.neighbours told) none refl

@@ -8,13 +8,13 @@ use Rattle.tipc_types.specs.declared.node_calls.Answer.{Answer}
 use Rattle.tipc_types.specs.declared.node_calls.Answer.TheVariants as answer
 use Rattle.tipc_types.specs.declared.node_calls.By.{By}
 use Rattle.tipc_types.specs.declared.node_calls.EventNote.{EventNote}
-use Rattle.tipc_types.specs.declared.node_calls.EventNote.TheVariants.{Socket, Close, Publish, Withdraw, SendName, SendPort, Receive, Tick, Cut, Mend}
+use Rattle.tipc_types.specs.declared.node_calls.EventNote.TheVariants.{Socket, Close, Publish, Withdraw, SendName, SendPort, Receive, Subscribe, Cancel, NextEvent, Tick, Cut, Mend}
 use Rattle.tipc_types.specs.declared.services.Publication.{Publication}
 use Rattle.tipc_outside.specs.declared.outgoing.Outgoing.{Outgoing}
 use Rattle.tipc_outside.specs.Frames.{Adds, Out}
 use Rattle.tipc_journal.specs.declared.entries.Entry.{Entry}
 use Rattle.tipc_journal.specs.Dues.{comes_home}
-use Rattle.tipc_journal.specs.Licensed.{IsPickedOf}
+use Rattle.tipc_journal.specs.Licensed.{IsPickedOf, next_answer}
 use Rattle.tipc_journal.specs.Refusals.{longest_body}
 use Rattle.tipc_name_dist.specs.Items.{telling}
 use Rattle.tipc_link.specs.Sessions.{SessionEnd}
@@ -24,7 +24,7 @@ use Rattle.tipc_node.specs.declared.neighbours.Deed.{Deed}
 use Rattle.tipc_node.specs.declared.neighbours.Deed.TheVariants as deed
 use Rattle.tipc_node.specs.Messages.{destination_of, direct, limit_of, named}
 use Rattle.tipc_node.specs.Nodes.{NodeState, after_all, deed_note, entries_all, frames_all, mended_by, recorded, session_with, step_of, with_mended}
-use Rattle.tipc_node.specs.Sockets.{closed_work, crowd_refusal, first_answer, found_at, kept_answer, next_port, port_refusal, publication_refusal, published_work, received_work, socket_refusal, told_closing, told_withdrawal, waiting_at, with_sockets_of, withdrawal_refusal, withdrawn_work}
+use Rattle.tipc_node.specs.Sockets.{cancelled_work, closed_work, crowd_refusal, first_answer, first_event, found_at, kept_answer, next_number, next_port, next_work, number_refusal, passed_work, port_refusal, publication_refusal, published_work, received_work, socket_refusal, subscribed_work, subscription_refusal, timeouts_of, told_closing, told_withdrawal, waiting_at, with_sockets_of, withdrawal_refusal, withdrawn_work}
 use Rattle.tipc_node.specs.Sharing.{SharesNames}
 use Rattle.tipc_node.specs.Telling.{IsTold}
 use Rattle.tipc_node.specs.Turns.{NodeTurn}
@@ -111,6 +111,15 @@ abbrev pub TakesPart : NodeState → By → Deed → NodeState → List Outgoing
 TakesPart n by d n' frames answered = (n' ≡ concluded (with_mended n (mended_by d n.mended)) by (deed_note d) (deed_work d n) answer.Done)
     × (frames ≡ frames_all d n.neighbours) × (answered ≡ answer.Done)
 
+-- the work on a tick: it happens to all neighbours; then subscriptions time out, and it passes for the others
+abbrev pub tick_work : NodeState → Work
+tick_work n = passed_work (noted (deed_work deed.Tick n) (timeouts_of n.sockets))
+
+-- a tick passes
+abbrev pub Ticks : NodeState → By → NodeState → List Outgoing → Answer → Type 0
+Ticks n by n' frames answered =
+    (n' ≡ concluded n by Tick (tick_work n) answer.Done) × (frames ≡ frames_all deed.Tick n.neighbours) × (answered ≡ answer.Done)
+
 abbrev pub Performs : NodeState → By → EventNote → NodeState → List Outgoing → Answer → Type 0
 Performs n by Socket n' frames answered =
     Makes n by Socket (socket_refusal n.sockets) (with_sockets_of (begun n) (with_socket n.sockets (next_port n.sockets))) (answer.Socket (next_port n.sockets)) n' frames answered
@@ -125,12 +134,18 @@ Performs n by (SendName port kind instance importance body) n' frames answered =
 Performs n by (SendPort port to importance body) n' frames answered = Sends n n' by port to importance body frames answered
 Performs n by (Receive port) n' frames answered =
     Makes n by (Receive port) (port_refusal n.sockets port) (received_work n port) (first_answer (waiting_at n.sockets port)) n' frames answered
-Performs n by Tick n' frames answered = TakesPart n by deed.Tick n' frames answered
+Performs n by (Subscribe asked) n' frames answered =
+    Makes n by (Subscribe asked) (subscription_refusal n.sockets asked) (subscribed_work n asked) (answer.Subscribed (next_number n.sockets)) n' frames answered
+Performs n by (Cancel number) n' frames answered =
+    Makes n by (Cancel number) (number_refusal n.sockets number) (cancelled_work n number) answer.Done n' frames answered
+Performs n by (NextEvent number) n' frames answered =
+    Makes n by (NextEvent number) (number_refusal n.sockets number) (next_work n number) (next_answer (first_event n.sockets number)) n' frames answered
+Performs n by Tick n' frames answered = Ticks n by n' frames answered
 Performs n by (Cut bearer) n' frames answered = TakesPart n by deed.Cut n' frames answered
 Performs n by (Mend bearer) n' frames answered = TakesPart n by deed.Mend n' frames answered
 Performs n by other n' frames answered = ⊥
 
--- What a call needs of its arguments: what is mended or cut is bearer 0. The other calls aren't built yet, and an arrival isn't performed.
+-- What a call needs of its arguments: what is mended or cut is bearer 0. A multicast isn't built yet, and an arrival isn't performed.
 abbrev pub CanPerform : EventNote → Type 0
 CanPerform Socket = Unit {0}
 CanPerform (Close port) = Unit {0}
@@ -139,6 +154,9 @@ CanPerform (Withdraw port key) = Unit {0}
 CanPerform (SendName port kind instance importance body) = Unit {0}
 CanPerform (SendPort port to importance body) = Unit {0}
 CanPerform (Receive port) = Unit {0}
+CanPerform (Subscribe asked) = Unit {0}
+CanPerform (Cancel number) = Unit {0}
+CanPerform (NextEvent number) = Unit {0}
 CanPerform Tick = Unit {0}
 CanPerform (Cut bearer) = bearer ≡ 0
 CanPerform (Mend bearer) = bearer ≡ 0

@@ -1,22 +1,25 @@
--- What the calls on sockets and names make of a node, and why each is refused.
-use Rattle.std.specs.Prelude.{ℕ, ◌+◌, ◌||◌, Bool, true, nat_le, if◌then◌else◌, List, [], ◌∷◌, Option, Some, None, filter, find, length, map, option_map, option_to_list, slice_index_or, unwrap_or}
+-- What the calls on sockets, names and subscriptions make of a node, and why each is refused.
+use Rattle.std.specs.Prelude.{ℕ, ◌+◌, ◌||◌, Bool, true, nat_le, nat_lt, not, is_some, slice_get, if◌then◌else◌, List, [], ◌∷◌, Option, Some, None, filter, find, length, map, option_map, option_to_list, slice_index_or, unwrap_or}
 use Rattle.std.specs.List.{range_with_len}
 use Rattle.tipc_types.specs.Span.{Span}
 use Rattle.tipc_types.specs.declared.message_forms.Message.{Message}
 use Rattle.tipc_types.specs.declared.node_calls.Answer.{Answer}
 use Rattle.tipc_types.specs.declared.node_calls.Answer.TheVariants as answer
+use Rattle.tipc_types.specs.declared.node_calls.Event.{Event}
+use Rattle.tipc_types.specs.declared.node_calls.Subscription.{Subscription}
 use Rattle.tipc_types.specs.declared.services.Publication.{Publication}
 use Rattle.tipc_types.specs.declared.services.Scope.{Scope}
 use Rattle.tipc_journal.specs.declared.entries.Entry.{Entry}
-use Rattle.tipc_journal.specs.declared.entries.Entry.TheVariants.{Published, Withdrawn}
-use Rattle.tipc_journal.specs.Refusals.{most_publications, most_sockets, most_sockets_made}
+use Rattle.tipc_journal.specs.declared.entries.Entry.TheVariants.{Published, Withdrawn, Subscribed, Cancelled, TimedOut}
+use Rattle.tipc_journal.specs.Refusals.{most_publications, most_sockets, most_sockets_made, most_subscriptions, most_subscriptions_made}
 use Rattle.tipc_name_table.specs.Matching.{closest, covers}
 use Rattle.tipc_name_dist.specs.Items.{tellings}
 use Rattle.tipc_ports.specs.Numbers.{port_number}
+use Rattle.tipc_topology.specs.Changing.{due, events_left, is_filter, of_number, passed, taken_from as taken_one, with_kept}
 use Rattle.tipc_sockets.specs.declared.publishing.PublishFault.{PublishFault}
 use Rattle.tipc_sockets.specs.declared.publishing.PublishFault.TheVariants as fault
 use Rattle.tipc_sockets.specs.Publishing.{closed, is_at, own_publication, published_at, publish_refusal}
-use Rattle.tipc_sockets.specs.SocketTables.{has_port, queue_at, taken_from, with_queues, SocketTable}
+use Rattle.tipc_sockets.specs.SocketTables.{has_port, queue_at, taken_from, with_queues, with_watchers, SocketTable}
 use Rattle.tipc_node.specs.declared.neighbours.Neighbour.{Neighbour}
 use Rattle.tipc_node.specs.Nodes.{NodeState, session_with, waiting_in}
 use Rattle.tipc_node.specs.Works.{Work, begun, noted}
@@ -100,6 +103,47 @@ withdrawn_work n port key = noted (begun n) (withdrawn_entries (published_at n.s
 -- the publications that a name finds at the node, closest first
 abbrev pub found_at : NodeState → ℕ → ℕ → List Publication
 found_at n kind instance = closest n.own (filter (covers kind instance) n.sockets.names)
+
+-- ---- subscriptions
+
+-- why a subscription isn't made: its lower bound is above the upper, its filter is neither 1 nor 2, or as many are
+-- there, or were made in this boot, as may be
+abbrev pub subscription_refusal : SocketTable → Subscription → Option Answer
+subscription_refusal s asked =
+    if nat_lt asked.upper asked.lower then Some answer.BadRange
+    else (if not (is_filter asked) then Some answer.BadFilter
+    else (if nat_le most_subscriptions (length s.watchers.kept) || nat_le most_subscriptions_made s.watchers.made
+    then Some (answer.Full most_subscriptions) else None))
+
+-- no subscription of that number is there
+abbrev pub number_refusal : SocketTable → ℕ → Option Answer
+number_refusal s number = if is_some (of_number s.watchers number) then None else Some answer.Unknown
+
+abbrev pub next_number : SocketTable → ℕ
+next_number s = s.watchers.made + 1
+
+abbrev pub subscribed_work : NodeState → Subscription → Work
+subscribed_work n asked = noted (begun n) (Subscribed (next_number n.sockets) asked ∷ [])
+
+abbrev pub cancelled_work : NodeState → ℕ → Work
+cancelled_work n number = noted (begun n) (Cancelled number ∷ [])
+
+-- the first event of a subscription that wasn't taken yet, and the work where it is taken
+abbrev pub first_event : SocketTable → ℕ → Option Event
+first_event s number = slice_get (events_left (of_number s.watchers number)) 0
+
+abbrev pub next_work : NodeState → ℕ → Work
+next_work n number =
+    with_sockets_of (begun n)
+    (with_watchers n.sockets (with_kept n.sockets.watchers (taken_one number n.sockets.watchers.kept)))
+
+-- the subscriptions that time out in the next tick, rising
+abbrev pub timeouts_of : SocketTable → List Entry
+timeouts_of s = map TimedOut (due s.watchers.kept)
+
+-- the work where a tick passes for the subscriptions that last
+abbrev pub passed_work : Work → Work
+passed_work w = with_sockets_of w (with_watchers w.sockets (passed w.sockets.watchers))
 
 -- ---- what peers are told of names
 

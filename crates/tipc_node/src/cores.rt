@@ -6,11 +6,11 @@ ghost use Rattle.tipc_outside.specs.Frames.{Adds};
 ghost use Rattle.tipc_outside.specs.declared.outgoing.Outgoing.{Outgoing};
 ghost use Rattle.tipc_journal.specs.Counting.{is_sent_by_name};
 ghost use Rattle.tipc_sockets.specs.SocketTables.{AreSockets, no_sockets};
-ghost use Rattle.tipc_node.specs.Calls.{CanPerform, IsPickedFrom, Performs, TakesPart};
+ghost use Rattle.tipc_node.specs.Calls.{CanPerform, IsPickedFrom, Performs, TakesPart, Ticks};
 ghost use Rattle.tipc_node.specs.Nodes.{has_room, known_frames, known_node, load_of, neighbour_of, recorded};
 
 use crate::neighbours::{Deed, NUMBERS, Neighbour, deed_note, load_all, mended_by, take_part_all};
-use crate::recording::{NodeFault, has_room, record};
+use crate::recording::{NodeFault, has_room, note_timeouts, record};
 use crate::settling::purge_ended;
 use std::alloc::Global;
 use std::marker::Model;
@@ -245,14 +245,13 @@ impl Core {
             } => self.send_name(
                 alloc, by, port, kind, instance, importance, body, chooser, out,
             ),
-            EventNote::Tick => self.take_part(alloc, by, Deed::Tick, out),
+            EventNote::Subscribe { subscription } => self.subscribe(alloc, by, subscription),
+            EventNote::Cancel { number } => self.cancel(alloc, by, number),
+            EventNote::NextEvent { number } => self.next_event(alloc, by, number),
+            EventNote::Tick => self.tick(alloc, by, out),
             EventNote::Cut { .. } => self.take_part(alloc, by, Deed::Cut, out),
             EventNote::Mend { .. } => self.take_part(alloc, by, Deed::Mend, out),
-            EventNote::Multicast { .. }
-            | EventNote::Subscribe { .. }
-            | EventNote::Cancel { .. }
-            | EventNote::NextEvent { .. }
-            | EventNote::Arrive { .. } => unreachable!(),
+            EventNote::Multicast { .. } | EventNote::Arrive { .. } => unreachable!(),
         }
     }
 
@@ -274,8 +273,8 @@ impl Core {
         Ok(why)
     }
 
-    /// Lets something happen to all neighbours: the bearer is mended or cut, or a tick passes. The names of each peer with
-    /// which the contact ends by it are forgotten.
+    /// Lets something happen to all neighbours: the bearer is mended or cut. The names of each peer with which the
+    /// contact ends by it are forgotten.
     fn take_part(
         &mut self,
         alloc: Global,
@@ -294,6 +293,26 @@ impl Core {
         purge_ended(&mut self.sockets, inside.as_slice());
         self.mended = mended_by(deed, self.mended);
         record(&mut self.journal, by, deed_note(deed), inside, Answer::Done);
+        Ok(Answer::Done)
+    }
+
+    /// Lets a tick pass: for all neighbours first, where the names of each peer with which the contact ends by it are
+    /// forgotten; then subscriptions time out, rising, and it passes for the others.
+    fn tick(&mut self, alloc: Global, by: By, out: &mut Outbox) -> Result<Answer, NoMemory>
+        requires room { has_room self.old.journal ≡ true }
+        ensures ok { IfOk result (λ a. (frames : List Outgoing) × Ticks self.old by self.new frames a ×
+            Adds out.old out.new frames) }
+        ensures err { OnErr result ((self.new ≡ self.old) × (out.new ≡ out.old)) }
+    {
+        let due = self.sockets.due(alloc)?;
+        let count = due.as_slice().len() as u64;
+        self.journal.reserve(MOST_CHANGES + count + 2)?;
+        let mut inside = Vec::with_capacity(alloc, (MOST_CHANGES + count) as usize)?;
+        take_part_all(&mut self.neighbours, alloc, Deed::Tick, &mut inside, out);
+        purge_ended(&mut self.sockets, inside.as_slice());
+        self.sockets.pass();
+        note_timeouts(&mut inside, due.as_slice());
+        record(&mut self.journal, by, EventNote::Tick, inside, Answer::Done);
         Ok(Answer::Done)
     }
 }

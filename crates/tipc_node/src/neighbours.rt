@@ -192,6 +192,7 @@ pub fn take_part_all(
     ensures after { neighbours.new.items ≡ after_all deed neighbours.old.items }
     ensures entries { inside.new.items ≡ entries_all deed 0 neighbours.old.items }
     ensures frames { Adds out.old out.new (frames_all deed neighbours.old.items) }
+    ensures room { vec_capacity inside.old ≤ vec_capacity inside.new }
 {
     for number in 1..NUMBERS {
         take_part_at(

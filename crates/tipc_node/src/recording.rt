@@ -1,6 +1,7 @@
 //! How a step is recorded in the journal, and when the journal has room for it.
 
-ghost use Rattle.std.specs.Prelude.{◌≡◌, ◌+◌, ◌-◌, ◌≤◌, ◌++◌, true, false, length, OnOk, Err, sum_by, None, Some, vec_len, vec_capacity};
+ghost use Rattle.std.specs.Prelude.{◌≡◌, ◌+◌, ◌-◌, ◌≤◌, ◌++◌, true, false, length, map, OnOk, Err, sum_by, None, Some, vec_len, vec_capacity};
+ghost use Rattle.tipc_journal.specs.declared.entries.Entry.TheVariants.{TimedOut};
 ghost use Rattle.tipc_journal.specs.Room.{entry_bytes};
 ghost use Rattle.tipc_journal.specs.Steps.{step_entries};
 ghost use Rattle.tipc_node.specs.Limits.{free_entries, free_message_bytes};
@@ -100,6 +101,16 @@ pub fn record(journal: &mut Journal, by: By, event: EventNote, inside: Vec<Entry
         call: by.call,
         answer,
     });
+}
+
+/// Tells that the subscriptions of these numbers timed out, in a list that has room.
+pub fn note_timeouts(inside: &mut Vec<Entry>, numbers: &[u32])
+    requires room { length inside.old.items + length numbers.now ≤ vec_capacity inside.old }
+    ensures entries { inside.new.items ≡ inside.old.items ++ map TimedOut numbers.now }
+{
+    for number in numbers {
+        inside.push_reserved(Entry::TimedOut { number: *number });
+    }
 }
 
 /// Tells what became of the link to a peer and of the contact with it, in a list that has room.

@@ -1,10 +1,11 @@
-//! The calls on sockets and names.
+//! The calls on sockets, names and subscriptions.
 
 ghost use Rattle.std.specs.Prelude.{◌≡◌, ◌∷◌, List, [], true, map, slice_get, IfOk, OnErr};
 ghost use Rattle.tipc_types.specs.declared.message_forms.Message.{Message};
 ghost use Rattle.tipc_outside.specs.Frames.{Adds};
 ghost use Rattle.tipc_outside.specs.declared.outgoing.Outgoing.{Outgoing};
 ghost use Rattle.tipc_journal.specs.declared.entries.Entry.TheVariants.{Withdrawn};
+ghost use Rattle.tipc_journal.specs.Licensed.{next_answer};
 ghost use Rattle.tipc_sockets.specs.Publishing.{own_publication};
 ghost use Rattle.tipc_node.specs.Calls.{Performs};
 ghost use Rattle.tipc_node.specs.Nodes.{has_room};
@@ -20,8 +21,10 @@ use tipc_name_table::MOST_PUBLICATIONS;
 use tipc_outside::Outbox;
 use tipc_ports::{MOST_PORTS, PortFault};
 use tipc_sockets::PublishFault;
+use tipc_topology::{MOST_SUBSCRIPTIONS, TopologyFault};
 use tipc_types::{
-    Answer, By, EventNote, Message, NoMemory, PortId, Publication, Scope, ServiceRange,
+    Answer, By, Event, EventNote, Message, NoMemory, PortId, Publication, Scope, ServiceRange,
+    Subscription,
 };
 
 /// What the journal keeps of the first message at a port, and what a receive answers.
@@ -46,6 +49,16 @@ fn withdrawals(alloc: Global, publications: &[Publication]) -> Result<Vec<Entry>
         .map(|publication| Entry::Withdrawn { publication })
         .collect(alloc)?;
     Ok(inside)
+}
+
+/// What a call for the next event answers, where this one is next.
+fn event_answer(first: &Option<Event>) -> Answer
+    ensures { result ≡ next_answer first.now }
+{
+    match first {
+        Some(event) => Answer::Next(*event),
+        None => Answer::NoEvent,
+    }
 }
 
 /// One entry, as a list.
@@ -270,5 +283,83 @@ impl Core {
         let (kept, answer) = first_answers(first);
         record(&mut self.journal, by, note, Vec::new(alloc), kept);
         Ok(answer)
+    }
+
+    /// Makes a subscription, and answers its number: BadRange exactly where its lower bound is above the upper, else
+    /// BadFilter exactly where its filter is neither 1 nor 2, else Full exactly where 256 are there, or 4,294,967,295
+    /// were made in this boot.
+    pub(crate) fn subscribe(
+        &mut self,
+        alloc: Global,
+        by: By,
+        subscription: Subscription,
+    ) -> Result<Answer, NoMemory>
+        requires room { has_room self.old.journal ≡ true }
+        ensures ok { IfOk result (Performs self.old by (EventNote.Subscribe subscription) self.new []) }
+        ensures err { OnErr result (self.new ≡ self.old) }
+    {
+        let note = EventNote::Subscribe { subscription };
+        self.journal.reserve(3)?;
+        let mut inside = Vec::with_capacity(alloc, 1)?;
+        match self.sockets.subscribe(alloc, subscription) {
+            Ok(number) => {
+                inside.push_reserved(Entry::Subscribed {
+                    number,
+                    subscription,
+                });
+                record(
+                    &mut self.journal,
+                    by,
+                    note,
+                    inside,
+                    Answer::Subscribed(number),
+                );
+                Ok(Answer::Subscribed(number))
+            }
+            Err(TopologyFault::BadRange) => self.refuse(alloc, by, note, Answer::BadRange),
+            Err(TopologyFault::BadFilter) => self.refuse(alloc, by, note, Answer::BadFilter),
+            Err(TopologyFault::Full) => {
+                self.refuse(alloc, by, note, Answer::Full(MOST_SUBSCRIPTIONS as u32))
+            }
+            Err(TopologyFault::NoMemory) => Err(NoMemory),
+        }
+    }
+
+    /// Cancels a subscription: Unknown exactly where none of that number is there.
+    pub(crate) fn cancel(&mut self, alloc: Global, by: By, number: u32) -> Result<Answer, NoMemory>
+        requires room { has_room self.old.journal ≡ true }
+        ensures ok { IfOk result (Performs self.old by (EventNote.Cancel number) self.new []) }
+        ensures err { OnErr result (self.new ≡ self.old) }
+    {
+        let note = EventNote::Cancel { number };
+        self.journal.reserve(3)?;
+        let inside = alone(alloc, Entry::Cancelled { number })?;
+        let Ok(()) = self.sockets.cancel(number) else {
+            return self.refuse(alloc, by, note, Answer::Unknown);
+        };
+        record(&mut self.journal, by, note, inside, Answer::Done);
+        Ok(Answer::Done)
+    }
+
+    /// Takes the first event of a subscription that wasn't taken yet: Unknown exactly where none of that number is
+    /// there, NoEvent exactly where each event was taken.
+    pub(crate) fn next_event(
+        &mut self,
+        alloc: Global,
+        by: By,
+        number: u32,
+    ) -> Result<Answer, NoMemory>
+        requires room { has_room self.old.journal ≡ true }
+        ensures ok { IfOk result (Performs self.old by (EventNote.NextEvent number) self.new []) }
+        ensures err { OnErr result (self.new ≡ self.old) }
+    {
+        let note = EventNote::NextEvent { number };
+        self.journal.reserve(2)?;
+        let Ok(first) = self.sockets.next_event(number) else {
+            return self.refuse(alloc, by, note, Answer::Unknown);
+        };
+        let kept = event_answer(&first);
+        record(&mut self.journal, by, note, Vec::new(alloc), kept);
+        Ok(event_answer(&first))
     }
 }

@@ -2,7 +2,7 @@
 use Rattle.std.proofs.Common.{◌≡◌, ℕ, true, List, [], ◌∷◌, refl, arith}
 use Rattle.std.specs.Fmt.{decimal}
 use Rattle.tipc_script.specs.declared.lines.Line.{Line}
-use Rattle.tipc_script.specs.declared.lines.Line.TheVariants.{Nothing, Node, Mend, Cut, Tick, Restart, Link, Mark, Socket, Close, Publish, Withdraw, Send, Repeat, Arrive, Receive, Drain, Pump, Burst, Settle, Air, Show, Links, Table, Flow}
+use Rattle.tipc_script.specs.declared.lines.Line.TheVariants.{Nothing, Node, Mend, Cut, Tick, Restart, Link, Mark, Socket, Close, Publish, Withdraw, Subscribe, Event, Cancel, Send, Repeat, Arrive, Receive, Drain, Pump, Burst, Settle, Air, Show, Links, Table, Flow}
 use Rattle.tipc_script.specs.Kinds.{is_remark}
 use Rattle.tipc_script.specs.Grammar.{row_of, asked, node_row, mend_row, cut_row, tick_row, restart_row, link_row, mark_row, socket_row, arrive_row, receive_row, drain_row, pump_row, settle_row, air_row, show_row, links_row, table_row, flow_row}
 use Rattle.tipc_script.specs.Spelling.{Asks}
@@ -11,6 +11,7 @@ use Rattle.tipc_script.proofs.Numerals.{is_number-decimal, number_of-decimal}
 use Rattle.tipc_script.proofs.Spaces.{no_space-decimal}
 use Rattle.tipc_script.proofs.Acceptance.{IsAccepted, spelled}
 use Rattle.tipc_script.proofs.AcceptedSends.{burst_accepted, close_accepted, publish_accepted, repeat_accepted, send_accepted, withdraw_accepted}
+use Rattle.tipc_script.proofs.AcceptedSubscriptions.{cancel_accepted, event_accepted, subscribe_accepted}
 
 node_accepted : (text : List ℕ) (n : ℕ) → Asks text (Node n) → IsAccepted text (Node n)
 unfolding row_of row_fault first_fault end_fault
@@ -172,6 +173,9 @@ asks_accepted text (Socket n) h = socket_accepted text n h
 asks_accepted text (Close n p) h = close_accepted text n p h
 asks_accepted text (Publish n p kind lower upper scope key) h = publish_accepted text n p kind lower upper key scope h
 asks_accepted text (Withdraw n p key) h = withdraw_accepted text n p key h
+asks_accepted text (Subscribe n kind lower upper timeout filter) h = subscribe_accepted text n kind lower upper timeout filter h
+asks_accepted text (Event n s) h = event_accepted text n s h
+asks_accepted text (Cancel n s) h = cancel_accepted text n s h
 asks_accepted text (Send n p to importance body) h = send_accepted text n p to importance body h
 asks_accepted text (Repeat c n p to importance body) h = repeat_accepted text c n p to importance body h
 asks_accepted text (Arrive n x k) h = arrive_accepted text n x k h

@@ -6,12 +6,13 @@ use Rattle.std.proofs.lemmas.Bool.{cases_Bool}
 use Rattle.std.proofs.lemmas.List.Splits.{join_with_byte-slice_split, length-slice_split}
 use Rattle.tipc_script.specs.Splitting.{whole, first_token, behind, is_space, tokens_of}
 use Rattle.tipc_script.specs.Kinds.{is_remark}
-use Rattle.tipc_script.specs.Grammar.{Row, rows, frame_rows, service_rows, traffic_rows, row_of, asked, asked_by, first_number, node_row, mend_row, cut_row, tick_row, restart_row, link_row, mark_row, socket_row, arrive_row, receive_row, drain_row, pump_row, settle_row, air_row, show_row, links_row, table_row, flow_row}
+use Rattle.tipc_script.specs.Grammar.{Row, rows, frame_rows, service_rows, subscription_rows, traffic_rows, row_of, asked, asked_by, first_number, node_row, mend_row, cut_row, tick_row, restart_row, link_row, mark_row, socket_row, arrive_row, receive_row, drain_row, pump_row, settle_row, air_row, show_row, links_row, table_row, flow_row}
 use Rattle.tipc_script.specs.Spelling.{Asks, spaced}
 use Rattle.tipc_script.specs.Faults.{row_fault, fault_of, fault_by}
 use Rattle.tipc_script.proofs.Reading.{OfRows, are_taken, row_found}
 use Rattle.tipc_script.proofs.Spelled.{IsFound, number_taken, respelled}
 use Rattle.tipc_script.proofs.FoundSends.{burst_found, close_found, publish_found, repeat_found, send_found, withdraw_found}
+use Rattle.tipc_script.proofs.FoundSubscriptions.{cancel_found, event_found, subscribe_found}
 
 node_found : IsFound node_row
 node_found text left e h =
@@ -148,8 +149,11 @@ frames_found = (arrive_found, (pump_found, (settle_found, (air_found, (show_foun
 traffic_found : OfRows IsFound traffic_rows
 traffic_found = (send_found, (repeat_found, (receive_found, (drain_found, (burst_found, frames_found)))))
 
+subscriptions_found : OfRows IsFound subscription_rows
+subscriptions_found = (subscribe_found, (event_found, (cancel_found, traffic_found)))
+
 services_found : OfRows IsFound service_rows
-services_found = (socket_found, (close_found, (publish_found, (withdraw_found, traffic_found))))
+services_found = (socket_found, (close_found, (publish_found, (withdraw_found, subscriptions_found))))
 
 all_found : OfRows IsFound rows
 all_found = (node_found, (mend_found, (cut_found, (tick_found, (restart_found, (link_found, (mark_found, services_found)))))))

@@ -8,7 +8,9 @@ pub mod Importances
 pub mod Reading
 pub mod Spaces
 pub mod FoundSends
+pub mod FoundSubscriptions
 pub mod AcceptedSends
+pub mod AcceptedSubscriptions
 pub mod Acceptance
 pub mod Scopes
 pub mod Spelled

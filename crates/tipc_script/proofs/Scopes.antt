@@ -1,4 +1,4 @@
--- Words of scope.
+-- Words of scope and of filters.
 use Rattle.std.proofs.Common.{◌≡◌, true, false, List, ℕ, refl, inl, inr}
 use Rattle.std.specs.Prelude.{codes}
 use Rattle.std.specs.Str.{bytes_eq}
@@ -6,8 +6,10 @@ use Rattle.std.proofs.lemmas.Bool.{cases_Bool}
 use Rattle.std.proofs.lemmas.Slice.Eq.{bytes_eq-Decides}
 use Rattle.tipc_types.specs.declared.services.Scope.{Scope}
 use Rattle.tipc_types.specs.declared.services.Scope.TheVariants.{Zone, Cluster, Node}
-use Rattle.tipc_script.specs.Kinds.{is_scope, scope_in, scope_of}
-use Rattle.tipc_script.specs.Spelling.{scope_word}
+use Rattle.tipc_script.specs.declared.lines.Filter.{Filter}
+use Rattle.tipc_script.specs.declared.lines.Filter.TheVariants.{Ports, Service}
+use Rattle.tipc_script.specs.Kinds.{filter_in, filter_of, is_filter, is_scope, scope_in, scope_of}
+use Rattle.tipc_script.specs.Spelling.{filter_word, scope_word}
 use Rattle.tipc_script.proofs.Spaces.{has_no_space}
 
 is_the_word : (token word : List ℕ) → bytes_eq token word ≡ true → token ≡ word
@@ -46,3 +48,30 @@ pub no_space-scope : (scope : Scope) → has_no_space (scope_word scope) ≡ tru
 no_space-scope Zone = refl
 no_space-scope Cluster = refl
 no_space-scope Node = refl
+
+-- a word of a filter is that of the filter that it stands for
+pub filter_spelled : (token : List ℕ) → is_filter token ≡ true → token ≡ filter_word (filter_of token)
+unfolding filter_in
+filter_spelled token e =
+    elim (cases_Bool (bytes_eq token (codes "ports"))) [
+      | inl ports ↦ rw ports (is_the_word token (codes "ports") ports)
+      | inr not_ports ↦
+          elim (cases_Bool (bytes_eq token (codes "service"))) [
+            | inl service ↦ rw (not_ports, service) (is_the_word token (codes "service") service)
+            | inr not_service ↦ absurd (let f : is_filter token ≡ false = rw (not_ports, not_service) refl in cc)
+          ]
+    ]
+
+pub is_filter-word : (filter : Filter) → is_filter (filter_word filter) ≡ true
+unfolding filter_in
+is_filter-word Ports = refl
+is_filter-word Service = refl
+
+pub filter_of-word : (filter : Filter) → filter_of (filter_word filter) ≡ filter
+unfolding filter_in
+filter_of-word Ports = refl
+filter_of-word Service = refl
+
+pub no_space-filter : (filter : Filter) → has_no_space (filter_word filter) ≡ true
+no_space-filter Ports = refl
+no_space-filter Service = refl

@@ -5,13 +5,13 @@ use Rattle.std.specs.Str.{bytes_eq}
 use Rattle.std.specs.Fmt.{decimal}
 use Rattle.std.proofs.lemmas.Slice.Eq.{bytes_eq-Decides}
 use Rattle.tipc_script.specs.Splitting.{Left, first_token, behind}
-use Rattle.tipc_script.specs.Kinds.{body_of, importance_of, is_body, is_form, is_importance, is_name, is_number, is_scope, scope_of}
+use Rattle.tipc_script.specs.Kinds.{body_of, filter_of, importance_of, is_body, is_filter, is_form, is_importance, is_name, is_number, is_scope, scope_of}
 use Rattle.tipc_script.specs.Grammar.{Row, first_number}
-use Rattle.tipc_script.specs.Spelling.{Asks, IsBody, body_word, importance_word, node_number, port_at, scope_word, spaced}
+use Rattle.tipc_script.specs.Spelling.{Asks, IsBody, body_word, filter_word, importance_word, node_number, port_at, scope_word, spaced}
 use Rattle.tipc_script.proofs.Numerals.{is_number_parts}
 use Rattle.tipc_script.proofs.Bodies.{is_body_parts}
 use Rattle.tipc_script.proofs.Importances.{importance_spelled}
-use Rattle.tipc_script.proofs.Scopes.{scope_spelled}
+use Rattle.tipc_script.proofs.Scopes.{filter_spelled, scope_spelled}
 use Rattle.tipc_script.proofs.Reading.{IsTaken, AreTaken}
 
 -- behind the row's word, no fault means that the line asks for what the row says
@@ -57,9 +57,12 @@ body_taken left h =
 pub node_number_at : (node port : ℕ) → node_number (port_at node port) ≡ node
 node_number_at node port = omega arith
 
--- a token that is an importance, and one that is a scope, as they are spelled
+-- a token that is an importance, a scope or a filter, as it is spelled
 pub importance_taken : (left : Left) → IsTaken is_importance left → left.tokens ≡ importance_word (importance_of (first_token left)) ∷ (behind left).tokens
 importance_taken left h = h.there ∙ ap (λ t. t ∷ (behind left).tokens) (importance_spelled (first_token left) h.passes)
 
 pub scope_taken : (left : Left) → IsTaken is_scope left → left.tokens ≡ scope_word (scope_of (first_token left)) ∷ (behind left).tokens
 scope_taken left h = h.there ∙ ap (λ t. t ∷ (behind left).tokens) (scope_spelled (first_token left) h.passes)
+
+pub filter_taken : (left : Left) → IsTaken is_filter left → left.tokens ≡ filter_word (filter_of (first_token left)) ∷ (behind left).tokens
+filter_taken left h = h.there ∙ ap (λ t. t ∷ (behind left).tokens) (filter_spelled (first_token left) h.passes)

@@ -1,5 +1,5 @@
 -- The first fault of a line from the left: its byte place from 1, and why.
-use Rattle.std.specs.Prelude.{◌≡◌, ℕ, Bool, true, if◌then◌else◌, List, [], ◌∷◌, Option, Some, None, Result, Ok, Err}
+use Rattle.std.specs.Prelude.{◌≡◌, ℕ, Bool, true, if◌then◌else◌, List, [], ◌∷◌, Option, Some, None, Result, Ok, Err, IfOk}
 use Rattle.std.specs.Option.{option_or}
 use Rattle.tipc_script.specs.declared.faults.LineWhy.{LineWhy}
 use Rattle.tipc_script.specs.declared.faults.LineWhy.TheVariants as why
@@ -8,8 +8,8 @@ use Rattle.tipc_script.specs.declared.faults.LineFault.TheVariants as faults
 use Rattle.tipc_script.specs.declared.lines.Line.{Line}
 use Rattle.tipc_script.specs.declared.lines.Command.{Command}
 use Rattle.tipc_script.specs.Splitting.{Left, whole, first_token, behind}
-use Rattle.tipc_script.specs.Kinds.{Kind, NewNode, OldNode, AnyNode, BearerNumber, AnyNumber, FrameNumber, RoundsNumber, TimesNumber, SendWord, FormWord, ScopeWord, ImportanceWord, BodyText, takes, is_remark}
-use Rattle.tipc_script.specs.Grammar.{Row, row_of}
+use Rattle.tipc_script.specs.Kinds.{Kind, NewNode, OldNode, AnyNode, BearerNumber, AnyNumber, FrameNumber, RoundsNumber, TimesNumber, SendWord, FormWord, ScopeWord, FilterWord, ImportanceWord, BodyText, takes, is_remark}
+use Rattle.tipc_script.specs.Grammar.{Row, row_nodes, row_of}
 
 abbrev pub Fault : Type 0
 Fault = ℕ × LineWhy
@@ -27,6 +27,7 @@ why_not TimesNumber = why.Number
 why_not SendWord = why.Command
 why_not FormWord = why.Word
 why_not ScopeWord = why.Word
+why_not FilterWord = why.Word
 why_not ImportanceWord = why.Word
 why_not BodyText = why.Body
 
@@ -78,3 +79,9 @@ abbrev pub Reads : Result Command LineFault → Line → Type 0
 Reads (Ok command) wanted = command.line ≡ wanted
 Reads (Err (faults.BadLine place reason)) wanted = ⊥
 Reads (Err faults.NoMemory) wanted = Unit {0}
+
+-- The answer is what the tokens behind the first word of a row ask for: their line and the nodes of which it asks something; or it tells
+-- their first fault.
+abbrev pub IsRead : Row → Left → Result Command LineFault → Type 0
+IsRead row left result =
+    Tells result (row_fault row left) × IfOk result (λ c. (c.line ≡ row.asks left) × (c.nodes ≡ row_nodes row left))

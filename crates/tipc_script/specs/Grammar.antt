@@ -8,7 +8,7 @@ use Rattle.tipc_script.specs.declared.lines.Line.{Line}
 use Rattle.tipc_script.specs.declared.lines.Line.TheVariants as line
 use Rattle.tipc_script.specs.declared.lines.NodeToken.{NodeToken}
 use Rattle.tipc_script.specs.Splitting.{Left, whole, first_token, behind}
-use Rattle.tipc_script.specs.Kinds.{Kind, NewNode, OldNode, AnyNode, BearerNumber, AnyNumber, FrameNumber, RoundsNumber, TimesNumber, SendWord, FormWord, ScopeWord, ImportanceWord, BodyText, body_of, importance_of, is_name, is_remark, number_of, scope_of}
+use Rattle.tipc_script.specs.Kinds.{Kind, NewNode, OldNode, AnyNode, BearerNumber, AnyNumber, FrameNumber, RoundsNumber, TimesNumber, SendWord, FormWord, ScopeWord, FilterWord, ImportanceWord, BodyText, body_of, filter_of, importance_of, is_name, is_remark, number_of, scope_of}
 use Rattle.tipc_script.specs.Spelling.{port_at}
 
 -- A row. What is left behind the first word tells which form the line has, and so of which kinds its tokens have to be.
@@ -67,6 +67,21 @@ withdraw_row = record {
   kinds = λ left. OldNode ∷ AnyNumber ∷ AnyNumber ∷ [];
   asks = λ node. let port = behind node in let key = behind port in line.Withdraw (first_number node) (first_number port) (first_number key);
 }
+
+abbrev pub subscribe_row : Row
+subscribe_row = record {
+  word = codes "subscribe";
+  kinds = λ left. OldNode ∷ AnyNumber ∷ AnyNumber ∷ AnyNumber ∷ AnyNumber ∷ FilterWord ∷ [];
+  asks = λ node.
+      let kind = behind node in let lower = behind kind in let upper = behind lower in let timeout = behind upper in let filter = behind timeout in
+      line.Subscribe (first_number node) (first_number kind) (first_number lower) (first_number upper) (first_number timeout) (filter_of (first_token filter));
+}
+
+abbrev pub event_row : Row
+event_row = record { word = codes "event"; kinds = λ left. OldNode ∷ AnyNumber ∷ []; asks = λ node. line.Event (first_number node) (first_number (behind node)) }
+
+abbrev pub cancel_row : Row
+cancel_row = record { word = codes "cancel"; kinds = λ left. OldNode ∷ AnyNumber ∷ []; asks = λ node. line.Cancel (first_number node) (first_number (behind node)) }
 
 -- a line that sends, from its first number on, names a service: else it names a port
 abbrev pub is_by_name : Left → Bool
@@ -159,9 +174,13 @@ frame_rows = arrive_row ∷ pump_row ∷ settle_row ∷ air_row ∷ show_row ∷
 abbrev pub traffic_rows : List Row
 traffic_rows = send_row ∷ repeat_row ∷ receive_row ∷ drain_row ∷ burst_row ∷ frame_rows
 
+-- the rows of lines about subscriptions and all of these
+abbrev pub subscription_rows : List Row
+subscription_rows = subscribe_row ∷ event_row ∷ cancel_row ∷ traffic_rows
+
 -- the rows of lines about sockets, services and all of these
 abbrev pub service_rows : List Row
-service_rows = socket_row ∷ close_row ∷ publish_row ∷ withdraw_row ∷ traffic_rows
+service_rows = socket_row ∷ close_row ∷ publish_row ∷ withdraw_row ∷ subscription_rows
 
 abbrev pub rows : List Row
 rows = node_row ∷ mend_row ∷ cut_row ∷ tick_row ∷ restart_row ∷ link_row ∷ mark_row ∷ service_rows
@@ -195,6 +214,7 @@ node_in TimesNumber left = []
 node_in SendWord left = []
 node_in FormWord left = []
 node_in ScopeWord left = []
+node_in FilterWord left = []
 node_in ImportanceWord left = []
 node_in BodyText left = []
 

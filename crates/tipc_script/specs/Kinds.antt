@@ -8,6 +8,8 @@ use Rattle.tipc_types.specs.declared.message_forms.Importance.{Importance}
 use Rattle.tipc_types.specs.declared.message_forms.Importance.TheVariants.{Low, Medium, High, Critical}
 use Rattle.tipc_types.specs.declared.services.Scope.{Scope}
 use Rattle.tipc_types.specs.declared.services.Scope.TheVariants as scope
+use Rattle.tipc_script.specs.declared.lines.Filter.{Filter}
+use Rattle.tipc_script.specs.declared.lines.Filter.TheVariants as filter
 
 -- what a token may have to be
 pub data Kind : Type 0 where
@@ -15,13 +17,14 @@ pub data Kind : Type 0 where
   OldNode : Kind  -- the number of a node that is there
   AnyNode : Kind  -- the number of a node of which nothing is asked
   BearerNumber : Kind
-  AnyNumber : Kind  -- a number below 2 ^ 32: a port, a service type, an instance or a key
+  AnyNumber : Kind  -- a number below 2 ^ 32: a port, a service type, an instance, a key, a timeout or a subscription
   FrameNumber : Kind
   RoundsNumber : Kind
   TimesNumber : Kind
   SendWord : Kind
   FormWord : Kind
   ScopeWord : Kind
+  FilterWord : Kind
   ImportanceWord : Kind
   BodyText : Kind
 
@@ -84,6 +87,17 @@ is_scope token = is_some (scope_in token)
 abbrev pub scope_of : List ℕ → Scope
 scope_of token = unwrap_or (scope_in token) scope.Zone
 
+-- the filter that a token is
+unfoldable pub filter_in : List ℕ → Option Filter
+filter_in token = if bytes_eq token (codes "ports") then Some filter.Ports else (if bytes_eq token (codes "service") then Some filter.Service else None)
+
+abbrev pub is_filter : List ℕ → Bool
+is_filter token = is_some (filter_in token)
+
+-- the filter that a token stands for
+abbrev pub filter_of : List ℕ → Filter
+filter_of token = unwrap_or (filter_in token) filter.Ports
+
 -- how a message finds its destination: by a service's name, or by a port
 abbrev pub is_name : List ℕ → Bool
 is_name token = bytes_eq token (codes "name")
@@ -104,6 +118,7 @@ takes TimesNumber token = is_number 1 1000000 token
 takes SendWord token = bytes_eq token (codes "send")
 takes FormWord token = is_form token
 takes ScopeWord token = is_scope token
+takes FilterWord token = is_filter token
 takes ImportanceWord token = is_importance token
 takes BodyText token = is_body token
 

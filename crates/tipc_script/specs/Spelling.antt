@@ -10,8 +10,10 @@ use Rattle.tipc_types.specs.declared.services.Scope.{Scope}
 use Rattle.tipc_types.specs.declared.services.Scope.TheVariants as scope
 use Rattle.tipc_script.specs.declared.lines.Destination.{Destination}
 use Rattle.tipc_script.specs.declared.lines.Destination.TheVariants as destination
+use Rattle.tipc_script.specs.declared.lines.Filter.{Filter}
+use Rattle.tipc_script.specs.declared.lines.Filter.TheVariants as filter
 use Rattle.tipc_script.specs.declared.lines.Line.{Line}
-use Rattle.tipc_script.specs.declared.lines.Line.TheVariants.{Nothing, Node, Mend, Cut, Tick, Restart, Link, Mark, Socket, Close, Publish, Withdraw, Send, Repeat, Arrive, Receive, Drain, Pump, Burst, Settle, Air, Show, Links, Table, Flow}
+use Rattle.tipc_script.specs.declared.lines.Line.TheVariants.{Nothing, Node, Mend, Cut, Tick, Restart, Link, Mark, Socket, Close, Publish, Withdraw, Subscribe, Event, Cancel, Send, Repeat, Arrive, Receive, Drain, Pump, Burst, Settle, Air, Show, Links, Table, Flow}
 use Rattle.tipc_script.specs.Kinds.{is_remark, is_visible, pattern}
 
 -- words with single spaces between them
@@ -28,6 +30,10 @@ abbrev pub scope_word : Scope → List ℕ
 scope_word scope.Zone = codes "zone"
 scope_word scope.Cluster = codes "cluster"
 scope_word scope.Node = codes "node"
+
+abbrev pub filter_word : Filter → List ℕ
+filter_word filter.Ports = codes "ports"
+filter_word filter.Service = codes "service"
 
 -- a port of a node
 abbrev pub port_at : ℕ → ℕ → PortId
@@ -67,6 +73,10 @@ words_of (Close node port) = codes "close" ∷ decimal node ∷ decimal port ∷
 words_of (Publish node port kind lower upper scope key) =
     codes "publish" ∷ decimal node ∷ decimal port ∷ decimal kind ∷ decimal lower ∷ decimal upper ∷ scope_word scope ∷ decimal key ∷ []
 words_of (Withdraw node port key) = codes "withdraw" ∷ decimal node ∷ decimal port ∷ decimal key ∷ []
+words_of (Subscribe node kind lower upper timeout filter) =
+    codes "subscribe" ∷ decimal node ∷ decimal kind ∷ decimal lower ∷ decimal upper ∷ decimal timeout ∷ filter_word filter ∷ []
+words_of (Event node number) = codes "event" ∷ decimal node ∷ decimal number ∷ []
+words_of (Cancel node number) = codes "cancel" ∷ decimal node ∷ decimal number ∷ []
 words_of (Send node port to importance body) = send_words node port to importance body
 words_of (Repeat times node port to importance body) = codes "repeat" ∷ decimal times ∷ send_words node port to importance body
 words_of (Arrive node bearer frame) = codes "arrive" ∷ decimal node ∷ decimal bearer ∷ decimal frame ∷ []
@@ -124,6 +134,14 @@ pub record IsOffer (node port kind lower upper key : ℕ) : Type 0 where
   pub upper_fits : upper < 2 ^ 32
   pub key_fits : key < 2 ^ 32
 
+-- a subscription as a line may ask for it; its bounds may be in the wrong order
+pub record IsWish (node kind lower upper timeout : ℕ) : Type 0 where
+  pub at_node : IsNode node
+  pub type_fits : kind < 2 ^ 32
+  pub lower_fits : lower < 2 ^ 32
+  pub upper_fits : upper < 2 ^ 32
+  pub timeout_fits : timeout < 2 ^ 32
+
 -- the values of a line are in their ranges
 abbrev pub Fits : Line → Type 0
 Fits Nothing = Unit {0}
@@ -138,6 +156,9 @@ Fits (Socket node) = IsNode node
 Fits (Close node port) = IsNode node × (port < 2 ^ 32)
 Fits (Publish node port kind lower upper scope key) = IsOffer node port kind lower upper key
 Fits (Withdraw node port key) = IsNode node × (port < 2 ^ 32) × (key < 2 ^ 32)
+Fits (Subscribe node kind lower upper timeout filter) = IsWish node kind lower upper timeout
+Fits (Event node number) = IsNode node × (number < 2 ^ 32)
+Fits (Cancel node number) = IsNode node × (number < 2 ^ 32)
 Fits (Send node port to importance body) = IsMessage node port to body
 Fits (Repeat times node port to importance body) = IsTimes times × IsMessage node port to body
 Fits (Arrive node bearer frame) = IsNode node × (bearer ≡ 0) × (frame ≤ 1000000)
@@ -167,6 +188,10 @@ Asks text (Close node port) = Fits (Close node port) × (text ≡ spelling_of (C
 Asks text (Publish node port kind lower upper scope key) =
     Fits (Publish node port kind lower upper scope key) × (text ≡ spelling_of (Publish node port kind lower upper scope key))
 Asks text (Withdraw node port key) = Fits (Withdraw node port key) × (text ≡ spelling_of (Withdraw node port key))
+Asks text (Subscribe node kind lower upper timeout filter) =
+    Fits (Subscribe node kind lower upper timeout filter) × (text ≡ spelling_of (Subscribe node kind lower upper timeout filter))
+Asks text (Event node number) = Fits (Event node number) × (text ≡ spelling_of (Event node number))
+Asks text (Cancel node number) = Fits (Cancel node number) × (text ≡ spelling_of (Cancel node number))
 Asks text (Send node port to importance body) = Fits (Send node port to importance body) × (text ≡ spelling_of (Send node port to importance body))
 Asks text (Repeat times node port to importance body) = Fits (Repeat times node port to importance body) × (text ≡ spelling_of (Repeat times node port to importance body))
 Asks text (Arrive node bearer frame) = Fits (Arrive node bearer frame) × (text ≡ spelling_of (Arrive node bearer frame))

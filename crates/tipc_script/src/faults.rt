@@ -10,7 +10,7 @@ pub enum LineWhy {
     Command,
     /// The token is no number, or is out of range.
     Number,
-    /// There is no such form or importance.
+    /// There is no such form, importance, scope or filter.
     Word,
     /// The token is no body.
     Body,

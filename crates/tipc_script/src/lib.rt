@@ -9,11 +9,9 @@ mod numbers;
 mod parsing;
 mod sends;
 mod services;
+mod subscriptions;
 mod tokens;
 
 pub use faults::{LineFault, LineWhy};
-pub use lines::{Command, Destination, Line, NodeToken};
+pub use lines::{Command, Destination, Filter, Line, NodeToken};
 pub use parsing::{grammar, parse_line};
-
-#[cfg(test)]
-mod tests;

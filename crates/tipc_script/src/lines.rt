@@ -1,5 +1,9 @@
 //! What a line of a script asks for.
 
+ghost use Rattle.std.specs.Prelude.{◌≡◌, IfErr, IfOk};
+
+use crate::faults::LineFault;
+use std::alloc::Global;
 use tipc_types::{Bytes, Importance, PortId, Scope, Sequence};
 
 /// Whom a message is for.
@@ -14,6 +18,15 @@ pub enum Destination {
         /// The instance.
         instance: u32,
     },
+}
+
+/// Of which changes a subscriber is told. (Programmer's guide.)
+#[derive(Clone, Copy, Debug, PartialEq, Eq)]
+pub enum Filter {
+    /// Of each publication and each withdrawal.
+    Ports,
+    /// Of the first publication and the last withdrawal of each distinct range.
+    Service,
 }
 
 /// What a line of a script asks for. Nodes have numbers from 1 to 32, and the bearer is 0. (This
@@ -99,6 +112,35 @@ pub enum Line {
         port: u32,
         /// The publication's key.
         key: u32,
+    },
+    /// A service range is to be subscribed to.
+    Subscribe {
+        /// The node.
+        node: u8,
+        /// The service type.
+        kind: u32,
+        /// The lowest instance, which may be above the highest: then there is no such range.
+        lower: u32,
+        /// The highest instance.
+        upper: u32,
+        /// After how many ticks the subscription times out; the greatest number lasts for ever.
+        timeout: u32,
+        /// Of which changes the subscriber is told.
+        filter: Filter,
+    },
+    /// The next event of a subscription is taken.
+    Event {
+        /// The node.
+        node: u8,
+        /// The subscription's number.
+        number: u32,
+    },
+    /// A subscription is to be cancelled.
+    Cancel {
+        /// The node.
+        node: u8,
+        /// The subscription's number.
+        number: u32,
     },
     /// A message to a port or by name.
     Send {
@@ -225,4 +267,17 @@ pub struct Command {
     pub line: Line,
     /// The nodes that it asks something of, from the left.
     pub nodes: Sequence<NodeToken>,
+}
+
+impl Command {
+    /// A line that asks something of these nodes.
+    pub(crate) fn new(alloc: Global, line: Line, nodes: &[NodeToken]) -> Result<Command, LineFault>
+        ensures ok { IfOk result (λ c. (c.line ≡ line) × (c.nodes ≡ nodes.now)) }
+        ensures err { IfErr result (λ fault. fault ≡ LineFault.NoMemory) }
+    {
+        Ok(Command {
+            line,
+            nodes: Sequence::from_slice(alloc, nodes)?,
+        })
+    }
 }

@@ -2,8 +2,8 @@
 
 ghost use Rattle.std.specs.Prelude.{◌≡◌, ◌+◌, ◌<◌, ◌^◌, IfOk, length, MatchOption, Some, None, List, ℕ};
 ghost use Rattle.tipc_script.specs.Kinds.{is_remark};
-ghost use Rattle.tipc_script.specs.Grammar.{frame_rows, service_rows, traffic_rows, row_among, row_of, asked_by, nodes_by, asked, nodes_of};
-ghost use Rattle.tipc_script.specs.Faults.{Tells, Reads, fault_by, fault_of};
+ghost use Rattle.tipc_script.specs.Grammar.{frame_rows, service_rows, subscription_rows, traffic_rows, row_among, row_of, asked_by, nodes_by, asked, nodes_of};
+ghost use Rattle.tipc_script.specs.Faults.{IsRead, Tells, Reads, fault_by, fault_of};
 ghost use Rattle.tipc_script.specs.declared.lines.Line.{Line};
 ghost use Rattle.tipc_script.specs.Spelling.{Asks};
 ghost use Rattle.tipc_script.specs.FirstWords.{row_for};
@@ -12,7 +12,7 @@ ghost use Rattle.tipc_script.specs.Splitting.{whole, first_token, behind};
 use crate::faults::{LineFault, LineWhy};
 use crate::lines::{Command, Line};
 use crate::tokens::{Tokens, is_word};
-use crate::{forms, sends, services};
+use crate::{forms, sends, services, subscriptions};
 use std::alloc::Global;
 use tipc_types::Sequence;
 
@@ -36,6 +36,9 @@ enum FirstWord {
     Close,
     Publish,
     Withdraw,
+    Subscribe,
+    Event,
+    Cancel,
     Send,
     Repeat,
     Receive,
@@ -80,7 +83,7 @@ fn first_word(token: &[u8]) -> Option<FirstWord>
     service_word(token)
 }
 
-/// The first word of a line about sockets, services, messages, frames and links, if the token is one.
+/// The first word of a line about sockets, services, subscriptions, messages, frames and links, if the token is one.
 fn service_word(token: &[u8]) -> Option<FirstWord>
     ensures { MatchOption result (row_among service_rows token.now ≡ None) (λ word. row_among service_rows token.now ≡ Some (row_for word)) }
 {
@@ -95,6 +98,22 @@ fn service_word(token: &[u8]) -> Option<FirstWord>
     }
     if is_word(token, b"withdraw") {
         return Some(FirstWord::Withdraw);
+    }
+    subscription_word(token)
+}
+
+/// The first word of a line about subscriptions, messages, frames and links, if the token is one.
+fn subscription_word(token: &[u8]) -> Option<FirstWord>
+    ensures { MatchOption result (row_among subscription_rows token.now ≡ None) (λ word. row_among subscription_rows token.now ≡ Some (row_for word)) }
+{
+    if is_word(token, b"subscribe") {
+        return Some(FirstWord::Subscribe);
+    }
+    if is_word(token, b"event") {
+        return Some(FirstWord::Event);
+    }
+    if is_word(token, b"cancel") {
+        return Some(FirstWord::Cancel);
     }
     traffic_word(token)
 }
@@ -158,9 +177,7 @@ fn line_behind(
     word: FirstWord,
     tokens: &mut Tokens<'_>,
 ) -> Result<Command, LineFault>
-    ensures fault { Tells result (fault_by (Some (row_for word)) tokens.old) }
-    ensures line { IfOk result (λ c. c.line ≡ asked_by (Some (row_for word)) tokens.old) }
-    ensures nodes { IfOk result (λ c. c.nodes ≡ nodes_by (Some (row_for word)) tokens.old) }
+    ensures { IsRead (row_for word) tokens.old result }
 {
     match word {
         FirstWord::Node => forms::node_line(alloc, tokens),
@@ -174,6 +191,9 @@ fn line_behind(
         FirstWord::Close => services::close_line(alloc, tokens),
         FirstWord::Publish => services::publish_line(alloc, tokens),
         FirstWord::Withdraw => services::withdraw_line(alloc, tokens),
+        FirstWord::Subscribe => subscriptions::subscribe_line(alloc, tokens),
+        FirstWord::Event => subscriptions::event_line(alloc, tokens),
+        FirstWord::Cancel => subscriptions::cancel_line(alloc, tokens),
         FirstWord::Send => sends::send_line(alloc, tokens),
         FirstWord::Repeat => sends::repeat_line(alloc, tokens),
         FirstWord::Receive => forms::receive_line(alloc, tokens),

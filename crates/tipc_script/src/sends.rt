@@ -1,14 +1,14 @@
 //! The tokens behind the first words that send messages.
 
 ghost use Rattle.std.specs.Prelude.{◌≡◌, true, false, IfOk};
-ghost use Rattle.tipc_script.specs.Grammar.{burst_row, name_kinds, port_kinds, repeat_row, row_nodes, send_row, sent};
-ghost use Rattle.tipc_script.specs.Faults.{Tells, fault_in, row_fault};
+ghost use Rattle.tipc_script.specs.Grammar.{burst_row, name_kinds, port_kinds, repeat_row, send_row, sent};
+ghost use Rattle.tipc_script.specs.Faults.{IsRead, Tells, fault_in};
 
 use crate::faults::{LineFault, LineWhy};
 use crate::lines::{Command, Destination, Line};
 use crate::tokens::{HIGHEST_NUMBER, Tokens};
 use std::alloc::Global;
-use tipc_types::{Addr, PortId, Sequence};
+use tipc_types::{Addr, PortId};
 
 /// The most times that something is done again.
 const MOST_TIMES: u32 = 1_000_000;
@@ -68,9 +68,7 @@ fn send_to_port(
 /// What follows `send`.
 #[tactic(auto, unfolding(crate::specs::Faults::row_fault))]
 pub fn send_line(alloc: Global, tokens: &mut Tokens<'_>) -> Result<Command, LineFault>
-    ensures fault { Tells result (row_fault send_row tokens.old) }
-    ensures line { IfOk result (λ c. c.line ≡ send_row.asks tokens.old) }
-    ensures nodes { IfOk result (λ c. c.nodes ≡ row_nodes send_row tokens.old) }
+    ensures { IsRead send_row tokens.old result }
 {
     let node = tokens.node(true)?;
     let port = tokens.number(0, HIGHEST_NUMBER)?;
@@ -79,18 +77,13 @@ pub fn send_line(alloc: Global, tokens: &mut Tokens<'_>) -> Result<Command, Line
     } else {
         send_to_port(alloc, node.node, port, tokens)?
     };
-    Ok(Command {
-        line,
-        nodes: Sequence::from_slice(alloc, [node].as_slice())?,
-    })
+    Command::new(alloc, line, &[node])
 }
 
 /// What follows `repeat`: how many times, and a line that sends.
 #[tactic(auto, unfolding(crate::specs::Faults::row_fault))]
 pub fn repeat_line(alloc: Global, tokens: &mut Tokens<'_>) -> Result<Command, LineFault>
-    ensures fault { Tells result (row_fault repeat_row tokens.old) }
-    ensures line { IfOk result (λ c. c.line ≡ repeat_row.asks tokens.old) }
-    ensures nodes { IfOk result (λ c. c.nodes ≡ row_nodes repeat_row tokens.old) }
+    ensures { IsRead repeat_row tokens.old result }
 {
     let times = tokens.number(1, MOST_TIMES)?;
     tokens.word(b"send", LineWhy::Command)?;
@@ -121,9 +114,7 @@ pub fn repeat_line(alloc: Global, tokens: &mut Tokens<'_>) -> Result<Command, Li
 /// What follows `burst`.
 #[tactic(auto, unfolding(crate::specs::Faults::row_fault))]
 pub fn burst_line(alloc: Global, tokens: &mut Tokens<'_>) -> Result<Command, LineFault>
-    ensures fault { Tells result (row_fault burst_row tokens.old) }
-    ensures line { IfOk result (λ c. c.line ≡ burst_row.asks tokens.old) }
-    ensures nodes { IfOk result (λ c. c.nodes ≡ row_nodes burst_row tokens.old) }
+    ensures { IsRead burst_row tokens.old result }
 {
     let node = tokens.node(true)?;
     let port = tokens.number(0, HIGHEST_NUMBER)?;
@@ -132,15 +123,13 @@ pub fn burst_line(alloc: Global, tokens: &mut Tokens<'_>) -> Result<Command, Lin
     let times = tokens.number(1, MOST_TIMES)?;
     let body = tokens.body(alloc)?;
     tokens.finish()?;
-    Ok(Command {
-        line: Line::Burst {
-            node: node.node,
-            port,
-            to_node: to_node.node,
-            to_port,
-            times,
-            body,
-        },
-        nodes: Sequence::from_slice(alloc, [node, to_node].as_slice())?,
-    })
+    let line = Line::Burst {
+        node: node.node,
+        port,
+        to_node: to_node.node,
+        to_port,
+        times,
+        body,
+    };
+    Command::new(alloc, line, &[node, to_node])
 }

@@ -4,18 +4,18 @@ ghost use Rattle.std.specs.Prelude.{◌≡◌, ◌≢◌, ◌+◌, ◌-◌, ◌*
 ghost use Rattle.std.specs.Option.{option_copied};
 ghost use Rattle.std.specs.Str.{bytes_eq};
 ghost use Rattle.tipc_script.specs.Splitting.{whole, first_token, behind, tokens_of, pieces, is_space};
-ghost use Rattle.tipc_script.specs.Kinds.{body_of, importance_in, importance_of, is_body, is_form, is_importance, is_name, is_number, is_scope, number_of, scope_in, scope_of};
+ghost use Rattle.tipc_script.specs.Kinds.{body_of, filter_in, filter_of, importance_in, importance_of, is_body, is_filter, is_form, is_importance, is_name, is_number, is_scope, number_of, scope_in, scope_of};
 ghost use Rattle.tipc_script.specs.Faults.{Tells, first_fault, missing_fault, end_fault};
 
 use crate::body::body_in;
 use crate::faults::{LineFault, LineWhy};
-use crate::lines::NodeToken;
+use crate::lines::{Filter, NodeToken};
 use crate::numbers::number_in;
 use std::alloc::Global;
 use std::marker::Model;
 use tipc_types::{Bytes, Importance, Scope};
 
-/// The highest number of a port, a service type, an instance or a key.
+/// The highest number of a port, a service type, an instance, a key, a timeout or a subscription.
 pub const HIGHEST_NUMBER: u32 = u32::MAX;
 
 /// The tokens that are left of a line, from the left.
@@ -180,6 +180,23 @@ impl<'a> Tokens<'a> {
         Ok(scope)
     }
 
+    /// The next token as a filter.
+    #[tactic(auto, unfolding(crate::specs::Faults::first_fault, crate::specs::Faults::missing_fault))]
+    pub fn filter(&mut self) -> Result<Filter, LineFault>
+        ensures ok { IfOk result (λ filter. (self.new ≡ behind self.old) × (filter ≡ filter_of (first_token self.old))) }
+        ensures fault { Tells result (first_fault is_filter LineWhy.Word self.old) }
+    {
+        let place = self.place();
+        let token = self.token()?;
+        let Some(filter) = filter_in(token) else {
+            return Err(LineFault::BadLine {
+                place,
+                why: LineWhy::Word,
+            });
+        };
+        Ok(filter)
+    }
+
     /// The next token as an importance.
     #[tactic(auto, unfolding(crate::specs::Faults::first_fault, crate::specs::Faults::missing_fault))]
     pub fn importance(&mut self) -> Result<Importance, LineFault>
@@ -250,6 +267,20 @@ fn scope_in(token: &[u8]) -> Option<Scope>
     }
     if is_word(token, b"node") {
         return Some(Scope::Node);
+    }
+    None
+}
+
+/// The filter that a token is.
+#[tactic(auto, unfolding(crate::specs::Kinds::filter_in))]
+fn filter_in(token: &[u8]) -> Option<Filter>
+    ensures { result ≡ filter_in token.now }
+{
+    if is_word(token, b"ports") {
+        return Some(Filter::Ports);
+    }
+    if is_word(token, b"service") {
+        return Some(Filter::Service);
     }
     None
 }

@@ -6,7 +6,7 @@ use Rattle.tipc_script.specs.declared.lines.NodeToken.{NodeToken}
 use Rattle.tipc_script.specs.declared.faults.LineWhy.TheVariants as why
 use Rattle.tipc_script.specs.Splitting.{Left, whole, first_token, behind}
 use Rattle.tipc_script.specs.Kinds.{Kind, OldNode, BearerNumber, is_remark}
-use Rattle.tipc_script.specs.Grammar.{Row, rows, frame_rows, service_rows, traffic_rows, row_of, asked, asked_by, nodes_of, nodes_by, nodes_in, row_nodes, send_kinds, first_number, node_row, mend_row, cut_row, tick_row, restart_row, link_row, mark_row, socket_row, close_row, publish_row, withdraw_row, send_row, repeat_row, arrive_row, receive_row, drain_row, burst_row, pump_row, settle_row, air_row, show_row, links_row, table_row, flow_row}
+use Rattle.tipc_script.specs.Grammar.{Row, rows, frame_rows, service_rows, traffic_rows, row_of, asked, asked_by, nodes_of, nodes_by, nodes_in, row_nodes, send_kinds, first_number, node_row, mend_row, cut_row, tick_row, restart_row, link_row, mark_row, socket_row, close_row, publish_row, withdraw_row, send_row, repeat_row, arrive_row, receive_row, drain_row, burst_row, pump_row, settle_row, air_row, show_row, links_row, table_row, flow_row, subscribe_row, event_row, cancel_row, subscription_rows}
 use Rattle.tipc_script.specs.Spelling.{Asks}
 use Rattle.tipc_types.specs.declared.message_forms.Importance.{Importance}
 use Rattle.tipc_types.specs.declared.services.Scope.{Scope}
@@ -15,8 +15,9 @@ use Rattle.tipc_script.proofs.Reading.{OfRows, row_found}
 use Rattle.tipc_script.proofs.Found.{asks_found}
 use Rattle.tipc_script.specs.declared.lines.Destination.{Destination}
 use Rattle.tipc_script.specs.declared.lines.Destination.TheVariants as destination
+use Rattle.tipc_script.specs.declared.lines.Filter.{Filter}
 use Rattle.tipc_script.specs.declared.lines.Line.{Line}
-use Rattle.tipc_script.specs.declared.lines.Line.TheVariants.{Nothing, Node, Mend, Cut, Tick, Restart, Link, Mark, Socket, Close, Publish, Withdraw, Send, Repeat, Arrive, Receive, Drain, Pump, Burst, Settle, Air, Show, Links, Table, Flow}
+use Rattle.tipc_script.specs.declared.lines.Line.TheVariants.{Nothing, Node, Mend, Cut, Tick, Restart, Link, Mark, Socket, Close, Publish, Withdraw, Subscribe, Event, Cancel, Send, Repeat, Arrive, Receive, Drain, Pump, Burst, Settle, Air, Show, Links, Table, Flow}
 use Rattle.tipc_world.specs.declared.events.WorldEvent.{WorldEvent}
 use Rattle.tipc_world.specs.Calls.{CanHappen}
 use Rattle.tipc_world.specs.States.{WorldState, is_there}
@@ -82,6 +83,15 @@ publish_can_do there text left asks e = (old_in_place there (drop 1 (publish_row
 withdraw_can : CanDo withdraw_row
 withdraw_can there text left asks e = (old_in_place there (drop 1 (withdraw_row.kinds left)) left e).0
 
+subscribe_can_do : CanDo subscribe_row
+subscribe_can_do there text left asks e = (old_in_place there (drop 1 (subscribe_row.kinds left)) left e).0
+
+event_can : CanDo event_row
+event_can there text left asks e = (old_in_place there (drop 1 (event_row.kinds left)) left e).0
+
+cancel_can : CanDo cancel_row
+cancel_can there text left asks e = (old_in_place there (drop 1 (cancel_row.kinds left)) left e).0
+
 send_can : CanDo send_row
 send_can there text left asks e = (old_in_place there (drop 1 (send_kinds left)) left e).0
 
@@ -135,8 +145,11 @@ frames_can = (arrive_can, (pump_can, (settle_can, (air_can, (show_can, (links_ca
 traffic_can : OfRows CanDo traffic_rows
 traffic_can = (send_can, (repeat_can, (receive_can, (drain_can, (burst_can, frames_can)))))
 
+subscriptions_can : OfRows CanDo subscription_rows
+subscriptions_can = (subscribe_can_do, (event_can, (cancel_can, traffic_can)))
+
 services_can : OfRows CanDo service_rows
-services_can = (socket_can, (close_can, (publish_can_do, (withdraw_can, traffic_can))))
+services_can = (socket_can, (close_can, (publish_can_do, (withdraw_can, subscriptions_can))))
 
 all_can : OfRows CanDo rows
 all_can = (node_can, (mend_can, (cut_can, (tick_can, (restart_can, (link_can, (mark_can, services_can)))))))
@@ -183,6 +196,14 @@ publish_can w node port kind lower upper key scope event there e =
       | inr bad ↦ absurd (let none : service_event (Publish node port kind lower upper scope key) ≡ None = rw bad refl in cc)
     ]
 
+-- a subscription is an event only where its range has instances
+subscribe_can : (w : WorldState) (node kind lower upper timeout : ℕ) (filter : Filter) (event : WorldEvent) → is_there w node ≡ true → service_event (Subscribe node kind lower upper timeout filter) ≡ Some event → CanHappen w event
+subscribe_can w node kind lower upper timeout filter event there e =
+    elim (cases_Bool (leb lower upper)) [
+      | inl ordered ↦ subst (CanHappen w) (inside (rw ordered at e)) (there, tt)
+      | inr bad ↦ absurd (let none : service_event (Subscribe node kind lower upper timeout filter) ≡ None = rw bad refl in cc)
+    ]
+
 -- the event that a line is can happen where the line can be done
 pub can_happen : (w : WorldState) (notes : NotesState) (line : Line) (event : WorldEvent) → CanBeDone (is_there w) line → event_of line notes ≡ Some event → CanHappen w event
 can_happen w notes (Cut node bearer) event can e = subst (CanHappen w) (inside e) (can.0, can.1)
@@ -194,6 +215,9 @@ can_happen w notes (Send node port to importance body) event can e =
 can_happen w notes (Close node port) event can e = subst (CanHappen w) (inside e) (can, tt)
 can_happen w notes (Publish node port kind lower upper scope key) event can e = publish_can w node port kind lower upper key scope event can e
 can_happen w notes (Withdraw node port key) event can e = subst (CanHappen w) (inside e) (can, tt)
+can_happen w notes (Subscribe node kind lower upper timeout filter) event can e = subscribe_can w node kind lower upper timeout filter event can e
+can_happen w notes (Event node number) event can e = subst (CanHappen w) (inside e) (can, tt)
+can_happen w notes (Cancel node number) event can e = subst (CanHappen w) (inside e) (can, tt)
 can_happen w notes (Arrive node bearer frame) event can e = subst (CanHappen w) (inside e) (can.0, omega (arith, can.1))
 can_happen w notes (Receive node port) event can e = subst (CanHappen w) (inside e) (can, tt)
 can_happen w notes Nothing event can e = absurd cc

@@ -3,12 +3,15 @@ use Rattle.std.specs.Prelude.{◌≡◌, nat_le, if◌then◌else◌, ℕ, ◌+�
 use Rattle.tipc_types.specs.declared.message_forms.Importance.{Importance}
 use Rattle.tipc_types.specs.declared.node_calls.EventNote.{EventNote}
 use Rattle.tipc_types.specs.declared.node_calls.EventNote.TheVariants as call
+use Rattle.tipc_types.specs.declared.node_calls.Subscription.{Subscription}
 use Rattle.tipc_types.specs.declared.node_calls.Answer.{Answer}
 use Rattle.tipc_types.specs.declared.node_calls.Answer.TheVariants as answer
 use Rattle.tipc_script.specs.declared.lines.Destination.{Destination}
 use Rattle.tipc_script.specs.declared.lines.Destination.TheVariants as destination
+use Rattle.tipc_script.specs.declared.lines.Filter.{Filter}
+use Rattle.tipc_script.specs.declared.lines.Filter.TheVariants as filter
 use Rattle.tipc_script.specs.declared.lines.Line.{Line}
-use Rattle.tipc_script.specs.declared.lines.Line.TheVariants.{Node, Mend, Cut, Tick, Restart, Link, Mark, Socket, Close, Publish, Withdraw, Send, Repeat, Arrive, Receive, Drain, Pump, Burst, Settle, Air, Show, Links, Table, Flow}
+use Rattle.tipc_script.specs.declared.lines.Line.TheVariants.{Node, Mend, Cut, Tick, Restart, Link, Mark, Socket, Close, Publish, Withdraw, Subscribe, Event, Cancel, Send, Repeat, Arrive, Receive, Drain, Pump, Burst, Settle, Air, Show, Links, Table, Flow}
 use Rattle.tipc_script.specs.Grammar.{asked}
 use Rattle.tipc_report.specs.Text.{told_line}
 use Rattle.tipc_report.specs.declared.told.Told.{Told}
@@ -43,13 +46,36 @@ abbrev pub sending : ℕ → Destination → Importance → List ℕ → EventNo
 sending port (destination.Port to) importance body = call.SendPort port to importance body
 sending port (destination.Name kind instance) importance body = call.SendName port kind instance importance body
 
--- the event that a line about a service or a socket is; None for another line, and for a range whose lower bound is above the upper
+-- the number of a filter
+abbrev pub filter_number : Filter → ℕ
+filter_number filter.Ports = 1
+filter_number filter.Service = 2
+
+-- the handle of a script's subscribers
+abbrev pub no_handle : List ℕ
+no_handle = 0 ∷ 0 ∷ 0 ∷ 0 ∷ 0 ∷ 0 ∷ 0 ∷ 0 ∷ []
+
+-- what a line subscribes to
+abbrev pub wished : ℕ → ℕ → ℕ → ℕ → Filter → Subscription
+wished kind lower upper timeout filter =
+    record { range_kind = kind; lower = lower; upper = upper; timeout = timeout; filter = filter_number filter; handle = no_handle }
+
+-- the event that a line about a subscription is; None for another line, and for a range whose lower bound is above the upper
+abbrev pub subscription_event : Line → Option WorldEvent
+subscription_event (Subscribe node kind lower upper timeout filter) =
+    if nat_le lower upper then Some (event.Call node (call.Subscribe (wished kind lower upper timeout filter))) else None
+subscription_event (Event node number) = Some (event.Call node (call.NextEvent number))
+subscription_event (Cancel node number) = Some (event.Call node (call.Cancel number))
+subscription_event other = None
+
+-- the event that a line about a service, a socket or a subscription is; None for another line, and for a range whose lower bound is
+-- above the upper
 abbrev pub service_event : Line → Option WorldEvent
 service_event (Close node port) = Some (event.Call node (call.Close port))
 service_event (Publish node port kind lower upper scope key) =
     if nat_le lower upper then Some (event.Call node (call.Publish port (record { kind = kind; lower = lower; upper = upper }) scope key)) else None
 service_event (Withdraw node port key) = Some (event.Call node (call.Withdraw port key))
-service_event other = None
+service_event other = subscription_event other
 
 -- the event that a line is; None for a line that is no event or several
 abbrev pub event_of : Line → NotesState → Option WorldEvent
@@ -106,8 +132,8 @@ abbrev pub shown : Option Sent → Told
 shown None = told.Answer answer.NoFrame
 shown (Some f) = told.Frame f.from f.to f.frame
 
--- what is told of a line that leaves everything as it is: a line that asks for nothing is one, and a publication is one where its
--- range is bad
+-- what is told of a line that leaves everything as it is: a line that asks for nothing is one, and a publication or a subscription is
+-- one where its range is bad
 abbrev pub told_of : Line → NotesState → WorldState → Told
 told_of (Air bearer) notes w = told.Answer (answer.Air (length w.air - notes.base))
 told_of (Show bearer frame) notes w = shown (slice_get w.air (counted (notes.base + frame)))
@@ -115,6 +141,7 @@ told_of (Links node) notes w = told.Answer (answer.Links (links_of w.members nod
 told_of (Table node) notes w = told.Table (table_of w.members node)
 told_of (Flow from to) notes w = told.Answer (flow_of w.members from to)
 told_of (Publish node port kind lower upper scope key) notes w = told.Answer answer.BadRange
+told_of (Subscribe node kind lower upper timeout filter) notes w = told.Answer answer.BadRange
 told_of other notes w = told.Nothing
 
 -- what becomes of a world by a line that sends and receives messages again and again, or leaves everything as it is

@@ -4,7 +4,7 @@ use Rattle.std.specs.List.{list_any}
 use Rattle.std.specs.Option.{option_or, option_map}
 use Rattle.tipc_script.specs.declared.faults.LineWhy.TheVariants as why
 use Rattle.tipc_script.specs.declared.lines.Line.{Line}
-use Rattle.tipc_script.specs.declared.lines.Line.TheVariants.{Nothing, Node, Mend, Cut, Tick, Restart, Link, Mark, Socket, Close, Publish, Withdraw, Send, Repeat, Arrive, Receive, Drain, Pump, Burst, Settle, Air, Show, Links, Table, Flow}
+use Rattle.tipc_script.specs.declared.lines.Line.TheVariants.{Nothing, Node, Mend, Cut, Tick, Restart, Link, Mark, Socket, Close, Publish, Withdraw, Subscribe, Event, Cancel, Send, Repeat, Arrive, Receive, Drain, Pump, Burst, Settle, Air, Show, Links, Table, Flow}
 use Rattle.tipc_script.specs.declared.lines.NodeToken.{NodeToken}
 use Rattle.tipc_script.specs.Grammar.{asked, nodes_of}
 use Rattle.tipc_script.specs.Faults.{Fault, fault_of}
@@ -57,6 +57,9 @@ CanBeDone there (Socket node) = there node ≡ true
 CanBeDone there (Close node port) = there node ≡ true
 CanBeDone there (Publish node port kind lower upper scope key) = there node ≡ true
 CanBeDone there (Withdraw node port key) = there node ≡ true
+CanBeDone there (Subscribe node kind lower upper timeout filter) = there node ≡ true
+CanBeDone there (Event node number) = there node ≡ true
+CanBeDone there (Cancel node number) = there node ≡ true
 CanBeDone there (Send node port to importance body) = there node ≡ true
 CanBeDone there (Repeat times node port to importance body) = (there node ≡ true) × (1 ≤ times)
 CanBeDone there (Arrive node bearer frame) = (there node ≡ true) × (bearer ≡ 0)

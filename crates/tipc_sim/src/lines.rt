@@ -10,7 +10,7 @@ ghost use Rattle.tipc_script.specs.Grammar.{asked};
 ghost use Rattle.tipc_script.specs.Faults.{Tells};
 ghost use Rattle.tipc_sim.specs.Nodes.{is_misplaced, fault_where, makes, CanBeDone};
 ghost use Rattle.tipc_sim.specs.Courses.{Comes, Continues};
-ghost use Rattle.tipc_sim.specs.Happenings.{beside, event_of, scene, sending, service_event, shown, told_of, Answers, Composed, Conversed, IsLimited, Moves, Repeated};
+ghost use Rattle.tipc_sim.specs.Happenings.{beside, event_of, filter_number, scene, sending, service_event, shown, subscription_event, told_of, wished, Answers, Composed, Conversed, IsLimited, Moves, Repeated};
 ghost use Rattle.tipc_sim.specs.Meanings.{Links, Pumps};
 ghost use Rattle.tipc_sim.specs.Messages.{is_call, low_message, Bursts, SendsAgain};
 ghost use Rattle.tipc_sim.specs.Noted.{naming, pumped, with_named, NotesState};
@@ -25,8 +25,10 @@ use crate::settling::settle;
 use std::alloc::Global;
 use tipc_pick::Pick;
 use tipc_report::{Told, print};
-use tipc_script::{Destination, Line, LineFault, LineWhy, NodeToken, parse_line};
-use tipc_types::{Addr, Answer, Bytes, EventNote, Importance, NoMemory, PortId, ServiceRange};
+use tipc_script::{Destination, Filter, Line, LineFault, LineWhy, NodeToken, parse_line};
+use tipc_types::{
+    Addr, Answer, Bytes, EventNote, Importance, NoMemory, PortId, ServiceRange, Subscription,
+};
 use tipc_world::{World, WorldEvent, WorldFault};
 
 /// Whether a node that has to be there isn't, or one that mustn't be there is.
@@ -96,7 +98,65 @@ fn send(node: u8, port: u32, to: Destination, importance: Importance, body: Byte
     call(node, sending)
 }
 
-/// The event that a line about a service or a socket is, or the line where it is another, or names a range without instances.
+/// The number of a filter. (Programmer's guide.)
+fn filter_number(filter: Filter) -> u32
+    ensures { result ≡ filter_number filter }
+{
+    match filter {
+        Filter::Ports => 1,
+        Filter::Service => 2,
+    }
+}
+
+/// What a line subscribes to. A script's subscribers have no handle.
+fn wished(kind: u32, lower: u32, upper: u32, timeout: u32, filter: Filter) -> Subscription
+    ensures { result ≡ wished kind lower upper timeout filter }
+{
+    Subscription {
+        range_kind: kind,
+        lower,
+        upper,
+        timeout,
+        filter: filter_number(filter),
+        handle: [0; 8],
+    }
+}
+
+/// The event that a line about a subscription is, or the line where it is another, or names a range without instances.
+fn subscription_event(line: Line) -> Result<WorldEvent, Line>
+    ensures event { IfOk result (λ event. subscription_event line ≡ Some event) }
+    ensures other { IfErr result (λ other. (other ≡ line) × (subscription_event line ≡ None)) }
+{
+    match line {
+        Line::Event { node, number } => Ok(call(node, EventNote::NextEvent { number })),
+        Line::Cancel { node, number } => Ok(call(node, EventNote::Cancel { number })),
+        Line::Subscribe {
+            node,
+            kind,
+            lower,
+            upper,
+            timeout,
+            filter,
+        } => {
+            if upper < lower {
+                return Err(Line::Subscribe {
+                    node,
+                    kind,
+                    lower,
+                    upper,
+                    timeout,
+                    filter,
+                });
+            }
+            let subscription = wished(kind, lower, upper, timeout, filter);
+            Ok(call(node, EventNote::Subscribe { subscription }))
+        }
+        other => Err(other),
+    }
+}
+
+/// The event that a line about a service, a socket or a subscription is, or the line where it is another, or names a range
+/// without instances.
 fn service_event(line: Line) -> Result<WorldEvent, Line>
     ensures event { IfOk result (λ event. service_event line ≡ Some event) }
     ensures other { IfErr result (λ other. (other ≡ line) × (service_event line ≡ None)) }
@@ -132,7 +192,7 @@ fn service_event(line: Line) -> Result<WorldEvent, Line>
                 key,
             }),
         },
-        other => Err(other),
+        other => subscription_event(other),
     }
 }
 
@@ -281,7 +341,7 @@ fn tell<P: Pick>(
         Line::Links { node } => Told::Answer(Answer::Links(world.links(alloc, *node)?)),
         Line::Table { node } => Told::Table(world.table(alloc, *node)?),
         Line::Flow { from, to } => Told::Answer(world.flow(*from, *to)),
-        Line::Publish { .. } => Told::Answer(Answer::BadRange),
+        Line::Publish { .. } | Line::Subscribe { .. } => Told::Answer(Answer::BadRange),
         _ => Told::Nothing,
     })
 }

@@ -1,16 +1,23 @@
 -- A port is closed: what is withdrawn by the keys that are live there is what is of the node and at the port.
-use Rattle.std.proofs.Common.{◌≡◌, inl, inr, ℕ, ◌+◌, ◌≤◌, Bool, true, false, not, cond, ◌&&◌, ◌||◌, List, [], ◌∷◌, ◌++◌, append_assoc, filter, refl, sym, ap, subst, ◌∙◌, true≢false, eqb-true, arith}
-use Rattle.std.specs.Prelude.{count_by, nat_eq}
+use Rattle.std.proofs.Common.{◌≡◌, inl, inr, ℕ, ◌+◌, ◌≤◌, Bool, true, false, not, cond, ◌&&◌, ◌||◌, List, [], ◌∷◌, ◌++◌, Option, None, Some, append_assoc, filter, fold, map, refl, sym, ap, subst, ◌∙◌, true≢false, eqb-true, arith}
+use Rattle.std.specs.Prelude.{count_by, find, nat_eq, option_to_list}
 use Rattle.std.specs.List.{list_any}
 use Rattle.std.proofs.lemmas.Bool.Decides.{eqb_tells}
-use Rattle.std.proofs.lemmas.List.Elements.{filter_agree}
+use Rattle.std.proofs.lemmas.List.{append-nil}
+use Rattle.std.proofs.lemmas.List.Elements.{filter-append, filter_agree}
 use Rattle.std.proofs.lemmas.List.Folds.{list_any-append}
+use Rattle.std.proofs.lemmas.List.Sums.{fold-append}
 use Rattle.std.proofs.lemmas.Map.Views.{any-filter_same}
 use Rattle.tipc_types.specs.declared.services.Publication.{Publication}
-use Rattle.tipc_name_table.specs.Tables.{is_named, is_of, without}
-use Rattle.tipc_sockets.specs.Publishing.{closed, has_key, is_at, is_key_at, withdrawn, withdrawn_each}
-use Rattle.tipc_sockets.specs.SocketTables.{AreSockets, SocketTable}
-use Rattle.tipc_sockets.proofs.Counting.{count_by-agree, count_by-append, counted, counts_none, filter-filter, filter_all, none_counts, some_counts}
+use Rattle.tipc_types.specs.Watching.{is_same_name}
+use Rattle.tipc_name_table.specs.Tables.{is_named, is_of, without, IsTable}
+use Rattle.tipc_topology.specs.Changing.{with_kept, with_loss, Watchers}
+use Rattle.tipc_topology.specs.Transitions.{left_by, AreRemovable}
+use Rattle.tipc_topology.specs.Watchers.{removed, Watcher}
+use Rattle.tipc_topology.proofs.Removable.{part_removable, AreNamed, IsPart}
+use Rattle.tipc_sockets.specs.Publishing.{closed, has_key, is_at, is_key_at, published_at, withdrawn, withdrawn_each}
+use Rattle.tipc_sockets.specs.SocketTables.{with_publications, AreSockets, SocketTable}
+use Rattle.tipc_sockets.proofs.Counting.{count_by-agree, count_by-append, count_by-filter, counted, counts_none, filter-filter, filter_all, none_counts, some_counts}
 use Rattle.tipc_name_table.proofs.TableLaws.{table_kept}
 use Rattle.tipc_sockets.proofs.Keeping.{and_true, eq_itself, own_count, sockets_kept}
 
@@ -218,19 +225,19 @@ left_more own p ps qs mine =
     ∙ filter_agree _ _ (λ q. left_here (is_of own q) (has_key p.key q) (list_any (λ r. has_key r.key q) ps)) qs
 
 withdrawn_all : (s : SocketTable) (ps : List Publication) → list_any (λ p. not (is_of s.own p)) ps ≡ false
-    → withdrawn_each s ps ≡ record { own = s.own; names = left_of s.own ps s.names; live = left_of s.own ps s.live; ports = s.ports; queues = s.queues }
-withdrawn_all s [] all = (λ i. record { own = s.own; names = sym (none s.names) i; live = sym (none s.live) i; ports = s.ports; queues = s.queues })
+    → withdrawn_each s ps ≡ with_publications s (left_of s.own ps s.names) (left_of s.own ps s.live) (withdrawn_each s ps).watchers
+withdrawn_all s [] all = (λ i. with_publications s (sym (none s.names) i) (sym (none s.live) i) s.watchers)
   where
     none : (qs : List Publication) → left_of s.own [] qs ≡ qs
     none qs = filter_agree (λ q. not (is_of s.own q && false)) (λ q. true) (λ q. ap not (and_false (is_of s.own q))) qs ∙ filter_all qs
 withdrawn_all s (p ∷ ps) all = by (is_of s.own p) refl all (withdrawn_all (withdrawn s p.at.node.word p.key) ps)
   where
     by : (mine : Bool) → is_of s.own p ≡ mine → not mine || list_any (λ q. not (is_of s.own q)) ps ≡ false
-        → (list_any (λ q. not (is_of s.own q)) ps ≡ false → withdrawn_each (withdrawn s p.at.node.word p.key) ps ≡ record { own = s.own; names = left_of s.own ps (without p.at.node.word p.key s.names); live = left_of s.own ps (without p.at.node.word p.key s.live); ports = s.ports; queues = s.queues })
-        → withdrawn_each (withdrawn s p.at.node.word p.key) ps ≡ record { own = s.own; names = left_of s.own (p ∷ ps) s.names; live = left_of s.own (p ∷ ps) s.live; ports = s.ports; queues = s.queues }
+        → (list_any (λ q. not (is_of s.own q)) ps ≡ false → withdrawn_each (withdrawn s p.at.node.word p.key) ps ≡ with_publications s (left_of s.own ps (without p.at.node.word p.key s.names)) (left_of s.own ps (without p.at.node.word p.key s.live)) (withdrawn_each s (p ∷ ps)).watchers)
+        → withdrawn_each (withdrawn s p.at.node.word p.key) ps ≡ with_publications s (left_of s.own (p ∷ ps) s.names) (left_of s.own (p ∷ ps) s.live) (withdrawn_each s (p ∷ ps)).watchers
     by true mine rest later =
         later rest
-        ∙ (λ i. record { own = s.own; names = left_more s.own p ps s.names mine i; live = left_more s.own p ps s.live mine i; ports = s.ports; queues = s.queues })
+        ∙ (λ i. with_publications s (left_more s.own p ps s.names mine i) (left_more s.own p ps s.live mine i) (withdrawn_each s (p ∷ ps)).watchers)
     by false mine rest later = absurd (true≢false rest)
 
 none_filtered : (test kept : Publication → Bool) (ps : List Publication) → list_any test ps ≡ false → list_any test (filter kept ps) ≡ false
@@ -247,6 +254,135 @@ and_itself : (a : Bool) → a && a ≡ a
 and_itself true = refl
 and_itself false = refl
 
+-- ---- what subscribers are told
+
+pub no_loss : (t : Watchers) → with_loss [] t ≡ t
+no_loss t = ap (λ (ws : List Watcher). with_kept t ws) (same t.kept)
+  where
+    same : (ws : List Watcher) → map (λ (w : Watcher). w) ws ≡ ws
+    same [] = refl
+    same (w ∷ ws) = ap (λ (vs : List Watcher). w ∷ vs) (same ws)
+
+-- what is lost in two parts is lost at once
+pub loss_parts : (ps qs : List Publication) (t : Watchers) → with_loss qs (with_loss ps t) ≡ with_loss (ps ++ qs) t
+loss_parts ps qs t = ap (λ (ws : List Watcher). with_kept t ws) (joined t.kept)
+  where
+    joined : (ws : List Watcher) → map (λ (w : Watcher). fold removed w qs) (map (λ (w : Watcher). fold removed w ps) ws) ≡ map (λ (w : Watcher). fold removed w (ps ++ qs)) ws
+    joined [] = refl
+    joined (w ∷ ws) = (λ i. sym (fold-append removed w ps qs) i ∷ joined ws i)
+
+-- one more that is lost where it is at the port
+pub loss_here : (port : ℕ) (q : Publication) (ps : List Publication) (t : Watchers) → is_at port q ≡ true
+    → with_loss (q ∷ []) (with_loss (filter (is_at port) ps) t) ≡ with_loss (filter (is_at port) (ps ++ q ∷ [])) t
+loss_here port q ps t here =
+    loss_parts (filter (is_at port) ps) (q ∷ []) t
+    ∙ ap (λ (rs : List Publication). with_loss rs t)
+    (sym (filter-append (is_at port) ps (q ∷ []) ∙ ap (λ (b : Bool). filter (is_at port) ps ++ cond b (q ∷ []) []) here))
+
+-- and one that isn't
+pub loss_elsewhere : (port : ℕ) (q : Publication) (ps : List Publication) (t : Watchers) → is_at port q ≡ false
+    → with_loss (filter (is_at port) ps) t ≡ with_loss (filter (is_at port) (ps ++ q ∷ [])) t
+loss_elsewhere port q ps t other =
+    ap (λ (rs : List Publication). with_loss rs t)
+    (sym (filter-append (is_at port) ps (q ∷ []) ∙ ap (λ (b : Bool). filter (is_at port) ps ++ cond b (q ∷ []) []) other ∙ append-nil (filter (is_at port) ps)))
+
+same_name : (p q : Publication) → is_same_name p q ≡ is_named p.at.node.word p.key q
+same_name p q = (λ i. eq_turned p.at.node.word q.at.node.word i && eq_turned p.key q.key i)
+
+pub only_named : (p : Publication) (ps : List Publication) → filter (is_same_name p) ps ≡ filter (is_named p.at.node.word p.key) ps
+only_named p ps = filter_agree (is_same_name p) (is_named p.at.node.word p.key) (same_name p) ps
+
+pub left_named : (p : Publication) (ps : List Publication) → left_by ps p ≡ without p.at.node.word p.key ps
+left_named p ps = filter_agree (λ q. not (is_same_name p q)) (λ q. not (is_named p.at.node.word p.key q)) (λ q. ap not (same_name p q)) ps
+
+-- node and key name one of a table
+pub names_once : (ps : List Publication) → IsTable ps → AreNamed ps
+names_once ps h p = subst (λ (n : ℕ). n ≤ 1) (sym (count_by-agree (is_same_name p) (is_named p.at.node.word p.key) (same_name p) ps)) (h.named p.at.node.word p.key)
+
+-- where each is there, they are lost one after another
+withdrawn_told : (s : SocketTable) (ps : List Publication) → AreRemovable s.names ps → (withdrawn_each s ps).watchers ≡ with_loss ps s.watchers
+withdrawn_told s [] may = sym (no_loss s.watchers)
+withdrawn_told s (p ∷ ps) may =
+    let one : (withdrawn s p.at.node.word p.key).watchers ≡ with_loss (p ∷ []) s.watchers =
+    ap (λ (qs : List Publication). with_loss qs s.watchers) (sym (only_named p s.names) ∙ may.0) in
+    withdrawn_told (withdrawn s p.at.node.word p.key) ps (subst (λ (qs : List Publication). AreRemovable qs ps) (left_named p s.names) may.1)
+    ∙ ap (λ (t : Watchers). with_loss ps t) one
+    ∙ loss_parts (p ∷ []) ps s.watchers
+
+-- the live ones at a port are some of the names
+port_part : (s : SocketTable) → AreSockets s → (port : ℕ) → IsPart (filter (is_at port) s.live) s.names
+port_part s h port test =
+    let live = count_by-filter test (is_at port) s.live in
+    let same = h.live (λ p. is_at port p && test p) in
+    let own = own_count s.own (λ p. is_at port p && test p) s.names in
+    let fewer = passing s.names in
+    omega (arith, live, same, own, fewer)
+  where
+    each : (a b c : Bool) → cond {A = ℕ} (a && (b && c)) 1 0 ≤ cond {A = ℕ} c 1 0
+    each true true c = omega arith
+    each true false c = omega arith
+    each false b c = omega arith
+
+    passing : (ps : List Publication) → count_by (λ p. is_of s.own p && (is_at port p && test p)) ps ≤ count_by test ps
+    passing [] = omega arith
+    passing (p ∷ ps) = omega (arith, counted (λ q. is_of s.own q && (is_at port q && test q)) p ps, counted test p ps, each (is_of s.own p) (is_at port p) (test p), passing ps)
+
+-- ---- which can be withdrawn one after another
+
+only_found : {A : Type 0} (test : A → Bool) (xs : List A) (x : A) → filter test xs ≡ x ∷ [] → find test xs ≡ Some x
+only_found test [] x only = absurd cc
+only_found {A} test (y ∷ ys) x only = by (test y) only (only_found test ys x)
+  where
+    by : (b : Bool) → cond b (y ∷ filter test ys) (filter test ys) ≡ x ∷ [] → (filter test ys ≡ x ∷ [] → find test ys ≡ Some x) → cond b (Some y) (find test ys) ≡ Some x
+    by true is later = (let same : y ≡ x = cc in ap (λ (z : A). Some z) same)
+    by false is later = later is
+
+-- the first that can be withdrawn is found by its key, and then the others can be
+pub removable_found : (p : Publication) (ps there : List Publication) → AreRemovable there (p ∷ ps) → find (is_named p.at.node.word p.key) there ≡ Some p
+removable_found p ps there may = only_found (is_named p.at.node.word p.key) there p (sym (only_named p there) ∙ may.0)
+
+pub removable_rest : (p : Publication) (ps there : List Publication) → AreRemovable there (p ∷ ps) → AreRemovable (without p.at.node.word p.key there) ps
+removable_rest p ps there may = subst (λ (qs : List Publication). AreRemovable qs ps) (left_named p there) may.1
+
+-- those at a port can be
+pub closing_removable : (s : SocketTable) → AreSockets s → (port : ℕ) → AreRemovable s.names (filter (is_at port) s.live)
+closing_removable s h port = part_removable (filter (is_at port) s.live) s.names (port_part s h port) (names_once s.names h.names)
+
+found_part : (test : Publication → Bool) (p : Publication) (ps : List Publication) → find test ps ≡ Some p → (other : Publication → Bool) → count_by other (p ∷ []) ≤ count_by other ps
+found_part test p [] found other = absurd cc
+found_part test p (q ∷ qs) found other = by (test q) found (λ e. found_part test p qs e other)
+  where
+    by : (b : Bool) → cond b (Some q) (find test qs) ≡ Some p → (find test qs ≡ Some p → count_by other (p ∷ []) ≤ count_by other qs) → count_by other (p ∷ []) ≤ count_by other (q ∷ qs)
+    by true is later =
+        (let same : q ≡ p = cc in
+        let one = counted other p [] in
+        let all = counted other q qs in
+        let alike = ap (λ (r : Publication). cond {A = ℕ} (other r) 1 0) same in
+        omega (arith, one, all, alike))
+    by false is later = let rest = later is in let all = counted other q qs in omega (arith, rest, all)
+
+-- the publication of a key at a port can be
+pub offer_removable : (s : SocketTable) → AreSockets s → (port key : ℕ) → AreRemovable s.names (option_to_list (published_at s port key))
+offer_removable s h port key = by (published_at s port key) refl
+  where
+    live_part : (test : Publication → Bool) → count_by test s.live ≤ count_by test s.names
+    live_part test = let same = h.live test in let own = own_count s.own test s.names in let fewer = passing test s.names in omega (arith, same, own, fewer)
+      where
+        each : (a b : Bool) → cond {A = ℕ} (a && b) 1 0 ≤ cond {A = ℕ} b 1 0
+        each true b = omega arith
+        each false b = omega arith
+
+        passing : (other : Publication → Bool) (ps : List Publication) → count_by (λ p. is_of s.own p && other p) ps ≤ count_by other ps
+        passing other [] = omega arith
+        passing other (p ∷ ps) = omega (arith, counted (λ q. is_of s.own q && other q) p ps, counted other p ps, each (is_of s.own p) (other p), passing other ps)
+
+    by : (o : Option Publication) → published_at s port key ≡ o → AreRemovable s.names (option_to_list o)
+    by None is = tt
+    by (Some p) is =
+        part_removable (p ∷ []) s.names
+        (λ test. let one = found_part (λ q. is_at port q && has_key key q) p s.live is test in let all = live_part test in omega (arith, one, all))
+        (names_once s.names h.names)
+
 module _ (s : SocketTable) (h : AreSockets s) (port : ℕ) where
   at_port : List Publication
   at_port = filter (is_at port) s.live
@@ -260,12 +396,15 @@ module _ (s : SocketTable) (h : AreSockets s) (port : ℕ) where
       swapped q (p ∷ ps) = (λ i. and_turned (has_key p.key q) (is_at port p) i || swapped q ps i)
 
   -- when those at the port are withdrawn, what is left is what closing it leaves
-  withdrawn_at : withdrawn_each s (filter (is_at port) s.live) ≡ record { own = s.own; names = (closed s port).names; live = (closed s port).live; ports = s.ports; queues = s.queues }
+  withdrawn_at : withdrawn_each s (filter (is_at port) s.live) ≡ with_publications s (closed s port).names (closed s port).live (closed s port).watchers
   unfolding at_port
   withdrawn_at =
       withdrawn_all s at_port (none_filtered (λ p. not (is_of s.own p)) (is_at port) s.live (live_of_own s h))
-      ∙ (λ i. record { own = s.own; names = named i; live = lived i; ports = s.ports; queues = s.queues })
+      ∙ (λ i. with_publications s (named i) (lived i) (watched i))
     where
+      watched : (withdrawn_each s at_port).watchers ≡ (closed s port).watchers
+      watched = withdrawn_told s at_port (part_removable at_port s.names (port_part s h port) (names_once s.names h.names))
+
       named : left_of s.own at_port s.names ≡ (closed s port).names
       named = left_at s.names ∙ left_at_last s h port
 
@@ -275,8 +414,27 @@ module _ (s : SocketTable) (h : AreSockets s) (port : ℕ) where
   pub withdrawn_then_closed : closed (withdrawn_each s (filter (is_at port) s.live)) port ≡ closed s port
   withdrawn_then_closed =
       ap (λ (t : SocketTable). closed t port) withdrawn_at
-      ∙ (λ i. record { own = s.own; names = again (λ p. not (is_of s.own p && is_at port p)) s.names i; live = again (λ p. not (is_at port p)) s.live i; ports = (closed s port).ports; queues = (closed s port).queues })
+      ∙ (λ i. record {
+        own = s.own;
+        names = again (λ p. not (is_of s.own p && is_at port p)) s.names i;
+        live = again (λ p. not (is_at port p)) s.live i;
+        ports = (closed s port).ports;
+        queues = (closed s port).queues;
+        watchers = quiet i;
+      })
     where
+      quiet : with_loss (filter (is_at port) (filter (λ p. not (is_at port p)) s.live)) (closed s port).watchers ≡ (closed s port).watchers
+      quiet = ap (λ (ps : List Publication). with_loss ps (closed s port).watchers) (none_again s.live) ∙ no_loss (closed s port).watchers
+        where
+          none_again : (ps : List Publication) → filter (is_at port) (filter (λ p. not (is_at port p)) ps) ≡ []
+          none_again [] = refl
+          none_again (p ∷ ps) = by (is_at port p) refl (none_again ps)
+            where
+              by : (b : Bool) → is_at port p ≡ b → filter (is_at port) (filter (λ q. not (is_at port q)) ps) ≡ []
+                  → filter (is_at port) (cond (not b) (p ∷ filter (λ q. not (is_at port q)) ps) (filter (λ q. not (is_at port q)) ps)) ≡ []
+              by true e later = later
+              by false e later = ap (λ (b : Bool). cond b (p ∷ filter (is_at port) (filter (λ q. not (is_at port q)) ps)) (filter (is_at port) (filter (λ q. not (is_at port q)) ps))) e ∙ later
+
       again : (test : Publication → Bool) (ps : List Publication) → filter test (filter test ps) ≡ filter test ps
       again test ps = filter-filter test test ps ∙ filter_agree _ test (λ p. and_itself (test p)) ps
 
@@ -288,4 +446,4 @@ pub sockets_withdrawn_each : (s : SocketTable) (ps : List Publication) → AreSo
 sockets_withdrawn_each s [] h = h
 sockets_withdrawn_each s (p ∷ ps) h =
     sockets_withdrawn_each (withdrawn s p.at.node.word p.key) ps
-    (sockets_kept s (λ q. not (is_named p.at.node.word p.key q)) _ _ h (table_kept (λ q. not (is_named p.at.node.word p.key q)) s.names h.names) refl refl)
+    (sockets_kept s (λ q. not (is_named p.at.node.word p.key q)) _ _ _ h (table_kept (λ q. not (is_named p.at.node.word p.key q)) s.names h.names) refl refl)

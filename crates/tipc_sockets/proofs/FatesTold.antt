@@ -41,7 +41,7 @@ use Rattle.tipc_sockets.specs.Publishing.{is_at}
 use Rattle.tipc_sockets.specs.SocketTables.{has_port, queue_at, queued, queued_at_each, with_queues, AreSockets, SocketTable}
 use Rattle.tipc_sockets.specs.Telling.{fate_entry, is_for_one_there, is_payload, origin_of, AreTold}
 use Rattle.tipc_sockets.proofs.Closing.{and_false, and_turned, eq_turned, list_any_filtered, or_false}
-use Rattle.tipc_sockets.proofs.Entries.{home_more, told_entry}
+use Rattle.tipc_sockets.proofs.Entries.{home_more, told_entry, watched_plainly}
 use Rattle.tipc_sockets.proofs.Keeping.{and_right, and_true, keys-queued_at_each, lookup_elsewhere, not_true, port_there, queue_there}
 
 -- ---- a message at each of some ports
@@ -319,6 +319,7 @@ module _ (own : Addr) (J : List Entry) (d : Due) (front : List Entry) (s : Socke
       placed = list_all_agree _ _ (λ (p : Publication). port_stays m ports p.at.port) s.live ∙ h.placed;
       unused = λ port above. queue_more ports port ∙ ap (λ (ms : List Message). queue_inside own J d front port ++ ms) (none_comes port above) ∙ append-nil (queue_inside own J d front port) ∙ h.unused port above;
       fed = h.fed;
+      watchers = watched_plainly own J d front s h (entry.Queued ports) (record { keeps = λ n b. refl; ticks = λ n b. refl; numbers = λ ns. refl; plain = refl; tells = λ n b. refl }) (λ asked. refl) (λ ps. refl) (λ ps. refl);
     }
       where
         by : (port : ℕ) (waiting : List Message) (found : Option (List Message)) → queue_at s port ≡ found → option_map (λ (ms : List Message). ms ++ coming m ports port) found ≡ Some waiting
@@ -336,10 +337,10 @@ module _ (own : Addr) (J : List Entry) (d : Due) (front : List Entry) (s : Socke
 
     told_plain : (f : Fate) → is_queued f ≡ false → AreTold own J d (front ++ fate_entry f ∷ []) (after_fate s m f)
     told_plain (Queued ports) plain = absurd (true≢false plain)
-    told_plain (Returned (Payload importance form from to kind lower upper code droppable body)) plain = told_entry own J d front s h (entry.Returned code) refl (quiet (entry.Returned code) (λ port. refl)) refl
-    told_plain (Returned (Items withdrawal items)) plain = told_entry own J d front s h (entry.Dropped 0) refl (quiet (entry.Dropped 0) (λ port. refl)) refl
-    told_plain (ReturnDropped waiting) plain = told_entry own J d front s h (entry.ReturnDropped waiting) refl (quiet (entry.ReturnDropped waiting) (λ port. refl)) refl
-    told_plain Dropped plain = told_entry own J d front s h (entry.Dropped 0) refl (quiet (entry.Dropped 0) (λ port. refl)) refl
+    told_plain (Returned (Payload importance form from to kind lower upper code droppable body)) plain = told_entry own J d front s h k (entry.Returned code) refl (quiet (entry.Returned code) (λ port. refl)) refl tt
+    told_plain (Returned (Items withdrawal items)) plain = told_entry own J d front s h k (entry.Dropped 0) refl (quiet (entry.Dropped 0) (λ port. refl)) refl tt
+    told_plain (ReturnDropped waiting) plain = told_entry own J d front s h k (entry.ReturnDropped waiting) refl (quiet (entry.ReturnDropped waiting) (λ port. refl)) refl tt
+    told_plain Dropped plain = told_entry own J d front s h k (entry.Dropped 0) refl (quiet (entry.Dropped 0) (λ port. refl)) refl tt
 
     told_one_port : (waiting : Option ℕ) (port : ℕ) (why : Option ℕ) → (why ≡ None → has_port s port ≡ true)
         → AreTold own J d (front ++ fate_entry (one_port_fate s.own waiting port why m) ∷ []) (after_fate s m (one_port_fate s.own waiting port why m))

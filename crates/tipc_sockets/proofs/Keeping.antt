@@ -18,10 +18,11 @@ use Rattle.tipc_name_table.proofs.Places.{count_by-put, filter-put}
 use Rattle.tipc_name_table.proofs.TableLaws.{table_kept}
 use Rattle.tipc_ports.specs.Numbers.{port_number}
 use Rattle.tipc_ports.proofs.PortLaws.{found_there, port_removed, present_new, present_without}
-use Rattle.tipc_sockets.specs.Publishing.{closed, has_key, is_at, publish_refusal}
+use Rattle.tipc_topology.specs.Changing.{Watchers}
+use Rattle.tipc_sockets.specs.Publishing.{closed, has_key, is_at, publish_refusal, published_at}
 use Rattle.tipc_sockets.specs.declared.publishing.PublishFault.TheVariants as refused
-use Rattle.tipc_sockets.specs.SocketTables.{has_port, queued, queued_at_each, with_queues, with_socket, AreSockets, SocketTable}
-use Rattle.tipc_sockets.proofs.Counting.{count_by-agree, count_by-all, count_by-append, count_by-filter, count_by-one, counts_none, filter_none, found_none, none_counts}
+use Rattle.tipc_sockets.specs.SocketTables.{has_port, queued, queued_at_each, with_publications, with_queues, with_socket, with_watchers, AreSockets, SocketTable}
+use Rattle.tipc_sockets.proofs.Counting.{count_by-agree, count_by-all, count_by-append, count_by-filter, count_by-one, counts_none, filter_none, found_none, none_counts, some_counts}
 
 -- ---- queues
 
@@ -110,24 +111,41 @@ put_live own p names live h test =
 -- ---- what calls change
 
 -- other publications, where the own names and the live ones are still the same
-pub other_publications : (s : SocketTable) (names live : List Publication) → AreSockets s → IsTable names
-    → ((test : Publication → Bool) → count_by test (filter (is_of s.own) names) ≡ count_by test live) → AreSockets (record { own = s.own; names = names; live = live; ports = s.ports; queues = s.queues })
-other_publications s names live h table same = record { node = h.node; present = h.present; queues = h.queues; names = table; live = same }
+pub other_publications : (s : SocketTable) (names live : List Publication) (watchers : Watchers) → AreSockets s → IsTable names
+    → ((test : Publication → Bool) → count_by test (filter (is_of s.own) names) ≡ count_by test live) → AreSockets (with_publications s names live watchers)
+other_publications s names live watchers h table same = record { node = h.node; present = h.present; queues = h.queues; names = table; live = same }
 
-pub sockets_published : (s : SocketTable) (p : Publication) (names live : List Publication) → AreSockets s → IsTable names
-    → names ≡ put p s.names → live ≡ (if is_of s.own p then s.live ++ p ∷ [] else s.live) → AreSockets (record { own = s.own; names = names; live = live; ports = s.ports; queues = s.queues })
-sockets_published s p names live h table named lived =
-    other_publications s names live h table (λ test. ap (λ (ps : List Publication). count_by test (filter (is_of s.own) ps)) named ∙ put_live s.own p s.names s.live h.live test ∙ ap (λ (ps : List Publication). count_by test ps) (sym lived))
+pub sockets_published : (s : SocketTable) (p : Publication) (names live : List Publication) (watchers : Watchers) → AreSockets s → IsTable names
+    → names ≡ put p s.names → live ≡ (if is_of s.own p then s.live ++ p ∷ [] else s.live) → AreSockets (with_publications s names live watchers)
+sockets_published s p names live watchers h table named lived =
+    other_publications s names live watchers h table (λ test. ap (λ (ps : List Publication). count_by test (filter (is_of s.own) ps)) named ∙ put_live s.own p s.names s.live h.live test ∙ ap (λ (ps : List Publication). count_by test ps) (sym lived))
 
-pub sockets_kept : (s : SocketTable) (kept : Publication → Bool) (names live : List Publication) → AreSockets s → IsTable names
-    → names ≡ filter kept s.names → live ≡ filter kept s.live → AreSockets (record { own = s.own; names = names; live = live; ports = s.ports; queues = s.queues })
-sockets_kept s kept names live h table named lived =
-    other_publications s names live h table (λ test. ap (λ (ps : List Publication). count_by test (filter (is_of s.own) ps)) named ∙ kept_live s.own kept s.names s.live h.live test ∙ ap (λ (ps : List Publication). count_by test ps) (sym lived))
+-- no more are kept than there were
+pub fewer_kept : {A : Type 0} (kept : A → Bool) (xs : List A) → length (filter kept xs) ≤ length xs
+fewer_kept kept [] = omega arith
+fewer_kept kept (x ∷ xs) = by (kept x) (fewer_kept kept xs)
+  where
+    by : (b : Bool) → length (filter kept xs) ≤ length xs → length (cond b (x ∷ filter kept xs) (filter kept xs)) ≤ length (x ∷ xs)
+    by true later = omega (arith, later)
+    by false later = omega (arith, later)
 
-pub same_publications : (s : SocketTable) (names live : List Publication) → AreSockets s → IsTable names
-    → names ≡ s.names → live ≡ s.live → AreSockets (record { own = s.own; names = names; live = live; ports = s.ports; queues = s.queues })
-same_publications s names live h table named lived =
-    other_publications s names live h table (λ test. ap (λ (ps : List Publication). count_by test (filter (is_of s.own) ps)) named ∙ h.live test ∙ ap (λ (ps : List Publication). count_by test ps) (sym lived))
+-- so many places are enough for those that are kept
+pub fewer_left : (kept : Publication → Bool) (names : List Publication) (places : ℕ) → length names ≤ places → length (filter kept names) ≤ places
+fewer_left kept names places enough = let fewer = fewer_kept kept names in omega (arith, fewer, enough)
+
+pub sockets_kept : (s : SocketTable) (kept : Publication → Bool) (names live : List Publication) (watchers : Watchers) → AreSockets s → IsTable names
+    → names ≡ filter kept s.names → live ≡ filter kept s.live → AreSockets (with_publications s names live watchers)
+sockets_kept s kept names live watchers h table named lived =
+    other_publications s names live watchers h table (λ test. ap (λ (ps : List Publication). count_by test (filter (is_of s.own) ps)) named ∙ kept_live s.own kept s.names s.live h.live test ∙ ap (λ (ps : List Publication). count_by test ps) (sym lived))
+
+pub same_publications : (s : SocketTable) (names live : List Publication) (watchers : Watchers) → AreSockets s → IsTable names
+    → names ≡ s.names → live ≡ s.live → AreSockets (with_publications s names live watchers)
+same_publications s names live watchers h table named lived =
+    other_publications s names live watchers h table (λ test. ap (λ (ps : List Publication). count_by test (filter (is_of s.own) ps)) named ∙ h.live test ∙ ap (λ (ps : List Publication). count_by test ps) (sym lived))
+
+-- other subscriptions
+pub other_watchers : (s : SocketTable) (watchers : Watchers) → AreSockets s → AreSockets (with_watchers s watchers)
+other_watchers s watchers h = record { node = h.node; present = h.present; queues = h.queues; names = h.names; live = h.live }
 
 -- ---- a socket more
 
@@ -233,3 +251,31 @@ pub own_names_count : (s : SocketTable) → AreSockets s → count_by (is_of s.o
 own_names_count s h =
     count_by-agree (is_of s.own) (λ p. is_of s.own p && true) (λ p. sym (and_true (is_of s.own p))) s.names
     ∙ sym (own_count s.own (λ p. true) s.names) ∙ h.live (λ p. true) ∙ count_by-all s.live
+
+-- a key that is live is that of an own name
+pub live_key_named : (s : SocketTable) (key : ℕ) → AreSockets s → list_any (has_key key) s.live ≡ true → list_any (is_named s.own key) s.names ≡ true
+live_key_named s key h some = by (list_any (is_named s.own key) s.names) refl
+  where
+    by : (b : Bool) → list_any (is_named s.own key) s.names ≡ b → list_any (is_named s.own key) s.names ≡ true
+    by true e = e
+    by false none =
+        let counts = own_count s.own (has_key key) s.names in
+        let same = h.live (has_key key) in
+        let zero = none_counts (is_named s.own key) s.names none in
+        let one = some_counts (has_key key) s.live some in
+        absurd (omega (arith, counts, same, zero, one))
+
+-- a publication that is live is found among the names by its key
+pub live_key_found : (s : SocketTable) (port key : ℕ) (p : Publication) → AreSockets s → published_at s port key ≡ Some p → find (is_named s.own key) s.names ≡ None → ⊥
+live_key_found s port key p h live none =
+    true≢false (sym (live_key_named s key h (some_key s.live live)) ∙ found_none (is_named s.own key) s.names none)
+  where
+    some_key : (ps : List Publication) → find (λ q. is_at port q && has_key key q) ps ≡ Some p → list_any (has_key key) ps ≡ true
+    some_key [] e = absurd cc
+    some_key (q ∷ qs) e = by (is_at port q) (has_key key q) e (some_key qs)
+      where
+        by : (a b : Bool) → cond (a && b) (Some q) (find (λ r. is_at port r && has_key key r) qs) ≡ Some p
+            → (find (λ r. is_at port r && has_key key r) qs ≡ Some p → list_any (has_key key) qs ≡ true) → b || list_any (has_key key) qs ≡ true
+        by a true e later = refl
+        by true false e later = later e
+        by false false e later = later e

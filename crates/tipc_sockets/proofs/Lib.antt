@@ -5,4 +5,6 @@ pub mod Entries
 pub mod FatesTold
 pub mod Keeping
 pub mod StepsTold
+pub mod Subscribers
 pub mod Waiting
+pub mod Watched

@@ -1,6 +1,6 @@
 -- One more whole step tells what the sockets hold after its call.
-use Rattle.std.proofs.Common.{◌≡◌, ◌<◌, ℕ, suc, zero, ◌+◌, Bool, true, false, not, cond, ◌&&◌, List, [], ◌∷◌, ◌++◌, length, drop, Option, None, Some, is_some, filter, refl, sym, ap, subst, ◌∙◌, true≢false, eqb-true, arith, length-append}
-use Rattle.std.specs.Prelude.{nat_eq, option_map, unwrap_or, ◌==◌}
+use Rattle.std.proofs.Common.{◌≡◌, ◌<◌, ℕ, suc, zero, ◌+◌, Bool, true, false, not, cond, ◌&&◌, ◌||◌, List, [], ◌∷◌, ◌++◌, length, drop, Option, None, Some, is_some, filter, refl, sym, ap, subst, ◌∙◌, true≢false, eqb-true, arith, length-append}
+use Rattle.std.specs.Prelude.{nat_eq, slice_get, option_map, unwrap_or, ◌==◌}
 use Rattle.std.specs.Cmp.{nat_eq_equiv}
 use Rattle.std.specs.List.{list_all, list_any, IsDistinct}
 use Rattle.std.specs.Map.{keys_of, lookup, set_value}
@@ -11,26 +11,32 @@ use Rattle.std.proofs.lemmas.List.Folds.{list_all-append}
 use Rattle.std.proofs.lemmas.Map.{keys-set_value, lookup-remove_entry}
 use Rattle.tipc_types.specs.declared.identity.Addr.{Addr}
 use Rattle.tipc_types.specs.declared.message_forms.Message.{Message}
+use Rattle.tipc_types.specs.declared.node_calls.Event.{Event}
+use Rattle.tipc_types.specs.declared.node_calls.EventNote.TheVariants.{Tick}
 use Rattle.tipc_types.specs.declared.services.Publication.{Publication}
 use Rattle.tipc_name_table.specs.Tables.{is_of}
 use Rattle.tipc_journal.specs.declared.entries.Entry.{Entry}
 use Rattle.tipc_journal.specs.declared.entries.Entry.TheVariants.{Answered}
 use Rattle.tipc_journal.specs.Dues.{Due, first_due}
+use Rattle.tipc_journal.specs.Licensed.{event_given, events_given}
 use Rattle.tipc_journal.specs.Matches.{names}
 use Rattle.tipc_journal.specs.Names.{live, is_at_home, AreAtHome}
 use Rattle.tipc_journal.specs.Prefixes.{list_with}
 use Rattle.tipc_journal.specs.Queues.{is_taking, queue_inside, sockets_after}
-use Rattle.tipc_journal.specs.Refusals.{made_by, sockets_made}
+use Rattle.tipc_journal.specs.Refusals.{is_subscribed, made_by, sockets_made}
 use Rattle.tipc_journal.specs.Steps.{NodeStep, step_entries, IsInside, IsWhole}
 use Rattle.tipc_journal.proofs.CountLaws.{sockets_made_step}
 use Rattle.tipc_journal.proofs.DueLaws.{queue_inside_nil}
 use Rattle.tipc_journal.proofs.QueueLaws.{queue_step, sockets_step, IsFed_step}
 use Rattle.tipc_journal.proofs.WholeSteps.{live_step, names_step}
 use Rattle.tipc_ports.specs.Numbers.{port_number}
+use Rattle.tipc_topology.specs.Changing.{due, events_left, of_number, passed, taken_from as taken_one, with_kept, with_loss, Watchers}
 use Rattle.tipc_sockets.specs.Publishing.{closed, is_at}
-use Rattle.tipc_sockets.specs.SocketTables.{has_port, queue_at, taken_from, with_queues, with_socket, AreSockets, SocketTable}
-use Rattle.tipc_sockets.specs.Telling.{AreTold}
-use Rattle.tipc_sockets.proofs.Closing.{eq_turned, or_parts}
+use Rattle.tipc_sockets.specs.SocketTables.{has_port, queue_at, taken_from, with_queues, with_socket, with_watchers, AreSockets, SocketTable}
+use Rattle.tipc_sockets.specs.Telling.{is_tick, AreTold}
+use Rattle.tipc_sockets.specs.Watched.{AreWatchersTold}
+use Rattle.tipc_sockets.proofs.Closing.{eq_turned, no_loss, or_parts}
+use Rattle.tipc_sockets.proofs.Subscribers.{gave_first, told_next, told_quiet, told_tick}
 use Rattle.tipc_sockets.proofs.FatesTold.{list_all_agree, lookup_here, rising_distinct, some_is_none}
 use Rattle.tipc_sockets.proofs.Counting.{counts_none, filter_none, none_counts}
 use Rattle.tipc_sockets.proofs.Keeping.{eq_itself, lookup_elsewhere, own_count, queue_there}
@@ -54,6 +60,7 @@ pub record IsCalled (own : Addr) (J : List Entry) (st : NodeStep) (s after : Soc
   pub placed : list_all (λ p. has_port after p.at.port) s.live ≡ true
   pub unused : (port : ℕ) → port_number after.ports.boot after.ports.made < port → port_number s.ports.boot s.ports.made < port
   pub taken : (port : ℕ) → is_taking port st.event st.answer ≡ true → 0 < length (queue_inside own J (first_due own st.event st.answer) st.inside port)
+  pub watchers : AreWatchersTold (J ++ step_entries st) (events_given (J ++ step_entries st)) after.watchers
 
 none_left : {A : Type 0} (n : ℕ) (xs : List A) → xs ≡ [] → drop n xs ≡ []
 none_left n xs e = ap (drop n) e ∙ empty n
@@ -97,6 +104,14 @@ list_all_apart port s after (p ∷ ps) bare all same =
     let none = or_parts (is_at port p) (list_any (is_at port) ps) bare in
     and_from _ _ (same p.at.port (eq_turned port p.at.port ∙ none.0) ∙ parts.0) (list_all_apart port s after ps none.1 parts.1 same)
 
+none_filtered_out : {X : Type 0} (test : X → Bool) (xs : List X) → list_any test xs ≡ false → filter test xs ≡ []
+none_filtered_out test [] none = refl
+none_filtered_out test (x ∷ xs) none = by (test x) none (none_filtered_out test xs)
+  where
+    by : (b : Bool) → b || list_any test xs ≡ false → (list_any test xs ≡ false → filter test xs ≡ []) → cond b (x ∷ filter test xs) (filter test xs) ≡ []
+    by true e later = absurd (true≢false e)
+    by false e later = later e
+
 module _ (own : Addr) (J : List Entry) (st : NodeStep) (s : SocketTable) (later : Due) (whole : IsWhole J) (inner : IsInside st.inside)
     (h : AreTold own J (first_due own st.event st.answer) st.inside s) where
   queue_after : (port : ℕ) → queue_inside own (J ++ step_entries st) later [] port ≡ drop (cond (is_taking port st.event st.answer) 1 0) (queue_inside own J (first_due own st.event st.answer) st.inside port)
@@ -114,6 +129,7 @@ module _ (own : Addr) (J : List Entry) (st : NodeStep) (s : SocketTable) (later 
     placed = ap (λ (ps : List Publication). list_all (λ p. has_port after p.at.port) ps) c.live ∙ c.placed;
     unused = λ port above. queue_after port ∙ none_left _ _ (h.unused port (c.unused port above));
     fed = λ port. IsFed_step own J st port whole inner (h.fed port) (c.taken port);
+    watchers = subst (λ (es : List Entry). AreWatchersTold es (events_given (J ++ step_entries st)) after.watchers) (sym (append-nil (J ++ step_entries st))) c.watchers;
   }
 
   -- ---- what each call changes
@@ -129,10 +145,18 @@ module _ (own : Addr) (J : List Entry) (st : NodeStep) (s : SocketTable) (later 
   made_same : made_by st.event st.answer ≡ None → s.ports.made ≡ length (list_with (sockets_made J) (made_by st.event st.answer))
   made_same none = h.made ∙ ap (λ (o : Option ℕ). length (list_with (sockets_made J) o)) (sym none)
 
+  -- the subscriptions behind the step
+  abbrev pub WatchedBehind : Watchers → Type 0
+  WatchedBehind t = AreWatchersTold (J ++ step_entries st) (events_given (J ++ step_entries st)) t
+
+  -- a step that is no tick and gives no event
+  watched_quiet : is_tick st.event ≡ false → ((n : ℕ) → event_given n st.event st.answer ≡ None) → WatchedBehind s.watchers
+  watched_quiet still none = told_quiet J st s.watchers whole inner still none h.watchers
+
   -- no socket is made or closed, and no message is taken
-  pub told_other : ((ports : List ℕ) → sockets_after ports st.event st.answer ≡ ports) → made_by st.event st.answer ≡ None → ((port : ℕ) → is_taking port st.event st.answer ≡ false)
-      → AreTold own (J ++ step_entries st) later [] s
-  told_other stay none quiet = told_step s (record {
+  pub told_watched : (t : Watchers) → ((ports : List ℕ) → sockets_after ports st.event st.answer ≡ ports) → made_by st.event st.answer ≡ None → ((port : ℕ) → is_taking port st.event st.answer ≡ false)
+      → WatchedBehind t → AreTold own (J ++ step_entries st) later [] (with_watchers s t)
+  told_watched t stay none quiet watched = told_step (with_watchers s t) (record {
     node = refl;
     live = refl;
     names = refl;
@@ -142,15 +166,34 @@ module _ (own : Addr) (J : List Entry) (st : NodeStep) (s : SocketTable) (later 
     placed = h.placed;
     unused = λ port above. above;
     taken = λ port taking. not_taken port (quiet port) taking;
+    watchers = watched;
   })
+
+  pub told_other : ((ports : List ℕ) → sockets_after ports st.event st.answer ≡ ports) → made_by st.event st.answer ≡ None → ((port : ℕ) → is_taking port st.event st.answer ≡ false)
+      → is_tick st.event ≡ false → ((n : ℕ) → event_given n st.event st.answer ≡ None) → AreTold own (J ++ step_entries st) later [] s
+  told_other stay none quiet still nothing = told_watched s.watchers stay none quiet (watched_quiet still nothing)
+
+  -- an event of a subscription is given
+  pub told_event : (number : ℕ) (e : Event) → ((ports : List ℕ) → sockets_after ports st.event st.answer ≡ ports) → made_by st.event st.answer ≡ None → ((port : ℕ) → is_taking port st.event st.answer ≡ false)
+      → is_tick st.event ≡ false → ((n : ℕ) → event_given n st.event st.answer ≡ gave_first number e n) → slice_get (events_left (of_number s.watchers number)) 0 ≡ Some e
+      → AreTold own (J ++ step_entries st) later [] (with_watchers s (with_kept s.watchers (taken_one number s.watchers.kept)))
+  told_event number e stay none quiet still gives first =
+      told_watched _ stay none quiet (told_next J st s.watchers number e whole inner still gives first h.watchers)
+
+  -- a tick passes, in which those that were due have ended
+  pub told_passed : ((ports : List ℕ) → sockets_after ports st.event st.answer ≡ ports) → made_by st.event st.answer ≡ None → ((port : ℕ) → is_taking port st.event st.answer ≡ false)
+      → st.event ≡ Tick → ((n : ℕ) → event_given n st.event st.answer ≡ None) → list_any is_subscribed st.inside ≡ false → due s.watchers.kept ≡ []
+      → AreTold own (J ++ step_entries st) later [] (with_watchers s (passed s.watchers))
+  told_passed stay none quiet tick nothing unmade over =
+      told_watched _ stay none quiet (told_tick J st s.watchers whole inner tick nothing unmade over h.watchers)
 
   -- ---- a socket is made
 
   -- a socket is made at the next port
   pub told_made : (port : ℕ) → port ≡ port_number s.ports.boot (s.ports.made + 1)
       → ((ports : List ℕ) → sockets_after ports st.event st.answer ≡ ports ++ port ∷ []) → made_by st.event st.answer ≡ Some port → ((other : ℕ) → is_taking other st.event st.answer ≡ false)
-      → AreTold own (J ++ step_entries st) later [] (with_socket s port)
-  told_made port is more one quiet = told_step (with_socket s port) (record {
+      → is_tick st.event ≡ false → ((n : ℕ) → event_given n st.event st.answer ≡ None) → AreTold own (J ++ step_entries st) later [] (with_socket s port)
+  told_made port is more one quiet still nothing = told_step (with_socket s port) (record {
     node = refl;
     live = refl;
     names = refl;
@@ -160,6 +203,7 @@ module _ (own : Addr) (J : List Entry) (st : NodeStep) (s : SocketTable) (later 
     placed = list_all_from (λ p. has_port s p.at.port) (λ p. has_port (with_socket s port) p.at.port) (λ p there. still_there port p.at.port s.queues there) s.live h.placed;
     unused = λ other above. omega (arith, above);
     taken = λ other taking. not_taken other (quiet other) taking;
+    watchers = watched_quiet still nothing;
   })
     where
       by : (other : ℕ) (waiting : List Message) (old : Option (List Message)) → queue_at s other ≡ old → or_new old (nat_eq other port) ≡ Some waiting
@@ -176,8 +220,8 @@ module _ (own : Addr) (J : List Entry) (st : NodeStep) (s : SocketTable) (later 
   -- a port without publications is closed
   pub told_closed : (port : ℕ) → AreSockets s → list_any (is_at port) s.live ≡ false
       → ((ports : List ℕ) → sockets_after ports st.event st.answer ≡ filter (λ q. not (q == port)) ports) → made_by st.event st.answer ≡ None → ((other : ℕ) → is_taking other st.event st.answer ≡ false)
-      → AreTold own (J ++ step_entries st) later [] (closed s port)
-  told_closed port k bare fewer none quiet = told_step (closed s port) (record {
+      → is_tick st.event ≡ false → ((n : ℕ) → event_given n st.event st.answer ≡ None) → AreTold own (J ++ step_entries st) later [] (closed s port)
+  told_closed port k bare fewer none quiet still nothing = told_step (closed s port) (record {
     node = refl;
     live = filter_none (is_at port) s.live bare;
     names = filter_none (λ p. is_of s.own p && is_at port p) s.names (counts_none _ s.names (sym (own_count s.own (is_at port) s.names) ∙ k.live (is_at port) ∙ none_counts (is_at port) s.live bare));
@@ -187,6 +231,7 @@ module _ (own : Addr) (J : List Entry) (st : NodeStep) (s : SocketTable) (later 
     placed = list_all_apart port s (closed s port) s.live bare h.placed (λ other apart. ap is_some (lookup-remove_entry nat_eq_equiv (nat_eq port) (λ x y e. ap (λ (n : ℕ). nat_eq n y) (eqb-true port x e)) other s.queues distinct ∙ ap (λ (b : Bool). cond b None (queue_at s other)) apart));
     unused = λ other above. above;
     taken = λ other taking. not_taken other (quiet other) taking;
+    watchers = subst WatchedBehind (sym (ap (λ (ps : List Publication). with_loss ps s.watchers) (none_filtered_out (is_at port) s.live bare) ∙ no_loss s.watchers)) (watched_quiet still nothing);
   })
     where
       distinct : IsDistinct nat_eq (keys_of s.queues)
@@ -199,8 +244,8 @@ module _ (own : Addr) (J : List Entry) (st : NodeStep) (s : SocketTable) (later 
   -- the first message of a port is taken
   pub told_taken : (port : ℕ) → 0 < length (unwrap_or (queue_at s port) [])
       → ((ports : List ℕ) → sockets_after ports st.event st.answer ≡ ports) → made_by st.event st.answer ≡ None → ((other : ℕ) → is_taking other st.event st.answer ≡ nat_eq port other)
-      → AreTold own (J ++ step_entries st) later [] (with_queues s (taken_from s.queues port))
-  told_taken port some stay none takes = told_step (with_queues s (taken_from s.queues port)) (record {
+      → is_tick st.event ≡ false → ((n : ℕ) → event_given n st.event st.answer ≡ None) → AreTold own (J ++ step_entries st) later [] (with_queues s (taken_from s.queues port))
+  told_taken port some stay none takes still nothing = told_step (with_queues s (taken_from s.queues port)) (record {
     node = refl;
     live = refl;
     names = refl;
@@ -210,6 +255,7 @@ module _ (own : Addr) (J : List Entry) (st : NodeStep) (s : SocketTable) (later 
     placed = list_all_agree _ _ (λ (p : Publication). port_stays p.at.port) s.live ∙ h.placed;
     unused = λ other above. above;
     taken = λ other taking. there other (eqb-true port other (sym (takes other) ∙ taking)) (queue_at s port) refl some;
+    watchers = watched_quiet still nothing;
   })
     where
       rest : List Message

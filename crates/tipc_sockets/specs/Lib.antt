@@ -1,5 +1,6 @@
--- What the sockets of one node hold, what is published at them, and what becomes of a message.
+-- What the sockets of one node hold, what is published at them, what becomes of a message, and what subscribers are told.
 pub mod Fates
 pub mod Publishing
 pub mod SocketTables
 pub mod Telling
+pub mod Watched

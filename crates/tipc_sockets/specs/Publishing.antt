@@ -1,16 +1,20 @@
--- Publications: when one is refused at an own port, and what a publication, a withdrawal and a closing change.
+-- Publications: when one is refused at an own port, and what a publication, a withdrawal and a closing change. Each is
+-- told to the subscribers.
 use Rattle.std.specs.Prelude.{ℕ, ◌==◌, ◌&&◌, Bool, not, nat_eq, nat_le, nat_lt, if◌then◌else◌, List, [], ◌∷◌, ◌++◌, Option, None, Some, filter, find, fold, length}
 use Rattle.std.specs.List.{list_any}
 use Rattle.std.specs.Map.{remove_entry}
 use Rattle.tipc_types.specs.Span.{Span}
 use Rattle.tipc_types.specs.declared.services.Publication.{Publication}
 use Rattle.tipc_types.specs.declared.services.Scope.{Scope}
-use Rattle.tipc_name_table.specs.Tables.{is_of, put, without as without_named, without_node}
+use Rattle.tipc_types.specs.Watching.{in_order}
+use Rattle.tipc_name_table.specs.Tables.{is_named, is_of, put, without as without_named, without_node}
 use Rattle.tipc_journal.specs.Refusals.{first_free_type, most_publications}
 use Rattle.tipc_ports.specs.Numbers.{without}
 use Rattle.tipc_sockets.specs.declared.publishing.PublishFault.{PublishFault}
 use Rattle.tipc_sockets.specs.declared.publishing.PublishFault.TheVariants as refused
-use Rattle.tipc_sockets.specs.SocketTables.{has_port, SocketTable}
+use Rattle.tipc_topology.specs.declared.changes.TableChange.TheVariants.{Added}
+use Rattle.tipc_topology.specs.Changing.{changed, with_loss}
+use Rattle.tipc_sockets.specs.SocketTables.{has_port, with_publications, SocketTable}
 
 -- whether a publication is at a port
 abbrev pub is_at : ℕ → Publication → Bool
@@ -42,44 +46,29 @@ abbrev pub own_publication : ℕ → ℕ → Span → Scope → ℕ → Publicat
 own_publication own port range scope key =
     record { range = range; scope = scope; at = record { node = record { word = own }; port = port }; key = key }
 
--- one more publication is known; an own one was published last
+-- one more publication is known, and subscribers are told so; an own one was published last
 abbrev pub published : SocketTable → Publication → SocketTable
 published s p =
-    record {
-      own = s.own;
-      names = put p s.names;
-      live = if is_of s.own p then s.live ++ p ∷ [] else s.live;
-      ports = s.ports;
-      queues = s.queues;
-    }
+    with_publications s (put p s.names) (if is_of s.own p then s.live ++ p ∷ [] else s.live) (changed (Added p) s.watchers)
 
--- the publication of a node and key is withdrawn
+-- the publication of a node and key is withdrawn, and subscribers are told so
 abbrev pub withdrawn : SocketTable → ℕ → ℕ → SocketTable
 withdrawn s node key =
-    record {
-      own = s.own;
-      names = without_named node key s.names;
-      live = without_named node key s.live;
-      ports = s.ports;
-      queues = s.queues;
-    }
+    with_publications s (without_named node key s.names) (without_named node key s.live)
+    (with_loss (filter (is_named node key) s.names) s.watchers)
 
 -- these publications are withdrawn, one after the other
 abbrev pub withdrawn_each : SocketTable → List Publication → SocketTable
 withdrawn_each s ps = fold (λ those p. withdrawn those p.at.node.word p.key) s ps
 
--- all publications of a node are withdrawn
+-- all publications of a node are withdrawn; subscribers are told of them in the order of events
 abbrev pub purged : SocketTable → ℕ → SocketTable
 purged s node =
-    record {
-      own = s.own;
-      names = without_node node s.names;
-      live = without_node node s.live;
-      ports = s.ports;
-      queues = s.queues;
-    }
+    with_publications s (without_node node s.names) (without_node node s.live)
+    (with_loss (in_order (filter (is_of node) s.names)) s.watchers)
 
--- a port is closed: its own publications are withdrawn, and the messages that wait there are dropped
+-- a port is closed: its own publications are withdrawn in the order of publishing, and subscribers are told so; the
+-- messages that wait there are dropped
 abbrev pub closed : SocketTable → ℕ → SocketTable
 closed s port =
     record {
@@ -88,4 +77,5 @@ closed s port =
       live = filter (λ p. not (is_at port p)) s.live;
       ports = record { boot = s.ports.boot; made = s.ports.made; present = without port s.ports.present };
       queues = remove_entry (nat_eq port) s.queues;
+      watchers = with_loss (filter (is_at port) s.live) s.watchers;
     }

@@ -1,4 +1,5 @@
--- The sockets of one node: the publications that it knows, its ports, and the messages that wait at each of them.
+-- The sockets of one node: the publications that it knows, its ports, the messages that wait at each of them, and the
+-- subscriptions.
 use Rattle.std.specs.Prelude.{◌≡◌, ◌+◌, ℕ, Bool, List, [], ◌∷◌, ◌++◌, Option, is_some, nat_eq, drop, fold, filter, count_by, unwrap_or}
 use Rattle.std.specs.Map.{keys_of, lookup, set_value}
 use Rattle.tipc_types.specs.Address.{IsNodeWord}
@@ -6,20 +7,29 @@ use Rattle.tipc_types.specs.declared.message_forms.Message.{Message}
 use Rattle.tipc_types.specs.declared.services.Publication.{Publication}
 use Rattle.tipc_name_table.specs.Tables.{is_of, IsTable}
 use Rattle.tipc_ports.specs.Numbers.{ArePresent, PortTable}
+use Rattle.tipc_topology.specs.Changing.{no_watchers, Watchers}
 
 -- a node's sockets: its address word; every publication that it knows, in order of node, port and key; its own ones,
--- in the order of publishing; its ports; and each port with the messages that wait there
+-- in the order of publishing; its ports; each port with the messages that wait there; and its subscriptions
 pub record SocketTable : Type 0 where
   pub own : ℕ
   pub names : List Publication
   pub live : List Publication
   pub ports : PortTable
   pub queues : List (ℕ × List Message)
+  pub watchers : Watchers
 
 -- the sockets of a node of this address and boot, before any is made
 abbrev pub no_sockets : ℕ → ℕ → SocketTable
 no_sockets own boot =
-    record { own = own; names = []; live = []; ports = record { boot = boot; made = 0; present = [] }; queues = [] }
+    record {
+      own = own;
+      names = [];
+      live = [];
+      ports = record { boot = boot; made = 0; present = [] };
+      queues = [];
+      watchers = no_watchers;
+    }
 
 -- the messages that wait at a port, or none of that where the port isn't there
 abbrev pub queue_at : SocketTable → ℕ → Option (List Message)
@@ -31,7 +41,17 @@ has_port s port = is_some (queue_at s port)
 
 -- the same sockets with other queues
 abbrev pub with_queues : SocketTable → List (ℕ × List Message) → SocketTable
-with_queues s queues = record { own = s.own; names = s.names; live = s.live; ports = s.ports; queues = queues }
+with_queues s queues =
+    record { own = s.own; names = s.names; live = s.live; ports = s.ports; queues = queues; watchers = s.watchers }
+
+-- the same sockets with other publications, and subscriptions that were told so
+abbrev pub with_publications : SocketTable → List Publication → List Publication → Watchers → SocketTable
+with_publications s names live watchers =
+    record { own = s.own; names = names; live = live; ports = s.ports; queues = s.queues; watchers = watchers }
+
+-- the same sockets with other subscriptions
+abbrev pub with_watchers : SocketTable → Watchers → SocketTable
+with_watchers s watchers = with_publications s s.names s.live watchers
 
 -- one socket more, at a port where nothing waits
 abbrev pub with_socket : SocketTable → ℕ → SocketTable
@@ -42,6 +62,7 @@ with_socket s port =
       live = s.live;
       ports = record { boot = s.ports.boot; made = s.ports.made + 1; present = s.ports.present ++ port ∷ [] };
       queues = s.queues ++ (port, []) ∷ [];
+      watchers = s.watchers;
     }
 
 -- the queues where one more message waits at a port

@@ -1,27 +1,33 @@
 -- What a node's sockets hold is what its journal tells.
-use Rattle.std.specs.Prelude.{◌≡◌, ◌<◌, ◌||◌, ℕ, Bool, true, false, not, List, [], ◌++◌, Some, length}
+use Rattle.std.specs.Prelude.{◌≡◌, ◌<◌, ◌+◌, ◌||◌, ℕ, Bool, true, false, not, List, [], ◌++◌, Some, find, length}
 use Rattle.std.specs.List.{list_all}
 use Rattle.tipc_types.specs.declared.identity.Addr.{Addr}
 use Rattle.tipc_types.specs.declared.message_forms.Message.{Message}
 use Rattle.tipc_types.specs.declared.message_forms.Message.TheVariants.{Payload, Items}
+use Rattle.tipc_types.specs.declared.node_calls.EventNote.{EventNote}
+use Rattle.tipc_types.specs.declared.node_calls.EventNote.TheVariants.{Tick}
+use Rattle.tipc_name_table.specs.Tables.{is_named}
 use Rattle.tipc_journal.specs.declared.entries.Entry.{Entry}
 use Rattle.tipc_journal.specs.declared.entries.Entry.TheVariants as entry
 use Rattle.tipc_journal.specs.Dues.{Due}
+use Rattle.tipc_journal.specs.Licensed.{events_given}
 use Rattle.tipc_journal.specs.Matches.{names}
 use Rattle.tipc_journal.specs.Names.{live, AreAtHome}
 use Rattle.tipc_journal.specs.Queues.{queue_inside, sockets, IsFed}
 use Rattle.tipc_journal.specs.Refusals.{sockets_made}
 use Rattle.tipc_ports.specs.Numbers.{port_number}
+use Rattle.tipc_topology.specs.Changing.{cancelled, ended_at, subscribed}
 use Rattle.tipc_sockets.specs.declared.fates.Fate.{Fate}
 use Rattle.tipc_sockets.specs.declared.fates.Fate.TheVariants.{Queued, Returned, ReturnDropped, Dropped}
 use Rattle.tipc_sockets.specs.Fates.{is_by_name}
 use Rattle.tipc_sockets.specs.Publishing.{published, purged, withdrawn}
-use Rattle.tipc_sockets.specs.SocketTables.{has_port, queue_at, SocketTable}
+use Rattle.tipc_sockets.specs.SocketTables.{has_port, queue_at, with_watchers, SocketTable}
+use Rattle.tipc_sockets.specs.Watched.{AreWatchersTold}
 
 -- In a step behind these whole steps, at whose beginning d was due, the entries so far tell what the sockets hold:
 -- the live publications in the order of publishing, all publications in order, the ports and how many were made, and
--- what waits at each of them. Every own publication is at a port that is there, and nothing waits at a port that
--- isn't made yet.
+-- what waits at each of them, and of each subscription what it was told. Every own publication is at a port that is
+-- there, and nothing waits at a port that isn't made yet.
 pub record AreTold (own : Addr) (before : List Entry) (d : Due) (front : List Entry) (s : SocketTable) : Type 0 where
   pub node : s.own ≡ own.word
   pub home : AreAtHome own (before ++ front)
@@ -34,6 +40,7 @@ pub record AreTold (own : Addr) (before : List Entry) (d : Due) (front : List En
   pub placed : list_all (λ p. has_port s p.at.port) s.live ≡ true
   pub unused : (port : ℕ) → port_number s.ports.boot s.ports.made < port → queue_inside own before d front port ≡ []
   pub fed : (port : ℕ) → IsFed own before port
+  pub watchers : AreWatchersTold (before ++ front) (events_given before) s.watchers
 
 -- the entry that tells a fate
 abbrev pub fate_entry : Fate → Entry
@@ -60,16 +67,42 @@ is_for_one_there s (Payload importance form from to kind lower upper code droppa
 is_for_one_there s (Items withdrawal items) = true
 
 -- what a node's sockets hold after an entry that is no fate: a publication is published, withdrawn, learned or
--- forgotten, those of a peer are purged where the contact ends, and nothing changes by any other
+-- forgotten, those of a peer are purged where the contact ends, a subscription is made, cancelled or timed out, and
+-- nothing changes by any other
 abbrev pub after_entry : SocketTable → Entry → SocketTable
 after_entry s (entry.Published p) = published s p
 after_entry s (entry.Withdrawn p) = withdrawn s p.at.node.word p.key
 after_entry s (entry.Learned p) = published s p
 after_entry s (entry.Forgot p) = withdrawn s p.at.node.word p.key
 after_entry s (entry.ContactDown peer numbers states shown) = purged s peer.word
+after_entry s (entry.Subscribed number asked) = with_watchers s (subscribed asked s.names s.watchers)
+after_entry s (entry.Cancelled number) = with_watchers s (cancelled number s.watchers)
+after_entry s (entry.TimedOut number) = with_watchers s (ended_at number s.watchers)
 after_entry s _ = s
 
 -- whether an entry, where it publishes, does so at a port that is there
 abbrev pub is_placed : SocketTable → Entry → Bool
 is_placed s (entry.Published p) = has_port s p.at.port
 is_placed s _ = true
+
+-- An entry may stand behind the others where the sockets are so: what is withdrawn or forgotten is there, a
+-- subscription has the next number, and no step begins.
+abbrev pub MayFollow : SocketTable → Entry → Type 0
+MayFollow s (entry.Withdrawn p) = find (is_named p.at.node.word p.key) s.names ≡ Some p
+MayFollow s (entry.Forgot p) = find (is_named p.at.node.word p.key) s.names ≡ Some p
+MayFollow s (entry.Subscribed number asked) = number ≡ s.watchers.made + 1
+MayFollow s (entry.Step by event) = ⊥
+MayFollow s _ = Unit {0}
+
+-- whether a call is a tick
+abbrev pub is_tick : EventNote → Bool
+is_tick Tick = true
+is_tick _ = false
+
+-- whether an entry makes, cancels or ends a subscription, or begins a step
+abbrev pub is_of_subscriptions : Entry → Bool
+is_of_subscriptions (entry.Subscribed number asked) = true
+is_of_subscriptions (entry.Cancelled number) = true
+is_of_subscriptions (entry.TimedOut number) = true
+is_of_subscriptions (entry.Step by event) = true
+is_of_subscriptions _ = false

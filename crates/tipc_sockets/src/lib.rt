@@ -11,6 +11,3 @@ pub use fates::{Fate, port_of};
 pub use publishing::{PublishFault, WithdrawFault};
 pub use queues::MOST_MESSAGES;
 pub use sockets::{Sockets, Table};
-
-#[cfg(test)]
-mod tests;

@@ -1,17 +1,20 @@
-//! Questions about a node's own publications.
+//! Questions about a node's own publications, and what follows where some are added or taken out.
 
-ghost use Rattle.std.specs.Prelude.{◌≡◌, ◌&&◌, ◌==◌, find, filter, not, IfOk};
+ghost use Rattle.std.specs.Prelude.{◌≡◌, ◌≤◌, ◌&&◌, ◌==◌, ◌++◌, ◌∷◌, [], if◌then◌else◌, find, filter, not, IfOk, OnErr, OnOk};
 ghost use Rattle.std.specs.List.{list_any};
 ghost use Rattle.tipc_types.specs.Span.{Span};
 ghost use Rattle.tipc_name_table.specs.Tables.{is_of, without as without_named, without_node};
 ghost use Rattle.tipc_name_table.specs.Matching.{covers, overlaps};
 ghost use Rattle.tipc_journal.specs.Names.{is_clusterwide};
 ghost use Rattle.tipc_sockets.specs.Fates.{aimed_at, is_offered};
+ghost use Rattle.tipc_topology.specs.declared.changes.TableChange.{TableChange};
+ghost use Rattle.tipc_topology.specs.Changing.{changed, with_loss};
 ghost use Rattle.tipc_sockets.specs.Publishing.{has_key, is_at, is_key_at};
 
 use std::alloc::{AllocError, Global};
 use tipc_name_table::Names;
-use tipc_types::{Addr, Publication, Scope};
+use tipc_topology::{Leaving, Topology};
+use tipc_types::{Addr, NoMemory, Publication, Scope};
 
 /// Service types below this one can't be published. (This project's profile.)
 pub(crate) const FIRST_KIND: u32 = 64;
@@ -177,4 +180,55 @@ pub(crate) fn withdraw_those_at<N: Names>(names: &mut N, live: &[Publication], o
             let _ = names.withdraw(own, p.key);
         }
     }
+}
+
+/// Tells the subscribers that a publication isn't known any more. It takes no memory.
+pub(crate) fn lose(topology: &mut Topology, p: &Publication)
+    ensures { topology.new ≡ with_loss (p.now ∷ []) topology.old }
+{
+    topology.lost(&[*p]);
+}
+
+/// Tells the subscribers that the publications at a port aren't known any more, in their order. It takes no memory.
+pub(crate) fn lose_those_at(topology: &mut Topology, live: &[Publication], port: u32)
+    ensures { topology.new ≡ with_loss (filter (is_at port) live.now) topology.old }
+{
+    for p in live {
+        if p.at.port == port {
+            lose(topology, p);
+        }
+    }
+}
+
+/// Follows a publication that was added to the names, of which there are so many now: it is live where it is an own
+/// one, the subscribers are told, and there are places for all where they are lost.
+///
+/// # Errors
+///
+/// `NoMemory` where memory runs out. It changes nothing, but there may be more places.
+pub(crate) fn note_added(
+    live: &mut Vec<Publication>,
+    topology: &mut Topology,
+    leaving: &mut Leaving,
+    own: Addr,
+    p: &Publication,
+    count: usize,
+) -> Result<(), NoMemory>
+    ensures live { OnOk result (live.new.items ≡ (if is_of own.word p.now then live.old.items ++ p.now ∷ [] else live.old.items)) }
+    ensures told { OnOk result (topology.new ≡ changed (TableChange.Added p.now) topology.old) }
+    ensures places { OnOk result (count ≤ leaving.new) }
+    ensures kept { leaving.old ≤ leaving.new }
+    ensures same_live { OnErr result (live.new.items ≡ live.old.items) }
+    ensures same_told { OnErr result (topology.new ≡ topology.old) }
+{
+    leaving.reserve(count)?;
+    live.reserve(1)?;
+    topology.added(p)?;
+    if is_of(p, own) {
+        match live.push(*p) {
+            Ok(()) => {}
+            Err(_) => unreachable!(),
+        }
+    }
+    Ok(())
 }

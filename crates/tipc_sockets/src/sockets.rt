@@ -1,6 +1,6 @@
-//! The sockets of one node, and the calls that they take.
+//! The sockets of one node with its names and subscriptions, and the calls that they take.
 
-ghost use Rattle.std.specs.Prelude.{◌≡◌, ◌≤◌, ◌<◌, ◌+◌, ◌⊎◌, ◌↔◌, ◌&&◌, ℕ, List, [], ◌∷◌, false, true, Err, Ok, None, Some, count_by, filter, find, length, slice_get, unwrap_or, IfErr, IfOk, IfSome, IfNone, IsErr, OnErr, OnOk};
+ghost use Rattle.std.specs.Prelude.{◌≡◌, ◌≤◌, ◌<◌, ◌+◌, ◌⊎◌, ◌↔◌, ◌&&◌, ℕ, List, [], ◌∷◌, false, true, Err, Ok, None, Some, count_by, filter, find, fold, length, map, slice_get, unwrap_or, IfErr, IfOk, IfSome, IfNone, IsErr, OnErr, OnOk};
 ghost use Rattle.std.specs.List.{list_any};
 ghost use Rattle.tipc_types.specs.Address.{IsNodeWord};
 ghost use Rattle.tipc_types.specs.declared.message_forms.Message.{Message};
@@ -10,12 +10,15 @@ ghost use Rattle.tipc_name_table.specs.Tables.{is_named, is_of, put, without, wi
 ghost use Rattle.tipc_ports.specs.Numbers.{port_number, ArePresent};
 ghost use Rattle.tipc_sockets.specs.Fates.{after_fate, fate, has_places, has_room, hearers, refusal, surely_waits, with_waiting};
 ghost use Rattle.tipc_sockets.specs.Publishing.{closed, is_at, own_publication, published_at, publish_refusal, published, purged, withdrawn};
-ghost use Rattle.tipc_sockets.specs.SocketTables.{has_port, no_sockets, queue_at, queued, queued_at_each, taken_from, with_queues, with_socket, AreSockets};
+ghost use Rattle.tipc_topology.specs.Changing.{cancelled, due, ended_at, events_left, is_filter, of_number, passed, subscribed, taken_from as taken_from_one, with_kept};
+ghost use Rattle.tipc_topology.specs.Watchers.{ticked};
+ghost use Rattle.tipc_sockets.specs.SocketTables.{has_port, no_sockets, queue_at, queued, queued_at_each, taken_from, with_queues, with_socket, with_watchers, AreSockets};
 
 use crate::fates::{Fate, port_of, unqueued};
 use crate::publishing::{
     FIRST_KIND, PublishFault, WithdrawFault, aimed_at, all_at, find_at, has_key, is_any_at, is_of,
-    is_offered, remove_at, remove_named, remove_node, those_of, withdraw_those_at,
+    is_offered, lose, lose_those_at, note_added, remove_at, remove_named, remove_node, those_of,
+    withdraw_those_at,
 };
 use crate::queues::{Queue, Queues, has_room, put, put_each};
 use std::alloc::Global;
@@ -23,7 +26,13 @@ use std::marker::Model;
 use tipc_journal::PortList;
 use tipc_name_table::{MOST_PUBLICATIONS, NameFault, NameTable, Names, Unknown as UnknownName};
 use tipc_ports::{MOST_MADE, MOST_PORTS, PortFault, Ports, Unknown};
-use tipc_types::{Addr, Form, List, Message, NoMemory, PortId, Publication, Scope, ServiceRange};
+use tipc_topology::{
+    Leaving, SubscriptionNumbers, Topology, TopologyFault, Unknown as UnknownSubscription,
+};
+use tipc_types::{
+    Addr, Event, Form, List, Message, NoMemory, PortId, Publication, Scope, ServiceRange,
+    Subscription,
+};
 
 /// Why a message isn't queued: the port has no such publication. (TIPC 2.0 draft.)
 const NO_NAME: u8 = 1;
@@ -37,8 +46,8 @@ const OVERLOAD: u8 = 4;
 /// The form in which the names are held.
 pub type Table = NameTable;
 
-/// The sockets of a node in one boot: the publications that it knows, its ports, and the messages that wait at each
-/// of them.
+/// The sockets of a node in one boot: the publications that it knows, its ports, the messages that wait at each of
+/// them, and the subscriptions, which are told of each change of the publications as it is made.
 #[derive(Drop)]
 pub struct Sockets {
     own: Addr,
@@ -47,18 +56,34 @@ pub struct Sockets {
     ports: Ports,
     made: u32,
     queues: Queues,
+    topology: Topology,
+    leaving: Leaving,
 }
 
 impl Model for Sockets {
-    ghost use Rattle.std.specs.Prelude.{◌≡◌};
+    ghost use Rattle.std.specs.Prelude.{◌≡◌, ◌≤◌, length};
     ghost use Rattle.tipc_sockets.specs.SocketTables.{AreSockets, SocketTable};
 
     ghost Value = { SocketTable };
 
-    ghost view = { λ s. record { own = s.own.word; names = s.names; live = s.live.items; ports = s.ports; queues = s.queues.entries } };
+    ghost view = { λ s. record {
+      own = s.own.word;
+      names = s.names;
+      live = s.live.items;
+      ports = s.ports;
+      queues = s.queues.entries;
+      watchers = s.topology;
+    } };
 
     ghost invariant = { λ s. (s.made ≡ s.ports.made) ×
-        AreSockets (record { own = s.own.word; names = s.names; live = s.live.items; ports = s.ports; queues = s.queues.entries }) };
+        AreSockets (record {
+          own = s.own.word;
+          names = s.names;
+          live = s.live.items;
+          ports = s.ports;
+          queues = s.queues.entries;
+          watchers = s.topology;
+        }) × (length s.names ≤ s.leaving) };
 }
 
 impl Sockets {
@@ -75,6 +100,8 @@ impl Sockets {
             ports: Ports::new(alloc, boot),
             made: 0,
             queues: Queues::new(alloc),
+            topology: Topology::new(alloc),
+            leaving: Leaving::new(alloc),
         }
     }
 
@@ -152,7 +179,8 @@ impl Sockets {
         Ok(queue.take())
     }
 
-    /// Closes a port: its publications are withdrawn, and what waits there is dropped. It takes no memory.
+    /// Closes a port: its publications are withdrawn, in the order of publishing, and what waits there is dropped. It
+    /// takes no memory.
     ///
     /// # Errors
     ///
@@ -169,6 +197,7 @@ impl Sockets {
             Ok(()) => {}
             Err(_) => unreachable!(),
         }
+        lose_those_at(&mut self.topology, self.live.as_slice(), port);
         withdraw_those_at(&mut self.names, self.live.as_slice(), self.own, port);
         remove_at(&mut self.live, port);
         Ok(())
@@ -275,9 +304,10 @@ impl Sockets {
         let Some(p) = self.published_at(port, key) else {
             return Err(WithdrawFault::Unknown);
         };
-        let _ = self.names.withdraw(self.own, key);
-        remove_named(&mut self.live, self.own, key);
-        Ok(p)
+        match self.withdraw(self.own, key) {
+            Ok(_) => Ok(p),
+            Err(_) => unreachable!(),
+        }
     }
 
     /// The publications that a name finds, closest first: the own ones that cover the instance, where there are some,
@@ -470,10 +500,81 @@ impl Sockets {
         self.names.as_slice()
     }
 
-    /// The same sockets, with the same names, publications, queues, and number for the next port.
+    /// Makes a subscription and answers its number: 1, 2, 3 and so on in a boot. The publications that are known and
+    /// that it watches are told of first, in order of lower, upper, node, port and key; under filter 2 (service) the
+    /// first of each distinct range alone, under filter 1 (ports) each.
+    ///
+    /// # Errors
+    ///
+    /// `BadRange` exactly where the lower bound is above the upper; else `BadFilter` exactly where the filter is neither
+    /// 1 nor 2; else `Full` exactly where 256 subscriptions are there or 4,294,967,295 were made in this boot; else
+    /// `NoMemory` where memory runs out. An error changes nothing.
+    pub fn subscribe(&mut self, alloc: Global, s: Subscription) -> Result<u32, TopologyFault>
+        ensures number { IfOk result (λ number. number ≡ self.old.watchers.made + 1) }
+        ensures ok { OnOk result (self.new ≡ with_watchers self.old (subscribed s self.old.names self.old.watchers)) }
+        ensures range { (result ≡ Err TopologyFault.BadRange) ↔ (s.upper < s.lower) }
+        ensures filter { (result ≡ Err TopologyFault.BadFilter) ↔ ((s.lower ≤ s.upper) × (is_filter s ≡ false)) }
+        ensures full { (result ≡ Err TopologyFault.Full) ↔ ((s.lower ≤ s.upper) × (is_filter s ≡ true) ×
+            ((256 ≤ length self.old.watchers.kept) ⊎ (4294967295 ≤ self.old.watchers.made))) }
+        ensures err { OnErr result (self.new ≡ self.old) }
+    {
+        self.topology.subscribe(alloc, s, &self.names)
+    }
+
+    /// Cancels a subscription, which isn't there any more then. It takes no memory.
+    ///
+    /// # Errors
+    ///
+    /// `Unknown` exactly where no subscription of the number is there. It changes nothing.
+    pub fn cancel(&mut self, number: u32) -> Result<(), UnknownSubscription>
+        ensures ok { OnOk result (self.new ≡ with_watchers self.old (cancelled number self.old.watchers)) }
+        ensures unknown { IsErr result ↔ (of_number self.old.watchers number ≡ None) }
+        ensures err { OnErr result (self.new ≡ self.old) }
+    {
+        self.topology.cancel(number)
+    }
+
+    /// Takes the first event of a subscription that wasn't taken yet: None exactly where none is left. It takes no
+    /// memory.
+    ///
+    /// # Errors
+    ///
+    /// `Unknown` exactly where no subscription of the number is there. It changes nothing.
+    pub fn next_event(&mut self, number: u32) -> Result<Option<Event>, UnknownSubscription>
+        ensures first { IfOk result (λ event. event ≡ slice_get (events_left (of_number self.old.watchers number)) 0) }
+        ensures ok { OnOk result (self.new ≡
+            with_watchers self.old (with_kept self.old.watchers (taken_from_one number self.old.watchers.kept))) }
+        ensures unknown { IsErr result ↔ (of_number self.old.watchers number ≡ None) }
+        ensures err { OnErr result (self.new ≡ self.old) }
+    {
+        self.topology.next_event(number)
+    }
+
+    /// The numbers of the subscriptions that time out in the next tick, rising: those of which then as many ticks as
+    /// their timeout, and at least one, have passed; the timeout 4,294,967,295 is for ever. They are 256 at most.
+    pub fn due(&self, alloc: Global) -> Result<SubscriptionNumbers, NoMemory>
+        ensures numbers { IfOk result (λ numbers. numbers ≡ due self.now.watchers.kept) }
+        ensures few { IfOk result (λ numbers. length numbers ≤ 256) }
+    {
+        self.topology.due(alloc)
+    }
+
+    /// Lets a tick pass for the subscriptions. Those that are due time out, and are told so as the last of their events.
+    /// It takes no memory.
+    pub fn pass(&mut self)
+        ensures ticked { self.new ≡
+            with_watchers self.old (with_kept self.old.watchers (map ticked self.old.watchers.kept)) }
+        ensures parts { self.new ≡
+            with_watchers self.old (passed (fold (λ t n. ended_at n t) self.old.watchers (due self.old.watchers.kept))) }
+    {
+        self.topology.pass();
+    }
+
+    /// The same sockets, with the same names, publications, queues, subscriptions, and number for the next port.
     pub fn copy(&self) -> Result<Sockets, NoMemory>
         ensures { IfOk result (λ copy. copy ≡ self.now) }
     {
+        let leaving = self.leaving.another(self.names.as_slice().len())?;
         Ok(Sockets {
             own: self.own,
             names: self.names.copy()?,
@@ -481,6 +582,8 @@ impl Sockets {
             ports: self.ports.copy()?,
             made: self.made,
             queues: self.queues.clone()?,
+            topology: self.topology.copy()?,
+            leaving,
         })
     }
 }
@@ -500,10 +603,15 @@ impl Names for Sockets {
         ensures sound { IsTable self.new.names }
     {
         self.names.publish(p)?;
-        if !is_of(&p, self.own) {
-            return Ok(());
-        }
-        match self.live.push(p) {
+        let count = self.names.as_slice().len();
+        match note_added(
+            &mut self.live,
+            &mut self.topology,
+            &mut self.leaving,
+            self.own,
+            &p,
+            count,
+        ) {
             Ok(()) => Ok(()),
             Err(_) => {
                 let _ = self.names.withdraw(p.at.node, p.key);
@@ -521,6 +629,7 @@ impl Names for Sockets {
     {
         let p = self.names.withdraw(node, key)?;
         remove_named(&mut self.live, node, key);
+        lose(&mut self.topology, &p);
         Ok(p)
     }
 
@@ -536,6 +645,8 @@ impl Names for Sockets {
         ensures all { self.new ≡ purged self.old node.word }
         ensures sound { IsTable self.new.names }
     {
+        self.leaving
+            .tell(&mut self.topology, self.names.as_slice(), node);
         self.names.purge(node);
         remove_node(&mut self.live, node);
     }

@@ -1,12 +1,12 @@
 -- Counts of publications by their ranges, and lists of publications counted by a test.
-use Rattle.std.specs.Prelude.{◌==◌, ◌||◌, count_by, not}
-use Rattle.std.proofs.Common.{◌≡◌, ◌+◌, ◌∷◌, [], ℕ, Bool, true, false, List, Option, Some, None, cond, if◌then◌else◌, filter, refl, sym, ap, ◌∙◌, arith, true≢false}
+use Rattle.std.specs.Prelude.{◌==◌, ◌||◌, count_by, nat_le, not, unwrap_or}
+use Rattle.std.proofs.Common.{◌≡◌, ◌+◌, ◌-◌, ◌≤◌, ◌∷◌, [], ℕ, Bool, true, false, List, Option, Some, None, cond, if◌then◌else◌, filter, refl, sym, ap, ◌∙◌, arith, true≢false}
 use Rattle.std.specs.List.{list_any}
-use Rattle.std.specs.Map.{lookup, remove_entry}
+use Rattle.std.specs.Map.{lookup, remove_entry, set_value}
 use Rattle.std.proofs.lemmas.Bool.Decides.{nat_tests}
 use Rattle.std.proofs.lemmas.List.Sums.{sum_by-cons}
 use Rattle.indexmap.specs.IndexMap.{insert_entry}
-use Rattle.tipc_topology.specs.Watchers.{bounds_eq, Counts}
+use Rattle.tipc_topology.specs.Watchers.{bounds_eq, count_at, one_fewer, total, Counts}
 use Rattle.tipc_topology.specs.Transitions.{EachOnce}
 
 -- ---- ranges
@@ -78,6 +78,18 @@ lookup_fewer q r (e ∷ es) h = by (bounds_eq r e.0) refl (lookup_fewer q r es h
         ap (λ (o : Option ℕ). cond (bounds_eq q e.0) (Some e.1) o) later
         ∙ swapped (bounds_eq q e.0) (bounds_eq q r) (Some e.1) None (lookup (bounds_eq q) es) (not_both q r e.0 is)
 
+-- another count of a range that is counted
+pub set_as_insert : (r : ℕ × ℕ) (v : ℕ) (es : Counts) → nat_le (unwrap_or (lookup (bounds_eq r) es) 0) 1 ≡ false
+    → set_value (bounds_eq r) es v ≡ insert_entry bounds_eq es r v
+set_as_insert r v [] some = absurd (true≢false some)
+set_as_insert r v (e ∷ es) some = by (bounds_eq r e.0) some (set_as_insert r v es)
+  where
+    by : (b : Bool) → nat_le (unwrap_or (cond b (Some e.1) (lookup (bounds_eq r) es)) 0) 1 ≡ false
+        → (nat_le (unwrap_or (lookup (bounds_eq r) es) 0) 1 ≡ false → set_value (bounds_eq r) es v ≡ insert_entry bounds_eq es r v)
+        → cond b ((e.0, v) ∷ es) (e ∷ set_value (bounds_eq r) es v) ≡ (if b then (e.0, v) ∷ es else e ∷ insert_entry bounds_eq es r v)
+    by true some later = refl
+    by false some later = ap (λ (xs : Counts). e ∷ xs) (later some)
+
 -- a test that fails the other way round fails
 turned : (a b : ℕ × ℕ) → bounds_eq a b ≡ false → bounds_eq b a ≡ false
 turned a b e = grind (arith, nat_tests)
@@ -99,6 +111,51 @@ once_fewer r (e ∷ es) h = by (bounds_eq r e.0) refl (once_fewer r es h.1)
     by : (b : Bool) → bounds_eq r e.0 ≡ b → EachOnce (remove_entry (bounds_eq r) es) → EachOnce (cond b es (e ∷ remove_entry (bounds_eq r) es))
     by true is later = h.1
     by false is later = (lookup_fewer e.0 r es h.1 ∙ rw (turned r e.0 is) h.0, later)
+
+-- ---- how many are counted
+
+-- of a range no more than all
+pub count_most : (r : ℕ × ℕ) (es : Counts) → count_at es r ≤ total es
+count_most r [] = omega arith
+count_most r (e ∷ es) = by (bounds_eq r e.0) (count_most r es)
+  where
+    by : (b : Bool) → count_at es r ≤ total es → unwrap_or (cond b (Some e.1) (lookup (bounds_eq r) es)) 0 ≤ e.1 + total es
+    by true later = omega arith
+    by false later = omega (arith, later)
+
+-- another count of a range takes the place of the one before
+pub total_more : (r : ℕ × ℕ) (v : ℕ) (es : Counts) → total (insert_entry bounds_eq es r v) + count_at es r ≡ total es + v
+total_more r v [] = omega arith
+total_more r v (e ∷ es) = by (bounds_eq r e.0) (total_more r v es)
+  where
+    by : (b : Bool) → total (insert_entry bounds_eq es r v) + count_at es r ≡ total es + v
+        → total (if b then (e.0, v) ∷ es else e ∷ insert_entry bounds_eq es r v) + unwrap_or (cond b (Some e.1) (lookup (bounds_eq r) es)) 0 ≡ (e.1 + total es) + v
+    by true later = omega arith
+    by false later = omega (arith, later)
+
+-- without a range its count is gone
+pub total_fewer : (r : ℕ × ℕ) (es : Counts) → total (remove_entry (bounds_eq r) es) + count_at es r ≡ total es
+total_fewer r [] = omega arith
+total_fewer r (e ∷ es) = by (bounds_eq r e.0) (total_fewer r es)
+  where
+    by : (b : Bool) → total (remove_entry (bounds_eq r) es) + count_at es r ≡ total es
+        → total (cond b es (e ∷ remove_entry (bounds_eq r) es)) + unwrap_or (cond b (Some e.1) (lookup (bounds_eq r) es)) 0 ≡ e.1 + total es
+    by true later = omega arith
+    by false later = omega (arith, later)
+
+-- with one fewer of a range of which some are counted
+pub total_one_fewer : (r : ℕ × ℕ) (es : Counts) → 1 ≤ count_at es r → total (one_fewer es r) + 1 ≡ total es
+total_one_fewer r es some = by (nat_le (count_at es r) 1) refl
+  where
+    by : (b : Bool) → nat_le (count_at es r) 1 ≡ b → total (if b then remove_entry (bounds_eq r) es else set_value (bounds_eq r) es (count_at es r - 1)) + 1 ≡ total es
+    by true le =
+        let gone = total_fewer r es in
+        let most : count_at es r ≤ 1 = grind (arith, nat_tests) in
+        omega (arith, gone, most, some)
+    by false le =
+        let less = total_more r (count_at es r - 1) es in
+        let same = ap total (set_as_insert r (count_at es r - 1) es le) in
+        omega (arith, less, same, some)
 
 -- ---- lists that are counted
 

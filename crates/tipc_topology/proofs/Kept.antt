@@ -15,10 +15,8 @@ use Rattle.tipc_types.specs.declared.node_calls.Subscription.{Subscription}
 use Rattle.tipc_types.specs.Span.{Span}
 use Rattle.tipc_types.specs.Watching.{event_of, in_order, is_watched}
 use Rattle.tipc_name_table.specs.Matching.{overlaps}
-use Rattle.tipc_topology.specs.declared.changes.TableChange.{TableChange}
-use Rattle.tipc_topology.specs.declared.changes.TableChange.TheVariants.{Added, Removed, Purged}
-use Rattle.tipc_topology.specs.Watchers.{added, after_change, began, blank, bounds_of, concerns, count_at, ended_now, is_due, is_per_port, one_fewer, one_less, one_more, removed, ticked, with_room, without_first, Counts, Watcher}
-use Rattle.tipc_topology.specs.Changing.{due, has_number, size, subscribed, taken_from, told, told_each, with_room_for, without, AreKept, Watchers}
+use Rattle.tipc_topology.specs.Watchers.{added, after_addition, after_removal, began, blank, bounds_of, concerns, count_at, ended_now, is_due, is_per_port, loses, one_fewer, one_less, one_more, removed, ticked, with_room, without_first, Counts, Watcher}
+use Rattle.tipc_topology.specs.Changing.{due, has_number, subscribed, taken_from, with_room_for, without, AreKept, Watchers}
 
 -- so many made, so much room, and these kept
 abbrev pub kept_as : ℕ → ℕ → List Watcher → Watchers
@@ -127,8 +125,13 @@ room_left room more (suc n) (w ∷ ws) h le (suc k) d within =
 abbrev pub Takes : ℕ → Watcher → Watcher → Type 0
 Takes n w v = (v.number ≡ w.number) × (v.room ≡ w.room - n)
 
--- an added or removed publication takes one place, whether it is told of or not
-choice : (b c : Bool) (w : Watcher) (counts : Counts) (one all : List Event) → Takes 1 w (if not b then after_change w w.counts [] else (if c then after_change w w.counts one else after_change w counts all))
+-- the number and the room are the same
+abbrev pub Keeps : Watcher → Watcher → Type 0
+Keeps w v = (v.number ≡ w.number) × (v.room ≡ w.room)
+
+-- an added publication takes one place, whether it is told of or not
+choice : (b c : Bool) (w : Watcher) (counts : Counts) (one all : List Event)
+    → Takes 1 w (if not b then after_addition w w.counts 0 [] else (if c then after_addition w w.counts 1 one else after_addition w counts 1 all))
 choice true true w counts one all = (refl, refl)
 choice true false w counts one all = (refl, refl)
 choice false c w counts one all = (refl, refl)
@@ -139,23 +142,30 @@ added_takes w p =
     choice (concerns w p) (is_per_port w) w (one_more w.counts (bounds_of p)) (event_of 1 w.asked p ∷ [])
     (if count_at w.counts (bounds_of p) == 0 then event_of 1 w.asked p ∷ [] else [])
 
-pub removed_takes : (w : Watcher) (p : Publication) → Takes 1 w (removed w p)
+-- a removed one takes none
+choice_lost : (b c : Bool) (w : Watcher) (counts : Counts) (one all : List Event)
+    → Keeps w (if not b then w else (if c then after_removal w w.counts one else after_removal w counts all))
+choice_lost true true w counts one all = (refl, refl)
+choice_lost true false w counts one all = (refl, refl)
+choice_lost false c w counts one all = (refl, refl)
+
+pub removed_keeps : (w : Watcher) (p : Publication) → Keeps w (removed w p)
 unfolding removed
-removed_takes w p =
-    choice (concerns w p) (is_per_port w) w (one_fewer w.counts (bounds_of p)) (event_of 2 w.asked p ∷ [])
+removed_keeps w p =
+    choice_lost (loses w p) (is_per_port w) w (one_fewer w.counts (bounds_of p)) (event_of 2 w.asked p ∷ [])
     (if nat_le (count_at w.counts (bounds_of p)) 1 then event_of 2 w.asked p ∷ [] else [])
 
--- several removed publications take as many
-pub all_removed_take : (w : Watcher) (ps : List Publication) → Takes (length ps) w (fold removed w ps)
-all_removed_take w [] = (refl, omega arith)
-all_removed_take w (p ∷ ps) =
-    let one = removed_takes w p in
-    let more = all_removed_take (removed w p) ps in (
+-- nor do several removed ones
+pub all_removed_keep : (w : Watcher) (ps : List Publication) → Keeps w (fold removed w ps)
+all_removed_keep w [] = (refl, refl)
+all_removed_keep w (p ∷ ps) =
+    let one = removed_keeps w p in
+    let more = all_removed_keep (removed w p) ps in (
       more.0 ∙ one.0,
-      omega (arith, one.1, more.1),
+      more.1 ∙ one.1,
     )
 
--- and so do several added ones
+-- several added publications take as many places
 pub all_added_take : (w : Watcher) (ps : List Publication) → Takes (length ps) w (fold added w ps)
 all_added_take w [] = (refl, omega arith)
 all_added_take w (p ∷ ps) =
@@ -164,13 +174,6 @@ all_added_take w (p ∷ ps) =
       more.0 ∙ one.0,
       omega (arith, one.1, more.1),
     )
-
--- a change takes as many places as it has publications
-pub told_takes : (c : TableChange) (w : Watcher) → Takes (size c) w (told c w)
-unfolding told
-told_takes (Added p) w = added_takes w p
-told_takes (Removed p) w = removed_takes w p
-told_takes (Purged ps) w = all_removed_take w ps
 
 -- a tick takes none
 pub ticked_keeps : (w : Watcher) → ((ticked w).number ≡ w.number) × ((ticked w).room ≡ w.room)
@@ -206,6 +209,10 @@ mapped_kept f made room other ws same h =
       ap (λ (w : Watcher). w.room) here ∙ each.1,
     ))
     h
+
+-- and no more than 256 of them are there
+pub mapped_few : (f : Watcher → Watcher) (ws vs : List Watcher) → vs ≡ map f ws → length ws ≤ 256 → length vs ≤ 256
+mapped_few f ws vs is few = let count = ap (λ (us : List Watcher). length us) is ∙ length-map ws f in omega (arith, count, few)
 
 -- it holds after one was cancelled
 pub removed_kept : (made room i : ℕ) (ws : List Watcher) → i < length ws → AreKept (kept_as made room ws)
@@ -283,11 +290,6 @@ due_rising ws h i j d before within =
 pub room_for : (n : ℕ) (t : Watchers) → n ≤ (with_room_for n t).room
 unfolding with_room_for
 room_for n t = omega arith
-
--- each is told, and there is less room
-pub told_all : (c : TableChange) (made room : ℕ) (ws : List Watcher) → kept_as made (room - size c) (map (told c) ws) ≡ told_each c (kept_as made room ws)
-unfolding told_each
-told_all c made room ws = refl
 
 -- ---- one more
 

@@ -3,7 +3,10 @@ pub mod Counts
 pub mod Each
 pub mod Entries
 pub mod Following
+pub mod Keeping
 pub mod Kept
 pub mod Order
+pub mod Placing
+pub mod Removable
 pub mod Removing
 pub mod Telling

@@ -1,23 +1,22 @@
 -- What a subscription is told where a publication is removed.
-use Rattle.std.specs.Prelude.{◌==◌, ◌&&◌, ◌||◌, count_by, nat_le, not, unwrap_or}
-use Rattle.std.proofs.Common.{◌≡◌, ◌+◌, ◌-◌, ◌≤◌, ◌++◌, ◌∷◌, [], ℕ, Bool, true, false, List, Option, Some, None, cond, if◌then◌else◌, filter, refl, sym, ap, ◌∙◌, arith, true≢false}
+use Rattle.std.specs.Prelude.{◌==◌, ◌&&◌, ◌||◌, count_by, nat_le, nat_lt, not, unwrap_or}
+use Rattle.std.proofs.Common.{◌≡◌, ◌+◌, ◌-◌, ◌≤◌, ◌++◌, ◌∷◌, [], ℕ, Bool, true, false, List, Option, Some, None, cond, if◌then◌else◌, filter, refl, sym, ap, subst, ◌∙◌, arith, true≢false}
 use Rattle.std.specs.List.{list_any}
-use Rattle.std.specs.Map.{lookup, remove_entry}
+use Rattle.std.specs.Map.{lookup, remove_entry, set_value}
 use Rattle.std.proofs.lemmas.Bool.Decides.{nat_tests}
 use Rattle.std.proofs.lemmas.List.{append-nil}
 use Rattle.std.proofs.lemmas.List.Sums.{sum_by-cons}
-use Rattle.indexmap.specs.IndexMap.{insert_entry}
 use Rattle.tipc_types.specs.declared.node_calls.Event.{Event}
 use Rattle.tipc_types.specs.declared.node_calls.Subscription.{Subscription}
 use Rattle.tipc_types.specs.declared.services.Publication.{Publication}
 use Rattle.tipc_types.specs.Watching.{event_of, is_same_name, is_same_range, is_watched, removals}
-use Rattle.tipc_topology.specs.Watchers.{after_change, bounds_eq, bounds_of, concerns, count_at, one_fewer, removed, Counts, Watcher}
-use Rattle.tipc_topology.specs.Transitions.{left_by, IsCounted}
-use Rattle.tipc_topology.proofs.Counts.{bounds_same, count_parted, lookup_fewer, lookup_more, none_counted, once_fewer, once_more}
+use Rattle.tipc_topology.specs.Watchers.{after_removal, bounds_eq, bounds_of, count_at, loses, one_fewer, removed, Counts, Watcher}
+use Rattle.tipc_topology.specs.Transitions.{left_by, IsCounted, Knows}
+use Rattle.tipc_topology.proofs.Counts.{bounds_same, count_parted, lookup_fewer, lookup_more, none_counted, once_fewer, once_more, set_as_insert}
 use Rattle.tipc_topology.proofs.Telling.{other_range, own_range, same_bounds, Tells}
 
 -- all that pass are the one that is removed, where it does, and those that are left
-counted_left : (test : Publication → Bool) (there : List Publication) (p : Publication) → filter (is_same_name p) there ≡ p ∷ []
+pub counted_left : (test : Publication → Bool) (there : List Publication) (p : Publication) → filter (is_same_name p) there ≡ p ∷ []
     → count_by test there ≡ cond (test p) 1 0 + count_by test (left_by there p)
 counted_left test there p alone =
     count_parted test (is_same_name p) there
@@ -66,7 +65,7 @@ counted_fewer s counts there p alone heard h = by (nat_le (count_at counts (boun
     later q watched false is = let here = left q watched false is in omega (arith, here)
 
     by : (b : Bool) → nat_le (count_at counts (bounds_of p)) 1 ≡ b
-        → IsCounted s (if b then remove_entry (bounds_eq (bounds_of p)) counts else insert_entry bounds_eq counts (bounds_of p) (count_at counts (bounds_of p) - 1)) (left_by there p)
+        → IsCounted s (if b then remove_entry (bounds_eq (bounds_of p)) counts else set_value (bounds_eq (bounds_of p)) counts (count_at counts (bounds_of p) - 1)) (left_by there p)
     by true le =
         record {
           once = once_fewer (bounds_of p) counts h.once;
@@ -74,44 +73,86 @@ counted_fewer s counts there p alone heard h = by (nat_le (count_at counts (boun
               ap (λ (o : Option ℕ). unwrap_or o 0) (lookup_fewer (bounds_of q) (bounds_of p) counts h.once)
               ∙ last le q watched (bounds_eq (bounds_of q) (bounds_of p)) refl;
         }
-    by false le =
-        record {
+    by false le = subst (λ (es : Counts). IsCounted s es (left_by there p)) (sym (set_as_insert (bounds_of p) (count_at counts (bounds_of p) - 1) counts le))
+        (record {
           once = once_more (bounds_of p) (count_at counts (bounds_of p) - 1) counts h.once;
           counted = λ q watched.
               ap (λ (o : Option ℕ). unwrap_or o 0) (lookup_more (bounds_of q) (bounds_of p) (count_at counts (bounds_of p) - 1) counts)
               ∙ later q watched (bounds_eq (bounds_of q) (bounds_of p)) refl;
-        }
+        })
 
 -- at most one of a range is there where none is left
 last_left : (n : ℕ) → nat_le (1 + n) 1 ≡ (n == 0)
 last_left n = grind (arith, nat_tests)
 
+-- one fewer is known of where it is watched
+known_left : (s : Subscription) (known : ℕ) (there : List Publication) (p : Publication) → filter (is_same_name p) there ≡ p ∷ []
+    → known ≡ count_by (is_watched s) there → known ≡ cond (is_watched s p) 1 0 + count_by (is_watched s) (left_by there p)
+known_left s known there p alone is = is ∙ counted_left (is_watched s) there p alone
+
 -- of one removed publication it tells what is told of a removal
 pub removed_tells : (w : Watcher) (p : Publication) (there : List Publication) → w.ended ≡ false → filter (is_same_name p) there ≡ p ∷ []
-    → ((w.asked.filter == 1) ≡ false → IsCounted w.asked w.counts there)
-    → Tells w.asked w (removed w p) (removals w.asked there (p ∷ [])) (left_by there p)
+    → Knows w.asked w there → Tells w.asked w (removed w p) (removals w.asked there (p ∷ [])) (left_by there p)
 unfolding removed
-removed_tells w p there lasts alone counts =
-    let heard : concerns w p ≡ is_watched w.asked p = ap (λ b. not b && is_watched w.asked p) lasts in
-    rw heard (by (is_watched w.asked p) (w.asked.filter == 1) refl refl)
+removed_tells w p there lasts alone knows = rw heard (by (is_watched w.asked p) (w.asked.filter == 1) refl refl)
   where
+    left : ℕ
+    left = count_by (is_watched w.asked) (left_by there p)
+
+    known : w.known ≡ cond (is_watched w.asked p) 1 0 + left
+    known = known_left w.asked w.known there p alone knows.known
+
+    positive : (n m : ℕ) → n ≡ 1 + m → nat_lt 0 n ≡ true
+    positive n m e = grind (arith, nat_tests)
+
+    counted : is_watched w.asked p ≡ true → (w.asked.filter == 1) ≡ false → count_at w.counts (bounds_of p) ≡ 1 + count_by (is_same_range p) (left_by there p)
+    counted here is =
+        (knows.counts is).counted p here ∙ counted_left (is_same_range p) there p alone
+        ∙ ap (λ b. cond b 1 0 + count_by (is_same_range p) (left_by there p)) (own_range p)
+
+    some : (watched each : Bool) → is_watched w.asked p ≡ watched → (w.asked.filter == 1) ≡ each
+        → watched && (if each then nat_lt 0 w.known else nat_lt 0 (count_at w.counts (bounds_of p))) ≡ watched
+    some true true here is = positive w.known left (known ∙ ap (λ b. cond b 1 0 + left) here)
+    some true false here is = positive (count_at w.counts (bounds_of p)) (count_by (is_same_range p) (left_by there p)) (counted here is)
+    some false each here is = refl
+
+    heard : loses w p ≡ is_watched w.asked p
+    heard =
+        ap (λ b. (not b && is_watched w.asked p) && (if w.asked.filter == 1 then nat_lt 0 w.known else nat_lt 0 (count_at w.counts (bounds_of p)))) lasts
+        ∙ some (is_watched w.asked p) (w.asked.filter == 1) refl refl
+
+    fewer : is_watched w.asked p ≡ true → w.known - 1 ≡ left
+    fewer here = let all = known ∙ ap (λ b. cond b 1 0 + left) here in omega (arith, all)
+
+    same : is_watched w.asked p ≡ false → w.known ≡ left
+    same here = let all = known ∙ ap (λ b. cond b 1 0 + left) here in omega (arith, all)
+
     by : (heard each : Bool) → is_watched w.asked p ≡ heard → (w.asked.filter == 1) ≡ each
         → Tells w.asked w
-        (if not heard then after_change w w.counts []
-        else (if each then after_change w w.counts (event_of 2 w.asked p ∷ [])
-        else after_change w (one_fewer w.counts (bounds_of p)) (if nat_le (count_at w.counts (bounds_of p)) 1 then event_of 2 w.asked p ∷ [] else [])))
+        (if not heard then w
+        else (if each then after_removal w w.counts (event_of 2 w.asked p ∷ [])
+        else after_removal w (one_fewer w.counts (bounds_of p)) (if nat_le (count_at w.counts (bounds_of p)) 1 then event_of 2 w.asked p ∷ [] else [])))
         ((if heard && (each || not (list_any (is_same_range p) (left_by there p))) then event_of 2 w.asked p ∷ [] else []) ++ [])
         (left_by there p)
-    by false each here is = record { events = refl; asked = refl; lasts = lasts; counts = λ e. counted_unwatched w.asked w.counts there p alone here (counts e) }
-    by true true here is = record { events = refl; asked = refl; lasts = lasts; counts = λ e. absurd (true≢false (sym is ∙ e)) }
+    by false each here is = record {
+      events = sym (append-nil w.events);
+      asked = refl;
+      lasts = lasts;
+      knows = record { known = same here; counts = λ e. counted_unwatched w.asked w.counts there p alone here (knows.counts e) };
+    }
+    by true true here is = record {
+      events = refl;
+      asked = refl;
+      lasts = lasts;
+      knows = record { known = fewer here; counts = λ e. absurd (true≢false (sym is ∙ e)) };
+    }
     by true false here is =
         let n = count_by (is_same_range p) (left_by there p) in
-        let one : count_at w.counts (bounds_of p) ≡ 1 + n =
-        (counts is).counted p here ∙ counted_left (is_same_range p) there p alone ∙ ap (λ b. cond b 1 0 + n) (own_range p) in
+        let one : count_at w.counts (bounds_of p) ≡ 1 + n = counted here is in
         let last = ap (λ m. nat_le m 1) one ∙ last_left n ∙ none_counted (is_same_range p) (left_by there p) in
         record {
           events = ap (λ (b : Bool). w.events ++ (if b then event_of 2 w.asked p ∷ [] else [])) last ∙ ap (λ (es : List Event). w.events ++ es) (sym (append-nil _));
           asked = refl;
           lasts = lasts;
-          counts = λ e. counted_fewer w.asked w.counts there p alone here (counts e);
+          knows = record { known = fewer here; counts = λ e. counted_fewer w.asked w.counts there p alone here (knows.counts e) };
         }

@@ -1,5 +1,5 @@
 -- The subscriptions of a node: what each call makes of them.
-use Rattle.std.specs.Prelude.{◌≡◌, ◌==◌, ◌+◌, ◌-◌, ◌<◌, ◌≤◌, ◌||◌, if◌then◌else◌, max, ℕ, Bool, false, true, List, [], ◌∷◌, ◌++◌, Option, None, Some, All, filter, find, fold, length, map}
+use Rattle.std.specs.Prelude.{◌≡◌, ◌==◌, ◌+◌, ◌-◌, ◌<◌, ◌≤◌, ◌&&◌, ◌||◌, if◌then◌else◌, max, ℕ, Bool, false, true, List, [], ◌∷◌, ◌++◌, Option, None, Some, All, filter, find, fold, map, not}
 use Rattle.std.specs.List.{AllPairs}
 use Rattle.tipc_types.specs.declared.node_calls.Event.{Event}
 use Rattle.tipc_types.specs.declared.node_calls.Subscription.{Subscription}
@@ -7,10 +7,10 @@ use Rattle.tipc_types.specs.declared.services.Publication.{Publication}
 use Rattle.tipc_types.specs.Watching.{in_order, is_watched}
 use Rattle.tipc_topology.specs.declared.changes.TableChange.{TableChange}
 use Rattle.tipc_topology.specs.declared.changes.TableChange.TheVariants.{Added, Removed, Purged}
-use Rattle.tipc_topology.specs.Watchers.{added, began, is_due, removed, with_room, without_first, Watcher}
+use Rattle.tipc_topology.specs.Watchers.{added, began, ended_now, is_due, one_less, removed, with_room, without_first, Watcher}
 
--- the subscriptions of a node in one boot: how many were made; of how many more changes each can be told without new
--- memory; and those that weren't cancelled, in the order of their numbers
+-- the subscriptions of a node in one boot: how many were made; of how many more additions each can be told without
+-- new memory; and those that weren't cancelled, in the order of their numbers
 pub record Watchers : Type 0 where
   pub made : ℕ
   pub room : ℕ
@@ -19,12 +19,6 @@ pub record Watchers : Type 0 where
 -- no subscription
 abbrev pub no_watchers : Watchers
 no_watchers = record { made = 0; room = 0; kept = [] }
-
--- of how many publications a change of the table is
-abbrev pub size : TableChange → ℕ
-size (Added p) = 1
-size (Removed p) = 1
-size (Purged ps) = length ps
 
 -- whether a change is one added or removed publication
 abbrev pub is_of_one : TableChange → Bool
@@ -38,23 +32,29 @@ as_told (Removed p) = Removed p
 as_told (Purged ps) = Purged (in_order ps)
 
 -- a subscription after a change whose publications go one after another
-unfoldable pub told : TableChange → Watcher → Watcher
+abbrev pub told : TableChange → Watcher → Watcher
 told (Added p) w = added w p
 told (Removed p) w = removed w p
 told (Purged ps) w = fold removed w ps
 
--- the subscriptions with room for so many changes, or with more where they have it
+-- the subscriptions with room for so many additions, or with more where they have it
 unfoldable pub with_room_for : ℕ → Watchers → Watchers
-with_room_for changes t =
-    record { made = t.made; room = max t.room changes; kept = map (with_room (max t.room changes)) t.kept }
+with_room_for additions t =
+    record { made = t.made; room = max t.room additions; kept = map (with_room (max t.room additions)) t.kept }
 
--- the subscriptions where each is told of a change, which takes as many places of the room
-unfoldable pub told_each : TableChange → Watchers → Watchers
-told_each c t = record { made = t.made; room = t.room - size c; kept = map (told c) t.kept }
+-- the subscriptions where each is told of an added publication, which takes a place of the room
+abbrev pub with_addition : Publication → Watchers → Watchers
+with_addition p t = record { made = t.made; room = t.room - 1; kept = map (λ w. added w p) t.kept }
+
+-- the subscriptions where each is told of removed publications, one after another
+abbrev pub with_loss : List Publication → Watchers → Watchers
+with_loss ps t = record { made = t.made; room = t.room; kept = map (λ w. fold removed w ps) t.kept }
 
 -- the subscriptions after a change of the table
 abbrev pub changed : TableChange → Watchers → Watchers
-changed c t = told_each (as_told c) (with_room_for (size (as_told c)) t)
+changed (Added p) t = with_addition p (with_room_for 1 t)
+changed (Removed p) t = with_loss (p ∷ []) t
+changed (Purged ps) t = with_loss (in_order ps) t
 
 -- the subscriptions with one more, behind the others, where these publications are there
 unfoldable pub subscribed : Subscription → List Publication → Watchers → Watchers
@@ -95,6 +95,19 @@ is_filter s = (s.filter == 1) || (s.filter == 2)
 -- the same with other subscriptions
 abbrev pub with_kept : Watchers → List Watcher → Watchers
 with_kept t kept = record { made = t.made; room = t.room; kept = kept }
+
+-- the subscriptions where that of a number was cancelled
+abbrev pub cancelled : ℕ → Watchers → Watchers
+cancelled number t = with_kept t (without number t.kept)
+
+-- the subscriptions where that of a number, if it lasts, timed out
+abbrev pub ended_at : ℕ → Watchers → Watchers
+ended_at number t =
+    with_kept t (map (λ w. if has_number number w && not w.ended then ended_now w else w) t.kept)
+
+-- the subscriptions where a tick passed and none timed out
+abbrev pub passed : Watchers → Watchers
+passed t = with_kept t (map one_less t.kept)
 
 -- the numbers of those that time out in this tick
 abbrev pub due : List Watcher → List ℕ

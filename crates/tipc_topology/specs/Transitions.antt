@@ -1,5 +1,5 @@
 -- The transitions of a subscription over the changes that it is told, and what its counts say of what is there.
-use Rattle.std.specs.Prelude.{◌≡◌, ◌<◌, ◌^◌, true, List, [], ◌∷◌, ◌++◌, None, count_by, filter, fold, length, not}
+use Rattle.std.specs.Prelude.{◌≡◌, ◌==◌, true, List, [], ◌∷◌, ◌++◌, false, None, count_by, filter, fold, not}
 use Rattle.std.specs.Map.{lookup}
 use Rattle.tipc_types.specs.declared.node_calls.Event.{Event}
 use Rattle.tipc_types.specs.declared.node_calls.Subscription.{Subscription}
@@ -42,7 +42,7 @@ AreRemovable there (p ∷ ps) = (filter (is_same_name p) there ≡ p ∷ []) × 
 
 -- A change that a table can tell of: what is removed is there.
 abbrev pub IsPossible : List Publication → TableChange → Type 0
-IsPossible there (Added p) = length there < 2 ^ 63
+IsPossible there (Added p) = Unit {0}
 IsPossible there (Removed p) = AreRemovable there (p ∷ [])
 IsPossible there (Purged ps) = AreRemovable there (in_order ps)
 
@@ -62,6 +62,12 @@ pub record IsCounted (s : Subscription) (counts : Counts) (there : List Publicat
   pub once : EachOnce counts
   pub counted : (p : Publication) → is_watched s p ≡ true →
       count_at counts (bounds_of p) ≡ count_by (is_same_range p) there
+
+-- What a subscription to s knows of the publications that are there: how many of them it watches, and under the service
+-- filter its counts.
+pub record Knows (s : Subscription) (w : Watcher) (there : List Publication) : Type 0 where
+  pub known : w.known ≡ count_by (is_watched s) there
+  pub counts : (s.filter == 1) ≡ false → IsCounted s w.counts there
 
 -- a subscription that was told of several changes, one after another
 abbrev pub told_all : Watcher → List TableChange → Watcher

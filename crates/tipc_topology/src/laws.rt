@@ -1,6 +1,6 @@
 //! Laws of what subscribers are told, for callers: each is the contract of a function that does nothing.
 
-ghost use Rattle.std.specs.Prelude.{◌≡◌, ◌<◌, ◌++◌, ◌∷◌, ◌^◌, [], ℕ, List, None, Some, filter, length, slice_get};
+ghost use Rattle.std.specs.Prelude.{◌≡◌, ◌++◌, ◌∷◌, [], ℕ, List, None, Some, filter, fold, map, slice_get};
 ghost use Rattle.tipc_types.specs.declared.node_calls.Event.{Event};
 ghost use Rattle.tipc_types.specs.declared.node_calls.Subscription.{Subscription};
 ghost use Rattle.tipc_types.specs.declared.services.Publication.{Publication};
@@ -10,14 +10,15 @@ ghost use Rattle.tipc_journal.specs.Subscriptions.{change_events as entry_events
 ghost use Rattle.tipc_topology.specs.declared.changes.TableChange.{TableChange};
 ghost use Rattle.tipc_topology.specs.Entries.{change_of, events_where};
 ghost use Rattle.tipc_topology.specs.Transitions.{told_all, transitions, ArePossible};
-ghost use Rattle.tipc_topology.specs.Watchers.{began, without_first, Watcher};
+ghost use Rattle.tipc_topology.specs.Changing.{due, ended_at, passed, with_kept, AreKept, Watchers};
+ghost use Rattle.tipc_topology.specs.Watchers.{began, ticked, without_first, Watcher};
 
 /// The events of a subscription that was told of changes, and of which none was taken, are its transitions: those that
 /// are there at its beginning, as additions in order, and then those of each change.
 pub fn events_are_transitions()
     ensures { (number : ℕ) (s : Subscription) (room : ℕ) →
         (there : List Publication) (cs : List TableChange) →
-        length there < 2 ^ 63 → ArePossible there cs →
+        ArePossible there cs →
         (told_all (began number s room (in_order (filter (is_watched s) there))) cs).events ≡ transitions s there cs }
 {}
 
@@ -35,4 +36,11 @@ pub fn taken_events_are_a_front()
 pub fn entries_are_changes()
     ensures { (s : Subscription) (there : List Publication) (e : Entry) →
         entry_events s there e ≡ events_where s there (change_of there e) }
+{}
+
+/// In a tick the subscriptions that are due end, one after another; none is due then, and the tick passes for all.
+pub fn a_tick_ends_and_passes()
+    ensures parts { (t : Watchers) → AreKept t →
+        passed (fold (λ u number. ended_at number u) t (due t.kept)) ≡ with_kept t (map ticked t.kept) }
+    ensures ended { (t : Watchers) → AreKept t → due (fold (λ u number. ended_at number u) t (due t.kept)).kept ≡ [] }
 {}

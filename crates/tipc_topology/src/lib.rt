@@ -3,13 +3,12 @@
 
 mod changes;
 pub mod laws;
+mod leaving;
 mod topology;
 mod watch;
 
 pub use changes::TableChange;
+pub use leaving::Leaving;
 pub use topology::{
     MOST_MADE, MOST_SUBSCRIPTIONS, SubscriptionNumbers, Topology, TopologyFault, Unknown,
 };
-
-#[cfg(test)]
-mod tests;

@@ -1,16 +1,17 @@
 //! The subscriptions of one node, and the calls that they take.
 
-ghost use Rattle.std.specs.Prelude.{◌≡◌, ◌≤◌, ◌<◌, ◌+◌, ◌++◌, ◌⊎◌, ◌↔◌, false, true, ℕ, [], None, Some, Err, All, drop, length, map, position, slice_get, take, IfErr, IfOk, IfSome, IfNone, IsErr, IsOk, OnErr, OnOk};
+ghost use Rattle.std.specs.Prelude.{◌≡◌, ◌≤◌, ◌<◌, ◌+◌, ◌++◌, ◌⊎◌, ◌↔◌, false, true, ℕ, [], None, Some, Err, All, drop, fold, length, map, position, slice_get, take, IfErr, IfOk, IfSome, IfNone, IsErr, IsOk, OnErr, OnOk};
 ghost use Rattle.std.specs.List.{AllPairs};
-ghost use Rattle.tipc_topology.specs.Watchers.{is_due, ticked, with_room, Watcher};
-ghost use Rattle.tipc_topology.specs.Changing.{changed, due, events_left, has_number, no_watchers, of_number, size, subscribed, taken_from, told, told_each, with_kept, with_room_for, without, is_filter, is_of_one};
+ghost use Rattle.tipc_topology.specs.Watchers.{added, is_due, removed, ticked, with_room, Watcher};
+ghost use Rattle.tipc_types.specs.declared.services.Publication.{Publication};
+ghost use Rattle.tipc_topology.specs.Changing.{changed, due, ended_at, events_left, has_number, no_watchers, of_number, passed, subscribed, taken_from, with_addition, with_kept, with_loss, with_room_for, without, is_filter, is_of_one};
 
-use crate::changes::{TableChange, as_told, in_order, size};
+use crate::changes::{TableChange, in_order};
 use crate::watch::{PORTS, SERVICE, Watch};
 use std::alloc::{AllocError, AllocFailed, Global};
 use std::marker::Model;
 use tipc_name_table::Names;
-use tipc_types::{Event, NoMemory, Sequence, ServiceRange, Subscription};
+use tipc_types::{Event, NoMemory, Publication, Sequence, ServiceRange, Subscription};
 
 /// The most subscriptions of a node at a time. (This project's profile.)
 pub const MOST_SUBSCRIPTIONS: usize = 256;
@@ -58,13 +59,14 @@ pub struct Topology {
 }
 
 impl Model for Topology {
+    ghost use Rattle.std.specs.Prelude.{◌≤◌, length};
     ghost use Rattle.tipc_topology.specs.Changing.{AreKept, Watchers};
 
     ghost Value = { Watchers };
 
     ghost view = { λ t. record { made = t.made; room = t.room; kept = t.kept.items } };
 
-    ghost invariant = { λ t. AreKept (record { made = t.made; room = t.room; kept = t.kept.items }) };
+    ghost invariant = { λ t. AreKept (record { made = t.made; room = t.room; kept = t.kept.items }) × (length t.kept.items ≤ 256) };
 }
 
 /// Where the subscription of a number is.
@@ -74,38 +76,47 @@ fn place_of(kept: &[Watch], number: u32) -> Option<usize>
     kept.iter().position(|w| w.number() == number)
 }
 
-/// Makes room in each for so many changes, in order, as far as memory goes.
-fn make_room_in_each(kept: &mut [Watch], changes: usize) -> Result<(), NoMemory>
-    requires { All (λ (w : Watcher). w.room ≤ changes) kept.old }
-    ensures ok { OnOk result (kept.new ≡ map (with_room changes) kept.old) }
+/// Makes room in each for so many additions, in order, as far as memory goes.
+fn make_room_in_each(kept: &mut [Watch], additions: usize) -> Result<(), NoMemory>
+    requires { All (λ (w : Watcher). w.room ≤ additions) kept.old }
+    ensures ok { OnOk result (kept.new ≡ map (with_room additions) kept.old) }
     ensures err { OnErr result ((done : ℕ) ×
-        (kept.new ≡ map (with_room changes) (take done kept.old) ++ drop done kept.old)) }
+        (kept.new ≡ map (with_room additions) (take done kept.old) ++ drop done kept.old)) }
 {
     for watch in kept.iter_mut() {
-        let Ok(()) = watch.make_room(changes) else {
+        let Ok(()) = watch.make_room(additions) else {
             return Err(NoMemory);
         };
     }
     Ok(())
 }
 
-/// Keeps room in each for no more than so many changes.
-fn limit_room_in_each(kept: &mut [Watch], changes: usize)
-    requires { All (λ (w : Watcher). changes ≤ w.room) kept.old }
-    ensures { kept.new ≡ map (with_room changes) kept.old }
+/// Keeps room in each for no more than so many additions.
+fn limit_room_in_each(kept: &mut [Watch], additions: usize)
+    requires { All (λ (w : Watcher). additions ≤ w.room) kept.old }
+    ensures { kept.new ≡ map (with_room additions) kept.old }
 {
     for watch in kept.iter_mut() {
-        watch.limit_room(changes);
+        watch.limit_room(additions);
     }
 }
 
-/// Tells each of a change. It takes no memory.
-fn tell_each(kept: &mut [Watch], change: &TableChange)
-    requires { All (λ (w : Watcher). size change.now ≤ w.room) kept.old }
-    ensures { kept.new ≡ map (told change.now) kept.old }
+/// Tells each of an added publication. It takes no memory.
+fn add_to_each(kept: &mut [Watch], p: &Publication)
+    requires { All (λ (w : Watcher). 1 ≤ w.room) kept.old }
+    ensures { kept.new ≡ map (λ w. added w p.now) kept.old }
 {
     for watch in kept.iter_mut() {
-        watch.tell(change);
+        watch.add(p);
+    }
+}
+
+/// Tells each of removed publications, one after another. It takes no memory.
+fn remove_from_each(kept: &mut [Watch], ps: &[Publication])
+    ensures { kept.new ≡ map (λ w. fold removed w ps.now) kept.old }
+{
+    for watch in kept.iter_mut() {
+        watch.remove_each(ps);
     }
 }
 
@@ -184,59 +195,88 @@ impl Topology {
     }
 
     /// Tells each subscription of a change of the table. A purge is told in the order of lower, upper, node, port, key.
+    /// A removed publication is told of where one is known that the subscription watches.
     ///
     /// # Errors
     ///
-    /// `NoMemory` where memory runs out, which it doesn't at one added or removed publication where room was reserved.
-    /// It changes nothing.
+    /// `NoMemory` where memory runs out, which it doesn't at an added publication where room was reserved, nor at a
+    /// removed one. It changes nothing.
     pub fn changed(&mut self, alloc: Global, change: &TableChange) -> Result<(), NoMemory>
         ensures ok { OnOk result (self.new ≡ changed change.now self.old) }
         ensures err { OnErr result (self.new ≡ self.old) }
         ensures succeeds { is_of_one change.now ≡ true → 1 ≤ self.old.room → IsOk result }
+        ensures removal { (p : Publication) → change.now ≡ TableChange.Removed p → IsOk result }
     {
-        let change = as_told(alloc, change)?;
-        self.make_room(size(&change))?;
-        self.tell(&change);
+        match change {
+            TableChange::Added(p) => self.added(p)?,
+            TableChange::Removed(p) => self.lost(&[*p]),
+            TableChange::Purged(ps) => {
+                let ordered = in_order(alloc, ps.as_slice())?;
+                self.lost(ordered.as_slice());
+            }
+        }
         Ok(())
     }
 
-    /// Tells each subscription of a change that there is room for. It takes no memory.
-    fn tell(&mut self, change: &TableChange)
-        requires { size change.now ≤ self.old.room }
-        ensures { self.new ≡ told_each change.now self.old }
+    /// Tells each subscription of an added publication.
+    ///
+    /// # Errors
+    ///
+    /// `NoMemory` where memory runs out, which it doesn't where room was reserved. It changes nothing.
+    pub fn added(&mut self, p: &Publication) -> Result<(), NoMemory>
+        ensures ok { OnOk result (self.new ≡ changed (TableChange.Added p.now) self.old) }
+        ensures err { OnErr result (self.new ≡ self.old) }
+        ensures succeeds { 1 ≤ self.old.room → IsOk result }
     {
-        tell_each(self.kept.as_mut_slice(), change);
-        self.room -= size(change);
+        self.make_room(1)?;
+        self.add(p);
+        Ok(())
     }
 
-    /// Makes room for so many changes, where there isn't as much.
-    fn make_room(&mut self, changes: usize) -> Result<(), NoMemory>
-        ensures ok { OnOk result (self.new ≡ with_room_for changes self.old) }
-        ensures err { OnErr result (self.new ≡ self.old) }
-        ensures succeeds { changes ≤ self.old.room → IsOk result }
+    /// Tells each subscription of an added publication that there is room for. It takes no memory.
+    fn add(&mut self, p: &Publication)
+        requires { 1 ≤ self.old.room }
+        ensures { self.new ≡ with_addition p.now self.old }
     {
-        if changes <= self.room {
+        add_to_each(self.kept.as_mut_slice(), p);
+        self.room -= 1;
+    }
+
+    /// Tells each subscription of publications that aren't known any more, one after another in this order. It takes no
+    /// memory.
+    pub fn lost(&mut self, ordered: &[Publication])
+        ensures { self.new ≡ with_loss ordered.now self.old }
+    {
+        remove_from_each(self.kept.as_mut_slice(), ordered);
+    }
+
+    /// Makes room for so many additions, where there isn't as much.
+    fn make_room(&mut self, additions: usize) -> Result<(), NoMemory>
+        ensures ok { OnOk result (self.new ≡ with_room_for additions self.old) }
+        ensures err { OnErr result (self.new ≡ self.old) }
+        ensures succeeds { additions ≤ self.old.room → IsOk result }
+    {
+        if additions <= self.room {
             return Ok(());
         }
-        let Ok(()) = make_room_in_each(self.kept.as_mut_slice(), changes) else {
+        let Ok(()) = make_room_in_each(self.kept.as_mut_slice(), additions) else {
             limit_room_in_each(self.kept.as_mut_slice(), self.room);
             return Err(NoMemory);
         };
-        self.room = changes;
+        self.room = additions;
         Ok(())
     }
 
-    /// Makes room for so many changes: so many calls of `changed` with one added or removed publication take no memory
-    /// then.
+    /// Makes room for so many additions: so many calls of `added` take no memory then.
     ///
     /// # Errors
     ///
     /// `NoMemory` where memory runs out. It changes nothing.
-    pub fn reserve(&mut self, changes: u64) -> Result<(), NoMemory>
-        ensures ok { OnOk result (self.new ≡ with_room_for changes self.old) }
+    pub fn reserve(&mut self, additions: u64) -> Result<(), NoMemory>
+        ensures ok { OnOk result (self.new ≡ with_room_for additions self.old) }
         ensures err { OnErr result (self.new ≡ self.old) }
     {
-        self.make_room(changes as usize)
+        self.make_room(additions as usize)
     }
 
     /// Lets a tick pass, and answers the numbers of the subscriptions that timed out, rising. Each was told so as the
@@ -252,9 +292,28 @@ impl Topology {
         ensures ok { OnOk result (self.new ≡ with_kept self.old (map ticked self.old.kept)) }
         ensures err { OnErr result (self.new ≡ self.old) }
     {
+        let numbers = self.due(alloc)?;
+        self.pass();
+        Ok(numbers)
+    }
+
+    /// The numbers of the subscriptions that time out in the next tick, rising; 256 at most.
+    pub fn due(&self, alloc: Global) -> Result<SubscriptionNumbers, NoMemory>
+        ensures numbers { IfOk result (λ numbers. numbers ≡ due self.now.kept) }
+        ensures rising { IfOk result (λ numbers. AllPairs (λ (n later : ℕ). n < later) numbers) }
+        ensures few { IfOk result (λ numbers. length numbers ≤ 256) }
+    {
         let numbers = due(alloc, self.kept.as_slice())?;
-        tick_each(self.kept.as_mut_slice());
         Ok(SubscriptionNumbers::from_vec(numbers))
+    }
+
+    /// Lets a tick pass, as `tick` does, where the numbers of those that time out are known: they end one after another,
+    /// and then the tick passes for all. It takes no memory.
+    pub fn pass(&mut self)
+        ensures ticked { self.new ≡ with_kept self.old (map ticked self.old.kept) }
+        ensures parts { self.new ≡ passed (fold (λ t n. ended_at n t) self.old (due self.old.kept)) }
+    {
+        tick_each(self.kept.as_mut_slice());
     }
 
     /// Takes the first event of a subscription that wasn't taken yet: None exactly where none is left. It takes no

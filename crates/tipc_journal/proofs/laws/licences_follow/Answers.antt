@@ -1,5 +1,5 @@
 use Rattle.tipc_journal.proofs.EventLaws.{given_front}
-use Rattle.tipc_journal.proofs.LicenceLaws.{AllLicensed_step, IsFed_licensed, sends_in_more, AllTimely_step}
+use Rattle.tipc_journal.proofs.LicenceLaws.{AllLicensed_step, IsFed_licensed, sends_in_more}
 use Rattle.tipc_journal.proofs.laws.licences_follow.Goals as goal
 
 pub returns-clause-step : goal.returns-clause-step
@@ -10,9 +10,6 @@ returns-clause-fed c = IsFed_licensed
 
 pub returns-clause-inside : goal.returns-clause-inside
 returns-clause-inside c = sends_in_more
-
-pub returns-clause-timely : goal.returns-clause-timely
-returns-clause-timely c = AllTimely_step
 
 pub returns-clause-told : goal.returns-clause-told
 returns-clause-told c = given_front

@@ -4,4 +4,4 @@ use Rattle.tipc_topology.proofs.Each.{stepped}
 use Rattle.tipc_topology.proofs.topology.limit_room_in_each.Given as goal
 
 abbrev pub invariant-loop-watch : goal.invariant-loop-watch
-invariant-loop-watch l = l.kept ≡ stepped (with_room l.changes) l.watch-index l.fn.kept
+invariant-loop-watch l = l.kept ≡ stepped (with_room l.additions) l.watch-index l.fn.kept

@@ -8,8 +8,8 @@ use Rattle.tipc_topology.proofs.topology.make_room_in_each.Goals as goal
 pub loop-watch-preserved : goal.loop-watch-preserved
 loop-watch-preserved c =
     let at = c.loop-watch.watch-index in
-    ap (λ (w : Watcher). set c.loop-watch.kept at w) (c.in-Ok.ensures.ok ∙ ap (λ (w : Watcher). with_room c.args.changes w) (sym c.watch-item.is))
-    ∙ map_over_more (with_room c.args.changes) c.args.kept.now c.loop-watch.kept at c.watch-item.result c.loop-watch-test.true c.loop-watch.invariant c.watch-item.is
+    ap (λ (w : Watcher). set c.loop-watch.kept at w) (c.in-Ok.ensures.ok ∙ ap (λ (w : Watcher). with_room c.args.additions w) (sym c.watch-item.is))
+    ∙ map_over_more (with_room c.args.additions) c.args.kept.now c.loop-watch.kept at c.watch-item.result c.loop-watch-test.true c.loop-watch.invariant c.watch-item.is
 
 pub returns-in_default-clause-err : goal.returns-in_default-clause-err
 returns-in_default-clause-err c =

@@ -1,4 +1,4 @@
-use Rattle.std.proofs.Common.{◌≤◌, ◌∙◌, List, length, filter, ap, arith}
+use Rattle.std.proofs.Common.{◌∙◌, List, length, filter, ap, arith}
 use Rattle.std.proofs.lemmas.List.Sums.{count_by-le-length, length-filter}
 use Rattle.tipc_types.specs.declared.services.Publication.{Publication}
 use Rattle.tipc_name_table.specs.Tables.{is_of}

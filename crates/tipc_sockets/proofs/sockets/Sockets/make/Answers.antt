@@ -15,7 +15,7 @@ invariant_of-self-2 c =
     let absent = ap (λ (es : List (ℕ × List Message)). lookup (nat_eq port) es) kept ∙ new_port_absent _ port h number in
     let queue = c.in-Ok.ensures in
     let added : c.insert.new.self.entries ≡ c.self.inside.queues.entries ++ (port, []) ∷ [] = c.in-Ok-insert.ensures.entries ∙ insert_entry-new nat_eq c.reserve.new.self port _ absent ∙ (λ i. kept i ++ (port, queue i) ∷ []) in
-    rw (c.in_ok-port.ensures.ok, added) (ap (λ (n : ℕ). n + 1) c.self.invariant.0, sockets_made _ port h number)
+    rw (c.in_ok-port.ensures.ok, added) (ap (λ (n : ℕ). n + 1) c.self.invariant.0, sockets_made _ port h number, c.self.invariant.2)
 
 pub returns-clause-ok : goal.returns-clause-ok
 returns-clause-ok c =

@@ -10,4 +10,4 @@ pub invariant_of-self : goal.invariant_of-self
 invariant_of-self c =
     let queues = c.self.inside.queues.entries in
     let same = ap (λ (qs : List (ℕ × List Message)). keys_of qs) c.put.ensures ∙ keys-set_value (nat_eq c.args.port) queues (unwrap_or (lookup (nat_eq c.args.port) queues) [] ++ c.args.m ∷ []) in
-    (c.self.invariant.0, other_queues _ c.put.new.queues.entries c.self.invariant.1 same)
+    (c.self.invariant.0, other_queues _ c.put.new.queues.entries c.self.invariant.1 same, c.self.invariant.2)

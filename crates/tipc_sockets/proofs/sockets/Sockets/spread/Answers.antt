@@ -26,4 +26,4 @@ pub invariant_of-self-2 : goal.invariant_of-self-2
 invariant_of-self-2 c =
     let queues = c.self.inside.queues.entries in
     let same = ap (λ (qs : List (ℕ × List Message)). keys_of qs) c.in_ok-put_each.ensures.ok ∙ keys-queued_at_each c.args.m.now queues c.as_slice-3.result.now in
-    (c.self.invariant.0, other_queues _ c.put_each.new.queues.entries c.self.invariant.1 same)
+    (c.self.invariant.0, other_queues _ c.put_each.new.queues.entries c.self.invariant.1 same, c.self.invariant.2)

@@ -1,17 +1,14 @@
-use Rattle.std.proofs.Common.{not, refl}
-use Rattle.tipc_types.specs.declared.services.Publication.{Publication}
+use Rattle.std.proofs.Common.{◌≡◌, None, sym, ap, subst, ◌∙◌}
+use Rattle.std.specs.Prelude.{ℕ, find}
 use Rattle.tipc_name_table.specs.Tables.{is_named}
-use Rattle.tipc_sockets.proofs.Keeping.{sockets_kept, taken_out}
+use Rattle.tipc_sockets.specs.SocketTables.{AreSockets, SocketTable}
+use Rattle.tipc_sockets.proofs.Keeping.{live_key_found}
 use Rattle.tipc_sockets.proofs.sockets.Sockets.withdraw_at.Goals as goal
 
-pub invariant_of-self : goal.invariant_of-self
-invariant_of-self c =
-    let w = c.self.inside in
-    let gone = taken_out w.own.word c.args.key c.withdraw.result w.names c.withdraw.new.self c.withdraw.ensures.after c.withdraw.ensures.unknown c.withdraw.ensures.err in
-    (c.self.invariant.0, sockets_kept _ (λ (p : Publication). not (is_named w.own.word c.args.key p)) _ _ c.self.invariant.1 c.withdraw.ensures.sound gone c.remove_named.ensures)
-
-pub returns-clause-after : goal.returns-clause-after
-returns-clause-after c =
-    let w = c.self.inside in
-    let gone = taken_out w.own.word c.args.key c.withdraw.result w.names c.withdraw.new.self c.withdraw.ensures.after c.withdraw.ensures.unknown c.withdraw.ensures.err in
-    rw (← c.self.view_is) (rw (gone, c.remove_named.ensures) refl)
+pub unreachable-requires : goal.unreachable-requires
+unreachable-requires c =
+    let s = c.args.self.now in
+    let h = subst (λ (t : SocketTable). AreSockets t) c.withdraw.view_is c.withdraw.invariant.1 in
+    let own = ap (λ (t : SocketTable). t.own) c.withdraw.view_is in
+    live_key_found s c.args.port c.args.key c.in-Some.p h (sym c.published_at.ensures ∙ c.in-Some.is)
+    (subst (λ (n : ℕ). find (is_named n c.args.key) s.names ≡ None) own c.in-Err.ensures.unknown)

@@ -1,5 +1,6 @@
-use Rattle.std.proofs.Common.{◌≡◌, ◌<◌, ℕ, length, List, Some, None, get_or, refl, sym, ap, subst, ◌∙◌, true≢false}
+use Rattle.std.proofs.Common.{◌≡◌, ◌<◌, ℕ, length, List, Some, None, get_or, refl, sym, ap, subst, ◌∙◌, true≢false, arith}
 use Rattle.std.specs.Prelude.{position, remove}
+use Rattle.std.proofs.lemmas.List.Edits.{length-remove}
 use Rattle.tipc_topology.specs.Watchers.{Watcher}
 use Rattle.tipc_topology.specs.Changing.{has_number, of_number, with_kept, without, Watchers}
 use Rattle.tipc_topology.proofs.Kept.{found_one, found_place, no_place, removed_kept, without_at, kept_as, some_not_none}
@@ -18,7 +19,12 @@ invariant_of-self c =
     let place = ap (λ (ws : List Watcher). position (has_number c.args.number) ws) (sym c.as_slice.ensures.value) ∙ sym c.place_of.ensures ∙ c.in-Some.is in
     let w = c.self.inside in
     let here = found_place c.args.number w.kept.items c.in-Some.at place in
-    rw c.remove.ensures.items (removed_kept w.made w.room c.in-Some.at w.kept.items here.1 c.self.invariant)
+    let count = ap (λ (ws : List Watcher). length ws) c.remove.ensures.items in
+    let fewer = length-remove w.kept.items c.in-Some.at here.1 in
+    let few = c.self.invariant.1 in (
+      rw c.remove.ensures.items (removed_kept w.made w.room c.in-Some.at w.kept.items here.1 c.self.invariant.0),
+      omega (arith, count, fewer, few),
+    )
 
 pub returns-clause-ok : goal.returns-clause-ok
 returns-clause-ok c =

@@ -1,4 +1,5 @@
-use Rattle.std.proofs.Common.{◌+◌, List, sym, ap, subst, ◌∙◌}
+use Rattle.std.proofs.Common.{◌+◌, [], ◌∷◌, List, length, arith, sym, ap, subst, ◌∙◌}
+use Rattle.std.proofs.lemmas.List.{length-append}
 use Rattle.tipc_types.specs.declared.services.Publication.{Publication}
 use Rattle.tipc_types.specs.Watching.{in_order}
 use Rattle.tipc_topology.specs.Watchers.{began, Watcher}
@@ -11,9 +12,15 @@ invariant_of-self-2 g c =
     let w = c.self.inside in
     let watch = c.in_ok-watch.watch in
     let takes = began_takes (w.made + 1) c.args.s w.room c.as_slice-2.result.now in
-    subst (λ (ws : List Watcher). AreKept (kept_as (w.made + 1) w.room ws)) (sym c.in-Ok-push.ensures.items)
-    (pushed_kept w.made w.room w.kept.items watch (ap (λ (v : Watcher). v.number) c.in_ok-watch.ensures ∙ takes.0)
-    (ap (λ (v : Watcher). v.room) c.in_ok-watch.ensures ∙ takes.1) c.self.invariant)
+    let count = ap (λ (ws : List Watcher). length ws) c.in-Ok-push.ensures.items in
+    let more = length-append w.kept.items (watch ∷ []) in
+    let fewer = c.if-len-ge-MOST_SUBSCRIPTIONS.false in
+    let length_is = c.len.ensures in (
+      subst (λ (ws : List Watcher). AreKept (kept_as (w.made + 1) w.room ws)) (sym c.in-Ok-push.ensures.items)
+          (pushed_kept w.made w.room w.kept.items watch (ap (λ (v : Watcher). v.number) c.in_ok-watch.ensures ∙ takes.0)
+          (ap (λ (v : Watcher). v.room) c.in_ok-watch.ensures ∙ takes.1) c.self.invariant.0),
+      omega (arith, count, more, fewer, length_is),
+    )
 
 pub returns-clause-ok : goal.returns-clause-ok
 returns-clause-ok g c =

@@ -1,19 +1,12 @@
-use Rattle.std.proofs.Common.{◌≡◌, ◌-◌, fold, take, sym, ap, ◌∙◌, arith}
+use Rattle.std.proofs.Common.{fold, take, sym, ap, ◌∙◌}
 use Rattle.std.proofs.lemmas.List.Sums.{fold_more}
 use Rattle.tipc_types.specs.declared.services.Publication.{Publication}
 use Rattle.tipc_topology.specs.Watchers.{removed, Watcher}
-use Rattle.tipc_topology.proofs.Kept.{removed_takes}
 use Rattle.tipc_topology.proofs.watch.Watch.remove_each.Goals as goal
 
 pub loop-p-preserved : goal.loop-p-preserved
 loop-p-preserved c =
-    let taken : c.remove.new.self.room ≡ c.loop-p.self.room - 1 =
-    ap (λ (w : Watcher). w.room) c.remove.ensures ∙ (removed_takes c.loop-p.self c.p-item.result).1 in
-    let so_far = c.loop-p.invariant.1 in
-    let within = c.loop-p-test.true in (
-      c.remove.ensures
-          ∙ ap (λ (w : Watcher). removed w c.p-item.result) c.loop-p.invariant.0
-          ∙ ap (λ (p : Publication). removed (fold removed c.args.self.now (take c.loop-p.p-index c.args.ps.now)) p) c.p-item.is
-          ∙ sym (fold_more removed c.args.self.now c.args.ps.now c.loop-p.p-index c.p-item.result c.loop-p-test.true),
-      omega (arith, taken, so_far, within),
-    )
+    c.remove.ensures
+    ∙ ap (λ (w : Watcher). removed w c.p-item.result) c.loop-p.invariant
+    ∙ ap (λ (p : Publication). removed (fold removed c.args.self.now (take c.loop-p.p-index c.args.ps.now)) p) c.p-item.is
+    ∙ sym (fold_more removed c.args.self.now c.args.ps.now c.loop-p.p-index c.p-item.result c.loop-p-test.true)
