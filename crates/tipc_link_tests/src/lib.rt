@@ -1,4 +1,4 @@
-//! Tests of the crates of windows, link states, pairs and broadcast. They stand apart, so that their proof begins with what those crates have proved.
+//! Tests of the crates of windows, contacts, link states and broadcast. They stand apart, so that their proof begins with what those crates have proved.
 #![tactic(auto)]
 
 #[cfg(test)]
@@ -7,8 +7,6 @@ mod broadcast;
 mod contact;
 #[cfg(test)]
 mod link_fsm;
-#[cfg(test)]
-mod pair;
 #[cfg(test)]
 mod recv_window;
 #[cfg(test)]

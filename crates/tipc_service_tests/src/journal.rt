@@ -1,5 +1,7 @@
 //! Tests of the journal: an entry is appended, and what its entries tell is read.
 
+use std::alloc::Global;
+use std::process::Abort;
 use std::test::Fail;
 use tipc_journal::{Arrivals, Entry, Journal};
 use tipc_types::{
@@ -30,13 +32,9 @@ fn a_new_journal_takes_an_entry_and_tells_of_nothing(rt: HostRuntime) -> Result<
     Ok(())
 }
 
-#[test]
-fn a_journal_tells_what_was_accepted_delivered_and_published(rt: HostRuntime) -> Result<(), Fail> {
-    let alloc = rt.alloc();
-    let mut journal = Journal::new(alloc);
-    let peer = Addr::node(2);
-    let contact = (4_294_967_297, 4_294_967_298);
-    let message = Message::Payload {
+/// A message of five bytes from node 1 to node 2.
+fn hello(alloc: Global) -> Result<Message, Fail> {
+    Ok(Message::Payload {
         importance: Importance::Low,
         form: Form::Direct,
         from: PortId {
@@ -44,7 +42,7 @@ fn a_journal_tells_what_was_accepted_delivered_and_published(rt: HostRuntime) ->
             port: 1,
         },
         to: PortId {
-            node: peer,
+            node: Addr::node(2),
             port: 1,
         },
         name_kind: 0,
@@ -53,7 +51,62 @@ fn a_journal_tells_what_was_accepted_delivered_and_published(rt: HostRuntime) ->
         code: 0,
         droppable: false,
         body: Bytes::from_slice(alloc, b"hello")?,
-    };
+    })
+}
+
+/// So many messages were accepted for node 2 in this contact in a flow, and so many delivered.
+fn carried(
+    rt: &impl Abort,
+    alloc: Global,
+    journal: &Journal,
+    contact: (u64, u64),
+    flow: Flow,
+    count: (usize, usize),
+) -> Result<(), Fail> {
+    let accepted = journal.accepted(alloc, Addr::node(2), contact, flow)?;
+    assert!(rt; accepted.len() == count.0);
+    let delivered = journal.delivered(alloc, Addr::node(2), contact, flow)?;
+    assert!(rt; delivered.len() == count.1);
+    Ok(())
+}
+
+#[test]
+fn a_journal_tells_what_was_accepted_and_delivered(rt: HostRuntime) -> Result<(), Fail> {
+    let alloc = rt.alloc();
+    let mut journal = Journal::new(alloc);
+    let peer = Addr::node(2);
+    let contact = (4_294_967_297, 4_294_967_298);
+    journal.append(Entry::Accepted {
+        peer,
+        contact,
+        flow: Flow::Zero,
+        message: hello(alloc)?,
+    })?;
+    journal.append(Entry::Delivered {
+        peer,
+        contact,
+        flow: Flow::One,
+        message: hello(alloc)?,
+        by: Arrivals::new(alloc),
+    })?;
+    assert!(rt; journal.message_bytes() == 10);
+    carried(&rt, alloc, &journal, contact, Flow::Zero, (1, 0))?;
+    carried(&rt, alloc, &journal, contact, Flow::One, (0, 1))?;
+    carried(
+        &rt,
+        alloc,
+        &journal,
+        (contact.1, contact.0),
+        Flow::One,
+        (0, 0),
+    )?;
+    Ok(())
+}
+
+#[test]
+fn a_journal_tells_what_was_published(rt: HostRuntime) -> Result<(), Fail> {
+    let alloc = rt.alloc();
+    let mut journal = Journal::new(alloc);
     let publication = Publication {
         range: ServiceRange::new(1000, 1, 5).ok().ok_or("a range")?,
         scope: Scope::Cluster,
@@ -63,37 +116,8 @@ fn a_journal_tells_what_was_accepted_delivered_and_published(rt: HostRuntime) ->
         },
         key: 7,
     };
-    journal.append(Entry::Accepted {
-        peer,
-        contact,
-        flow: Flow::Zero,
-        message: message.clone()?,
-    })?;
-    journal.append(Entry::Delivered {
-        peer,
-        contact,
-        flow: Flow::One,
-        message: message.clone()?,
-        by: Arrivals::new(alloc),
-    })?;
     journal.append(Entry::Published { publication })?;
-    assert_eq!(rt; journal.message_bytes(), 10);
-    assert_eq!(rt;
-        journal.accepted(alloc, peer, contact, Flow::Zero)?.len(),
-        1
-    );
-    assert_eq!(rt; journal.accepted(alloc, peer, contact, Flow::One)?.len(), 0);
-    assert_eq!(rt;
-        journal.delivered(alloc, peer, contact, Flow::One)?.len(),
-        1
-    );
-    assert_eq!(rt;
-        journal
-            .delivered(alloc, peer, (4_294_967_298, 4_294_967_297), Flow::One)?
-            .len(),
-        0
-    );
-    assert_eq!(rt; journal.live(alloc)?.len(), 1);
-    assert_eq!(rt; journal.table(alloc)?.len(), 1);
+    assert!(rt; journal.live(alloc)?.len() == 1);
+    assert!(rt; journal.table(alloc)?.len() == 1);
     Ok(())
 }

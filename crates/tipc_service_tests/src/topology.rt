@@ -58,9 +58,23 @@ fn tells(
     assert!(rt; event.at_node == at.0 && event.at_port == at.1);
 }
 
-/// No event of a subscription is left.
-fn tells_nothing(rt: &impl Abort, topology: &mut Topology, number: u32) {
+/// An event: its kind, its bounds, and its node and port.
+type Told = (u32, (u32, u32), (u32, u32));
+
+/// These are the next events of a subscription, and none is left behind them.
+fn tells_all(rt: &impl Abort, topology: &mut Topology, number: u32, events: &[Told]) {
+    for (what, bounds, at) in events {
+        tells(rt, topology, number, *what, *bounds, *at);
+    }
     assert!(rt; topology.next_event(number) == Ok(None));
+}
+
+/// Each of these publications is added, in order.
+fn adds(alloc: Global, topology: &mut Topology, ps: &[Publication]) -> Result<(), Fail> {
+    for p in ps {
+        topology.changed(alloc, &TableChange::Added(*p))?;
+    }
+    Ok(())
 }
 
 /// The address word of node n.
@@ -91,41 +105,57 @@ fn what_is_refused(rt: HostRuntime) -> Result<(), Fail> {
     Ok(())
 }
 
-#[test]
-fn both_filters_are_told(rt: HostRuntime) -> Result<(), Fail> {
-    let alloc = rt.alloc();
+/// Subscription 1 under the service filter, and 2 under the ports filter, are told of four publications of node 2 and node 1, of which the last
+/// one has no instance that they watch.
+fn four_are_told(rt: &impl Abort, alloc: Global) -> Result<Topology, Fail> {
     let names = NameTable::new(alloc);
     let mut topology = Topology::new(alloc);
     let (one, two) = (word(1), word(2));
     assert!(rt; topology.subscribe(alloc, asking(4_294_967_295, 2), &names) == Ok(1));
     assert!(rt; topology.subscribe(alloc, asking(4_294_967_295, 1), &names) == Ok(2));
     topology.reserve(3)?;
-    topology.changed(alloc, &TableChange::Added(offered(&rt, 2, 1, 1, 0, 10)))?;
-    topology.changed(alloc, &TableChange::Added(offered(&rt, 2, 1, 2, 20, 30)))?;
-    topology.changed(alloc, &TableChange::Added(offered(&rt, 1, 3, 3, 20, 30)))?;
-    topology.changed(alloc, &TableChange::Added(offered(&rt, 1, 3, 4, 21, 30)))?;
-    tells(&rt, &mut topology, 1, 1, (10, 10), (two, 1));
-    tells(&rt, &mut topology, 1, 1, (20, 20), (two, 1));
-    tells_nothing(&rt, &mut topology, 1);
-    tells(&rt, &mut topology, 2, 1, (10, 10), (two, 1));
-    tells(&rt, &mut topology, 2, 1, (20, 20), (two, 1));
-    tells(&rt, &mut topology, 2, 1, (20, 20), (one, 3));
-    tells_nothing(&rt, &mut topology, 2);
+    let added = [
+        offered(rt, 2, 1, 1, 0, 10),
+        offered(rt, 2, 1, 2, 20, 30),
+        offered(rt, 1, 3, 3, 20, 30),
+        offered(rt, 1, 3, 4, 21, 30),
+    ];
+    adds(alloc, &mut topology, &added)?;
+    let both = [(1, (10, 10), (two, 1)), (1, (20, 20), (two, 1))];
+    tells_all(rt, &mut topology, 1, &both);
+    let third = [
+        (1, (10, 10), (two, 1)),
+        (1, (20, 20), (two, 1)),
+        (1, (20, 20), (one, 3)),
+    ];
+    tells_all(rt, &mut topology, 2, &third);
+    Ok(topology)
+}
+
+#[test]
+fn a_removal_is_told_under_the_ports_filter(rt: HostRuntime) -> Result<(), Fail> {
+    let alloc = rt.alloc();
+    let mut topology = four_are_told(&rt, alloc)?;
     topology.changed(alloc, &TableChange::Removed(offered(&rt, 1, 3, 3, 20, 30)))?;
-    tells_nothing(&rt, &mut topology, 1);
-    tells(&rt, &mut topology, 2, 2, (20, 20), (one, 3));
+    tells_all(&rt, &mut topology, 1, &[]);
+    tells_all(&rt, &mut topology, 2, &[(2, (20, 20), (word(1), 3))]);
+    Ok(())
+}
+
+#[test]
+fn a_purge_is_told_in_order(rt: HostRuntime) -> Result<(), Fail> {
+    let alloc = rt.alloc();
+    let mut topology = four_are_told(&rt, alloc)?;
+    let two = word(2);
     let mut lost = List::new(alloc);
     lost.push(offered(&rt, 2, 1, 2, 20, 30))?;
     lost.push(offered(&rt, 2, 1, 1, 0, 10))?;
     let mut copy = topology.copy()?;
     topology.changed(alloc, &TableChange::Purged(lost))?;
-    tells(&rt, &mut topology, 1, 2, (10, 10), (two, 1));
-    tells(&rt, &mut topology, 1, 2, (20, 20), (two, 1));
-    tells_nothing(&rt, &mut topology, 1);
-    tells(&rt, &mut topology, 2, 2, (10, 10), (two, 1));
-    tells(&rt, &mut topology, 2, 2, (20, 20), (two, 1));
-    tells_nothing(&rt, &mut topology, 2);
-    tells_nothing(&rt, &mut copy, 1);
+    tells_all(&rt, &mut topology, 1, &[(2, (10, 10), (two, 1))]);
+    let both = [(2, (10, 10), (two, 1)), (2, (20, 20), (two, 1))];
+    tells_all(&rt, &mut topology, 2, &both);
+    tells_all(&rt, &mut copy, 2, &[]);
     Ok(())
 }
 
@@ -140,13 +170,14 @@ fn what_is_there_is_told_first(rt: HostRuntime) -> Result<(), Fail> {
     assert!(rt; names.publish(offered(&rt, 2, 8, 3, 15, 15)).is_ok());
     assert!(rt; topology.subscribe(alloc, asking(2, 1), &names) == Ok(1));
     assert!(rt; topology.subscribe(alloc, asking(2, 2), &names) == Ok(2));
-    tells(&rt, &mut topology, 1, 1, (10, 20), (two, 4));
-    tells(&rt, &mut topology, 1, 1, (15, 15), (one, 9));
-    tells(&rt, &mut topology, 1, 1, (15, 15), (two, 8));
-    tells_nothing(&rt, &mut topology, 1);
-    tells(&rt, &mut topology, 2, 1, (10, 20), (two, 4));
-    tells(&rt, &mut topology, 2, 1, (15, 15), (one, 9));
-    tells_nothing(&rt, &mut topology, 2);
+    let each = [
+        (1, (10, 20), (two, 4)),
+        (1, (15, 15), (one, 9)),
+        (1, (15, 15), (two, 8)),
+    ];
+    tells_all(&rt, &mut topology, 1, &each);
+    let ranges = [(1, (10, 20), (two, 4)), (1, (15, 15), (one, 9))];
+    tells_all(&rt, &mut topology, 2, &ranges);
     Ok(())
 }
 
@@ -171,16 +202,14 @@ fn timeouts_are_the_last_events(rt: HostRuntime) -> Result<(), Fail> {
     assert!(rt; topology.subscribe(alloc, asking(0, 1), &names) == Ok(2));
     assert!(rt; topology.subscribe(alloc, asking(4_294_967_295, 1), &names) == Ok(3));
     ticks(&rt, alloc, &mut topology, &[2])?;
-    tells_nothing(&rt, &mut topology, 1);
+    tells_all(&rt, &mut topology, 1, &[]);
     ticks(&rt, alloc, &mut topology, &[1])?;
     ticks(&rt, alloc, &mut topology, &[])?;
-    topology.changed(alloc, &TableChange::Added(offered(&rt, 2, 1, 1, 10, 10)))?;
-    tells(&rt, &mut topology, 1, 3, (10, 20), (0, 0));
-    tells_nothing(&rt, &mut topology, 1);
-    tells(&rt, &mut topology, 2, 3, (10, 20), (0, 0));
-    tells_nothing(&rt, &mut topology, 2);
-    tells(&rt, &mut topology, 3, 1, (10, 10), (word(2), 1));
-    tells_nothing(&rt, &mut topology, 3);
+    adds(alloc, &mut topology, &[offered(&rt, 2, 1, 1, 10, 10)])?;
+    for number in 1..3 {
+        tells_all(&rt, &mut topology, number, &[(3, (10, 20), (0, 0))]);
+    }
+    tells_all(&rt, &mut topology, 3, &[(1, (10, 10), (word(2), 1))]);
     assert!(rt; topology.cancel(1) == Ok(()));
     assert!(rt; topology.next_event(1) == Err(Unknown));
     Ok(())
