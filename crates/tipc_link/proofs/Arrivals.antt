@@ -1,9 +1,9 @@
 -- What an arrival makes of a link, and what the link sends for it.
-use Rattle.std.proofs.Common.{◌≡◌, ℕ, ◌++◌, zero, suc, true, false, List, [], ◌∷◌, take, drop, filter, map, Some, Result, Ok, Err, refl, sym, ap, ◌∙◌, subst}
+use Rattle.std.proofs.Common.{◌≡◌, ℕ, ◌++◌, zero, suc, true, false, List, [], ◌∷◌, take, drop, filter, map, Some, Result, Ok, Err, refl, sym, ap, ◌∙◌, subst, append-nil}
 use Rattle.std.specs.Prelude.{IfOk}
 use Rattle.tipc_types.specs.declared.link_words.BroadcastState.{BroadcastState}
 use Rattle.tipc_outside.specs.Frames.{Adds, Out}
-use Rattle.tipc_outside.proofs.Adding.{adds_more}
+use Rattle.tipc_outside.proofs.Adding.{adds_more, adds_none}
 use Rattle.tipc_header.specs.Spelling.{Fields}
 use Rattle.tipc_types.specs.declared.packet_lists.Kept.{Kept}
 use Rattle.tipc_send_window.specs.Sending.{Sending, acked_of, kept_after}
@@ -12,13 +12,34 @@ use Rattle.tipc_link_fsm.specs.declared.changes.Change.{Change}
 use Rattle.tipc_link_fsm.specs.declared.changes.Change.TheVariants.{Stay, Up, Down, Answer, Ignore}
 use Rattle.tipc_link_fsm.specs.Table.{Fsm, Outcome}
 use Rattle.tipc_link.specs.Records.{Received}
-use Rattle.tipc_link.specs.Sessions.{SessionEnd, Content, Shows, Carries, Nothing, arrival_frames, begun_with, content_of, due_with, flush_frames, heard, is_behind, outcome, packet_frame, packet_frames, receiving, released, repeat_frames, repeated, room, spoke}
-use Rattle.tipc_link.specs.Links.{LinkEnd, after, followed, frames, heard_by, heard_frames, heard_outcome, is_heard, link_frames, link_outcome}
+use Rattle.tipc_link.specs.Sessions.{SessionEnd, Content, Shows, Carries, Nothing, again_frames, arrival_frames, arrived, begun_with, content_of, due_with, flush_frames, heard, is_behind, moved_at, moved_frames, outcome, packet_frame, packet_frames, receiving, released, repeat_frames, repeated, room, spoke}
+use Rattle.tipc_link.specs.Links.{LinkEnd, after, followed, frames, heard_by, heard_frames, heard_outcome, is_heard, link_frames, link_outcome, newly_numbered, numbers_at, repeats_at, sent_again}
 use Rattle.tipc_link.specs.Hearings.{HearingState, IsArriving, IsHearing, IsWindowHearing, window_outcome}
 
 -- a packet that the session doesn't hear
 pub unheard_frames : (e : LinkEnd) (o : Outcome) (p : Fields) (by : ℕ) (shown : BroadcastState) → is_heard p.header o.change ≡ false → link_frames e o p by shown ≡ frames e o shown
 unheard_frames e o p by shown unheard = rw unheard refl
+
+-- ---- what moves up behind what was heard
+
+arrived_is : (e : SessionEnd) (by acknowledgement : ℕ) (c : Content) → moved_at c (heard e by acknowledgement c) ≡ arrived e by acknowledgement c
+arrived_is e by acknowledgement (Shows next gap probe) = refl
+arrived_is e by acknowledgement (Carries number packet) = refl
+arrived_is e by acknowledgement Nothing = refl
+
+pub arrived_by : (e between after : SessionEnd) (by acknowledgement : ℕ) (c : Content) → between ≡ heard e by acknowledgement c → after ≡ moved_at c between → after ≡ arrived e by acknowledgement c
+arrived_by e between after by acknowledgement c first then = then ∙ ap (moved_at c) first ∙ arrived_is e by acknowledgement c
+
+-- the two groups are all frames, in this order
+pub frames_apart : (e : SessionEnd) (by acknowledgement : ℕ) (c : Content) → again_frames e acknowledgement c ++ moved_frames c (heard e by acknowledgement c) ≡ arrival_frames e by acknowledgement c
+frames_apart e by acknowledgement (Shows next gap probe) = refl
+frames_apart e by acknowledgement (Carries number packet) = refl
+frames_apart e by acknowledgement Nothing = refl
+
+pub frames_by : (e between : SessionEnd) (a b d : Out) (by acknowledgement : ℕ) (c : Content) → between ≡ heard e by acknowledgement c
+    → Adds a b (again_frames e acknowledgement c) → Adds b d (moved_frames c between) → Adds a d (arrival_frames e by acknowledgement c)
+frames_by e between a b d by acknowledgement c is first then =
+    subst (Adds a d) (frames_apart e by acknowledgement c) (adds_more a b d _ _ first (subst (λ (s : SessionEnd). Adds b d (moved_frames c s)) is then))
 
 take-none : {A : Type 0} (n : ℕ) → take {A = A} n [] ≡ []
 take-none zero = refl
@@ -72,6 +93,22 @@ heard_adds a b c e o p by shown heard first then =
 pub unheard_adds : (a b : Out) (e : LinkEnd) (o : Outcome) (p : Fields) (by : ℕ) (shown : BroadcastState) → is_heard p.header o.change ≡ false
     → Adds a b (frames e o shown) → Adds a b (link_frames e o p by shown)
 unheard_adds a b e o p by shown unheard first = rw (unheard_frames e o p by shown unheard) first
+
+-- in two groups
+pub again_adds : (a b c : Out) (e : LinkEnd) (o : Outcome) (p : Fields) (shown : BroadcastState) → is_heard p.header o.change ≡ true
+    → Adds a b (frames e o shown) → Adds b c (sent_again (after e o).session p.acknowledgement (content_of p)) → Adds a c (frames e o shown ++ repeats_at e o p)
+again_adds a b c e o p shown heard first then = rw heard (adds_more a b c _ _ first then)
+
+pub none_again : (a b : Out) (e : LinkEnd) (o : Outcome) (p : Fields) (shown : BroadcastState) → is_heard p.header o.change ≡ false
+    → Adds a b (frames e o shown) → Adds a b (frames e o shown ++ repeats_at e o p)
+none_again a b e o p shown unheard first = rw (unheard, append-nil (frames e o shown)) first
+
+pub numbers_adds : (a b : Out) (e : LinkEnd) (o : Outcome) (p : Fields) (by : ℕ) → is_heard p.header o.change ≡ true
+    → Adds a b (newly_numbered (after e o).session by p.acknowledgement (content_of p)) → Adds a b (numbers_at e o p by)
+numbers_adds a b e o p by heard then = rw heard then
+
+pub none_numbered : (a : Out) (e : LinkEnd) (o : Outcome) (p : Fields) (by : ℕ) → is_heard p.header o.change ≡ false → Adds a a (numbers_at e o p by)
+none_numbered a e o p by unheard = rw unheard (adds_none a)
 
 link_outcome-heard : (e : LinkEnd) (o : Outcome) (p : Fields) (by : ℕ) → is_heard p.header o.change ≡ true → link_outcome e o p by ≡ heard_outcome (after e o).session by (content_of p)
 link_outcome-heard e o p by heard = rw heard refl

@@ -1,17 +1,21 @@
 -- A packet that joins the last one that waits.
-use Rattle.std.proofs.Common.{◌≡◌, ℕ, ◌-◌, ◌<◌, ◌≤◌, List, [], ◌∷◌, ◌++◌, Option, Some, None, Result, Ok, Err, length, slice_get, inl, inr, refl, sym, ap, subst, ◌∙◌, arith}
+use Rattle.std.proofs.Common.{◌≡◌, ℕ, ◌-◌, ◌<◌, ◌≤◌, true, List, [], ◌∷◌, ◌++◌, Option, Some, None, Result, Ok, Err, length, slice_get, inl, inr, refl, sym, ap, subst, ◌∙◌, arith}
 use Rattle.std.specs.Prelude.{IfNone, OnOk}
 use Rattle.std.proofs.lemmas.Option.{get_or_from_slice_get, slice_get_within}
 use Rattle.tipc_header.specs.declared.packet.Bundle.{Bundle}
+use Rattle.tipc_header.specs.declared.packet.Fragment.{Fragment}
+use Rattle.tipc_header.specs.declared.packet.Header.{Header}
 use Rattle.tipc_header.specs.declared.packet.Header.TheVariants as header
 use Rattle.tipc_header.specs.Spelling.{Fields, spelling}
 use Rattle.tipc_header.specs.Grammar.{Fits}
 use Rattle.tipc_header.proofs.RoundTrip.{one_packet, spelling-least}
-use Rattle.tipc_bundle.specs.Bundles.{Carries as Waits, IsInner, bundle_of, joined}
+use Rattle.tipc_bundle.specs.Bundles.{Carries as Waits, IsInner, bundle_of, joined, may_stand_inside as may_be_bundled}
 use Rattle.tipc_bundle.specs.Splitting.{IsBundle}
 use Rattle.tipc_bundle.proofs.Bundling.{carries_itself, length-bundle, one_or_several}
 use Rattle.tipc_bundle.proofs.InnerLaws.{inner-least}
-use Rattle.tipc_link.specs.Sessions.{SessionEnd, IsPut, IsWaiting, MayJoin, joins, last_of, put, waits, with_last}
+use Rattle.tipc_tunnel.specs.Tunnels.{IsInner as MayStandInside, IsTunnel, Tunnelled, may_stand_inside as may_be_tunnelled, tunnel_packet}
+use Rattle.tipc_tunnel.proofs.TunnelLaws.{tunnel_fits}
+use Rattle.tipc_link.specs.Sessions.{SessionEnd, IsPut, IsWaiting, MayChangeOver, MayJoin, inside, joins, last_of, put, tunnel, waits, with_last}
 use Rattle.tipc_link.specs.Hearings.{IsJoined}
 
 -- what waits for others is payload, name items or a bundle
@@ -81,26 +85,61 @@ none_given (Some x) P none h = absurd (none x refl)
 
 -- ---- what may wait
 
+-- what may stand inside a bundle may stand inside a tunnel packet
+inside_tunnels : (h : Header) → may_be_bundled h ≡ true → may_be_tunnelled h ≡ true
+inside_tunnels (header.Payload m) fits = refl
+inside_tunnels (header.NameDistributor n) fits = refl
+inside_tunnels (header.Bundler b) fits = refl
+inside_tunnels (header.Fragmenter f) fits = refl
+inside_tunnels (header.State s) fits = fits
+inside_tunnels (header.Reset r) fits = fits
+inside_tunnels (header.Activate a) fits = fits
+inside_tunnels (header.Changeover c) fits = fits
+inside_tunnels (header.Discovery d) fits = fits
+
+inner_inside : (packet : List ℕ) → IsInner packet → MayStandInside packet
+inner_inside packet h = record { packet = h.packet; fits = h.fits; spelled = h.spelled; inside = inside_tunnels h.packet.header h.inside }
+
 -- payload and name items
-pub inner_waits : (packet : List ℕ) → IsInner packet → IsWaiting packet
-inner_waits packet h = record { long = omega (arith, inner-least packet h); made = λ _. (packet ∷ [], carries_itself packet h) }
+pub inner_waits : (packet : List ℕ) → IsInner packet → length packet ≤ 1452 → IsWaiting packet
+inner_waits packet h short = record {
+  long = omega (arith, inner-least packet h);
+  made = λ _. (packet ∷ [], carries_itself packet h);
+  changes_over = inside (inner_inside packet h) short;
+}
 
 -- a bundle that was made of packets
-pub carried_waits : (bundle : List ℕ) (packets : List (List ℕ)) → Waits bundle packets → IsWaiting bundle
-carried_waits bundle packets h = elim (one_or_several bundle packets h) [
-  | inl one ↦ inner_waits bundle one.0
-  | inr several ↦ record { long = omega (arith, ap length several.2, length-bundle packets); made = λ _. (packets, h) }
+pub carried_waits : (bundle : List ℕ) (packets : List (List ℕ)) → Waits bundle packets → length bundle ≤ 1452 → IsWaiting bundle
+carried_waits bundle packets h short = elim (one_or_several bundle packets h) [
+  | inl one ↦ inner_waits bundle one.0 short
+  | inr several ↦ record {
+    long = omega (arith, ap length several.2, length-bundle packets);
+    made = λ _. (packets, h);
+    changes_over = inside (record { packet = bundle_of packets; fits = several.1; spelled = several.2; inside = refl }) short;
+  }
 ]
 
 -- and so may the bundle that a packet joins
 pub joined_waits : (e : SessionEnd) (pieces : List (List ℕ)) (bundle : List ℕ) → IsJoined e pieces bundle → IsWaiting bundle
-joined_waits e pieces bundle h = carried_waits bundle (h.packets ++ h.packet ∷ []) h.joined
+joined_waits e pieces bundle h =
+    carried_waits bundle (h.packets ++ h.packet ∷ []) h.joined (subst (λ q. length q ≤ 1452) (sym h.joined.joined) h.may_join.fits)
 
--- any other packet
-pub other_waits : (p : Fields) → Fits p → ((b : Bundle) → p.header ≡ header.Bundler b → ⊥) → IsWaiting (spelling p)
-other_waits p fits none = record {
+-- any other packet that may change over
+pub other_waits : (p : Fields) → Fits p → ((b : Bundle) → p.header ≡ header.Bundler b → ⊥) → MayChangeOver (spelling p) → IsWaiting (spelling p)
+other_waits p fits none may = record {
   long = omega (arith, spelling-least p);
   made = λ h.
       let same : p ≡ h.packet = one_packet p h.packet fits h.fits h.spelled in
       absurd (none h.bundle (ap (λ (q : Fields). q.header) same ∙ h.user));
+  changes_over = may;
 }
+
+-- a fragment
+pub fragment_waits : (p : Fields) (f : Fragment) → Fits p → p.header ≡ header.Fragmenter f → length (spelling p) ≤ 1452 → IsWaiting (spelling p)
+fragment_waits p f fits is short =
+    other_waits p fits (λ b other. let no : header.Fragmenter f ≡ header.Bundler b = sym is ∙ other in absurd cc)
+    (inside (record { packet = p; fits = fits; spelled = refl; inside = ap may_be_tunnelled is }) short)
+
+-- a tunnel packet
+pub tunnel_waits : (t : Tunnelled) → IsTunnel t → IsWaiting (spelling (tunnel_packet t))
+tunnel_waits t h = other_waits (tunnel_packet t) (tunnel_fits t h) (λ b no. absurd cc) (tunnel t h refl)

@@ -8,3 +8,4 @@ pub mod Takings
 pub mod LinkLaw
 pub mod Outliving
 pub mod KeptRecords
+pub mod Answering

@@ -8,7 +8,7 @@ use Rattle.std.proofs.Math.Seq.{take-add}
 use Rattle.tipc_types.specs.declared.packet_lists.Kept.{Kept}
 use Rattle.tipc_types.specs.declared.packet_lists.Taken.{Taken}
 use Rattle.tipc_send_window.specs.Sending.{Sending, acknowledged, fresh, kept_of}
-use Rattle.tipc_link.specs.Sessions.{SessionEnd, Content, Shows, Carries, Nothing, IsPut, advanced, arrival_moving, arrived, brought, due_with, flushed, gap, is_due, joins, moving, noted, released, repeated, room, spoke, took, waits}
+use Rattle.tipc_link.specs.Sessions.{SessionEnd, Unanswered, all_answered, Content, Shows, Carries, Nothing, IsPut, advanced, arrival_moving, arrived, brought, due_with, flushed, gap, is_due, joins, moving, noted, released, repeated, room, spoke, took, waits}
 use Rattle.tipc_link.specs.Direction.{IsDirection, Flight, IsFresh, IsFlight, packet_flight, state_flight}
 use Rattle.tipc_link.specs.Laws.{Side, AreJoined, arrival_flights, flush_flights, kept_flight, packet_flights, taken_from, AnswersStayJoined, ArrivalsStayJoined, BeginJoined, JoinedGivePrefix, PutsStayJoined, StatesStayJoined, TurnJoined}
 use Rattle.tipc_link.proofs.Directions.{arrives, holds_none, moves_up, offers, releases, swaps, repeated_from, slice_get-from_take, Extends-append, Extends-same, IsCarried-kept-later, IsCarried-stays, IsFlight-carried, IsFlight-packet, IsFlight-state, IsFlight-stays, IsReceiver-stays, IsTaken}
@@ -133,7 +133,7 @@ puts_join a b pieces put h is =
     flush_joined now b (flush_flights put b.end.sending.numbered) joined (flush_flights-fly put b.end.sending b.end.taken a.line b.line joined.there.direction joined.back.direction)
 
 -- an end that differs in its counts and in what is due alone
-tell_joined : (a b : Side) (shown unanswered : ℕ) (owes : Bool) (fs : List Flight) → AreJoined a b → Each (λ f. IsFlight a.end.sending.numbered a.end.taken b.end.sending.numbered a.line f) fs
+tell_joined : (a b : Side) (shown : ℕ) (unanswered : Unanswered) (owes : Bool) (fs : List Flight) → AreJoined a b → Each (λ f. IsFlight a.end.sending.numbered a.end.taken b.end.sending.numbered a.line f) fs
     → AreJoined (record { end = record a.end { shown = shown; unanswered = unanswered; owes = owes }; line = a.line; took = a.took; sent = a.sent ++ fs }) b
 tell_joined a b shown unanswered owes fs h new = record {
   there = record { direction = h.there.direction; receiver = h.there.receiver; took = h.there.took; flights = Each-append _ a.sent fs h.there.flights new };
@@ -142,21 +142,21 @@ tell_joined a b shown unanswered owes fs h new = record {
 
 pub tells_join : StatesStayJoined
 tells_join a b probe h =
-    tell_joined a b a.end.shown 0 a.end.owes _ h (Each-one _ _ (IsFlight-state a.end.sending b.end.sending a.end.taken (gap a.end) probe a.line b.line h.back.direction))
+    tell_joined a b a.end.shown all_answered a.end.owes _ h (Each-one _ _ (IsFlight-state a.end.sending b.end.sending a.end.taken (gap a.end) probe a.line b.line h.back.direction))
 
 pub answers_join : AnswersStayJoined
 answers_join a b h =
     elim (is_due a.end) as (λ due. AreJoined (record {
-      end = record a.end { unanswered = if due then 0 else a.end.unanswered; owes = false };
+      end = record a.end { unanswered = if due then all_answered else a.end.unanswered; owes = false };
       line = a.line;
       took = a.took;
       sent = a.sent ++ (if due then state_flight a.end.taken a.end.sending.numbered b.end.sending.numbered (gap a.end) false ∷ [] else []);
     }) b) [
-      | true ↦ tell_joined a b a.end.shown 0 false _ h (Each-one _ _ (IsFlight-state a.end.sending b.end.sending a.end.taken (gap a.end) false a.line b.line h.back.direction))
+      | true ↦ tell_joined a b a.end.shown all_answered false _ h (Each-one _ _ (IsFlight-state a.end.sending b.end.sending a.end.taken (gap a.end) false a.line b.line h.back.direction))
       | false ↦ tell_joined a b a.end.shown a.end.unanswered false [] h (Each-none _)
     ]
 
-still_joined : (a b : Side) (shown unanswered : ℕ) (owes : Bool) → AreJoined a b → AreJoined (record { end = record a.end { shown = shown; unanswered = unanswered; owes = owes }; line = a.line; took = a.took; sent = a.sent }) b
+still_joined : (a b : Side) (shown : ℕ) (unanswered : Unanswered) (owes : Bool) → AreJoined a b → AreJoined (record { end = record a.end { shown = shown; unanswered = unanswered; owes = owes }; line = a.line; took = a.took; sent = a.sent }) b
 still_joined a b shown unanswered owes h = record {
   there = record { direction = h.there.direction; receiver = h.there.receiver; took = h.there.took; flights = h.there.flights };
   back = record { direction = h.back.direction; receiver = h.back.receiver; took = h.back.took; flights = h.back.flights };
@@ -193,7 +193,7 @@ shows_joined a b [] next probe h from =
     let joined : AreJoined now b = still_joined a b e.shown e.unanswered e.owes h in
     flush_joined now b _ joined (flush_flights-fly e b.end.sending b.end.taken a.line b.line joined.there.direction joined.back.direction)
 shows_joined a b (first ∷ others) next probe h from =
-    let e = noted (record a.end { unanswered = 0 }) next probe in
+    let e = noted (record a.end { unanswered = all_answered }) next probe in
     let now : Side = record { end = e; line = a.line; took = a.took; sent = a.sent } in
     let joined : AreJoined now b = still_joined a b e.shown e.unanswered e.owes h in
     let window = h.there.direction.window in

@@ -1,5 +1,5 @@
 -- Unacknowledged packets that are sent again, one after another.
-use Rattle.std.proofs.Common.{◌≡◌, ℕ, ◌+◌, ◌<◌, ◌≤◌, Bool, true, false, if◌then◌else◌, List, [], ◌∷◌, ◌++◌, length, take, filter, map, refl, sym, ap, ◌∙◌, subst, append-nil, get_or}
+use Rattle.std.proofs.Common.{◌≡◌, ℕ, ◌+◌, ◌<◌, ◌≤◌, Bool, true, false, if◌then◌else◌, List, [], ◌∷◌, ◌++◌, length, take, filter, map, suc, refl, sym, ap, ◌∙◌, subst, append-nil, get_or}
 use Rattle.std.proofs.lemmas.List.{map_push, take_more, take_all}
 use Rattle.std.proofs.lemmas.List.Elements.{All-cons, All-head, All-nil, All-tail, filter-append}
 use Rattle.std.specs.Prelude.{All, cond, count_by}
@@ -11,7 +11,7 @@ use Rattle.tipc_outside.specs.declared.outgoing.Outgoing.{Outgoing}
 use Rattle.tipc_outside.proofs.Adding.{adds_more, adds_none}
 use Rattle.tipc_send_window.specs.Sending.{kept_after, kept_of}
 use Rattle.tipc_link.specs.Records.{is_tunnel}
-use Rattle.tipc_link.specs.Sessions.{SessionEnd, is_behind, packet_frame, repeat_frames, repeated, spoke}
+use Rattle.tipc_link.specs.Sessions.{SessionEnd, all_answered, is_behind, packet_frame, repeat_frames, repeated, spoke}
 
 abbrev frame_again : SessionEnd → Kept → Outgoing
 frame_again e k = packet_frame e k.number k.packet
@@ -22,10 +22,10 @@ first_repeated e acknowledgement gap i = filter (is_behind acknowledgement gap) 
 
 -- the first i unacknowledged packets were looked at
 pub record IsRepeating (e : SessionEnd) (acknowledgement gap : ℕ) (box_before box : Out) (any : Bool) (i : ℕ) : Type 0 where
-  pub spoken : (if any then record e { unanswered = 0 } else e) ≡ spoke e (first_repeated e acknowledgement gap i)
+  pub spoken : (if any then record e { unanswered = all_answered } else e) ≡ spoke e (first_repeated e acknowledgement gap i)
   pub frames : Adds box_before box (map (frame_again e) (first_repeated e acknowledgement gap i))
 
-spoke-push : (e : SessionEnd) (ks : List Kept) (k : Kept) → record e { unanswered = 0 } ≡ spoke e (ks ++ k ∷ [])
+spoke-push : (e : SessionEnd) (ks : List Kept) (k : Kept) → record e { unanswered = all_answered } ≡ spoke e (ks ++ k ∷ [])
 spoke-push e [] k = refl
 spoke-push e (x ∷ ks) k = refl
 
@@ -67,18 +67,22 @@ repeating-send e acknowledgement gap box_before box box' any i k items all befor
     }
 
 pub repeating-done : (e : SessionEnd) (acknowledgement gap : ℕ) (box_before box : Out) (any : Bool) (i : ℕ) (items : List Kept) → items ≡ kept_of e.sending → length items ≤ i → IsRepeating e acknowledgement gap box_before box any i
-    → ((if any then record e { unanswered = 0 } else e) ≡ spoke e (repeated e acknowledgement gap)) × Adds box_before box (repeat_frames e acknowledgement gap)
+    → ((if any then record e { unanswered = all_answered } else e) ≡ spoke e (repeated e acknowledgement gap)) × Adds box_before box (repeat_frames e acknowledgement gap)
 unfolding first_repeated repeated repeat_frames
 repeating-done e acknowledgement gap box_before box any i items all end h =
     let all : take i (kept_of e.sending) ≡ kept_of e.sending = take_all i (kept_of e.sending) (subst (λ ks. length ks ≤ i) all end) in
-    let P : List Kept → Type 0 = λ ks. ((if any then record e { unanswered = 0 } else e) ≡ spoke e (filter (is_behind acknowledgement gap) ks)) × Adds box_before box (map (frame_again e) (filter (is_behind acknowledgement gap) ks)) in
+    let P : List Kept → Type 0 = λ ks. ((if any then record e { unanswered = all_answered } else e) ≡ spoke e (filter (is_behind acknowledgement gap) ks)) × Adds box_before box (map (frame_again e) (filter (is_behind acknowledgement gap) ks)) in
     subst P all (h.spoken, h.frames)
 
--- what is sent again has its words 2 and 3
-pub kept_long : (before : ℕ) (packets : List (List ℕ)) → All (λ packet. 16 ≤ length packet) packets → All (λ (k : Kept). 16 ≤ length k.packet) (kept_after before packets)
-kept_long before [] h = All-nil (λ (k : Kept). 16 ≤ length k.packet)
-kept_long before (packet ∷ packets) h =
-    All-cons (λ (k : Kept). 16 ≤ length k.packet) _ _ (All-head (λ packet. 16 ≤ length packet) packet packets h) (kept_long (before + 1) packets (All-tail (λ packet. 16 ≤ length packet) packet packets h))
+-- what is true of packets is true of them beside their numbers
+pub kept_all : (P : List ℕ → Type 0) (before : ℕ) (packets : List (List ℕ)) → All P packets → All (λ (k : Kept). P k.packet) (kept_after before packets)
+kept_all P before [] h = All-nil (λ (k : Kept). P k.packet)
+kept_all P before (packet ∷ packets) h =
+    All-cons (λ (k : Kept). P k.packet) _ _ (All-head P packet packets h) (kept_all P (before + 1) packets (All-tail P packet packets h))
+
+pub kept_count : (before : ℕ) (packets : List (List ℕ)) → length (kept_after before packets) ≡ length packets
+kept_count before [] = refl
+kept_count before (packet ∷ packets) = ap suc (kept_count (before + 1) packets)
 
 -- the tunnel packets among them are those among the packets
 pub kept_tunnels : (before : ℕ) (packets : List (List ℕ)) → count_by (λ (k : Kept). is_tunnel k.packet) (kept_after before packets) ≡ count_by is_tunnel packets

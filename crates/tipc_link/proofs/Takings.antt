@@ -1,9 +1,9 @@
 -- What a packet with a number makes of a session and its record.
-use Rattle.std.proofs.Common.{◌≡◌, ℕ, ◌+◌, ◌-◌, ◌<◌, ◌≤◌, ◌==◌, ◌&&◌, if◌then◌else◌, nat_lt, Bool, true, false, List, [], length, take, drop, Option, Some, None, option_map, zero, suc, Result, Ok, Err, refl, sym, ap, ◌∙◌, arith}
-use Rattle.std.specs.Prelude.{All, OnErr, OnOk}
-use Rattle.std.proofs.lemmas.List.Elements.{All-append, All-push, All-take}
+use Rattle.std.proofs.Common.{◌≡◌, ℕ, ◌+◌, ◌-◌, ◌<◌, ◌≤◌, ◌==◌, ◌&&◌, if◌then◌else◌, nat_lt, Bool, true, false, List, [], length, take, drop, Option, Some, None, option_map, zero, suc, Result, Ok, Err, refl, sym, ap, subst, ◌∙◌, arith}
+use Rattle.std.specs.Prelude.{All, IfNone, IfSome, OnErr, OnOk, ◌⊎◌}
+use Rattle.std.proofs.lemmas.List.Elements.{All-append, All-drop, All-push, All-take}
 use Rattle.tipc_types.specs.declared.packet_lists.Taken.{Taken}
-use Rattle.tipc_send_window.specs.Sending.{Sending, offered, swapped}
+use Rattle.tipc_send_window.specs.Sending.{IsSending, Sending, moved, offered, swapped}
 use Rattle.tipc_recv_window.specs.declared.outcomes.Place.{Place}
 use Rattle.tipc_recv_window.specs.declared.outcomes.Place.TheVariants as place
 use Rattle.std.proofs.lemmas.Bool.Decides.{nat_tests}
@@ -15,37 +15,58 @@ use Rattle.tipc_recv_window.proofs.Runs.{run_leaves, run_none}
 use Rattle.tipc_recv_window.proofs.ArrivalLaws.{arrived_at-far, place_at-far, place_at-wanted}
 use Rattle.tipc_link.specs.Links.{record_in}
 use Rattle.tipc_link.specs.Records.{Received, advanced_by, early_of, freed, is_early_tunnel, is_next, named, standing, tunnelled, unheard, window_of, with_coming}
-use Rattle.tipc_link.specs.Sessions.{SessionEnd, IsWaiting, due_with, is_deferred, is_only_deferred, past, receiving, receiving_record, released, took, with_record}
+use Rattle.tipc_link.specs.Sessions.{SessionEnd, Unanswered, all_answered, IsWaiting, due_with, is_deferred, is_only_deferred, past, receiving, receiving_record, released, took, with_record}
 use Rattle.tipc_link.specs.Hearings.{HoldsNone, IsRecord, IsSession}
 use Rattle.tipc_link.proofs.Standing.{standing_early, standing_plain}
 
 -- the packets that were taken are counted
-pub IsSession-took : (bearer unanswered : ℕ) (window : Sending) (before after : Received) → before.taken ≤ after.taken → IsSession bearer unanswered window before
-    → IsSession bearer (unanswered + (after.taken - before.taken)) window after
+pub IsSession-took : (bearer : ℕ) (unanswered : Unanswered) (window : Sending) (before after : Received) → before.taken ≤ after.taken → IsSession bearer unanswered window before
+    → IsSession bearer (record { packets = unanswered.packets + (after.taken - before.taken); broadcasts = unanswered.broadcasts }) window after
 IsSession-took bearer unanswered window before after more h =
     let few = h.few in
-    record { two_bearers = h.two_bearers; few = omega arith; waiting = h.waiting; unacked = h.unacked }
+    record { two_bearers = h.two_bearers; few = omega arith; answers = h.answers; sending = h.sending; waiting = h.waiting; unacked = h.unacked }
+
+-- the first packet that waits was numbered, and a frame was sent
+pub IsSession-due : (o : Option ℕ) (bearer : ℕ) (unanswered : Unanswered) (window after : Sending) (r : Received) → IsSending after
+    → IfSome o (λ (number : ℕ). (number ≡ number_of (window.numbered + 1)) × (after ≡ moved window) × (0 < length window.waiting) × (length window.unacked < 50))
+    → IfNone o ((after ≡ window) × ((window.waiting ≡ []) ⊎ (length window.unacked ≡ 50)))
+    → IsSession bearer unanswered window r → IsSession bearer all_answered after r
+IsSession-due None bearer unanswered window after r sending some none h =
+    rw (none.0) (record { two_bearers = h.two_bearers; few = omega arith; answers = omega arith; sending = h.sending; waiting = h.waiting; unacked = h.unacked })
+IsSession-due (Some number) bearer unanswered window after r sending some none h = rw (some.1) (record {
+  two_bearers = h.two_bearers;
+  few = omega arith;
+  answers = omega arith;
+  sending = subst IsSending some.1 sending;
+  waiting = All-drop IsWaiting 1 window.waiting h.waiting;
+  unacked = All-append IsWaiting window.unacked (take 1 window.waiting) h.unacked (All-take IsWaiting 1 window.waiting h.waiting);
+})
 
 -- the last packet that waits is another one
-pub IsSession-joined : (bearer unanswered : ℕ) (window : Sending) (r : Received) (packet : List ℕ) → IsWaiting packet → IsSession bearer unanswered window r → IsSession bearer unanswered (swapped window packet) r
-IsSession-joined bearer unanswered window r packet waits h = record {
+pub IsSession-joined : (bearer : ℕ) (unanswered : Unanswered) (window after : Sending) (r : Received) (packet : List ℕ) → IsWaiting packet → IsSending after → after ≡ swapped window packet
+    → IsSession bearer unanswered window r → IsSession bearer unanswered after r
+IsSession-joined bearer unanswered window after r packet waits sending is h = rw is (record {
   two_bearers = h.two_bearers;
   few = h.few;
+  answers = h.answers;
+  sending = subst IsSending is sending;
   waiting = All-push IsWaiting (take (length window.waiting - 1) window.waiting) packet (All-take IsWaiting (length window.waiting - 1) window.waiting h.waiting) waits;
   unacked = h.unacked;
-}
+})
 
 -- more packets wait, or none
-pub IsSession-offered : {F : Type 0} (r : Result (Unit {0}) F) (bearer unanswered limit : ℕ) (window after : Sending) (kept : Received) (pieces : List (List ℕ))
-    → All IsWaiting pieces → OnOk r ((length window.waiting < limit) × (after ≡ offered window pieces)) → OnErr r (after ≡ window)
+pub IsSession-offered : {F : Type 0} (r : Result (Unit {0}) F) (bearer : ℕ) (unanswered : Unanswered) (limit : ℕ) (window after : Sending) (kept : Received) (pieces : List (List ℕ))
+    → All IsWaiting pieces → IsSending after → OnOk r ((length window.waiting < limit) × (after ≡ offered window pieces)) → OnErr r (after ≡ window)
     → IsSession bearer unanswered window kept → IsSession bearer unanswered after kept
-IsSession-offered (Ok done) bearer unanswered limit window after kept pieces all ok err h = rw (ok.1) (record {
+IsSession-offered (Ok done) bearer unanswered limit window after kept pieces all sending ok err h = rw (ok.1) (record {
   two_bearers = h.two_bearers;
   few = h.few;
+  answers = h.answers;
+  sending = subst IsSending ok.1 sending;
   waiting = All-append IsWaiting window.waiting pieces h.waiting all;
   unacked = h.unacked;
 })
-IsSession-offered (Err fault) bearer unanswered limit window after kept pieces all ok err h = rw err h
+IsSession-offered (Err fault) bearer unanswered limit window after kept pieces all sending ok err h = rw err h
 
 -- what is acknowledged doesn't bear on what is taken
 pub took-released : (e : SessionEnd) (acknowledgement : ℕ) (t : Taken) → released (took e t) acknowledgement ≡ took (released e acknowledgement) t
@@ -123,7 +144,7 @@ abbrev took_by : SessionEnd → Receiving → List Taken → Place → SessionEn
 took_by e w due place = record e {
   taken = e.taken + length due;
   held = drop (length due) w.held;
-  unanswered = e.unanswered + length due;
+  unanswered = record { packets = e.unanswered.packets + length due; broadcasts = e.unanswered.broadcasts };
   owes = is_deferred place && (deferred_count w == 1);
 }
 
@@ -142,17 +163,18 @@ took_early e t free early =
     let old : place_at r 50 ≡ place.Old = place_at-far r 50 (omega arith) in
     let none : run_of e.held ≡ [] = run_none e.held free in
     let still : e.taken ≡ e.taken + 0 = omega arith in
-    let silent : e.unanswered ≡ e.unanswered + 0 = omega arith in
-    ap (λ n. record e { taken = n; owes = false }) still ∙ ap (λ n. record e { taken = e.taken + 0; unanswered = n; owes = false }) silent
+    let silent : e.unanswered.packets ≡ e.unanswered.packets + 0 = omega arith in
+    ap (λ n. record e { taken = n; owes = false }) still
+    ∙ ap (λ n. record e { taken = e.taken + 0; unanswered = record { packets = n; broadcasts = e.unanswered.broadcasts }; owes = false }) silent
     ∙ ap (λ due. took_by e r due place.Old) (sym none) ∙ ap (took_by e r (run_of e.held)) (sym old) ∙ ap (λ (w : Receiving). took_by e w (run_of w.held) (place_at r 50)) (sym same)
     ∙ ap (took_at e t) (sym (standing_early r t early)) ∙ took-at e t
 
 -- the session took what its record did
-pub took_is : (e : SessionEnd) (t : Taken) (after : Received) (unanswered : ℕ) (owes : Bool) (place : Place) → next_of (receiving e) ≡ None → is_early_tunnel (receiving e) t ≡ false
-    → after ≡ with_coming (receiving_record e) t → place ≡ place_at (receiving e) (past e t.number) → unanswered ≡ e.unanswered + (after.taken - e.taken)
+pub took_is : (e : SessionEnd) (t : Taken) (after : Received) (packets : ℕ) (owes : Bool) (place : Place) → next_of (receiving e) ≡ None → is_early_tunnel (receiving e) t ≡ false
+    → after ≡ with_coming (receiving_record e) t → place ≡ place_at (receiving e) (past e t.number) → packets ≡ e.unanswered.packets + (after.taken - e.taken)
     → owes ≡ (is_deferred place && (deferred_count (window_of after) == 1))
-    → record e { record_epoch = after.epoch; taken = after.taken; held = after.held; shown = after.shown; unanswered = unanswered; owes = owes } ≡ took e t
-took_is e t after unanswered owes place free plain is at count asks =
+    → record e { record_epoch = after.epoch; taken = after.taken; held = after.held; shown = after.shown; unanswered = record { packets = packets; broadcasts = e.unanswered.broadcasts }; owes = owes } ≡ took e t
+took_is e t after packets owes place free plain is at count asks =
     let r = receiving e in
     let d = past e t.number in
     let due : ℕ = length (run_of (arrived_at r d t).held) in
@@ -160,7 +182,7 @@ took_is e t after unanswered owes place free plain is at count asks =
     let held : after.held ≡ drop due (arrived_at r d t).held = ap (λ (x : Received). x.held) is in
     let epoch : after.epoch ≡ e.record_epoch = ap (λ (x : Received). x.epoch) is in
     let shown : after.shown ≡ e.shown = ap (λ (x : Received). x.shown) is in
-    let more : unanswered ≡ e.unanswered + due = omega (arith, taken, count) in
+    let more : packets ≡ e.unanswered.packets + due = omega (arith, taken, count) in
     let wanted : after.taken + 1 ≡ (drained (arrived_at r d t)).wanted = omega (arith, taken, drained_wanted r t) in
     let window : window_of after ≡ drained (arrived_at r d t) = ap (λ n. record { wanted = n; held = after.held }) wanted ∙ ap (λ xs. record { wanted = (drained (arrived_at r d t)).wanted; held = xs }) held in
     let owes_is : owes ≡ (is_deferred (place_at r d) && (deferred_count (arrived_at r d t) == 1)) =
@@ -178,7 +200,7 @@ with_same e r same =
     let one : (r.epoch == e.record_epoch) ≡ true = ap (λ n. n == e.record_epoch) same ∙ same_epoch e.record_epoch in
     rw one refl
 
-pub with_other : (e : SessionEnd) (r : Received) → (r.epoch == e.record_epoch) ≡ false → record e { record_epoch = r.epoch; taken = r.taken; held = r.held; shown = r.shown; unanswered = 0 } ≡ with_record e r
+pub with_other : (e : SessionEnd) (r : Received) → (r.epoch == e.record_epoch) ≡ false → record e { record_epoch = r.epoch; taken = r.taken; held = r.held; shown = r.shown; unanswered = record { packets = 0; broadcasts = e.unanswered.broadcasts } } ≡ with_record e r
 with_other e r other = rw other refl
 
 -- no packet of a tunnel packet changes a record's epoch

@@ -1,5 +1,5 @@
 -- What an arrival will make of a session and of a link, told before anything of them is changed; and what is true of every session.
-use Rattle.std.specs.Prelude.{◌≡◌, ℕ, ◌+◌, ◌≤◌, true, List, [], ◌∷◌, ◌++◌, Option, Some, None, All, length, if◌then◌else◌}
+use Rattle.std.specs.Prelude.{◌≡◌, ℕ, ◌+◌, ◌<◌, ◌≤◌, true, List, [], ◌∷◌, ◌++◌, Option, Some, None, All, if◌then◌else◌}
 use Rattle.tipc_header.specs.Spelling.{Fields}
 use Rattle.tipc_link_fsm.specs.Table.{Outcome}
 use Rattle.tipc_recv_window.specs.declared.outcomes.LinkOutcome.{LinkOutcome}
@@ -7,9 +7,9 @@ use Rattle.tipc_recv_window.specs.Receiving.{Coming, Receiving, arrived_at, comi
 use Rattle.tipc_types.specs.declared.link_words.Why.TheVariants as why
 use Rattle.tipc_types.specs.declared.packet_lists.Taken.{Taken}
 use Rattle.tipc_bundle.specs.Bundles.{Carries as Waits}
-use Rattle.tipc_send_window.specs.Sending.{Sending}
+use Rattle.tipc_send_window.specs.Sending.{IsSending, Sending}
 use Rattle.tipc_link.specs.Records.{Received, is_early_tunnel, standing}
-use Rattle.tipc_link.specs.Sessions.{SessionEnd, Content, Carries, Nothing, Shows, IsWaiting, brought, content_of, outcome, placed, receiving, MayJoin}
+use Rattle.tipc_link.specs.Sessions.{SessionEnd, Content, Carries, Nothing, Shows, Unanswered, IsWaiting, brought, content_of, outcome, placed, receiving, MayJoin}
 use Rattle.tipc_link.specs.Links.{LinkEnd, after, is_heard, link_outcome}
 
 -- the arrival's number at the node, what it brings, and for a packet with a number what it will make of the receive window
@@ -64,12 +64,14 @@ pub record IsRecord (window : Receiving) (shown : ℕ) : Type 0 where
   pub wants : next_of window ≡ None
   pub near : shown ≤ window.wanted + 32767
 
--- what is true of every session: the counts are below 2^64, and what was put may be sent
-pub record IsSession (bearer unanswered : ℕ) (window : Sending) (r : Received) : Type 0 where
+-- what is true of every session: the counts are below 2^64, the window is one, and what was put may be sent
+pub record IsSession (bearer : ℕ) (unanswered : Unanswered) (window : Sending) (r : Received) : Type 0 where
   pub two_bearers : bearer ≤ 1
-  pub few : unanswered ≤ r.taken
+  pub few : unanswered.packets ≤ r.taken
+  pub answers : unanswered.broadcasts < 16
+  pub sending : IsSending window
   pub waiting : All IsWaiting window.waiting
-  pub unacked : All (λ packet. 16 ≤ length packet) window.unacked
+  pub unacked : All IsWaiting window.unacked
 
 -- none is held of a record that was made before there was a session, and the peer has shown nothing
 abbrev pub HoldsNone : Option Received → Type 0

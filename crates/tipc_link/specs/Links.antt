@@ -1,11 +1,13 @@
 -- A link end through its states, and what each call makes of it.
-use Rattle.std.specs.Prelude.{ℕ, Bool, true, false, List, [], ◌∷◌, ◌++◌, Option, Some, None, option_map, ◌==◌, ◌&&◌, if◌then◌else◌}
+use Rattle.std.specs.Prelude.{ℕ, Bool, true, false, List, [], ◌∷◌, ◌++◌, Option, Some, None, length, option_map, ◌==◌, ◌&&◌, if◌then◌else◌}
 use Rattle.tipc_types.specs.declared.identity.To.TheVariants as to
 use Rattle.tipc_types.specs.declared.link_words.BroadcastState.{BroadcastState}
 use Rattle.tipc_types.specs.declared.link_words.LinkState.{LinkState}
 use Rattle.tipc_types.specs.declared.link_words.LinkState.TheVariants.{ResetUnknown}
 use Rattle.tipc_types.specs.declared.link_words.Reply.TheVariants as reply
 use Rattle.tipc_types.specs.declared.link_words.Why.TheVariants as why
+use Rattle.tipc_types.specs.declared.link_words.OldSession.{OldSession}
+use Rattle.tipc_types.specs.declared.packet_lists.Kept.{Kept}
 use Rattle.tipc_types.specs.declared.packet_lists.Taken.{Taken}
 use Rattle.tipc_outside.specs.declared.outgoing.Outgoing.{Outgoing}
 use Rattle.tipc_header.specs.declared.packet.Header.{Header}
@@ -16,9 +18,10 @@ use Rattle.tipc_header.specs.Frames.{frame_of}
 use Rattle.tipc_link_fsm.specs.declared.changes.Change.{Change}
 use Rattle.tipc_link_fsm.specs.declared.changes.Change.TheVariants.{Stay, Up, Down, Answer, Ignore}
 use Rattle.tipc_link_fsm.specs.Table.{Fsm, Outcome, fresh, gives, is_up, on_activate, on_cut, on_peer_tunnel, on_reset, on_traffic, contact_ended, forget_peer, release}
+use Rattle.tipc_send_window.specs.Sending.{kept_of}
 use Rattle.tipc_recv_window.specs.declared.outcomes.LinkOutcome.{LinkOutcome}
 use Rattle.tipc_link.specs.Records.{Early, Received, early_of, early_record, kept_for, named, tunnelled}
-use Rattle.tipc_link.specs.Sessions.{SessionEnd, Content, answer_frames, answered, arrival_frames, arrival_moving, arrived, begun_with, content_of, given_up, outcome, priority_of, receiving_record, state_frame, told, tunnel_count, waiting_given, with_record}
+use Rattle.tipc_link.specs.Sessions.{SessionEnd, Content, again_frames, answer_frames, answered, arrival_frames, arrival_moving, arrived, begun_with, content_of, given_up, heard, moved_frames, outcome, priority_of, receiving_record, state_frame, told, tunnel_count, waiting_given, with_broadcast, with_record}
 
 pub record LinkEnd : Type 0 where
   -- address words
@@ -183,6 +186,14 @@ handed_over e = record e { session = option_map given_up e.session }
 abbrev pub without_waiting : LinkEnd → LinkEnd
 without_waiting e = record e { session = option_map waiting_given e.session }
 
+-- the unacknowledged packets beside their numbers, and the session in which they have them
+abbrev pub unacked_of : Option SessionEnd → List Kept
+unacked_of None = []
+unacked_of (Some s) = kept_of s.sending
+
+abbrev pub name_of : SessionEnd → OldSession
+name_of s = record { bearer = s.bearer; epoch = s.epoch }
+
 abbrev pub waiting_of : Option SessionEnd → List (List ℕ)
 waiting_of None = []
 waiting_of (Some s) = s.sending.waiting
@@ -199,6 +210,18 @@ named_end e epoch = recorded e (named (record_of e) epoch)
 abbrev pub tunnelled_end : LinkEnd → ℕ → Taken → LinkEnd
 tunnelled_end e epoch t = recorded e (tunnelled (named (record_of e) epoch) epoch t)
 
+-- how many packets each direction numbered: the own ones, and those of the peer as taken
+abbrev pub numbers_of : Option SessionEnd → Option (ℕ × ℕ)
+numbers_of session = option_map (λ (s : SessionEnd). (s.sending.numbered, s.taken)) session
+
+-- how many packets are unacknowledged, and how many wait
+abbrev pub load_of : Option SessionEnd → Option (ℕ × ℕ)
+load_of session = option_map (λ (s : SessionEnd). (length s.sending.unacked, length s.sending.waiting)) session
+
+-- the own epoch of the session, and how many packets were numbered in it
+abbrev pub count_of : Option SessionEnd → Option (ℕ × ℕ)
+count_of session = option_map (λ (s : SessionEnd). (s.epoch, s.sending.numbered)) session
+
 -- how many packets were numbered under an epoch of this end, where that is the epoch of the present session or the last one
 abbrev pub numbered_in : Option SessionEnd → ℕ → Option ℕ
 numbered_in None epoch = None
@@ -208,12 +231,19 @@ numbered_in (Some s) epoch = if s.epoch == epoch then Some s.sending.numbered el
 abbrev pub answered_end : LinkEnd → LinkEnd
 answered_end e = if is_up e.fsm.state then record e { session = option_map answered e.session } else e
 
+-- and where the arrival took so many broadcast packets, or asks for a STATE by what it shows or brings of the broadcast
+abbrev pub answered_with : LinkEnd → ℕ → Bool → LinkEnd
+answered_with e taken asks = if is_up e.fsm.state then record e { session = option_map (λ s. answered (with_broadcast s taken asks)) e.session } else e
+
 abbrev pub session_answer : Option SessionEnd → BroadcastState → List Outgoing
 session_answer None shown = []
 session_answer (Some s) shown = answer_frames s shown
 
 abbrev pub answered_frames : LinkEnd → BroadcastState → List Outgoing
 answered_frames e shown = if is_up e.fsm.state then session_answer e.session shown else []
+
+abbrev pub frames_with : LinkEnd → ℕ → Bool → BroadcastState → List Outgoing
+frames_with e taken asks shown = if is_up e.fsm.state then session_answer (option_map (λ s. with_broadcast s taken asks) e.session) shown else []
 
 -- ---- an arrival
 
@@ -247,6 +277,15 @@ abbrev pub heard_by : Option SessionEnd → ℕ → ℕ → Content → List Out
 heard_by None by acknowledgement c = []
 heard_by (Some s) by acknowledgement c = arrival_frames s by acknowledgement c
 
+-- apart: the packets that a session sends again at an arrival, and those that are numbered then
+abbrev pub sent_again : Option SessionEnd → ℕ → Content → List Outgoing
+sent_again None acknowledgement c = []
+sent_again (Some s) acknowledgement c = again_frames s acknowledgement c
+
+abbrev pub newly_numbered : Option SessionEnd → ℕ → ℕ → Content → List Outgoing
+newly_numbered None by acknowledgement c = []
+newly_numbered (Some s) by acknowledgement c = moved_frames c (heard s by acknowledgement c)
+
 -- the packets that move up then
 abbrev pub moved_by : Option SessionEnd → ℕ → ℕ → Content → List (List ℕ)
 moved_by None by acknowledgement c = []
@@ -272,6 +311,13 @@ arrival_end e o p by = if is_heard p.header o.change then heard_end (after e o) 
 abbrev pub link_frames : LinkEnd → Outcome → Fields → ℕ → BroadcastState → List Outgoing
 link_frames e o p by shown =
     if is_heard p.header o.change then frames e o shown ++ heard_frames (after e o) o.change by p.acknowledgement (content_of p) else frames e o shown
+
+-- the frames in two groups: behind those of the link states the packets that are sent again, and those that are numbered then
+abbrev pub repeats_at : LinkEnd → Outcome → Fields → List Outgoing
+repeats_at e o p = if is_heard p.header o.change then sent_again (after e o).session p.acknowledgement (content_of p) else []
+
+abbrev pub numbers_at : LinkEnd → Outcome → Fields → ℕ → List Outgoing
+numbers_at e o p by = if is_heard p.header o.change then newly_numbered (after e o).session by p.acknowledgement (content_of p) else []
 
 -- the packets that move up at an arrival
 abbrev pub link_moving : LinkEnd → Outcome → Fields → ℕ → List (List ℕ)

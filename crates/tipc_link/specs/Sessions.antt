@@ -19,6 +19,15 @@ use Rattle.tipc_recv_window.specs.Receiving.{Receiving, arrived_at, deferred_cou
 use Rattle.tipc_link.specs.Records.{Received, is_tunnel, standing, unheard}
 use Rattle.tipc_bundle.specs.Bundles.{Carries as Waits, IsInner, joined}
 use Rattle.tipc_bundle.specs.Splitting.{IsBundle}
+use Rattle.tipc_tunnel.specs.Tunnels.{IsInner as MayStandInside, IsTunnel, Tunnelled, tunnel_packet}
+
+-- what one end took since it last sent a frame: how many packets, and how many broadcast packets
+pub record Unanswered : Type 0 where
+  pub packets : ℕ
+  pub broadcasts : ℕ
+
+abbrev pub all_answered : Unanswered
+all_answered = record { packets = 0; broadcasts = 0 }
 
 pub record SessionEnd : Type 0 where
   -- address words
@@ -36,8 +45,8 @@ pub record SessionEnd : Type 0 where
   pub taken : ℕ
   pub held : List (Option Taken)
   pub shown : ℕ
-  -- how many packets it has taken since it last sent a frame
-  pub unanswered : ℕ
+  -- what it has taken since it last sent a frame
+  pub unanswered : Unanswered
   -- whether the last arrival asks for a STATE
   pub owes : Bool
 
@@ -47,14 +56,14 @@ pub record SessionEnd : Type 0 where
 abbrev pub receiving_record : SessionEnd → Received
 receiving_record e = record { epoch = e.record_epoch; taken = e.taken; held = e.held; shown = e.shown }
 
--- the end with another record: where that is of another epoch, nothing of it is unanswered
+-- the end with another record: where that is of another epoch, no packet of it is unanswered
 abbrev pub with_record : SessionEnd → Received → SessionEnd
 with_record e r = record e {
   record_epoch = r.epoch;
   taken = r.taken;
   held = r.held;
   shown = r.shown;
-  unanswered = if r.epoch == e.record_epoch then e.unanswered else 0;
+  unanswered = if r.epoch == e.record_epoch then e.unanswered else record { packets = 0; broadcasts = e.unanswered.broadcasts };
 }
 
 -- the number that it wants
@@ -151,7 +160,7 @@ abbrev pub took : SessionEnd → Taken → SessionEnd
 took e t = record e {
   taken = e.taken + length (due_with e t);
   held = drop (length (due_with e t)) (window_with e t).held;
-  unanswered = e.unanswered + length (due_with e t);
+  unanswered = record { packets = e.unanswered.packets + length (due_with e t); broadcasts = e.unanswered.broadcasts };
   owes = is_only_deferred e t;
 }
 
@@ -169,7 +178,7 @@ repeated e acknowledgement gap = filter (is_behind acknowledgement gap) (kept_of
 -- frames were sent, or none
 abbrev pub spoke : {A : Type 0} → SessionEnd → List A → SessionEnd
 spoke e [] = e
-spoke e (first ∷ others) = record e { unanswered = 0 }
+spoke e (first ∷ others) = record e { unanswered = all_answered }
 
 -- The acknowledgement of a packet is read first, then what it brings: missing packets are repeated, the wanted packet is taken
 -- with those behind it, and one that is early is held, but for a tunnel packet, which is passed over then.
@@ -192,10 +201,17 @@ outcome e by Nothing = LinkOutcome.Ignored why.Epoch
 
 -- ---- sending
 
--- a packet that may wait: a bundle is one that was made of packets
+-- A packet that may change over to the other link of a pair: it is a tunnel packet, or one of at most 1,452 bytes that may stand inside a
+-- tunnel packet, which are payload, bundles, name items and fragments.
+pub data MayChangeOver (packet : List ℕ) : Type 0 where
+  inside : MayStandInside packet → length packet ≤ 1452 → MayChangeOver packet
+  tunnel : (t : Tunnelled) → IsTunnel t → packet ≡ spelling (tunnel_packet t) → MayChangeOver packet
+
+-- a packet that may wait: it may change over, and a bundle is one that was made of packets
 pub record IsWaiting (packet : List ℕ) : Type 0 where
   pub long : 16 ≤ length packet
   pub made : IsBundle packet → (packets : List (List ℕ)) × Waits packet packets
+  pub changes_over : MayChangeOver packet
 
 -- packets are put behind those that wait
 abbrev pub put : SessionEnd → List (List ℕ) → SessionEnd
@@ -234,7 +250,7 @@ begun_with own peer bearer epoch peer_epoch r = record {
   taken = r.taken;
   held = r.held;
   shown = r.shown;
-  unanswered = 0;
+  unanswered = all_answered;
   owes = false;
 }
 
@@ -266,7 +282,7 @@ advanced n s = record { numbered = s.numbered + n; unacked = s.unacked ++ take n
 
 -- the end when the first n waiting packets were numbered and sent
 abbrev pub sent : ℕ → SessionEnd → SessionEnd
-sent n e = record e { sending = advanced n e.sending; unanswered = if n == 0 then e.unanswered else 0 }
+sent n e = record e { sending = advanced n e.sending; unanswered = if n == 0 then e.unanswered else all_answered }
 
 -- waiting packets move up until the window is full or none waits
 unfoldable pub flushed : SessionEnd → SessionEnd
@@ -312,6 +328,19 @@ arrival_frames e by acknowledgement (Shows next gap probe) =
     repeat_frames (released e acknowledgement) acknowledgement gap ++ flush_frames (heard e by acknowledgement (Shows next gap probe))
 arrival_frames e by acknowledgement (Carries number packet) = flush_frames (heard e by acknowledgement (Carries number packet))
 
+-- they are apart: what is sent again, and what then moves up on an end that has heard the packet; nothing moves up where it brought nothing
+abbrev pub again_frames : SessionEnd → ℕ → Content → List Outgoing
+again_frames e acknowledgement (Shows next gap probe) = repeat_frames (released e acknowledgement) acknowledgement gap
+again_frames e acknowledgement other = []
+
+abbrev pub moved_at : Content → SessionEnd → SessionEnd
+moved_at Nothing e = e
+moved_at other e = flushed e
+
+abbrev pub moved_frames : Content → SessionEnd → List Outgoing
+moved_frames Nothing e = []
+moved_frames other e = flush_frames e
+
 -- the packets that move up at an arrival
 abbrev pub arrival_moving : SessionEnd → ℕ → ℕ → Content → List (List ℕ)
 arrival_moving e by acknowledgement Nothing = []
@@ -352,17 +381,24 @@ state_frame e broadcast probe = record {
   frame = frame_of e.epoch e.peer_epoch (spelling (state_fields e broadcast probe));
 }
 
--- a STATE is due where the arrival asks for one, and once 16 packets were taken since the last frame
+-- an arrival took so many broadcast packets, and may ask for a STATE by what it shows or brings of the broadcast
+abbrev pub with_broadcast : SessionEnd → ℕ → Bool → SessionEnd
+with_broadcast e taken asks = record e {
+  unanswered = record { packets = e.unanswered.packets; broadcasts = e.unanswered.broadcasts + taken };
+  owes = asks || e.owes;
+}
+
+-- a STATE is due where the arrival asks for one, and once 16 packets or 16 broadcast packets were taken since the last frame
 abbrev pub is_due : SessionEnd → Bool
-is_due e = e.owes || nat_le 16 e.unanswered
+is_due e = e.owes || (nat_le 16 e.unanswered.packets || nat_le 16 e.unanswered.broadcasts)
 
 -- the end when it has sent a STATE
 abbrev pub told : SessionEnd → SessionEnd
-told e = record e { unanswered = 0 }
+told e = record e { unanswered = all_answered }
 
 -- the end when it has sent the STATE that was due
 abbrev pub answered : SessionEnd → SessionEnd
-answered e = record e { unanswered = if is_due e then 0 else e.unanswered; owes = false }
+answered e = record e { unanswered = if is_due e then all_answered else e.unanswered; owes = false }
 
 abbrev pub answer_frames : SessionEnd → BroadcastState → List Outgoing
 answer_frames e broadcast = if is_due e then state_frame e broadcast false ∷ [] else []

@@ -1,13 +1,15 @@
 //! What a pair of links asks of a link end when traffic changes over from one of them to the other.
 
-ghost use Rattle.std.specs.Prelude.{◌≡◌, false, true, is_some, Some, None, IfOk, OnErr, OnOk};
+ghost use Rattle.std.specs.Prelude.{◌≡◌, ◌≤◌, false, true, is_some, length, option_map, Some, None, All, IfOk, IfSome, OnErr, OnOk};
 ghost use Rattle.tipc_outside.specs.Frames.{Adds};
+ghost use Rattle.tipc_types.specs.declared.packet_lists.Kept.{Kept};
 ghost use Rattle.tipc_types.specs.declared.packet_lists.Taken.{Taken};
-ghost use Rattle.tipc_send_window.specs.Sending.{kept_of};
+ghost use Rattle.tipc_types.specs.declared.link_words.OldSession.{OldSession};
+ghost use Rattle.tipc_send_window.specs.Sending.{IsSending, kept_of};
 ghost use Rattle.tipc_link_fsm.specs.Table.{is_up, on_peer_tunnel, release};
 ghost use Rattle.tipc_link.specs.Records.{bytes_of, is_changeover, is_tunnel, named, tunnelled, tunnelled_outcome};
 ghost use Rattle.tipc_link.specs.Links.{is_answer};
-ghost use Rattle.tipc_link.specs.Sessions.{SessionEnd};
+ghost use Rattle.tipc_link.specs.Sessions.{IsWaiting, SessionEnd};
 ghost use Rattle.tipc_link.specs.Hearings.{HoldsNone};
 
 use crate::link::Link;
@@ -17,7 +19,7 @@ use tipc_header::{Header, decode};
 use tipc_link_fsm::Change;
 use tipc_outside::Outbox;
 use tipc_recv_window::LinkOutcome;
-use tipc_types::{Bytes, KeptList, NoMemory, OldSession, Pieces, Taken};
+use tipc_types::{Bytes, Kept, KeptList, NoMemory, OldSession, Pieces, Taken};
 
 /// What a link that went down had in its lists.
 #[derive(Drop)]
@@ -31,7 +33,7 @@ pub struct HandedOver {
 }
 
 impl Link {
-    ghost use Rattle.tipc_link.specs.Links.{handed_over, named_end, record_of, release_frames, tunnelled_down, tunnelled_end, tunnels_of, waiting_of, with_fsm, without_waiting};
+    ghost use Rattle.tipc_link.specs.Links.{handed_over, name_of, named_end, record_of, release_frames, tunnelled_down, tunnelled_end, tunnels_of, unacked_of, waiting_of, with_fsm, without_waiting};
 
     /// Gives the packets of a link that went down, unacknowledged and waiting, and the session in which they were numbered. The end
     /// keeps them until this call. (This project's profile.)
@@ -42,6 +44,12 @@ impl Link {
             (result.unacked ≡ kept_of s.sending) × (result.waiting ≡ s.sending.waiting)
             × (result.old.bearer ≡ s.bearer) × (result.old.epoch ≡ s.epoch) }
         ensures after { self.new ≡ handed_over self.old }
+        ensures bearer { result.old.bearer ≤ 1 }
+        ensures few { length result.unacked ≤ 50 }
+        ensures window { (s : SessionEnd) → self.old.session ≡ Some s → IsSending s.sending }
+        // Each may be put on the other link, as it is or in a tunnel packet.
+        ensures waited { All (λ (k : Kept). IsWaiting k.packet) result.unacked }
+        ensures wait { All IsWaiting result.waiting }
     {
         match &mut self.session {
             Some(session) => session.hand_over(),
@@ -53,10 +61,36 @@ impl Link {
     pub fn take_waiting(&mut self, alloc: Global) -> Pieces
         ensures given { result ≡ waiting_of self.old.session }
         ensures after { self.new ≡ without_waiting self.old }
+        ensures wait { All IsWaiting result }
     {
         match &mut self.session {
             Some(session) => session.take_waiting(),
             None => Pieces::new(alloc),
+        }
+    }
+
+    /// The unacknowledged packets in order, beside their numbers: of the present session, or the last one. Each may be put into a tunnel
+    /// packet, or is one. None where there was no session. (This project's profile.)
+    pub fn unacked(&self) -> &[Kept]
+        ensures kept { result.now ≡ unacked_of self.now.session }
+        ensures few { length result.now ≤ 50 }
+        ensures waited { All (λ (k : Kept). IsWaiting k.packet) result.now }
+    {
+        match &self.session {
+            Some(session) => session.unacked(),
+            None => &[],
+        }
+    }
+
+    /// The session in which those packets have their numbers, by its bearer and the end's own epoch. None exactly where there was no
+    /// session.
+    pub fn session(&self) -> Option<OldSession>
+        ensures value { result ≡ option_map name_of self.now.session }
+        ensures bearer { IfSome result (λ (o : OldSession). o.bearer ≤ 1) }
+    {
+        match &self.session {
+            Some(session) => Some(session.name()),
+            None => None,
         }
     }
 
@@ -202,7 +236,7 @@ fn take_early(
 
 /// Whether the bytes are a tunnel packet.
 #[tactic(auto, unfolding(crate::specs::Records::is_tunnel))]
-pub(crate) fn is_tunnel(packet: &[u8]) -> bool
+pub fn is_tunnel(packet: &[u8]) -> bool
     ensures { result ≡ is_tunnel packet.now }
 {
     match decode(packet) {

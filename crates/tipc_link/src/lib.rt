@@ -10,12 +10,10 @@ mod laws;
 mod link;
 mod record;
 mod session;
+mod taking;
 
 pub use arriving::Arriving;
-pub use changeover::HandedOver;
+pub use changeover::{HandedOver, is_tunnel};
 pub use hearing::is_traffic;
 pub use laws::{a_record_outlives_its_session, two_ends_stay_joined};
 pub use link::{Link, LinkArrival, is_down};
-
-#[cfg(test)]
-mod tests;

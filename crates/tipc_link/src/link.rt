@@ -77,7 +77,7 @@ impl Model for Link {
 }
 
 impl Link {
-    ghost use Rattle.tipc_link.specs.Links.{activate_frames, after, answered_end, answered_frames, arrival_end, cut_end, ended_end, follow_frames, followed, forget_frames, frames, heard_by, heard_end, heard_outcome, link_frames, link_outcome, made, mend_frames, mended_end, notice, on_bearer, record_of, reset_frames, session_of, shown_by, state_frames, with_fsm, with_session};
+    ghost use Rattle.tipc_link.specs.Links.{activate_frames, after, answered_with, arrival_end, count_of, cut_end, ended_end, follow_frames, followed, forget_frames, frames, frames_with, heard_by, heard_end, heard_outcome, link_frames, link_outcome, load_of, made, mend_frames, mended_end, notice, numbers_of, on_bearer, record_of, reset_frames, session_of, shown_by, state_frames, with_fsm, with_session};
 
     /// A link end in RESET_UNKNOWN under this epoch, on a bearer 0 or 1 that counts as cut.
     pub fn new(own: Addr, peer: Addr, bearer: u8, epoch: u64) -> Link
@@ -230,7 +230,13 @@ impl Link {
     }
 
     /// Does what a change of the link states calls for.
-    fn follow(&mut self, alloc: Global, change: Change, shown: BroadcastState, out: &mut Outbox)
+    pub(crate) fn follow(
+        &mut self,
+        alloc: Global,
+        change: Change,
+        shown: BroadcastState,
+        out: &mut Outbox,
+    )
         ensures after { self.new ≡ followed self.old change }
         ensures frames { Adds out.old out.new (follow_frames self.old change shown) }
     {
@@ -554,17 +560,27 @@ impl Link {
         }
     }
 
-    /// Sends the STATE that is due where the last arrival asks for one, or once 16 packets were taken since the last frame on this
-    /// link. Nothing is sent where the link isn't up.
-    pub fn answer(&mut self, alloc: Global, shown: BroadcastState, out: &mut Outbox)
-        ensures after { self.new ≡ answered_end self.old }
-        ensures frames { Adds out.old out.new (answered_frames self.old shown) }
+    /// Sends the STATE that is due where the last arrival asks for one, or once 16 packets or 16 broadcast packets were taken since the
+    /// last frame on this link. Nothing is sent where the link isn't up.
+    ///
+    /// The arrival took so many broadcast packets. `due` says that it asks for a STATE by the broadcast: it deferred the only deferred
+    /// broadcast packet, or showed that the peer has broadcast more. `shown` fills the broadcast fields. (This project's profile.)
+    pub fn answer(
+        &mut self,
+        alloc: Global,
+        broadcast: u32,
+        due: bool,
+        shown: BroadcastState,
+        out: &mut Outbox,
+    )
+        ensures after { self.new ≡ answered_with self.old broadcast due }
+        ensures frames { Adds out.old out.new (frames_with self.old broadcast due shown) }
     {
         if !self.is_up() {
             return;
         }
         match &mut self.session {
-            Some(session) => session.answer(alloc, shown, out),
+            Some(session) => session.answer(alloc, broadcast, due, shown, out),
             None => {}
         }
     }
@@ -572,8 +588,7 @@ impl Link {
     /// How many packets each direction numbered in the present session, or the last one: the own ones exactly, and the peer's as
     /// taken. None exactly where there was no session.
     pub fn numbered(&self) -> Option<(u64, u64)>
-        ensures some { (s : SessionEnd) → self.now.session ≡ Some s → result ≡ Some (s.sending.numbered, s.taken) }
-        ensures none { self.now.session ≡ None → result ≡ None }
+        ensures { result ≡ numbers_of self.now.session }
     {
         match &self.session {
             Some(session) => Some(session.numbered()),
@@ -584,8 +599,7 @@ impl Link {
     /// The numbers of unacknowledged and of waiting packets of the present session, or the last one. None exactly where there was
     /// no session.
     pub fn load(&self) -> Option<(u32, u32)>
-        ensures some { (s : SessionEnd) → self.now.session ≡ Some s → result ≡ Some (length s.sending.unacked, length s.sending.waiting) }
-        ensures none { self.now.session ≡ None → result ≡ None }
+        ensures { result ≡ load_of self.now.session }
     {
         match &self.session {
             Some(session) => Some(session.load()),
@@ -607,8 +621,7 @@ impl Link {
     /// The own epoch of the present session, or of the last one, and how many packets were numbered in it. None exactly where there
     /// was no session.
     pub fn last_count(&self) -> Option<(u64, u64)>
-        ensures some { (s : SessionEnd) → self.now.session ≡ Some s → result ≡ Some (s.epoch, s.sending.numbered) }
-        ensures none { self.now.session ≡ None → result ≡ None }
+        ensures { result ≡ count_of self.now.session }
     {
         match &self.session {
             Some(session) => Some((session.epoch(), session.numbered().0)),

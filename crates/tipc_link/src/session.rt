@@ -5,10 +5,12 @@ ghost use Rattle.tipc_types.specs.Position.{number_of};
 ghost use Rattle.tipc_header.specs.Spelling.{view};
 ghost use Rattle.tipc_header.specs.Grammar.{Fits};
 ghost use Rattle.tipc_outside.specs.Frames.{Adds};
+ghost use Rattle.tipc_types.specs.declared.packet_lists.Kept.{Kept};
 ghost use Rattle.tipc_types.specs.declared.packet_lists.Taken.{Taken};
-ghost use Rattle.tipc_send_window.specs.Sending.{kept_of};
+ghost use Rattle.tipc_send_window.specs.Sending.{IsSending, kept_of};
 ghost use Rattle.tipc_recv_window.specs.Receiving.{coming, next_of};
 ghost use Rattle.tipc_link.specs.Records.{is_early_tunnel, is_tunnel, named, tunnelled, tunnelled_outcome};
+ghost use Rattle.tipc_link.specs.Links.{name_of};
 ghost use Rattle.tipc_link.specs.Sessions.{is_behind};
 
 use crate::changeover::{HandedOver, is_tunnel};
@@ -46,6 +48,8 @@ pub(crate) struct Session {
     received: Record,
     /// How many packets were taken since the last frame.
     unanswered: u64,
+    /// How many broadcast packets were taken since the last frame.
+    broadcasts: u64,
     /// Whether the last arrival asks for a STATE.
     owes: bool,
 }
@@ -67,15 +71,15 @@ impl Model for Session {
       taken = l.received.taken;
       held = l.received.held;
       shown = l.received.shown;
-      unanswered = l.unanswered;
+      unanswered = record { packets = l.unanswered; broadcasts = l.broadcasts };
       owes = l.owes;
     } };
 
-    ghost invariant = { λ l. IsSession l.bearer l.unanswered l.window l.received };
+    ghost invariant = { λ l. IsSession l.bearer (record { packets = l.unanswered; broadcasts = l.broadcasts }) l.window l.received };
 }
 
 impl Session {
-    ghost use Rattle.tipc_link.specs.Sessions.{ahead, answer_frames, answered, arrival_frames, arrived, begun_with, content_of, flush_frames, flushed, gap, given_up, highest, missing, noted, outcome, packet_frame, past, put, priority_of, receiving, receiving_record, released, repeat_frames, repeated, room, sent, shows_more, spoke, state_fields, state_frame, told, took, tunnel_count, waiting_given, wanted, with_last, with_record, Content, IsPut, IsWaiting, MayJoin, SessionEnd};
+    ghost use Rattle.tipc_link.specs.Sessions.{ahead, all_answered, answer_frames, answered, begun_with, flush_frames, flushed, gap, given_up, highest, is_due, missing, noted, packet_frame, past, put, priority_of, receiving, receiving_record, released, repeat_frames, repeated, room, sent, shows_more, spoke, state_fields, state_frame, told, took, tunnel_count, waiting_given, wanted, with_broadcast, with_last, with_record, IsPut, IsWaiting, MayJoin, SessionEnd};
     ghost use Rattle.tipc_link.specs.Hearings.{coming_of, IsHearing, IsJoined};
 
     /// An end that is up, in the session of these two epochs, over a bearer 0 or 1, with this receiving record.
@@ -100,6 +104,7 @@ impl Session {
             window: SendWindow::new(alloc),
             received,
             unanswered: 0,
+            broadcasts: 0,
             owes: false,
         }
     }
@@ -117,6 +122,7 @@ impl Session {
             window: self.window.copy()?,
             received: self.received.copy()?,
             unanswered: self.unanswered,
+            broadcasts: self.broadcasts,
             owes: self.owes,
         })
     }
@@ -155,6 +161,17 @@ impl Session {
         ensures { result ≡ self.now.epoch }
     {
         self.epoch
+    }
+
+    /// Its bearer and the end's own epoch, which name it to the peer.
+    pub fn name(&self) -> OldSession
+        ensures value { result ≡ name_of self.now }
+        ensures bearer { result.bearer ≤ 1 }
+    {
+        OldSession {
+            bearer: self.bearer,
+            epoch: self.epoch,
+        }
     }
 
     /// How many packets were numbered, where this is the end's own epoch. None exactly where it isn't.
@@ -302,6 +319,7 @@ impl Session {
         }
         let _number = self.window.due();
         self.unanswered = 0;
+        self.broadcasts = 0;
     }
 
     /// How many of the waiting packets the window has room for.
@@ -314,7 +332,7 @@ impl Session {
     }
 
     /// Sends waiting packets until the window is full or none waits.
-    fn flush(&mut self, alloc: Global, out: &mut Outbox)
+    pub(crate) fn flush(&mut self, alloc: Global, out: &mut Outbox)
         ensures after { self.new ≡ flushed self.old }
         ensures frames { Adds out.old out.new (flush_frames self.old) }
     {
@@ -360,7 +378,7 @@ impl Session {
 
     /// Keeps the highest next position that the peer has shown, and asks for a STATE where more is missing, or at a probe.
     #[tactic(auto, unfolding(crate::specs::Sessions::highest))]
-    fn note(&mut self, next: u16, probe: bool)
+    pub(crate) fn note(&mut self, next: u16, probe: bool)
         ensures { self.new ≡ noted self.old next probe }
     {
         let position = self.receive_window().wanted_position() + self.ahead(next) as u64;
@@ -369,33 +387,35 @@ impl Session {
     }
 
     /// Releases every packet up to the one with this number.
-    fn acknowledge(&mut self, number: u16)
+    pub(crate) fn acknowledge(&mut self, number: u16)
         ensures { self.new ≡ released self.old number }
     {
         self.window.acknowledge(number);
     }
 
-    /// The unacknowledged packets beside their numbers.
-    fn unacked(&self) -> &[Kept]
+    /// The unacknowledged packets in order, beside their numbers.
+    pub fn unacked(&self) -> &[Kept]
         ensures kept { result.now ≡ kept_of self.now.sending }
-        ensures long { All (λ kept. 16 ≤ length kept.packet) result.now }
+        ensures few { length result.now ≤ 50 }
+        ensures waited { All (λ (k : Kept). IsWaiting k.packet) result.now }
     {
         self.window.unacked()
     }
 
     /// Sends the unacknowledged packets again that are among the `gap` ones behind an acknowledgement. (TIPC 2.0 draft.)
-    fn repeat(&mut self, alloc: Global, acknowledgement: u16, gap: u16, out: &mut Outbox)
+    pub(crate) fn repeat(&mut self, alloc: Global, acknowledgement: u16, gap: u16, out: &mut Outbox)
         ensures after { self.new ≡ spoke self.old (repeated self.old acknowledgement gap) }
         ensures frames { Adds out.old out.new (repeat_frames self.old acknowledgement gap) }
     {
         if self.send_missing(alloc, acknowledgement, gap, out) {
             self.unanswered = 0;
+            self.broadcasts = 0;
         }
     }
 
     /// Sends those packets again, and says whether there is one.
     fn send_missing(&self, alloc: Global, acknowledgement: u16, gap: u16, out: &mut Outbox) -> bool
-        ensures after { (if result then record self.now { unanswered = 0 } else self.now) ≡ spoke self.now (repeated self.now acknowledgement gap) }
+        ensures after { (if result then record self.now { unanswered = all_answered } else self.now) ≡ spoke self.now (repeated self.now acknowledgement gap) }
         ensures frames { Adds out.old out.new (repeat_frames self.now acknowledgement gap) }
     {
         let mut any = false;
@@ -418,75 +438,9 @@ impl Session {
         self.received.prepare(alloc, packet, by)
     }
 
-    /// Takes a packet that arrived in this session, as it was prepared: the acknowledgement is read first, and packets that the
-    /// peer misses are sent again; then what moves up is sent.
-    #[tactic(auto, unfolding(crate::specs::Sessions::content_of))]
-    pub fn hear(
-        &mut self,
-        alloc: Global,
-        hearing: Hearing,
-        packet: &Packet<'_>,
-        out: &mut Outbox,
-    ) -> LinkOutcome
-        requires { IsHearing self.old (view packet.now) hearing }
-        ensures answer { result ≡ outcome self.old hearing.by (content_of (view packet.now)) }
-        ensures after { self.new ≡ arrived self.old hearing.by packet.now.acknowledgement (content_of (view packet.now)) }
-        ensures frames { Adds out.old out.new (arrival_frames self.old hearing.by packet.now.acknowledgement (content_of (view packet.now))) }
-    {
-        match packet.header {
-            Header::Reset(_) | Header::Activate(_) | Header::Discovery(_) => hearing.outcome,
-            Header::State(state) => {
-                self.hear_state(alloc, packet.acknowledgement, &state, out);
-                hearing.outcome
-            }
-            Header::Payload(_)
-            | Header::Bundler(_)
-            | Header::Changeover(_)
-            | Header::NameDistributor(_)
-            | Header::Fragmenter(_) => {
-                self.hear_numbered(alloc, packet.acknowledgement, hearing, out)
-            }
-        }
-    }
-
-    /// Takes a STATE.
-    fn hear_state(&mut self, alloc: Global, acknowledgement: u16, state: &State, out: &mut Outbox)
-        ensures after { self.new ≡ arrived self.old 0 acknowledgement (Content.Shows state.now.next state.now.gap state.now.probe) }
-        ensures frames { Adds out.old out.new (arrival_frames self.old 0 acknowledgement (Content.Shows state.now.next state.now.gap state.now.probe)) }
-    {
-        self.acknowledge(acknowledgement);
-        self.repeat(alloc, acknowledgement, state.gap, out);
-        self.note(state.next, state.probe);
-        self.flush(alloc, out);
-    }
-
-    /// Takes a packet with a number.
-    fn hear_numbered(
-        &mut self,
-        alloc: Global,
-        acknowledgement: u16,
-        hearing: Hearing,
-        out: &mut Outbox,
-    ) -> LinkOutcome
-        requires { (t : Taken) × (hearing.window ≡ coming_of (receiving self.old) t) }
-        ensures answer { result ≡ hearing.outcome }
-        ensures after { (t : Taken) → hearing.window ≡ coming_of (receiving self.old) t → self.new ≡ flushed (took (released self.old acknowledgement) t) }
-        ensures frames { (t : Taken) → hearing.window ≡ coming_of (receiving self.old) t → Adds out.old out.new (flush_frames (took (released self.old acknowledgement) t)) }
-    {
-        let Hearing {
-            window,
-            outcome,
-            ..
-        } = hearing;
-        self.take_or_pass(window);
-        self.acknowledge(acknowledgement);
-        self.flush(alloc, out);
-        outcome
-    }
-
     /// Does what a packet with a number makes of the receive window: nothing, where it is a tunnel packet that isn't the wanted one.
     #[tactic(auto, using(crate::proofs::Standing::coming_none, crate::proofs::Standing::coming_some))]
-    fn take_or_pass(&mut self, window: Option<WindowArrival>)
+    pub(crate) fn take_or_pass(&mut self, window: Option<WindowArrival>)
         requires { (t : Taken) × (window ≡ coming_of (receiving self.old) t) }
         ensures { (t : Taken) → window ≡ coming_of (receiving self.old) t → self.new ≡ took self.old t }
     {
@@ -579,6 +533,11 @@ impl Session {
         ensures waiting { result.waiting ≡ self.old.sending.waiting }
         ensures session { (result.old.bearer ≡ self.old.bearer) × (result.old.epoch ≡ self.old.epoch) }
         ensures after { self.new ≡ given_up self.old }
+        ensures bearer { result.old.bearer ≤ 1 }
+        ensures few { length result.unacked ≤ 50 }
+        ensures window { IsSending self.old.sending }
+        ensures waited { All (λ (k : Kept). IsWaiting k.packet) result.unacked }
+        ensures wait { All IsWaiting result.waiting }
     {
         let (unacked, waiting) = self.window.hand_over();
         HandedOver {
@@ -595,6 +554,7 @@ impl Session {
     pub fn take_waiting(&mut self) -> Pieces
         ensures given { result ≡ self.old.sending.waiting }
         ensures after { self.new ≡ waiting_given self.old }
+        ensures wait { All IsWaiting result }
     {
         self.window.take_waiting()
     }
@@ -614,14 +574,33 @@ impl Session {
         (unacked + waiting).min(u32::MAX as usize) as u32
     }
 
-    /// Sends the STATE that is due where the last arrival asks for one, or once 16 packets were taken since the last frame on this
-    /// link. `broadcast` fills its broadcast fields. (This project's profile.)
-    pub fn answer(&mut self, alloc: Global, broadcast: BroadcastState, out: &mut Outbox)
-        ensures after { self.new ≡ answered self.old }
-        ensures frames { Adds out.old out.new (answer_frames self.old broadcast) }
+    /// Whether a STATE is due, where the arrival took so many broadcast packets, and `asks` says whether it asks for one by them.
+    fn is_due(&self, broadcasts: u32, asks: bool) -> bool
+        ensures { result ≡ is_due (with_broadcast self.now broadcasts asks) }
     {
-        if self.owes || self.unanswered >= UNANSWERED {
-            self.tell(alloc, broadcast, false, out);
+        asks || self.owes
+            || self.unanswered >= UNANSWERED
+            || self.broadcasts + u64::from(broadcasts) >= UNANSWERED
+    }
+
+    /// Sends the STATE that is due where the last arrival asks for one, or once 16 packets or 16 broadcast packets were taken since the
+    /// last frame on this link. The arrival took so many broadcast packets, and `asks` says whether it asks for a STATE by what it shows
+    /// or brings of the broadcast. `shown` fills the broadcast fields of the STATE. (This project's profile.)
+    pub fn answer(
+        &mut self,
+        alloc: Global,
+        broadcasts: u32,
+        asks: bool,
+        shown: BroadcastState,
+        out: &mut Outbox,
+    )
+        ensures after { self.new ≡ answered (with_broadcast self.old broadcasts asks) }
+        ensures frames { Adds out.old out.new (answer_frames (with_broadcast self.old broadcasts asks) shown) }
+    {
+        if self.is_due(broadcasts, asks) {
+            self.tell(alloc, shown, false, out);
+        } else {
+            self.broadcasts += u64::from(broadcasts);
         }
         self.owes = false;
     }
@@ -639,6 +618,7 @@ impl Session {
     {
         let frame = self.state_frame(alloc, broadcast, probe);
         self.unanswered = 0;
+        self.broadcasts = 0;
         match frame {
             Ok(frame) => out.push(self.bearer, To::Node(self.peer), frame),
             Err(_) => out.mark_lost(),

@@ -10,14 +10,13 @@ use Rattle.tipc_header.specs.Grammar.{Fits}
 use Rattle.tipc_header.specs.Spelling.{Fields, size_of, spelling}
 use Rattle.tipc_header.specs.Users.{header_size}
 use Rattle.tipc_header.proofs.Again.{length-spelling}
-use Rattle.tipc_header.proofs.FrameWords.{length-spelling as spelling-long}
 use Rattle.tipc_message.specs.Wire.{items_packet, message_of, packet_of, payload_of, payload_packet}
-use Rattle.tipc_bundle.specs.Bundles.{IsInner, may_stand_inside}
+use Rattle.tipc_bundle.specs.Bundles.{may_stand_inside}
 use Rattle.tipc_fragments.specs.Cutting.{Piece, packet_of as piece_packet, packets_of, pieces_of}
+use Rattle.tipc_fragments.proofs.CutLaws.{length-packet, sent_fits}
 use Rattle.tipc_reassembly.specs.Slots.{IsCut}
-use Rattle.tipc_reassembly.proofs.OnePacket.{bundle_no_fragment, inner_no_bundle}
-use Rattle.tipc_reassembly.proofs.SlotLaws.{cut_is_fragment}
 use Rattle.tipc_link.specs.Sessions.{IsWaiting}
+use Rattle.tipc_link.proofs.JoinLaws.{fragment_waits, inner_waits}
 use Rattle.tipc_pair.specs.Partners.{pieces_for}
 use Rattle.tipc_pair.proofs.Pieces.{All-one, pieces_cut}
 use Rattle.tipc_node.specs.Messages.{IsSendable, bytes_of, spelled}
@@ -66,15 +65,15 @@ spelled_most own m bytes given s same =
     let long : length given ≡ size_of s.0 = ap length (same ∙ s.3) ∙ length-spelling s.0 in
     omega (arith, header, size, rest, long)
 
--- and may wait
-spelled_waits : (own : ℕ) (m : Message) (bytes : List ℕ) → IsSpelled own m bytes → IsWaiting bytes
-spelled_waits own m bytes s =
-    let inner : IsInner bytes = record { packet = s.0; fits = s.2; spelled = s.3; inside = (carrier_with own m s.0 s.1 s.2).0 } in
-    record { long = subst (λ b. 16 ≤ length b) (sym s.3) (spelling-long s.0); made = λ bundled. absurd (inner_no_bundle bytes inner bundled) }
+-- and may wait, where they are few enough for one packet
+spelled_waits : (own : ℕ) (m : Message) (bytes : List ℕ) → IsSpelled own m bytes → length bytes < 1453 → IsWaiting bytes
+spelled_waits own m bytes s short =
+    inner_waits bytes (record { packet = s.0; fits = s.2; spelled = s.3; inside = (carrier_with own m s.0 s.1 s.2).0 }) (omega (arith, short))
 
 cut_waits : (piece : Piece) → IsCut piece → IsWaiting (spelling (piece_packet piece))
 cut_waits piece cut =
-    record { long = spelling-long (piece_packet piece); made = λ bundled. absurd (bundle_no_fragment (spelling (piece_packet piece)) piece bundled (cut_is_fragment piece cut)) }
+    fragment_waits (piece_packet piece) (record { fragment_type = piece.kind; broadcast_acknowledgement = 0; number = piece.number })
+    (sent_fits piece 0 0 0 cut.first cut.number cut.some cut.most (omega arith) (omega arith) (omega arith)) refl (omega (arith, length-packet piece, cut.most))
 
 -- so may their fragments
 packets_wait : (m : List ℕ) → length m ≤ 66044 → All IsWaiting (packets_of m)
@@ -94,8 +93,8 @@ in_fragments bytes long = let is : nat_le (length bytes) 1452 ≡ false = grind 
 pub one_piece : (own : ℕ) (m : Message) (bytes : List ℕ) (pieces : List (List ℕ)) → IsSpelled own m bytes → length bytes < 1453 → pieces ≡ bytes ∷ [] → pieces ≡ pieces_for (bytes_of own m)
 one_piece own m bytes pieces s short is = is ∙ sym (alone bytes short) ∙ ap pieces_for (spelled_bytes own m bytes s)
 
-pub one_waits : (own : ℕ) (m : Message) (bytes : List ℕ) (pieces : List (List ℕ)) → IsSpelled own m bytes → pieces ≡ bytes ∷ [] → All IsWaiting pieces
-one_waits own m bytes pieces s is = subst (All IsWaiting) (sym is) (All-one IsWaiting bytes (spelled_waits own m bytes s))
+pub one_waits : (own : ℕ) (m : Message) (bytes : List ℕ) (pieces : List (List ℕ)) → IsSpelled own m bytes → length bytes < 1453 → pieces ≡ bytes ∷ [] → All IsWaiting pieces
+one_waits own m bytes pieces s short is = subst (All IsWaiting) (sym is) (All-one IsWaiting bytes (spelled_waits own m bytes s short))
 
 pub many_pieces : {E : Type 0} (own : ℕ) (m : Message) (bytes given : List ℕ) (r : Result (List (List ℕ)) E) → IsSpelled own m bytes → given ≡ bytes → 1453 ≤ length bytes → IfOk r (λ packets. packets ≡ packets_of given)
     → IfOk r (λ packets. packets ≡ pieces_for (bytes_of own m))

@@ -157,7 +157,8 @@ impl Neighbour {
         ensures frames { Adds out.old out.new
             (answered_frames self.old.pair.link (no_broadcast self.old.in_step)) }
     {
-        self.pair.answer(alloc, no_broadcast(self.in_step), out);
+        self.pair
+            .answer(alloc, 0, false, no_broadcast(self.in_step), out);
     }
 
     /// A neighbour that is as this one.

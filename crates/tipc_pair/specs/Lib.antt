@@ -2,3 +2,11 @@ pub mod Pairs
 pub mod Partners
 pub mod Held
 pub mod Turns
+pub mod Facing
+pub mod Runs
+pub mod Courses
+pub mod Changeovers
+pub mod PairCalls
+pub mod PairArrivals
+pub mod PairFacts
+pub mod PairOpenings

@@ -5,7 +5,7 @@ ghost use Rattle.tipc_header.specs.Grammar.{Fits};
 ghost use Rattle.tipc_header.specs.Spelling.{Fields, view};
 ghost use Rattle.tipc_outside.specs.Frames.{Adds};
 ghost use Rattle.tipc_link_fsm.specs.Table.{is_up, next_epoch, on_activate, on_cut, on_reset, on_tick};
-ghost use Rattle.tipc_link.specs.Links.{after, answered_end, answered_frames, change_outcome, frames, is_down, mend_frames, mended_end, numbered_in, outcome_of, reset_frames, with_session};
+ghost use Rattle.tipc_link.specs.Links.{after, answered_with, change_outcome, frames, frames_with, is_down, mend_frames, mended_end, numbered_in, outcome_of, reset_frames, with_session};
 ghost use Rattle.tipc_link.specs.Sessions.{SessionEnd, IsPut, IsWaiting, flush_frames, flushed};
 ghost use Rattle.tipc_link.specs.Hearings.{IsArriving};
 ghost use Rattle.tipc_pair.specs.Pairs.{noticed};
@@ -212,12 +212,19 @@ impl End {
         self.told(change, 0)
     }
 
-    /// Sends the STATE that is due once 16 packets were taken since the last frame on the link. Nothing is sent without contact.
-    pub fn answer(&mut self, alloc: Global, shown: BroadcastState, out: &mut Outbox)
-        ensures after { self.new ≡ answered_end self.old }
-        ensures frames { Adds out.old out.new (answered_frames self.old shown) }
+    /// Sends the STATE that an arrival left due: as [`tipc_link::Link::answer`]. Nothing is sent without contact.
+    pub fn answer(
+        &mut self,
+        alloc: Global,
+        broadcast: u32,
+        due: bool,
+        shown: BroadcastState,
+        out: &mut Outbox,
+    )
+        ensures after { self.new ≡ answered_with self.old broadcast due }
+        ensures frames { Adds out.old out.new (frames_with self.old broadcast due shown) }
     {
-        self.link.answer(alloc, shown, out);
+        self.link.answer(alloc, broadcast, due, shown, out);
     }
 
     /// Whether the link is up.

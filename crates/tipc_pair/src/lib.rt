@@ -3,7 +3,16 @@
 
 mod changes;
 mod end;
+mod leaving;
+mod link_arrivals;
+mod link_changes;
+mod link_ends;
+mod link_pair;
 mod pair;
+mod runs;
+mod transitions;
 
 pub use changes::{PairArrival, PairChange, PairOutcome};
+pub use link_pair::LinkPair;
 pub use pair::{Pair, PairArriving, shows_contact};
+pub use transitions::{LinkPairArrival, Transition, TransitionList};

@@ -6,7 +6,7 @@ ghost use Rattle.tipc_header.specs.Spelling.{Fields, view};
 ghost use Rattle.tipc_outside.specs.Frames.{Adds};
 ghost use Rattle.tipc_fragments.specs.Joining.{Joining, fresh};
 ghost use Rattle.tipc_link_fsm.specs.Table.{Fsm, is_up, on_cut, on_tick};
-ghost use Rattle.tipc_link.specs.Links.{LinkEnd, answered_end, answered_frames, mend_frames, mended_end, numbered_in, with_session};
+ghost use Rattle.tipc_link.specs.Links.{LinkEnd, answered_with, frames_with, mend_frames, mended_end, numbered_in, with_session};
 ghost use Rattle.tipc_link.specs.Sessions.{SessionEnd, IsPut, IsWaiting, flush_frames, flushed};
 ghost use Rattle.tipc_pair.specs.Pairs.{arrival, change_of, contact_of, cut_pair, link_met, lonely, noticed, shows_contact, tick_frames, tick_pair, told_of};
 ghost use Rattle.tipc_pair.specs.Partners.{IsPairArriving, OpensTo, begun_after, pair_state};
@@ -261,12 +261,19 @@ impl Pair {
             .commit(alloc, arriving.arriving, packet, shown, out)
     }
 
-    /// Sends the STATE that is due once 16 packets were taken since the last frame on the link. Nothing is sent without contact.
-    pub fn answer(&mut self, alloc: Global, shown: BroadcastState, out: &mut Outbox)
-        ensures after { self.new ≡ pair_state (answered_end self.old.link) self.old.begun }
-        ensures frames { Adds out.old out.new (answered_frames self.old.link shown) }
+    /// Sends the STATE that an arrival left due: as [`tipc_link::Link::answer`]. Nothing is sent without contact.
+    pub fn answer(
+        &mut self,
+        alloc: Global,
+        broadcast: u32,
+        due: bool,
+        shown: BroadcastState,
+        out: &mut Outbox,
+    )
+        ensures after { self.new ≡ pair_state (answered_with self.old.link broadcast due) self.old.begun }
+        ensures frames { Adds out.old out.new (frames_with self.old.link broadcast due shown) }
     {
-        self.end.answer(alloc, shown, out);
+        self.end.answer(alloc, broadcast, due, shown, out);
     }
 
     /// Whether the link is up.

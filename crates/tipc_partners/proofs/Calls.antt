@@ -12,7 +12,7 @@ use Rattle.tipc_reassembly.specs.declared.opening.Opened.{Opened}
 use Rattle.tipc_reassembly.specs.Opening.{BringsAll}
 use Rattle.tipc_reassembly.specs.Slots.{packets_in as messages_in}
 use Rattle.tipc_link.specs.Links.{LinkEnd, with_session}
-use Rattle.tipc_link.specs.Sessions.{Carries, Content, IsPut, joins, waits, Nothing, SessionEnd, Shows, answer_frames, answered, arrival_frames, arrived, brought, content_of, due_with, flush_frames, flushed, is_due, noted, released, repeat_frames, repeated, spoke, state_frame, took}
+use Rattle.tipc_link.specs.Sessions.{Carries, Content, IsPut, joins, waits, Nothing, SessionEnd, Unanswered, all_answered, Shows, answer_frames, answered, arrival_frames, arrived, brought, content_of, due_with, flush_frames, flushed, is_due, noted, released, repeat_frames, repeated, spoke, state_frame, took}
 use Rattle.tipc_link.proofs.LinkLaw.{Each, Each-append, Each-none, Each-one}
 use Rattle.tipc_pair.proofs.Receivings.{due_released}
 use Rattle.tipc_pair.specs.Turns.{IsShowable}
@@ -189,7 +189,7 @@ given_none x = on_put_in x.given x.view.node.contact x.view.node.seen (x.given x
     (sym (append-nil (x.given x.view.node.contact x.view.node.seen))) (λ k l other. refl)
 
 -- what is kept for the answers, and then waiting packets move up
-noted_did : (x y : Partner) (b : ℕ) (e : LinkEnd) (s : SessionEnd) (shown unanswered : ℕ) (owes : Bool) → ArePartners x y → IsUp (x.view.wires b) e s
+noted_did : (x y : Partner) (b : ℕ) (e : LinkEnd) (s : SessionEnd) (shown : ℕ) (unanswered : Unanswered) (owes : Bool) → ArePartners x y → IsUp (x.view.wires b) e s
     → (after : Partner) × Did x y after b (with_session e (flushed (record s { shown = shown; unanswered = unanswered; owes = owes }))) (flushed (record s { shown = shown; unanswered = unanswered; owes = owes })) (flush_frames (record s { shown = shown; unanswered = unanswered; owes = owes }))
     × (after.put ≡ x.put) × (after.given ≡ x.given) × (after.partial ≡ x.partial)
 noted_did x y b e s shown unanswered owes h up =
@@ -205,7 +205,7 @@ spoken_did : (x y : Partner) (b : ℕ) (e : LinkEnd) (s : SessionEnd) (again : L
     → (after : Partner) × Did x y after b (with_session e (flushed (noted (spoke s again) next probe))) (flushed (noted (spoke s again) next probe)) (flush_frames (noted (spoke s again) next probe))
     × (after.put ≡ x.put) × (after.given ≡ x.given) × (after.partial ≡ x.partial)
 spoken_did x y b e s [] next probe h up = noted_did x y b e s _ s.unanswered _ h up
-spoken_did x y b e s (k ∷ again) next probe h up = noted_did x y b e s _ 0 _ h up
+spoken_did x y b e s (k ∷ again) next probe h up = noted_did x y b e s _ all_answered _ h up
 
 -- frames told before others
 told_both : (x y mid after : Partner) (b : ℕ) (e e' : LinkEnd) (s s' : SessionEnd) (first second : List Outgoing) → s'.epoch ≡ s.epoch → Did x y mid b e s first → Did mid y after b e' s' second → Did x y after b e' s' (first ++ second)

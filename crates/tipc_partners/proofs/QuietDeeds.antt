@@ -1,7 +1,7 @@
 -- Which deeds put, number, take and begin nothing, and which end a contact.
 use Rattle.std.proofs.Common.{◌≡◌, ◌<◌, ◌+◌, ℕ, true, List, Some, None, refl, sym, ap, ◌∙◌, arith}
 use Rattle.tipc_link.specs.Links.{LinkEnd, after, with_session}
-use Rattle.tipc_link.specs.Sessions.{SessionEnd, released}
+use Rattle.tipc_link.specs.Sessions.{SessionEnd, Unanswered, released}
 use Rattle.tipc_send_window.specs.Sending.{Sending}
 use Rattle.tipc_link_fsm.specs.Runs.{Call, outcome}
 use Rattle.tipc_link_fsm.specs.Table.{Fsm, is_up}
@@ -132,7 +132,7 @@ shows_quietly x number apart =
 pub releases_quietly : (x : View) (b : ℕ) (e : LinkEnd) (s : SessionEnd) (acknowledgement : ℕ) → IsUp (x.wires b) e s → Quietly x (with_wire x b (with_going (x.wires b) e (released s acknowledgement)))
 releases_quietly x b e s acknowledgement up = quietly_on x b _ (session_quietly (x.wires b) e s (released s acknowledgement) up refl refl)
 
-pub notes_quietly : (x : View) (b : ℕ) (e : LinkEnd) (s : SessionEnd) (shown unanswered : ℕ) (owes : Bool) → IsUp (x.wires b) e s
+pub notes_quietly : (x : View) (b : ℕ) (e : LinkEnd) (s : SessionEnd) (shown : ℕ) (unanswered : Unanswered) (owes : Bool) → IsUp (x.wires b) e s
     → Quietly x (with_wire x b (with_going (x.wires b) e (record s { shown = shown; unanswered = unanswered; owes = owes })))
 notes_quietly x b e s shown unanswered owes up = quietly_on x b _ (session_quietly (x.wires b) e s (record s { shown = shown; unanswered = unanswered; owes = owes }) up refl refl)
 

@@ -5,7 +5,7 @@ use Rattle.tipc_header.specs.Spelling.{Fields, spelling}
 use Rattle.tipc_link.specs.Direction.{IsDirection, IsReceiver}
 use Rattle.tipc_link.specs.Links.{LinkEnd, is_traffic, record_of, with_session}
 use Rattle.tipc_link.specs.Records.{Received}
-use Rattle.tipc_link.specs.Sessions.{SessionEnd, receiving_record, released}
+use Rattle.tipc_link.specs.Sessions.{SessionEnd, Unanswered, receiving_record, released}
 use Rattle.tipc_link.proofs.Directions.{releases as direction_releases}
 use Rattle.tipc_link.proofs.LinkLaw.{Each}
 use Rattle.tipc_pair.proofs.Ends.{Alike}
@@ -95,7 +95,7 @@ going_of x y b e s h up = (h.here.wires b).going s (session_of_up (x.wires b) e 
 
 -- ---- something is kept for the answers, and packets wait
 
-pub notes_paired : (x y : View) (b : ℕ) (e : LinkEnd) (s : SessionEnd) (shown unanswered : ℕ) (owes : Bool) → ArePaired x y → IsUp (x.wires b) e s
+pub notes_paired : (x y : View) (b : ℕ) (e : LinkEnd) (s : SessionEnd) (shown : ℕ) (unanswered : Unanswered) (owes : Bool) → ArePaired x y → IsUp (x.wires b) e s
     → ArePaired (with_wire x b (with_going (x.wires b) e (record s { shown = shown; unanswered = unanswered; owes = owes }))) y
 notes_paired x y b e s shown unanswered owes h up =
     let w = x.wires b in

@@ -15,7 +15,7 @@ use Rattle.tipc_link_fsm.specs.Runs.{Call, ActivateArrives, ContactEnds, Forgets
 use Rattle.tipc_link_fsm.specs.Table.{contact_ended, forget_peer, is_up}
 use Rattle.tipc_contact.specs.Sides.{IsTold, first_number}
 use Rattle.tipc_link.specs.Links.{LinkEnd, after, is_traffic, known, made, notice, shown_by, with_session}
-use Rattle.tipc_link.specs.Sessions.{Carries, SessionEnd, brought, content_of, due_with, flushed, moving, packet_frame, released, state_frame, took}
+use Rattle.tipc_link.specs.Sessions.{Carries, SessionEnd, Unanswered, brought, content_of, due_with, flushed, moving, packet_frame, released, state_frame, took}
 use Rattle.tipc_pair.specs.Pairs.{is_quiet, packets_in}
 use Rattle.tipc_pair.specs.Turns.{IsShowable}
 use Rattle.tipc_partners.specs.Paired.{IsPacket, IsShown}
@@ -138,7 +138,7 @@ pub data Works (x y : View) : View → Type 0 where
   -- a session reads an acknowledgement, keeps something for its answers, and numbers packets that wait
   releases : (b : ℕ) (e : LinkEnd) (s : SessionEnd) (p : Fields) → IsUp (x.wires b) e s → Hears x y b s p
       → Works x y (with_wire x b (with_going (x.wires b) e (released s p.acknowledgement)))
-  notes : (b : ℕ) (e : LinkEnd) (s : SessionEnd) (shown unanswered : ℕ) (owes : Bool) → IsUp (x.wires b) e s
+  notes : (b : ℕ) (e : LinkEnd) (s : SessionEnd) (shown : ℕ) (unanswered : Unanswered) (owes : Bool) → IsUp (x.wires b) e s
       → Works x y (with_wire x b (with_going (x.wires b) e (record s { shown = shown; unanswered = unanswered; owes = owes })))
   numbers : (b : ℕ) (e : LinkEnd) (s : SessionEnd) → IsUp (x.wires b) e s
       → Works x y (with_wire x b (record (with_going (x.wires b) e (flushed s)) { line = put_at (x.wires b).line s.epoch ((x.wires b).line s.epoch ++ moving s) }))

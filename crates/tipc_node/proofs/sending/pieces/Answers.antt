@@ -27,4 +27,7 @@ returns-clause-value c =
     one_piece c.args.own.word c.args.message.now c.in_ok-packet.packet c.push.new.self c.in_ok-packet.ensures.spelled (omega (arith, short, len)) (c.in_ok-push.ensures.ok ∙ ap (λ ps. ps ++ c.in_ok-packet.packet ∷ []) c.new-pieces.ensures)
 
 pub returns-clause-waiting : goal.returns-clause-waiting
-returns-clause-waiting c = one_waits c.args.own.word c.args.message.now c.in_ok-packet.packet c.push.new.self c.in_ok-packet.ensures.spelled (c.in_ok-push.ensures.ok ∙ ap (λ ps. ps ++ c.in_ok-packet.packet ∷ []) c.new-pieces.ensures)
+returns-clause-waiting c =
+    let short = c.if-len-ge-LEAST_CUT.false in
+    let len = c.len.ensures in
+    one_waits c.args.own.word c.args.message.now c.in_ok-packet.packet c.push.new.self c.in_ok-packet.ensures.spelled (omega (arith, short, len)) (c.in_ok-push.ensures.ok ∙ ap (λ ps. ps ++ c.in_ok-packet.packet ∷ []) c.new-pieces.ensures)

@@ -1,5 +1,6 @@
-use Rattle.tipc_link.proofs.Repeating.{kept_long}
+use Rattle.tipc_link.specs.Sessions.{IsWaiting}
+use Rattle.tipc_link.proofs.Repeating.{kept_all}
 use Rattle.tipc_link.proofs.session.Session.unacked.Goals as goal
 
-pub returns-clause-long : goal.returns-clause-long
-returns-clause-long c = rw (c.unacked.ensures.kept) (kept_long _ _ c.self.invariant.unacked)
+pub returns-clause-waited : goal.returns-clause-waited
+returns-clause-waited c = rw (c.unacked.ensures.kept) (kept_all IsWaiting _ _ c.self.invariant.unacked)

@@ -1,0 +1,127 @@
+//! What an event has told so far, and the frames that leave in it.
+
+ghost use Rattle.std.specs.Prelude.{◌≡◌, ◌++◌, ◌∷◌, [], ◌≤◌, ◌-◌, List, length, take, drop, IfOk, OnErr, OnOk};
+ghost use Rattle.tipc_outside.specs.Frames.{Adds};
+ghost use Rattle.tipc_pair.specs.Courses.{IsLost, no_frames};
+ghost use Rattle.tipc_outside.specs.declared.outgoing.Outgoing.{Outgoing};
+
+use crate::transitions::{Transition, TransitionList};
+use std::alloc::Global;
+use std::marker::Model;
+use tipc_outside::{Outbox, Outgoing};
+use tipc_types::NoMemory;
+
+/// What an event has told so far, and its frames. Those of link states and repeated packets leave before those of packets that are
+/// numbered in it. (This project's profile.)
+#[derive(Drop)]
+pub(crate) struct Leaving {
+    pub(crate) changes: TransitionList,
+    /// Frames of link states and of repeated packets, as they are made.
+    pub(crate) states: Outbox,
+    /// Frames of packets that were numbered in this event.
+    pub(crate) numbered: Outbox,
+}
+
+impl Model for Leaving {
+    ghost use Rattle.tipc_pair.specs.Courses.{LeavingState};
+
+    ghost Value = { LeavingState };
+
+    ghost view = { λ l. record { changes = l.changes; states = l.states; numbered = l.numbered } };
+}
+
+impl Leaving {
+    /// Nothing was told, and no frame was made.
+    #[tactic(auto, using(crate::proofs::Sendings::new_box))]
+    pub(crate) fn new(alloc: Global) -> Leaving
+        ensures changes { result.changes ≡ [] }
+        ensures states { result.states ≡ no_frames }
+        ensures numbered { result.numbered ≡ no_frames }
+    {
+        Leaving {
+            changes: TransitionList::new(alloc),
+            states: Outbox::new(alloc),
+            numbered: Outbox::new(alloc),
+        }
+    }
+
+    /// Tells one more transition.
+    pub(crate) fn tell(&mut self, transition: Transition) -> Result<(), NoMemory>
+        ensures { OnOk result (self.new ≡ record self.old { changes = self.old.changes ++ transition ∷ [] }) }
+    {
+        self.changes.push(transition)
+    }
+
+    /// Adds the frames of a link at an arrival: the last `moved` of them are of packets that were numbered then. Where one was lost for want
+    /// of memory all are.
+    #[tactic(auto, using(crate::proofs::Sendings::lost_adds, crate::proofs::Sendings::split_states, crate::proofs::Sendings::split_numbered))]
+    pub(crate) fn add(&mut self, frames: Outbox, moved: usize)
+        ensures changes { self.new.changes ≡ self.old.changes }
+        ensures states { (states numbered : List Outgoing) → Adds no_frames frames (states ++ numbered) →
+            moved ≡ length numbered →
+            Adds self.old.states self.new.states states }
+        ensures numbered { (states numbered : List Outgoing) → Adds no_frames frames (states ++ numbered) →
+            moved ≡ length numbered →
+            Adds self.old.numbered self.new.numbered numbered }
+    {
+        if frames.lost() {
+            return self.lose();
+        }
+        let mut states = frames.into_frames();
+        let before = states.len().saturating_sub(moved);
+        let Ok(numbered) = states.split_off(before) else {
+            return self.lose();
+        };
+        push_all(states, &mut self.states);
+        push_all(numbered, &mut self.numbered);
+    }
+
+    /// Tells that frames of either kind couldn't be made for want of memory.
+    fn lose(&mut self)
+        ensures changes { self.new.changes ≡ self.old.changes }
+        ensures states { IsLost self.old.states self.new.states }
+        ensures numbered { IsLost self.old.numbered self.new.numbered }
+    {
+        self.states.mark_lost();
+        self.numbered.mark_lost();
+    }
+
+    /// Sends the frames, and gives what was told.
+    #[tactic(auto, using(tipc_outside::proofs::Adding::adds_more))]
+    pub(crate) fn leave(self, out: &mut Outbox) -> TransitionList
+        ensures changes { result ≡ self.changes }
+        ensures frames { (states numbered : List Outgoing) → Adds no_frames self.states states →
+            Adds no_frames self.numbered numbered →
+            Adds out.old out.new (states ++ numbered) }
+    {
+        let Leaving {
+            changes,
+            states,
+            numbered,
+        } = self;
+        send_all(states, out);
+        send_all(numbered, out);
+        changes
+    }
+}
+
+/// Puts the frames of a box behind those of another; where one was lost, those behind it are lost too.
+#[tactic(auto, using(crate::proofs::Sendings::sent_whole, crate::proofs::Sendings::sent_lost))]
+fn send_all(frames: Outbox, out: &mut Outbox)
+    ensures { (made : List Outgoing) → Adds no_frames frames made → Adds out.old out.new made }
+{
+    let lost = frames.lost();
+    push_all(frames.into_frames(), out);
+    if lost {
+        out.mark_lost();
+    }
+}
+
+/// Puts frames behind those of a box, in order.
+fn push_all(frames: Vec<Outgoing>, out: &mut Outbox)
+    ensures { Adds out.old out.new frames.items }
+{
+    for frame in frames {
+        out.push(frame.bearer, frame.to, frame.frame);
+    }
+}

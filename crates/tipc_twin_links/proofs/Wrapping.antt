@@ -1,0 +1,72 @@
+-- The packets of a link can travel in tunnel packets.
+use Rattle.std.proofs.Common.{◌≡◌, ℕ, ◌<◌, ◌≤◌, ◌^◌, false, if◌then◌else◌, List, [], ◌∷◌, length, refl, sym, ap, ◌∙◌, subst, inl, inr, arith}
+use Rattle.std.proofs.lemmas.Bool.{cases_Bool}
+use Rattle.tipc_types.specs.Position.{number_of}
+use Rattle.tipc_types.specs.declared.link_words.OldSession.{OldSession}
+use Rattle.tipc_header.specs.declared.packet.ChangeoverType.{ChangeoverType}
+use Rattle.tipc_tunnel.specs.Tunnels.{IsTunnel, numbered}
+use Rattle.tipc_tunnel.proofs.TunnelLaws.{wrapped_length, wrapped_tunnel}
+use Rattle.tipc_link.specs.Records.{is_tunnel}
+use Rattle.tipc_pair.specs.Runs.{IsListed, plain, tunnel}
+use Rattle.tipc_pair.proofs.Listed.{both_ways, listed_inner, listed_size, made_tunnel}
+use Rattle.tipc_twin_links.specs.Packets.{MayBeIn, told_by_marker, told_of}
+use Rattle.tipc_twin_links.specs.Ends.{AreListed}
+use Rattle.tipc_twin_links.specs.Steps.{CanTravel, EachWraps}
+
+short_number : (n : ℕ) → number_of n < 2 ^ 16
+unfolding number_of
+short_number n = omega arith
+
+listed_long : (packet : List ℕ) → IsListed packet → is_tunnel packet ≡ false → 16 ≤ length packet
+listed_long packet (plain waits inner size) other = waits.long
+listed_long packet (tunnel made) other = both_ways (is_tunnel packet) (ap is_tunnel made.spelled ∙ made_tunnel made.told made.whole) other
+
+placeholder_tunnel : (kind : ChangeoverType) (old : OldSession) (count number : ℕ) → old.bearer ≤ 1 → old.epoch < 2 ^ 64 → count < 2 ^ 16 → number < 2 ^ 16 → 1 ≤ count
+    → IsTunnel (record { kind = kind; old = old; count = count; number = number; inner = [] })
+placeholder_tunnel kind old count number bearer epoch c n some = record {
+  bearer = bearer;
+  epoch = epoch;
+  count = c;
+  number = n;
+  run = λ none. absurd (let wrong : ⊥ = omega arith in wrong);
+  inner = inl refl;
+  size = omega arith;
+}
+
+told_tunnel : (kind : ChangeoverType) (old : OldSession) (count : ℕ) (packet : List ℕ) → IsListed packet → old.bearer ≤ 1 → old.epoch < 2 ^ 64 → count < 2 ^ 16 → 1 ≤ count → (n : ℕ)
+    → IsTunnel (told_of kind old count (record { number = number_of n; packet = packet }))
+told_tunnel kind old count packet listed bearer epoch few some n = elim (cases_Bool (is_tunnel packet)) [
+  | inl is ↦ subst (λ bytes. IsTunnel (record { kind = kind; old = old; count = count; number = number_of n; inner = bytes })) (sym (ap (λ t. if t then [] else numbered (number_of n) packet) is))
+      (placeholder_tunnel kind old count (number_of n) bearer epoch few (short_number n) some)
+  | inr other ↦ subst (λ bytes. IsTunnel (record { kind = kind; old = old; count = count; number = number_of n; inner = bytes })) (sym (ap (λ t. if t then [] else numbered (number_of n) packet) other))
+      (wrapped_tunnel kind old count (number_of n) packet bearer epoch few (short_number n) (λ none. absurd (let wrong : ⊥ = omega arith in wrong)) (listed_inner packet listed other) (listed_size packet listed other))
+]
+
+listed_may : (kind : ChangeoverType) (old : OldSession) (count : ℕ) (packet : List ℕ) → IsListed packet → old.bearer ≤ 1 → old.epoch < 2 ^ 64 → count < 2 ^ 16 → 1 ≤ count → MayBeIn kind old count packet
+listed_may kind old count packet listed bearer epoch few some = record {
+  some = some;
+  made = told_tunnel kind old count packet listed bearer epoch few some;
+  bytes = λ n other. (let same = wrapped_length (number_of n) packet (listed_inner packet listed other) in let long = listed_long packet listed other in omega arith);
+}
+
+each_wraps : (kind : ChangeoverType) (old : OldSession) (count : ℕ) (packets : List (List ℕ)) → AreListed packets → old.bearer ≤ 1 → old.epoch < 2 ^ 64 → count < 2 ^ 16 → 1 ≤ count → EachWraps kind old count packets
+each_wraps kind old count [] listed bearer epoch few some = tt
+each_wraps kind old count (packet ∷ packets) listed bearer epoch few some = (listed_may kind old count packet listed.0 bearer epoch few some, each_wraps kind old count packets listed.1 bearer epoch few some)
+
+each_of : (kind : ChangeoverType) (old : OldSession) (packets : List (List ℕ)) → AreListed packets → old.bearer ≤ 1 → old.epoch < 2 ^ 64 → length packets < 2 ^ 16 → EachWraps kind old (length packets) packets
+each_of kind old [] listed bearer epoch few = tt
+each_of kind old (packet ∷ packets) listed bearer epoch few = each_wraps kind old (length (packet ∷ packets)) (packet ∷ packets) listed bearer epoch few (omega arith)
+
+marker_tunnel : (kind : ChangeoverType) (old : OldSession) → old.bearer ≤ 1 → old.epoch < 2 ^ 64 → IsTunnel (told_by_marker kind old)
+marker_tunnel kind old bearer epoch = record {
+  bearer = bearer;
+  epoch = epoch;
+  count = omega arith;
+  number = omega arith;
+  run = λ none. (refl, refl);
+  inner = inl refl;
+  size = omega arith;
+}
+
+pub can_travel : (kind : ChangeoverType) (old : OldSession) (packets : List (List ℕ)) → AreListed packets → old.bearer ≤ 1 → old.epoch < 2 ^ 64 → length packets < 2 ^ 16 → CanTravel kind old packets
+can_travel kind old packets listed bearer epoch few = record { mark = marker_tunnel kind old bearer epoch; each = each_of kind old packets listed bearer epoch few }

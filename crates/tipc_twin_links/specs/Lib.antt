@@ -1,0 +1,13 @@
+pub mod Traffic
+pub mod Packets
+pub mod Sending
+pub mod Steps
+pub mod Ends
+pub mod Following
+pub mod Receiving
+pub mod Arriving
+pub mod Laws
+pub mod PairLaws
+pub mod ArrivalLaws
+pub mod Turning
+pub mod TurningLaws

@@ -1,0 +1,74 @@
+-- How a link of a pair goes up or down, and what the pair's other link does then: the events of the sender that
+-- follow.
+use Rattle.std.specs.Prelude.{◌≡◌, ℕ, ◌+◌, ◌-◌, ◌<◌, ◌≤◌, ◌^◌, Bool, true, false, Option, Some, take}
+use Rattle.tipc_types.specs.declared.link_words.Cause.{Cause}
+use Rattle.tipc_send_window.specs.Sending.{fresh, offered}
+use Rattle.tipc_link_fsm.specs.declared.changes.Change.{Change}
+use Rattle.tipc_link_fsm.specs.declared.changes.Change.TheVariants.{Down, Up as GoesUp}
+use Rattle.tipc_link_fsm.specs.Table.{Fsm, Outcome, is_held, is_last, is_up, lowered}
+use Rattle.tipc_link.specs.Links.{LinkEnd, is_down}
+use Rattle.tipc_link.specs.Sessions.{SessionEnd, room}
+use Rattle.tipc_pair.specs.Facing.{PairEnds, is_up_at}
+use Rattle.tipc_pair.specs.Runs.{left_by, taken_over}
+use Rattle.tipc_changeover.specs.Links.{Bearer, Reset, State, Up}
+use Rattle.tipc_twin_links.specs.Traffic.{Traffic}
+use Rattle.tipc_twin_links.specs.Sending.{beside, ends_seen, state_as}
+use Rattle.tipc_twin_links.specs.Following.{Become}
+use Rattle.tipc_twin_links.specs.Steps.{near_more}
+use Rattle.tipc_twin_links.specs.Ends.{AreListed, IsUpAt, far_more, gets}
+
+-- ---- the table of link states
+
+abbrev pub is_rise : Change → Bool
+is_rise GoesUp = true
+is_rise other = false
+
+-- What a call makes of the link states of an end, which is to be held where it goes down: it goes down from up, goes
+-- up from reset, or stays as it was for the other link.
+pub data Turns (held : Bool) (fsm : Fsm) (o : Outcome) : Type 0 where
+  goes_down : (cause : Cause) → o.change ≡ Down cause → is_up fsm.state ≡ true → o.after ≡ lowered fsm held
+      → Turns held fsm o
+  goes_up : o.change ≡ GoesUp → state_as fsm.state ≡ Reset → o.after.own ≡ fsm.own → state_as o.after.state ≡ Up
+      → Turns held fsm o
+  stays_so : is_rise o.change ≡ false → is_down o.change ≡ false → o.after.own ≡ fsm.own
+      → state_as o.after.state ≡ state_as fsm.state
+      → Turns held fsm o
+
+-- ---- the ends of a pair
+
+-- a link that is up, with its session, whose packets can travel on the other link
+pub record IsRunning (bearer : ℕ) (o : Option LinkEnd) (e : LinkEnd) : Type 0 where
+  pub session : SessionEnd
+  pub up_at : IsUpAt bearer o e session
+  pub listed : AreListed session.sending.unacked
+  pub epoch : session.epoch < 2 ^ 64
+  pub going_on : is_last e.fsm.own ≡ false
+
+abbrev pub RunsWhereUp : ℕ → Option LinkEnd → Type 0
+RunsWhereUp bearer o = (e : LinkEnd) → o ≡ Some e → is_up e.fsm.state ≡ true → IsRunning bearer o e
+
+pub record AreEnds (x : PairEnds) : Type 0 where
+  pub two_bearers : x.bearer ≤ 1
+  pub near : RunsWhereUp x.bearer x.near
+  pub far : RunsWhereUp (beside x.bearer) x.far
+
+-- ---- what follows
+
+-- What follows where the near end e of a pair became another one with this outcome, and the pair became y: the contact
+-- is over with the last link that was up; or by events of the sender no packet gets a number, or the far link numbers
+-- what the near one left, or the near one what the far one had.
+pub data Follow (b : Bearer) (x : PairEnds) (e : LinkEnd) (o : Outcome) (t : Traffic) (z : State)
+    (y : PairEnds) : Type 0 where
+  over : is_down o.change ≡ true → is_up_at x.far ≡ false → Follow b x e o t z y
+  alone : Become b (ends_seen y) t z → Follow b x e o t z y
+  leaves : (f : LinkEnd) (s u : SessionEnd) → x.far ≡ Some f → e.session ≡ Some s → f.session ≡ Some u
+      → Become b (ends_seen y) (far_more t (f.fsm.own + 1 - t.far.first) (gets u (left_by s))) z → Follow b x e o t z y
+  takes_over : (f : LinkEnd) (u : SessionEnd) → x.far ≡ Some f → f.session ≡ Some u
+      → Become b (ends_seen y)
+      (near_more t (e.fsm.own + 1 - t.near.first) (take (room (offered fresh (taken_over u))) (taken_over u))) z
+      → Follow b x e o t z y
+
+-- where the near end of a pair is held, the far link is up and carries what the near one left
+abbrev pub HasFarUp : PairEnds → Type 0
+HasFarUp x = (e : LinkEnd) → x.near ≡ Some e → is_held e.fsm.state ≡ true
+    → (f : LinkEnd) × (u : SessionEnd) × IsUpAt (beside x.bearer) x.far f u
