@@ -1,5 +1,5 @@
 -- What a call of a link end makes of the epochs that it keeps.
-use Rattle.std.proofs.Common.{◌≡◌, ◌≢◌, ◌⊎◌, ℕ, ◌+◌, ◌%◌, Bool, true, false, Option, Some, None, refl, sym, ap, ◌∙◌, inl, inr, arith}
+use Rattle.std.proofs.Common.{◌≡◌, ◌≢◌, ◌≤◌, ◌⊎◌, ℕ, ◌+◌, ◌%◌, Bool, true, false, Option, Some, None, refl, sym, ap, ◌∙◌, inl, inr, arith}
 use Rattle.std.specs.Prelude.{◌&&◌, ◌||◌, ◌==◌, nat_lt, not}
 use Rattle.std.proofs.lemmas.Bool.{cases_Bool, true≢false}
 use Rattle.std.proofs.lemmas.Bool.Decides.{nat_tests}
@@ -141,3 +141,11 @@ next_boot epoch = elim (cases_Bool (is_last epoch)) [
   | inl last ↦ ap boot_of (next_of_last epoch last)
   | inr goes_on ↦ ap boot_of (next_of_other epoch goes_on) ∙ same_boot epoch goes_on
 ]
+
+-- a number that isn't above an epoch of its boot isn't the last of it where that isn't
+pub not_last : (number epoch : ℕ) → number ≤ epoch → boot_of number ≡ boot_of epoch → is_last epoch ≡ false → is_last number ≡ false
+unfolding is_last
+not_last number epoch order boot goes_on =
+    let other : epoch % 4294967296 ≢ 4294967295 = λ same. (let wrong : ⊥ = grind (arith, nat_tests, goes_on, same) in wrong) in
+    let below : number % 4294967296 ≢ 4294967295 = λ same. (let wrong : ⊥ = omega (arith, other) in wrong) in
+    grind (arith, nat_tests, below)

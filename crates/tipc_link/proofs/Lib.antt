@@ -9,3 +9,6 @@ pub mod LinkLaw
 pub mod Outliving
 pub mod KeptRecords
 pub mod Answering
+pub mod Receivings
+pub mod EndsTurns
+pub mod Ends

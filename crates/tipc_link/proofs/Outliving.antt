@@ -37,7 +37,7 @@ pub record IsFreed (r : Received) (line : List (List ℕ)) (t : Taken) : Type 0 
   -- behind it stand those that were held
   pub behind : take (length (run_of (drop 1 r.held))) (drop (r.taken + 1) line) ≡ map (λ (u : Taken). u.packet) (run_of (drop 1 r.held))
 
-frees : (r : Received) (line : List (List ℕ)) (t : Taken) → IsReceiver r.held r.taken line → r.taken < length line → IsFreed r line t
+pub frees : (r : Received) (line : List (List ℕ)) (t : Taken) → IsReceiver r.held r.taken line → r.taken < length line → IsFreed r line t
 unfolding Holds
 frees r line t h more =
     let rest = drop 1 r.held in

@@ -44,7 +44,7 @@ previous_fits (header.Payload m) previous fits = fits
 previous_fits (header.NameDistributor n) previous fits = fits
 
 -- a packet as it waited fits, too
-waiting_fits : (p : Fields) → Fits p → Fits (as_waiting p)
+pub waiting_fits : (p : Fields) → Fits p → Fits (as_waiting p)
 waiting_fits p f = record {
   acknowledgement = omega arith;
   sequence = omega arith;

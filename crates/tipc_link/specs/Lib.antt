@@ -5,3 +5,4 @@ pub mod Hearings
 pub mod Direction
 pub mod Laws
 pub mod Outliving
+pub mod Parts

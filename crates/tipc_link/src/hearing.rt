@@ -75,8 +75,12 @@ fn previous_waiting(packet: &Packet<'_>) -> u32
     }
 }
 
-/// The bytes of a packet as it waited to be sent.
-pub(crate) fn waiting_bytes(alloc: Global, packet: &Packet<'_>) -> Result<Bytes, NoMemory>
+/// The bytes of a packet as it waited to be sent: it acknowledged nothing and had no number. (This project's profile.)
+///
+/// # Errors
+///
+/// Where memory runs out.
+pub fn waiting_bytes(alloc: Global, packet: &Packet<'_>) -> Result<Bytes, NoMemory>
     requires { Fits (view packet.now) }
     ensures { IfOk result (λ bytes. bytes ≡ spelling (as_waiting (view packet.now))) }
 {

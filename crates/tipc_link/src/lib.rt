@@ -14,6 +14,6 @@ mod taking;
 
 pub use arriving::Arriving;
 pub use changeover::{HandedOver, is_tunnel};
-pub use hearing::is_traffic;
+pub use hearing::{is_traffic, waiting_bytes};
 pub use laws::{a_record_outlives_its_session, two_ends_stay_joined};
 pub use link::{Link, LinkArrival, is_down};

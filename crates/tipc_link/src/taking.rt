@@ -139,8 +139,8 @@ impl Link {
     ghost use Rattle.tipc_link.specs.Links.{arrival_end, frames, heard_end, link_outcome, newly_numbered, numbers_at, repeats_at, sent_again};
 
     /// As [`Link::commit`], with the frames in two groups: `states` gets those of link states and the packets that are sent again, and
-    /// `numbered` the packets that are numbered then.
-    fn commit_apart(
+    /// `numbered` the packets that are numbered then. (This project's profile.)
+    pub fn commit_apart(
         &mut self,
         alloc: Global,
         arriving: Arriving,

@@ -22,7 +22,7 @@ use Rattle.tipc_pair.specs.Pairs.{Met, arrival, change_of, link_met, shows_conta
 use Rattle.tipc_pair.specs.Partners.{IsPairArriving, OpensTo, PairArrivingState, PairState, begun_after, deferred, ignored, opened_in, took}
 use Rattle.tipc_pair.proofs.Meeting.{heard_arrival}
 use Rattle.tipc_node.proofs.Quiet.{gives_nothing}
-use Rattle.tipc_pair.proofs.Ends.{contact_after, seen_after}
+use Rattle.tipc_link.proofs.Ends.{contact_after, seen_after}
 use Rattle.tipc_node.specs.declared.arriving.Due.{Due}
 use Rattle.tipc_node.specs.declared.arriving.Hearing.{Hearing}
 use Rattle.tipc_node.specs.declared.listening.HeardPacket.{HeardPacket}

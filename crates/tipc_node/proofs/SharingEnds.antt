@@ -27,7 +27,7 @@ use Rattle.tipc_pair.specs.Pairs.{Met, arrival, arrival_of, by_number, change_of
 use Rattle.tipc_pair.specs.Partners.{OpensTo, PairState, deferred, ignored, opened_in, took}
 use Rattle.tipc_pair.specs.Turns.{Happened, Opening, Outset, PairTurn}
 use Rattle.tipc_pair.specs.Turns.Opening.{cuts, hears, mends, rests, ticks}
-use Rattle.tipc_pair.proofs.Ends.{contact_after}
+use Rattle.tipc_link.proofs.Ends.{contact_after}
 use Rattle.tipc_node.specs.Telling.{IsAbreast, is_reset}
 use Rattle.tipc_node.proofs.ArrivalMoves.{arrival_met}
 use Rattle.tipc_node.proofs.Moves.{tested}

@@ -13,7 +13,8 @@ use Rattle.tipc_journal.specs.declared.entries.Entry.{Entry}
 use Rattle.tipc_journal.specs.Steps.{IsInside, NodeStep}
 use Rattle.tipc_pair.specs.declared.changes.PairChange.TheVariants.{Stay}
 use Rattle.tipc_pair.specs.Partners.{PairState, pair_state}
-use Rattle.tipc_pair.specs.Turns.{Happened, IsShowable, Opening, Outset, ShowsIn, called}
+use Rattle.tipc_pair.specs.Turns.{Happened, Opening, Outset, ShowsIn, called}
+use Rattle.tipc_link.specs.Parts.{IsShowable}
 use Rattle.tipc_pair.specs.Turns.Opening.{rests}
 use Rattle.tipc_node.specs.declared.neighbours.Neighbour.{Neighbour}
 use Rattle.tipc_node.specs.Messages.{IsSendable}

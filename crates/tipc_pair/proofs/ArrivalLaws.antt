@@ -16,16 +16,15 @@ use Rattle.tipc_tunnel.specs.Tunnels.{Tunnelled}
 use Rattle.tipc_recv_window.specs.declared.outcomes.LinkOutcome.{LinkOutcome}
 use Rattle.tipc_link_fsm.specs.Table.{Fsm, is_held, is_up, on_peer_tunnel, on_reset}
 use Rattle.tipc_link.specs.Links.{LinkEnd, arrival_end, is_down, named_end, outcome_of, tunnelled_down, tunnelled_end}
-use Rattle.tipc_link.specs.Sessions.{brought}
 use Rattle.tipc_pair.specs.declared.changes.PairOutcome.{PairOutcome}
 use Rattle.tipc_pair.specs.Changeovers.{contact_ends, following, forgetting, forgotten, released, risen}
 use Rattle.tipc_pair.specs.Courses.{Course, going_on, rests}
 use Rattle.tipc_pair.specs.Facing.{PairEnds, facing, in_contact, is_up_at, turned, with_far}
-use Rattle.tipc_pair.specs.PairArrivals.{Arrives, Heard, OpensInto, Unwraps, activates, activate_higher, as_it_is, behind, by_number, deferred, hears, ignored, inner_at, inner_taken, linked, met_at, met_near, none_taken, opens, passing, reset_change, reset_given, reset_near, taken_down, tunnel, tunnelled_at}
+use Rattle.tipc_pair.specs.PairArrivals.{Arrives, Heard, OpensInto, Unwraps, activates, activate_higher, as_it_is, behind, by_number, deferred, hears, ignored, inner_at, inner_taken, inside_of, linked, met_at, met_near, none_taken, opens, passing, reset_change, reset_given, reset_near, taken_down, tunnel, tunnelled_at}
 use Rattle.tipc_pair.specs.PairFacts.{AreHeldRightly}
 use Rattle.tipc_pair.proofs.CourseLaws.{then_pair}
 use Rattle.tipc_pair.proofs.EndSteps.{fsm_arrived, tunnel_quiet}
-use Rattle.tipc_pair.proofs.Ends.{forgotten-is}
+use Rattle.tipc_link.proofs.Ends.{forgotten-is}
 use Rattle.tipc_pair.proofs.Followings.{far_down, near_down}
 use Rattle.tipc_pair.proofs.HeldLaws.{GoesOn, GoesQuietly, HeldUp, Shape, held_turned, is_held_at, near_goes, near_quietly, or_turns, outcome_holds, parted_held, quietly_same, quietly_then, quietly_turned, released_goes, released_held, reset_holds, reset_quiet, shape_contact, shape_held, stepped_goes, tunnel_holds}
 
@@ -66,7 +65,7 @@ given_goes : (es : ℕ) (held : Bool) (shown : BroadcastState) (x : PairEnds) (e
 given_goes es held shown x None near = quietly_same x x refl
 given_goes es held shown x (Some e) near = stepped_goes x e (on_reset e.fsm es held) es shown near (reset_holds e.fsm es held) (reset_quiet e.fsm es held)
 
-reset_goes : (es : ℕ) (shown : BroadcastState) (x : PairEnds) → GoesQuietly x (reset_near es shown x).course.pair
+pub reset_goes : (es : ℕ) (shown : BroadcastState) (x : PairEnds) → GoesQuietly x (reset_near es shown x).course.pair
 reset_goes es shown x =
     let held = is_up_at x.far in
     let first = (reset_given es held shown x x.near).course in
@@ -153,7 +152,7 @@ down_goes kind.Duplicate epoch x = quietly_same x x refl
 down_goes kind.Original epoch x = quietly_turned x (tunnelled_at epoch (turned x) x.far).pair (tunnelled_goes epoch (turned x) x.far refl)
 
 inner_fsm : (t : Tunnelled) (by : ℕ) (e : LinkEnd) → (inner_taken t by e).fsm ≡ e.fsm
-inner_fsm t by e = elim (t.count == 0) as (λ b. (if b then named_end e t.old.epoch else tunnelled_end e t.old.epoch (brought t.number t.inner by)).fsm ≡ e.fsm) [ true ↦ refl | false ↦ refl ]
+inner_fsm t by e = elim (t.count == 0) as (λ b. (if b then named_end e t.old.epoch else tunnelled_end e t.old.epoch (inside_of t by)).fsm ≡ e.fsm) [ true ↦ refl | false ↦ refl ]
 
 inner_goes : (t : Tunnelled) (by : ℕ) (x : PairEnds) (end : Option LinkEnd) → x.far ≡ end → GoesQuietly x (inner_at t by x end).pair
 inner_goes t by x None far = quietly_same x x refl
@@ -182,20 +181,20 @@ begun_goes x y last h = record {
   stays = h.stays;
 }
 
-opens_goes : (x : PairEnds) (outcome : LinkOutcome) (c : Course) (given : PairOutcome) → OpensInto x outcome c given → GoesQuietly x c.pair
+pub opens_goes : (x : PairEnds) (outcome : LinkOutcome) (c : Course) (given : PairOutcome) → OpensInto x outcome c given → GoesQuietly x c.pair
 opens_goes x outcome c given (opens {taken = taken} {carried = carried} {c = course} {last = last} unwraps brings) = begun_goes x course.pair last (unwraps_goes x taken carried course unwraps)
 opens_goes x outcome c given deferred = quietly_same x x refl
 opens_goes x outcome c given ignored = quietly_same x x refl
 
 -- ---- an arrival
 
-arrived_pair : (x : PairEnds) (es er : ℕ) (p : Fields) (by : ℕ) (shown : BroadcastState) (c : Course) (given : PairOutcome) (a : Arrives x es er p by shown c given) → c.pair ≡ (released a.opened.pair).pair
+pub arrived_pair : (x : PairEnds) (es er : ℕ) (p : Fields) (by : ℕ) (shown : BroadcastState) (c : Course) (given : PairOutcome) (a : Arrives x es er p by shown c given) → c.pair ≡ (released a.opened.pair).pair
 arrived_pair x es er p by shown c given a =
     let first = (hears p.header es er p by shown x).course in
     let open_it = λ (y : PairEnds). a.opened in
     ap (λ (k : Course). k.pair) a.course ∙ (then_pair (going_on first open_it) released ∙ ap (λ y. (released y).pair) (then_pair first open_it))
 
-opened_far : (x : PairEnds) (es er : ℕ) (p : Fields) (by : ℕ) (shown : BroadcastState) (c : Course) (given : PairOutcome) (a : Arrives x es er p by shown c given) → GoesFar x a.opened.pair
+pub opened_far : (x : PairEnds) (es er : ℕ) (p : Fields) (by : ℕ) (shown : BroadcastState) (c : Course) (given : PairOutcome) (a : Arrives x es er p by shown c given) → GoesFar x a.opened.pair
 opened_far x es er p by shown c given a =
     let heard = hears p.header es er p by shown x in far_then x heard.course.pair a.opened.pair (hears_far p.header es er p by shown x) (opens_goes heard.course.pair heard.outcome a.opened given a.opens)
 

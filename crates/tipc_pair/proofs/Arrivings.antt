@@ -1,157 +1,20 @@
--- What a packet makes of the near link of a pair: the frames that leave then, how many of them are of packets that are numbered then, and what
--- follows.
-use Rattle.std.specs.Prelude.{IfOk, ◌&&◌, ◌-◌, filter, not, if◌then◌else◌}
-use Rattle.std.proofs.Common.{◌≡◌, ◌+◌, ◌∙◌, ℕ, Bool, true, false, List, [], ◌∷◌, ◌++◌, Option, Some, None, Result, Ok, Err, option_map, length, map, take, refl, sym, subst, ap, arith, suc, append-nil, append_assoc}
-use Rattle.std.proofs.lemmas.List.{drop_all, length-take, take_all}
+-- What a packet makes of the near link of a pair, and what follows.
+use Rattle.std.specs.Prelude.{IfOk, ◌&&◌, not, if◌then◌else◌}
+use Rattle.std.proofs.Common.{◌≡◌, ◌∙◌, ℕ, Bool, true, false, [], ◌++◌, Some, Result, Ok, Err, sym, subst, ap, append-nil}
 use Rattle.tipc_types.specs.declared.link_words.BroadcastState.{BroadcastState}
 use Rattle.tipc_outside.specs.Frames.{Adds}
 use Rattle.tipc_outside.proofs.Adding.{adds_none}
-use Rattle.tipc_header.specs.declared.packet.Header.{Header}
 use Rattle.tipc_header.specs.Spelling.{Fields}
 use Rattle.tipc_link_fsm.specs.declared.changes.Change.{Change}
-use Rattle.tipc_link_fsm.specs.declared.changes.Change.TheVariants.{Answer, Down, Ignore, Stay, Up}
 use Rattle.tipc_link_fsm.specs.Table.{Outcome, on_reset}
 use Rattle.tipc_recv_window.specs.declared.outcomes.LinkOutcome.{LinkOutcome}
-use Rattle.tipc_send_window.specs.Sending.{acked_of, kept_after, release_count}
-use Rattle.tipc_link.specs.Links.{LinkEnd, after, arrival_end, change_outcome, followed, frames, heard_by, heard_end, heard_frames, is_down, is_heard, is_taken, is_traffic, link_frames, outcome_of, session_of, with_fsm}
-use Rattle.tipc_link.specs.Sessions.{SessionEnd, Content, Carries, Nothing, Shows, arrived, content_of, flush_frames, flushed, heard, is_behind, packet_frame, packet_frames, released, repeat_frames, repeated, room, spoke}
+use Rattle.tipc_link.specs.Links.{LinkEnd, after, arrival_end, change_outcome, frames, is_down, numbers_at, outcome_of, repeats_at}
 use Rattle.tipc_pair.specs.Changeovers.{following}
 use Rattle.tipc_pair.specs.Courses.{AddsCourse, Course, LeavingState}
 use Rattle.tipc_pair.specs.Facing.{PairEnds, is_up_at, with_near}
-use Rattle.tipc_pair.specs.PairArrivals.{Does, Heard, behind, counted_between, linked, met, met_at, moved_since, newly_numbered, numbers_at, repeats_at, reset_change, reset_given, reset_near, sent_again}
-use Rattle.tipc_pair.specs.PairCalls.{numbers_of}
+use Rattle.tipc_pair.specs.PairArrivals.{Does, Heard, behind, linked, met, met_at, reset_change, reset_given, reset_near}
 use Rattle.tipc_pair.proofs.Steppings.{stepped_first}
 use Rattle.tipc_pair.proofs.CourseLaws.{then_adds, then_after}
-
--- ---- a session that has just begun
-
-no_repeats : (s : SessionEnd) (acknowledgement gap : ℕ) → s.sending.unacked ≡ [] → repeat_frames s acknowledgement gap ≡ []
-unfolding repeat_frames repeated
-no_repeats s acknowledgement gap none =
-    ap (λ packets. map (λ k. packet_frame s k.number k.packet) (filter (is_behind acknowledgement gap) (kept_after (acked_of s.sending) packets))) none
-
-no_flush : (s : SessionEnd) → s.sending.waiting ≡ [] → flush_frames s ≡ []
-unfolding flush_frames
-no_flush s none =
-    let all : take (room s.sending) s.sending.waiting ≡ [] = ap (take (room s.sending)) none ∙ take_all (room s.sending) [] (omega arith) in
-    ap (packet_frames s s.sending.numbered) all
-
-spoke_sending : {A : Type 0} (s : SessionEnd) (said : List A) → (spoke s said).sending ≡ s.sending
-spoke_sending s [] = refl
-spoke_sending s (first ∷ others) = refl
-
-begun_again : (e : LinkEnd) (acknowledgement : ℕ) (c : Content) → sent_again (Some (session_of e)) acknowledgement c ≡ []
-unfolding sent_again
-begun_again e acknowledgement (Shows next gap probe) =
-    no_repeats (released (session_of e) acknowledgement) acknowledgement gap (drop_all (release_count (session_of e).sending acknowledgement) [] (omega arith))
-begun_again e acknowledgement (Carries number packet) = refl
-begun_again e acknowledgement Nothing = refl
-
-begun_numbered : (e : LinkEnd) (by acknowledgement : ℕ) (c : Content) → newly_numbered (Some (session_of e)) by acknowledgement c ≡ []
-unfolding newly_numbered
-begun_numbered e by acknowledgement (Shows next gap probe) =
-    let old = released (session_of e) acknowledgement in
-    no_flush (heard (session_of e) by acknowledgement (Shows next gap probe)) (ap (λ w. w.waiting) (spoke_sending old (repeated old acknowledgement gap)))
-begun_numbered e by acknowledgement (Carries number packet) = no_flush (heard (session_of e) by acknowledgement (Carries number packet)) refl
-begun_numbered e by acknowledgement Nothing = refl
-
--- ---- the frames of a session
-
-session_frames : (session : Option SessionEnd) (by acknowledgement : ℕ) (c : Content) → heard_by session by acknowledgement c ≡ sent_again session acknowledgement c ++ newly_numbered session by acknowledgement c
-unfolding sent_again newly_numbered
-session_frames None by acknowledgement c = refl
-session_frames (Some s) by acknowledgement (Shows next gap probe) = refl
-session_frames (Some s) by acknowledgement (Carries number packet) = refl
-session_frames (Some s) by acknowledgement Nothing = refl
-
-followed_frames : (e : LinkEnd) (change : Change) (by acknowledgement : ℕ) (c : Content) → heard_frames (followed e change) change by acknowledgement c
-    ≡ sent_again (followed e change).session acknowledgement c ++ newly_numbered (followed e change).session by acknowledgement c
-followed_frames e Up by acknowledgement c = sym (ap (λ fs. fs ++ newly_numbered (Some (session_of e)) by acknowledgement c) (begun_again e acknowledgement c) ∙ begun_numbered e by acknowledgement c)
-followed_frames e Stay by acknowledgement c = session_frames e.session by acknowledgement c
-followed_frames e (Down cause) by acknowledgement c = session_frames e.session by acknowledgement c
-followed_frames e (Ignore reason) by acknowledgement c = session_frames e.session by acknowledgement c
-followed_frames e (Answer reply) by acknowledgement c = session_frames (followed e (Answer reply)).session by acknowledgement c
-
--- those of link states and repeated packets, and those of packets that are numbered
-pub link_frames_are : (e : LinkEnd) (o : Outcome) (p : Fields) (by : ℕ) (shown : BroadcastState) → link_frames e o p by shown ≡ (frames e o shown ++ repeats_at e o p) ++ numbers_at e o p by
-link_frames_are e o p by shown =
-    let c = content_of p in
-    let again = sent_again (after e o).session p.acknowledgement c in
-    let more = newly_numbered (after e o).session by p.acknowledgement c in
-    elim (is_heard p.header o.change) as (λ b. (if b then frames e o shown ++ heard_frames (after e o) o.change by p.acknowledgement c else frames e o shown)
-    ≡ (frames e o shown ++ (if b then again else [])) ++ (if b then more else [])) [
-      | true ↦ ap (λ fs. frames e o shown ++ fs) (followed_frames (with_fsm e o.after) o.change by p.acknowledgement c) ∙ sym (append_assoc (frames e o shown) again more)
-      | false ↦ sym (append-nil (frames e o shown ++ []) ∙ append-nil (frames e o shown))
-    ]
-
--- ---- how many packets are numbered
-
-length-frames : (s : SessionEnd) (before : ℕ) (packets : List (List ℕ)) → length (packet_frames s before packets) ≡ length packets
-length-frames s before [] = refl
-length-frames s before (packet ∷ packets) = ap suc (length-frames s (before + 1) packets)
-
-length-flush : (s : SessionEnd) → length (flush_frames s) ≡ room s.sending
-unfolding flush_frames
-length-flush s =
-    length-frames s s.sending.numbered (take (room s.sending) s.sending.waiting) ∙ (let most : length (take (room s.sending) s.sending.waiting) ≡ room s.sending = omega (arith, length-take (room s.sending) s.sending.waiting) in most)
-
-flushed_more : (s : SessionEnd) → (flushed s).sending.numbered ≡ s.sending.numbered + room s.sending
-unfolding flushed
-flushed_more s = refl
-
-counts : (s now : SessionEnd) → now.sending.numbered ≡ s.sending.numbered → (flushed now).sending.numbered - s.sending.numbered ≡ length (flush_frames now)
-counts s now same = let more = flushed_more now in let many = length-flush now in omega arith
-
-session_counts : (session : Option SessionEnd) (by acknowledgement : ℕ) (c : Content)
-    → counted_between (numbers_of session) (numbers_of (option_map (λ s. arrived s by acknowledgement c) session)) ≡ length (newly_numbered session by acknowledgement c)
-unfolding newly_numbered
-session_counts None by acknowledgement c = refl
-session_counts (Some s) by acknowledgement (Shows next gap probe) =
-    let old = released s acknowledgement in counts s (heard s by acknowledgement (Shows next gap probe)) (ap (λ w. w.numbered) (spoke_sending old (repeated old acknowledgement gap)))
-session_counts (Some s) by acknowledgement (Carries number packet) = counts s (heard s by acknowledgement (Carries number packet)) refl
-session_counts (Some s) by acknowledgement Nothing = omega arith
-
-same_counts : (session : Option SessionEnd) → counted_between (numbers_of session) (numbers_of session) ≡ 0
-same_counts None = refl
-same_counts (Some s) = omega arith
-
--- not heard where the link states didn't take it
-not_heard : (h : Header) (change : Change) → is_taken change ≡ false → is_heard h change ≡ false
-not_heard h change none = ap (λ b. is_traffic h && b) none ∙ elim (is_traffic h) as (λ b. (b && false) ≡ false) [ true ↦ refl | false ↦ refl ]
-
-none_numbered : (e : LinkEnd) (o : Outcome) (p : Fields) (by : ℕ) → is_taken o.change ≡ false → 0 ≡ length (numbers_at e o p by)
-none_numbered e o p by none =
-    ap (λ b. length (if b then newly_numbered (after e o).session by p.acknowledgement (content_of p) else [])) (sym (not_heard p.header o.change none))
-
-moved_by : (e : LinkEnd) (f : Outcome) (change : Change) (p : Fields) (by : ℕ) → f.change ≡ change
-    → moved_since (numbers_of e.session) (numbers_of (arrival_end e f p by).session) change ≡ length (numbers_at e f p by)
-moved_by e f Up p by is =
-    elim (is_heard p.header f.change) as (λ b. 0 ≡ length (if b then newly_numbered (after e f).session by p.acknowledgement (content_of p) else [])) [
-      | true ↦ sym (ap (λ k. length (newly_numbered (followed (with_fsm e f.after) k).session by p.acknowledgement (content_of p))) is
-          ∙ ap length (begun_numbered (with_fsm e f.after) by p.acknowledgement (content_of p)))
-      | false ↦ refl
-    ]
-moved_by e f Stay p by is =
-    let c = content_of p in
-    let hear : SessionEnd → SessionEnd = λ s. arrived s by p.acknowledgement c in
-    let stays : (after e f).session ≡ e.session = ap (λ k. (followed (with_fsm e f.after) k).session) is in
-    elim (is_heard p.header f.change) as (λ b. counted_between (numbers_of e.session) (numbers_of (if b then heard_end (after e f) by p.acknowledgement c else after e f).session)
-    ≡ length (if b then newly_numbered (after e f).session by p.acknowledgement c else [])) [
-      | true ↦ subst (λ o. counted_between (numbers_of e.session) (numbers_of (option_map hear o)) ≡ length (newly_numbered o by p.acknowledgement c)) (sym stays) (session_counts e.session by p.acknowledgement c)
-      | false ↦ subst (λ o. counted_between (numbers_of e.session) (numbers_of o) ≡ 0) (sym stays) (same_counts e.session)
-    ]
-moved_by e f (Down cause) p by is = none_numbered e f p by (ap is_taken is)
-moved_by e f (Answer reply) p by is = none_numbered e f p by (ap is_taken is)
-moved_by e f (Ignore reason) p by is = none_numbered e f p by (ap is_taken is)
-
--- by the counts of before the arrival and after it
-pub moved_is : (e new : LinkEnd) (o : Outcome) (p : Fields) (by : ℕ) (change : Change) (before now : Option (ℕ × ℕ)) → new ≡ arrival_end e o p by → change ≡ o.change
-    → before ≡ numbers_of e.session → now ≡ numbers_of new.session → moved_since before now change ≡ length (numbers_at e o p by)
-moved_is e new o p by change before now new_is change_is before_is now_is =
-    ap (λ k. moved_since before now k) change_is ∙ (ap (λ k. moved_since k now o.change) before_is
-    ∙ (ap (λ k. moved_since (numbers_of e.session) k o.change) (now_is ∙ ap (λ (d : LinkEnd). numbers_of d.session) new_is) ∙ moved_by e o o.change p by refl))
-
--- ---- what follows
 
 pub met_does : (x now last : PairEnds) (e new : LinkEnd) (o : Outcome) (p : Fields) (es by : ℕ) (shown : BroadcastState) (change : Change) (given : LinkOutcome) (a b c : LeavingState)
     → now ≡ with_near x new → new ≡ arrival_end e o p by → change ≡ o.change → given ≡ (met x e o p es by shown).outcome → b.changes ≡ a.changes

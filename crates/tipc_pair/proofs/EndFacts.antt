@@ -5,8 +5,8 @@ use Rattle.tipc_types.specs.declared.link_words.LinkState.TheVariants.{ResetUnkn
 use Rattle.tipc_types.specs.declared.link_words.Reply.TheVariants as reply
 use Rattle.tipc_link_fsm.specs.declared.changes.Change.TheVariants.{Answer, Stay}
 use Rattle.tipc_link_fsm.specs.Table.{Fsm, gives, is_held, is_up, release}
-use Rattle.tipc_link.specs.Links.{LinkEnd, answered_end, mended_end, with_fsm}
-use Rattle.tipc_link.specs.Sessions.{SessionEnd, answered}
+use Rattle.tipc_link.specs.Links.{LinkEnd, answered_with, mended_end, with_fsm}
+use Rattle.tipc_link.specs.Sessions.{SessionEnd, answered, with_broadcast}
 use Rattle.tipc_pair.specs.Facing.{PairEnds, with_near}
 use Rattle.tipc_pair.specs.PairFacts.{AreStatesOf, IsEndOf, IsPairOfEnds, IsSessionOn}
 
@@ -77,13 +77,15 @@ either_kept : (b : Bool) (e one other : LinkEnd) → Keeps e one → Keeps e oth
 either_kept true e one other h k = h
 either_kept false e one other h k = k
 
-answered_session : (bearer : ℕ) (s : SessionEnd) → IsSessionOn bearer s → IsSessionOn bearer (answered s)
-answered_session bearer s h = record { bearer_is = h.bearer_is; few = h.few; waiting = h.waiting; unacked = h.unacked }
+answered_session : (bearer taken : ℕ) (asks : Bool) (s : SessionEnd) → IsSessionOn bearer s → IsSessionOn bearer (answered (with_broadcast s taken asks))
+answered_session bearer taken asks s h = record { bearer_is = h.bearer_is; few = h.few; waiting = h.waiting; unacked = h.unacked }
 
-pub answered_kept : (e : LinkEnd) → Keeps e (answered_end e)
-answered_kept e = either_kept (is_up e.fsm.state) e (record e { session = option_map answered e.session }) e
-    (λ own peer contact seen bearer h. session_kept own peer contact seen bearer e (option_map answered e.session) h (some_mapped answered e.session)
-    (session_mapped bearer answered e.session (answered_session bearer) h.session))
+pub answered_kept : (e : LinkEnd) (taken : ℕ) (asks : Bool) → Keeps e (answered_with e taken asks)
+answered_kept e taken asks =
+    let read : SessionEnd → SessionEnd = λ s. answered (with_broadcast s taken asks) in
+    either_kept (is_up e.fsm.state) e (record e { session = option_map read e.session }) e
+    (λ own peer contact seen bearer h. session_kept own peer contact seen bearer e (option_map read e.session) h (some_mapped read e.session)
+    (session_mapped bearer read e.session (answered_session bearer taken asks) h.session))
     (λ own peer contact seen bearer h. h)
 
 -- an end that isn't up

@@ -43,3 +43,7 @@ facing_same bearer step x stays turns = ap (λ n. if n == bearer then step x els
 pub facing_contact : (bearer : ℕ) (x : PairEnds) → (facing bearer x).contact ≡ x.contact
 unfolding facing
 facing_contact bearer x = elim (x.bearer == bearer) as (λ b. (if b then x else turned x).contact ≡ x.contact) [ true ↦ refl | false ↦ refl ]
+
+pub facing_begun : (bearer : ℕ) (x : PairEnds) → (facing bearer x).begun ≡ x.begun
+unfolding facing
+facing_begun bearer x = elim (x.bearer == bearer) as (λ b. (if b then x else turned x).begun ≡ x.begun) [ true ↦ refl | false ↦ refl ]

@@ -17,7 +17,7 @@ use Rattle.tipc_pair.specs.Facing.{PairEnds, ends_of, facing, in_contact, is_up_
 use Rattle.tipc_pair.specs.PairFacts.{IsEndOf, IsPairOfEnds}
 use Rattle.tipc_pair.specs.Runs.{left_by, taken_over}
 use Rattle.tipc_pair.proofs.EndSteps.{end_forgets, end_parted}
-use Rattle.tipc_pair.proofs.Ends.{not_last}
+use Rattle.tipc_contact.proofs.Calls.{not_last}
 use Rattle.tipc_pair.proofs.Facings.{facing_back, facing_one, facing_same}
 
 -- ---- what is told

@@ -21,7 +21,7 @@ use Rattle.tipc_pair.specs.PairCalls.{at_bearer, cut_at, cut_near, stepped, tick
 use Rattle.tipc_pair.specs.PairFacts.{AreHeldRightly, HasCarrier}
 use Rattle.tipc_pair.proofs.CourseLaws.{then_pair}
 use Rattle.tipc_pair.proofs.EndSteps.{cut_quiet, fsm_after}
-use Rattle.tipc_pair.proofs.Ends.{ended-is}
+use Rattle.tipc_link.proofs.Ends.{ended-is}
 use Rattle.tipc_pair.proofs.Steppings.{stepped_first}
 
 -- ---- the link states
@@ -249,7 +249,7 @@ parted_free : (contact seen : ℕ) (end : Option LinkEnd) → is_held_at (option
 parted_free contact seen None = refl
 parted_free contact seen (Some e) = ap (λ (f : Fsm). is_held f.state) (ended-is e.fsm)
 
-not_in : (x : PairEnds) → in_contact (parted x) ≡ false
+pub not_in : (x : PairEnds) → in_contact (parted x) ≡ false
 not_in x = ap (λ b. b || is_up_at (parted x).far) (parted_down (x.contact + 1) x.seen x.near) ∙ parted_down (x.contact + 1) x.seen x.far
 
 no_contact : {A : Type 0} (x : PairEnds) → in_contact (parted x) ≡ true → A
@@ -464,7 +464,7 @@ at_bearer_goes bearer x call goes = facing_quietly bearer x _ (quietly_facing x.
 
 -- ---- cut and tick
 
-cut_at_goes : (x : PairEnds) (end : Option LinkEnd) → x.near ≡ end → GoesQuietly x (cut_at x end).pair
+pub cut_at_goes : (x : PairEnds) (end : Option LinkEnd) → x.near ≡ end → GoesQuietly x (cut_at x end).pair
 cut_at_goes x None near = quietly_same x x refl
 cut_at_goes x (Some e) near =
     let held = is_up_at x.far in near_quietly x e (cut_end e held) (on_cut e.fsm held) 0 near refl (cut_holds e.fsm held) (cut_quiet e.fsm held)
@@ -485,7 +485,7 @@ tick_at_goes : (shown : BroadcastState) (x : PairEnds) (end : Option LinkEnd) �
 tick_at_goes shown x None near = quietly_same x x refl
 tick_at_goes shown x (Some e) near = let held = is_up_at x.far in stepped_goes x e (on_tick e.fsm held) 0 shown near (tick_holds e.fsm held) (tick_quiet e.fsm held)
 
-both_goes : (shown : BroadcastState) (x : PairEnds) → GoesQuietly x (going_on (at_bearer 0 x (tick_near shown)) (λ y. at_bearer 1 y (tick_near shown))).pair
+pub both_goes : (shown : BroadcastState) (x : PairEnds) → GoesQuietly x (going_on (at_bearer 0 x (tick_near shown)) (λ y. at_bearer 1 y (tick_near shown))).pair
 both_goes shown x =
     let call = tick_near shown in
     let one = (at_bearer 0 x call).pair in

@@ -1,11 +1,10 @@
 pub mod Keeping
 pub mod Meeting
-pub mod Receivings
-pub mod EndsTurns
-pub mod Ends
+pub mod DownEnds
 pub mod Pieces
 pub mod Holding
 pub mod Listed
+pub mod Restoring
 pub mod EndFacts
 pub mod Sendings
 pub mod CourseLaws
@@ -19,5 +18,6 @@ pub mod RunFacts
 pub mod PairSends
 pub mod Arrivings
 pub mod Openings
+pub mod Quietly
 pub mod HeldLaws
 pub mod ArrivalLaws

@@ -17,8 +17,8 @@ use Rattle.tipc_pair.specs.Facing.{PairEnds, other, with_far}
 use Rattle.tipc_pair.specs.PairFacts.{IsEndOf, IsPairOfEnds}
 use Rattle.tipc_link.specs.Links.{LinkEnd, named_end, record_of, recorded, tunnelled_end}
 use Rattle.tipc_link.specs.Records.{Received, named, tunnelled}
-use Rattle.tipc_link.specs.Sessions.{SessionEnd, brought, with_record}
-use Rattle.tipc_pair.specs.PairArrivals.{Arrives, Does, OpensInto, Unwraps, as_it_is, freed_at, freed_by, hears, inner_at, inner_taken, none_taken, opens, taken_down, tunnel, tunnelled_through, with_begun, with_bytes}
+use Rattle.tipc_link.specs.Sessions.{SessionEnd, with_record}
+use Rattle.tipc_pair.specs.PairArrivals.{Arrives, Does, OpensInto, Unwraps, as_it_is, freed_at, freed_by, hears, inner_at, inner_taken, inside_of, none_taken, opens, taken_down, tunnel, tunnelled_through, with_begun, with_bytes}
 use Rattle.tipc_pair.specs.PairOpenings.{Frees, IsCarriedIn, NoneCarriedIn, Opens, Unwrapped, told_by}
 use Rattle.tipc_pair.proofs.CourseLaws.{adds_course, then_adds, then_after, then_pair}
 use Rattle.tipc_pair.proofs.EndFacts.{session_mapped, some_mapped}
@@ -121,9 +121,9 @@ recorded_kept own peer contact seen bearer e r h =
 
 inner_kept : (own peer contact seen bearer : ℕ) (e : LinkEnd) (t : Tunnelled) (by : ℕ) → IsEndOf own peer contact seen bearer e → IsEndOf own peer contact seen bearer (inner_taken t by e)
 inner_kept own peer contact seen bearer e t by h =
-    elim (t.count == 0) as (λ b. IsEndOf own peer contact seen bearer (if b then named_end e t.old.epoch else tunnelled_end e t.old.epoch (brought t.number t.inner by))) [
+    elim (t.count == 0) as (λ b. IsEndOf own peer contact seen bearer (if b then named_end e t.old.epoch else tunnelled_end e t.old.epoch (inside_of t by))) [
       | true ↦ recorded_kept own peer contact seen bearer e (named (record_of e) t.old.epoch) h
-      | false ↦ recorded_kept own peer contact seen bearer e (tunnelled (named (record_of e) t.old.epoch) t.old.epoch (brought t.number t.inner by)) h
+      | false ↦ recorded_kept own peer contact seen bearer e (tunnelled (named (record_of e) t.old.epoch) t.old.epoch (inside_of t by)) h
     ]
 
 pub far_taken : {T F : Type 0} (r : Result T F) (x : PairEnds) (e new : LinkEnd) (t : Tunnelled) (by : ℕ) → IsPairOfEnds x → x.far ≡ Some e → OnOk r (new ≡ inner_taken t by e) → OnErr r (new ≡ e)

@@ -19,7 +19,7 @@ inside_plain (header.Fragmenter f) e = refl
 inside_plain (header.Discovery d) e = refl
 inside_plain (header.Changeover c) e = both_ways false e refl
 
-inner_plain : (packet : List ℕ) → IsInner packet → is_tunnel packet ≡ false
+pub inner_plain : (packet : List ℕ) → IsInner packet → is_tunnel packet ≡ false
 inner_plain packet h = ap is_tunnel h.spelled ∙ (spelled_tunnel h.packet h.fits ∙ inside_plain h.packet.header h.inside)
 
 pub put_is : (s after : SessionEnd) (pieces : List (List ℕ)) → BeginsWithTunnel pieces → IsPut s pieces after → after ≡ put s pieces

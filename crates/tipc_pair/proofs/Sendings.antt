@@ -1,10 +1,9 @@
 -- Frames of a box that go out behind others.
-use Rattle.std.proofs.Common.{◌≡◌, ◌≤◌, ℕ, true, false, List, [], ◌++◌, length, length-append, take, drop, append-nil, ◌-◌, min, sym, subst, ap, ◌∙◌, arith}
+use Rattle.std.proofs.Common.{◌≡◌, ◌≤◌, true, false, List, [], ◌++◌, length, take, min, sym, subst, ap, ◌∙◌, arith}
 use Rattle.std.proofs.lemmas.List.{length-take, take-take, take_all}
-use Rattle.std.proofs.Math.Seq.{drop-append_seam, take-append_seam}
 use Rattle.tipc_outside.specs.Frames.{Adds, Out}
 use Rattle.tipc_outside.specs.declared.outgoing.Outgoing.{Outgoing}
-use Rattle.tipc_pair.specs.Courses.{AddsCourse, Course, IsLost, LeavingState, no_frames}
+use Rattle.tipc_pair.specs.Courses.{AddsCourse, Course, IsToldOf, LeavingState, no_frames}
 
 both : {A : Type 0} → true ≡ false → A
 both e = grind arith
@@ -30,30 +29,6 @@ sent_lost a b c f made h m same lost =
       none = λ e. (lost, same ∙ (h.none e).1);
     }
 
--- ---- the frames of an arrival
-
-pub lost_adds : (a b : Out) (made : List Outgoing) → IsLost a b → Adds a b made
-lost_adds a b made h = record {
-  count = 0;
-  within = omega arith;
-  front = h.frames ∙ sym (append-nil a.frames);
-  whole = λ e. both (sym h.lost ∙ e);
-  none = λ e. (h.lost, h.frames);
-}
-
--- those of link states and repeated packets stand before those of packets that were numbered
-pub split_states : (f : Out) (states numbered : List Outgoing) (moved : ℕ) → Adds no_frames f (states ++ numbered) → f.lost ≡ false → moved ≡ length numbered → take (length f.frames - moved) f.frames ≡ states
-split_states f states numbered moved made whole is =
-    let all : f.frames ≡ states ++ numbered = all_made f (states ++ numbered) made whole in
-    let before : length (states ++ numbered) - moved ≡ length states = omega (arith, length-append states numbered) in
-    ap (λ fs. take (length fs - moved) fs) all ∙ (ap (λ n. take n (states ++ numbered)) before ∙ take-append_seam states numbered)
-
-pub split_numbered : (f : Out) (states numbered : List Outgoing) (moved : ℕ) → Adds no_frames f (states ++ numbered) → f.lost ≡ false → moved ≡ length numbered → drop (length f.frames - moved) f.frames ≡ numbered
-split_numbered f states numbered moved made whole is =
-    let all : f.frames ≡ states ++ numbered = all_made f (states ++ numbered) made whole in
-    let before : length (states ++ numbered) - moved ≡ length states = omega (arith, length-append states numbered) in
-    ap (λ fs. drop (length fs - moved) fs) all ∙ (ap (λ n. drop n (states ++ numbered)) before ∙ drop-append_seam states numbered)
-
 -- a new box
 pub new_box : (f : Out) → f.frames ≡ [] → f.lost ≡ false → f ≡ no_frames
 new_box f none kept = ap (λ fs. record { frames = fs; lost = f.lost }) none ∙ ap (λ b. record { frames = []; lost = b }) kept
@@ -67,3 +42,9 @@ all_numbered a b course none told = subst (λ f. Adds f b.numbered course.number
 
 pub all_changes : (a b : LeavingState) (course : Course) → a.changes ≡ [] → AddsCourse a b course → b.changes ≡ course.changes
 all_changes a b course none told = told.changes ∙ ap (λ ts. ts ++ course.changes) none
+
+pub told_alone : (a b : LeavingState) (course : Course) → a.changes ≡ [] → a.states ≡ no_frames → a.numbered ≡ no_frames → AddsCourse a b course → IsToldOf course b
+told_alone a b course none states numbered told = record { changes = all_changes a b course none told; states = all_states a b course states told; numbered = all_numbered a b course numbered told }
+
+pub adds_alone : (b : LeavingState) (course : Course) → IsToldOf course b → AddsCourse (record { changes = []; states = no_frames; numbered = no_frames }) b course
+adds_alone b course told = record { changes = told.changes; states = told.states; numbered = told.numbered }

@@ -1,5 +1,5 @@
 -- What an event makes of a pair: the pair after it, what is told of links and contact, and the frames that leave.
-use Rattle.std.specs.Prelude.{◌≡◌, false, true, List, [], ◌∷◌, ◌++◌}
+use Rattle.std.specs.Prelude.{◌≡◌, false, List, [], ◌∷◌, ◌++◌}
 use Rattle.tipc_outside.specs.declared.outgoing.Outgoing.{Outgoing}
 use Rattle.tipc_outside.specs.Frames.{Adds, Out}
 use Rattle.tipc_pair.specs.declared.transitions.Transition.{Transition}
@@ -44,13 +44,14 @@ pub record LeavingState : Type 0 where
 abbrev pub no_frames : Out
 no_frames = record { frames = []; lost = false }
 
--- a box that has lost a frame more
-pub record IsLost (old new : Out) : Type 0 where
-  pub frames : new.frames ≡ old.frames
-  pub lost : new.lost ≡ true
-
 -- what a step told was added, and its frames
 pub record AddsCourse (old new : LeavingState) (c : Course) : Type 0 where
   pub changes : new.changes ≡ old.changes ++ c.changes
   pub states : Adds old.states new.states c.states
   pub numbered : Adds old.numbered new.numbered c.numbered
+
+-- an event that began with nothing told this, and its frames are these, of which some may be lost for want of memory
+pub record IsToldOf (c : Course) (told : LeavingState) : Type 0 where
+  pub changes : told.changes ≡ c.changes
+  pub states : Adds no_frames told.states c.states
+  pub numbered : Adds no_frames told.numbered c.numbered

@@ -10,3 +10,5 @@ pub mod PairCalls
 pub mod PairArrivals
 pub mod PairFacts
 pub mod PairOpenings
+pub mod Preparing
+pub mod PairTurns

@@ -1,16 +1,17 @@
 -- What a packet that arrives on the near link makes of a pair that has a link end on each bearer: of its links and the contact, and what is given
 -- of the packets that were taken.
-use Rattle.std.specs.Prelude.{◌≡◌, ℕ, Bool, true, false, not, ◌&&◌, ◌==◌, ◌-◌, nat_lt, List, [], ◌∷◌, ◌++◌, filter, length, Option, Some, None, is_some, if◌then◌else◌}
+use Rattle.std.specs.Prelude.{◌≡◌, ℕ, Bool, true, false, not, ◌&&◌, ◌==◌, nat_lt, List, [], ◌∷◌, ◌++◌, filter, length, Option, Some, None, is_none, is_some, if◌then◌else◌}
 use Rattle.tipc_types.specs.declared.link_words.BroadcastState.{BroadcastState}
 use Rattle.tipc_types.specs.declared.link_words.Why.{Why}
 use Rattle.tipc_types.specs.declared.link_words.Why.TheVariants as why
 use Rattle.tipc_types.specs.declared.packet_lists.Taken.{Taken}
-use Rattle.tipc_outside.specs.declared.outgoing.Outgoing.{Outgoing}
 use Rattle.tipc_header.specs.declared.packet.ChangeoverType.{ChangeoverType}
 use Rattle.tipc_header.specs.declared.packet.ChangeoverType.TheVariants as kind
 use Rattle.tipc_header.specs.declared.packet.Header.{Header}
 use Rattle.tipc_header.specs.declared.packet.Header.TheVariants as header
+use Rattle.tipc_header.specs.Faults.{fault_of}
 use Rattle.tipc_header.specs.Grammar.{Fits}
+use Rattle.tipc_header.specs.Reading.{fields_at}
 use Rattle.tipc_header.specs.Spelling.{Fields, spelling}
 use Rattle.tipc_fragments.specs.Joining.{Joining}
 use Rattle.tipc_tunnel.specs.Tunnels.{Carries, Tunnelled}
@@ -21,8 +22,8 @@ use Rattle.tipc_link_fsm.specs.declared.changes.Change.{Change}
 use Rattle.tipc_link_fsm.specs.declared.changes.Change.TheVariants.{Stay}
 use Rattle.tipc_link_fsm.specs.Table.{Outcome, on_peer_tunnel, on_reset}
 use Rattle.tipc_link.specs.Records.{named, tunnelled_outcome}
-use Rattle.tipc_link.specs.Links.{LinkEnd, after, arrival_end, change_outcome, frames, is_down, is_heard, link_outcome, named_end, outcome_of, record_of, tunnelled_down, tunnelled_end}
-use Rattle.tipc_link.specs.Sessions.{Content, Nothing, SessionEnd, Shows, brought, content_of, flush_frames, heard, released as acknowledged, repeat_frames}
+use Rattle.tipc_link.specs.Links.{LinkEnd, arrival_end, change_outcome, frames, is_down, link_outcome, named_end, numbers_at, outcome_of, record_of, repeats_at, tunnelled_down, tunnelled_end}
+use Rattle.tipc_link.specs.Sessions.{as_waiting, brought}
 use Rattle.tipc_pair.specs.declared.changes.PairOutcome.{PairOutcome}
 use Rattle.tipc_pair.specs.Changeovers.{at_far, following, released, risen}
 use Rattle.tipc_pair.specs.Courses.{AddsCourse, Course, LeavingState, going_on, rests}
@@ -41,33 +42,6 @@ abbrev pub behind : Course → (PairEnds → Heard) → Heard
 behind c hear = record { course = going_on c (λ y. (hear y).course); outcome = (hear c.pair).outcome }
 
 -- ---- a packet of a session
-
--- the packets that a session sends again at an arrival, and those that are numbered then
-unfoldable pub sent_again : Option SessionEnd → ℕ → Content → List Outgoing
-sent_again (Some s) acknowledgement (Shows next gap probe) = repeat_frames (acknowledged s acknowledgement) acknowledgement gap
-sent_again session acknowledgement content = []
-
-unfoldable pub newly_numbered : Option SessionEnd → ℕ → ℕ → Content → List Outgoing
-newly_numbered None by acknowledgement content = []
-newly_numbered (Some s) by acknowledgement Nothing = []
-newly_numbered (Some s) by acknowledgement content = flush_frames (heard s by acknowledgement content)
-
--- nothing waits on a session that has just begun
-abbrev pub repeats_at : LinkEnd → Outcome → Fields → List Outgoing
-repeats_at e o p = if is_heard p.header o.change then sent_again (after e o).session p.acknowledgement (content_of p) else []
-
-abbrev pub numbers_at : LinkEnd → Outcome → Fields → ℕ → List Outgoing
-numbers_at e o p by = if is_heard p.header o.change then newly_numbered (after e o).session by p.acknowledgement (content_of p) else []
-
--- how many packets a link numbered at an arrival, by the counts of before and after it
-abbrev pub counted_between : Option (ℕ × ℕ) → Option (ℕ × ℕ) → ℕ
-counted_between None after = 0
-counted_between (Some before) None = 0
-counted_between (Some before) (Some after) = after.0 - before.0
-
-abbrev pub moved_since : Option (ℕ × ℕ) → Option (ℕ × ℕ) → Change → ℕ
-moved_since before after Stay = counted_between before after
-moved_since before after other = 0
 
 -- the near link does with the packet what it does
 abbrev pub linked : PairEnds → LinkEnd → Outcome → Fields → ℕ → BroadcastState → Course
@@ -166,9 +140,17 @@ abbrev pub taken_down : ChangeoverType → ℕ → PairEnds → Course
 taken_down kind.Duplicate epoch x = rests x
 taken_down kind.Original epoch x = at_far (λ y. tunnelled_at epoch y y.near) x
 
+-- a packet as it waited to be sent on its own link; what is no packet stays as it is
+unfoldable pub restored : List ℕ → List ℕ
+restored packet = if is_none (fault_of packet) then spelling (as_waiting (fields_at packet)) else packet
+
+-- the packet inside, which is taken as it waited, or a placeholder's nothing
+abbrev pub inside_of : Tunnelled → ℕ → Taken
+inside_of t by = brought t.number (restored t.inner) by
+
 -- Then the inner packet is given to the record of the far link. An empty run only names the epoch.
 abbrev pub inner_taken : Tunnelled → ℕ → LinkEnd → LinkEnd
-inner_taken t by e = if t.count == 0 then named_end e t.old.epoch else tunnelled_end e t.old.epoch (brought t.number t.inner by)
+inner_taken t by e = if t.count == 0 then named_end e t.old.epoch else tunnelled_end e t.old.epoch (inside_of t by)
 
 abbrev pub taken_in : LinkOutcome → List Taken
 taken_in (LinkOutcome.Took taken) = taken
@@ -176,7 +158,7 @@ taken_in other = []
 
 abbrev pub freed_by : Tunnelled → ℕ → LinkEnd → List Taken
 freed_by t by e =
-    if t.count == 0 then [] else taken_in (tunnelled_outcome (named (record_of e) t.old.epoch) t.old.epoch (brought t.number t.inner by))
+    if t.count == 0 then [] else taken_in (tunnelled_outcome (named (record_of e) t.old.epoch) t.old.epoch (inside_of t by))
 
 abbrev pub inner_at : Tunnelled → ℕ → PairEnds → Option LinkEnd → Course
 inner_at t by x None = rests x

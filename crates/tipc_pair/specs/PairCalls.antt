@@ -1,5 +1,5 @@
 -- What each call makes of a pair that has a link end on each bearer, but for arrivals. The near link is that of the call.
-use Rattle.std.specs.Prelude.{◌≡◌, ◌<◌, ℕ, false, List, [], Option, Some, None, length, option_map, if◌then◌else◌}
+use Rattle.std.specs.Prelude.{◌≡◌, ◌<◌, ℕ, Bool, List, [], Option, Some, None, length, option_map, if◌then◌else◌}
 use Rattle.tipc_types.specs.declared.link_words.BroadcastState.{BroadcastState}
 use Rattle.tipc_outside.specs.declared.outgoing.Outgoing.{Outgoing}
 use Rattle.tipc_link_fsm.specs.Table.{Outcome, is_up, on_cut, on_tick}
@@ -107,10 +107,12 @@ numbered_of (Some e) = numbers_of e.session
 
 -- ---- the answer
 
-abbrev pub answered_at : PairEnds → Option LinkEnd → BroadcastState → Course
-answered_at x None shown = rests x
-answered_at x (Some e) shown = record (rests (with_near x (answered_with e 0 false))) { states = frames_with e 0 false shown }
+abbrev pub answered_at : PairEnds → Option LinkEnd → ℕ → Bool → BroadcastState → Course
+answered_at x None taken asks shown = rests x
+answered_at x (Some e) taken asks shown =
+    record (rests (with_near x (answered_with e taken asks))) { states = frames_with e taken asks shown }
 
--- the STATE that an arrival on the near link left due is sent
-abbrev pub answered_near : BroadcastState → PairEnds → Course
-answered_near shown x = answered_at x x.near shown
+-- The STATE that is due after an arrival on the near link is sent. The arrival took so many broadcast packets, and may have asked for a
+-- STATE by the broadcast.
+abbrev pub answered_near : ℕ → Bool → BroadcastState → PairEnds → Course
+answered_near taken asks shown x = answered_at x x.near taken asks shown

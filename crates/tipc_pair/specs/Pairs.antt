@@ -1,7 +1,6 @@
 -- A pair as one of its two nodes keeps it: the link end to the peer, which shows the contact numbers. What each call makes of it.
-use Rattle.std.specs.Prelude.{Bool, ◌≡◌, ◌<◌, ◌≤◌, ℕ, ◌+◌, ◌^◌, true, false, List, [], ◌++◌, Option, Some, None, is_some, map, nat_lt, ◌==◌, if◌then◌else◌}
+use Rattle.std.specs.Prelude.{Bool, ◌≡◌, ◌<◌, ◌≤◌, ℕ, ◌+◌, ◌^◌, true, false, List, [], ◌++◌, Option, Some, None, is_some, nat_lt, ◌==◌, if◌then◌else◌}
 use Rattle.tipc_types.specs.declared.link_words.BroadcastState.{BroadcastState}
-use Rattle.tipc_types.specs.declared.packet_lists.Taken.{Taken}
 use Rattle.tipc_types.specs.declared.link_words.Cause.{Cause}
 use Rattle.tipc_types.specs.declared.link_words.Cause.TheVariants as cause
 use Rattle.tipc_types.specs.declared.link_words.Why.{Why}
@@ -16,6 +15,7 @@ use Rattle.tipc_link_fsm.specs.Table.{Fsm, Outcome, is_last, is_up, on_cut, on_r
 use Rattle.tipc_contact.specs.Sides.{first_number}
 use Rattle.tipc_recv_window.specs.declared.outcomes.LinkOutcome.{LinkOutcome}
 use Rattle.tipc_link.specs.Links.{LinkEnd, after, arrival_end, change_outcome, cut_end, ended_end, frames, is_down, known, link_frames, link_moving, link_outcome, made, outcome_of, reset_frames, with_fsm}
+use Rattle.tipc_link.specs.Parts.{packets_in}
 use Rattle.tipc_pair.specs.declared.changes.PairChange.{PairChange}
 use Rattle.tipc_pair.specs.declared.changes.PairChange.TheVariants.{Stay, Began, Ended}
 
@@ -61,12 +61,6 @@ told_of e fsm other es = Stay
 abbrev pub change_of : LinkEnd → Outcome → ℕ → PairChange
 change_of e o es = told_of e o.after o.change es
 
--- a change after which no session begins, and no link ended
-abbrev pub is_quiet : Change → Bool
-is_quiet Up = false
-is_quiet (Down cause) = false
-is_quiet other = true
-
 -- ---- the bearer is cut, and a tick
 
 abbrev pub cut_pair : LinkEnd → LinkEnd
@@ -88,10 +82,6 @@ pub record Met : Type 0 where
   pub outcome : LinkOutcome
   -- the packets that were numbered then
   pub moved : List (List ℕ)
-
--- the bytes of packets that were taken
-abbrev pub packets_in : List Taken → List (List ℕ)
-packets_in taken = map (λ t. t.packet) taken
 
 -- the packets that an arrival brought
 abbrev pub packets_of : LinkOutcome → List (List ℕ)

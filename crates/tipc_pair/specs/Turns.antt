@@ -1,6 +1,6 @@
 -- What a node does at the pair to a peer in one event: one thing happens there first, then messages are put, and last the STATE that is due is
 -- sent. Each call of a node is such a turn at each of its pairs; at most of them nothing happens and no message is put.
-use Rattle.std.specs.Prelude.{◌≡◌, ◌<◌, ℕ, ◌^◌, false, true, List, [], ◌∷◌, ◌++◌, Option, Some, None}
+use Rattle.std.specs.Prelude.{◌≡◌, ℕ, false, true, List, [], ◌∷◌, ◌++◌, Option, Some, None}
 use Rattle.tipc_types.specs.declared.link_words.BroadcastState.{BroadcastState}
 use Rattle.tipc_outside.specs.declared.outgoing.Outgoing.{Outgoing}
 use Rattle.tipc_header.specs.Spelling.{Fields}
@@ -8,18 +8,12 @@ use Rattle.tipc_fragments.specs.Joining.{Joining}
 use Rattle.tipc_link_fsm.specs.Table.{is_up, on_cut, on_tick}
 use Rattle.tipc_link.specs.Links.{LinkEnd, answered_end, answered_frames, mend_frames, mended_end, with_session}
 use Rattle.tipc_link.specs.Sessions.{IsPut, SessionEnd, flush_frames, flushed}
+use Rattle.tipc_link.specs.Parts.{IsShowable}
 use Rattle.tipc_pair.specs.declared.changes.PairChange.{PairChange}
 use Rattle.tipc_pair.specs.declared.changes.PairChange.TheVariants.{Stay}
 use Rattle.tipc_pair.specs.declared.changes.PairOutcome.{PairOutcome}
 use Rattle.tipc_pair.specs.Pairs.{Met, arrival, change_of, cut_pair, tick_frames, tick_pair}
 use Rattle.tipc_pair.specs.Partners.{OpensTo, PairState, begun_after, pair_state, pieces_for}
-
--- the broadcast fields of a STATE fit their places
-pub record IsShowable (shown : BroadcastState) : Type 0 where
-  pub acknowledged : shown.acknowledged < 2 ^ 16
-  pub next : shown.next < 2 ^ 16
-  pub start : shown.start < 2 ^ 16
-  pub gap : shown.gap < 2 ^ 16
 
 -- ---- what happens first
 

@@ -1,8 +1,8 @@
 //! What an event has told so far, and the frames that leave in it.
 
-ghost use Rattle.std.specs.Prelude.{◌≡◌, ◌++◌, ◌∷◌, [], ◌≤◌, ◌-◌, List, length, take, drop, IfOk, OnErr, OnOk};
+ghost use Rattle.std.specs.Prelude.{◌≡◌, ◌++◌, ◌∷◌, [], List, OnOk};
 ghost use Rattle.tipc_outside.specs.Frames.{Adds};
-ghost use Rattle.tipc_pair.specs.Courses.{IsLost, no_frames};
+ghost use Rattle.tipc_pair.specs.Courses.{no_frames};
 ghost use Rattle.tipc_outside.specs.declared.outgoing.Outgoing.{Outgoing};
 
 use crate::transitions::{Transition, TransitionList};
@@ -52,38 +52,15 @@ impl Leaving {
         self.changes.push(transition)
     }
 
-    /// Adds the frames of a link at an arrival: the last `moved` of them are of packets that were numbered then. Where one was lost for want
-    /// of memory all are.
-    #[tactic(auto, using(crate::proofs::Sendings::lost_adds, crate::proofs::Sendings::split_states, crate::proofs::Sendings::split_numbered))]
-    pub(crate) fn add(&mut self, frames: Outbox, moved: usize)
-        ensures changes { self.new.changes ≡ self.old.changes }
-        ensures states { (states numbered : List Outgoing) → Adds no_frames frames (states ++ numbered) →
-            moved ≡ length numbered →
-            Adds self.old.states self.new.states states }
-        ensures numbered { (states numbered : List Outgoing) → Adds no_frames frames (states ++ numbered) →
-            moved ≡ length numbered →
-            Adds self.old.numbered self.new.numbered numbered }
+    /// Sends the frames in two boxes, so that others may leave between them, and gives what was told.
+    pub(crate) fn leave_apart(self, states: &mut Outbox, numbered: &mut Outbox) -> TransitionList
+        ensures changes { result ≡ self.changes }
+        ensures states { (made : List Outgoing) → Adds no_frames self.states made → Adds states.old states.new made }
+        ensures numbered { (made : List Outgoing) → Adds no_frames self.numbered made → Adds numbered.old numbered.new made }
     {
-        if frames.lost() {
-            return self.lose();
-        }
-        let mut states = frames.into_frames();
-        let before = states.len().saturating_sub(moved);
-        let Ok(numbered) = states.split_off(before) else {
-            return self.lose();
-        };
-        push_all(states, &mut self.states);
-        push_all(numbered, &mut self.numbered);
-    }
-
-    /// Tells that frames of either kind couldn't be made for want of memory.
-    fn lose(&mut self)
-        ensures changes { self.new.changes ≡ self.old.changes }
-        ensures states { IsLost self.old.states self.new.states }
-        ensures numbered { IsLost self.old.numbered self.new.numbered }
-    {
-        self.states.mark_lost();
-        self.numbered.mark_lost();
+        send_all(self.states, states);
+        send_all(self.numbered, numbered);
+        self.changes
     }
 
     /// Sends the frames, and gives what was told.

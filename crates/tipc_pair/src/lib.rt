@@ -9,10 +9,11 @@ mod link_changes;
 mod link_ends;
 mod link_pair;
 mod pair;
+mod preparing;
 mod runs;
 mod transitions;
 
 pub use changes::{PairArrival, PairChange, PairOutcome};
-pub use link_pair::LinkPair;
+pub use link_pair::{LinkPair, LinkPairArriving};
 pub use pair::{Pair, PairArriving, shows_contact};
 pub use transitions::{LinkPairArrival, Transition, TransitionList};

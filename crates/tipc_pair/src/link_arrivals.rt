@@ -5,18 +5,17 @@ ghost use Rattle.tipc_header.specs.Grammar.{Fits};
 ghost use Rattle.tipc_header.specs.Spelling.{view};
 ghost use Rattle.tipc_header.specs.declared.packet.ChangeoverType.{ChangeoverType};
 ghost use Rattle.tipc_tunnel.specs.Unwrapped.{tunnelled};
-ghost use Rattle.tipc_pair.specs.PairArrivals.{counted_between, freed_by, inner_taken, moved_since, taken_in, with_bytes};
+ghost use Rattle.tipc_pair.specs.PairArrivals.{freed_by, inner_taken, restored, taken_in, with_bytes};
 ghost use Rattle.tipc_pair.specs.PairOpenings.{told_by};
 
 use crate::changes::PairOutcome;
 use crate::leaving::Leaving;
-use crate::link_ends::{LinkEnds, numbered_of};
+use crate::link_ends::LinkEnds;
 use std::alloc::Global;
 use tipc_contact::Standing;
 use tipc_header::{Header, Packet, decode};
-use tipc_link::{Link, is_down};
+use tipc_link::{Link, is_down, waiting_bytes};
 use tipc_link_fsm::Change;
-use tipc_outside::Outbox;
 use tipc_recv_window::LinkOutcome;
 use tipc_tunnel::{Tunnel, TunnelKind, unwrap_packet};
 use tipc_types::{BroadcastState, Bytes, NoMemory, TakenList, Why};
@@ -47,7 +46,7 @@ impl LinkEnds {
     /// # Errors
     ///
     /// Where memory runs out. The pair may be in any state then.
-    pub(crate) fn arrive(
+    pub(crate) fn take_any(
         &mut self,
         alloc: Global,
         es: u64,
@@ -114,14 +113,20 @@ impl LinkEnds {
             Does (met_near es er (view packet.now) by shown self.old) self.new event.old event.new outcome) }
     {
         let held = self.far_is_up();
-        let before = numbered_of(&self.near);
         let Some(link) = &mut self.near else {
             return Ok(LinkOutcome::Ignored(Why::Unknown));
         };
-        let mut frames = Outbox::new(alloc);
-        let arrival = link.arrive(alloc, es, er, packet, held, by, shown, &mut frames)?;
-        let moved = moved_since(before, numbered_of(&self.near), arrival.change);
-        event.add(frames, moved);
+        let arrival = link.arrive_apart(
+            alloc,
+            es,
+            er,
+            packet,
+            held,
+            by,
+            shown,
+            &mut event.states,
+            &mut event.numbered,
+        )?;
         self.follow(alloc, arrival.change, es, event)?;
         Ok(arrival.outcome)
     }
@@ -393,32 +398,6 @@ impl LinkEnds {
     }
 }
 
-/// How many packets a link numbered at an arrival, by the counts of before and after it. Nothing waits on a session that has just begun.
-fn moved_since(before: Option<(u64, u64)>, after: Option<(u64, u64)>, change: Change) -> usize
-    ensures { result ≡ moved_since before after change }
-{
-    match change {
-        Change::Stay => counted_between(before, after),
-        Change::Up => 0,
-        Change::Down(_) => 0,
-        Change::Answer(_) => 0,
-        Change::Ignore(_) => 0,
-    }
-}
-
-/// By how much the first count of a pair of counts is above that of another.
-fn counted_between(before: Option<(u64, u64)>, after: Option<(u64, u64)>) -> usize
-    ensures { result ≡ counted_between before after }
-{
-    let Some(before) = before else {
-        return 0;
-    };
-    let Some(after) = after else {
-        return 0;
-    };
-    after.0.saturating_sub(before.0) as usize
-}
-
 /// What a tunnel packet carries, which came by this arrival.
 fn carried_by(alloc: Global, tunnel: &Tunnel<'_>, by: u64) -> Result<Carried, NoMemory>
     ensures tunnel { IfOk result (λ carried. told_by tunnel.now.old.bearer carried ≡ tunnelled tunnel.now) }
@@ -434,7 +413,7 @@ fn carried_by(alloc: Global, tunnel: &Tunnel<'_>, by: u64) -> Result<Carried, No
     })
 }
 
-/// Gives the packet inside a tunnel packet to the record of its link. An empty run only names an epoch.
+/// Gives the packet inside a tunnel packet to the record of its link, as it waited to be sent there. An empty run only names an epoch.
 fn take_inner(alloc: Global, link: &mut Link, carried: Carried) -> Result<TakenList, NoMemory>
     ensures freed { (bearer : ℕ) → IfOk result (λ freed. freed ≡ freed_by (told_by bearer carried) carried.by link.old) }
     ensures after { (bearer : ℕ) → OnOk result (link.new ≡ inner_taken (told_by bearer carried) carried.by link.old) }
@@ -448,10 +427,21 @@ fn take_inner(alloc: Global, link: &mut Link, carried: Carried) -> Result<TakenL
         alloc,
         carried.epoch,
         carried.number,
-        Some(carried.inner),
+        Some(restored(alloc, carried.inner)?),
         carried.by,
     )?;
     Ok(taken_in(alloc, outcome))
+}
+
+/// A packet as it waited to be sent on its own link. What is no packet stays as it is.
+#[tactic(auto, unfolding(crate::specs::PairArrivals::restored))]
+fn restored(alloc: Global, packet: Bytes) -> Result<Bytes, NoMemory>
+    ensures { IfOk result (λ bytes. bytes ≡ restored packet) }
+{
+    let Ok(waited) = decode(packet.as_slice()) else {
+        return Ok(packet);
+    };
+    waiting_bytes(alloc, &waited)
 }
 
 /// The packets that were taken.

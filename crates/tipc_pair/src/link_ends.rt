@@ -180,15 +180,22 @@ impl LinkEnds {
         link.mend(alloc, out);
     }
 
-    /// Sends the STATE that an arrival on the near link left due: as [`Link::answer`].
-    pub(crate) fn answer(&mut self, alloc: Global, shown: BroadcastState, out: &mut Outbox)
-        ensures after { self.new ≡ (answered_near shown self.old).pair }
-        ensures frames { Adds out.old out.new (answered_near shown self.old).states }
+    /// Sends the STATE that is due after an arrival on the near link: as [`Link::answer`].
+    pub(crate) fn answer(
+        &mut self,
+        alloc: Global,
+        broadcast: u32,
+        due: bool,
+        shown: BroadcastState,
+        out: &mut Outbox,
+    )
+        ensures after { self.new ≡ (answered_near broadcast due shown self.old).pair }
+        ensures frames { Adds out.old out.new (answered_near broadcast due shown self.old).states }
     {
         let Some(link) = &mut self.near else {
             return;
         };
-        link.answer(alloc, 0, false, shown, out);
+        link.answer(alloc, broadcast, due, shown, out);
     }
 
     /// Puts packets on the near link, which is up: as [`Link::send`].

@@ -8,8 +8,10 @@ ghost use Rattle.tipc_outside.specs.declared.outgoing.Outgoing.{Outgoing};
 ghost use Rattle.tipc_link.specs.Sessions.{SessionEnd};
 ghost use Rattle.tipc_pair.specs.Courses.{Course, sent_in};
 
+use crate::changes::PairOutcome;
 use crate::leaving::Leaving;
 use crate::link_ends::{LinkEnds, load_of, numbered_of, state_of};
+use crate::preparing::Way;
 use crate::transitions::{LinkPairArrival, TransitionList};
 use std::alloc::Global;
 use std::marker::Model;
@@ -17,6 +19,31 @@ use tipc_header::Packet;
 use tipc_outside::Outbox;
 use tipc_send_window::OfferFault;
 use tipc_types::{Addr, BroadcastState, LinkState, NoMemory, Pieces};
+
+/// What a packet will make of a pair: [`LinkPair::prepare`] tells it, and [`LinkPair::commit`] does it.
+#[derive(Drop)]
+pub struct LinkPairArriving {
+    bearer: u8,
+    way: Way,
+    outcome: PairOutcome,
+}
+
+impl Model for LinkPairArriving {
+    ghost use Rattle.tipc_pair.specs.Preparing.{Prepared};
+
+    ghost Value = { Prepared };
+
+    ghost view = { λ a. record { bearer = a.bearer; way = a.way; outcome = a.outcome } };
+}
+
+impl LinkPairArriving {
+    /// What will be given.
+    pub fn outcome(&self) -> &PairOutcome
+        ensures { result.now ≡ self.now.outcome }
+    {
+        &self.outcome
+    }
+}
 
 /// What a node keeps of a peer: a link end on each of the two bearers, as far as they are made, the contact numbers of the two nodes, and the
 /// message that is begun of the fragments that were taken on either link.
@@ -44,8 +71,10 @@ impl Model for LinkPair {
 impl LinkPair {
     ghost use Rattle.tipc_pair.specs.Facing.{active, alone, contact_between, facing, in_contact, state_of, with_made};
     ghost use Rattle.tipc_pair.specs.PairArrivals.{Arrives};
+    ghost use Rattle.tipc_pair.specs.Courses.{IsToldOf};
     ghost use Rattle.tipc_pair.specs.PairCalls.{active_session, answered_near, at_bearer, cut_near, load_of, mended, numbered_of, ticked, Sends};
     ghost use Rattle.tipc_pair.specs.PairFacts.{AreHeldRightly};
+    ghost use Rattle.tipc_pair.specs.Preparing.{Prepares};
     ghost use Rattle.tipc_pair.specs.Runs.{IsListed};
 
     /// The pair of a node that has just begun this boot: no end is made.
@@ -110,13 +139,55 @@ impl LinkPair {
             self.new.contact ≡ self.old.contact) }
         ensures err { OnErr result ((self.new ≡ self.old) × (out.new ≡ out.old)) }
     {
+        let event = self.cut_ends(alloc, bearer)?;
+        Ok(event.leave(out))
+    }
+
+    /// As [`LinkPair::cut`], with the frames in two boxes, so that others may leave between them: `states` gets those of link states and of
+    /// repeated packets, `numbered` those of packets that are numbered then.
+    ///
+    /// # Errors
+    ///
+    /// Where memory runs out. Nothing is changed then.
+    pub fn cut_apart(
+        &mut self,
+        alloc: Global,
+        bearer: u8,
+        states: &mut Outbox,
+        numbered: &mut Outbox,
+    ) -> Result<TransitionList, NoMemory>
+        requires { bearer ≤ 1 }
+        ensures after { OnOk result (self.new ≡ (at_bearer bearer self.old cut_near).pair) }
+        ensures changes { IfOk result (λ changes. changes ≡ (at_bearer bearer self.old cut_near).changes) }
+        ensures states { OnOk result (Adds states.old states.new (at_bearer bearer self.old cut_near).states) }
+        ensures numbered { OnOk result (Adds numbered.old numbered.new (at_bearer bearer self.old cut_near).numbered) }
+        // An end is held only where the other link has a tunnel packet, and the contact ends only where no link is up.
+        ensures held { AreHeldRightly self.old → OnOk result (AreHeldRightly self.new) }
+        ensures goes_on { in_contact self.old ≡ true → OnOk result (in_contact self.new ≡ true →
+            self.new.contact ≡ self.old.contact) }
+        ensures err { OnErr result ((self.new ≡ self.old) × (states.new ≡ states.old) × (numbered.new ≡ numbered.old)) }
+    {
+        let event = self.cut_ends(alloc, bearer)?;
+        Ok(event.leave_apart(states, numbered))
+    }
+
+    /// A bearer is cut, and this leaves with it.
+    fn cut_ends(&mut self, alloc: Global, bearer: u8) -> Result<Leaving, NoMemory>
+        requires { bearer ≤ 1 }
+        ensures after { OnOk result (self.new ≡ (at_bearer bearer self.old cut_near).pair) }
+        ensures told { IfOk result (λ event. IsToldOf (at_bearer bearer self.old cut_near) event) }
+        ensures held { AreHeldRightly self.old → OnOk result (AreHeldRightly self.new) }
+        ensures goes_on { in_contact self.old ≡ true → OnOk result (in_contact self.new ≡ true →
+            self.new.contact ≡ self.old.contact) }
+        ensures err { OnErr result (self.new ≡ self.old) }
+    {
         let mut event = Leaving::new(alloc);
         let mut next = self.ends.copy()?;
         next.face(bearer);
         next.cut(alloc, &mut event)?;
         next.face(0);
         self.ends = next;
-        Ok(event.leave(out))
+        Ok(event)
     }
 
     /// A tick of both links, bearer 0's with all that follows and then bearer 1's: as [`tipc_link::Link::tick`]. `shown` fills the
@@ -140,11 +211,50 @@ impl LinkPair {
             self.new.contact ≡ self.old.contact) }
         ensures err { OnErr result ((self.new ≡ self.old) × (out.new ≡ out.old)) }
     {
+        let event = self.tick_ends(alloc, shown)?;
+        Ok(event.leave(out))
+    }
+
+    /// As [`LinkPair::tick`], with the frames in two boxes, as of [`LinkPair::cut_apart`].
+    ///
+    /// # Errors
+    ///
+    /// Where memory runs out. Nothing is changed then.
+    pub fn tick_apart(
+        &mut self,
+        alloc: Global,
+        shown: BroadcastState,
+        states: &mut Outbox,
+        numbered: &mut Outbox,
+    ) -> Result<TransitionList, NoMemory>
+        ensures after { OnOk result (self.new ≡ (ticked shown self.old).pair) }
+        ensures changes { IfOk result (λ changes. changes ≡ (ticked shown self.old).changes) }
+        ensures states { OnOk result (Adds states.old states.new (ticked shown self.old).states) }
+        ensures numbered { OnOk result (Adds numbered.old numbered.new (ticked shown self.old).numbered) }
+        // An end is held only where the other link has a tunnel packet, and the contact ends only where no link is up.
+        ensures held { AreHeldRightly self.old → OnOk result (AreHeldRightly self.new) }
+        ensures goes_on { in_contact self.old ≡ true → OnOk result (in_contact self.new ≡ true →
+            self.new.contact ≡ self.old.contact) }
+        ensures err { OnErr result ((self.new ≡ self.old) × (states.new ≡ states.old) × (numbered.new ≡ numbered.old)) }
+    {
+        let event = self.tick_ends(alloc, shown)?;
+        Ok(event.leave_apart(states, numbered))
+    }
+
+    /// A tick of both links, and this leaves with it.
+    fn tick_ends(&mut self, alloc: Global, shown: BroadcastState) -> Result<Leaving, NoMemory>
+        ensures after { OnOk result (self.new ≡ (ticked shown self.old).pair) }
+        ensures told { IfOk result (λ event. IsToldOf (ticked shown self.old) event) }
+        ensures held { AreHeldRightly self.old → OnOk result (AreHeldRightly self.new) }
+        ensures goes_on { in_contact self.old ≡ true → OnOk result (in_contact self.new ≡ true →
+            self.new.contact ≡ self.old.contact) }
+        ensures err { OnErr result (self.new ≡ self.old) }
+    {
         let mut event = Leaving::new(alloc);
         let mut next = self.ends.copy()?;
         next.tick(alloc, shown, &mut event)?;
         self.ends = next;
-        Ok(event.leave(out))
+        Ok(event)
     }
 
     /// Puts packets on the active link, and sends those that the window of 50 has room for: as [`tipc_link::Link::send`]. It needs a
@@ -213,24 +323,88 @@ impl LinkPair {
             self.new.contact ≡ self.old.contact) }
         ensures err { OnErr result ((self.new ≡ self.old) × (out.new ≡ out.old)) }
     {
-        let mut event = Leaving::new(alloc);
-        let mut next = self.ends.copy()?;
-        next.face(bearer);
-        let outcome = next.arrive(alloc, es, er, packet, by, shown, &mut event)?;
-        next.face(0);
-        self.ends = next;
+        let (way, outcome) = self.ends.prepare(alloc, bearer, es, er, packet, by, shown)?;
+        let event = self.ends.commit(alloc, bearer, way, packet, shown);
         let changes = event.leave(out);
         Ok(LinkPairArrival { changes, outcome })
     }
 
-    /// Sends the STATE that an arrival on a bearer, 0 or 1, left due: as [`tipc_link::Link::answer`]. Nothing is sent where its link isn't up.
-    pub fn answer(&mut self, alloc: Global, bearer: u8, shown: BroadcastState, out: &mut Outbox)
+    /// What a packet that arrives on a bearer, 0 or 1, will make of the pair: as [`LinkPair::arrive`], but nothing is changed yet, which
+    /// [`LinkPair::commit`] does.
+    ///
+    /// # Errors
+    ///
+    /// Where memory runs out.
+    pub fn prepare(
+        &self,
+        alloc: Global,
+        bearer: u8,
+        es: u64,
+        er: u64,
+        packet: &Packet<'_>,
+        by: u64,
+        shown: BroadcastState,
+    ) -> Result<LinkPairArriving, NoMemory>
+        requires bearer { bearer ≤ 1 }
+        requires fits { Fits (view packet.now) }
+        ensures bearer { IfOk result (λ a. a.bearer ≡ bearer) }
+        ensures prepares { IfOk result (λ a. Prepares self.now es er (view packet.now) by shown a) }
+    {
+        let (way, outcome) = self.ends.prepare(alloc, bearer, es, er, packet, by, shown)?;
+        Ok(LinkPairArriving {
+            bearer,
+            way,
+            outcome,
+        })
+    }
+
+    /// Takes a packet, as [`LinkPair::prepare`] told of it when the pair was as it is.
+    pub fn commit(
+        &mut self,
+        alloc: Global,
+        arriving: LinkPairArriving,
+        packet: &Packet<'_>,
+        shown: BroadcastState,
+        out: &mut Outbox,
+    ) -> LinkPairArrival
+        requires { (es : ℕ) × (er : ℕ) × (by : ℕ) × Prepares self.old es er (view packet.now) by shown arriving }
+        ensures arrives { (es er by : ℕ) → Prepares self.old es er (view packet.now) by shown arriving → (c : Course) ×
+            Arrives (facing arriving.bearer self.old) es er (view packet.now) by shown c result.outcome ×
+            (self.new ≡ facing 0 c.pair) × (result.changes ≡ c.changes) × Adds out.old out.new (sent_in c) }
+        ensures outcome { result.outcome ≡ arriving.outcome }
+        // An end is held only where the other link has a tunnel packet. The contact ends only where no link is up, or the peer showed a higher
+        // contact number.
+        ensures held { AreHeldRightly self.old → AreHeldRightly self.new }
+        ensures goes_on { in_contact self.old ≡ true → in_contact self.new ≡ true → self.new.seen ≡ self.old.seen →
+            self.new.contact ≡ self.old.contact }
+    {
+        let LinkPairArriving {
+            bearer,
+            way,
+            outcome,
+        } = arriving;
+        let event = self.ends.commit(alloc, bearer, way, packet, shown);
+        let changes = event.leave(out);
+        LinkPairArrival { changes, outcome }
+    }
+
+    /// Sends the STATE that is due after an arrival on a bearer, 0 or 1: as [`tipc_link::Link::answer`]. The arrival took so many broadcast
+    /// packets, and `due` says that it asks for a STATE by the broadcast. Nothing is sent where the bearer's link isn't up.
+    pub fn answer(
+        &mut self,
+        alloc: Global,
+        bearer: u8,
+        broadcast: u32,
+        due: bool,
+        shown: BroadcastState,
+        out: &mut Outbox,
+    )
         requires { bearer ≤ 1 }
-        ensures after { self.new ≡ (at_bearer bearer self.old (answered_near shown)).pair }
-        ensures frames { Adds out.old out.new (sent_in (at_bearer bearer self.old (answered_near shown))) }
+        ensures after { self.new ≡ (at_bearer bearer self.old (answered_near broadcast due shown)).pair }
+        ensures frames { Adds out.old out.new (sent_in (at_bearer bearer self.old (answered_near broadcast due shown))) }
     {
         self.ends.face(bearer);
-        self.ends.answer(alloc, shown, out);
+        self.ends.answer(alloc, broadcast, due, shown, out);
         self.ends.face(0);
     }
 

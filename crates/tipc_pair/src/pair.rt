@@ -365,12 +365,13 @@ fn given(alloc: Global, ignored: Option<Why>) -> PairOutcome
 }
 
 /// Opens what a link made of an arrival.
-fn opened(
+pub(crate) fn opened(
     alloc: Global,
     reassembly: &mut Reassembly,
     outcome: &LinkOutcome,
 ) -> Result<PairOutcome, NoMemory>
-    ensures { IfOk result (λ given. OpensTo reassembly.old outcome.now given reassembly.new) }
+    ensures ok { IfOk result (λ given. OpensTo reassembly.old outcome.now given reassembly.new) }
+    ensures err { OnErr result (reassembly.new ≡ reassembly.old) }
 {
     match outcome {
         LinkOutcome::Took(taken) => {

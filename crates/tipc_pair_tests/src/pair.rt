@@ -66,7 +66,7 @@ impl Node {
             &mut self.sent,
         )?;
         self.pair
-            .answer(alloc, bearer, NO_BROADCAST, &mut self.sent);
+            .answer(alloc, bearer, 0, false, NO_BROADCAST, &mut self.sent);
         Ok(arrival)
     }
 

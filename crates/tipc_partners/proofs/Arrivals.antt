@@ -25,26 +25,26 @@ use Rattle.tipc_link_fsm.specs.declared.changes.Change.TheVariants.{Ignore, Stay
 use Rattle.tipc_link_fsm.specs.Runs.{TrafficArrives}
 use Rattle.tipc_link_fsm.specs.Table.{Fsm, Outcome, gives, heard, is_last, is_peer, is_reset_reset, is_session, is_up, on_traffic}
 use Rattle.tipc_link_fsm.proofs.Moves.{cases_on}
-use Rattle.tipc_pair.proofs.Receivings.{due_none}
+use Rattle.tipc_link.proofs.Receivings.{due_none}
 use Rattle.tipc_pair.specs.declared.changes.PairOutcome.{PairOutcome}
-use Rattle.tipc_pair.specs.Turns.{IsShowable}
-use Rattle.tipc_partners.specs.Paired.{ShowsContact}
+use Rattle.tipc_link.specs.Parts.{IsShowable}
+use Rattle.tipc_paired.specs.Paired.{ShowsContact}
 use Rattle.tipc_pair.specs.Pairs.{Met, arrival, arrival_of, link_met, packets_of, settled, settled_frames}
 use Rattle.tipc_pair.specs.Partners.{OpensTo, begun_after, deferred, ignored, opened_in, took}
 use Rattle.tipc_partners.proofs.Calls.{heard_did}
 use Rattle.tipc_partners.proofs.EndCalls.{settled_did}
 use Rattle.tipc_partners.proofs.EndSteps.{StepsTo}
-use Rattle.tipc_partners.proofs.Notices.{MetQuietly, Reaches, activates_quietly, reached_contact, reached_shown, reached_told, resets_quietly, unheard_met}
+use Rattle.tipc_partners.proofs.Notices.{MetQuietly, Reaches, activates_quietly, reached_begun, reached_contact, reached_shown, reached_told, resets_quietly, unheard_met}
 use Rattle.tipc_partners.proofs.PartnersLaw.{acts_all, whole_given}
 use Rattle.tipc_partners.proofs.Steps.{Stepped, became_stepped, did_stepped, more_none, still_stepped, then_stepped}
-use Rattle.tipc_partners.proofs.Wires.{session_of_up}
+use Rattle.tipc_paired.proofs.Wires.{session_of_up}
 use Rattle.tipc_partners.specs.Calls.{Brings}
-use Rattle.tipc_partners.specs.Deeds.{Hears, IsUp}
+use Rattle.tipc_paired.specs.Deeds.{Hears, IsUp}
 use Rattle.tipc_partners.specs.EndCalls.{Became, HasEnd, partial_after}
 use Rattle.tipc_partners.specs.Partners.{ArePartners, Partner}
 use Rattle.tipc_partners.specs.Sights.{StaysUp}
-use Rattle.tipc_partners.specs.Views.{View, session_on}
-use Rattle.tipc_pair.proofs.EndsTurns.{peer_is}
+use Rattle.tipc_paired.specs.Views.{View, session_on}
+use Rattle.tipc_link.proofs.EndsTurns.{peer_is}
 
 -- ---- what came
 
@@ -189,7 +189,7 @@ kept_met x y b e es er p by shown out last h has r showable traffic peer own up 
     let stay : Outcome = gives (heard e.fsm) Stay in
     let d = with_fsm e (heard e.fsm) in
     let c = content_of p in
-    let did = settled_did x y b e (TrafficArrives es er) shown h has (reached_shown x.view y.view b es er p r) showable in
+    let did = settled_did x y b e (TrafficArrives es er) shown h has (reached_begun x.view y.view b es er p h.paired r traffic) showable in
     let became : Became x y did.0 b d [] x.partial = subst (λ (k : Outcome). Became x y did.0 b (settled e k) (settled_frames e k shown) (partial_after k.change x.partial)) is did.1 in
     let end = h.paired.here.ends b e has.end_is in
     let going = end.going up in
@@ -217,7 +217,7 @@ raised_met x y b e es er p by shown out last h has r showable traffic peer own i
     let d : LinkEnd = record (with_fsm e (heard e.fsm)) { session = Some s; early = None } in
     let c = content_of p in
     let told = state_frame s shown false ∷ [] in
-    let did = settled_did x y b e (TrafficArrives es er) shown h has (reached_shown x.view y.view b es er p r) showable in
+    let did = settled_did x y b e (TrafficArrives es er) shown h has (reached_begun x.view y.view b es er p h.paired r traffic) showable in
     let became : Became x y did.0 b d told fresh = subst (λ (k : Outcome). Became x y did.0 b (settled e k) (settled_frames e k shown) (partial_after k.change x.partial)) is did.1 in
     let hears = reached_session x.view y.view did.0.view b es er p s r traffic (sym own) (ap known peer) (λ epoch. became.line b epoch) in
     let met = heard_met e raise p by shown (ap (λ t. t && true) traffic) in
@@ -264,7 +264,7 @@ header_met (header.Activate said) x y b e es er p by shown out last is h has r s
     let shows = subst (λ k. ShowsContact k r.frame.contact r.frame.peer_contact) is (reached_contact x.view y.view b es er p h.paired r) in
     let fits : said.contact < 2 ^ 64 = (subst (λ k. HeaderFits k) is r.fits.header).contact in
     quietly_met x y b e (arrival_of (header.Activate said) e es er p by shown) out last
-    (activates_quietly x y b e said.contact es er p by shown h has (ap is_traffic is) (λ f. ap (λ k. outcome_of f k es er false) is) fits (reached_told x.view y.view b es er said.contact p r (sym shows.0)) (reached_shown x.view y.view b es er p r) showable) o
+    (activates_quietly x y b e said.contact es er p by shown h has (ap is_traffic is) (λ f. ap (λ k. outcome_of f k es er false) is) fits (reached_shown x.view y.view b es er said.contact p r (sym shows.0)) showable) o
 header_met (header.Discovery said) x y b e es er p by shown out last is h has r showable o =
     let row : outcome_of e.fsm p.header es er false ≡ gives e.fsm (Ignore why.Epoch) = ap (λ k. outcome_of e.fsm k es er false) is in
     subst (λ (z : Outcome). MetTo x y b e (link_met e z p by shown) out last) (sym row)

@@ -14,21 +14,22 @@ use Rattle.tipc_reassembly.specs.Slots.{packets_in as messages_in}
 use Rattle.tipc_link.specs.Links.{LinkEnd, with_session}
 use Rattle.tipc_link.specs.Sessions.{Carries, Content, IsPut, joins, waits, Nothing, SessionEnd, Unanswered, all_answered, Shows, answer_frames, answered, arrival_frames, arrived, brought, content_of, due_with, flush_frames, flushed, is_due, noted, released, repeat_frames, repeated, spoke, state_frame, took}
 use Rattle.tipc_link.proofs.LinkLaw.{Each, Each-append, Each-none, Each-one}
-use Rattle.tipc_pair.proofs.Receivings.{due_released}
-use Rattle.tipc_pair.specs.Turns.{IsShowable}
+use Rattle.tipc_link.proofs.Receivings.{due_released}
+use Rattle.tipc_link.specs.Parts.{IsShowable}
 use Rattle.tipc_pair.specs.Partners.{IsMessage, pieces_for}
 use Rattle.tipc_partners.proofs.Contacts.{more_twice, on_put_in}
 use Rattle.tipc_partners.proofs.Messages.{put_view, taken_view}
 use Rattle.tipc_partners.proofs.Numbers.{numbered_view, with_numbered}
 use Rattle.tipc_partners.proofs.PartnersLaw.{acts_all, acts_one, acts_partners, acts_then}
-use Rattle.tipc_partners.proofs.Tellings.{flush_may, repeats_may, told_all, told_longer, told_of_all, told_on, told_since, tells_all}
-use Rattle.tipc_partners.proofs.Wires.{line_put, put_other, put_same, session_of_up}
+use Rattle.tipc_partners.proofs.Tellings.{told_all, told_longer, told_of_all, told_on, told_since, tells_all}
+use Rattle.tipc_paired.proofs.SessionFrames.{flush_may, repeats_may}
+use Rattle.tipc_paired.proofs.Wires.{line_put, put_other, put_same, session_of_up}
 use Rattle.tipc_partners.specs.Calls.{AnsweredArrivalsAreDeeds, Brings, Did, IsToldOn, Keeps, PutsAreDeeds, WasGiven, given_more, put_more}
 use Rattle.tipc_pair.specs.Turns.{PutsAll}
 use Rattle.tipc_pair.specs.Turns.PutsAll.{none_put, puts_one}
-use Rattle.tipc_partners.specs.Deeds.{Hears, IsUp, MayTell, with_going, with_taken, notes, numbers, releases, states}
+use Rattle.tipc_paired.specs.Deeds.{Hears, IsUp, MayTell, with_going, with_taken, notes, numbers, releases, states}
 use Rattle.tipc_partners.specs.Partners.{Acts, ArePartners, Partner, nothing, put_in, puts, takes, viewed, with_given, with_put, works}
-use Rattle.tipc_partners.specs.Views.{Node, View, Wire, put_at, with_wire}
+use Rattle.tipc_paired.specs.Views.{Node, View, Wire, put_at, with_wire}
 use Rattle.tipc_link_fsm.specs.Table.{is_up}
 
 -- the session of a node that became another on one wire

@@ -13,7 +13,8 @@ use Rattle.tipc_link.proofs.LinkLaw.{Each}
 use Rattle.tipc_link_fsm.specs.Table.{is_up}
 use Rattle.tipc_pair.specs.declared.changes.PairChange.{PairChange}
 use Rattle.tipc_pair.specs.Partners.{IsMessage, begun_after, opened_in, pair_state}
-use Rattle.tipc_pair.specs.Turns.{Happened, IsShowable, Opening, Outset, PutsOn, PutsOnto, ShowsAtLast, ShowsIn, answered_by, answers_by, called}
+use Rattle.tipc_pair.specs.Turns.{Happened, Opening, Outset, PutsOn, PutsOnto, ShowsAtLast, ShowsIn, answered_by, answers_by, called}
+use Rattle.tipc_link.specs.Parts.{IsShowable}
 use Rattle.tipc_pair.specs.Turns.Opening.{cuts, hears, mends, rests, ticks}
 use Rattle.tipc_partners.proofs.Arrivals.{arrival_met, none_whole}
 use Rattle.tipc_partners.proofs.Calls.{answer_did, puts_did, puts_epoch}
@@ -21,11 +22,11 @@ use Rattle.tipc_partners.proofs.EndSteps.{StepsTo, cuts_stepped, mends_stepped, 
 use Rattle.tipc_partners.proofs.Notices.{Reaches}
 use Rattle.tipc_partners.proofs.PartnersLaw.{acts_all}
 use Rattle.tipc_partners.proofs.Steps.{Stepped, did_stepped, more_none, onward_lines, still_stepped, then_stepped}
-use Rattle.tipc_partners.proofs.Wires.{same_some}
+use Rattle.tipc_paired.proofs.Wires.{same_some}
 use Rattle.tipc_partners.specs.EndCalls.{HasEnd}
 use Rattle.tipc_partners.specs.Partners.{ArePartners, Partner}
 use Rattle.tipc_partners.specs.Sights.{StaysUp}
-use Rattle.tipc_partners.specs.Views.{View}
+use Rattle.tipc_paired.specs.Views.{View}
 
 -- ---- what happens first
 

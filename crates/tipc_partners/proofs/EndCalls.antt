@@ -16,24 +16,25 @@ use Rattle.tipc_link.proofs.LinkLaw.{Each, Each-none, Each-one}
 use Rattle.tipc_link_fsm.specs.declared.changes.Change.{Change}
 use Rattle.tipc_link_fsm.specs.declared.changes.Change.TheVariants.{Stay, Up, Down, Answer, Ignore}
 use Rattle.tipc_link_fsm.specs.Runs.{Call, ActivateArrives, BearerIsCut, ContactEnds, ForgetsPeer, Releases, ResetArrives, TickPasses, TrafficArrives, TunnelNames, outcome}
-use Rattle.tipc_link_fsm.specs.Table.{is_up}
-use Rattle.tipc_pair.proofs.Ends.{after-is}
-use Rattle.tipc_pair.proofs.EndsTurns.{Rises, Turn, fall, learn, rise, stay}
-use Rattle.tipc_partners.proofs.Frames.{same_packet}
-use Rattle.tipc_pair.specs.Pairs.{is_quiet, parted as parted_end, settled, settled_frames}
-use Rattle.tipc_partners.proofs.CallDeeds.{call_named}
+use Rattle.tipc_link_fsm.specs.Table.{Fsm, is_held, is_up}
+use Rattle.tipc_link.proofs.Ends.{after-is, ended-is}
+use Rattle.tipc_link.proofs.EndsTurns.{Rises, Turn, fall, learn, rise, stay}
+use Rattle.tipc_paired.proofs.Frames.{same_packet}
+use Rattle.tipc_link.specs.Parts.{is_quiet}
+use Rattle.tipc_pair.specs.Pairs.{parted as parted_end, settled, settled_frames}
+use Rattle.tipc_paired.proofs.CallDeeds.{call_named, may_later}
 use Rattle.tipc_partners.proofs.PartnersLaw.{acts_all, acts_one, acts_then}
 use Rattle.tipc_partners.proofs.Tellings.{told_all, told_longer, told_of_all, told_on, told_since, tells_all}
-use Rattle.tipc_partners.proofs.TellDeeds.{notice_fits, shown_fits}
-use Rattle.tipc_partners.proofs.Turns.{call_turns, shown_to}
-use Rattle.tipc_partners.proofs.Wires.{line_put, none_some, put_other, put_same, same_some, session_of_up}
+use Rattle.tipc_paired.proofs.TellDeeds.{notice_fits, shown_fits}
+use Rattle.tipc_paired.proofs.Turns.{call_turns, notices_unheld, says_notice, shown_to}
+use Rattle.tipc_paired.proofs.Wires.{line_put, none_some, put_other, put_same, same_some, session_of_up}
 use Rattle.tipc_partners.specs.Calls.{IsToldOn}
-use Rattle.tipc_partners.specs.Deeds.{MayCall, MayTell, activates, calls, ended_with, falls, parted, resets, rises, states, with_begun}
+use Rattle.tipc_paired.specs.Deeds.{MayCall, MayTell, activates, calls, ended_with, falls, parted, resets, rises, states, with_begun}
 use Rattle.tipc_partners.specs.EndCalls.{Became, EndCallsAreDeeds, HasEnd, IsNotice, partial_after}
 use Rattle.tipc_partners.specs.Partners.{ActsAll, ArePartners, Partner, changes, renewed, viewed, works}
-use Rattle.tipc_pair.specs.Turns.{IsShowable}
-use Rattle.tipc_partners.specs.Paired.{ArePaired}
-use Rattle.tipc_partners.specs.Views.{IsApart, Node, View, Wire, said_by, with_end, with_wire}
+use Rattle.tipc_link.specs.Parts.{IsShowable}
+use Rattle.tipc_paired.specs.Paired.{ArePaired}
+use Rattle.tipc_paired.specs.Views.{IsApart, Node, View, Wire, said_by, with_end, with_wire}
 
 -- ---- one deed, and frames behind it
 
@@ -121,18 +122,6 @@ reset_notice x y b e h is es er p fits bytes =
     let said = notice_fits x.node b e (header.Reset (shown_by e)) h.here.node end (shown_fits x.node b e h.here.node end) (refl, refl) refl (omega arith) in
     ap (λ (q : Fields). is_traffic q.header) (sym (same_packet e.fsm.own (known e.fsm.peer) es er (notice_fields e (header.Reset (shown_by e))) p said fits bytes))
 
--- the same call of a node that did something else, with the same contact numbers
-may_later : (x v y : View) (b : ℕ) (call : Call) → v.node ≡ x.node → MayCall x y b call → MayCall v y b call
-may_later x v y b (ResetArrives es held) same may = subst (λ (n : Node). IsTold (said_by y) b es n.seen) (sym same) may
-may_later x v y b (ActivateArrives es er) same may = (subst (λ (n : Node). IsTold (said_by y) b es n.seen) (sym same) may.0, may.1)
-may_later x v y b (TrafficArrives es er) same may = may
-may_later x v y b (TickPasses held) same may = tt
-may_later x v y b (BearerIsCut held) same may = tt
-may_later x v y b (TunnelNames epoch) same may = tt
-may_later x v y b Releases same may = tt
-may_later x v y b ForgetsPeer same may = may
-may_later x v y b ContactEnds same may = may
-
 quiet_did : (x y : Partner) (b : ℕ) (e : LinkEnd) (call : Call) (shown : BroadcastState) (c : Change) → ArePartners x y → HasEnd x.view b e → MayCall x.view y.view b call → (outcome e.fsm call).change ≡ c → is_quiet c ≡ true
     → ((probe : Bool) → c ≡ Answer (reply.State probe) → is_up e.fsm.state ≡ true) → IsShowable shown
     → (after_call : Partner) × Became x y after_call b (after e (outcome e.fsm call)) (follow_frames (with_fsm e (outcome e.fsm call).after) c shown) (partial_after (outcome e.fsm call).change x.partial)
@@ -144,12 +133,12 @@ quiet_did x y b e call shown (Answer reply.Reset) h end may is quiet says showab
     let o = outcome e.fsm call in
     let did = called x y b e call end may (ap is_quiet is ∙ quiet) in
     let same : after e o ≡ with_fsm e o.after = ap (followed (with_fsm e o.after)) is in
-    tell_after x y did.0 b (after e o) _ _ did.1 (on_bearer_each (MayTell (did.0.view.wires b)) (with_fsm e o.after) _ (resets (with_fsm e o.after) (did.1.end.end_is ∙ ap Some same))) (inl did.2)
+    tell_after x y did.0 b (after e o) _ _ did.1 (on_bearer_each (MayTell (did.0.view.wires b)) (with_fsm e o.after) _ (resets (with_fsm e o.after) (did.1.end.end_is ∙ ap Some same) (notices_unheld e.fsm call (ap says_notice is)))) (inl did.2)
 quiet_did x y b e call shown (Answer reply.Activate) h end may is quiet says showable =
     let o = outcome e.fsm call in
     let did = called x y b e call end may (ap is_quiet is ∙ quiet) in
     let same : after e o ≡ with_fsm e o.after = ap (followed (with_fsm e o.after)) is in
-    tell_after x y did.0 b (after e o) _ _ did.1 (on_bearer_each (MayTell (did.0.view.wires b)) (with_fsm e o.after) _ (activates (with_fsm e o.after) (did.1.end.end_is ∙ ap Some same))) (inl did.2)
+    tell_after x y did.0 b (after e o) _ _ did.1 (on_bearer_each (MayTell (did.0.view.wires b)) (with_fsm e o.after) _ (activates (with_fsm e o.after) (did.1.end.end_is ∙ ap Some same) (notices_unheld e.fsm call (ap says_notice is)))) (inl did.2)
 quiet_did x y b e call shown (Answer (reply.State probe)) h end may is quiet says showable =
     let o = outcome e.fsm call in
     let up = says probe refl in
@@ -202,7 +191,7 @@ fell_did x y b e call cause h end may down =
       partial_is = ap (λ c. partial_after c x.partial) (sym down);
     } in
     let paired = (acts_all x y mid h became.acts).paired in
-    tell_after x y mid b (parted_end d) (reset_frames (parted_end d)) (partial_after o.change x.partial) became (on_bearer_each (MayTell (mid.view.wires b)) (parted_end d) _ (resets (parted_end d) became.end.end_is))
+    tell_after x y mid b (parted_end d) (reset_frames (parted_end d)) (partial_after o.change x.partial) became (on_bearer_each (MayTell (mid.view.wires b)) (parted_end d) _ (resets (parted_end d) became.end.end_is (ap (λ (f : Fsm). is_held f.state) (ended-is d.fsm))))
     (inr (on_bearer_each IsNotice (parted_end d) _ (reset_notice mid.view y.view b (parted_end d) paired became.end.end_is)))
 
 rose_did : (x y : Partner) (b : ℕ) (e : LinkEnd) (call : Call) (shown : BroadcastState) → ArePartners x y → HasEnd x.view b e → MayCall x.view y.view b call → Rises e.fsm (shown_to call) (outcome e.fsm call) → IsShowable shown

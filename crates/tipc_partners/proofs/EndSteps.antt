@@ -1,6 +1,8 @@
 -- What happens at a pair but an arrival, as deeds: a link end is made, its bearer is mended or cut, a tick passes.
 use Rattle.std.proofs.Common.{◌≡◌, ℕ, Bool, true, false, List, [], None, if◌then◌else◌, refl, ap, ◌∙◌, subst, inl}
 use Rattle.tipc_types.specs.declared.link_words.BroadcastState.{BroadcastState}
+use Rattle.tipc_types.specs.declared.link_words.LinkState.{LinkState}
+use Rattle.tipc_types.specs.declared.link_words.LinkState.TheVariants.{ResetUnknown}
 use Rattle.tipc_types.specs.declared.link_words.Cause.TheVariants as cause
 use Rattle.tipc_outside.specs.declared.outgoing.Outgoing.{Outgoing}
 use Rattle.tipc_fragments.specs.Joining.{Joining}
@@ -9,18 +11,18 @@ use Rattle.tipc_link.proofs.LinkLaw.{Each, Each-none}
 use Rattle.tipc_link_fsm.specs.declared.changes.Change.{Change}
 use Rattle.tipc_link_fsm.specs.declared.changes.Change.TheVariants.{Down, Stay, Up}
 use Rattle.tipc_link_fsm.specs.Runs.{BearerIsCut, TickPasses}
-use Rattle.tipc_link_fsm.specs.Table.{Fsm, Outcome, gives, is_up, lowered, on_cut, on_tick}
-use Rattle.tipc_pair.specs.Turns.{IsShowable}
+use Rattle.tipc_link_fsm.specs.Table.{Fsm, Outcome, gives, is_held, is_up, lowered, on_cut, on_tick}
+use Rattle.tipc_link.specs.Parts.{IsShowable}
 use Rattle.tipc_pair.specs.Pairs.{change_of, cut_pair, parted, settled, settled_frames, tick_frames, tick_pair, told_of}
 use Rattle.tipc_pair.specs.Partners.{begun_after}
 use Rattle.tipc_partners.proofs.EndCalls.{end_on, on_bearer_each, settled_did, tell_after}
 use Rattle.tipc_partners.proofs.PartnersLaw.{acts_all, acts_one, acts_then}
 use Rattle.tipc_partners.proofs.Steps.{Stepped, became_stepped, more_none, node_of_end, then_stepped}
-use Rattle.tipc_partners.proofs.Wires.{line_put, put_other, put_same}
-use Rattle.tipc_partners.specs.Deeds.{MayTell, made_on, makes, resets, turns}
+use Rattle.tipc_paired.proofs.Wires.{line_put, put_other, put_same}
+use Rattle.tipc_paired.specs.Deeds.{MayTell, made_on, makes, resets, turns}
 use Rattle.tipc_partners.specs.EndCalls.{Became, HasEnd, partial_after}
 use Rattle.tipc_partners.specs.Partners.{ArePartners, Partner, viewed, works}
-use Rattle.tipc_partners.specs.Views.{Wire, with_end, with_wire}
+use Rattle.tipc_paired.specs.Views.{Wire, with_end, with_wire}
 
 -- a link end and what became of it, and the frames that left
 abbrev pub StepsTo : Partner → Partner → ℕ → LinkEnd → List Outgoing → List (List ℕ) → List (List ℕ) → Joining → Type 0
@@ -69,12 +71,18 @@ turned_became x y b e mended has =
       refl,
     )
 
+reset_unheld : (st : LinkState) → is_reset_unknown st ≡ true → is_held st ≡ false
+reset_unheld ResetUnknown reset = refl
+reset_unheld other reset = absurd (let wrong : ⊥ = cc in wrong)
+
 pub mends_stepped : (x y : Partner) (b : ℕ) (e : LinkEnd) → ArePartners x y → HasEnd x.view b e → StepsTo x y b (mended_end e) (mend_frames e) [] [] x.partial
 mends_stepped x y b e h has =
     let turned = turned_became x y b e true has in
     let P = MayTell (turned.0.view.wires b) in
-    let resets_may = on_bearer_each P (mended_end e) _ (resets (mended_end e) turned.1.end.end_is) in
-    let may : Each P (mend_frames e) = elim (is_reset_unknown e.fsm.state) as (λ t. Each P (if t then reset_frames (mended_end e) else [])) [ true ↦ resets_may | false ↦ Each-none P ] in
+    let may : Each P (mend_frames e) = elim (is_reset_unknown e.fsm.state) as (λ t. is_reset_unknown e.fsm.state ≡ t → Each P (if t then reset_frames (mended_end e) else [])) [
+      | true ↦ λ reset. on_bearer_each P (mended_end e) _ (resets (mended_end e) turned.1.end.end_is (reset_unheld e.fsm.state reset))
+      | false ↦ λ _. Each-none P
+    ] refl in
     let told = tell_after x y turned.0 b (mended_end e) (mend_frames e) x.partial turned.1 may (inl turned.2) in
     (told.0, became_stepped x y told.0 b (mended_end e) (mend_frames e) x.partial h told.1)
 

@@ -11,17 +11,17 @@ use Rattle.tipc_link.proofs.Directions.{slice_get-append}
 use Rattle.tipc_link_fsm.specs.declared.changes.Change.{Change}
 use Rattle.tipc_link_fsm.specs.declared.changes.Change.TheVariants.{Stay, Up, Down, Answer, Ignore}
 use Rattle.tipc_link_fsm.specs.Runs.{Call, outcome}
-use Rattle.tipc_pair.specs.Pairs.{is_quiet}
-use Rattle.tipc_partners.proofs.ContactDeeds.{mapped_end}
+use Rattle.tipc_link.specs.Parts.{is_quiet}
+use Rattle.tipc_paired.proofs.ContactDeeds.{mapped_end}
 use Rattle.tipc_partners.proofs.PartnersLaw.{acts_all, acts_partners}
-use Rattle.tipc_partners.proofs.QuietDeeds.{restarts_leaves}
-use Rattle.tipc_partners.proofs.RiseDeeds.{went}
+use Rattle.tipc_paired.proofs.QuietDeeds.{restarts_leaves}
+use Rattle.tipc_paired.proofs.RiseDeeds.{went}
 use Rattle.tipc_partners.proofs.Tellings.{act_told}
-use Rattle.tipc_partners.proofs.Wires.{on_put, prefix_long, put_same, same_some, session_of_up}
-use Rattle.tipc_partners.specs.Deeds.{Changes, IsUp, Works, calls, ended_with, falls, forgot_with, framed, makes, notes, numbers, parted, parts, releases, restarts, rises, shows, tells, turns, with_begun}
-use Rattle.tipc_partners.specs.Paired.{ArePaired}
+use Rattle.tipc_paired.proofs.Wires.{on_put, prefix_long, put_same, same_some, session_of_up}
+use Rattle.tipc_paired.specs.Deeds.{Changes, IsUp, Works, calls, ended_with, falls, forgot_with, framed, makes, notes, numbers, parted, parts, releases, restarts, rises, shows, tells, turns, with_begun}
+use Rattle.tipc_paired.specs.Paired.{ArePaired}
 use Rattle.tipc_partners.specs.Partners.{Acts, ActsAll, ArePartners, Partner, changes, follows, nothing, puts, takes, works}
-use Rattle.tipc_partners.specs.Views.{Frame, View, Wire, er_of, es_of, with_end, with_wire}
+use Rattle.tipc_paired.specs.Views.{Frame, View, Wire, er_of, es_of, with_end, with_wire}
 
 -- ---- how much was numbered
 

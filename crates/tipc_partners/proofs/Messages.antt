@@ -20,22 +20,22 @@ use Rattle.tipc_link.specs.Laws.{IsPrefixOf}
 use Rattle.tipc_link.specs.Links.{LinkEnd}
 use Rattle.tipc_link.specs.Sessions.{Carries, IsPut, SessionEnd, brought, content_of, due_with, joins, took, waits}
 use Rattle.tipc_link.proofs.LinkLaw.{Each, Each-append, Each-one}
-use Rattle.tipc_pair.specs.Pairs.{packets_in}
+use Rattle.tipc_link.specs.Parts.{packets_in}
 use Rattle.tipc_pair.specs.Partners.{IsMessage, pieces_for}
 use Rattle.tipc_partners.proofs.Packets.{message_inner}
 use Rattle.tipc_partners.proofs.Slots.{front_items, more_slots}
 use Rattle.tipc_partners.proofs.Contacts.{all_of_each, by_contact, on_put_in, put_else, put_here}
-use Rattle.tipc_partners.proofs.EpochsKept.{session_is}
+use Rattle.tipc_paired.proofs.EpochsKept.{session_is}
 use Rattle.tipc_partners.proofs.Numbers.{one_session}
 use Rattle.tipc_partners.proofs.Quiet.{crossed_still, entered_on, sends_still}
-use Rattle.tipc_partners.proofs.QuietDeeds.{lasts_on, lasts_session}
-use Rattle.tipc_partners.proofs.SessionDeeds.{hears_session}
-use Rattle.tipc_partners.proofs.SessionPackets.{takes_paired}
-use Rattle.tipc_partners.proofs.Wires.{on_put, prefix_long, put_same, same_some, session_of_up}
-use Rattle.tipc_partners.specs.Deeds.{Hears, IsUp, with_going, with_taken}
-use Rattle.tipc_partners.specs.Paired.{ArePaired}
+use Rattle.tipc_paired.proofs.QuietDeeds.{lasts_on, lasts_session}
+use Rattle.tipc_paired.proofs.SessionDeeds.{hears_session}
+use Rattle.tipc_paired.proofs.SessionPackets.{takes_paired}
+use Rattle.tipc_paired.proofs.Wires.{on_put, prefix_long, put_same, same_some, session_of_up}
+use Rattle.tipc_paired.specs.Deeds.{Hears, IsUp, with_going, with_taken}
+use Rattle.tipc_paired.specs.Paired.{ArePaired}
 use Rattle.tipc_partners.specs.Partners.{Crossed, IsAhead, IsCrossed, IsFlow, IsGiven, IsPresent, put_in}
-use Rattle.tipc_partners.specs.Views.{View, Wire, session_on, with_wire}
+use Rattle.tipc_paired.specs.Views.{View, Wire, session_on, with_wire}
 
 -- ---- a session that keeps what it numbered and took
 

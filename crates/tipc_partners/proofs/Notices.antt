@@ -21,24 +21,26 @@ use Rattle.tipc_link_fsm.specs.declared.changes.Change.TheVariants.{Answer, Down
 use Rattle.tipc_link_fsm.specs.Runs.{ActivateArrives, ResetArrives}
 use Rattle.tipc_link_fsm.specs.Table.{Fsm, Outcome, forget_peer, forgotten, is_held, is_in_reset, is_last, is_peer, is_session, is_up, on_activate, on_reset, told}
 use Rattle.tipc_link_fsm.proofs.Moves.{cases_on}
-use Rattle.tipc_pair.proofs.Ends.{contact_after, ended-is, forgotten-is, reset_leaves, risen_is_down, seen_after, settled_is_down}
-use Rattle.tipc_partners.proofs.Frames.{er_of-frame, es_of-frame, same_packet}
+use Rattle.tipc_link.proofs.Ends.{contact_after, ended-is, forgotten-is, reset_leaves, seen_after}
+use Rattle.tipc_pair.proofs.DownEnds.{risen_is_down, settled_is_down}
+use Rattle.tipc_paired.proofs.Frames.{er_of-frame, es_of-frame, same_packet}
 use Rattle.tipc_pair.specs.declared.changes.PairChange.{PairChange}
 use Rattle.tipc_pair.specs.declared.changes.PairChange.TheVariants as pair
 use Rattle.tipc_pair.specs.Pairs.{Met, behind, by_number, change_of, link_met, packets_of, parted, passed_over, reset_down, reset_met, reset_up, risen, risen_activate, risen_change, risen_frames, risen_reset, settled, settled_frames}
 use Rattle.tipc_pair.specs.Partners.{begun_after}
-use Rattle.tipc_partners.proofs.ContactDeeds.{ended_down}
+use Rattle.tipc_paired.proofs.ContactDeeds.{ended_down}
 use Rattle.tipc_partners.proofs.EndCalls.{on_bearer_each, reset_notice, settled_did, tell_after}
 use Rattle.tipc_partners.proofs.EndSteps.{StepsTo, partial_same}
 use Rattle.tipc_partners.proofs.PartnersLaw.{acts_all, acts_one}
 use Rattle.tipc_partners.proofs.Steps.{Stepped, became_stepped, more_none, node_of_end, onward_lines, still_stepped, then_stepped}
-use Rattle.tipc_partners.proofs.Wires.{map_at, none_some, same_some}
-use Rattle.tipc_partners.specs.Deeds.{MayTell, ended_with, forgot_with, parted as parted_view, parts, resets, risen as risen_view, shows}
+use Rattle.tipc_paired.proofs.Sides.{shown_told}
+use Rattle.tipc_paired.proofs.Wires.{none_some, same_some}
+use Rattle.tipc_paired.specs.Deeds.{IsOfBegun, MayTell, ended_with, forgot_with, parted as parted_view, parts, resets, risen as risen_view, shows}
 use Rattle.tipc_partners.specs.EndCalls.{Became, HasEnd, IsNotice, partial_after}
-use Rattle.tipc_pair.specs.Turns.{IsShowable}
-use Rattle.tipc_partners.specs.Paired.{ArePaired, IsShown, ShowsContact}
+use Rattle.tipc_link.specs.Parts.{IsShowable}
+use Rattle.tipc_paired.specs.Paired.{ArePaired, IsShown, ShowsContact}
 use Rattle.tipc_partners.specs.Partners.{ActsAll, ArePartners, Partner, changes, follows, renewed, viewed, works}
-use Rattle.tipc_partners.specs.Views.{Frame, IsApart, View, er_of, es_of, notice_of, said_by}
+use Rattle.tipc_paired.specs.Views.{Frame, IsApart, View, er_of, es_of, said_by}
 
 -- ---- the frame
 
@@ -56,14 +58,16 @@ pub record Reaches (x y : View) (bearer es er : ℕ) (p : Fields) : Type 0 where
   pub own_fresh : is_traffic p.header ≡ true → length ((x.wires bearer).line er) ≤ frame.peer_numbered + 30000
   pub peer_fresh : is_traffic p.header ≡ true → length ((y.wires bearer).line es) ≤ frame.numbered + 30050
 
-pub reached_shown : (x y : View) (b es er : ℕ) (p : Fields) → Reaches x y b es er p → IsShown y.told b es er
-reached_shown x y b es er p r = record {
+-- it shows its epochs, under the contact number that its node had
+pub reached_shown : (x y : View) (b es er number : ℕ) (p : Fields) → (r : Reaches x y b es er p) → r.frame.contact ≡ number → IsShown y.told b es er number
+reached_shown x y b es er number p r contact = record {
   place = r.place;
   frame = r.frame;
   there = r.there;
   bearer_is = r.bearer_is;
   es_is = ap (λ bs. es_of bs) r.bytes ∙ es_of-frame es er (spelling p) r.es_fits r.er_fits;
   er_is = ap (λ bs. er_of bs) r.bytes ∙ er_of-frame es er (spelling p) r.es_fits r.er_fits;
+  contact_is = contact;
 }
 
 -- it shows the contact numbers that its node had
@@ -75,15 +79,21 @@ reached_contact x y b es er p h r =
 
 -- the epoch was told under the contact number
 pub reached_told : (x y : View) (b es er number : ℕ) (p : Fields) → (r : Reaches x y b es er p) → r.frame.contact ≡ number → IsTold (said_by y) b es number
-unfolding reached_shown
-reached_told x y b es er number p r contact = record {
-  place = r.place;
-  notice = notice_of r.frame;
-  there = map_at notice_of y.told r.place r.frame r.there;
-  bearer_is = r.bearer_is;
-  epoch_is = (reached_shown x y b es er p r).es_is;
-  contact_is = contact;
-}
+reached_told x y b es er number p r contact = shown_told y b es er number (reached_shown x y b es er number p r contact)
+
+-- a STATE or a numbered packet was told in the session of its epoch
+pub reached_begun : (x y : View) (b es er : ℕ) (p : Fields) → ArePaired x y → Reaches x y b es er p → is_traffic p.header ≡ true → IsOfBegun y b es er
+reached_begun x y b es er p h r traffic =
+    let is = h.there.frames r.place r.frame r.there in
+    let same : is.packet ≡ p = same_packet is.es is.er es er is.packet p is.fits r.fits (sym is.bytes ∙ r.bytes) in
+    let epoch : is.es ≡ es = sym (ap es_of is.bytes ∙ es_of-frame is.es is.er (spelling is.packet) is.es_fits is.er_fits)
+    ∙ (ap (λ bs. es_of bs) r.bytes ∙ es_of-frame es er (spelling p) r.es_fits r.er_fits) in
+    let s = is.session (ap (λ (q : Fields). is_traffic q.header) same ∙ traffic) in
+    record {
+      begun = s.begun;
+      begun_is = ap (λ c. (y.wires c).begun es) (sym r.bearer_is) ∙ ap (y.wires r.frame.bearer).begun (sym epoch) ∙ s.begun_is;
+      shown = reached_shown x y b es er s.begun.contact p r s.contact_is;
+    }
 
 -- ---- what becomes of a pair
 
@@ -249,7 +259,7 @@ ended_stepped x y b e number h has up higher fits =
       partial_is = refl;
     } in
     let paired = (acts_all x y z h acts).paired in
-    let told = tell_after x y z b e2 (reset_frames e2) fresh became (on_bearer_each (MayTell (z.view.wires b)) e2 _ (resets e2 has2.end_is)) (inr (on_bearer_each IsNotice e2 _ (reset_notice z.view y.view b e2 paired has2.end_is))) in
+    let told = tell_after x y z b e2 (reset_frames e2) fresh became (on_bearer_each (MayTell (z.view.wires b)) e2 _ (resets e2 has2.end_is (ap (λ (f : Fsm). is_held f.state) (ended-is e.fsm)))) (inr (on_bearer_each IsNotice e2 _ (reset_notice z.view y.view b e2 paired has2.end_is))) in
     (told.0, became_stepped x y told.0 b e2 (reset_frames e2) fresh h told.1, told.1.line)
 
 pub risen_stepped : (x y : Partner) (b : ℕ) (e : LinkEnd) (number : ℕ) → ArePartners x y → HasEnd x.view b e → x.view.node.seen < number → number < 2 ^ 64
@@ -317,11 +327,11 @@ pub unheard_met : (e : LinkEnd) (o : Outcome) (p : Fields) (by : ℕ) (shown : B
     → (arrival_end e o p by ≡ after e o) × (link_frames e o p by shown ≡ frames e o shown) × (link_outcome e o p by ≡ change_outcome o.change)
 unheard_met e o p by shown is = (rw is refl, rw is refl, rw is refl)
 
-activate_stepped : (x y : Partner) (b : ℕ) (e : LinkEnd) (es er : ℕ) (shown : BroadcastState) → ArePartners x y → HasEnd x.view b e → IsTold (said_by y.view) b es x.view.node.seen → IsShown y.view.told b es er → IsShowable shown
+activate_stepped : (x y : Partner) (b : ℕ) (e : LinkEnd) (es er : ℕ) (shown : BroadcastState) → ArePartners x y → HasEnd x.view b e → IsShown y.view.told b es er x.view.node.seen → IsShowable shown
     → StepsTo x y b (after e (on_activate e.fsm es er)) (frames e (on_activate e.fsm es er) shown) [] [] (begun_after (change_of e (on_activate e.fsm es er) 0) x.partial)
-activate_stepped x y b e es er shown h has told named showable =
+activate_stepped x y b e es er shown h has told showable =
     let o = on_activate e.fsm es er in
-    let did = settled_did x y b e (ActivateArrives es er) shown h has (told, named) showable in
+    let did = settled_did x y b e (ActivateArrives es er) shown h has told showable in
     let same = settled_on e o shown (activate_on e.fsm es er) in
     let stepped = became_stepped x y did.0 b (settled e o) (settled_frames e o shown) (partial_after o.change x.partial) h did.1 in (
       did.0,
@@ -330,11 +340,11 @@ activate_stepped x y b e es er shown h has told named showable =
     )
 
 activate_quietly : (x y : Partner) (b : ℕ) (e : LinkEnd) (es er : ℕ) (p : Fields) (by : ℕ) (shown : BroadcastState) → ArePartners x y → HasEnd x.view b e → is_traffic p.header ≡ false → outcome_of e.fsm p.header es er false ≡ on_activate e.fsm es er
-    → IsTold (said_by y.view) b es x.view.node.seen → IsShown y.view.told b es er → IsShowable shown → MetQuietly x y b e (link_met e (outcome_of e.fsm p.header es er false) p by shown)
-activate_quietly x y b e es er p by shown h has notice is told named showable =
+    → IsShown y.view.told b es er x.view.node.seen → IsShowable shown → MetQuietly x y b e (link_met e (outcome_of e.fsm p.header es er false) p by shown)
+activate_quietly x y b e es er p by shown h has notice is told showable =
     let o = on_activate e.fsm es er in
     let met = unheard_met e o p by shown (ap (λ t. t && is_taken o.change) notice) in
-    let steps = activate_stepped x y b e es er shown h has told named showable in
+    let steps = activate_stepped x y b e es er shown h has told showable in
     subst (λ (o' : Outcome). MetQuietly x y b e (link_met e o' p by shown)) (sym is) (
       subst (λ d. StepsTo x y b d (link_frames e o p by shown) [] [] (begun_after (change_of e o 0) x.partial)) (sym met.0) (subst (λ fs. StepsTo x y b (after e o) fs [] [] (begun_after (change_of e o 0) x.partial)) (sym met.1) steps),
       ap packets_of met.2 ∙ change_packets o.change,
@@ -342,17 +352,17 @@ activate_quietly x y b e es er p by shown h has notice is told named showable =
 
 -- an end that is down when an ACTIVATE shows a higher number
 lonely_activate_quietly : (x y : Partner) (b : ℕ) (e : LinkEnd) (number es er : ℕ) (p : Fields) (by : ℕ) (shown : BroadcastState) → ArePartners x y → is_traffic p.header ≡ false
-    → outcome_of (risen e number).fsm p.header es er false ≡ on_activate (risen e number).fsm es er → IsTold (said_by y.view) b es number → IsShown y.view.told b es er → IsShowable shown → is_up e.fsm.state ≡ false
+    → outcome_of (risen e number).fsm p.header es er false ≡ on_activate (risen e number).fsm es er → IsShown y.view.told b es er number → IsShowable shown → is_up e.fsm.state ≡ false
     → StillTo x y b (risen e number) (risen_frames e number) (begun_after (risen_change e number) x.partial)
     → MetQuietly x y b e (link_met (risen e number) (outcome_of (risen e number).fsm p.header es er false) p by shown)
-lonely_activate_quietly x y b e number es er p by shown h notice is told named showable down first =
+lonely_activate_quietly x y b e number es er p by shown h notice is told showable down first =
     let d = risen e number in
     let o = on_activate d.fsm es er in
     let silent : risen_frames e number ≡ [] = ap (λ t. if t then reset_frames d else []) down in
     let stays : risen_change e number ≡ pair.Stay = ap (λ t. if t then pair.Ended cause.ContactEnded 0 (e.contact, e.peer_contact) number else pair.Stay) down in
     let h' = acts_all x y first.0 h first.1.acts in
     let seen = (h'.paired.here.ends b d first.1.end.end_is).seen in
-    let second = activate_stepped first.0 y b d es er shown h' first.1.end (subst (IsTold (said_by y.view) b es) seen told) named showable in
+    let second = activate_stepped first.0 y b d es er shown h' first.1.end (subst (IsShown y.view.told b es er) seen told) showable in
     let same = node_of_end first.0 y second.0 b d (after d o) h' (acts_all first.0 y second.0 h' second.1.acts) first.1.end second.1.end second.1.whose (contact_after d o) (seen_after d o) in
     let partial : first.0.partial ≡ x.partial = first.1.partial_is ∙ ap (λ (c : PairChange). begun_after c x.partial) stays in
     let all = then_stepped x y first.0 second.0 b d (after d o) (risen_frames e number) (frames d o shown) [] [] [] [] (begun_after (risen_change e number) x.partial) (begun_after (change_of d o 0) first.0.partial) first.1 second.1 same
@@ -370,22 +380,22 @@ lonely_activate_quietly x y b e number es er p by shown h notice is told named s
 
 -- an ACTIVATE that shows a higher number
 higher_activate_quietly : (x y : Partner) (b : ℕ) (e : LinkEnd) (number es er : ℕ) (p : Fields) (by : ℕ) (shown : BroadcastState) → ArePartners x y → HasEnd x.view b e → is_traffic p.header ≡ false
-    → ((f : Fsm) → outcome_of f p.header es er false ≡ on_activate f es er) → x.view.node.seen < number → number < 2 ^ 64 → IsTold (said_by y.view) b es number → IsShown y.view.told b es er → IsShowable shown
+    → ((f : Fsm) → outcome_of f p.header es er false ≡ on_activate f es er) → x.view.node.seen < number → number < 2 ^ 64 → IsShown y.view.told b es er number → IsShowable shown
     → MetQuietly x y b e (risen_activate e number es er p by shown)
-higher_activate_quietly x y b e number es er p by shown h has notice is higher fits told named showable =
+higher_activate_quietly x y b e number es er p by shown h has notice is higher fits told showable =
     let d = risen e number in
     let first = risen_stepped x y b e number h has higher fits in
     elim (is_up e.fsm.state) as (λ t. is_up e.fsm.state ≡ t
     → MetQuietly x y b e (if t then record { after = d; frames = risen_frames e number; change = risen_change e number; outcome = LinkOutcome.Took []; moved = [] } else link_met d (outcome_of d.fsm p.header es er false) p by shown)) [
       | true ↦ λ up. ((first.0, first.1), refl)
-      | false ↦ λ down. lonely_activate_quietly x y b e number es er p by shown h notice (is d.fsm) told named showable down first
+      | false ↦ λ down. lonely_activate_quietly x y b e number es er p by shown h notice (is d.fsm) told showable down first
     ] refl
 
 pub activates_quietly : (x y : Partner) (b : ℕ) (e : LinkEnd) (number es er : ℕ) (p : Fields) (by : ℕ) (shown : BroadcastState) → ArePartners x y → HasEnd x.view b e → is_traffic p.header ≡ false
-    → ((f : Fsm) → outcome_of f p.header es er false ≡ on_activate f es er) → number < 2 ^ 64 → IsTold (said_by y.view) b es number → IsShown y.view.told b es er → IsShowable shown
+    → ((f : Fsm) → outcome_of f p.header es er false ≡ on_activate f es er) → number < 2 ^ 64 → IsShown y.view.told b es er number → IsShowable shown
     → MetQuietly x y b e (by_number e number (link_met e (outcome_of e.fsm p.header es er false) p by shown) (risen_activate e number es er p by shown))
-activates_quietly x y b e number es er p by shown h has notice is fits told named showable =
+activates_quietly x y b e number es er p by shown h has notice is fits told showable =
     let seen = (h.paired.here.ends b e has.end_is).seen in
     number_quietly x y b e number (link_met e (outcome_of e.fsm p.header es er false) p by shown) (risen_activate e number es er p by shown) has
-    (λ same. activate_quietly x y b e es er p by shown h has notice (is e.fsm) (subst (IsTold (said_by y.view) b es) (same ∙ seen) told) named showable)
-    (λ more. higher_activate_quietly x y b e number es er p by shown h has notice is (subst (λ n. n < number) seen more) fits told named showable)
+    (λ same. activate_quietly x y b e es er p by shown h has notice (is e.fsm) (subst (IsShown y.view.told b es er) (same ∙ seen) told) showable)
+    (λ more. higher_activate_quietly x y b e number es er p by shown h has notice is (subst (λ n. n < number) seen more) fits told showable)

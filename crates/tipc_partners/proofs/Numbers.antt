@@ -7,13 +7,13 @@ use Rattle.tipc_link.specs.Laws.{IsPrefixOf}
 use Rattle.tipc_link.specs.Links.{LinkEnd, with_session}
 use Rattle.tipc_link.specs.Sessions.{SessionEnd, flushed, moving, room}
 use Rattle.tipc_partners.proofs.Contacts.{on_put_in, put_else, put_here}
-use Rattle.tipc_partners.proofs.EpochsKept.{session_is}
+use Rattle.tipc_paired.proofs.EpochsKept.{session_is}
 use Rattle.tipc_partners.proofs.Quiet.{entered_on}
-use Rattle.tipc_partners.proofs.Wires.{on_put, on_put_else, prefix_append, prefix_trans, put_other, put_same, same_some, session_of_up}
-use Rattle.tipc_partners.specs.Deeds.{IsUp}
-use Rattle.tipc_partners.specs.Paired.{ArePaired}
+use Rattle.tipc_paired.proofs.Wires.{on_put, on_put_else, prefix_append, prefix_trans, put_other, put_same, same_some, session_of_up}
+use Rattle.tipc_paired.specs.Deeds.{IsUp}
+use Rattle.tipc_paired.specs.Paired.{ArePaired}
 use Rattle.tipc_partners.specs.Partners.{Crossed, IsAhead, IsCrossed, IsFlow, put_in}
-use Rattle.tipc_partners.specs.Views.{Begun, View, Wire, put_at, session_on, with_wire}
+use Rattle.tipc_paired.specs.Views.{Begun, View, Wire, put_at, session_on, with_wire}
 
 -- the wire whose session numbers them
 abbrev pub with_numbered : Wire → LinkEnd → SessionEnd → Wire

@@ -21,7 +21,8 @@ use Rattle.tipc_link.specs.Sessions.{Carries, IsPut, SessionEnd, as_waiting, con
 use Rattle.tipc_link.proofs.LinkLaw.{Each, Each-append, Each-one}
 use Rattle.tipc_pair.specs.Partners.{IsMessage, pieces_for}
 use Rattle.tipc_pair.proofs.Pieces.{All-one, pieces_cut}
-use Rattle.tipc_partners.specs.Paired.{IsPacket}
+use Rattle.tipc_paired.specs.Paired.{IsPacket}
+use Rattle.tipc_paired.proofs.Fronts.{each_front}
 
 -- ---- a packet that can be put on a link
 
@@ -114,25 +115,6 @@ joined_packet own packets m some inner h short =
     bundle_packet own (packets ++ m ∷ []) (All-append IsInner packets (m ∷ []) inner (All-one IsInner m (message_inner own m h))) (omega (arith, length-append packets (m ∷ []), some)) short
 
 -- ---- what waits
-
-pub length-take-most : {A : Type 0} (n : ℕ) (xs : List A) → length (take n xs) ≤ n
-length-take-most zero xs = omega arith
-length-take-most (suc n) [] = omega arith
-length-take-most (suc n) (x ∷ xs) = let h = length-take-most n xs in omega arith
-
-pub length-take-short : {A : Type 0} (n : ℕ) (xs : List A) → length (take n xs) ≤ length xs
-length-take-short zero xs = omega arith
-length-take-short (suc n) [] = omega arith
-length-take-short (suc n) (x ∷ xs) = let h = length-take-short n xs in omega arith
-
--- of packets that can be sent, those that move up and those that don't can be sent
-pub each_front : {own : ℕ} (n : ℕ) (xs : List (List ℕ)) → Each (IsPacket own) xs → Each (IsPacket own) (take n xs)
-each_front n xs h k bytes is =
-    let within = slice_get_within (take n xs) k bytes is in
-    let most = length-take-most n xs in
-    let short = length-take-short n xs in
-    let value : get_or xs k bytes ≡ bytes = sym (get_or-take n xs k bytes (omega arith)) ∙ get_or_from_slice_get (take n xs) k bytes bytes is in
-    h k bytes (slice_get-get_or xs k bytes (omega arith) ∙ ap Some value)
 
 -- a message in one packet is that packet
 pub one_piece : (m packet : List ℕ) → pieces_for m ≡ packet ∷ [] → (m ≡ packet) × (items_of m ≡ Single m ∷ [])

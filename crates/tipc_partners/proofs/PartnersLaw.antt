@@ -1,5 +1,5 @@
 -- Two nodes stay partners, whatever either does.
-use Rattle.std.proofs.Common.{◌≡◌, ℕ, List, [], Some, length, refl, sym, ap, ◌∙◌, subst, append-nil, arith}
+use Rattle.std.proofs.Common.{◌≡◌, ℕ, List, [], Some, None, length, refl, sym, ap, ◌∙◌, subst, inl, append-nil, arith}
 use Rattle.std.specs.Prelude.{All}
 use Rattle.std.specs.List.{flat_map}
 use Rattle.tipc_bundle.specs.Bundles.{IsInner}
@@ -17,21 +17,22 @@ use Rattle.tipc_partners.proofs.Packets.{more_packets}
 use Rattle.tipc_partners.proofs.Slots.{front_items}
 use Rattle.tipc_pair.specs.Partners.{IsMessage, pieces_for}
 use Rattle.tipc_partners.proofs.Contacts.{all_of_each}
+use Rattle.tipc_partners.proofs.Meetings.{Lasting, lasting_same, met_back, met_still, met_takes, none_taken}
 use Rattle.tipc_partners.proofs.Messages.{put_view, put_waits, puts_crossed, puts_sends, taken_in, taken_view, takes_crossed, takes_receives, takes_sends}
 use Rattle.tipc_partners.proofs.Numbers.{crossed_more, numbered_in, numbered_view, numbers_crossed, numbers_sends, with_numbered}
-use Rattle.tipc_partners.proofs.PairedLaw.{changes_paired, start as start_paired, turned as turn_paired, works_paired}
+use Rattle.tipc_paired.proofs.PairedLaw.{changes_paired, start as start_paired, turned as turn_paired, works_paired}
 use Rattle.tipc_partners.proofs.Past.{past_back, past_still, rises_past_here, rises_past_there, takes_past}
-use Rattle.tipc_partners.proofs.Quiet.{Leaves, Quietly, crossed_leaves, crossed_still, receives_leaves, receives_still, sends_leaves, sends_still}
-use Rattle.tipc_partners.proofs.QuietDeeds.{calls_quietly, falls_leaves, lasts_on, lasts_session, makes_quietly, notes_quietly, parts_leaves, releases_quietly, restarts_leaves, shows_quietly, tells_quietly, turns_quietly}
-use Rattle.tipc_partners.proofs.RiseDeeds.{went, went_goes}
-use Rattle.tipc_partners.proofs.Rises.{Goes, rises_crossed, rises_receives, rises_sends}
-use Rattle.tipc_partners.proofs.SessionDeeds.{puts_paired}
-use Rattle.tipc_partners.proofs.SessionPackets.{takes_paired}
-use Rattle.tipc_partners.proofs.Wires.{none_some, on_put, prefix_same, session_of_none, session_of_up}
-use Rattle.tipc_partners.specs.Deeds.{Changes, Hears, IsUp, Works, calls, falls, framed, makes, notes, numbers, parts, releases, restarts, rises, shows, tells, turns, with_begun, with_going, with_taken}
-use Rattle.tipc_partners.specs.Paired.{ArePaired, IsNew}
+use Rattle.tipc_partners.proofs.Quiet.{crossed_leaves, crossed_still, receives_leaves, receives_still, sends_leaves, sends_still}
+use Rattle.tipc_paired.proofs.QuietDeeds.{Leaves, Quietly, calls_quietly, falls_leaves, lasts_on, lasts_session, makes_quietly, notes_quietly, parts_leaves, releases_quietly, restarts_leaves, shows_quietly, tells_quietly, turns_quietly}
+use Rattle.tipc_paired.proofs.RiseDeeds.{Goes, begun_stays, went, went_goes}
+use Rattle.tipc_partners.proofs.Rises.{rises_crossed, rises_receives, rises_sends}
+use Rattle.tipc_paired.proofs.SessionDeeds.{puts_paired}
+use Rattle.tipc_paired.proofs.SessionPackets.{takes_paired}
+use Rattle.tipc_paired.proofs.Wires.{none_some, on_put, prefix_same, session_of_none, session_of_up}
+use Rattle.tipc_paired.specs.Deeds.{Changes, Hears, IsUp, Works, calls, falls, framed, makes, notes, numbers, parts, releases, restarts, rises, shows, tells, turns, begun_by, with_begun, with_going, with_taken}
+use Rattle.tipc_paired.specs.Paired.{ArePaired, IsNew}
 use Rattle.tipc_partners.specs.Partners.{Acts, ActsAll, ArePartners, IsCrossed, IsFlow, IsPast, Partner, beginning, changes, nothing, puts, renewed, takes, follows, viewed, works}
-use Rattle.tipc_partners.specs.Views.{Begun, View, Wire, session_on, with_wire}
+use Rattle.tipc_paired.specs.Views.{Begun, View, Wire, session_on, with_wire}
 
 -- ---- deeds that put, number, take and begin nothing
 
@@ -40,6 +41,8 @@ quiet_partners x y v h paired m = record {
   here = h.here;
   there = h.there;
   paired = paired;
+  met_here = met_still x.view v y.view (lasting_same x.view v m.lasts.begun) m.got h.met_here;
+  met_there = met_back y.view x.view v (lasting_same x.view v m.lasts.begun) h.met_there;
   crossed_here = crossed_still x.view v h.here h.there h.crossed_here m.lasts m.line m.got;
   crossed_there = h.crossed_there;
   past_here = past_still x.view v y.view h.here h.past_here m.lasts.begun m.got;
@@ -53,6 +56,8 @@ leaves_partners x y v h paired m = record {
   here = h.here;
   there = h.there;
   paired = paired;
+  met_here = met_still x.view v y.view (lasting_same x.view v m.begun) m.got h.met_here;
+  met_there = met_back y.view x.view v (lasting_same x.view v m.begun) h.met_there;
   crossed_here = crossed_leaves x.view v h.here h.there h.crossed_here m;
   crossed_there = h.crossed_there;
   past_here = past_still x.view v y.view h.here h.past_here m.begun m.got;
@@ -78,6 +83,8 @@ numbers_partners x y b e s h up paired =
       here = numbered_in x.view h.here s;
       there = h.there;
       paired = paired;
+      met_here = met_still x.view v y.view (lasting_same x.view v lasts.begun) (got_still x.view b (with_numbered w e s) (λ epoch. refl)) h.met_here;
+      met_there = met_back y.view x.view v (lasting_same x.view v lasts.begun) h.met_there;
       crossed_here = numbers_crossed x.view y.view b e s h.here h.there h.paired h.crossed_here up;
       crossed_there = crossed_more y.view h.there h.here x.view.node.contact x.view.node.seen (moving s) h.crossed_there;
       past_here = past_still x.view v y.view h.here h.past_here lasts.begun (got_still x.view b (with_numbered w e s) (λ epoch. refl));
@@ -100,12 +107,19 @@ works_partners x y v h w = of_works x y v h w (works_paired x.view y.view v h.pa
 
 -- ---- a contact begins or ends
 
+-- no session began under the epoch of the link that goes up
+rises_lasting : (x : View) (b : ℕ) (e' : LinkEnd) → (x.wires b).begun e'.fsm.own ≡ None → Lasting x (with_wire x b (with_begun x.node (x.wires b) e'))
+rises_lasting x b e' none c = on_put x.wires b (with_begun x.node (x.wires b) e') (λ c (w : Wire). (epoch : ℕ) (g : Begun) → (x.wires c).begun epoch ≡ Some g → w.begun epoch ≡ Some g)
+    (begun_stays (x.wires b) e'.fsm.own (begun_by x.node e') none) (λ c epoch g is. is) c
+
 rises_partners : (x y : Partner) (b : ℕ) (e' : LinkEnd) (s : SessionEnd) → ArePartners x y → Goes x.view b e' s → ArePaired (with_wire x.view b (with_begun x.view.node (x.view.wires b) e')) y.view
     → ArePartners (renewed x (with_wire x.view b (with_begun x.view.node (x.view.wires b) e'))) y
-rises_partners x y b e' s h m paired = record {
+rises_partners x y b e' s h m paired = let v = with_wire x.view b (with_begun x.view.node (x.view.wires b) e') in record {
   here = h.here;
   there = h.there;
   paired = paired;
+  met_here = met_still x.view v y.view (rises_lasting x.view b e' m.none_begun) (got_still x.view b (with_begun x.view.node (x.view.wires b) e') (λ epoch. refl)) h.met_here;
+  met_there = met_back y.view x.view v (rises_lasting x.view b e' m.none_begun) h.met_there;
   crossed_here = rises_crossed x.view b e' s h.here h.there h.crossed_here m;
   crossed_there = h.crossed_there;
   past_here = rises_past_here x.view y.view b e' s h.here h.there h.crossed_here m h.past_here;
@@ -119,7 +133,7 @@ changes_partners x y v h c = of_changes x y v h c (changes_paired x.view y.view 
   of_changes : (x y : Partner) (v : View) → ArePartners x y → Changes x.view y.view v → ArePaired v y.view → ArePartners (renewed x v) y
   of_changes x y _ h (rises b e call is may up apart) paired = (
       let m = went x.view y.view b e call h.paired is may up in
-      rises_partners x y b (after e (outcome e.fsm call)) (session_of (after e (outcome e.fsm call))) h (went_goes x.view y.view b e (after e (outcome e.fsm call)) m.0 h.paired m.1 apart) paired)
+      rises_partners x y b (after e (outcome e.fsm call)) (session_of (after e (outcome e.fsm call))) h (went_goes x.view y.view b e (after e (outcome e.fsm call)) m.0 h.paired m.1 apart (none_taken x.view y.view b e (after e (outcome e.fsm call)) m.0 h.paired h.met_here m.1)) paired)
   of_changes x y _ h (falls b e call cause is may down) paired = leaves_partners x y _ h paired (falls_leaves x.view b (after e (outcome e.fsm call)))
   of_changes x y _ h (parts b e is up) paired = leaves_partners x y _ h paired (parts_leaves x.view)
   of_changes x y _ h (restarts boot more fits) paired = leaves_partners x y _ h paired (restarts_leaves x.view y.view boot h.paired more)
@@ -143,6 +157,8 @@ acts_partners x y _ h (puts b e s s' m up put message) =
       here = h.here;
       there = h.there;
       paired = puts_paired_as x y b e s s' m h up put message;
+      met_here = met_still x.view v y.view (lasting_same x.view v lasts.begun) (got_still x.view b (with_going w e s') (λ epoch. refl)) h.met_here;
+      met_there = met_back y.view x.view v (lasting_same x.view v lasts.begun) h.met_there;
       crossed_here = puts_crossed x.view b e s s' (pieces_for m) h.here h.there h.crossed_here up put;
       crossed_there = h.crossed_there;
       past_here = past_still x.view v y.view h.here h.past_here lasts.begun (got_still x.view b (with_going w e s') (λ epoch. refl));
@@ -159,6 +175,8 @@ acts_partners x y _ h (takes b e s p number by packet opened last up a is brings
       here = taken_in x.view h.here s t;
       there = h.there;
       paired = takes_paired x.view y.view b e s p number by packet h.paired up a is;
+      met_here = met_takes x.view y.view b e s p number by packet h.paired up a is h.met_here;
+      met_there = met_back y.view x.view (taken_view x.view b e s t) (lasting_same x.view (taken_view x.view b e s t) lasts.begun) h.met_there;
       crossed_here = takes_crossed x.view y.view b e s p number by packet h.here h.there h.paired h.crossed_here h.crossed_there up a is;
       crossed_there = record { stream_is = h.crossed_there.stream_is; taken_is = h.crossed_there.taken_is; entered = h.crossed_there.entered; once = h.crossed_there.once; ahead = h.crossed_there.ahead; prefix = h.crossed_there.prefix };
       past_here = takes_past x.view y.view b e s t h.here h.there h.paired h.crossed_here h.past_here up;
@@ -185,6 +203,8 @@ turned x y h = record {
   here = h.there;
   there = h.here;
   paired = turn_paired x.view y.view h.paired;
+  met_here = h.met_there;
+  met_there = h.met_here;
   crossed_here = h.crossed_there;
   crossed_there = h.crossed_here;
   past_here = h.past_there;
@@ -245,6 +265,8 @@ start x y h k = record {
   here = record { stream = λ i j. []; taken = λ i j. [] };
   there = record { stream = λ i j. []; taken = λ i j. [] };
   paired = start_paired x y h k;
+  met_here = λ b epoch. inl (ap (λ (w : Wire). w.got epoch) (h.wires b));
+  met_there = λ b epoch. inl (ap (λ (w : Wire). w.got epoch) (k.wires b));
   crossed_here = new_crossed x h;
   crossed_there = new_crossed y k;
   past_here = new_past x y h;

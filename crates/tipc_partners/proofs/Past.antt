@@ -4,17 +4,18 @@ use Rattle.std.proofs.lemmas.Bool.{cases_eq}
 use Rattle.tipc_types.specs.declared.packet_lists.Taken.{Taken}
 use Rattle.tipc_link.specs.Links.{LinkEnd}
 use Rattle.tipc_link.specs.Sessions.{SessionEnd, due_with, took}
-use Rattle.tipc_pair.specs.Pairs.{packets_in}
+use Rattle.tipc_link.specs.Parts.{packets_in}
 use Rattle.tipc_partners.proofs.Contacts.{put_else, put_here}
 use Rattle.tipc_partners.proofs.Messages.{taken_in, taken_view}
-use Rattle.tipc_partners.proofs.Mutual.{one_epoch}
-use Rattle.tipc_partners.proofs.QuietDeeds.{lasts_on, lasts_session}
-use Rattle.tipc_partners.proofs.Rises.{Goes, began, got_same, new_ahead, risen_view}
-use Rattle.tipc_partners.proofs.Wires.{on_put, prefix_of_none, put_other, put_same, same_some, session_of_up}
-use Rattle.tipc_partners.specs.Deeds.{IsUp, with_taken}
-use Rattle.tipc_partners.specs.Paired.{ArePaired}
+use Rattle.tipc_paired.proofs.Mutual.{began_with}
+use Rattle.tipc_paired.proofs.RiseDeeds.{Goes}
+use Rattle.tipc_paired.proofs.QuietDeeds.{lasts_on, lasts_session}
+use Rattle.tipc_partners.proofs.Rises.{began, got_same, new_ahead, risen_view}
+use Rattle.tipc_paired.proofs.Wires.{on_put, prefix_of_none, put_other, put_same, same_some, session_of_up}
+use Rattle.tipc_paired.specs.Deeds.{IsUp, with_taken}
+use Rattle.tipc_paired.specs.Paired.{ArePaired}
 use Rattle.tipc_partners.specs.Partners.{Crossed, IsCrossed, IsPast, put_in}
-use Rattle.tipc_partners.specs.Views.{Begun, View, Wire}
+use Rattle.tipc_paired.specs.Views.{Begun, View, Wire}
 
 -- ---- deeds that take and begin nothing
 
@@ -64,7 +65,7 @@ takes_past x y b e s t c d h k past up q epoch g i is' there back =
           put_else c.taken own theirs new g.contact g.peer_contact (λ same _. other same) ∙ past q epoch g i is there back
           ∙ sym (taken_else x b e s t q g.peer_epoch (λ same_b of_peer. (
           let with_it : (y.wires b).begun s.peer_epoch ≡ Some i = ap (λ n. (y.wires n).begun s.peer_epoch) (sym same_b) ∙ ap (y.wires q).begun (sym of_peer) ∙ there in
-          let now = one_epoch x y b epoch s g i h on (ap (λ n. (x.wires n).begun epoch) (sym same_b) ∙ is) with_it back in
+          let now : epoch ≡ s.epoch = sym back ∙ began_with x y b s i h on with_it in
           other (ap (λ (z : Begun). z.contact) (present same_b now) ∙ at.0))))
     ]
 

@@ -4,22 +4,8 @@ use Rattle.tipc_fragments.specs.Joining.{Joining}
 use Rattle.tipc_reassembly.specs.Slots.{slot_bytes}
 use Rattle.tipc_link.specs.Sessions.{SessionEnd}
 use Rattle.tipc_partners.specs.Partners.{Crossed, IsAhead, IsCrossed, IsFlow, IsPresent}
-use Rattle.tipc_partners.specs.Views.{View, session_on}
-
--- What began is the same, and so is the contact where a session lasts.
-pub record Lasts (x v : View) : Type 0 where
-  pub contact : v.node.contact ≡ x.node.contact
-  pub begun : (b epoch : ℕ) → (v.wires b).begun epoch ≡ (x.wires b).begun epoch
-  pub seen : (b : ℕ) (s : SessionEnd) → session_on (v.wires b) ≡ Some s → v.node.seen ≡ x.node.seen
-  pub back : (b : ℕ) (s' : SessionEnd) → session_on (v.wires b) ≡ Some s' → (s : SessionEnd) × (session_on (x.wires b) ≡ Some s) × (s'.peer_epoch ≡ s.peer_epoch)
-  pub onward : (b : ℕ) (s : SessionEnd) → session_on (x.wires b) ≡ Some s → (s' : SessionEnd) × (session_on (v.wires b) ≡ Some s')
-
--- What was numbered and taken is the same, too, and what waits.
-pub record Quietly (x v : View) : Type 0 where
-  pub lasts : Lasts x v
-  pub line : (b epoch : ℕ) → (v.wires b).line epoch ≡ (x.wires b).line epoch
-  pub got : (b epoch : ℕ) → (v.wires b).got epoch ≡ (x.wires b).got epoch
-  pub waits : (b : ℕ) (s s' : SessionEnd) → session_on (x.wires b) ≡ Some s → session_on (v.wires b) ≡ Some s' → s'.sending.waiting ≡ s.sending.waiting
+use Rattle.tipc_paired.proofs.QuietDeeds.{Lasts, Leaves, Quietly}
+use Rattle.tipc_paired.specs.Views.{View, session_on}
 
 pub present_back : (x v : View) (own theirs : ℕ) → Lasts x v → IsPresent v own theirs → IsPresent x own theirs
 present_back x v own theirs m p =
@@ -78,14 +64,6 @@ receives_still y x v stream put taken given partial h m = record {
 }
 
 -- ---- a contact that ends
-
--- what was numbered, taken and begun is the same, and no session is left of an older contact number
-pub record Leaves (x v : View) : Type 0 where
-  pub contact : x.node.contact < v.node.contact
-  pub begun : (b epoch : ℕ) → (v.wires b).begun epoch ≡ (x.wires b).begun epoch
-  pub line : (b epoch : ℕ) → (v.wires b).line epoch ≡ (x.wires b).line epoch
-  pub got : (b epoch : ℕ) → (v.wires b).got epoch ≡ (x.wires b).got epoch
-  pub none : (b : ℕ) (s : SessionEnd) → session_on (v.wires b) ≡ Some s → ⊥
 
 no_later : (x : View) (contact : ℕ) → (contact < x.node.contact) ⊎ ((contact ≡ x.node.contact) × IsPresent x x.node.contact x.node.seen) → contact ≤ x.node.contact
 no_later x contact (inl before) = omega arith

@@ -11,20 +11,11 @@ use Rattle.std.specs.Prelude.{All}
 use Rattle.tipc_reassembly.specs.Slots.{IsSlot}
 use Rattle.tipc_link.specs.Laws.{IsPrefixOf}
 use Rattle.tipc_partners.proofs.Contacts.{on_put_in, opened_fresh, put_here}
-use Rattle.tipc_partners.proofs.Wires.{is_up_of, none_some, on_put, on_put_else, prefix_of_none, put_other, put_same, same_some}
-use Rattle.tipc_partners.specs.Deeds.{begun_by, with_begun}
+use Rattle.tipc_paired.proofs.RiseDeeds.{Goes}
+use Rattle.tipc_paired.proofs.Wires.{is_up_of, none_some, on_put, on_put_else, prefix_of_none, put_other, put_same, same_some}
+use Rattle.tipc_paired.specs.Deeds.{begun_by, with_begun}
 use Rattle.tipc_partners.specs.Partners.{Crossed, IsAhead, IsCrossed, IsFlow, IsGiven, IsPresent, put_in}
-use Rattle.tipc_partners.specs.Views.{Begun, IsApart, View, Wire, put_at, session_on, with_wire}
-
--- A link of x went up where none was, under an epoch of which nothing was numbered; nothing waits, and nothing was taken of the peer's session.
-pub record Goes (x : View) (b : ℕ) (e' : LinkEnd) (s : SessionEnd) : Type 0 where
-  pub apart : IsApart x
-  pub session_is : session_on (with_begun x.node (x.wires b) e') ≡ Some s
-  pub none_begun : (x.wires b).begun e'.fsm.own ≡ None
-  pub none_numbered : (x.wires b).line e'.fsm.own ≡ []
-  pub none_waits : s.sending.waiting ≡ []
-  pub none_taken : (x.wires b).got s.peer_epoch ≡ []
-  pub peer_is : s.peer_epoch ≡ known e'.fsm.peer
+use Rattle.tipc_paired.specs.Views.{Begun, IsApart, View, Wire, put_at, session_on, with_wire}
 
 abbrev pub risen_view : View → ℕ → LinkEnd → View
 risen_view x b e' = with_wire x b (with_begun x.node (x.wires b) e')

@@ -11,11 +11,11 @@ use Rattle.tipc_partners.proofs.Contacts.{by_contact, in_else, in_same, put_else
 use Rattle.tipc_partners.proofs.Later.{AreCounted, acts_counted, told_front, told_now}
 use Rattle.tipc_partners.proofs.PartnersLaw.{acts_all}
 use Rattle.tipc_partners.proofs.Steps.{IsSaid, Stepped}
-use Rattle.tipc_partners.proofs.Wires.{mapped_at, none_some, same_some}
+use Rattle.tipc_paired.proofs.Wires.{mapped_at, none_some, same_some}
 use Rattle.tipc_partners.specs.EndCalls.{HasEnd}
 use Rattle.tipc_partners.specs.Partners.{ActsAll, ArePartners, Partner, put_in}
 use Rattle.tipc_partners.specs.Sights.{AreSeen, Goes, HasOnly, IsSeen, Sight, WasTold, come, sent_as}
-use Rattle.tipc_partners.specs.Views.{Frame, Node, er_of, es_of}
+use Rattle.tipc_paired.specs.Views.{Frame, Node, er_of, es_of}
 
 -- the only link end of a node is that of its view
 pub only_end : (x : Partner) (v : Sight) (b : ℕ) (e : LinkEnd) → IsSeen x v → HasOnly v b e → HasEnd x.view b e

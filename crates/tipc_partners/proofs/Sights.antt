@@ -8,7 +8,7 @@ use Rattle.tipc_reassembly.specs.Slots.{packets_in}
 use Rattle.tipc_contact.specs.Sides.{first_number}
 use Rattle.tipc_link.specs.Laws.{IsPrefixOf}
 use Rattle.tipc_link.specs.Links.{LinkEnd, is_traffic, mend_frames, mended_end}
-use Rattle.tipc_partners.proofs.Frames.{same_packet}
+use Rattle.tipc_paired.proofs.Frames.{same_packet}
 use Rattle.tipc_pair.specs.Partners.{IsMessage, PairState, opened_in, pair_state}
 use Rattle.tipc_pair.specs.Turns.{Happened, Opening, answers_by}
 use Rattle.tipc_pair.specs.Turns.Opening.{cuts, hears, mends, rests, ticks}
@@ -20,14 +20,14 @@ use Rattle.tipc_partners.proofs.PartnersLaw.{acts_all, front as front_law, start
 use Rattle.tipc_partners.proofs.Seeing.{only_end, stepped_seen, told_still}
 use Rattle.tipc_partners.proofs.Steps.{Stepped, more_in, node_of_end}
 use Rattle.tipc_partners.proofs.Truth.{told_true}
-use Rattle.tipc_partners.proofs.Wires.{none_some}
-use Rattle.tipc_partners.specs.Deeds.{made_on, restarted as begun_again, restarts}
+use Rattle.tipc_paired.proofs.Wires.{none_some}
+use Rattle.tipc_paired.specs.Deeds.{made_on, restarted as begun_again, restarts}
 use Rattle.tipc_partners.specs.EndCalls.{HasEnd}
-use Rattle.tipc_partners.specs.Paired.{IsEnd, IsNew as IsNewView}
+use Rattle.tipc_paired.specs.Paired.{IsEnd, IsNew as IsNewView}
 use Rattle.tipc_partners.specs.Partners.{ActsAll, ArePartners, Partner, beginning, changes, follows, nothing, renewed}
 use Rattle.tipc_partners.specs.Sights.{AreSeen, Comes, ComesIn, EndsSeen, FramesSeen, FrontsSeen, GivesSeen, Goes, IsNew, IsSeen, KnowsSeen, RestartsSeen, Sight, StartsSeen, StaysUp, TruthsSeen, TurnedSeen, TurnsSeen}
 use Rattle.tipc_partners.specs.Truth.{IsTold}
-use Rattle.tipc_partners.specs.Views.{Frame, Node, View, unused}
+use Rattle.tipc_paired.specs.Views.{Frame, Node, View, unused}
 
 -- ---- the beginning, and a restart
 

@@ -12,7 +12,7 @@ use Rattle.tipc_partners.proofs.Tellings.{told_longer}
 use Rattle.tipc_partners.specs.Calls.{Did, IsToldOn, given_more, put_more}
 use Rattle.tipc_partners.specs.EndCalls.{Became, HasEnd, IsNotice, IsSameNode}
 use Rattle.tipc_partners.specs.Partners.{ActsAll, ArePartners, Partner, nothing, put_in}
-use Rattle.tipc_partners.specs.Views.{Node, View}
+use Rattle.tipc_paired.specs.Views.{Node, View}
 
 -- a frame that deeds told: it is of no session, or was told under the contact numbers that the node has after them
 pub record IsSaid (x after : View) (bearer : ℕ) (o : Outgoing) : Type 0 where

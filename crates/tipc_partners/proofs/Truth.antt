@@ -8,11 +8,11 @@ use Rattle.tipc_header.specs.Spelling.{Fields}
 use Rattle.tipc_reassembly.specs.Slots.{Slot, slot_bytes}
 use Rattle.tipc_link.specs.Laws.{IsPrefixOf}
 use Rattle.tipc_link.proofs.Directions.{slice_get-append}
-use Rattle.tipc_partners.proofs.Wires.{prefix_long}
-use Rattle.tipc_partners.specs.Paired.{IsOfSession, IsWith}
+use Rattle.tipc_paired.proofs.Wires.{prefix_long}
+use Rattle.tipc_paired.specs.Paired.{IsOfSession, IsWith}
 use Rattle.tipc_partners.specs.Partners.{ArePartners, Partner}
 use Rattle.tipc_partners.specs.Truth.{IsTold, IsTrue}
-use Rattle.tipc_partners.specs.Views.{Frame}
+use Rattle.tipc_paired.specs.Views.{Frame}
 
 -- what a frame acknowledges was taken in its contact
 told_within : (x y : Partner) (f : Frame) (es er : ℕ) (p : Fields) → (h : ArePartners x y) → (s : IsOfSession (x.view.wires f.bearer) (y.view.wires f.bearer) f es er p) → s.told ≤ length (h.here.taken f.contact f.peer_contact)

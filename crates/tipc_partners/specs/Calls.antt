@@ -9,11 +9,12 @@ use Rattle.tipc_reassembly.specs.Opening.{BringsAll}
 use Rattle.tipc_reassembly.specs.Slots.{packets_in as messages_in}
 use Rattle.tipc_link.specs.Links.{LinkEnd, with_session}
 use Rattle.tipc_link.specs.Sessions.{Carries, Content, Nothing, SessionEnd, Shows, answer_frames, answered, arrival_frames, arrived, brought, content_of, due_with}
-use Rattle.tipc_pair.specs.Turns.{IsShowable, PutsAll}
+use Rattle.tipc_link.specs.Parts.{IsShowable}
+use Rattle.tipc_pair.specs.Turns.{PutsAll}
 use Rattle.tipc_pair.specs.Partners.{IsMessage}
-use Rattle.tipc_partners.specs.Deeds.{Hears, IsUp}
+use Rattle.tipc_paired.specs.Deeds.{Hears, IsUp}
 use Rattle.tipc_partners.specs.Partners.{ActsAll, ArePartners, Partner, put_in}
-use Rattle.tipc_partners.specs.Views.{Frame, View, Wire}
+use Rattle.tipc_paired.specs.Views.{Frame, View, Wire}
 
 -- these bytes were told on the bearer, behind so many frames
 pub record IsToldOn (since : ℕ) (x : View) (bearer : ℕ) (o : Outgoing) : Type 0 where

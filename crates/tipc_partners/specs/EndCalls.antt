@@ -10,12 +10,12 @@ use Rattle.tipc_link.specs.Links.{LinkEnd, is_traffic}
 use Rattle.tipc_link_fsm.specs.declared.changes.Change.{Change}
 use Rattle.tipc_link_fsm.specs.declared.changes.Change.TheVariants.{Down, Up}
 use Rattle.tipc_link_fsm.specs.Runs.{Call, outcome}
-use Rattle.tipc_pair.specs.Turns.{IsShowable}
+use Rattle.tipc_link.specs.Parts.{IsShowable}
 use Rattle.tipc_pair.specs.Pairs.{settled, settled_frames}
 use Rattle.tipc_partners.specs.Calls.{IsToldOn}
-use Rattle.tipc_partners.specs.Deeds.{MayCall}
+use Rattle.tipc_paired.specs.Deeds.{MayCall}
 use Rattle.tipc_partners.specs.Partners.{ActsAll, ArePartners, Partner}
-use Rattle.tipc_partners.specs.Views.{Node, View}
+use Rattle.tipc_paired.specs.Views.{Node, View}
 
 -- the link end on the bearer, and none on another
 pub record HasEnd (x : View) (bearer : ℕ) (e : LinkEnd) : Type 0 where

@@ -1,6 +1,3 @@
-pub mod Views
-pub mod Paired
-pub mod Deeds
 pub mod Partners
 pub mod Calls
 pub mod EndCalls

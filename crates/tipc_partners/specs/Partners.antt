@@ -13,9 +13,9 @@ use Rattle.tipc_link.specs.Laws.{IsPrefixOf}
 use Rattle.tipc_link.specs.Links.{LinkEnd}
 use Rattle.tipc_link.specs.Sessions.{Carries, IsPut, SessionEnd, brought, content_of, due_with}
 use Rattle.tipc_pair.specs.Partners.{IsMessage, pieces_for}
-use Rattle.tipc_partners.specs.Deeds.{Changes, Hears, IsUp, Works, with_going, with_taken}
-use Rattle.tipc_partners.specs.Paired.{ArePaired}
-use Rattle.tipc_partners.specs.Views.{Begun, View, session_on, with_wire}
+use Rattle.tipc_paired.specs.Deeds.{Changes, Hears, IsUp, Works, with_going, with_taken}
+use Rattle.tipc_paired.specs.Paired.{ArePaired}
+use Rattle.tipc_paired.specs.Views.{Begun, View, Wire, session_on, with_wire}
 
 -- a node with the messages that it put and was given in each contact, each as its packet; and the message that is begun of the
 -- fragments that it took
@@ -116,6 +116,20 @@ IsPast x y c = (b epoch : ℕ) (g h : Begun) → (x.wires b).begun epoch ≡ Som
     → (y.wires b).begun g.peer_epoch ≡ Some h → h.peer_epoch ≡ epoch
     → c.taken g.contact g.peer_contact ≡ (x.wires b).got g.peer_epoch
 
+-- packets of the peer's session were taken in a session of the two, and the peer's session is with that one
+pub record Met (w v : Wire) (peer_epoch : ℕ) : Type 0 where
+  pub epoch : ℕ
+  pub here : Begun
+  pub here_is : w.begun epoch ≡ Some here
+  pub peer_is : here.peer_epoch ≡ peer_epoch
+  pub there : Begun
+  pub there_is : v.begun peer_epoch ≡ Some there
+  pub epoch_is : there.peer_epoch ≡ epoch
+
+-- what x took of a session of the peer it took in a session with it: each contact has one link
+abbrev pub AreMet : View → View → Type 0
+AreMet x y = (b epoch : ℕ) → ((x.wires b).got epoch ≡ []) ⊎ Met (x.wires b) (y.wires b) epoch
+
 -- these messages came out of the packets that were taken, and this message is begun
 pub record IsGiven (y : View) (own theirs : ℕ) (given : List (List ℕ)) (slots : List Slot) (partial : Joining) : Type 0 where
   pub last : Joining
@@ -140,6 +154,8 @@ pub record ArePartners (x y : Partner) : Type 0 where
   pub here : Crossed
   pub there : Crossed
   pub paired : ArePaired x.view y.view
+  pub met_here : AreMet x.view y.view
+  pub met_there : AreMet y.view x.view
   pub crossed_here : IsCrossed x.view here there
   pub crossed_there : IsCrossed y.view there here
   pub past_here : IsPast x.view y.view here

@@ -17,11 +17,11 @@ use Rattle.tipc_link_fsm.specs.Table.{is_up}
 use Rattle.tipc_pair.specs.Partners.{IsMessage, PairState, opened_in, pair_state}
 use Rattle.tipc_pair.specs.Turns.{Happened, Opening, Outset, PairTurn, ShowsAtLast, ShowsIn}
 use Rattle.tipc_pair.specs.Turns.Opening.{hears}
-use Rattle.tipc_partners.specs.Deeds.{made_on}
-use Rattle.tipc_partners.specs.Paired.{IsEnd}
+use Rattle.tipc_paired.specs.Deeds.{made_on}
+use Rattle.tipc_paired.specs.Paired.{IsEnd}
 use Rattle.tipc_partners.specs.Partners.{ArePartners, Partner}
 use Rattle.tipc_partners.specs.Truth.{IsTold}
-use Rattle.tipc_partners.specs.Views.{Frame, Node, View, er_of, es_of}
+use Rattle.tipc_paired.specs.Views.{Frame, Node, View, er_of, es_of}
 
 -- A node towards its peer: its numbers, its link ends by bearer, the messages that it put and was given by contact, each as its packet,
 -- the message that is begun, how many packets it numbered by bearer and epoch, and the frames to the peer that came into the air.

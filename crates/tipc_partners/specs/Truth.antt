@@ -11,7 +11,7 @@ use Rattle.tipc_reassembly.specs.Slots.{HasOpened, IsSlot, Slot, slot_bytes, slo
 use Rattle.tipc_link.specs.Links.{is_traffic}
 use Rattle.tipc_link.specs.Sessions.{Carries, content_of}
 use Rattle.tipc_partners.specs.Partners.{Partner}
-use Rattle.tipc_partners.specs.Views.{Frame}
+use Rattle.tipc_paired.specs.Views.{Frame}
 
 -- What was put into the packets of a contact, one slot for each: whole messages, bundles and fragments. It is what is sent of the messages
 -- that were put in the contact, one after the other.

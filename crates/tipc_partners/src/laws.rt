@@ -16,30 +16,17 @@ ghost use Rattle.tipc_link.specs.Laws.{IsPrefixOf};
 ghost use Rattle.tipc_link.specs.Links.{LinkEnd};
 ghost use Rattle.tipc_link.specs.Sessions.{Carries, SessionEnd, brought, content_of, due_with};
 ghost use Rattle.tipc_partners.specs.Calls.{AnsweredArrivalsAreDeeds, AnswersAreDeeds, ArrivalsAreDeeds, PutsAreDeeds};
-ghost use Rattle.tipc_partners.specs.Deeds.{Does, Hears, IsUp};
+ghost use Rattle.tipc_paired.specs.Deeds.{Hears, IsUp};
 ghost use Rattle.tipc_partners.specs.EndCalls.{EndCallsAreDeeds};
-ghost use Rattle.tipc_partners.specs.Paired.{ArePaired, IsNew};
+ghost use Rattle.tipc_paired.specs.Paired.{IsNew};
 ghost use Rattle.tipc_partners.specs.Partners.{Acts, ActsAll, ArePartners, Partner, beginning};
 ghost use Rattle.tipc_partners.specs.Sights.{EndsSeen, FramesSeen, FrontsSeen, GivesSeen, KnowsSeen, RestartsSeen, StartsSeen, TruthsSeen, TurnedSeen, TurnsSeen};
 ghost use Rattle.tipc_partners.specs.Truth.{IsTrue};
-ghost use Rattle.tipc_partners.specs.Views.{Frame, View};
+ghost use Rattle.tipc_paired.specs.Views.{Frame, View};
 
-/// What holds of two nodes at the beginning goes on to hold, whatever either does: on each bearer, in each session.
-pub fn two_nodes_stay_paired()
-    ensures start { (x y : View) → IsNew x → IsNew y → ArePaired x y }
-    ensures turned { (x y : View) → ArePaired x y → ArePaired y x }
-    ensures does { (x y next : View) → ArePaired x y → Does x y next → ArePaired next y }
-{}
-
-/// What a node took of a session of its peer is a prefix of what the peer numbered in it: no packet is lost between two that
-/// were taken, none is taken twice, and none out of order.
-pub fn what_is_taken_was_numbered()
-    ensures { (x y : View) → ArePaired x y → (bearer epoch : ℕ) → IsPrefixOf ((x.wires bearer).got epoch) ((y.wires bearer).line epoch) }
-{}
-
-/// The same with the messages that two nodes send each other, each a packet that is sent alone, in a bundle or in fragments: what
-/// a node was given in a contact is opened from the packets that it took, and a message that is begun is dropped when a contact begins
-/// or ends. `all` is for deeds one after the other, as those of one event.
+/// What holds of two nodes that send each other messages goes on to hold, whatever either does. Each message is a packet that is sent alone,
+/// in a bundle or in fragments: what a node was given in a contact is opened from the packets that it took, and a message that is begun is
+/// dropped when a contact begins or ends. `all` is for deeds one after the other, as those of one event.
 pub fn two_nodes_stay_partners()
     ensures start { (x y : View) → IsNew x → IsNew y → ArePartners (beginning x) (beginning y) }
     ensures turned { (x y : Partner) → ArePartners x y → ArePartners y x }

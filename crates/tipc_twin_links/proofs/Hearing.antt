@@ -1,5 +1,5 @@
 -- A STATE or a numbered packet arrives at a link of a pair whose record is of a session of the contact.
-use Rattle.std.proofs.Common.{◌≡◌, ℕ, ◌+◌, ◌≤◌, ◌&&◌, Bool, true, ◌++◌, ◌∷◌, inr, if◌then◌else◌, List, [], Some, None, is_some, option_map, length, refl, sym, ap, ◌∙◌, subst, arith}
+use Rattle.std.proofs.Common.{◌<◌, ◌⊎◌, ◌≡◌, ℕ, ◌+◌, ◌≤◌, ◌&&◌, Bool, true, ◌++◌, ◌∷◌, inr, if◌then◌else◌, List, [], Some, None, is_some, option_map, length, refl, sym, ap, ◌∙◌, subst, arith}
 use Rattle.tipc_types.specs.declared.link_words.BroadcastState.{BroadcastState}
 use Rattle.tipc_types.specs.declared.packet_lists.Taken.{Taken}
 use Rattle.tipc_header.specs.declared.packet.Header.{Header}
@@ -23,12 +23,13 @@ use Rattle.tipc_pair.specs.Courses.{Course, going_on}
 use Rattle.tipc_pair.specs.Facing.{PairEnds, is_up_at, with_near}
 use Rattle.tipc_pair.specs.PairArrivals.{Arrives, Heard, OpensInto, hears, met, met_at, met_near, taken_in}
 use Rattle.tipc_changeover.specs.Links.{Bearer, Receiver, State}
-use Rattle.tipc_twin_links.specs.Arriving.{HasTaken, IsHeardIn, Opens, Stands}
+use Rattle.tipc_twin_links.specs.Arriving.{Gives, HasTaken, IsHeardIn, IsMadeFor, Opens, Stands, heard_pair}
 use Rattle.tipc_twin_links.specs.Receiving.{AreLines, AreNext, IsOfSession, IsRecordFor, ReceiveFor, Records, bytes_in, record_at, records_of}
 use Rattle.tipc_twin_links.specs.Traffic.{Lines, Traffic}
 use Rattle.tipc_twin_links.proofs.Coming.{comes}
 use Rattle.tipc_twin_links.proofs.Happening.{reached_holds}
 use Rattle.tipc_twin_links.proofs.Received.{gives}
+use Rattle.tipc_twin_links.proofs.BegunKept.{released_same}
 use Rattle.tipc_twin_links.proofs.Remaining.{released_records}
 
 -- ---- what a session hears
@@ -104,7 +105,7 @@ traffic_outcome (header.Activate r) fsm es er held traffic = absurd (let wrong :
 traffic_outcome (header.Discovery r) fsm es er held traffic = absurd (let wrong : ⊥ = cc in wrong)
 traffic_outcome other fsm es er held traffic = refl
 
-traffic_hears : (h : Header) (es er : ℕ) (p : Fields) (by : ℕ) (shown : BroadcastState) (x : PairEnds) → is_traffic h ≡ true → hears h es er p by shown x ≡ met_near es er p by shown x
+pub traffic_hears : (h : Header) (es er : ℕ) (p : Fields) (by : ℕ) (shown : BroadcastState) (x : PairEnds) → is_traffic h ≡ true → hears h es er p by shown x ≡ met_near es er p by shown x
 traffic_hears (header.Reset r) es er p by shown x traffic = absurd (let wrong : ⊥ = cc in wrong)
 traffic_hears (header.Activate r) es er p by shown x traffic = absurd (let wrong : ⊥ = cc in wrong)
 traffic_hears other es er p by shown x traffic = refl
@@ -115,7 +116,7 @@ traffic_met x e es er p by shown traffic is =
 
 -- ---- the pair
 
-pub stands_taken : (x y : PairEnds) (b : Bearer) (t : Traffic) (s : State) (before : List (List ℕ)) (r : Received) (taken : List Taken) → Stands x b t s before → y.bearer ≡ x.bearer → is_some y.far ≡ true → records_of y ≡ record { near = Some r; far = record_at x.far }
+pub stands_taken : (x y : PairEnds) (b : Bearer) (t : Traffic) (s : State) (before : List (List ℕ)) (r : Received) (taken : List Taken) → Stands x b t s before → y.bearer ≡ x.bearer → IsMadeFor y t → records_of y ≡ record { near = Some r; far = record_at x.far }
     → IsOfSession t.near r (record { session = s.near_record.session; taken = s.near_record.taken + length taken }) → AreNext (t.near.line s.near_record.session) s.near_record.taken taken → HasTaken y b t s before taken
 stands_taken x y b t s before r taken h bearer made records own next =
     let holds = reached_holds b s h.reached in
@@ -132,12 +133,14 @@ stands_taken x y b t s before r taken h bearer made records own next =
     }
 
 -- what is opened, and then an end may be held no longer
-pub opened_released : (b : Bearer) (bearer bearer' : ℕ) (t : Traffic) (s : State) (before : List (List ℕ)) (y z : PairEnds) (given : PairOutcome) → records_of z ≡ records_of y → bearer' ≡ bearer → Opens b bearer' t s before y given → Opens b bearer t s before z given
-opened_released b bearer bearer' t s before y z given records same h =
+pub opened_released : (b : Bearer) (bearer bearer' : ℕ) (t : Traffic) (s : State) (before : List (List ℕ)) (heard y z : PairEnds) (given : PairOutcome) → records_of z ≡ records_of y → z.begun ≡ y.begun → z.contact ≡ y.contact → bearer' ≡ bearer → Opens b bearer' t s before heard y given → Opens b bearer t s before heard z given
+opened_released b bearer bearer' t s before heard y z given records begun contact same h =
     let R = h.receives in
     record {
       carried = h.carried;
-      gives = h.gives;
+      begun = h.begun;
+      begun_is = subst (λ n. (h.begun ≡ heard.begun) ⊎ (heard.contact < n)) (sym contact) h.begun_is;
+      gives = subst (Gives h.begun h.carried given) (sym begun) h.gives;
       receives = record {
         state = R.state;
         takes = R.takes;
@@ -147,12 +150,14 @@ opened_released b bearer bearer' t s before y z given records same h =
     }
 
 pub arrives_from : (x : PairEnds) (es er : ℕ) (p : Fields) (by : ℕ) (shown : BroadcastState) (c : Course) (given : PairOutcome) (b : Bearer) (t : Traffic) (s : State) (before : List (List ℕ)) (m : Heard) → hears p.header es er p by shown x ≡ m → m.course.pair.bearer ≡ x.bearer
-    → HasTaken m.course.pair b t s before (taken_in m.outcome) → Arrives x es er p by shown c given → Opens b x.bearer t s before c.pair given
+    → HasTaken m.course.pair b t s before (taken_in m.outcome) → Arrives x es er p by shown c given → Opens b x.bearer t s before (heard_pair x es er p by shown) c.pair given
 unfolding going_on
 arrives_from x es er p by shown c given b t s before m is bearer h a =
     let opened = gives m.course.pair b t s before m.outcome a.opened given h (subst (λ (k : Heard). OpensInto k.course.pair k.outcome a.opened given) is a.opens) in
     let pair : c.pair ≡ (released_pair a.opened.pair).pair = ap (λ (d : Course). d.pair) a.course in
-    opened_released b x.bearer m.course.pair.bearer t s before a.opened.pair c.pair given (ap records_of pair ∙ released_records a.opened.pair) bearer opened
+    let kept = released_same a.opened.pair in
+    subst (λ (k : Heard). Opens b x.bearer t s before k.course.pair c.pair given) (sym is)
+    (opened_released b x.bearer m.course.pair.bearer t s before m.course.pair a.opened.pair c.pair given (ap records_of pair ∙ released_records a.opened.pair) (ap (λ (q : PairEnds). q.begun) pair ∙ kept.0) (ap (λ (q : PairEnds). q.contact) pair ∙ kept.1) bearer opened)
 
 -- the session stays
 stay_session : (e : LinkEnd) (o : Outcome) (a : SessionEnd) → o.change ≡ Stay → e.session ≡ Some a → (after e o).session ≡ Some a
@@ -163,7 +168,7 @@ stay_heard h k traffic stay = ap (λ q. is_traffic h && is_taken q) stay ∙ ap 
 
 pub sessions_receive : (x : PairEnds) (e : LinkEnd) (a : SessionEnd) (es er : ℕ) (p : Fields) (by : ℕ) (shown : BroadcastState) (c : Course) (given : PairOutcome) (b : Bearer) (t : Traffic) (s : State) (before : List (List ℕ)) → Stands x b t s before → x.near ≡ Some e → e.session ≡ Some a
     → is_traffic p.header ≡ true → (on_traffic e.fsm es er).change ≡ Stay → IsOfSession t.near (receiving_record a) s.near_record → IsHeardIn (t.near.line s.near_record.session) (receiving_record a) (content_of p) → Arrives x es er p by shown c given
-    → Opens b x.bearer t s before c.pair given
+    → Opens b x.bearer t s before (heard_pair x es er p by shown) c.pair given
 unfolding going_on
 sessions_receive x e a es er p by shown c given b t s before h is session traffic stay own heard arrives =
     let o = on_traffic e.fsm es er in
@@ -174,5 +179,5 @@ sessions_receive x e a es er p by shown c given b t s before h is session traffi
     let outcome_is : outcome a by (content_of p) ≡ m.outcome = sym (arrival_outcome e o p by a so again) in
     let pair : m.course.pair ≡ with_near x (arrival_end e o p by) = ap (λ (k : Change). (following (with_near x (arrival_end e o p by)) k es).pair) stay in
     let records : records_of m.course.pair ≡ record { near = Some (receiving_record (arrived a by p.acknowledgement (content_of p))); far = record_at x.far } = ap records_of pair ∙ ap (λ q. record { near = q; far = record_at x.far }) (arrival_record e o p by a so again) in
-    let taken = stands_taken x m.course.pair b t s before (receiving_record (arrived a by p.acknowledgement (content_of p))) (taken_in (outcome a by (content_of p))) h (ap (λ (y : PairEnds). y.bearer) pair) (ap (λ (y : PairEnds). is_some y.far) pair ∙ h.made) records now.record_is now.next in
+    let taken = stands_taken x m.course.pair b t s before (receiving_record (arrived a by p.acknowledgement (content_of p))) (taken_in (outcome a by (content_of p))) h (ap (λ (y : PairEnds). y.bearer) pair) (λ n k u there so. ap (λ (y : PairEnds). is_some y.far) pair ∙ h.made n k u there so) records now.record_is now.next in
     arrives_from x es er p by shown c given b t s before m (traffic_met x e es er p by shown traffic is) (ap (λ (y : PairEnds). y.bearer) pair) (subst (λ (q : LinkOutcome). HasTaken m.course.pair b t s before (taken_in q)) outcome_is taken) arrives

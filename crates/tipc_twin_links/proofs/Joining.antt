@@ -125,7 +125,7 @@ pub record LastWaits (b : Bearer) (x : SendingEnds) (t : Traffic) (s : State) : 
 one_plain : (z : Slot) (i : ℕ) → z ≡ Plain i → plains (z ∷ []) ≡ i ∷ []
 one_plain z i is = ap (λ w. plains (w ∷ [])) is ∙ plains_of_plain i
 
-last_waits : (b : Bearer) (x : SendingEnds) (t : Traffic) (s : State) → StandFor b x t s → Sound b s → x.near.state ≡ Up → 1 ≤ length x.near.window.waiting
+pub last_waits : (b : Bearer) (x : SendingEnds) (t : Traffic) (s : State) → StandFor b x t s → Sound b s → x.near.state ≡ Up → 1 ≤ length x.near.window.waiting
     → is_tunnel (slice_index_or x.near.window.waiting (length x.near.window.waiting - 1) []) ≡ false → LastWaits b x t s
 last_waits b x t s h sound up some plain =
     let P = IsFor t.put (beside x.bearer) t.far in

@@ -16,6 +16,7 @@ pub mod Unwrapping
 pub mod Opening
 pub mod Coming
 pub mod Remaining
+pub mod BegunKept
 pub mod Received
 pub mod Hearing
 pub mod Rising
@@ -24,3 +25,18 @@ pub mod Activating
 pub mod States
 pub mod FollowingOn
 pub mod Releasing
+pub mod Freeing
+pub mod Acted
+pub mod Ending
+pub mod Stepping
+pub mod Reacting
+pub mod Ticking
+pub mod Noticing
+pub mod Listening
+pub mod Carrying
+pub mod Arrived
+pub mod Posting
+pub mod Leaving
+pub mod Preserving
+pub mod Landing
+pub mod Founding

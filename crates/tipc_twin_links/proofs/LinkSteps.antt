@@ -26,21 +26,21 @@ use Rattle.tipc_twin_links.proofs.Joining.{joins as joined}
 use Rattle.tipc_twin_links.specs.Ends.{IsRisen, IsUpAt, StaysUp, heard_window, up_beside}
 use Rattle.tipc_twin_links.proofs.PairSteps.{flushes, seen_some, up_state}
 
-near_seen : (x : PairEnds) (e : LinkEnd) (s : SessionEnd) → IsUpAt x.bearer x.near e s → ends_seen x ≡ up_beside x e s
+pub near_seen : (x : PairEnds) (e : LinkEnd) (s : SessionEnd) → IsUpAt x.bearer x.near e s → ends_seen x ≡ up_beside x e s
 near_seen x e s h = ap (λ z. record { bearer = x.bearer; near = z; far = end_seen x.contact x.far }) (seen_some x.contact x.near e s Up h.end_is h.session_is (up_state e h.up))
 
-after_seen : (x : PairEnds) (e e' : LinkEnd) (s : SessionEnd) (w : Sending) → StaysUp e e' w → ends_seen (with_near x e') ≡ near_window (up_beside x e s) w
+pub after_seen : (x : PairEnds) (e e' : LinkEnd) (s : SessionEnd) (w : Sending) → StaysUp e e' w → ends_seen (with_near x e') ≡ near_window (up_beside x e s) w
 after_seen x e e' s w h =
     ap (λ z. record { bearer = x.bearer; near = z; far = end_seen x.contact x.far }) (seen_some x.contact (Some e') e' h.session Up refl h.session_is (up_state e' h.up)
     ∙ (ap (λ n. record { epoch = n; state = Up; window = h.session.sending }) h.own ∙ ap (λ v. record { epoch = e.fsm.own; state = Up; window = v }) h.window_is))
 
 -- ---- an acknowledgement, and packets that move up
 
-count_within : (w : Sending) (number : ℕ) → release_count w number ≤ length w.unacked
+pub count_within : (w : Sending) (number : ℕ) → release_count w number ≤ length w.unacked
 unfolding release_count
 count_within w number = grind (arith, nat_tests)
 
-spoke_same : {A : Type 0} (s : SessionEnd) (xs : List A) → (spoke s xs).sending ≡ s.sending
+pub spoke_same : {A : Type 0} (s : SessionEnd) (xs : List A) → (spoke s xs).sending ≡ s.sending
 spoke_same s [] = refl
 spoke_same s (x ∷ xs) = refl
 
@@ -100,7 +100,7 @@ clear_counts f u is clear =
     let none : min (count_by is_tunnel u.sending.unacked + count_by is_tunnel u.sending.waiting) 4294967295 ≡ 0 = (let test : (tunnels_of (Some u) == 0) ≡ true = ap (λ o. tunnels_of o == 0) (sym is) ∙ clear in grind (arith, nat_tests)) in
     (omega arith, omega arith)
 
-released_state : (e : LinkEnd) → is_held e.fsm.state ≡ true → ((release e.fsm).after.own ≡ e.fsm.own) × (state_as (release e.fsm).after.state ≡ Reset)
+pub released_state : (e : LinkEnd) → is_held e.fsm.state ≡ true → ((release e.fsm).after.own ≡ e.fsm.own) × (state_as (release e.fsm).after.state ≡ Reset)
 unfolding release
 released_state e held = (rw held refl, rw held refl)
 

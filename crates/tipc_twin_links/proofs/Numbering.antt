@@ -96,10 +96,10 @@ none_more false xs = refl
 pub lines_none : (l : Lines) (session : ℕ) → with_more l session [] ≡ l
 lines_none l session = ap (λ (line : ℕ → List (List ℕ)). record { first = l.first; line = line }) (fun_ext (λ e. none_more (e == session) (l.line e)))
 
-traffic_none : (t : Traffic) (session : ℕ) → near_more t session [] ≡ t
+pub traffic_none : (t : Traffic) (session : ℕ) → near_more t session [] ≡ t
 traffic_none t session = ap (λ (l : Lines). record { put = t.put; near = l; far = t.far }) (lines_none t.near session)
 
-traffic_twice : (t : Traffic) (session : ℕ) (packets more : List (List ℕ)) → near_more (near_more t session packets) session more ≡ near_more t session (packets ++ more)
+pub traffic_twice : (t : Traffic) (session : ℕ) (packets more : List (List ℕ)) → near_more (near_more t session packets) session more ≡ near_more t session (packets ++ more)
 traffic_twice t session packets more = ap (λ (l : Lines). record { put = t.put; near = l; far = t.far }) (lines_twice t.near session packets more)
 
 advanced_none : (w : Sending) → advanced 0 w ≡ w

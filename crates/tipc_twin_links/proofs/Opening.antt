@@ -14,9 +14,8 @@ use Rattle.tipc_tunnel.specs.Tunnels.{Carries, IsTunnel, Tunnelled, numbered, tu
 use Rattle.tipc_tunnel.proofs.TunnelLaws.{carried_once, tunnel_fits}
 use Rattle.tipc_link.specs.Links.{LinkEnd, named_end, record_of, tunnelled_end}
 use Rattle.tipc_link.specs.Records.{Received, is_changeover, is_tunnel, named, tunnelled_outcome}
-use Rattle.tipc_link.specs.Sessions.{brought}
 use Rattle.tipc_pair.specs.Facing.{PairEnds}
-use Rattle.tipc_pair.specs.PairArrivals.{IsTunnelOf, SpeaksOfFar, Unwraps, as_it_is, freed_at, freed_by, inner_at, inner_taken, none_taken, taken_down, taken_in, tunnel, tunnelled_through}
+use Rattle.tipc_pair.specs.PairArrivals.{IsTunnelOf, SpeaksOfFar, Unwraps, as_it_is, freed_at, freed_by, inner_at, inner_taken, inside_of, none_taken, restored, taken_down, taken_in, tunnel, tunnelled_through}
 use Rattle.tipc_pair.specs.Courses.{Course, going_on}
 use Rattle.tipc_pair.specs.Runs.{inner_of}
 use Rattle.tipc_pair.proofs.Listed.{spelled_tunnel}
@@ -25,14 +24,16 @@ use Rattle.tipc_changeover.specs.Links.{Bearer, State}
 use Rattle.tipc_changeover.specs.Events.{IsNext}
 use Rattle.tipc_changeover.specs.Sound.{Sound}
 use Rattle.tipc_changeover.specs.Distances.{Bounded}
+use Rattle.tipc_pair.proofs.Restoring.{restored_none}
+use Rattle.tipc_twin_links.specs.Arriving.{IsMadeFor}
 use Rattle.tipc_twin_links.specs.Traffic.{Lines, Traffic, epoch_of}
 use Rattle.tipc_twin_links.specs.Packets.{IsCarrier, IsFor, MayBeIn, SpeaksOf, marks, told_by_marker, told_of, wraps}
 use Rattle.tipc_twin_links.specs.Sending.{beside}
-use Rattle.tipc_twin_links.specs.Receiving.{AreLines, AreNext, AreTakenAs, IsInside, IsRecordFor, StandBehind, TookAll, TookTunnel, bytes_in, inside, record_at}
+use Rattle.tipc_twin_links.specs.Receiving.{AreLines, AreNext, IsInside, IsRecordFor, StandBehind, TookAll, TookTunnel, bytes_in, record_at}
 use Rattle.tipc_twin_links.proofs.Happening.{follows_sound, follows_then}
 use Rattle.tipc_twin_links.proofs.Taking.{are_get, took_more}
 use Rattle.tipc_twin_links.proofs.Travelling.{both_tests}
-use Rattle.tipc_twin_links.proofs.Tunnelling.{all_bytes, all_plain, bytes_more, taken_append, taken_same, takes_marker, takes_tunnel}
+use Rattle.tipc_twin_links.proofs.Tunnelling.{all_bytes, all_plain, bytes_more, takes_marker, takes_tunnel}
 use Rattle.tipc_twin_links.proofs.Unwrapping.{recorded_for, taken_down_made, taken_down_record}
 
 -- ---- what a tunnel packet tells
@@ -47,7 +48,7 @@ carries_own : (v : Tunnelled) → IsTunnel v → Carries (tunnel_packet v) v
 carries_own v made = record { broadcast_acknowledgement = 0; header = refl; rest = refl; inner = made.inner }
 
 -- whatever a packet is read as, it carries what it was made of
-told_once : (packet : List ℕ) (v w : Tunnelled) → IsTunnel v → packet ≡ spelling (tunnel_packet v) → IsTunnelOf packet w → w ≡ v
+pub told_once : (packet : List ℕ) (v w : Tunnelled) → IsTunnel v → packet ≡ spelling (tunnel_packet v) → IsTunnelOf packet w → w ≡ v
 told_once packet v w made is h =
     let same = one_packet h.packet (tunnel_packet v) h.fits (tunnel_fits v made) (sym h.spelled ∙ is) in
     carried_once (tunnel_packet v) w v (subst (λ (p : Fields). Carries p w) same h.carries) (carries_own v made)
@@ -74,9 +75,7 @@ plain_all b bearer t s taken far lines sound h next plain =
       lines = m.lines;
       near_is = m.near_is ∙ ap (λ n. record { session = s.near_record.session; taken = s.near_record.taken + n }) count;
       far_is = subst (λ r. IsRecordFor t.far far r) (sym m.far_is) h;
-      packets = packets;
-      longer = m.longer;
-      came = subst (λ bs. AreTakenAs packets bs) (sym bytes) (taken_same packets);
+      longer = m.longer ∙ ap (λ ps. take (length s.delivered) t.put ++ ps) (sym bytes);
     }
 
 -- ---- and behind a tunnel packet
@@ -100,9 +99,8 @@ behind_tunnel b bearer t s first others freed a far sound next T h =
       lines = m.lines;
       near_is = m.near_is ∙ (ap (λ r. record { session = r.session; taken = r.taken + length packets }) T.near_is ∙ ap (λ n. record { session = s.near_record.session; taken = n }) more);
       far_is = subst (λ r. IsRecordFor t.far far r) (sym m.far_is) h;
-      packets = T.packets ++ packets;
-      longer = m.longer ∙ (ap (λ ps. ps ++ packets) T.longer ∙ append_assoc (take (length s.delivered) t.put) T.packets packets);
-      came = subst (λ bs. AreTakenAs (T.packets ++ packets) bs) (sym (bytes_more freed others)) (taken_append T.packets packets (bytes_in freed) (bytes_in others) T.came (subst (λ bs. AreTakenAs packets bs) (sym bytes) (taken_same packets)));
+      longer = m.longer ∙ (ap (λ ps. ps ++ packets) T.longer ∙ append_assoc (take (length s.delivered) t.put) (bytes_in freed) packets
+          ∙ ap (λ ps. take (length s.delivered) t.put ++ ps) (ap (λ ps. bytes_in freed ++ ps) (sym bytes) ∙ sym (bytes_more freed others)));
     }
 
 -- ---- the packet inside
@@ -116,16 +114,15 @@ not_none true is = refl
 not_none false is = cc
 
 inside_so : (kind : ChangeoverType) (old : OldSession) (count place : ℕ) (line : List (List ℕ)) (inner : List ℕ) (by : ℕ) → slice_get line (place - 1) ≡ Some inner → MayBeIn kind old count inner
-    → IsInside line place (not (is_tunnel inner)) (brought (number_of place) (inner_of (record { number = number_of place; packet = inner })) by)
+    → IsInside line place (not (is_tunnel inner)) (inside_of (told_of kind old count (record { number = number_of place; packet = inner })) by)
 inside_so kind old count place line inner by there may = record {
   number = refl;
   whole = λ packet full at_place.
       (let plain = not_both (is_tunnel inner) full in
       let same : inner ≡ packet = cc in
       let bytes : inner_of (record { number = number_of place; packet = inner }) ≡ numbered (number_of place) inner = ap (λ z. if z then [] else numbered (number_of place) inner) plain in
-      let long = may.bytes place plain in
-      (inside (number_of place) (bytes ∙ ap (λ p. numbered (number_of place) p) same), subst (λ (ps : List ℕ). 1 ≤ length ps) (sym bytes) long));
-  empty = λ none. ap (λ z. if z then [] else numbered (number_of place) inner) (not_none (is_tunnel inner) none);
+      (ap restored bytes ∙ may.back place plain ∙ same, subst (λ (ps : List ℕ). 1 ≤ length ps) same (may.bytes plain)));
+  empty = λ none. ap (λ z. restored (if z then [] else numbered (number_of place) inner)) (not_none (is_tunnel inner) none) ∙ restored_none;
 }
 
 -- ---- a tunnel packet, and what follows it
@@ -152,7 +149,7 @@ told_so b t s bearer f q full e first others two lines sound bounded h next slot
 told_so b t s bearer f q full e first others two lines sound bounded h next slot low (wraps kind count place inner some there may is) =
     let old : OldSession = record { bearer = beside bearer; epoch = epoch_of t.far.first f } in
     let v = told_of kind old count (record { number = number_of place; packet = inner }) in
-    let u = brought (number_of place) (inner_of (record { number = number_of place; packet = inner })) first.by in
+    let u = inside_of v first.by in
     let T = takes_tunnel b bearer t s (record_of e) f place (not (is_tunnel inner)) u two lines sound bounded h slot low some (inside_so kind old count place (t.far.line f) inner first.by there may) in
     let test = some_count count may.some in
     let far_is : inner_taken v first.by e ≡ tunnelled_end e (epoch_of t.far.first f) u = ap (λ z. if z then named_end e (epoch_of t.far.first f) else tunnelled_end e (epoch_of t.far.first f) u) test in
@@ -180,7 +177,7 @@ carrier_at : (t : Traffic) (s : State) (bearer : ℕ) (packet : List ℕ) (z : S
 carrier_at t s bearer packet (Plain i) next h so = absurd (both_tests (is_tunnel packet) so h.plain)
 carrier_at t s bearer packet (Tunnel f q full) next h so = record { session = f; place = q; full = full; next = next; is = h }
 
-first_tunnel : (t : Traffic) (s : State) (bearer : ℕ) (first : Taken) (others : List Taken) → AreLines bearer t s → AreNext (t.near.line s.near_record.session) s.near_record.taken (first ∷ others) → is_tunnel first.packet ≡ true
+pub first_tunnel : (t : Traffic) (s : State) (bearer : ℕ) (first : Taken) (others : List Taken) → AreLines bearer t s → AreNext (t.near.line s.near_record.session) s.near_record.taken (first ∷ others) → is_tunnel first.packet ≡ true
     → NextTunnel t s bearer first.packet
 first_tunnel t s bearer first others lines next so =
     let place : s.near_record.taken + 0 ≡ s.near_record.taken = omega arith in
@@ -208,19 +205,21 @@ through : (y : PairEnds) (v : Tunnelled) (by : ℕ) (e : LinkEnd) → (taken_dow
 unfolding going_on
 through y v by e is = ap (λ o. record_at (inner_at v by (taken_down v.kind v.old.epoch y).pair o).pair.far) is
 
-pub unwraps : (y : PairEnds) (b : Bearer) (t : Traffic) (s : State) (taken : List Taken) (c : Course) (carried : List Taken) → y.bearer ≤ 1 → AreLines y.bearer t s → Sound b s → Bounded s → IsRecordFor t.far (record_at y.far) s.far_record → is_some y.far ≡ true
+pub unwraps : (y : PairEnds) (b : Bearer) (t : Traffic) (s : State) (taken : List Taken) (c : Course) (carried : List Taken) → y.bearer ≤ 1 → AreLines y.bearer t s → Sound b s → Bounded s → IsRecordFor t.far (record_at y.far) s.far_record → IsMadeFor y t
     → AreNext (t.near.line s.near_record.session) s.near_record.taken taken → Unwraps y taken c carried → TookAll b y.bearer t s (length taken) (record_at c.pair.far) carried
 unwraps y b t s taken c carried two lines sound bounded h made next none_taken = plain_all b y.bearer t s [] (record_at y.far) lines sound h next (λ k u there. absurd (let wrong : ⊥ = cc in wrong))
 unwraps y b t s taken c carried two lines sound bounded h made next (as_it_is first others not_far) = elim (cases_Bool (is_tunnel first.packet)) [
   | inl so ↦ absurd (
       let w = first_tunnel t s y.bearer first others lines next so in
       let v = told_of_slot (beside y.bearer) w.session w.place w.full t.far (t.far.line w.session) first.packet w.is.speaks in
-      not_far v.0 (speaks_far y t.far w.session first.packet v.0 v.1 made))
+      not_far v.0 (speaks_far y t.far w.session first.packet v.0 v.1 (made s.near_record.session (s.near_record.taken + 0) first.packet (next.stand 0 first.packet refl) so)))
   | inr other ↦ plain_all b y.bearer t s (first ∷ others) (record_at y.far) lines sound h next (packets_plain (t.near.line s.near_record.session) s.near_record.taken first others next other)
 ]
 unwraps y b t s taken c carried two lines sound bounded h made next (tunnel first others v far) =
-    let w = first_tunnel t s y.bearer first others lines next (is_tunnel_of first.packet v far.tunnel) in
-    let e = an_end (taken_down v.kind v.old.epoch y).pair.far (taken_down_made v.kind v.old.epoch y ∙ made) in
+    let so = is_tunnel_of first.packet v far.tunnel in
+    let w = first_tunnel t s y.bearer first others lines next so in
+    let there = made s.near_record.session (s.near_record.taken + 0) first.packet (next.stand 0 first.packet refl) so in
+    let e = an_end (taken_down v.kind v.old.epoch y).pair.far (taken_down_made v.kind v.old.epoch y ∙ there) in
     let same_record : record_at y.far ≡ record_of e.0 = sym (taken_down_record v.kind v.old.epoch y) ∙ ap record_at e.1 in
     let T = told_so b t s y.bearer w.session w.place w.full e.0 first others two lines sound bounded (subst (λ o. IsRecordFor t.far o s.far_record) same_record h) next w.next w.is.begun w.is.speaks in
     let same : v ≡ T.told = told_once first.packet T.told v T.is.made T.is.spelled far.tunnel in

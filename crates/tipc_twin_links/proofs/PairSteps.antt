@@ -72,19 +72,19 @@ up_state e up = rw up refl
 -- ---- a link goes down while the other is up
 
 -- both ends, as they are seen
-both_seen : (x : PairEnds) (bearer bearer' : ℕ) (e f : LinkEnd) (s u : SessionEnd) → IsUpAt bearer x.near e s → IsUpAt bearer' x.far f u
+pub both_seen : (x : PairEnds) (bearer bearer' : ℕ) (e f : LinkEnd) (s u : SessionEnd) → IsUpAt bearer x.near e s → IsUpAt bearer' x.far f u
     → ends_seen x ≡ record { bearer = x.bearer; near = record { epoch = e.fsm.own; state = Up; window = s.sending }; far = record { epoch = f.fsm.own; state = Up; window = u.sending } }
 both_seen x bearer bearer' e f s u h k =
     ap (λ z. record { bearer = x.bearer; near = z; far = end_seen x.contact x.far }) (seen_some x.contact x.near e s Up h.end_is h.session_is (up_state e h.up))
     ∙ ap (λ z. record { bearer = x.bearer; near = record { epoch = e.fsm.own; state = Up; window = s.sending }; far = z }) (seen_some x.contact x.far f u Up k.end_is k.session_is (up_state f k.up))
 
 -- what the pair is after it
-fallen_pair : (x : PairEnds) (e e' f : LinkEnd) (s u : SessionEnd) → e'.session ≡ Some s → x.far ≡ Some f → f.session ≡ Some u
+pub fallen_pair : (x : PairEnds) (e e' f : LinkEnd) (s u : SessionEnd) → e'.session ≡ Some s → x.far ≡ Some f → f.session ≡ Some u
     → (fail_over (with_near x e')).pair ≡ record x { near = Some (record e' { session = Some (record s { sending = emptied s.sending }) }); far = Some (record f { session = Some (flushed (put u (left_by s))) }) }
 fallen_pair x e e' f s u own_session far_is far_session = rw (far_is, own_session, far_session) refl
 
 -- the ends after it, as they are seen
-fallen_seen : (x : PairEnds) (e e' f : LinkEnd) (s u : SessionEnd) (bearer' : ℕ) → IsUpAt x.bearer x.near e s → IsUpAt bearer' x.far f u → IsFallen e e'
+pub fallen_seen : (x : PairEnds) (e e' f : LinkEnd) (s u : SessionEnd) (bearer' : ℕ) → IsUpAt x.bearer x.near e s → IsUpAt bearer' x.far f u → IsFallen e e'
     → ends_seen (fail_over (with_near x e')).pair ≡ record { bearer = x.bearer; near = record { epoch = e.fsm.own + 1; state = Held; window = emptied s.sending }; far = record { epoch = f.fsm.own; state = Up; window = advanced (room (put u (left_by s)).sending) (put u (left_by s)).sending } }
 unfolding flushed
 fallen_seen x e e' f s u bearer' h k fall =
@@ -111,11 +111,11 @@ fails_over b x e e' f s u bearer' t z h k fall stand sound can =
 
 -- ---- a link goes up
 
-risen_pair : (x : PairEnds) (e' f : LinkEnd) (s u : SessionEnd) → e'.session ≡ Some s → x.far ≡ Some f → f.session ≡ Some u
+pub risen_pair : (x : PairEnds) (e' f : LinkEnd) (s u : SessionEnd) → e'.session ≡ Some s → x.far ≡ Some f → f.session ≡ Some u
     → (switch (with_near x e')).pair ≡ record x { near = Some (record e' { session = Some (flushed (put s (taken_over u))) }); far = Some (record f { session = Some (record u { sending = without_waiting u.sending }) }) }
 risen_pair x e' f s u own_session far_is far_session = rw (far_is, own_session, far_session) refl
 
-risen_seen : (x : PairEnds) (e e' f : LinkEnd) (s u : SessionEnd) (bearer' : ℕ) → IsRisen e e' s → IsUpAt bearer' x.far f u
+pub risen_seen : (x : PairEnds) (e e' f : LinkEnd) (s u : SessionEnd) (bearer' : ℕ) → IsRisen e e' s → IsUpAt bearer' x.far f u
     → ends_seen (switch (with_near x e')).pair ≡ record { bearer = x.bearer; near = record { epoch = e.fsm.own; state = Up; window = advanced (room (offered fresh (taken_over u))) (offered fresh (taken_over u)) }; far = record { epoch = f.fsm.own; state = Up; window = without_waiting u.sending } }
 unfolding flushed
 risen_seen x e e' f s u bearer' h k =
@@ -127,7 +127,7 @@ risen_seen x e e' f s u bearer' h k =
     ∙ ap (λ z. record { bearer = x.bearer; near = record { epoch = e.fsm.own; state = Up; window = advanced (room (offered fresh (taken_over u))) (offered fresh (taken_over u)) }; far = record { epoch = f.fsm.own; state = z; window = without_waiting u.sending } }) (up_state f k.up))))
 
 -- an end in reset beside one that is up, as they are seen
-beside_seen : (x : PairEnds) (bearer' : ℕ) (e f : LinkEnd) (u : SessionEnd) → x.near ≡ Some e → state_as e.fsm.state ≡ Reset → IsUpAt bearer' x.far f u
+pub beside_seen : (x : PairEnds) (bearer' : ℕ) (e f : LinkEnd) (u : SessionEnd) → x.near ≡ Some e → state_as e.fsm.state ≡ Reset → IsUpAt bearer' x.far f u
     → ends_seen x ≡ record { bearer = x.bearer; near = record { epoch = e.fsm.own; state = Reset; window = window_in e.session }; far = record { epoch = f.fsm.own; state = Up; window = u.sending } }
 beside_seen x bearer' e f u is reset k =
     ap (λ z. record { bearer = x.bearer; near = z; far = end_seen x.contact x.far }) (ap (end_seen x.contact) is ∙ ap (λ z. record { epoch = e.fsm.own; state = z; window = window_in e.session }) reset)

@@ -1,5 +1,5 @@
 -- A RESET or an ACTIVATE at a pair, and a packet that is ignored: nothing is taken, and the records stay, but for one that begins.
-use Rattle.std.proofs.Common.{◌≡◌, ◌==◌, ◌&&◌, ◌||◌, not, ℕ, ◌+◌, ◌≤◌, Bool, true, false, nat_lt, if◌then◌else◌, List, [], Option, Some, None, is_some, option_map, refl, sym, ap, ◌∙◌, subst, arith}
+use Rattle.std.proofs.Common.{◌≡◌, ◌==◌, ◌&&◌, ◌||◌, not, ℕ, ◌+◌, ◌<◌, ◌≤◌, Bool, true, false, nat_lt, if◌then◌else◌, List, [], Option, Some, None, is_some, option_map, refl, sym, ap, ◌∙◌, subst, arith}
 use Rattle.std.proofs.lemmas.Bool.{and_parts, eqb-true}
 use Rattle.std.proofs.lemmas.Bool.Decides.{nat_tests}
 use Rattle.tipc_types.specs.declared.link_words.BroadcastState.{BroadcastState}
@@ -13,7 +13,7 @@ use Rattle.tipc_header.specs.Spelling.{Fields}
 use Rattle.tipc_link_fsm.specs.declared.changes.Change.{Change}
 use Rattle.tipc_link_fsm.specs.declared.changes.Change.TheVariants.{Answer, Down, Ignore, Up}
 use Rattle.tipc_link_fsm.specs.Table.{Fsm, Outcome, is_held, is_in_reset, is_last, is_peer, is_session, is_up, on_activate, on_reset, on_traffic}
-use Rattle.tipc_link_fsm.proofs.Moves.{cases_on, is_going_up}
+use Rattle.tipc_link_fsm.proofs.Moves.{cases_on, is_going_up, not_true}
 use Rattle.tipc_link.specs.Links.{LinkEnd, after, arrival_end, change_outcome, followed, heard_end, heard_outcome, is_down, is_heard, is_taken, is_traffic, known, record_in, record_of, with_fsm}
 use Rattle.tipc_link.specs.Records.{Early}
 use Rattle.tipc_link.specs.Sessions.{SessionEnd, content_of, told}
@@ -24,7 +24,7 @@ use Rattle.tipc_pair.specs.Facing.{PairEnds, in_contact, is_up_at, with_near}
 use Rattle.tipc_pair.specs.PairArrivals.{Arrives, Heard, behind, by_number, hears, met, passing, reset_change, reset_given, reset_near, reset_shown, taken_in}
 use Rattle.tipc_pair.specs.PairCalls.{stepped}
 use Rattle.tipc_changeover.specs.Links.{Bearer, Receiver, State}
-use Rattle.tipc_twin_links.specs.Arriving.{HasTaken, Opens, Stands}
+use Rattle.tipc_twin_links.specs.Arriving.{HasTaken, Opens, Stands, heard_pair}
 use Rattle.tipc_twin_links.specs.Receiving.{AreLines, IsRecordFor, Records, record_at, records_of}
 use Rattle.tipc_twin_links.specs.Traffic.{Traffic}
 use Rattle.tipc_twin_links.proofs.Happening.{reached_holds}
@@ -116,7 +116,7 @@ followed_record e k other = refl
 near_remains : (x : PairEnds) (e e' : LinkEnd) → x.near ≡ Some e → record_of e' ≡ record_of e → Remains x (with_near x e')
 near_remains x e e' is same = record { bearer = refl; made = refl; records = both_are x (with_near x e') (same ∙ ap record_at (sym is)) refl }
 
-stepped_remains : (x : PairEnds) (e : LinkEnd) (o : Outcome) (es : ℕ) (shown : BroadcastState) → x.near ≡ Some e → is_going_up o.change ≡ false → Remains x (stepped x e o es shown).pair
+pub stepped_remains : (x : PairEnds) (e : LinkEnd) (o : Outcome) (es : ℕ) (shown : BroadcastState) → x.near ≡ Some e → is_going_up o.change ≡ false → Remains x (stepped x e o es shown).pair
 unfolding going_on
 stepped_remains x e o es shown is other =
     remains_then x (with_near x (after e o)) (following (with_near x (after e o)) o.change es).pair (near_remains x e (after e o) is (followed_record (with_fsm e o.after) o.change other)) (following_remains (with_near x (after e o)) o.change es)
@@ -160,13 +160,20 @@ reset_none es shown x =
       | false ↦ h
     ]
 
-pub number_none : (P : Heard → Type 0) (x : PairEnds) (number : ℕ) (same higher : Heard) → P (passing x why.Contact) → P same → P higher → P (by_number x number same higher)
-number_none P x number same higher low equal high = elim (nat_lt number x.seen) as (λ b. P (if b then passing x why.Contact else (if number == x.seen then same else higher))) [
-  | true ↦ low
-  | false ↦ elim (number == x.seen) as (λ b. P (if b then same else higher)) [ true ↦ equal | false ↦ high ]
-]
+-- a contact number is lower than the highest that was seen, the same or higher
+pub number_shown : (P : Heard → Type 0) (x : PairEnds) (number : ℕ) (same higher : Heard) → P (passing x why.Contact) → (number ≡ x.seen → P same) → (x.seen < number → P higher) → P (by_number x number same higher)
+number_shown P x number same higher low equal high = elim (nat_lt number x.seen) as (λ b. nat_lt number x.seen ≡ b → P (if b then passing x why.Contact else (if number == x.seen then same else higher))) [
+  | true ↦ λ _. low
+  | false ↦ λ least. elim (number == x.seen) as (λ b. (number == x.seen) ≡ b → P (if b then same else higher)) [
+    | true ↦ λ is. equal (eqb-true number x.seen is)
+    | false ↦ λ differ. high (grind (arith, nat_tests))
+  ] refl
+] refl
 
-shown_none : (number es : ℕ) (shown : BroadcastState) (x : PairEnds) → TakesNothing x (reset_shown number es shown x)
+pub number_none : (P : Heard → Type 0) (x : PairEnds) (number : ℕ) (same higher : Heard) → P (passing x why.Contact) → P same → P higher → P (by_number x number same higher)
+number_none P x number same higher low equal high = number_shown P x number same higher low (λ _. equal) (λ _. high)
+
+pub shown_none : (number es : ℕ) (shown : BroadcastState) (x : PairEnds) → TakesNothing x (reset_shown number es shown x)
 shown_none number es shown x =
     number_none (TakesNothing x) x number (reset_near es shown x) (behind (risen x number) (reset_near es shown)) (passes x why.Contact) (reset_none es shown x)
     (nothing_behind x (risen x number) (reset_near es shown) (risen_remains x number) (reset_none es shown (risen x number).pair))
@@ -181,7 +188,7 @@ stands_none x y b t s before h k =
     let holds = reached_holds b s h.reached in
     record {
       two_bearers = subst (λ n. n ≤ 1) (sym k.bearer) h.two_bearers;
-      made = k.made ∙ h.made;
+      made = λ n i u there so. k.made ∙ h.made n i u there so;
       lines = subst (λ n. AreLines n t s) (sym k.bearer) h.lines;
       sound = holds.0;
       bounded = holds.1;
@@ -192,12 +199,12 @@ stands_none x y b t s before h k =
     }
 
 pub nothing_received : (x : PairEnds) (es er : ℕ) (p : Fields) (by : ℕ) (shown : BroadcastState) (c : Course) (given : PairOutcome) (b : Bearer) (t : Traffic) (s : State) (before : List (List ℕ)) (m : Heard) → Stands x b t s before → hears p.header es er p by shown x ≡ m → TakesNothing x m
-    → Arrives x es er p by shown c given → Opens b x.bearer t s before c.pair given
+    → Arrives x es er p by shown c given → Opens b x.bearer t s before (heard_pair x es er p by shown) c.pair given
 nothing_received x es er p by shown c given b t s before m h is k arrives =
     arrives_from x es er p by shown c given b t s before m is k.remains.bearer (subst (λ us. HasTaken m.course.pair b t s before us) (sym k.none) (stands_none x m.course.pair b t s before h k.remains)) arrives
 
 pub resets_receive : (x : PairEnds) (said : Reset) (es er : ℕ) (p : Fields) (by : ℕ) (shown : BroadcastState) (c : Course) (given : PairOutcome) (b : Bearer) (t : Traffic) (s : State) (before : List (List ℕ)) → Stands x b t s before → p.header ≡ header.Reset said
-    → Arrives x es er p by shown c given → Opens b x.bearer t s before c.pair given
+    → Arrives x es er p by shown c given → Opens b x.bearer t s before (heard_pair x es er p by shown) c.pair given
 resets_receive x said es er p by shown c given b t s before h is arrives =
     nothing_received x es er p by shown c given b t s before (reset_shown said.contact es shown x) h (ap (λ (q : Header). hears q es er p by shown x) is) (shown_none said.contact es shown x) arrives
 
@@ -218,7 +225,7 @@ and_not true = refl
 and_not false = refl
 
 pub others_receive : (x : PairEnds) (e : LinkEnd) (reason : Why) (es er : ℕ) (p : Fields) (by : ℕ) (shown : BroadcastState) (c : Course) (given : PairOutcome) (b : Bearer) (t : Traffic) (s : State) (before : List (List ℕ)) → Stands x b t s before → x.near ≡ Some e
-    → is_traffic p.header ≡ true → (on_traffic e.fsm es er).change ≡ Ignore reason → Arrives x es er p by shown c given → Opens b x.bearer t s before c.pair given
+    → is_traffic p.header ≡ true → (on_traffic e.fsm es er).change ≡ Ignore reason → Arrives x es er p by shown c given → Opens b x.bearer t s before (heard_pair x es er p by shown) c.pair given
 others_receive x e reason es er p by shown c given b t s before h is traffic ignored arrives =
     let o = on_traffic e.fsm es er in
     let unheard : is_heard p.header o.change ≡ false = ap (λ k. is_traffic p.header && is_taken k) ignored ∙ and_not (is_traffic p.header) in
@@ -236,6 +243,7 @@ going_up k so = absurd (let wrong : ⊥ = cc in wrong)
 -- what an ACTIVATE that takes an end up tells
 pub record TellsUp (fsm : Fsm) (es er : ℕ) (o : Outcome) : Type 0 where
   pub own : er ≡ fsm.own
+  pub goes_on : is_last fsm.own ≡ false
   pub recent : fsm.highest ≤ es
   pub peer : known o.after.peer ≡ es
 
@@ -251,5 +259,6 @@ tells_up fsm es er =
     (λ fits change.
     let all = and_parts (is_in_reset fsm.state && not (is_last fsm.own)) _ fits in
     let ours = and_parts (er == fsm.own) _ all.1 in
-    record { own = eqb-true er fsm.own ours.0; recent = not_less es fsm.highest ours.1; peer = refl })
+    let resets = and_parts (is_in_reset fsm.state) _ all.0 in
+    record { own = eqb-true er fsm.own ours.0; goes_on = not_true (is_last fsm.own) resets.1; recent = not_less es fsm.highest ours.1; peer = refl })
     (λ h. cases_on P (is_up fsm.state && is_session fsm es er) _ _ (λ fits change. absurd (let wrong : ⊥ = cc in wrong)) (λ h change. absurd (let wrong : ⊥ = cc in wrong))))

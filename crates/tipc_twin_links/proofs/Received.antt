@@ -1,5 +1,5 @@
 -- What the near link of a pair took is opened: the records of the pair then, and the packets that were taken in the contact.
-use Rattle.std.proofs.Common.{◌≡◌, ℕ, ◌++◌, List, [], Option, Some, None, length, take, refl, sym, ◌∙◌, subst}
+use Rattle.std.proofs.Common.{◌≡◌, ℕ, ◌++◌, List, [], Option, Some, None, refl, sym, ap, ◌∙◌, subst, inl}
 use Rattle.tipc_types.specs.declared.packet_lists.Taken.{Taken}
 use Rattle.tipc_recv_window.specs.declared.outcomes.LinkOutcome.{LinkOutcome}
 use Rattle.tipc_link.specs.Links.{LinkEnd}
@@ -10,10 +10,10 @@ use Rattle.tipc_pair.specs.Facing.{PairEnds}
 use Rattle.tipc_pair.specs.PairArrivals.{OpensInto, Unwraps, as_it_is, deferred, ignored, inner_at, none_taken, opens, taken_down, taken_in, tunnel}
 use Rattle.tipc_changeover.specs.Links.{Bearer, State}
 use Rattle.tipc_twin_links.specs.Arriving.{HasTaken, Opens, Receives, brings, ignores, waits}
-use Rattle.tipc_twin_links.specs.Receiving.{AreTakenAs, IsRecordFor, bytes_in, record_at}
+use Rattle.tipc_twin_links.specs.Receiving.{IsRecordFor, bytes_in, record_at}
 use Rattle.tipc_twin_links.specs.Traffic.{Traffic}
+use Rattle.tipc_twin_links.proofs.BegunKept.{unwraps_begun}
 use Rattle.tipc_twin_links.proofs.Opening.{unwraps}
-use Rattle.tipc_twin_links.proofs.Tunnelling.{taken_append}
 use Rattle.tipc_twin_links.proofs.Unwrapping.{taken_down_near}
 
 inner_near : (v : Tunnelled) (by : ℕ) (y : PairEnds) (o : Option LinkEnd) → record_at (inner_at v by y o).pair.near ≡ record_at y.near
@@ -39,7 +39,7 @@ receives y b t s before taken c carried h u =
       receive = record {
         near = near;
         far = T.far_is;
-        first_ones = subst (λ (ps : List (List ℕ)). AreTakenAs ps (before ++ bytes_in carried)) (sym T.longer) (taken_append (take (length s.delivered) t.put) T.packets before (bytes_in carried) h.first_ones T.came);
+        first_ones = T.longer ∙ ap (λ ps. ps ++ bytes_in carried) h.first_ones;
       };
     }
 
@@ -48,13 +48,15 @@ nothing_taken : (y : PairEnds) (b : Bearer) (t : Traffic) (s : State) (before : 
 nothing_taken y b t s before h = receives y b t s before [] (rests y) [] h none_taken
 
 pub gives : (y : PairEnds) (b : Bearer) (t : Traffic) (s : State) (before : List (List ℕ)) (outcome : LinkOutcome) (c : Course) (given : PairOutcome) → HasTaken y b t s before (taken_in outcome) → OpensInto y outcome c given
-    → Opens b y.bearer t s before c.pair given
+    → Opens b y.bearer t s before y c.pair given
 gives y b t s before outcome c given h (opens {taken = taken} {carried = carried} {c = inner} {given = items} {last = last} u all) =
     let R = receives y b t s before taken inner carried h u in
     record {
       carried = carried;
-      gives = brings inner.pair.begun last all;
+      begun = inner.pair.begun;
+      begun_is = (unwraps_begun y taken inner carried u).begun;
+      gives = brings all;
       receives = record { state = R.state; takes = R.takes; lines = R.lines; receive = R.receive };
     }
-gives y b t s before outcome c given h deferred = record { carried = []; gives = waits; receives = nothing_taken y b t s before h }
-gives y b t s before outcome c given h ignored = record { carried = []; gives = ignores; receives = nothing_taken y b t s before h }
+gives y b t s before outcome c given h deferred = record { carried = []; begun = y.begun; begun_is = inl refl; gives = waits; receives = nothing_taken y b t s before h }
+gives y b t s before outcome c given h ignored = record { carried = []; begun = y.begun; begun_is = inl refl; gives = ignores; receives = nothing_taken y b t s before h }

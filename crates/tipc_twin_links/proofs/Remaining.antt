@@ -72,7 +72,7 @@ release_records x = elim (cases_Bool (is_clear x.far)) [
   | inr other ↦ ap (λ b. records_of (if b then record (rests (record x { near = option_map let_go x.near })) { states = let_go_frames x.near } else rests x).pair) other
 ]
 
-turned_records : (y y' : PairEnds) → records_of y' ≡ records_of (turned_pair y) → records_of (turned_pair y') ≡ records_of y
+pub turned_records : (y y' : PairEnds) → records_of y' ≡ records_of (turned_pair y) → records_of (turned_pair y') ≡ records_of y
 turned_records y y' same = ap (λ (r : Records). record { near = r.far; far = r.near }) same
 
 pub released_records : (x : PairEnds) → records_of (released x).pair ≡ records_of x

@@ -18,9 +18,9 @@ use Rattle.tipc_pair.specs.Courses.{Course, going_on, rests}
 use Rattle.tipc_pair.specs.Facing.{PairEnds, is_up_at, with_near}
 use Rattle.tipc_pair.specs.PairArrivals.{Arrives, met, taken_in}
 use Rattle.tipc_changeover.specs.Links.{Bearer, State}
-use Rattle.tipc_twin_links.specs.Arriving.{HasTaken, IsHeardIn, MayBegin, Opens, Stands}
+use Rattle.tipc_twin_links.specs.Arriving.{HasTaken, IsHeardIn, MayBegin, Opens, Stands, heard_pair}
 use Rattle.tipc_twin_links.specs.Following.{Takes}
-use Rattle.tipc_twin_links.specs.Receiving.{AreTakenAs, IsOfSession, IsRecordFor, record_at, records_of}
+use Rattle.tipc_twin_links.specs.Receiving.{IsOfSession, IsRecordFor, record_at, records_of}
 use Rattle.tipc_twin_links.specs.Traffic.{Traffic, epoch_of}
 use Rattle.tipc_twin_links.proofs.Happening.{follows_reached, follows_then}
 use Rattle.tipc_twin_links.proofs.Hearing.{arrival_outcome, arrival_record, arrives_from, heard_so, stands_taken, traffic_met}
@@ -78,10 +78,10 @@ up_made x = elim (is_up_at x.far) as (λ b. StaysMade x (if b then (if x.bearer 
 
 -- ---- events one after the other
 
-pub opens_later : (b : Bearer) (bearer : ℕ) (t : Traffic) (s s' : State) (before : List (List ℕ)) (y : PairEnds) (given : PairOutcome) → Takes b s s' → Opens b bearer t s' before y given → Opens b bearer t s before y given
-opens_later b bearer t s s' before y given first h =
+pub opens_later : (b : Bearer) (bearer : ℕ) (t : Traffic) (s s' : State) (before : List (List ℕ)) (heard y : PairEnds) (given : PairOutcome) → Takes b s s' → Opens b bearer t s' before heard y given → Opens b bearer t s before heard y given
+opens_later b bearer t s s' before heard y given first h =
     let R = h.receives in
-    record { carried = h.carried; gives = h.gives; receives = record { state = R.state; takes = follows_then b s s' R.state first R.takes; lines = R.lines; receive = R.receive } }
+    record { carried = h.carried; begun = h.begun; begun_is = h.begun_is; gives = h.gives; receives = record { state = R.state; takes = follows_then b s s' R.state first R.takes; lines = R.lines; receive = R.receive } }
 
 -- ---- the arrival
 
@@ -121,7 +121,7 @@ begins_record x e es b t s before session h is epoch may =
         receive = record {
           near = subst (λ o. IsRecordFor t.near o R.state.near_record) (sym now) (inr own);
           far = subst (λ r. IsRecordFor t.far (record_at x.far) r) (sym R.far_is) h.receive.far;
-          first_ones = subst (λ ds. AreTakenAs (take (length ds) t.put) before) (sym R.delivered) h.receive.first_ones;
+          first_ones = ap (λ (ds : List ℕ). take (length ds) t.put) R.delivered ∙ h.receive.first_ones;
         };
       };
       near_is = own;
@@ -130,7 +130,7 @@ begins_record x e es b t s before session h is epoch may =
 
 pub risings_receive : (x : PairEnds) (e : LinkEnd) (es er : ℕ) (p : Fields) (by : ℕ) (shown : BroadcastState) (c : Course) (given : PairOutcome) (b : Bearer) (t : Traffic) (s : State) (before : List (List ℕ)) (session : ℕ) → Stands x b t s before → x.near ≡ Some e
     → is_traffic p.header ≡ true → (on_traffic e.fsm es er).change ≡ Up → es ≡ epoch_of t.near.first session → MayBegin s session → IsHeardIn (t.near.line session) (kept_for (record_of e) es) (content_of p) → Arrives x es er p by shown c given
-    → Opens b x.bearer t s before c.pair given
+    → Opens b x.bearer t s before (heard_pair x es er p by shown) c.pair given
 unfolding going_on
 risings_receive x e es er p by shown c given b t s before session h is traffic up epoch may heard arrives =
     let o = on_traffic e.fsm es er in
@@ -150,6 +150,6 @@ risings_receive x e es er p by shown c given b t s before session h is traffic u
     let records : records_of m.course.pair ≡ record { near = Some (receiving_record (arrived a by p.acknowledgement (content_of p))); far = record_at x.far } =
     following_records y o.change es ∙ ap (λ q. record { near = q; far = record_at x.far }) (arrival_record e o p by a so again) in
     let stands = R.stands (after e o) (up_record e o es up peer) in
-    let taken = stands_taken (with_near x (after e o)) m.course.pair b t R.state before (receiving_record (arrived a by p.acknowledgement (content_of p))) (taken_in (outcome a by (content_of p))) stands stays_made.bearer (stays_made.made ∙ h.made) records now.record_is now.next in
-    opens_later b x.bearer t s R.state before c.pair given R.takes
+    let taken = stands_taken (with_near x (after e o)) m.course.pair b t R.state before (receiving_record (arrived a by p.acknowledgement (content_of p))) (taken_in (outcome a by (content_of p))) stands stays_made.bearer (λ n k u there so. stays_made.made ∙ h.made n k u there so) records now.record_is now.next in
+    opens_later b x.bearer t s R.state before _ c.pair given R.takes
     (arrives_from x es er p by shown c given b t R.state before m (traffic_met x e es er p by shown traffic is) stays_made.bearer (subst (λ (q : LinkOutcome). HasTaken m.course.pair b t R.state before (taken_in q)) outcome_is taken) arrives)

@@ -11,7 +11,7 @@ use Rattle.tipc_changeover.specs.Links.{Reset, Up}
 use Rattle.tipc_twin_links.specs.Sending.{state_as}
 use Rattle.tipc_twin_links.specs.Turning.{Turns, goes_down, goes_up, stays_so}
 
-as_up : (s : LinkState) → is_up s ≡ true → state_as s ≡ Up
+pub as_up : (s : LinkState) → is_up s ≡ true → state_as s ≡ Up
 as_up s up = rw up refl
 
 as_reset : (s : LinkState) → is_in_reset s ≡ true → state_as s ≡ Reset
@@ -28,7 +28,7 @@ reset_heard WorkingWorking so = absurd (let wrong : ⊥ = cc in wrong)
 reset_heard WorkingUnknown so = absurd (let wrong : ⊥ = cc in wrong)
 reset_heard state.Held so = absurd (let wrong : ⊥ = cc in wrong)
 
-as_down : (s : LinkState) → is_up s ≡ false → is_held s ≡ false → state_as s ≡ Reset
+pub as_down : (s : LinkState) → is_up s ≡ false → is_held s ≡ false → state_as s ≡ Reset
 as_down s down other = rw (down, other) refl
 
 pub cut_turns : (fsm : Fsm) (held : Bool) → Turns held fsm (on_cut fsm held)

@@ -21,7 +21,7 @@ use Rattle.tipc_twin_links.specs.Traffic.{turned as turned_traffic}
 use Rattle.tipc_twin_links.specs.Sending.{beside}
 use Rattle.tipc_twin_links.specs.Steps.{ArePlain}
 use Rattle.tipc_twin_links.specs.Following.{Takes, stays}
-use Rattle.tipc_twin_links.specs.Receiving.{AreLines, AreTakenAs, IsInside, IsOfSession, IsRecordFor, Recorded, StandBehind, TookTunnel, bytes_in, directly}
+use Rattle.tipc_twin_links.specs.Receiving.{AreLines, IsInside, IsOfSession, IsRecordFor, Recorded, StandBehind, TookTunnel, bytes_in}
 use Rattle.tipc_twin_links.proofs.Happening.{follows_one, follows_then, sound_turned}
 use Rattle.tipc_twin_links.proofs.Turning.{follows_from, lines_back, lines_turned}
 use Rattle.tipc_changeover.specs.Distances.{Bounded}
@@ -67,7 +67,7 @@ told_new : (r : Receiver) (f : ℕ) → r.session < f → told r f ≡ record { 
 unfolding told
 told_new r f less = (let test : nat_lt r.session f ≡ true = grind (arith, nat_tests) in rw test refl)
 
-told_old : (r : Receiver) (f : ℕ) → f ≤ r.session → told r f ≡ r
+pub told_old : (r : Receiver) (f : ℕ) → f ≤ r.session → told r f ≡ r
 unfolding told
 told_old r f more = (let test : nat_lt r.session f ≡ false = grind (arith, nat_tests) in rw test refl)
 
@@ -114,7 +114,7 @@ unfolding is_next
 not_next_number a epoch u differ = no_and (epoch == a.epoch) (u.number == number_of (a.taken + 1)) (grind (arith, nat_tests, differ))
 
 -- the number of an old place isn't the wanted one
-old_number : (q taken : ℕ) → q ≤ taken → taken < q + 50 → number_of q ≢ number_of (taken + 1)
+pub old_number : (q taken : ℕ) → q ≤ taken → taken < q + 50 → number_of q ≢ number_of (taken + 1)
 unfolding number_of
 old_number q taken old near same = omega arith
 
@@ -147,16 +147,6 @@ one_empty t none = (let long : length t.packet ≡ 0 = ap length none in let tes
 
 pub bytes_more : (ts us : List Taken) → bytes_in (ts ++ us) ≡ bytes_in ts ++ bytes_in us
 bytes_more ts us = ap (map (λ (t : Taken). t.packet)) (bytes_append ts us) ∙ map-append (λ (t : Taken). t.packet) (with_bytes ts) (with_bytes us)
-
-pub taken_same : (xs : List (List ℕ)) → AreTakenAs xs xs
-taken_same [] = tt
-taken_same (x ∷ xs) = (directly refl, taken_same xs)
-
-pub taken_append : (xs ys us vs : List (List ℕ)) → AreTakenAs xs us → AreTakenAs ys vs → AreTakenAs (xs ++ ys) (us ++ vs)
-taken_append [] ys [] vs h k = k
-taken_append [] ys (u ∷ us) vs h k = absurd h
-taken_append (x ∷ xs) ys [] vs h k = absurd h
-taken_append (x ∷ xs) ys (u ∷ us) vs h k = (h.0, taken_append xs ys us vs h.1 k)
 
 pub all_plain : (ts : List Taken) → ((k : ℕ) (t : Taken) → slice_get ts k ≡ Some t → is_tunnel t.packet ≡ false) → ArePlain (map (λ (t : Taken). t.packet) ts)
 all_plain [] plain = tt
@@ -198,10 +188,10 @@ advanced_for l a r u h =
 -- ---- a tunnel packet is taken
 
 -- the packet inside was the wanted one: those that are held behind it are taken with it
-goes_on : (b : Bearer) (bearer : ℕ) (t : Traffic) (s s' : State) (a : Received) (r : Receiver) (u : Taken) (front : List (List ℕ)) → bearer ≤ 1 → Takes b s s' → AreLines bearer t s' → Sound b s' → s'.near_record ≡ after_next s.near_record
-    → IsOfSession t.far a r → s'.far_record ≡ after_next r → take (length s'.delivered) t.put ≡ take (length s.delivered) t.put ++ front → AreTakenAs front (bytes_in (u ∷ []))
+goes_on : (b : Bearer) (bearer : ℕ) (t : Traffic) (s s' : State) (a : Received) (r : Receiver) (u : Taken) → bearer ≤ 1 → Takes b s s' → AreLines bearer t s' → Sound b s' → s'.near_record ≡ after_next s.near_record
+    → IsOfSession t.far a r → s'.far_record ≡ after_next r → take (length s'.delivered) t.put ≡ take (length s.delivered) t.put ++ bytes_in (u ∷ [])
     → TookTunnel b bearer t s (advanced_by a u) (u ∷ behind a)
-goes_on b bearer t s s' a r u front two takes lines sound near_is h far_is longer came =
+goes_on b bearer t s s' a r u two takes lines sound near_is h far_is longer =
     let rest = behind a in
     let packets = map (λ (v : Taken). v.packet) rest in
     let taken = h.taken in
@@ -222,9 +212,8 @@ goes_on b bearer t s s' a r u front two takes lines sound near_is h far_is longe
       lines = lines_back bearer t m.state two m.lines;
       near_is = m.far_is ∙ near_is;
       far_is = subst (λ (z : Receiver). IsOfSession t.far (advanced_by a u) z) (sym ends) (advanced_for t.far a r u h);
-      packets = front ++ packets;
-      longer = m.longer ∙ (ap (λ ps. ps ++ packets) longer ∙ append_assoc (take (length s.delivered) t.put) front packets);
-      came = subst (λ bs. AreTakenAs (front ++ packets) bs) (sym (bytes_more (u ∷ []) rest)) (taken_append front packets (bytes_in (u ∷ [])) (bytes_in rest) came (subst (λ bs. AreTakenAs packets bs) (sym bytes) (taken_same packets)));
+      longer = m.longer ∙ (ap (λ ps. ps ++ packets) longer ∙ append_assoc (take (length s.delivered) t.put) (bytes_in (u ∷ [])) packets
+          ∙ ap (λ ps. take (length s.delivered) t.put ++ ps) (ap (λ ps. bytes_in (u ∷ []) ++ ps) (sym bytes) ∙ sym (bytes_more (u ∷ []) rest)));
     }
 
 -- the packet inside was old, or of an older session: nothing comes of it
@@ -236,9 +225,8 @@ stays_so b bearer t s s' a epoch u takes lines near_is h same not_next = record 
   lines = lines;
   near_is = near_is;
   far_is = subst (λ z. IsOfSession t.far z s'.far_record) (sym (tunnelled_stays a epoch u not_next)) h;
-  packets = [];
-  longer = ap (λ (is : List ℕ). take (length is) t.put) (same ∙ append-nil s.delivered) ∙ sym (append-nil (take (length s.delivered) t.put));
-  came = subst (λ ts. AreTakenAs [] (bytes_in ts)) (sym (freed_none a epoch u not_next)) tt;
+  longer = ap (λ (is : List ℕ). take (length is) t.put) (same ∙ append-nil s.delivered) ∙ sym (append-nil (take (length s.delivered) t.put))
+      ∙ ap (λ ts. take (length s.delivered) t.put ++ bytes_in ts) (sym (freed_none a epoch u not_next));
 }
 
 -- the session of the record that is told
@@ -248,10 +236,10 @@ told_session r f low = elim (cases_lt r.session f) [
   | inr more ↦ ap (λ (z : Receiver). z.session) (told_old r f (omega arith)) ∙ (omega arith)
 ]
 
-goes_so : (b : Bearer) (bearer : ℕ) (t : Traffic) (s s' : State) (a : Received) (r : Receiver) (f : ℕ) (u : Taken) (front : List (List ℕ)) → bearer ≤ 1 → Takes b s s' → AreLines bearer t s' → Sound b s'
-    → s'.near_record ≡ after_next s.near_record → IsOfSession t.far a r → r.session ≡ f → u.number ≡ number_of (r.taken + 1) → s'.far_record ≡ after_next r → take (length s'.delivered) t.put ≡ take (length s.delivered) t.put ++ front
-    → AreTakenAs front (bytes_in (u ∷ [])) → TookTunnel b bearer t s (tunnelled a (epoch_of t.far.first f) u) (taken_in (tunnelled_outcome a (epoch_of t.far.first f) u))
-goes_so b bearer t s s' a r f u front two takes lines sound near_is h session number far_is longer came =
+goes_so : (b : Bearer) (bearer : ℕ) (t : Traffic) (s s' : State) (a : Received) (r : Receiver) (f : ℕ) (u : Taken) → bearer ≤ 1 → Takes b s s' → AreLines bearer t s' → Sound b s'
+    → s'.near_record ≡ after_next s.near_record → IsOfSession t.far a r → r.session ≡ f → u.number ≡ number_of (r.taken + 1) → s'.far_record ≡ after_next r → take (length s'.delivered) t.put ≡ take (length s.delivered) t.put ++ bytes_in (u ∷ [])
+    → TookTunnel b bearer t s (tunnelled a (epoch_of t.far.first f) u) (taken_in (tunnelled_outcome a (epoch_of t.far.first f) u))
+goes_so b bearer t s s' a r f u two takes lines sound near_is h session number far_is longer =
     let epoch_so = h.epoch in
     let taken_so = h.taken in
     let begun = h.begun in
@@ -259,7 +247,7 @@ goes_so b bearer t s s' a r f u front two takes lines sound near_is h session nu
     let so : is_next a (epoch_of t.far.first f) u ≡ true = next_so a (epoch_of t.far.first f) u epoch (number ∙ ap (λ n. number_of (n + 1)) h.taken) in
     subst (λ ts. TookTunnel b bearer t s (tunnelled a (epoch_of t.far.first f) u) ts) (sym (freed_some a (epoch_of t.far.first f) u so))
     (subst (λ z. TookTunnel b bearer t s z (u ∷ behind a)) (sym (tunnelled_goes a (epoch_of t.far.first f) u so))
-    (goes_on b bearer t s s' a r u front two takes lines sound near_is h far_is longer came))
+    (goes_on b bearer t s s' a r u two takes lines sound near_is h far_is longer))
 
 takes_by : (b : Bearer) (bearer : ℕ) (t : Traffic) (s : State) (o : Option Received) (f q : ℕ) (full : Bool) (u : Taken) (opening : Opening) → bearer ≤ 1 → AreLines bearer t s → Sound b s → Bounded s
     → IsRecordFor t.far o s.far_record → IsNext s (Tunnel f q full) → 1 ≤ f → 1 ≤ q → IsInside (t.far.line f) q full u → MayOpen s.far.line s.far_record f q full opening → opening ≢ Deferred
@@ -281,10 +269,10 @@ takes_by b bearer t s o f q full u Passed two lines sound bounded h next low som
     let a = named o (epoch_of t.far.first f) in
     let r = told s.far_record f in
     let event = TakeTunnel f q full Passed in
-    goes_so b bearer t s (acted s event) a r f u [] two (follows_one b s event (next, may) refl) (record { put = lines.put; near = lines.near; far = lines.far }) (acts b s event sound (next, may)) refl
+    goes_so b bearer t s (acted s event) a r f u two (follows_one b s event (next, may) refl) (record { put = lines.put; near = lines.near; far = lines.far }) (acts b s event sound (next, may)) refl
     (named_for t.far o s.far_record f h low) (told_session s.far_record f may.0) (is.number ∙ ap number_of may.1) refl
-    (ap (λ (ds : List ℕ). take (length ds) t.put) (append-nil s.delivered) ∙ sym (append-nil (take (length s.delivered) t.put)))
-    (subst (λ bs. AreTakenAs [] bs) (sym (one_empty u (is.empty may.2))) tt)
+    (ap (λ (ds : List ℕ). take (length ds) t.put) (append-nil s.delivered) ∙ sym (append-nil (take (length s.delivered) t.put))
+    ∙ ap (λ bs. take (length s.delivered) t.put ++ bs) (sym (one_empty u (is.empty may.2))))
 takes_by b bearer t s o f q full u (Next i) two lines sound bounded h next low some is may differs =
     let a = named o (epoch_of t.far.first f) in
     let r = told s.far_record f in
@@ -293,10 +281,10 @@ takes_by b bearer t s o f q full u (Next i) two lines sound bounded h next low s
     let slot = are_at (IsFor t.put bearer t.near) (s.far.line f) (t.far.line f) q (Plain i) (lines.far f) may.3 in
     let index = counted_last s.delivered i 0 after.count after.taken in
     let whole = is.whole slot.0 may.2 slot.1 in
-    goes_so b bearer t s (acted s event) a r f u (slot.0 ∷ []) two (follows_one b s event (next, may) refl) (record { put = lines.put; near = lines.near; far = lines.far }) after refl
+    goes_so b bearer t s (acted s event) a r f u two (follows_one b s event (next, may) refl) (record { put = lines.put; near = lines.near; far = lines.far }) after refl
     (named_for t.far o s.far_record f h low) (told_session s.far_record f may.0) (is.number ∙ ap number_of may.1) refl
-    (one_longer t.put s.delivered i slot.0 (omega arith) slot.2.there)
-    (subst (λ bs. AreTakenAs (slot.0 ∷ []) bs) (sym (one_whole u whole.1)) (whole.0, tt))
+    (one_longer t.put s.delivered i slot.0 (omega arith) slot.2.there
+    ∙ ap (λ bs. take (length s.delivered) t.put ++ bs) (sym (one_whole u (subst (λ (ps : List ℕ). 1 ≤ length ps) (sym whole.0) whole.1) ∙ ap (λ p. p ∷ []) whole.0)))
 takes_by b bearer t s o f q full u Deferred two lines sound bounded h next low some is may differs = absurd (differs refl)
 
 pub takes_tunnel : (b : Bearer) (bearer : ℕ) (t : Traffic) (s : State) (o : Option Received) (f q : ℕ) (full : Bool) (u : Taken) → bearer ≤ 1 → AreLines bearer t s → Sound b s → Bounded s → IsRecordFor t.far o s.far_record
@@ -316,9 +304,7 @@ marks_by b bearer t s o f full lines h next low (inl late) = record {
   lines = record { put = lines.put; near = lines.near; far = lines.far };
   near_is = refl;
   far_is = named_for t.far o s.far_record f h low;
-  packets = [];
   longer = ap (λ (ds : List ℕ). take (length ds) t.put) (append-nil s.delivered) ∙ sym (append-nil (take (length s.delivered) t.put));
-  came = tt;
 }
 marks_by b bearer t s o f full lines h next low (inr more) = record {
   state = acted s (TakeTunnel f 0 full Old);
@@ -326,9 +312,7 @@ marks_by b bearer t s o f full lines h next low (inr more) = record {
   lines = record { put = lines.put; near = lines.near; far = lines.far };
   near_is = refl;
   far_is = named_for t.far o s.far_record f h low;
-  packets = [];
   longer = ap (λ (ds : List ℕ). take (length ds) t.put) (append-nil s.delivered) ∙ sym (append-nil (take (length s.delivered) t.put));
-  came = tt;
 }
 
 pub takes_marker : (b : Bearer) (bearer : ℕ) (t : Traffic) (s : State) (o : Option Received) (f : ℕ) (full : Bool) → AreLines bearer t s → IsRecordFor t.far o s.far_record → IsNext s (Tunnel f 0 full) → 1 ≤ f

@@ -5,12 +5,14 @@ use Rattle.tipc_types.specs.Position.{number_of}
 use Rattle.tipc_types.specs.declared.link_words.OldSession.{OldSession}
 use Rattle.tipc_header.specs.declared.packet.ChangeoverType.{ChangeoverType}
 use Rattle.tipc_tunnel.specs.Tunnels.{IsTunnel, numbered}
-use Rattle.tipc_tunnel.proofs.TunnelLaws.{wrapped_length, wrapped_tunnel}
+use Rattle.tipc_tunnel.proofs.TunnelLaws.{wrapped_tunnel}
 use Rattle.tipc_link.specs.Records.{is_tunnel}
+use Rattle.tipc_pair.specs.PairArrivals.{restored}
 use Rattle.tipc_pair.specs.Runs.{IsListed, plain, tunnel}
 use Rattle.tipc_pair.proofs.Listed.{both_ways, listed_inner, listed_size, made_tunnel}
+use Rattle.tipc_pair.proofs.Restoring.{restored_numbered}
 use Rattle.tipc_twin_links.specs.Packets.{MayBeIn, told_by_marker, told_of}
-use Rattle.tipc_twin_links.specs.Ends.{AreListed}
+use Rattle.tipc_twin_links.specs.Ends.{AreListed, WaitsAsListed}
 use Rattle.tipc_twin_links.specs.Steps.{CanTravel, EachWraps}
 
 short_number : (n : ℕ) → number_of n < 2 ^ 16
@@ -42,11 +44,16 @@ told_tunnel kind old count packet listed bearer epoch few some n = elim (cases_B
       (wrapped_tunnel kind old count (number_of n) packet bearer epoch few (short_number n) (λ none. absurd (let wrong : ⊥ = omega arith in wrong)) (listed_inner packet listed other) (listed_size packet listed other))
 ]
 
-listed_may : (kind : ChangeoverType) (old : OldSession) (count : ℕ) (packet : List ℕ) → IsListed packet → old.bearer ≤ 1 → old.epoch < 2 ^ 64 → count < 2 ^ 16 → 1 ≤ count → MayBeIn kind old count packet
-listed_may kind old count packet listed bearer epoch few some = record {
+-- it is given back as it waits
+listed_back : (packet : List ℕ) → WaitsAsListed packet → (n : ℕ) → is_tunnel packet ≡ false → restored (numbered (number_of n) packet) ≡ packet
+listed_back packet h n other = restored_numbered packet (number_of n) (listed_inner packet h.listed other) (short_number n) ∙ h.as_waiting
+
+listed_may : (kind : ChangeoverType) (old : OldSession) (count : ℕ) (packet : List ℕ) → WaitsAsListed packet → old.bearer ≤ 1 → old.epoch < 2 ^ 64 → count < 2 ^ 16 → 1 ≤ count → MayBeIn kind old count packet
+listed_may kind old count packet h bearer epoch few some = record {
   some = some;
-  made = told_tunnel kind old count packet listed bearer epoch few some;
-  bytes = λ n other. (let same = wrapped_length (number_of n) packet (listed_inner packet listed other) in let long = listed_long packet listed other in omega arith);
+  made = told_tunnel kind old count packet h.listed bearer epoch few some;
+  bytes = λ other. (let long = listed_long packet h.listed other in omega arith);
+  back = listed_back packet h;
 }
 
 each_wraps : (kind : ChangeoverType) (old : OldSession) (count : ℕ) (packets : List (List ℕ)) → AreListed packets → old.bearer ≤ 1 → old.epoch < 2 ^ 64 → count < 2 ^ 16 → 1 ≤ count → EachWraps kind old count packets

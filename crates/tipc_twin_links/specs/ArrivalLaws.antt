@@ -1,11 +1,11 @@
 -- The laws of a pair with two links as a receiver: what an arrival takes is the next packets that were put, and its
 -- records stay those of the sender's sessions. b is the bearer of the near link.
-use Rattle.std.specs.Prelude.{◌≡◌, ◌≤◌, ℕ, true, List, Some}
+use Rattle.std.specs.Prelude.{◌≡◌, ◌≤◌, ℕ, false, true, List, Some}
 use Rattle.tipc_types.specs.declared.packet_lists.Taken.{Taken}
 use Rattle.tipc_recv_window.specs.declared.outcomes.LinkOutcome.{LinkOutcome}
 use Rattle.tipc_link_fsm.specs.declared.changes.Change.{Change}
 use Rattle.tipc_link_fsm.specs.declared.changes.Change.TheVariants.{Ignore, Stay, Up}
-use Rattle.tipc_link_fsm.specs.Table.{on_traffic}
+use Rattle.tipc_link_fsm.specs.Table.{is_last, on_traffic}
 use Rattle.tipc_link.specs.Links.{LinkEnd, is_traffic, record_of}
 use Rattle.tipc_link.specs.Records.{kept_for}
 use Rattle.tipc_header.specs.declared.packet.Header.TheVariants as header
@@ -21,7 +21,7 @@ use Rattle.tipc_pair.specs.Courses.{Course}
 use Rattle.tipc_pair.specs.Facing.{PairEnds}
 use Rattle.tipc_pair.specs.PairArrivals.{Arrives, OpensInto, Unwraps, taken_in}
 use Rattle.tipc_changeover.specs.Links.{Bearer, Receiver, State}
-use Rattle.tipc_twin_links.specs.Arriving.{Came, HasTaken, IsFramed, IsHeardIn, MayBegin, MayBeginAt, Opens, Receives, Stands}
+use Rattle.tipc_twin_links.specs.Arriving.{Came, HasTaken, IsFramed, IsHeardIn, MayBegin, MayBeginAt, Opens, Receives, ShowsLatest, Stands, heard_pair}
 use Rattle.tipc_twin_links.specs.Receiving.{IsOfSession, records_of}
 use Rattle.tipc_twin_links.specs.Traffic.{Lines, Traffic, epoch_of}
 
@@ -47,7 +47,7 @@ abbrev pub TakenAreGiven : Type 0
 TakenAreGiven = (y : PairEnds) (b : Bearer) (t : Traffic) (s : State) (before : List (List ℕ)) (outcome : LinkOutcome)
     (c : Course)
     (given : PairOutcome) → HasTaken y b t s before (taken_in outcome) → OpensInto y outcome c given
-    → Opens b y.bearer t s before c.pair given
+    → Opens b y.bearer t s before y c.pair given
 
 -- ---- what follows leaves the records as they are
 
@@ -69,7 +69,8 @@ SessionsReceive = (x : PairEnds) (e : LinkEnd) (a : SessionEnd) (es er : ℕ) (p
     → e.session ≡ Some a → is_traffic p.header ≡ true → (on_traffic e.fsm es er).change ≡ Stay
     → IsOfSession t.near (receiving_record a) s.near_record
     → IsHeardIn (t.near.line s.near_record.session) (receiving_record a) (content_of p)
-    → Arrives x es er p by shown c given → Opens b x.bearer t s before c.pair given
+    → Arrives x es er p by shown c given
+    → Opens b x.bearer t s before (heard_pair x es er p by shown) c.pair given
 
 -- At a link that goes up with it, under the epoch of a session that began: the link keeps the record of that epoch, or
 -- a new one begins.
@@ -81,7 +82,8 @@ RisingsReceive = (x : PairEnds) (e : LinkEnd) (es er : ℕ) (p : Fields) (by : �
     → is_traffic p.header ≡ true → (on_traffic e.fsm es er).change ≡ Up → es ≡ epoch_of t.near.first session
     → MayBegin s session
     → IsHeardIn (t.near.line session) (kept_for (record_of e) es) (content_of p)
-    → Arrives x es er p by shown c given → Opens b x.bearer t s before c.pair given
+    → Arrives x es er p by shown c given
+    → Opens b x.bearer t s before (heard_pair x es er p by shown) c.pair given
 
 -- ---- RESET, ACTIVATE, and what is ignored
 
@@ -91,7 +93,8 @@ ResetsReceive = (x : PairEnds) (said : Reset) (es er : ℕ) (p : Fields) (by : �
     (given : PairOutcome)
     (b : Bearer) (t : Traffic) (s : State) (before : List (List ℕ)) → Stands x b t s before
     → p.header ≡ header.Reset said
-    → Arrives x es er p by shown c given → Opens b x.bearer t s before c.pair given
+    → Arrives x es er p by shown c given
+    → Opens b x.bearer t s before (heard_pair x es er p by shown) c.pair given
 
 -- nor does a packet that the near link's states ignore
 abbrev pub OthersReceive : Type 0
@@ -100,7 +103,8 @@ OthersReceive = (x : PairEnds) (e : LinkEnd) (reason : Why) (es er : ℕ) (p : F
     (given : PairOutcome) (b : Bearer) (t : Traffic) (s : State) (before : List (List ℕ)) → Stands x b t s before
     → x.near ≡ Some e
     → is_traffic p.header ≡ true → (on_traffic e.fsm es er).change ≡ Ignore reason
-    → Arrives x es er p by shown c given → Opens b x.bearer t s before c.pair given
+    → Arrives x es er p by shown c given
+    → Opens b x.bearer t s before (heard_pair x es er p by shown) c.pair given
 
 -- nor an ACTIVATE; where it takes the near link up, the link keeps the record of the epoch that it shows, or a new one
 -- begins
@@ -109,5 +113,7 @@ ActivatesReceive = (x : PairEnds) (said : Reset) (es er : ℕ) (p : Fields) (by 
     (c : Course) (given : PairOutcome)
     (b : Bearer) (t : Traffic) (s : State) (before : List (List ℕ)) → Stands x b t s before
     → p.header ≡ header.Activate said
-    → ((e : LinkEnd) → x.near ≡ Some e → er ≡ e.fsm.own → e.fsm.highest ≤ es → MayBeginAt t s es)
-    → Arrives x es er p by shown c given → Opens b x.bearer t s before c.pair given
+    → ((e : LinkEnd) → x.near ≡ Some e → ShowsLatest x said.contact → er ≡ e.fsm.own → is_last e.fsm.own ≡ false
+    → e.fsm.highest ≤ es → MayBeginAt t s es)
+    → Arrives x es er p by shown c given
+    → Opens b x.bearer t s before (heard_pair x es er p by shown) c.pair given

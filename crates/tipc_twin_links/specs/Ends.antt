@@ -5,6 +5,7 @@ use Rattle.tipc_link_fsm.specs.Table.{is_up}
 use Rattle.tipc_link.specs.Links.{LinkEnd}
 use Rattle.tipc_link.specs.Sessions.{SessionEnd, advanced, moving, put, room}
 use Rattle.tipc_pair.specs.Facing.{PairEnds}
+use Rattle.tipc_pair.specs.PairArrivals.{restored}
 use Rattle.tipc_pair.specs.Runs.{IsListed}
 use Rattle.tipc_changeover.specs.Links.{Held, Reset, Up}
 use Rattle.tipc_twin_links.specs.Traffic.{Lines, Traffic}
@@ -33,7 +34,11 @@ pub record StaysUp (e e' : LinkEnd) (w : Sending) : Type 0 where
 
 -- the near end, where it is up, and the far one as it is
 abbrev pub up_beside : PairEnds → LinkEnd → SessionEnd → SendingEnds
-up_beside x e s = record { bearer = x.bearer; near = record { epoch = e.fsm.own; state = Up; window = s.sending }; far = end_seen x.contact x.far }
+up_beside x e s = record {
+  bearer = x.bearer;
+  near = record { epoch = e.fsm.own; state = Up; window = s.sending };
+  far = end_seen x.contact x.far;
+}
 
 -- ---- packets that get numbers
 
@@ -74,7 +79,12 @@ pub record IsRisen (e e' : LinkEnd) (s : SessionEnd) : Type 0 where
 
 -- ---- packets
 
--- each of these packets may stand in the lists of a link
+-- A packet may stand in the lists of a link, and is as it waits to be sent: it acknowledges nothing and has no number.
+pub record WaitsAsListed (packet : List ℕ) : Type 0 where
+  pub listed : IsListed packet
+  pub as_waiting : restored packet ≡ packet
+
+-- so may each of these packets
 abbrev pub AreListed : List (List ℕ) → Type 0
 AreListed [] = Unit {0}
-AreListed (packet ∷ packets) = IsListed packet × AreListed packets
+AreListed (packet ∷ packets) = WaitsAsListed packet × AreListed packets

@@ -1,6 +1,6 @@
 -- The laws of two nodes with two links, one of which sends and the other one receives. Each step that either takes is
 -- events of two links and their tunnels. b is the bearer of the near link.
-use Rattle.std.specs.Prelude.{Bool, ◌≡◌, ◌≢◌, ℕ, ◌+◌, ◌≤◌, ◌<◌, ◌-◌, false, true, List, [], Option, is_some, length, slice_index_or, take}
+use Rattle.std.specs.Prelude.{Bool, ◌≡◌, ◌≢◌, ℕ, ◌+◌, ◌≤◌, ◌<◌, ◌-◌, false, true, List, [], Option, length, slice_index_or, take}
 use Rattle.tipc_header.specs.declared.packet.ChangeoverType.{ChangeoverType}
 use Rattle.tipc_header.specs.declared.packet.ChangeoverType.TheVariants.{Duplicate, Original}
 use Rattle.tipc_send_window.specs.Sending.{Sending, offered, released, swapped}
@@ -16,6 +16,7 @@ use Rattle.tipc_pair.specs.Facing.{PairEnds}
 use Rattle.tipc_pair.specs.PairArrivals.{Unwraps, taken_down, taken_in}
 use Rattle.tipc_changeover.specs.Slots.{Tunnel}
 use Rattle.tipc_changeover.specs.Distances.{Bounded}
+use Rattle.tipc_twin_links.specs.Arriving.{IsMadeFor}
 use Rattle.tipc_twin_links.specs.Traffic.{Traffic, epoch_of}
 use Rattle.tipc_twin_links.specs.Receiving.{AreLines, AreNext, IsInside, IsRecordFor, Recorded, StandBehind, TookAll, TookMore, TookTunnel, record_at, records_of}
 use Rattle.tipc_twin_links.specs.Sending.{SendingEnds, StandFor}
@@ -134,7 +135,7 @@ abbrev pub TakenAreOpened : Type 0
 TakenAreOpened = (y : PairEnds) (b : Bearer) (t : Traffic) (s : State) (taken : List Taken) (c : Course)
     (carried : List Taken)
     → y.bearer ≤ 1 → AreLines y.bearer t s → Sound b s → Bounded s → IsRecordFor t.far (record_at y.far) s.far_record
-    → is_some y.far ≡ true → AreNext (t.near.line s.near_record.session) s.near_record.taken taken
+    → IsMadeFor y t → AreNext (t.near.line s.near_record.session) s.near_record.taken taken
     → Unwraps y taken c carried
     → TookAll b y.bearer t s (length taken) (record_at c.pair.far) carried
 

@@ -11,3 +11,6 @@ pub mod PairLaws
 pub mod ArrivalLaws
 pub mod Turning
 pub mod TurningLaws
+pub mod Acting
+pub mod ActingLaws
+pub mod Landing

@@ -7,6 +7,7 @@ use Rattle.tipc_header.specs.declared.packet.ChangeoverType.{ChangeoverType}
 use Rattle.tipc_types.specs.declared.packet_lists.Kept.{Kept}
 use Rattle.tipc_tunnel.specs.Tunnels.{IsTunnel, Tunnelled, numbered}
 use Rattle.tipc_link.specs.Records.{is_tunnel}
+use Rattle.tipc_pair.specs.PairArrivals.{restored}
 use Rattle.tipc_pair.specs.Runs.{inner_of, marker, wrapped}
 use Rattle.tipc_changeover.specs.Slots.{Plain, Slot, Tunnel}
 use Rattle.tipc_twin_links.specs.Traffic.{Lines, epoch_of}
@@ -24,11 +25,13 @@ told_of kind old count k = record { kind = kind; old = old; count = count; numbe
 abbrev pub told_by_marker : ChangeoverType → OldSession → Tunnelled
 told_by_marker kind old = record { kind = kind; old = old; count = 0; number = 0; inner = [] }
 
--- a packet makes a tunnel packet, whatever its number; and where it isn't one itself, that carries bytes
+-- A packet makes a tunnel packet, whatever its number; and where it isn't one itself, that carries it, and gives it back
+-- as it waited.
 pub record MayBeIn (kind : ChangeoverType) (old : OldSession) (count : ℕ) (packet : List ℕ) : Type 0 where
   pub some : 1 ≤ count
   pub made : (n : ℕ) → IsTunnel (told_of kind old count (record { number = number_of n; packet = packet }))
-  pub bytes : (n : ℕ) → is_tunnel packet ≡ false → 1 ≤ length (numbered (number_of n) packet)
+  pub bytes : is_tunnel packet ≡ false → 1 ≤ length packet
+  pub back : (n : ℕ) → is_tunnel packet ≡ false → restored (numbered (number_of n) packet) ≡ packet
 
 -- A tunnel packet that speaks of a place of this session, which has these packets: the marker of an empty run, or one
 -- that wraps the packet of the place under its number. It is full where that isn't a tunnel packet itself.
@@ -37,14 +40,16 @@ pub data SpeaksOf (old : OldSession) (line : List (List ℕ)) (packet : List ℕ
       → SpeaksOf old line packet 0 true
   wraps : (kind : ChangeoverType) (count place : ℕ) (inner : List ℕ) → 1 ≤ place
       → slice_get line (place - 1) ≡ Some inner
-      → MayBeIn kind old count inner → packet ≡ wrapped kind old count (record { number = number_of place; packet = inner })
+      → MayBeIn kind old count inner
+      → packet ≡ wrapped kind old count (record { number = number_of place; packet = inner })
       → SpeaksOf old line packet place (not (is_tunnel inner))
 
 -- a tunnel packet that speaks of a place of a session of the other link, which is on this bearer
 pub record IsCarrier (bearer : ℕ) (other : Lines) (session place : ℕ) (full : Bool) (packet : List ℕ) : Type 0 where
   pub begun : 1 ≤ session
   pub tunnel : is_tunnel packet ≡ true
-  pub speaks : SpeaksOf (record { bearer = bearer; epoch = epoch_of other.first session }) (other.line session) packet place full
+  pub speaks : SpeaksOf (record { bearer = bearer; epoch = epoch_of other.first session }) (other.line session) packet
+      place full
 
 -- the packet of a slot, where these packets were put and the other link, on this bearer, has these sessions
 abbrev pub IsFor : List (List ℕ) → ℕ → Lines → Slot → List ℕ → Type 0

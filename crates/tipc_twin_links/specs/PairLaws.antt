@@ -32,7 +32,8 @@ HearsFollow = (b : Bearer) (x : PairEnds) (e e' : LinkEnd) (s : SessionEnd) (t :
     → IsUpAt x.bearer x.near e s → StaysUp e e' (heard_window s.sending acknowledgement) → StandFor b (ends_seen x) t z
     → (1 ≤ release_count s.sending acknowledgement → AreTaken z (release_count s.sending acknowledgement))
     → Become b (ends_seen (with_near x e'))
-    (near_more t (e.fsm.own + 1 - t.near.first) (moving (record s { sending = acknowledged s.sending acknowledgement }))) z
+    (near_more t (e.fsm.own + 1 - t.near.first)
+    (moving (record s { sending = acknowledged s.sending acknowledgement }))) z
 
 -- the packets of a message are put on the active link, and packets that wait move up
 abbrev pub PutsOnFollow : Type 0

@@ -1,12 +1,11 @@
 -- The receiving records of a node's two link ends, and how they stand for a state of two links and their tunnels.
-use Rattle.std.specs.Prelude.{◌≡◌, ◌<◌, ◌≤◌, ◌⊎◌, ℕ, ◌+◌, ◌-◌, ◌++◌, Bool, true, false, List, Option, Some, None, length, map, slice_get, slice_index_or, take, [], ◌∷◌}
+use Rattle.std.specs.Prelude.{◌≡◌, ◌<◌, ◌≤◌, ◌⊎◌, ℕ, ◌+◌, ◌-◌, ◌++◌, Bool, true, false, List, Option, Some, None, length, map, slice_get, slice_index_or, take, []}
 use Rattle.tipc_types.specs.declared.packet_lists.Taken.{Taken}
 use Rattle.tipc_link.specs.Direction.{IsReceiver}
 use Rattle.tipc_link.specs.Links.{LinkEnd, record_of}
 use Rattle.tipc_link.specs.Records.{Received, is_tunnel}
 use Rattle.tipc_pair.specs.Facing.{PairEnds}
 use Rattle.tipc_pair.specs.PairArrivals.{with_bytes}
-use Rattle.tipc_tunnel.specs.Tunnels.{numbered}
 use Rattle.tipc_changeover.specs.Links.{Bearer, Receiver, State}
 use Rattle.tipc_changeover.specs.Events.{after_next}
 use Rattle.tipc_types.specs.Position.{number_of}
@@ -48,25 +47,12 @@ pub record AreLines (bearer : ℕ) (t : Traffic) (s : State) : Type 0 where
   pub near : (session : ℕ) → AreFor (IsFor t.put (beside bearer) t.far) (s.near.line session) (t.near.line session)
   pub far : (session : ℕ) → AreFor (IsFor t.put bearer t.near) (s.far.line session) (t.far.line session)
 
--- a packet that was put, as it was taken: as it waited to be sent, or under a number, where it came through the other
--- link
-pub data IsTakenAs (put : List ℕ) (taken : List ℕ) : Type 0 where
-  directly : taken ≡ put → IsTakenAs put taken
-  inside : (number : ℕ) → taken ≡ numbered number put → IsTakenAs put taken
-
--- each of these packets is one that was put
-abbrev pub AreTakenAs : List (List ℕ) → List (List ℕ) → Type 0
-AreTakenAs [] [] = Unit {0}
-AreTakenAs [] (taken ∷ others) = ⊥
-AreTakenAs (put ∷ more) [] = ⊥
-AreTakenAs (put ∷ more) (taken ∷ others) = IsTakenAs put taken × AreTakenAs more others
-
 -- The records of the receiver, which took these packets in the contact, stand for the records of a state; and the
 -- packets taken are the first ones that were put.
 pub record ReceiveFor (y : Records) (t : Traffic) (taken : List (List ℕ)) (s : State) : Type 0 where
   pub near : IsRecordFor t.near y.near s.near_record
   pub far : IsRecordFor t.far y.far s.far_record
-  pub first_ones : AreTakenAs (take (length s.delivered) t.put) taken
+  pub first_ones : take (length s.delivered) t.put ≡ taken
 
 -- the bytes of packets that were taken; a placeholder has none
 abbrev pub bytes_in : List Taken → List (List ℕ)
@@ -84,7 +70,7 @@ StandBehind line taken packets = (k : ℕ) (packet : List ℕ) → slice_get pac
 pub record IsInside (line : List (List ℕ)) (place : ℕ) (full : Bool) (u : Taken) : Type 0 where
   pub number : u.number ≡ number_of place
   pub whole : (packet : List ℕ) → full ≡ true → slice_get line (place - 1) ≡ Some packet
-      → IsTakenAs packet u.packet × (1 ≤ length u.packet)
+      → (u.packet ≡ packet) × (1 ≤ length packet)
   pub empty : full ≡ false → u.packet ≡ []
 
 -- A tunnel packet was taken at the near link, and the far record became this one: with what the packet inside frees
@@ -96,9 +82,7 @@ pub record TookTunnel (b : Bearer) (bearer : ℕ) (t : Traffic) (s : State) (far
   pub lines : AreLines bearer t state
   pub near_is : state.near_record ≡ after_next s.near_record
   pub far_is : IsOfSession t.far far state.far_record
-  pub packets : List (List ℕ)
-  pub longer : take (length state.delivered) t.put ≡ take (length s.delivered) t.put ++ packets
-  pub came : AreTakenAs packets (bytes_in freed)
+  pub longer : take (length state.delivered) t.put ≡ take (length s.delivered) t.put ++ bytes_in freed
 
 -- ---- what follows
 
@@ -138,6 +122,4 @@ pub record TookAll (b : Bearer) (bearer : ℕ) (t : Traffic) (s : State) (count 
   pub lines : AreLines bearer t state
   pub near_is : state.near_record ≡ record { session = s.near_record.session; taken = s.near_record.taken + count }
   pub far_is : IsRecordFor t.far far state.far_record
-  pub packets : List (List ℕ)
-  pub longer : take (length state.delivered) t.put ≡ take (length s.delivered) t.put ++ packets
-  pub came : AreTakenAs packets (bytes_in carried)
+  pub longer : take (length state.delivered) t.put ≡ take (length s.delivered) t.put ++ bytes_in carried

@@ -13,7 +13,10 @@ epoch_of first session = first + session - 1
 
 -- more packets are numbered in a session
 abbrev pub with_more : Lines → ℕ → List (List ℕ) → Lines
-with_more l session packets = record { first = l.first; line = λ e. if e == session then l.line e ++ packets else l.line e }
+with_more l session packets = record {
+  first = l.first;
+  line = λ e. if e == session then l.line e ++ packets else l.line e;
+}
 
 -- The packets that were put, in order, as they are sent: messages, bundles and fragments, but no tunnel packets; and
 -- the sessions of both links, seen from one of them.

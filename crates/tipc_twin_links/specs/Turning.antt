@@ -1,6 +1,6 @@
 -- How a link of a pair goes up or down, and what the pair's other link does then: the events of the sender that
 -- follow.
-use Rattle.std.specs.Prelude.{◌≡◌, ℕ, ◌+◌, ◌-◌, ◌<◌, ◌≤◌, ◌^◌, Bool, true, false, Option, Some, take}
+use Rattle.std.specs.Prelude.{◌≡◌, ℕ, ◌+◌, ◌-◌, ◌<◌, ◌≤◌, ◌^◌, All, Bool, true, false, List, Option, Some, take}
 use Rattle.tipc_types.specs.declared.link_words.Cause.{Cause}
 use Rattle.tipc_send_window.specs.Sending.{fresh, offered}
 use Rattle.tipc_link_fsm.specs.declared.changes.Change.{Change}
@@ -8,7 +8,8 @@ use Rattle.tipc_link_fsm.specs.declared.changes.Change.TheVariants.{Down, Up as 
 use Rattle.tipc_link_fsm.specs.Table.{Fsm, Outcome, is_held, is_last, is_up, lowered}
 use Rattle.tipc_link.specs.Links.{LinkEnd, is_down}
 use Rattle.tipc_link.specs.Sessions.{SessionEnd, room}
-use Rattle.tipc_pair.specs.Facing.{PairEnds, is_up_at}
+use Rattle.tipc_pair.specs.Facing.{PairEnds, is_up_at, turned}
+use Rattle.tipc_pair.specs.PairArrivals.{restored}
 use Rattle.tipc_pair.specs.Runs.{left_by, taken_over}
 use Rattle.tipc_changeover.specs.Links.{Bearer, Reset, State, Up}
 use Rattle.tipc_twin_links.specs.Traffic.{Traffic}
@@ -52,6 +53,17 @@ pub record AreEnds (x : PairEnds) : Type 0 where
   pub near : RunsWhereUp x.bearer x.near
   pub far : RunsWhereUp (beside x.bearer) x.far
 
+-- A session is under its end's epoch, which has 64 bits, and each of its unacknowledged packets is as it waited.
+pub record IsOwnSession (e : LinkEnd) (s : SessionEnd) : Type 0 where
+  pub epoch : s.epoch ≡ e.fsm.own
+  pub fits : e.fsm.own < 2 ^ 64
+  pub waited : All (λ (packet : List ℕ). restored packet ≡ packet) s.sending.unacked
+
+-- so is that of a link that is up
+abbrev pub IsUnderOwn : Option LinkEnd → Type 0
+IsUnderOwn o = (e : LinkEnd) (s : SessionEnd) → o ≡ Some e → is_up e.fsm.state ≡ true → e.session ≡ Some s
+    → IsOwnSession e s
+
 -- ---- what follows
 
 -- What follows where the near end e of a pair became another one with this outcome, and the pair became y: the contact
@@ -71,4 +83,8 @@ pub data Follow (b : Bearer) (x : PairEnds) (e : LinkEnd) (o : Outcome) (t : Tra
 -- where the near end of a pair is held, the far link is up and carries what the near one left
 abbrev pub HasFarUp : PairEnds → Type 0
 HasFarUp x = (e : LinkEnd) → x.near ≡ Some e → is_held e.fsm.state ≡ true
-    → (f : LinkEnd) × (u : SessionEnd) × IsUpAt (beside x.bearer) x.far f u
+    → (f : LinkEnd) × (u : SessionEnd) × IsUpAt u.bearer x.far f u
+
+-- and so it is with either end
+abbrev pub AreCarried : PairEnds → Type 0
+AreCarried x = HasFarUp x × HasFarUp (turned x)

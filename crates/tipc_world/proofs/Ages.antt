@@ -4,7 +4,7 @@ use Rattle.std.specs.Prelude.{if◌then◌else◌, drop, slice_get, ◌==◌}
 use Rattle.tipc_types.specs.Address.{node_word}
 use Rattle.tipc_header.specs.Faults.{fault_of}
 use Rattle.tipc_node.specs.Nodes.{is_frame_size}
-use Rattle.tipc_partners.specs.Views.{er_of, es_of}
+use Rattle.tipc_paired.specs.Views.{er_of, es_of}
 use Rattle.tipc_world.specs.declared.air.Sent.{Sent}
 use Rattle.tipc_world.specs.Air.{number_of_node}
 use Rattle.tipc_world.specs.Due.{age_by_fault, age_of, frame_for, is_for, kept_for, session_age, HasNoSession, HasSession}

@@ -13,7 +13,7 @@ use Rattle.tipc_header.proofs.FrameWords.{length-envelope}
 use Rattle.tipc_link.specs.Links.{is_traffic}
 use Rattle.tipc_pair.specs.Turns.{Opening}
 use Rattle.tipc_pair.specs.Turns.Opening.{cuts, hears, mends, rests, ticks}
-use Rattle.tipc_partners.proofs.Frames.{same_packet}
+use Rattle.tipc_paired.proofs.Frames.{same_packet}
 use Rattle.tipc_partners.proofs.Sights.{frames}
 use Rattle.tipc_partners.specs.Sights.{Comes, ComesIn, Sight}
 use Rattle.tipc_node.specs.Nodes.{is_frame_size}

@@ -8,7 +8,7 @@ use Rattle.tipc_link.specs.Sessions.{SessionEnd}
 use Rattle.std.specs.Prelude.{unwrap_or}
 use Rattle.tipc_fragments.specs.Joining.{Joining, fresh}
 use Rattle.tipc_pair.specs.Pairs.{lonely}
-use Rattle.tipc_partners.specs.Deeds.{made_on}
+use Rattle.tipc_paired.specs.Deeds.{made_on}
 use Rattle.tipc_partners.specs.Sights.{AreSeen, Goes, Restarts, Sight}
 use Rattle.tipc_partners.proofs.Sights.{knows, restarted}
 use Rattle.tipc_node.specs.declared.neighbours.Neighbour.{Neighbour}

@@ -13,8 +13,8 @@ use Rattle.tipc_header.specs.Frames.{frame_of}
 use Rattle.tipc_header.specs.Reading.{fields_at}
 use Rattle.tipc_header.specs.Spelling.{Fields}
 use Rattle.tipc_link.specs.Links.{is_traffic}
-use Rattle.tipc_partners.proofs.Frames.{er_of-frame, es_of-frame}
-use Rattle.tipc_partners.specs.Views.{er_of, es_of}
+use Rattle.tipc_paired.proofs.Frames.{er_of-frame, es_of-frame}
+use Rattle.tipc_paired.specs.Views.{er_of, es_of}
 use Rattle.tipc_node.specs.Nodes.{is_frame_size}
 use Rattle.tipc_world.specs.declared.air.Sent.{Sent}
 use Rattle.tipc_node.specs.Turns.{is_to}

@@ -5,7 +5,7 @@ use Rattle.tipc_types.specs.declared.node_calls.Answer.{Answer}
 use Rattle.tipc_outside.specs.declared.outgoing.Outgoing.{Outgoing}
 use Rattle.tipc_journal.specs.declared.entries.Entry.{Entry}
 use Rattle.tipc_contact.specs.Sides.{boot_of}
-use Rattle.tipc_partners.specs.Paired.{IsNode}
+use Rattle.tipc_paired.specs.Paired.{IsNode}
 use Rattle.tipc_partners.specs.Sights.{AreSeen, Sight}
 use Rattle.tipc_node.specs.declared.neighbours.Neighbour.{Neighbour}
 use Rattle.tipc_node.specs.Nodes.{neighbour_of}

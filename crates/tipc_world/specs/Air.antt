@@ -5,7 +5,7 @@ use Rattle.tipc_types.specs.declared.identity.To.{To}
 use Rattle.tipc_types.specs.declared.identity.To.TheVariants as to
 use Rattle.tipc_outside.specs.declared.outgoing.Outgoing.{Outgoing}
 use Rattle.tipc_outside.specs.Frames.{Out}
-use Rattle.tipc_partners.specs.Views.{Frame, er_of, es_of}
+use Rattle.tipc_paired.specs.Views.{Frame, er_of, es_of}
 use Rattle.tipc_node.specs.Turns.{is_to}
 use Rattle.tipc_world.specs.declared.air.Sent.{Sent}
 use Rattle.tipc_world.specs.Numbers.{own_in, seen_in}

@@ -9,7 +9,7 @@ use Rattle.tipc_header.specs.declared.fault.HeaderFault.{HeaderFault}
 use Rattle.tipc_header.specs.Faults.{fault_of}
 use Rattle.tipc_header.specs.Reading.{fields_at}
 use Rattle.tipc_link.specs.Links.{is_traffic}
-use Rattle.tipc_partners.specs.Views.{er_of, es_of}
+use Rattle.tipc_paired.specs.Views.{er_of, es_of}
 use Rattle.tipc_node.specs.Nodes.{is_frame_size}
 use Rattle.tipc_world.specs.declared.air.Sent.{Sent}
 use Rattle.tipc_world.specs.Air.{number_of_node}

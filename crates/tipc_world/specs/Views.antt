@@ -7,7 +7,7 @@ use Rattle.tipc_journal.specs.Streams.{accepted, delivered}
 use Rattle.tipc_fragments.specs.Joining.{Joining}
 use Rattle.tipc_link.specs.Links.{LinkEnd}
 use Rattle.tipc_partners.specs.Sights.{Sight}
-use Rattle.tipc_partners.specs.Views.{Frame, Node}
+use Rattle.tipc_paired.specs.Views.{Frame, Node}
 use Rattle.tipc_world.specs.declared.air.Sent.{Sent}
 use Rattle.tipc_world.specs.Air.{sent_between}
 use Rattle.tipc_node.specs.Messages.{bytes_of}

@@ -3,11 +3,11 @@ use Rattle.tipc_reassembly.specs.Opening.{BringsAll}
 use Rattle.tipc_pair.specs.Partners.{deferred, ignored, took}
 use Rattle.tipc_pair.proofs.pair.opened.Goals as goal
 
-pub returns-in_ok-opened-in-Took : goal.returns-in_ok-opened-in-Took
-returns-in_ok-opened-in-Took c = rw c.in-Took.is (took (subst (λ taken. BringsAll c.args.reassembly.now taken c.in_ok-opened-in-Took.opened c.open.new.self) c.as_slice.ensures c.in_ok-opened-in-Took.ensures.ok))
+pub returns-in_ok-opened-in-Took-clause-ok : goal.returns-in_ok-opened-in-Took-clause-ok
+returns-in_ok-opened-in-Took-clause-ok c = rw c.in-Took.is (took (subst (λ taken. BringsAll c.args.reassembly.now taken c.in_ok-opened-in-Took.opened c.open.new.self) c.as_slice.ensures c.in_ok-opened-in-Took.ensures.ok))
 
-pub returns-in-Deferred : goal.returns-in-Deferred
-returns-in-Deferred c = rw c.in-Deferred.is deferred
+pub returns-in-Deferred-clause-ok : goal.returns-in-Deferred-clause-ok
+returns-in-Deferred-clause-ok c = rw c.in-Deferred.is deferred
 
-pub returns-in-Ignored : goal.returns-in-Ignored
-returns-in-Ignored c = rw c.in-Ignored.is ignored
+pub returns-in-Ignored-clause-ok : goal.returns-in-Ignored-clause-ok
+returns-in-Ignored-clause-ok c = rw c.in-Ignored.is ignored

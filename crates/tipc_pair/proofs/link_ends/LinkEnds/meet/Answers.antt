@@ -1,15 +1,13 @@
 use Rattle.std.proofs.Common.{◌≡◌, ◌∙◌, ◌++◌, true, Some, is_some, sym, subst, ap}
 use Rattle.tipc_outside.specs.Frames.{Adds}
 use Rattle.tipc_header.specs.Spelling.{view}
-use Rattle.tipc_link.specs.Links.{LinkEnd, arrival_end, frames, link_frames, outcome_of}
-use Rattle.tipc_pair.specs.Courses.{no_frames}
+use Rattle.tipc_link.specs.Links.{LinkEnd, arrival_end, frames, numbers_at, outcome_of, repeats_at}
+use Rattle.tipc_pair.specs.Courses.{LeavingState}
 use Rattle.tipc_pair.specs.Facing.{PairEnds, with_near}
-use Rattle.tipc_pair.specs.PairArrivals.{Does, Heard, numbers_at, repeats_at}
-use Rattle.tipc_pair.specs.PairCalls.{numbered_of}
-use Rattle.tipc_pair.proofs.Arrivings.{link_frames_are, met_does, met_near_is, moved_is}
+use Rattle.tipc_pair.specs.PairArrivals.{Does, Heard}
+use Rattle.tipc_pair.proofs.Arrivings.{met_does, met_near_is}
 use Rattle.tipc_pair.proofs.EndFacts.{near_changed}
 use Rattle.tipc_pair.proofs.EndSteps.{end_arrived, fsm_arrived, has_changed, outcome_falls, outcome_moves, some_arrived}
-use Rattle.tipc_pair.proofs.Sendings.{new_box}
 use Rattle.tipc_pair.proofs.link_ends.LinkEnds.meet.Goals as goal
 
 pub invariant_of-self-2 : goal.invariant_of-self-2
@@ -17,7 +15,7 @@ invariant_of-self-2 c =
     let e = c.in-Some.link in
     let p = view c.args.packet.now in
     let held = c.far_is_up-held.result in
-    near_changed _ e c.arrive.new.self (arrival_end e (outcome_of e.fsm p.header c.args.es c.args.er held) p c.args.by) c.self.invariant c.in-Some.is c.in_ok-arrival.ensures.after
+    near_changed _ e c.arrive_apart.new.self (arrival_end e (outcome_of e.fsm p.header c.args.es c.args.er held) p c.args.by) c.self.invariant c.in-Some.is c.in_ok-arrival.ensures.after
     (λ own peer contact seen bearer h. end_arrived own peer contact seen bearer e p c.args.es c.args.er held c.args.by h)
 
 pub follow-requires : goal.follow-requires
@@ -26,7 +24,7 @@ follow-requires c =
     let p = view c.args.packet.now in
     let held = c.far_is_up-held.result in
     let o = outcome_of e.fsm p.header c.args.es c.args.er held in
-    has_changed _ e c.arrive.new.self (Some (c.args.es, c.args.er)) o c.in_ok-arrival.arrival.change c.self.invariant c.in-Some.is (outcome_moves e.fsm p.header c.args.es c.args.er held)
+    has_changed _ e c.arrive_apart.new.self (Some (c.args.es, c.args.er)) o c.in_ok-arrival.arrival.change c.self.invariant c.in-Some.is (outcome_moves e.fsm p.header c.args.es c.args.er held)
     (outcome_falls e.fsm p.header c.args.es c.args.er held) c.in_ok-arrival.ensures.change (ap (λ (d : LinkEnd). d.fsm) c.in_ok-arrival.ensures.after ∙ fsm_arrived e o p c.args.by)
     (λ some. subst (λ (d : LinkEnd). is_some d.session ≡ true) (sym c.in_ok-arrival.ensures.after) (some_arrived e o p c.args.by some))
 
@@ -40,13 +38,10 @@ returns c =
     let o = outcome_of e.fsm p.header c.args.es c.args.er held in
     let arrival = c.in_ok-arrival.arrival in
     let states = frames e o c.args.shown ++ repeats_at e o p in
-    let all : Adds no_frames c.arrive.new.out (states ++ numbers_at e o p by) =
-    subst (λ fs. Adds no_frames c.arrive.new.out fs) (link_frames_are e o p by c.args.shown)
-    (subst (λ f. Adds f c.arrive.new.out (link_frames e o p by c.args.shown)) (new_box c.new-frames.result c.new-frames.ensures.frames c.new-frames.ensures.lost) c.in_ok-arrival.ensures.frames) in
-    let moved = c.moved_since-moved.ensures ∙ moved_is e c.arrive.new.self o p by arrival.change c.numbered_of-before.result c.numbered_of.result c.in_ok-arrival.ensures.after
-    c.in_ok-arrival.ensures.change (c.numbered_of-before.ensures ∙ ap numbered_of c.in-Some.is) c.numbered_of.ensures in
     subst (λ (h : Heard). Does h c.follow.new.self c.args.event.now c.follow.new.event arrival.outcome)
     (met_near_is c.args.es c.args.er p by c.args.shown x e held (sym (ap (λ (v : PairEnds). v.near) c.self.view_is) ∙ c.in-Some.is) c.far_is_up-held.ensures)
-    (met_does x _ c.follow.new.self e c.arrive.new.self o p c.args.es by c.args.shown arrival.change arrival.outcome c.args.event.now c.add.new.self c.follow.new.event
-    (ap (λ (v : PairEnds). with_near v c.arrive.new.self) c.self.view_is) c.in_ok-arrival.ensures.after c.in_ok-arrival.ensures.change c.in_ok-arrival.ensures.outcome c.add.ensures.changes
-    (c.add.ensures.states states (numbers_at e o p by) all moved) (c.add.ensures.numbered states (numbers_at e o p by) all moved) c.in_ok-follow.ensures.after c.in_ok-follow.ensures.adds)
+    (met_does x _ c.follow.new.self e c.arrive_apart.new.self o p c.args.es by c.args.shown arrival.change arrival.outcome c.args.event.now _ c.follow.new.event
+    (ap (λ (v : PairEnds). with_near v c.arrive_apart.new.self) c.self.view_is) c.in_ok-arrival.ensures.after c.in_ok-arrival.ensures.change c.in_ok-arrival.ensures.outcome (ap (λ (l : LeavingState). l.changes) c.event.view_is)
+    (subst (λ (l : LeavingState). Adds l.states c.arrive_apart.new.states states) c.event.view_is c.in_ok-arrival.ensures.states)
+    (subst (λ (l : LeavingState). Adds l.numbered c.arrive_apart.new.numbered (numbers_at e o p by)) c.event.view_is c.in_ok-arrival.ensures.numbered)
+    c.in_ok-follow.ensures.after c.in_ok-follow.ensures.adds)

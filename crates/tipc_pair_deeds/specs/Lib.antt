@@ -1,0 +1,3 @@
+pub mod PairDeeds
+pub mod Arriving
+pub mod Laws

@@ -1,0 +1,4 @@
+pub mod Views
+pub mod Paired
+pub mod Deeds
+pub mod Facts

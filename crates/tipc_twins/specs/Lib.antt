@@ -1,0 +1,14 @@
+pub mod Carriages
+pub mod Numbers
+pub mod Steps
+pub mod Twins
+pub mod Pieces
+pub mod PieceLaws
+pub mod Carrying
+pub mod RiseLaws
+pub mod NoticeLaws
+pub mod Messages
+pub mod Laws
+pub mod ArrivalLaws
+pub mod Arrivals
+pub mod Talkers
