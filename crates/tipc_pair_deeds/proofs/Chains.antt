@@ -41,14 +41,14 @@ does_told x y v (besides _ c) = beside_told x y v c
 does_told x y _ (puts b e s waiting up packets) = ([], sym (append-nil x.told))
 does_told x y _ (takes b e s p number by packet up a is) = ([], sym (append-nil x.told))
 
-told_behind : (x y v : View) → DoesAll x y v → (more : List Frame) × (v.told ≡ x.told ++ more)
+pub told_behind : (x y v : View) → DoesAll x y v → (more : List Frame) × (v.told ≡ x.told ++ more)
 told_behind x y _ nothing = ([], sym (append-nil x.told))
 told_behind x y v (follows mid _ all one) =
     let first = told_behind x y mid all in
     let last = does_told mid y v one in
     (first.0 ++ last.0, last.1 ∙ ap (λ fs. fs ++ last.0) first.1 ∙ append_assoc x.told first.0 last.0)
 
-told_still : (since : ℕ) (x v : View) (o : Outgoing) (more : List Frame) → v.told ≡ x.told ++ more → IsToldSince since x o → IsToldSince since v o
+pub told_still : (since : ℕ) (x v : View) (o : Outgoing) (more : List Frame) → v.told ≡ x.told ++ more → IsToldSince since x o → IsToldSince since v o
 told_still since x v o more is h = record {
   place = h.place;
   recent = h.recent;
@@ -58,7 +58,7 @@ told_still since x v o more is h = record {
   bytes = h.bytes;
 }
 
-told_since : (least since : ℕ) (x : View) (o : Outgoing) → least ≤ since → IsToldSince since x o → IsToldSince least x o
+pub told_since : (least since : ℕ) (x : View) (o : Outgoing) → least ≤ since → IsToldSince since x o → IsToldSince least x o
 told_since least since x o fewer h = record {
   place = h.place;
   recent = (let behind = h.recent in omega arith);

@@ -52,21 +52,47 @@ impl Node {
 
     /// A frame arrives, and the STATE that is due then is sent.
     fn take(&mut self, alloc: Global, frame: &Outgoing) -> Result<LinkPairArrival, Fail> {
-        let opened = open_frame(frame.frame.as_slice()).ok_or("no frame")?;
-        let packet = decode(opened.packet).ok().ok_or("no packet")?;
-        let bearer = if frame.bearer == 0 { 0 } else { 1 };
-        let arrival = self.pair.arrive(
-            alloc,
-            bearer,
-            opened.first,
-            opened.second,
-            &packet,
-            7,
-            NO_BROADCAST,
-            &mut self.sent,
-        )?;
+        let arrival = if frame.bearer == 0 {
+            self.prepare_and_commit(alloc, frame)?
+        } else {
+            self.arrive(alloc, frame)?
+        };
+        let bearer = place(frame.bearer);
         self.pair
             .answer(alloc, bearer, 0, false, NO_BROADCAST, &mut self.sent);
+        Ok(arrival)
+    }
+
+    /// A frame arrives on bearer 1, in one call.
+    fn arrive(&mut self, alloc: Global, frame: &Outgoing) -> Result<LinkPairArrival, Fail> {
+        let opened = open_frame(frame.frame.as_slice()).ok_or("no frame")?;
+        let packet = decode(opened.packet).ok().ok_or("no packet")?;
+        let (es, er) = (opened.first, opened.second);
+        let arrival = self
+            .pair
+            .arrive(alloc, 1, es, er, &packet, 7, NO_BROADCAST, &mut self.sent)?;
+        Ok(arrival)
+    }
+
+    /// A frame arrives on bearer 0, and it is told before what it gives.
+    fn prepare_and_commit(
+        &mut self,
+        alloc: Global,
+        frame: &Outgoing,
+    ) -> Result<LinkPairArrival, Fail> {
+        let opened = open_frame(frame.frame.as_slice()).ok_or("no frame")?;
+        let packet = decode(opened.packet).ok().ok_or("no packet")?;
+        let (es, er) = (opened.first, opened.second);
+        let arriving = self
+            .pair
+            .prepare(alloc, 0, es, er, &packet, 7, NO_BROADCAST)?;
+        let told = arriving.outcome().clone()?;
+        let arrival = self
+            .pair
+            .commit(alloc, arriving, &packet, NO_BROADCAST, &mut self.sent);
+        if arrival.outcome != told {
+            return Err("another outcome than was told".into());
+        }
         Ok(arrival)
     }
 
@@ -88,6 +114,38 @@ impl Node {
     {
         let changes = self.pair.cut(alloc, bearer, &mut self.sent)?;
         Ok(changes.as_slice().first().copied())
+    }
+
+    /// The same, with the frames in two boxes.
+    fn lose_apart(&mut self, alloc: Global, bearer: u8) -> Result<Option<Transition>, Fail>
+        requires { bearer ≤ 1 }
+    {
+        let mut states = Outbox::new(alloc);
+        let mut numbered = Outbox::new(alloc);
+        let changes = self
+            .pair
+            .cut_apart(alloc, bearer, &mut states, &mut numbered)?;
+        self.leave(states);
+        self.leave(numbered);
+        Ok(changes.as_slice().first().copied())
+    }
+
+    /// A tick passes, with the frames in two boxes.
+    fn tick_apart(&mut self, alloc: Global) -> Result<(), Fail> {
+        let mut states = Outbox::new(alloc);
+        let mut numbered = Outbox::new(alloc);
+        self.pair
+            .tick_apart(alloc, NO_BROADCAST, &mut states, &mut numbered)?;
+        self.leave(states);
+        self.leave(numbered);
+        Ok(())
+    }
+
+    /// The frames of a box are sent.
+    fn leave(&mut self, frames: Outbox) {
+        for frame in frames.into_frames() {
+            self.sent.push(frame.bearer, frame.to, frame.frame);
+        }
     }
 }
 
@@ -123,6 +181,8 @@ fn message(alloc: Global, byte: u8) -> Result<Bytes, Fail>
 /// What is done to two nodes, or what is seen of them then.
 #[derive(Clone, Copy)]
 enum Step {
+    /// Both bearers are mended at both nodes, and all frames arrive: both links go up.
+    BothUp,
     /// The bearer is mended at both nodes.
     Mend(u8),
     /// The left node sends a message with this byte.
@@ -130,7 +190,7 @@ enum Step {
     /// The bearer is cut at the left node, or at the right one.
     CutLeft(u8),
     CutRight(u8),
-    /// A tick passes at the left node.
+    /// A tick passes at both nodes.
     Tick,
     /// So many frames of the left node arrive, or are lost; and so many of the right node arrive.
     ToRight(usize),
@@ -238,10 +298,11 @@ impl Nodes {
     /// Does what a step says, where it says what is done.
     fn act(&mut self, alloc: Global, step: Step) -> Result<(), Fail> {
         match step {
+            Step::BothUp => self.bring_up(alloc)?,
             Step::Mend(bearer) => self.mend(alloc, bearer),
             Step::Send(byte) => self.left.send(alloc, byte)?,
             Step::CutLeft(bearer) => self.told = self.left.lose(alloc, place(bearer))?,
-            Step::CutRight(bearer) => self.told = self.right.lose(alloc, place(bearer))?,
+            Step::CutRight(bearer) => self.told = self.right.lose_apart(alloc, place(bearer))?,
             Step::Tick => self.tick(alloc)?,
             Step::ToRight(count) => self.to_right(alloc, count)?,
             Step::Lost(count) => self.left.gone = self.left.gone.saturating_add(count),
@@ -252,6 +313,13 @@ impl Nodes {
             _ => {}
         }
         Ok(())
+    }
+
+    fn bring_up(&mut self, alloc: Global) -> Result<(), Fail> {
+        self.mend(alloc, 0);
+        self.pump(alloc)?;
+        self.mend(alloc, 1);
+        self.pump(alloc)
     }
 
     fn mend(&mut self, alloc: Global, bearer: u8) {
@@ -267,7 +335,7 @@ impl Nodes {
         self.left
             .pair
             .tick(alloc, NO_BROADCAST, &mut self.left.sent)?;
-        Ok(())
+        self.right.tick_apart(alloc)
     }
 
     /// Whether what a step says is so, where it says what is seen.
@@ -363,10 +431,7 @@ const RESET: Option<LinkState> = Some(LinkState::ResetUnknown);
 #[test]
 fn a_failover_brings_what_was_lost(rt: HostRuntime) -> Result<(), Fail> {
     let steps = [
-        Step::Mend(0),
-        Step::Pump,
-        Step::Mend(1),
-        Step::Pump,
+        Step::BothUp,
         Step::Left(UP, UP),
         Step::Right(UP, UP),
         Step::Active(Some(0)),
@@ -394,10 +459,7 @@ fn a_failover_brings_what_was_lost(rt: HostRuntime) -> Result<(), Fail> {
 #[test]
 fn a_held_end_is_released_at_the_last_acknowledgement(rt: HostRuntime) -> Result<(), Fail> {
     let steps = [
-        Step::Mend(0),
-        Step::Pump,
-        Step::Mend(1),
-        Step::Pump,
+        Step::BothUp,
         Step::Send(1),
         Step::CutLeft(0),
         Step::Lost(1),
@@ -446,10 +508,7 @@ fn a_switch_and_placeholders_keep_the_order(rt: HostRuntime) -> Result<(), Fail>
 #[test]
 fn an_empty_run_and_both_links_lost(rt: HostRuntime) -> Result<(), Fail> {
     let steps = [
-        Step::Mend(0),
-        Step::Pump,
-        Step::Mend(1),
-        Step::Pump,
+        Step::BothUp,
         Step::CutRight(0),
         down(0, Cause::Cut, 0),
         Step::LoadRight(1, 1),
@@ -470,10 +529,7 @@ fn an_empty_run_and_both_links_lost(rt: HostRuntime) -> Result<(), Fail> {
 #[test]
 fn old_frames_are_passed_over(rt: HostRuntime) -> Result<(), Fail> {
     let steps = [
-        Step::Mend(0),
-        Step::Pump,
-        Step::Mend(1),
-        Step::Pump,
+        Step::BothUp,
         Step::Send(1),
         Step::Mark,
         Step::CutLeft(0),

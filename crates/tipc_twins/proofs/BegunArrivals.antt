@@ -140,13 +140,13 @@ forgets_down : (more : ℕ) (end : Option LinkEnd) → is_up_at end ≡ false �
 forgets_down more None down = refl
 forgets_down more (Some e) down = ap (λ (f : Fsm). is_up f.state) (forgotten-is e.fsm down)
 
-risen_out : (x : PairEnds) (number : ℕ) → in_contact (risen x number).pair ≡ false
+pub risen_out : (x : PairEnds) (number : ℕ) → in_contact (risen x number).pair ≡ false
 risen_out x number = elim (in_contact x) as (λ t. in_contact x ≡ t → in_contact (if t then contact_ends (record x { seen = number }) (x.contact, x.seen) number else rests (forgotten x number)).pair ≡ false) [
   | true ↦ λ up. not_in (record x { seen = number })
   | false ↦ λ none. ap (λ a. a || is_up_at (option_map (forgetting number) x.far)) (forgets_down number x.near (near_down x none)) ∙ forgets_down number x.far (far_down x none)
 ] refl
 
-risen_contact : (x : PairEnds) (number : ℕ) → in_contact x ≡ false → (risen x number).pair.contact ≡ x.contact
+pub risen_contact : (x : PairEnds) (number : ℕ) → in_contact x ≡ false → (risen x number).pair.contact ≡ x.contact
 risen_contact x number none = subst (λ t. (if t then contact_ends (record x { seen = number }) (x.contact, x.seen) number else rests (forgotten x number)).pair.contact ≡ x.contact) (sym none) refl
 
 -- a RESET goes on then, and takes no link up

@@ -70,7 +70,7 @@ put_from Second t (waits pieces alone) = refl
 
 -- ---- the pair
 
-facing_numbers : (b : ℕ) (x : PairEnds) → ((facing b x).own ≡ x.own) × ((facing b x).peer ≡ x.peer) × ((facing b x).contact ≡ x.contact) × ((facing b x).seen ≡ x.seen)
+pub facing_numbers : (b : ℕ) (x : PairEnds) → ((facing b x).own ≡ x.own) × ((facing b x).peer ≡ x.peer) × ((facing b x).contact ≡ x.contact) × ((facing b x).seen ≡ x.seen)
 unfolding facing
 facing_numbers b x = elim (x.bearer == b) as (λ t. ((if t then x else turned x).own ≡ x.own) × ((if t then x else turned x).peer ≡ x.peer) × ((if t then x else turned x).contact ≡ x.contact) × ((if t then x else turned x).seen ≡ x.seen)) [
   | true ↦ (refl, refl, refl, refl)

@@ -76,7 +76,7 @@ gives_brings begun last _ _ (brings all) = all
 gives_brings begun _ _ _ waits = none
 gives_brings begun _ _ _ ignores = none
 
-brings_none : (begun last : Joining) (items : List Opened) → BringsAll begun [] items last → (items ≡ []) × (last ≡ begun)
+pub brings_none : (begun last : Joining) (items : List Opened) → BringsAll begun [] items last → (items ≡ []) × (last ≡ begun)
 brings_none begun _ _ none = (refl, refl)
 
 carries_none : (x x' y : View) (h : AreTwins x y) (k : AreTwins x' y) (own theirs : ℕ) → Carries x x' y h k (taken_in own theirs []) → Carries x x' y h k none_taken

@@ -19,7 +19,7 @@ use Rattle.tipc_pair.specs.PairCalls.{Puts, Sends, answered_at, at_bearer, cut_a
 use Rattle.tipc_pair.specs.PairFacts.{AreHeldRightly, HasCarrier, IsPairOfEnds}
 use Rattle.tipc_pair.specs.Runs.{IsListed}
 use Rattle.tipc_pair.proofs.CourseLaws.{then_pair}
-use Rattle.tipc_pair.proofs.EndFacts.{Keeps, answered_kept, mended_kept, near_changed, near_kept, session_kept}
+use Rattle.tipc_pair.proofs.EndFacts.{answered_kept, mended_kept, near_changed, near_kept, session_kept}
 use Rattle.tipc_pair.proofs.EndSteps.{near_of, session_is}
 use Rattle.tipc_pair.proofs.HeldLaws.{GoesQuietly, Shape, facing_quietly, is_held_at, quietly_facing, quietly_same, rightly_facing, shape_contact, shape_held}
 use Rattle.tipc_pair.proofs.SessionFacts.{flushed_on, put_on}

@@ -168,11 +168,11 @@ apart_arrives v y x es er p by shown c given h pair ends held r a out down after
 
 -- ---- in contact or not
 
-traffic_plain : (h : Header) → is_traffic h ≡ true → not_reset h ≡ true
+pub traffic_plain : (h : Header) → is_traffic h ≡ true → not_reset h ≡ true
 traffic_plain (header.Reset said) traffic = traffic
 traffic_plain other traffic = refl
 
-traffic_low : (h : Header) (seen : ℕ) → is_traffic h ≡ true → ShowsNoHigher h seen
+pub traffic_low : (h : Header) (seen : ℕ) → is_traffic h ≡ true → ShowsNoHigher h seen
 traffic_low h seen traffic said is = absurd (let wrong : false ≡ true = ap is_traffic (sym is) ∙ traffic in let no : ⊥ = cc in no)
 
 -- a contact that lasts at the node then lasts at its pair

@@ -12,3 +12,5 @@ pub mod Laws
 pub mod ArrivalLaws
 pub mod Arrivals
 pub mod Talkers
+pub mod Sights
+pub mod Truth

@@ -7,6 +7,8 @@ ghost use Rattle.tipc_twins.specs.NoticeLaws.{NoticesArrive, NoticesKeep};
 ghost use Rattle.tipc_twins.specs.RiseLaws.{ActivatesRise, RisesKeep};
 ghost use Rattle.tipc_twins.specs.ArrivalLaws.{EndsMaySend, FarIsMade, FirstAcknowledges, FirstLands, NearIsMade, PairsStand, SecondAcknowledges, SecondLands, TakenAreCounted, TurnedPairsStand};
 ghost use Rattle.tipc_twins.specs.Laws.{DeedsKeepNumbers, DeedsKeepRecords, EnteringKeeps, FallsKeep, GivenAreFront, JoinsKeep, LearningKeeps, LeavingKeeps, NewAreTwins, PartsKeep, PutsKeep, RestartsKeep, SendsPut, ShowsKeep, StepsKeep, TakenAreFront, TakingGives};
+ghost use Rattle.tipc_twins.specs.Sights.{EndsSeen, FramesSeen, FrontsSeen, GivesSeen, RestartsSeen, StartsSeen, TurnedSeen, TurnsSeen};
+ghost use Rattle.tipc_twins.specs.Truth.{TruthsSeen};
 
 /// Two nodes stay what they are to each other, whatever step either takes: what one sends in a contact is by events of two links and their
 /// tunnels, and the records of the other one are those of what was sent.
@@ -99,4 +101,20 @@ pub fn two_nodes_go_on_talking()
     ensures notices { NoticesTalk }
     ensures opens { OpeningTalks }
     ensures arrives { ArrivalsTalk }
+{}
+
+/// Two nodes go on talking as a world tells of them: by what they keep, what their journals record, and the frames that came into the air. Each turn
+/// of a node at its pair leaves them so, whatever it sends is lost, and whatever of all that was ever sent arrives, on either bearer. What an arrival
+/// gives is whole, and a front of what the other put; so is what was given; each link end keeps the numbers of its node; each frame in the air is a
+/// packet of its node; and what a STATE or a numbered packet says of its contact is so.
+pub fn two_nodes_are_seen()
+    ensures starts { StartsSeen }
+    ensures turned { TurnedSeen }
+    ensures restarts { RestartsSeen }
+    ensures turns { TurnsSeen }
+    ensures gives { GivesSeen }
+    ensures front { FrontsSeen }
+    ensures ends { EndsSeen }
+    ensures frames { FramesSeen }
+    ensures truths { TruthsSeen }
 {}
