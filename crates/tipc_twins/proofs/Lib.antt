@@ -83,4 +83,6 @@ pub mod Turning
 pub mod ToldIn
 pub mod Seeing
 pub mod Sights
+pub mod Sizes
 pub mod Truth
+pub mod Reaching

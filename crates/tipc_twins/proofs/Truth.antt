@@ -25,8 +25,10 @@ use Rattle.tipc_paired.specs.Views.{Begun, Frame, er_of, es_of}
 use Rattle.tipc_twins.specs.Carriages.{HasTakenOf}
 use Rattle.tipc_twins.specs.Sights.{AreSeen, Sight}
 use Rattle.tipc_twins.specs.Talkers.{AreTalking, Talker}
-use Rattle.tipc_twins.specs.Truth.{HasTaken, HoldsOf, IsTold, SpeakTruly, TruthsSeen, plain, tunnel}
+use Rattle.tipc_twins.specs.Truth.{AreSlots, FramesFit, HasTaken, HoldsOf, IsTold, SpeakTruly, TruthsSeen, plain, tunnel}
 use Rattle.tipc_twins.proofs.Fronts.{delivered_count, taken_within}
+use Rattle.tipc_twins.proofs.Sights.{frames}
+use Rattle.tipc_twins.proofs.Sizes.{carrier_size, frame_size, slot_at_size}
 use Rattle.tipc_twins.proofs.Talkers.{turned_talk}
 
 -- ---- a packet of a session
@@ -52,7 +54,7 @@ holds_any put slots bearer l places line k packet bytes are there = of_place (ar
       let long = length-map slots slot_bytes in
       let same = ap (λ (ps : List (List ℕ)). length ps) bytes in
       subst (HoldsOf slots (length slots) packet) (sym (ap plain_index is)) (plain (omega arith) (slot_put slots put (i - 1) packet bytes p.there))
-  of_place (Tunnel e q full, is, c) = tunnel c.tunnel
+  of_place (Tunnel e q full, is, c) = tunnel c.tunnel (carrier_size _ _ _ _ _ packet c)
 
 -- one that was taken
 holds_taken : (put : List (List ℕ)) (slots : List Slot) (bearer count : ℕ) (l other : Lines) (places : ℕ → List Place) (r : Receiver) (session k : ℕ) (line : List (List ℕ)) (packet : List ℕ) → map slot_bytes slots ≡ put → AreFor (IsFor put bearer other) (places session) line
@@ -63,7 +65,7 @@ holds_taken put slots bearer count l other places r session k line packet bytes 
       let low = delivered.only session (k + 1) i is past in
       let some = p.counts in
       subst (HoldsOf slots count packet) (sym (ap plain_index is)) (plain (omega arith) (slot_put slots put (i - 1) packet bytes p.there))
-  of_place (Tunnel e q full, is, c) = tunnel c.tunnel
+  of_place (Tunnel e q full, is, c) = tunnel c.tunnel (carrier_size _ _ _ _ _ packet c)
 
 -- later packets hold later slots
 holds_order : (put : List (List ℕ)) (bearer : ℕ) (l : Lines) (places : ℕ → List Place) (session k n : ℕ) (line : List (List ℕ)) (packet other : List ℕ) → AreFor (IsFor put bearer l) (places session) line → Order places → k < n
@@ -272,3 +274,16 @@ truths v w h = record {
   told = speaks v w h;
   told_there = speaks w v (record { here = h.there; there = h.here; talking = turned_talk h.here h.there h.talking; seen_here = h.seen_there; seen_there = h.seen_here });
 }
+
+-- ---- how long a frame is
+
+holds_size : (put : List (List ℕ)) (slots : List Slot) (count index : ℕ) (packet : List ℕ) → AreSlots put slots → HoldsOf slots count packet index → length packet ≤ 1500
+holds_size put slots count index packet are (tunnel is within) = within
+holds_size put slots count index packet are (plain low there) = let short = slot_at_size slots index packet are.sound there in omega (arith, short)
+
+pub frames_fit : FramesFit
+frames_fit v w k f h there =
+    let is = frames v w k f h there in
+    frame_size is.es is.er is.packet f.bytes is.fits is.bytes (λ traffic number bytes carries. (
+    let n = (speaks v w h k f is.es is.er is.packet there is.fits is.bytes traffic).carried number bytes carries in
+    holds_size _ n.slots (length n.slots) n.index bytes n.are n.holds))

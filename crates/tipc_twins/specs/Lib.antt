@@ -14,3 +14,4 @@ pub mod Arrivals
 pub mod Talkers
 pub mod Sights
 pub mod Truth
+pub mod Reaching

@@ -21,9 +21,10 @@ pub record AreSlots (put : List (List ℕ)) (slots : List Slot) : Type 0 where
   pub sound : All IsSlot slots
   pub whole : flat_map slot_items slots ≡ flat_map items_of put
 
--- A packet that a session numbered is a tunnel packet, or holds what was put into this slot, one of the first so many.
+-- A packet that a session numbered is a tunnel packet, of at most 1,500 bytes, or holds what was put into this slot, one of
+-- the first so many.
 pub data HoldsOf (slots : List Slot) (count : ℕ) (packet : List ℕ) (index : ℕ) : Type 0 where
-  tunnel : is_tunnel packet ≡ true → HoldsOf slots count packet index
+  tunnel : is_tunnel packet ≡ true → length packet ≤ 1500 → HoldsOf slots count packet index
   plain : index < count → option_map slot_bytes (slice_get slots index) ≡ Some packet
       → HoldsOf slots count packet index
 
@@ -88,3 +89,7 @@ pub record AreTrue (v w : Sight) : Type 0 where
 -- so a STATE or a numbered packet in the air says of the contact whose numbers stand beside it what is so
 abbrev pub TruthsSeen : Type 0
 TruthsSeen = (v w : Sight) → AreSeen v w → AreTrue v w
+
+-- Each frame in the air has at most 1,516 bytes, of which 16 are the envelope.
+abbrev pub FramesFit : Type 0
+FramesFit = (v w : Sight) (k : ℕ) (f : Frame) → AreSeen v w → slice_get v.sent k ≡ Some f → length f.bytes ≤ 1516

@@ -1,5 +1,5 @@
 use Rattle.tipc_twins.proofs.Sights.{ends, frames, front, gives, restarted, starts, turned, turns}
-use Rattle.tipc_twins.proofs.Truth.{truths}
+use Rattle.tipc_twins.proofs.Truth.{frames_fit, truths}
 use Rattle.tipc_twins.proofs.laws.two_nodes_are_seen.Goals as goal
 
 pub returns-clause-starts : goal.returns-clause-starts
@@ -28,3 +28,6 @@ returns-clause-frames c = frames
 
 pub returns-clause-truths : goal.returns-clause-truths
 returns-clause-truths c = truths
+
+pub returns-clause-fit : goal.returns-clause-fit
+returns-clause-fit c = frames_fit
