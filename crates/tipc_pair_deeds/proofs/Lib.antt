@@ -17,3 +17,4 @@ pub mod Opening
 pub mod Placing
 pub mod Arriving
 pub mod ArrivalKept
+pub mod Causes

@@ -1,3 +1,4 @@
 pub mod PairDeeds
 pub mod Arriving
 pub mod Laws
+pub mod Causes

@@ -3,6 +3,7 @@
 //! Whatever a node does in one call is deeds of the two nodes, one after the other, and each deed keeps them paired. So the law of two
 //! nodes can be proved deed by deed, and holds of each call.
 
+ghost use Rattle.tipc_pair_deeds.specs.Causes.{CutsTell, DuplicatesTell, MeetsTell, NumbersAreNoted, NumbersTell, ReleasesTell, ResetsTell, TicksTell, TunnelsTell};
 ghost use Rattle.tipc_pair_deeds.specs.Laws.{AnswersAreDeeds, ArrivalsAreDeeds, ArrivalsKeepEnds, CutsAreDeeds, MakesAreDeeds, MendsAreDeeds, ReleasesAreDeeds, SendsAreDeeds, StepsAreDeeds, TicksAreDeeds};
 
 /// What a node does with its link ends is deeds, with the frames that it says: an end is made, a bearer is mended or cut, a tick passes.
@@ -31,4 +32,19 @@ pub fn what_follows_is_deeds()
 pub fn arrivals_are_deeds()
     ensures deeds { ArrivalsAreDeeds }
     ensures ends { ArrivalsKeepEnds }
+{}
+
+/// What is told of a link that goes down has its cause in the step: the bearer is cut; a tick passes after four silent ones; a RESET arrives under a
+/// new epoch; an original tunnel packet arrives on the other link, which speaks of the epoch under which this one is up; or the peer shows a
+/// higher contact number. The contact is told to end with the last link, or by that number.
+pub fn what_goes_down_has_a_cause()
+    ensures cuts { CutsTell }
+    ensures ticks { TicksTell }
+    ensures resets { ResetsTell }
+    ensures tunnels { TunnelsTell }
+    ensures duplicates { DuplicatesTell }
+    ensures numbers { NumbersTell }
+    ensures noted { NumbersAreNoted }
+    ensures releases { ReleasesTell }
+    ensures meets { MeetsTell }
 {}
