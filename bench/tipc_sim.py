@@ -1,6 +1,7 @@
 #!/usr/bin/env python3
 """How many messages a second the program carries over one link, whether that depends on how many it has carried, and
-how much memory it holds at the end, beside the bytes of the frames in its air. What a message by name costs beside one
+how much memory it holds at the end, beside the bytes of the frames in its air. What a message costs where two links stand,
+beside one link; what a failover costs by the number of packets that it moves. What a message by name costs beside one
 by port; what a publication costs that every peer is told of; what a contact costs that begins with publications, and what
 a change costs that subscribers are told of.
 
@@ -42,6 +43,26 @@ def measure(what: str, lines: str, messages: int, body: int) -> None:
 def seconds_of(script: str) -> float:
     """The least of three runs."""
     return min(run(script)[1] for _ in range(3))
+
+
+def measure_two_links(messages: int) -> None:
+    """Prints what messages cost between two nodes with two links beside two nodes with one."""
+    lines = "repeat 50 send 1 1 port 2 1 low =x\npump 0\npump 1\ndrain 2 1\n" * (messages // 50)
+    took = {links: seconds_of(NODES + "link 1 2 1\n" * (links - 1) + lines) for links in (1, 2)}
+    print(f"{messages} messages: {took[1]:.3f} s over one link, {took[2]:.3f} s where two stand, {took[2] / took[1]:.2f} times")
+
+
+def measure_failover(waiting: int) -> None:
+    """Prints what a failover costs that moves 50 unacknowledged packets and so many that wait, of one message of 47 packets at a time."""
+    times = 200
+    nodes = NODES + "link 1 2 1\n"
+    load = "repeat 50 send 1 1 port 2 1 low *1440\n" + "send 1 1 port 2 1 critical *66000\n" * (waiting // 47)
+    rest = "pump 0\npump 1\ndrain 2 1\n"
+    calm = nodes + (load + rest + "cut 1 0\npump 1\nmend 1 0\nsettle 5\n") * times
+    moved = nodes + (load + "cut 1 0\npump 1\n" + rest + "mend 1 0\nsettle 5\n") * times
+    took = (seconds_of(moved) - seconds_of(calm)) / times
+    packets = 50 + waiting // 47 * 47
+    print(f"a failover of 50 unacknowledged packets and {packets - 50} that wait: {took * 1e6:.0f} microseconds more, {took / packets * 1e6:.2f} a packet")
 
 
 def measure_names(messages: int) -> None:
@@ -89,6 +110,9 @@ def main() -> None:
     pumped = "repeat 50 send 1 1 port 2 1 low *1000\npump 0\ndrain 2 1\n"
     for turns in (100, 400, 1_200):
         measure(f"{50 * turns} messages of 1,000 bytes, pumped in fifties", pumped * turns, 50 * turns, 1_000)
+    measure_two_links(30_000)
+    for waiting in (0, 47, 94, 188, 235):
+        measure_failover(waiting)
     measure_names(30_000)
     for publications in (256, 512, 1_024):
         measure_publications(31, publications)

@@ -2,7 +2,7 @@
 """Prints a random script for `tipc_sim run`.
 
 random_script.py SEED LINES: a script of so many lines behind the ones that make its nodes. The same
-seed gives the same script. Links are asked for, cut, mended and left to fall silent, nodes are restarted,
+seed gives the same script. Links of both bearers are asked for, cut, mended and left to fall silent, nodes are restarted,
 messages of any length are sent between all ports that were ever made, one or many at a time, and frames arrive
 late, again and in any order.
 """
@@ -25,10 +25,14 @@ class Cluster:
 
     def first_lines(self) -> list:
         lines = [f"node {n}" for n in self.nodes]
-        lines += [f"link {a} {b} 0" for a in self.nodes for b in self.nodes if a < b]
+        for bearer in (0, 1):
+            lines += [f"link {a} {b} {bearer}" for a in self.nodes for b in self.nodes if a < b and (bearer == 0 or self.draw.random() < 0.7)]
         for n in self.nodes:
             lines.append(self.socket(n))
         return lines
+
+    def bearer(self) -> int:
+        return self.draw.randint(0, 1)
 
     def node(self) -> int:
         return self.draw.choice(self.nodes)
@@ -77,21 +81,21 @@ class Cluster:
         if kind == "send":
             return self.send()
         if kind == "arrive":
-            return f"arrive {n} 0 {self.draw.randint(0, self.draw.choice((10, 40, 400)))}"
+            return f"arrive {n} {self.bearer()} {self.draw.randint(0, self.draw.choice((10, 40, 400)))}"
         if kind == "repeat":
             return f"repeat {self.draw.randint(1, 12)} {self.send()}"
         if kind == "burst":
             return self.burst()
         if kind == "show":
-            return f"show 0 {self.draw.randint(0, self.draw.choice((10, 40, 400)))}"
+            return f"show {self.bearer()} {self.draw.randint(0, self.draw.choice((10, 40, 400)))}"
         if kind in ("receive", "drain"):
             return f"{kind} {n} {self.port(n)}"
         if kind in ("pump", "air"):
-            return f"{kind} 0"
+            return f"{kind} {self.bearer()}"
         if kind == "settle":
             return f"settle {self.draw.randint(0, 6)}"
         if kind in ("cut", "mend"):
-            return f"{kind} {n} 0"
+            return f"{kind} {n} {self.bearer()}"
         if kind == "restart":
             return self.restart(n)
         if kind == "socket":
@@ -101,7 +105,7 @@ class Cluster:
             return f"flow {a} {b}"
         if kind == "link":
             a, b = self.two_nodes() if self.draw.random() < 0.95 else (n, n)
-            return f"link {a} {b} 0"
+            return f"link {a} {b} {self.bearer()}"
         if kind == "mark":
             return "mark"
         return f"{kind} {n}"

@@ -90,28 +90,57 @@ impl Ends {
             &mut self.sent,
         )
     }
+}
 
-    /// RESET, ACTIVATE and STATE take both ends up.
-    fn go_up(&mut self, rt: &impl Abort, alloc: Global) -> Result<(), Fail> {
-        let first = self.to_right(alloc, 0)?;
-        assert_eq!(rt; first.change, Change::Answer(Reply::Activate));
-        let second = self.to_left(alloc, 1)?;
-        assert_eq!(rt; second.change, Change::Up);
-        let third = self.to_right(alloc, 1)?;
-        assert_eq!(rt; third.change, Change::Up);
-        Ok(())
-    }
+/// What an arrival changed.
+fn changed(rt: &impl Abort, arrival: &LinkArrival, change: Change) {
+    assert!(rt; arrival.change == change);
+}
 
-    /// A frame of these words of the left end arrives at the right end.
-    fn words_to_right(
-        &mut self,
-        alloc: Global,
-        words: &[u32],
-    ) -> Result<Result<u16, Option<Why>>, Fail> {
-        let frame = bytes_of(alloc, words)?;
-        let arrival = arrive(alloc, &mut self.right, frame.as_slice(), &mut self.answers)?;
-        Ok(last_taken(&arrival.outcome))
-    }
+/// Two ends that RESET, ACTIVATE and STATE took up.
+fn up(rt: &impl Abort, alloc: Global) -> Result<Ends, Fail> {
+    let mut ends = Ends::new(alloc);
+    changed(
+        rt,
+        &ends.to_right(alloc, 0)?,
+        Change::Answer(Reply::Activate),
+    );
+    changed(rt, &ends.to_left(alloc, 1)?, Change::Up);
+    changed(rt, &ends.to_right(alloc, 1)?, Change::Up);
+    Ok(ends)
+}
+
+/// The number of the last packet that is taken, or 0 where none is; why, where the packet is ignored; and None where it is deferred.
+type Outcome = Result<u16, Option<Why>>;
+
+const OLD: Outcome = Err(Some(Why::Old));
+
+/// A frame of these words of the left end arrives at the right end, and this comes of it.
+fn takes(
+    rt: &impl Abort,
+    alloc: Global,
+    ends: &mut Ends,
+    words: &[u32],
+    outcome: Outcome,
+) -> Result<(), Fail> {
+    let frame = bytes_of(alloc, words)?;
+    let arrival = arrive(alloc, &mut ends.right, frame.as_slice(), &mut ends.answers)?;
+    assert!(rt; last_taken(&arrival.outcome) == outcome);
+    Ok(())
+}
+
+/// A packet of this session comes under this number through the other link to the end, and this comes of it.
+fn takes_tunnelled(
+    rt: &impl Abort,
+    alloc: Global,
+    end: &mut Link,
+    epoch: u64,
+    number: u16,
+    outcome: Outcome,
+) -> Result<(), Fail> {
+    let given = end.take_tunnelled(alloc, epoch, number, None, 41)?;
+    assert!(rt; last_taken(&given) == outcome, "{number} of {epoch}");
+    Ok(())
 }
 
 /// A frame arrives.
@@ -127,8 +156,8 @@ fn arrive(
     Ok(link.arrive(alloc, es, er, &packet, false, 40, NO_BROADCAST, out)?)
 }
 
-/// The number of the last packet that is taken, or 0 where none is; why, where the packet is ignored; and None where it is deferred.
-fn last_taken(outcome: &LinkOutcome) -> Result<u16, Option<Why>> {
+/// What comes of an arrival.
+fn last_taken(outcome: &LinkOutcome) -> Outcome {
     match outcome {
         LinkOutcome::Took(taken) => Ok(taken.as_slice().last().map_or(0, |one| one.number)),
         LinkOutcome::Deferred => Err(None),
@@ -172,64 +201,62 @@ fn tunnel(number: u32) -> [u32; 16] {
     ]
 }
 
+/// The first frame is this RESET.
+fn begins_with_reset(rt: &impl Abort, alloc: Global, sent: &Outbox) -> Result<(), Fail> {
+    let reset = sent.frames().first().ok_or("no RESET")?;
+    let wanted = bytes_of(alloc, &RESET)?;
+    assert!(rt; reset.frame.as_slice() == wanted.as_slice());
+    Ok(())
+}
+
 /// RESET, ACTIVATE and STATE take both ends of a link up; a cut takes one down.
 #[test]
 fn two_ends_go_up(rt: HostRuntime) -> Result<(), Fail> {
     let alloc = rt.alloc();
-    let mut ends = Ends::new(alloc);
-    let reset = ends.sent.frames().first().ok_or("no RESET")?;
-    assert_eq!(rt; reset.frame.as_slice(), bytes_of(alloc, &RESET)?.as_slice());
-    ends.go_up(&rt, alloc)?;
-    assert_eq!(rt;
-        (ends.sent.frames().len(), ends.answers.frames().len()),
-        (2, 3)
-    );
+    let mut ends = up(&rt, alloc)?;
+    begins_with_reset(&rt, alloc, &ends.sent)?;
+    assert!(rt; ends.sent.frames().len() == 2 && ends.answers.frames().len() == 3);
     assert!(rt; ends.left.is_up() && ends.right.is_up());
-    assert_eq!(rt; ends.left.cut(false), Change::Down(Cause::Cut));
+    assert!(rt; ends.left.cut(false) == Change::Down(Cause::Cut));
     Ok(())
 }
 
-/// Packets of a session come through the other link, the first one that is taken with one that is held behind it: each is taken once
-/// and in order. The record goes on to a higher epoch alone.
+/// The epoch and the number of packets that come through the other link, and what comes of each: the first one that is taken comes with one
+/// that is held behind it.
+static TUNNELLED: [(u64, u16, Outcome); 7] = [
+    (LEFT, 1, OLD),
+    (LEFT - 1, 2, OLD),
+    (LEFT, 4, OLD),
+    (LEFT, 2, Ok(3)),
+    (LEFT, 4, Ok(4)),
+    (LEFT + 1, 1, Ok(1)),
+    (LEFT, 5, OLD),
+];
+
+/// Packets of a session come through the other link: each is taken once and in order. The record goes on to a higher epoch alone.
 #[test]
 fn a_record_outlives_its_session(rt: HostRuntime) -> Result<(), Fail> {
     let alloc = rt.alloc();
-    let mut ends = Ends::new(alloc);
-    ends.go_up(&rt, alloc)?;
-    assert_eq!(rt; ends.words_to_right(alloc, &message(1))?, Ok(1));
-    assert_eq!(rt; ends.words_to_right(alloc, &message(3))?, Err(None));
-    assert_eq!(rt; ends.right.cut(true), Change::Down(Cause::Cut));
-    for (epoch, number, outcome) in [
-        (LEFT, 1, Err(Some(Why::Old))),
-        (LEFT - 1, 2, Err(Some(Why::Old))),
-        (LEFT, 4, Err(Some(Why::Old))),
-        (LEFT, 2, Ok(3)),
-        (LEFT, 4, Ok(4)),
-        (LEFT + 1, 1, Ok(1)),
-        (LEFT, 5, Err(Some(Why::Old))),
-    ] {
-        let given = ends.right.take_tunnelled(alloc, epoch, number, None, 41)?;
-        assert_eq!(rt; last_taken(&given), outcome, "{number} of {epoch}");
+    let mut ends = up(&rt, alloc)?;
+    takes(&rt, alloc, &mut ends, &message(1), Ok(1))?;
+    takes(&rt, alloc, &mut ends, &message(3), Err(None))?;
+    assert!(rt; ends.right.cut(true) == Change::Down(Cause::Cut));
+    for (epoch, number, outcome) in &TUNNELLED {
+        takes_tunnelled(&rt, alloc, &mut ends.right, *epoch, *number, *outcome)?;
     }
     Ok(())
 }
+
+/// The numbers of tunnel packets, and what comes of each.
+static EARLY: [(u32, Outcome); 3] = [(2, OLD), (1, Ok(1)), (1, OLD)];
 
 /// A tunnel packet isn't deferred: it is taken where it is the wanted one, and is old else.
 #[test]
 fn an_early_tunnel_packet_is_old(rt: HostRuntime) -> Result<(), Fail> {
     let alloc = rt.alloc();
-    let mut ends = Ends::new(alloc);
-    ends.go_up(&rt, alloc)?;
-    for (number, outcome) in [
-        (2, Err(Some(Why::Old))),
-        (1, Ok(1)),
-        (1, Err(Some(Why::Old))),
-    ] {
-        assert_eq!(rt;
-            ends.words_to_right(alloc, &tunnel(number))?,
-            outcome,
-            "{number}"
-        );
+    let mut ends = up(&rt, alloc)?;
+    for (number, outcome) in &EARLY {
+        takes(&rt, alloc, &mut ends, &tunnel(*number), *outcome)?;
     }
     Ok(())
 }

@@ -5,24 +5,29 @@ use Rattle.std.specs.List.{list_all}
 use Rattle.std.proofs.lemmas.List.Folds.{list_all-append, list_all_at}
 use Rattle.tipc_journal.specs.declared.entries.Entry.{Entry}
 use Rattle.tipc_journal.specs.declared.entries.Entry.TheVariants as entry
-use Rattle.tipc_pair.specs.declared.changes.PairChange.{PairChange}
-use Rattle.tipc_pair.specs.declared.changes.PairChange.TheVariants.{Stay, Began, Ended}
+use Rattle.tipc_pair.specs.declared.transitions.Transition.{Transition}
+use Rattle.tipc_pair.specs.declared.transitions.Transition.TheVariants.{ContactDown, ContactUp, LinkDown, LinkUp}
 use Rattle.tipc_sockets.specs.SocketTables.{SocketTable}
 use Rattle.tipc_sockets.specs.Telling.{after_entry}
 use Rattle.tipc_node.specs.declared.neighbours.Neighbour.{Neighbour}
 use Rattle.tipc_node.specs.declared.neighbours.Deed.{Deed}
 use Rattle.tipc_node.specs.Neighbours.{done}
-use Rattle.tipc_node.specs.Nodes.{change_entries, entries_all, entries_one, is_change}
+use Rattle.tipc_node.specs.Nodes.{change_entries, change_entry, entries_all, entries_one, is_change}
 
 -- each of them is a change
-pub change_changes : (peer : ℕ) (change : PairChange) → list_all is_change (change_entries peer change) ≡ true
-change_changes peer Stay = refl
-change_changes peer (Began own_epoch peer_epoch contact) = refl
-change_changes peer (Ended cause shown_epoch contact shown_contact) = refl
+one_change : (peer : ℕ) (change : Transition) → is_change (change_entry peer change) ≡ true
+one_change peer (LinkUp bearer own_epoch peer_epoch) = refl
+one_change peer (LinkDown bearer cause shown_epoch) = refl
+one_change peer (ContactUp contact) = refl
+one_change peer (ContactDown contact states shown) = refl
+
+pub change_changes : (peer : ℕ) (changes : List Transition) → list_all is_change (change_entries peer changes) ≡ true
+change_changes peer [] = refl
+change_changes peer (change ∷ changes) = ap (λ b. b && list_all is_change (change_entries peer changes)) (one_change peer change) ∙ change_changes peer changes
 
 one_changes : (d : Deed) (number : ℕ) (x : Option Neighbour) → list_all is_change (entries_one d number x) ≡ true
 one_changes d number None = refl
-one_changes d number (Some x) = change_changes number (done d x).change
+one_changes d number (Some x) = change_changes number (done d x).changes
 
 both : (es fs : List Entry) → list_all is_change es ≡ true → list_all is_change fs ≡ true → list_all is_change (es ++ fs) ≡ true
 both es fs first then = list_all-append is_change es fs ∙ ap (λ b. b && list_all is_change fs) first ∙ then

@@ -1,5 +1,5 @@
 -- What a message's fate makes of a node's work on a step, and what a return is.
-use Rattle.std.proofs.Common.{◌≡◌, ◌==◌, ◌&&◌, ◌||◌, ℕ, Bool, true, false, not, List, [], ◌∷◌, ◌++◌, Option, Some, None, filter, is_some, length, take, refl, sym, ap, ◌∙◌, subst}
+use Rattle.std.proofs.Common.{◌≡◌, ◌≤◌, ◌==◌, ◌&&◌, ◌||◌, ℕ, Bool, true, false, not, List, [], ◌∷◌, ◌++◌, Option, Some, None, filter, is_some, length, take, refl, sym, ap, ◌∙◌, subst}
 use Rattle.std.specs.Prelude.{if◌then◌else◌, nat_le, nat_lt, option_and_then, option_map, slice_index_or}
 use Rattle.std.specs.List.{list_all}
 use Rattle.tipc_types.specs.declared.identity.Addr.{Addr}
@@ -14,9 +14,7 @@ use Rattle.tipc_journal.specs.Contacts.{contact, contact_after}
 use Rattle.tipc_journal.specs.Dues.{Due, FateDue, NothingDue, due_after, due_of_returned, returned_message}
 use Rattle.tipc_journal.specs.Licensed.{is_asked_for}
 use Rattle.tipc_journal.proofs.Insides.{contact_inside}
-use Rattle.tipc_link_fsm.specs.Table.{is_up}
-use Rattle.tipc_link.specs.Sessions.{SessionEnd}
-use Rattle.tipc_pair.specs.Pairs.{contact_of}
+use Rattle.tipc_pair.specs.Facing.{contact_between}
 use Rattle.tipc_sockets.specs.declared.fates.Fate.{Fate}
 use Rattle.tipc_sockets.specs.declared.fates.Fate.TheVariants.{Queued, Returned, ReturnDropped, Dropped}
 use Rattle.tipc_sockets.specs.Fates.{after_fate, fate, is_by_name, is_offered, one_port_fate, refusal, return_fate, room_refusal, unqueued_fate}
@@ -25,21 +23,22 @@ use Rattle.tipc_sockets.specs.Telling.{fate_entry, is_for_one_there, is_payload,
 use Rattle.tipc_sockets.proofs.FatesTold.{fate_may, fate_told}
 use Rattle.tipc_sockets.proofs.Keeping.{keys-queued_at_each, other_queues}
 use Rattle.tipc_node.specs.declared.neighbours.Neighbour.{Neighbour}
-use Rattle.tipc_node.specs.Nodes.{NodeState, session_with}
+use Rattle.tipc_node.specs.Nodes.{NodeState, load_with}
 use Rattle.tipc_node.specs.Telling.{is_in_reach}
 use Rattle.tipc_node.specs.Works.{Work, addr_of_word, fate_of, fated, neighbour_at, waiting_to}
+use Rattle.tipc_node.proofs.ContactLoads.{load_contact}
 use Rattle.tipc_node.proofs.Noting.{IsWorked, reached_same, sent_by, worked_on}
 
 -- ---- contacts
 
 -- the contact with the node of an address, by what is kept of it
 abbrev pub contact_at : List (Option Neighbour) → Addr → Option (ℕ × ℕ)
-contact_at neighbours a = option_and_then (λ (x : Neighbour). contact_of x.pair.link) (neighbour_at neighbours a)
+contact_at neighbours a = option_and_then (λ (x : Neighbour). contact_between x.pair) (neighbour_at neighbours a)
 
--- The entries so far tell the contacts of the neighbours so far. A link that is up has its session, and no neighbour has the number 0.
+-- The entries so far tell the contacts of the neighbours so far. Each pair is seen from one of its two links, and no neighbour has the number 0.
 pub record IsLinked (n : NodeState) (w : Work) : Type 0 where
   pub contacts : (a : Addr) → contact (n.journal ++ w.inside) a ≡ contact_at w.neighbours a
-  pub begun : (b : ℕ) (x : Neighbour) → slice_index_or w.neighbours b None ≡ Some x → is_up x.pair.link.fsm.state ≡ true → is_some x.pair.link.session ≡ true
+  pub two : (b : ℕ) (x : Neighbour) → slice_index_or w.neighbours b None ≡ Some x → x.pair.bearer ≤ 1
   pub nobody : slice_index_or w.neighbours 0 None ≡ None
 
 -- so it is where nothing is due
@@ -51,20 +50,14 @@ pub linked_more : (n : NodeState) (w : Work) (e : Entry) (s : SocketTable) → I
     → IsLinked n (record { neighbours = w.neighbours; sockets = s; inside = w.inside ++ e ∷ [] })
 linked_more n w e s h leaves = record {
   contacts = λ a. contact_inside n.journal w.inside e a ∙ leaves a (contact (n.journal ++ w.inside) a) ∙ h.contacts a;
-  begun = h.begun;
+  two = h.two;
   nobody = h.nobody;
 }
 
--- a link that is up has a session, and one that isn't has no contact
-pub session_some : (o : Option Neighbour) → ((x : Neighbour) → o ≡ Some x → is_up x.pair.link.fsm.state ≡ true → is_some x.pair.link.session ≡ true)
-    → is_some (session_with o) ≡ is_some (option_and_then (λ (x : Neighbour). contact_of x.pair.link) o)
-session_some None begun = refl
-session_some (Some x) begun = by (is_up x.pair.link.fsm.state) refl
-  where
-    by : (b : Bool) → is_up x.pair.link.fsm.state ≡ b
-        → is_some (if b then x.pair.link.session else None) ≡ is_some {T = ℕ × ℕ} (if b then Some (x.pair.link.contact, x.pair.link.peer_contact) else None)
-    by true up = begun x refl up
-    by false down = refl
+-- there is a load exactly where there is contact
+pub load_some : (o : Option Neighbour) → ((x : Neighbour) → o ≡ Some x → x.pair.bearer ≤ 1) → is_some (load_with o) ≡ is_some (option_and_then (λ (x : Neighbour). contact_between x.pair) o)
+load_some None two = refl
+load_some (Some x) two = load_contact x.pair (two x refl)
 
 mapped : {A B : Type 0} (f : A → B) (o : Option A) → is_some (option_map f o) ≡ is_some o
 mapped f None = refl
@@ -73,7 +66,7 @@ mapped f (Some x) = refl
 -- how many packets wait is told exactly where there is contact
 pub waits_with : (n : NodeState) (w : Work) (a : Addr) → IsLinked n w → is_some (waiting_to w.neighbours a) ≡ is_some (contact (n.journal ++ w.inside) a)
 waits_with n w a h =
-    mapped (λ (s : SessionEnd). length s.sending.waiting) (session_with (neighbour_at w.neighbours a)) ∙ session_some (neighbour_at w.neighbours a) (λ x is. h.begun _ x is) ∙ ap is_some (sym (h.contacts a))
+    mapped (λ (load : ℕ × ℕ). load.1) (load_with (neighbour_at w.neighbours a)) ∙ load_some (neighbour_at w.neighbours a) (λ x is. h.two _ x is) ∙ ap is_some (sym (h.contacts a))
 
 -- ---- a fate
 

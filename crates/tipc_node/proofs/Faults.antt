@@ -1,9 +1,11 @@
 -- A whole packet that was given breaks no rule of the header.
-use Rattle.std.proofs.Common.{◌≡◌, ℕ, true, false, List, [], ◌∷◌, None, Result, Ok, Err, refl, ap, ◌∙◌, if◌then◌else◌}
+use Rattle.std.proofs.Common.{◌≡◌, ℕ, true, false, List, [], ◌∷◌, None, Result, Ok, Err, refl, sym, subst, ap, ◌∙◌, if◌then◌else◌}
 use Rattle.std.specs.Prelude.{All, slice_index_or}
 use Rattle.std.proofs.lemmas.List.Elements.{All-append, All-map, All-nil}
 use Rattle.tipc_types.specs.declared.packet_lists.Taken.{Taken}
+use Rattle.tipc_types.specs.declared.link_words.BroadcastState.{BroadcastState}
 use Rattle.tipc_header.specs.Faults.{fault_of}
+use Rattle.tipc_header.specs.Spelling.{Fields}
 use Rattle.tipc_header.specs.Reading.{fields_at}
 use Rattle.tipc_header.proofs.Again.{no_fault}
 use Rattle.tipc_bundle.specs.Bundles.{IsInner}
@@ -18,7 +20,14 @@ use Rattle.tipc_reassembly.specs.declared.opening.Opened.TheVariants.{Whole, Pas
 use Rattle.tipc_reassembly.specs.Opening.{bad_bundle, Brings, BringsAll, brought_by, bundle, fragment, go_on, is_payload, joined_members, message, none, other}
 use Rattle.tipc_reassembly.proofs.AnswerLaws.{answer_whole}
 use Rattle.tipc_pair.specs.declared.changes.PairOutcome.{PairOutcome}
-use Rattle.tipc_pair.specs.Partners.{OpensTo, deferred, ignored, opened_in, took}
+use Rattle.tipc_pair.specs.Messages.{OpensTo, deferred, ignored, opened_in, took}
+use Rattle.tipc_pair.specs.declared.preparing.Way.{Way}
+use Rattle.tipc_pair.specs.declared.preparing.Way.TheVariants as way
+use Rattle.tipc_pair.specs.Courses.{Course}
+use Rattle.tipc_pair.specs.Facing.{PairEnds, facing}
+use Rattle.tipc_pair.specs.PairArrivals.{OpensInto, with_bytes}
+use Rattle.tipc_pair.specs.PairArrivals.OpensInto.{opens, deferred as put_off, ignored as passed_by}
+use Rattle.tipc_pair.specs.Preparing.{IsPrepared, Prepared, Prepares}
 use Rattle.tipc_pair.proofs.Pieces.{All-one}
 use Rattle.tipc_node.specs.Deliveries.{HasNoFault}
 
@@ -54,3 +63,17 @@ pub opens_sound : (begun last : Joining) (o : LinkOutcome) (out : PairOutcome) �
 opens_sound begun last _ _ (took {taken = taken} {opened = opened} brings) = all_sound begun taken opened last brings
 opens_sound begun last _ _ deferred = All-nil HasNoFault
 opens_sound begun last _ _ ignored = All-nil HasNoFault
+
+into_sound : (x : PairEnds) (o : LinkOutcome) (c : Course) (out : PairOutcome) → OpensInto x o c out → All HasNoFault (opened_in out)
+into_sound x _ _ _ (opens {carried = carried} {c = c} {given = given} {last = last} unwraps brings) = all_sound c.pair.begun (with_bytes carried) given last brings
+into_sound x _ _ _ put_off = All-nil HasNoFault
+into_sound x _ _ _ passed_by = All-nil HasNoFault
+
+-- what is told of a packet before it is taken
+pub prepared_sound : (x : PairEnds) (es er : ℕ) (p : Fields) (by : ℕ) (shown : BroadcastState) (a : Prepared) → Prepares x es er p by shown a → All HasNoFault (opened_in a.outcome)
+prepared_sound x es er p by shown a h = of a.way a.outcome h.told
+  where
+    of : (w : Way) (given : PairOutcome) → IsPrepared (facing a.bearer x) es er p by shown w given → All HasNoFault (opened_in given)
+    of way.Passes given told = subst (λ (g : PairOutcome). All HasNoFault (opened_in g)) (sym told.1) (All-nil HasNoFault)
+    of (way.Quiet arriving begun) given told = opens_sound (facing a.bearer x).begun begun arriving.hearing.outcome given told.2
+    of (way.Whole ends leaving) given told = let a = told.1 in into_sound _ _ a.opened given a.opens

@@ -67,12 +67,6 @@ back_home own (Items withdrawal items) back is origin = absurd (true≢false (sy
 
 -- ---- the whole of it
 
-none_follows : (own : ℕ) (w : Work) (m : Message) (f : Fate) → back_of f ≡ None → Follows own w m f (fated w m f) []
-none_follows own w m (Queued ports) none = (refl, refl)
-none_follows own w m (Returned back) none = absurd cc
-none_follows own w m (ReturnDropped waiting) none = (refl, refl)
-none_follows own w m Dropped none = (refl, refl)
-
 some_follow : (own : ℕ) (w : Work) (m back : Message) (f : Fate) → back_of f ≡ Some back → comes_home (addr_of_word own) back ≡ true
     → Follows own w m f (fated (fated w m f) back (fate_of (fated w m f) false back)) []
 some_follow own w m back (Queued ports) some home = absurd cc
@@ -94,12 +88,6 @@ met_work : (xs : List (Option Neighbour)) (s s' : SocketTable) (es es' : List En
     → work_of xs s' es' ≡ fated (work_of xs s es) m (fate_of (work_of xs s es) false m)
 met_work xs s s' es es' m back h =
     ap (λ t. work_of xs t es') h.sockets ∙ ap (λ fs. work_of xs (after_fate s m (fate_of (work_of xs s es) false m)) fs) h.entries
-
-pub settles_once : (own : ℕ) (xs : List (Option Neighbour)) (s s' : SocketTable) (es es' : List Entry) (m : Message) → IsMet xs s s' es es' m None
-    → Settles own (work_of xs s es) false m (work_of xs s' es') []
-settles_once own xs s s' es es' m h =
-    let f = fate_of (work_of xs s es) false m in
-    subst (λ w. Settles own (work_of xs s es) false m w []) (sym (met_work xs s s' es es' m None h)) (none_follows own (work_of xs s es) m f (sym h.back_is))
 
 returned_by : (f : Fate) (back : Message) → Some back ≡ back_of f → f ≡ Returned back
 returned_by (Queued ports) back is = absurd cc

@@ -1,4 +1,4 @@
--- What always holds of a node stays so: its journal tells of it, its link ends are for the peers of their numbers, its sessions are packed,
+-- What always holds of a node stays so: its journal tells of it, its pairs are for the peers of their numbers, its sessions are packed,
 -- and it shares its names with its peers.
 use Rattle.std.proofs.Common.{◌≡◌, ◌≤◌, ℕ, List, [], None, length}
 use Rattle.tipc_types.specs.declared.node_calls.Answer.{Answer}
@@ -11,19 +11,20 @@ use Rattle.tipc_outside.specs.declared.outgoing.Outgoing.{Outgoing}
 use Rattle.tipc_sockets.specs.SocketTables.{AreSockets, no_sockets}
 use Rattle.tipc_node.specs.Arrivals.{Arrives}
 use Rattle.tipc_node.specs.Calls.{CallTurn, CanPerform, HasInstances, Performs}
-use Rattle.tipc_node.specs.Nodes.{NodeState, known_node, neighbour_of, step_of}
+use Rattle.tipc_node.specs.Nodes.{NodeState, end_with, known_node, neighbour_of, step_of}
 use Rattle.tipc_node.specs.Sharing.{SharesNames}
 use Rattle.tipc_node.specs.Sockets.{kept_answer}
 use Rattle.tipc_node.specs.Telling.{ArePacked, IsTold}
 use Rattle.tipc_node.specs.Turns.{AreNamed}
 use Rattle.tipc_node.proofs.ArrivalTold.{arrives_told}
 use Rattle.tipc_node.proofs.Arrivals.{arrives_turn}
+use Rattle.tipc_node.proofs.FirstTold.{known_told, new_told}
 use Rattle.tipc_node.proofs.Named.{known_named, turn_named}
 use Rattle.tipc_node.proofs.Packed.{known_packed, new_packed, turn_packed}
 use Rattle.tipc_node.proofs.Performing.{performs_turn}
 use Rattle.tipc_node.proofs.SharedNames.{known_shares, new_shares, performs_shares}
 use Rattle.tipc_node.proofs.SharingArrivals.{arrives_shares}
-use Rattle.tipc_node.proofs.Told.{known_told, new_told, performs_told}
+use Rattle.tipc_node.proofs.Told.{performs_told}
 
 pub record IsKept (n : NodeState) : Type 0 where
   pub told : IsTold n
@@ -41,12 +42,12 @@ new_kept n none sound empty nobody = record {
 }
 
 -- a link end is made
-pub known_kept : (n : NodeState) (peer : ℕ) → 1 ≤ peer → neighbour_of n peer ≡ None → IsKept n → IsKept (known_node n peer)
-known_kept n peer some none k = record {
-  told = known_told n peer some none k.told;
-  named = known_named n peer k.named;
-  packed = known_packed n peer k.packed;
-  shares = known_shares n peer none k.shares;
+pub known_kept : (n : NodeState) (peer bearer : ℕ) → 1 ≤ peer → end_with bearer (neighbour_of n peer) ≡ None → IsKept n → IsKept (known_node n peer bearer)
+known_kept n peer bearer some none k = record {
+  told = known_told n peer bearer some none k.told;
+  named = known_named n peer bearer k.named;
+  packed = known_packed n peer bearer k.told k.packed;
+  shares = known_shares n peer bearer none k.told k.shares;
 }
 
 -- a step was recorded
@@ -54,7 +55,7 @@ pub turn_kept : (n n' : NodeState) (by : By) (note : EventNote) (bytes : List �
 turn_kept n n' by note bytes kept frames k t = record {
   told = t.told;
   named = turn_named n n' bytes (step_of by note t.inside kept) frames k.named t.turn;
-  packed = turn_packed n n' bytes (step_of by note t.inside kept) frames k.packed t.turn;
+  packed = turn_packed n n' bytes (step_of by note t.inside kept) frames k.told k.packed t.turn;
   shares = t.shared;
 }
 

@@ -1,9 +1,9 @@
 -- What a node learns of a peer's items, one item after the other.
-use Rattle.std.proofs.Common.{◌≡◌, ◌+◌, ◌<◌, ◌≤◌, ◌&&◌, ℕ, Bool, true, false, List, [], ◌∷◌, ◌++◌, Option, Some, None, drop, find, fold, length, map, option_map, if◌then◌else◌, append-nil, append_assoc, eqb-true, refl, sym, ap, subst, ◌∙◌, arith}
+use Rattle.std.proofs.Common.{◌≡◌, ◌+◌, ◌<◌, ◌≤◌, ◌&&◌, ℕ, Bool, true, false, List, [], ◌∷◌, ◌++◌, Option, Some, None, drop, find, fold, length, map, option_map, if◌then◌else◌, append_assoc, eqb-true, refl, sym, ap, subst, ◌∙◌, arith}
 use Rattle.std.specs.Prelude.{option_to_list}
 use Rattle.std.proofs.Math.ListN.{get_or}
 use Rattle.std.proofs.lemmas.Bool.{and_parts}
-use Rattle.std.proofs.lemmas.List.{drop_all, drop_more}
+use Rattle.std.proofs.lemmas.List.{drop_more}
 use Rattle.std.proofs.lemmas.List.Sums.{fold-append}
 use Rattle.tipc_types.specs.declared.message_forms.Item.{Item}
 use Rattle.tipc_types.specs.declared.message_forms.Message.TheVariants.{Items}
@@ -147,17 +147,10 @@ pub record IsApplying (from : ℕ) (w : Bool) (items : List Item) (before now : 
   pub sockets_are : now ≡ fold after_entry before told
   pub all : learnt_entries from before.names (Items w items) ≡ told ++ told_from w place (applied from now.names (Items w (drop place items)))
 
-pub applying_first : (from : ℕ) (w : Bool) (items : List Item) (s : SocketTable) (inside : List Entry) → IsApplying from w items s s inside inside 0
-applying_first from w items s inside = record { told = []; inside_is = sym (append-nil inside); sockets_are = refl; all = all_told from w s.names items }
-
 -- what is told of an item that fits
 some_fitting : (w : Bool) (o : Option Publication) (e : Entry) → Some e ≡ option_map (learnt_by w) o → (p : Publication) × (o ≡ Some p) × (e ≡ learnt_by w p)
 some_fitting w None e is = absurd cc
 some_fitting w (Some p) e is = (p, refl, cc)
-
-none_fitting : (w : Bool) (o : Option Publication) → ◌≡◌ {A = Option Entry} None (option_map (learnt_by w) o) → o ≡ None
-none_fitting w None is = refl
-none_fitting w (Some p) is = absurd cc
 
 pub applying_next : (from : ℕ) (w : Bool) (items : List Item) (s now next : SocketTable) (inside inside' more : List Entry) (place : ℕ) (e : Entry) → IsApplying from w items s now inside inside' place → place < length items
     → Some e ≡ option_map (learnt_by w) (fitting from w now.names (get_or items place some_item)) → next ≡ fold after_entry now (option_to_list (Some e)) → more ≡ inside' ++ e ∷ []
@@ -178,31 +171,3 @@ applying_next from w items s now next inside inside' more place e h within told 
           ∙ ap (λ ns. h.told ++ (e ∷ told_from w (place + 1) (applied from ns (Items w rest)))) (sym names)
           ∙ sym (append_assoc h.told (e ∷ []) (told_from w (place + 1) (applied from next.names (Items w rest))));
     }
-
--- what is known when no item is left to apply
-pub record IsAllApplied (from : ℕ) (w : Bool) (items : List Item) (before now : SocketTable) (inside inside' : List Entry) : Type 0 where
-  pub sockets_are : now ≡ fold after_entry before (learnt_entries from before.names (Items w items))
-  pub inside_is : inside' ≡ inside ++ learnt_entries from before.names (Items w items)
-
--- the one at this place doesn't fit
-pub applying_misfit : (from : ℕ) (w : Bool) (items : List Item) (s now next : SocketTable) (inside inside' more : List Entry) (place : ℕ) → IsApplying from w items s now inside inside' place → place < length items
-    → ◌≡◌ {A = Option Entry} None (option_map (learnt_by w) (fitting from w now.names (get_or items place some_item))) → next ≡ fold after_entry now (option_to_list None) → more ≡ inside' ++ Dropped place ∷ []
-    → IsAllApplied from w items s next inside more
-applying_misfit from w items s now next inside inside' more place h within told after pushed =
-    let item = get_or items place some_item in
-    let all : learnt_entries from s.names (Items w items) ≡ h.told ++ Dropped place ∷ [] =
-    h.all ∙ ap (λ xs. h.told ++ told_from w place (applied from now.names (Items w xs))) (drop_more items place some_item within)
-    ∙ ap (λ es. h.told ++ es) (fits_not from w now.names item (drop (place + 1) items) place (none_fitting w (fitting from w now.names item) told)) in
-    record {
-      sockets_are = after ∙ h.sockets_are ∙ sym (fold-append after_entry s h.told (Dropped place ∷ [])) ∙ ap (fold after_entry s) (sym all);
-      inside_is = pushed ∙ ap (λ es. es ++ Dropped place ∷ []) h.inside_is ∙ append_assoc inside h.told (Dropped place ∷ []) ∙ ap (λ es. inside ++ es) (sym all);
-    }
-
--- none is left
-pub applying_done : (from : ℕ) (w : Bool) (items : List Item) (s now : SocketTable) (inside inside' : List Entry) (place : ℕ) → IsApplying from w items s now inside inside' place → length items ≤ place
-    → IsAllApplied from w items s now inside inside'
-applying_done from w items s now inside inside' place h past =
-    let all : learnt_entries from s.names (Items w items) ≡ h.told =
-    h.all ∙ ap (λ xs. h.told ++ told_from w place (applied from now.names (Items w xs))) (drop_all place items past)
-    ∙ ap (λ es. h.told ++ es) (none_told from w now.names place) ∙ append-nil h.told in
-    record { sockets_are = h.sockets_are ∙ ap (fold after_entry s) (sym all); inside_is = h.inside_is ∙ ap (λ es. inside ++ es) (sym all) }

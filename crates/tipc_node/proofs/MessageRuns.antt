@@ -1,5 +1,5 @@
 -- The work on one message is a run: it is put for a peer, or has its fate; and so is the work on what is delivered.
-use Rattle.std.proofs.Common.{◌≡◌, ◌≢◌, ℕ, Bool, true, false, List, [], ◌∷◌, ◌++◌, Option, Some, None, filter, is_some, if◌then◌else◌, inl, inr, refl, sym, ap, ◌∙◌, subst, append-nil, map}
+use Rattle.std.proofs.Common.{◌≡◌, ◌≢◌, ℕ, Bool, true, false, List, [], ◌∷◌, ◌++◌, Option, Some, None, filter, is_some, inl, inr, refl, sym, ap, ◌∙◌, subst, append-nil, map}
 use Rattle.std.specs.Prelude.{slice_index_or, slice_set}
 use Rattle.std.specs.List.{All}
 use Rattle.std.proofs.lemmas.Bool.{cases_eq}
@@ -16,12 +16,9 @@ use Rattle.tipc_journal.specs.declared.entries.Entry.TheVariants as entry
 use Rattle.tipc_journal.specs.Dues.{comes_home}
 use Rattle.tipc_journal.specs.Steps.{IsInside, is_inner}
 use Rattle.tipc_name_dist.specs.Applying.{applied, learnt_entries, learnt_entry, misfit_entries}
-use Rattle.tipc_link_fsm.specs.Table.{is_up}
-use Rattle.tipc_link.specs.Links.{with_session}
-use Rattle.tipc_link.specs.Sessions.{IsPut, SessionEnd, flush_frames, flushed}
-use Rattle.tipc_pair.specs.Partners.{pieces_for}
-use Rattle.tipc_pair.specs.Turns.{PutsAll, PutsOn}
-use Rattle.tipc_pair.specs.Turns.PutsAll.{none_put, puts_one}
+use Rattle.tipc_pair.specs.Messages.{pieces_for}
+use Rattle.tipc_pair.specs.PairTurns.{PutsAll, PutsOne}
+use Rattle.tipc_pair.specs.PairTurns.PutsAll.{none_put, puts_one}
 use Rattle.tipc_reassembly.specs.declared.opening.Opened.{Opened}
 use Rattle.tipc_reassembly.specs.declared.opening.Opened.TheVariants.{Passed, Whole}
 use Rattle.tipc_sockets.specs.declared.fates.Fate.{Fate}
@@ -31,13 +28,13 @@ use Rattle.tipc_node.specs.declared.arriving.Delivery.{Delivery}
 use Rattle.tipc_node.specs.declared.neighbours.Neighbour.{Neighbour}
 use Rattle.tipc_node.specs.Calls.{Goes}
 use Rattle.tipc_node.specs.Messages.{IsSendable, bytes_of, message_in}
-use Rattle.tipc_node.specs.Nodes.{NodeState, accepted_entry, deliveries_of, delivered_by, entries_in, neighbour_of, session_with}
+use Rattle.tipc_node.specs.Nodes.{NodeState, accepted_entry, deliveries_of, delivered_by, entries_in, neighbour_of}
 use Rattle.tipc_node.specs.Turns.{IsOfNeighbour, IsPlaced, addr_of, is_accepted_for, is_change_of, is_delivered_from}
-use Rattle.tipc_node.specs.Works.{Delivers, DeliversAll, DeliversTo, Follows, GoesBack, Puts, Settles, Work, addr_of_word, fate_of, fated, noted, with_items, with_put}
+use Rattle.tipc_node.specs.Works.{Delivers, DeliversAll, DeliversTo, Follows, GoesBack, Puts, Settles, Work, addr_of_word, fate_of, fated, noted, with_items}
 use Rattle.tipc_node.specs.Works.DeliversAll.{none_left, one_more}
-use Rattle.tipc_node.proofs.Addressing.{AreFor, flush_for}
+use Rattle.tipc_node.proofs.Addressing.{AreFor}
 use Rattle.tipc_node.proofs.Entries.{inside_both, other_word, own_word, routed_to}
-use Rattle.tipc_node.proofs.Named.{onto_by, put_peer}
+use Rattle.tipc_node.proofs.Named.{put_named}
 use Rattle.tipc_node.proofs.Places.{set_none, set_there}
 use Rattle.tipc_node.proofs.Runs.{IsRun, NowAt, RunAt, Runs, StandFor, both_parts, run_as, run_then, stand_set, still_at}
 use Rattle.tipc_node.proofs.Shares.{frames_to-other, frames_to-own}
@@ -80,86 +77,58 @@ idle_run n w w' stand same inside = quiet_run n w w' [] [] stand same (inside �
 
 -- ---- a message that is put
 
--- a neighbour with which there is a session in contact
-record InContact (x : Neighbour) (s : SessionEnd) : Type 0 where
-  pub up : is_up x.pair.link.fsm.state ≡ true
-  pub session_is : x.pair.link.session ≡ Some s
-
-in_contact : (x : Neighbour) (s : SessionEnd) → session_with (Some x) ≡ Some s → InContact x s
-in_contact x s is = by (is_up x.pair.link.fsm.state) refl is
-  where
-    by : (b : Bool) → is_up x.pair.link.fsm.state ≡ b → (if b then x.pair.link.session else None) ≡ Some s → InContact x s
-    by true up same = record { up = up; session_is = same }
-    by false up same = absurd cc
-
-put_on : (own : ℕ) (x : Neighbour) (s put : SessionEnd) (m : Message) → InContact x s → IsPut s (pieces_for (bytes_of own m)) put
-    → PutsOn x.pair.link (bytes_of own m ∷ []) (flush_frames put) (with_session x.pair.link (flushed put))
-put_on own x s put m contact is = record {
-  up = contact.up;
-  session = s;
-  session_is = contact.session_is;
-  last = flushed put;
-  puts = subst (λ fs. PutsAll s (bytes_of own m ∷ []) fs (flushed put)) (append-nil (flush_frames put)) (puts_one s put (flushed put) (bytes_of own m) [] [] is (none_put (flushed put)));
-  after = refl;
-}
-
 -- where it is put
-own_put : (own peer : ℕ) (x : Neighbour) (s put : SessionEnd) (m : Message) → InContact x s → IsPut s (pieces_for (bytes_of own m)) put → IsSendable own m → AreFor (node_word peer) (flush_frames put)
-    → RunAt own peer (accepted_entry peer x.pair.link m ∷ []) (flush_frames put) x (with_put x put)
-own_put own peer x s put m contact is sendable frames = record {
+own_put : (own peer : ℕ) (x y : Neighbour) (m : Message) (frames : List Outgoing) → PutsOne x.pair (pieces_for (bytes_of own m)) y.pair frames → IsSendable own m → AreFor (node_word peer) frames
+    → RunAt own peer (accepted_entry peer x.pair m ∷ []) frames x y
+own_put own peer x y m frames put sendable all = record {
   messages = m ∷ [];
   sendable = All-cons (IsSendable own) m [] sendable (All-nil (IsSendable own));
-  puts = subst (λ fs. PutsOn x.pair.link (bytes_of own m ∷ []) fs (with_session x.pair.link (flushed put))) (sym (frames_to-own peer (flush_frames put) frames)) (put_on own x s put m contact is);
-  begun = refl;
+  puts = subst (λ fs. PutsAll x.pair (bytes_of own m ∷ []) fs y.pair) (append-nil frames ∙ sym (frames_to-own peer frames all)) (puts_one x.pair y.pair y.pair (bytes_of own m) [] frames [] put (none_put y.pair));
   changes = refl;
   accepted = (rw (own_word peer) refl);
 }
 
 -- and where another message isn't
-other_put : (own b peer : ℕ) (x y : Neighbour) (m : Message) (frames : List Outgoing) → peer ≢ b → AreFor (node_word peer) frames → RunAt own b (accepted_entry peer x.pair.link m ∷ []) frames y y
+other_put : (own b peer : ℕ) (x y : Neighbour) (m : Message) (frames : List Outgoing) → peer ≢ b → AreFor (node_word peer) frames → RunAt own b (accepted_entry peer x.pair m ∷ []) frames y y
 other_put own b peer x y m frames apart all =
-    still_at own b (accepted_entry peer x.pair.link m ∷ []) frames y (frames_to-other b peer frames apart all) refl (rw (other_word b peer apart) refl)
+    still_at own b (accepted_entry peer x.pair m ∷ []) frames y (frames_to-other b peer frames apart all) refl (rw (other_word b peer apart) refl)
 
 -- the run of it, in what is known of the neighbour
-put_runs : (n : NodeState) (w w' : Work) (peer : ℕ) (x : Neighbour) (s put : SessionEnd) (m : Message) → StandFor n w.neighbours → slice_index_or w.neighbours peer None ≡ Some x → InContact x s
-    → IsPut s (pieces_for (bytes_of n.own m)) put → IsSendable n.own m → w'.neighbours ≡ slice_set w.neighbours peer (Some (with_put x put)) → w'.inside ≡ w.inside ++ accepted_entry peer x.pair.link m ∷ []
-    → Runs n w (accepted_entry peer x.pair.link m ∷ []) [] (flush_frames put) w'
-put_runs n w w' peer x s put m stand was contact is sendable after inside =
-    let es = accepted_entry peer x.pair.link m ∷ [] in
-    let named = stand.named peer x was in
+put_runs : (n : NodeState) (w w' : Work) (peer : ℕ) (x z : Neighbour) (m : Message) (frames : List Outgoing) → StandFor n w.neighbours → slice_index_or w.neighbours peer None ≡ Some x
+    → PutsOne x.pair (pieces_for (bytes_of n.own m)) z.pair frames → IsSendable n.own m → w'.neighbours ≡ slice_set w.neighbours peer (Some z) → w'.inside ≡ w.inside ++ accepted_entry peer x.pair m ∷ []
+    → Runs n w (accepted_entry peer x.pair m ∷ []) [] frames w'
+put_runs n w w' peer x z m frames stand was put sendable after inside =
+    let es = accepted_entry peer x.pair m ∷ [] in
     let there = stand.within peer x was in
-    let word : put.peer ≡ node_word peer = put_peer s (pieces_for (bytes_of n.own m)) put is ∙ named.session s contact.session_is in
-    let frames : AreFor (node_word peer) (flush_frames put) = flush_for (node_word peer) put word in
-    let onto = onto_by (node_word peer) x.pair.link (bytes_of n.own m ∷ []) (flush_frames put) (with_session x.pair.link (flushed put)) named (put_on n.own x s put m contact is) in
+    let named = put_named (node_word peer) x.pair (pieces_for (bytes_of n.own m)) z.pair frames (stand.named peer x was) put in
     let of : IsOfNeighbour n (addr_of peer) = (peer, there, refl) in record {
       inside_is = inside;
       at = λ b y is_there. elim (cases_eq b peer) [
         | inl here ↦
             let same : x ≡ y = (let both : Some x ≡ Some y = sym was ∙ subst (λ k. slice_index_or w.neighbours k None ≡ Some y) here is_there in cc) in
-            subst (λ k. NowAt n.own k es (flush_frames put) y w'.neighbours) (sym here) (subst (λ z. NowAt n.own peer es (flush_frames put) z w'.neighbours) same (record {
-              now = with_put x put;
-              now_is = ap (λ xs. slice_index_or xs peer None) after ∙ set_there w.neighbours peer x (with_put x put) was;
-              run = own_put n.own peer x s put m contact is sendable frames;
+            subst (λ k. NowAt n.own k es frames y w'.neighbours) (sym here) (subst (λ u. NowAt n.own peer es frames u w'.neighbours) same (record {
+              now = z;
+              now_is = ap (λ xs. slice_index_or xs peer None) after ∙ set_there w.neighbours peer x z was;
+              run = own_put n.own peer x z m frames put sendable named.frames_are;
             }))
         | inr other ↦ record {
           now = y;
-          now_is = ap (λ xs. slice_index_or xs b None) after ∙ get_or-set_other w.neighbours peer b (Some (with_put x put)) None other ∙ is_there;
-          run = other_put n.own b peer x y m (flush_frames put) (λ e. other (sym e)) frames;
+          now_is = ap (λ xs. slice_index_or xs b None) after ∙ get_or-set_other w.neighbours peer b (Some z) None other ∙ is_there;
+          run = other_put n.own b peer x y m frames (λ e. other (sym e)) named.frames_are;
         }
       ];
-      alone = λ b none. ap (λ xs. slice_index_or xs b None) after ∙ set_none w.neighbours peer b x (with_put x put) was none;
+      alone = λ b none. ap (λ xs. slice_index_or xs b None) after ∙ set_none w.neighbours peer b x z was none;
       delivered = λ b. refl;
       inside = refl;
-      placed = All-cons (IsPlaced n) (accepted_entry peer x.pair.link m) [] of (All-nil (IsPlaced n));
-      routed = routed_to n peer (flush_frames put) there frames;
-      stand = subst (StandFor n) (sym after) (stand_set n w.neighbours peer (with_put x put) stand onto.end_is there);
+      placed = All-cons (IsPlaced n) (accepted_entry peer x.pair m) [] of (All-nil (IsPlaced n));
+      routed = routed_to n peer frames there named.frames_are;
+      stand = subst (StandFor n) (sym after) (stand_set n w.neighbours peer z stand named.pair_is there);
     }
 
 pub put_run : (n : NodeState) (w w' : Work) (peer : ℕ) (m : Message) (frames : List Outgoing) → StandFor n w.neighbours → Puts n.own w peer m w' frames → IsRun n w [] frames w'
 put_run n w w' peer m frames stand h = record {
-  noted = accepted_entry peer h.neighbour.pair.link m ∷ [];
-  runs = subst (λ fs. Runs n w (accepted_entry peer h.neighbour.pair.link m ∷ []) [] fs w') (sym h.frames_are)
-      (put_runs n w w' peer h.neighbour h.session h.put m stand h.was (in_contact h.neighbour h.session h.session_is) h.put_is h.sendable (ap (λ (v : Work). v.neighbours) h.after) (ap (λ (v : Work). v.inside) h.after));
+  noted = accepted_entry peer h.neighbour.pair m ∷ [];
+  runs = put_runs n w w' peer h.neighbour h.then m frames stand h.was h.puts.puts h.sendable (ap (λ (v : Work). v.neighbours) h.after) (ap (λ (v : Work). v.inside) h.after);
 }
 
 -- ---- a fate

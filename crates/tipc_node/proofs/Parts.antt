@@ -1,17 +1,15 @@
 -- What happens to all neighbours alike, one after another.
-use Rattle.std.proofs.Common.{◌≡◌, ◌+◌, ◌<◌, ◌≤◌, ℕ, List, [], ◌∷◌, ◌++◌, Option, Some, None, length, take, drop, map, refl, sym, ap, subst, ◌∙◌, ◌*◌, ◌-◌, zero-add, add-zero, append_assoc, append-nil, length-append, arith}
-use Rattle.std.specs.Prelude.{slice_index_or, slice_set}
+use Rattle.std.proofs.Common.{◌≡◌, ◌+◌, ◌<◌, ◌≤◌, ℕ, List, [], ◌∷◌, ◌++◌, Option, None, length, take, map, refl, sym, ap, subst, ◌∙◌, zero-add, add-zero, append_assoc, append-nil, arith}
+use Rattle.std.specs.Prelude.{slice_index_or}
 use Rattle.std.specs.List.{flat_map}
 use Rattle.std.proofs.lemmas.Grind.{flat_map-append}
-use Rattle.std.proofs.lemmas.List.{take_more, take_all, drop_all, set-get_or, length-map, length-take-le, get_or-drop, get_or-append_right, get_or_default}
-use Rattle.std.proofs.lemmas.List.Edits.{map_over_more}
+use Rattle.std.proofs.lemmas.List.{get_or_default, length-map, length-take-le, map-append, take_all, take_more}
 use Rattle.tipc_outside.specs.Frames.{Adds, Out}
 use Rattle.tipc_outside.proofs.Adding.{adds_more, adds_none}
 use Rattle.tipc_journal.specs.declared.entries.Entry.{Entry}
 use Rattle.tipc_node.specs.declared.neighbours.Neighbour.{Neighbour}
 use Rattle.tipc_node.specs.declared.neighbours.Deed.{Deed}
-use Rattle.tipc_node.specs.Nodes.{after_all, after_one, entries_all, entries_one, frames_all, frames_one}
-use Rattle.tipc_node.proofs.Sizes.{one_few}
+use Rattle.tipc_node.specs.Nodes.{after_all, after_one, entries_all, entries_one, numbered_all, numbered_one, states_all, states_one}
 
 -- one neighbour more
 entries_more : (d : Deed) (number : ℕ) (xs : List (Option Neighbour)) (x : Option Neighbour) → entries_all d number (xs ++ x ∷ []) ≡ entries_all d number xs ++ entries_one d (number + length xs) x
@@ -22,45 +20,36 @@ entries_more d number (y ∷ ys) x =
     ap (λ es. entries_one d number y ++ es) (entries_more d (number + 1) ys x ∙ ap (λ k. entries_all d (number + 1) ys ++ entries_one d k x) place)
     ∙ sym (append_assoc (entries_one d number y) (entries_all d (number + 1) ys) (entries_one d (number + length (y ∷ ys)) x))
 
-frames_more : (d : Deed) (xs : List (Option Neighbour)) (x : Option Neighbour) → frames_all d (xs ++ x ∷ []) ≡ frames_all d xs ++ frames_one d x
-unfolding frames_all
-frames_more d xs x = flat_map-append (frames_one d) xs (x ∷ []) ∙ ap (λ fs. flat_map (frames_one d) xs ++ fs) (append-nil (frames_one d x))
+states_more : (d : Deed) (xs : List (Option Neighbour)) (x : Option Neighbour) → states_all d (xs ++ x ∷ []) ≡ states_all d xs ++ states_one d x
+unfolding states_all
+states_more d xs x = flat_map-append (states_one d) xs (x ∷ []) ∙ ap (λ fs. flat_map (states_one d) xs ++ fs) (append-nil (states_one d x))
 
--- the calls of the neighbours below a number are made: those neighbours, what is told, and the frames that left
-pub record IsPartway (d : Deed) (old now : List (Option Neighbour)) (inside : List Entry) (before after : Out) (number : ℕ) : Type 0 where
-  pub neighbours : now ≡ map (after_one d) (take number old) ++ drop number old
+numbered_more : (d : Deed) (xs : List (Option Neighbour)) (x : Option Neighbour) → numbered_all d (xs ++ x ∷ []) ≡ numbered_all d xs ++ numbered_one d x
+unfolding numbered_all
+numbered_more d xs x = flat_map-append (numbered_one d) xs (x ∷ []) ∙ ap (λ fs. flat_map (numbered_one d) xs ++ fs) (append-nil (numbered_one d x))
+
+-- the neighbours below a number took part: those neighbours then, what is told, and the frames that left
+pub record IsPartway (d : Deed) (old now : List (Option Neighbour)) (inside : List Entry) (states states' numbered numbered' : Out) (number : ℕ) : Type 0 where
+  pub neighbours : now ≡ map (after_one d) (take number old)
   pub entries : inside ≡ entries_all d 0 (take number old)
-  pub frames : Adds before after (frames_all d (take number old))
-  pub few : length inside + 2 ≤ 2 * number
+  pub states_are : Adds states states' (states_all d (take number old))
+  pub numbered_are : Adds numbered numbered' (numbered_all d (take number old))
 
-nobody : (d : Deed) (box : Out) → Adds box box (frames_all d [])
-unfolding frames_all
-nobody d box = adds_none box
+no_states : (d : Deed) (box : Out) → Adds box box (states_all d (None ∷ []))
+unfolding states_all
+no_states d box = adds_none box
 
-nobody_first : (d : Deed) (box : Out) → Adds box box (frames_all d (None ∷ []))
-unfolding frames_all
-nobody_first d box = adds_none box
+no_numbered : (d : Deed) (box : Out) → Adds box box (numbered_all d (None ∷ []))
+unfolding numbered_all
+no_numbered d box = adds_none box
 
 -- the node itself is no neighbour
-pub part_first : (d : Deed) (old : List (Option Neighbour)) (box : Out) → slice_index_or old 0 None ≡ None → IsPartway d old old [] box box 1
+pub part_first : (d : Deed) (old : List (Option Neighbour)) (states numbered : Out) → length old ≡ 33 → slice_index_or old 0 None ≡ None → IsPartway d old (None ∷ []) [] states states numbered numbered 1
 unfolding entries_all
-part_first d [] box none = record { neighbours = refl; entries = refl; frames = nobody d box; few = omega arith }
-part_first d (x ∷ xs) box none =
-    subst (λ z. IsPartway d (z ∷ xs) (z ∷ xs) [] box box 1) (sym none) (record { neighbours = refl; entries = refl; frames = nobody_first d box; few = omega arith })
-
--- the neighbour of the number is as it was before all
-there : (d : Deed) (old now : List (Option Neighbour)) (inside : List Entry) (before after : Out) (number : ℕ) (x : Option Neighbour) → IsPartway d old now inside before after number → number < length old
-    → x ≡ slice_index_or now number x → slice_index_or old number None ≡ x
-there d old now inside before after number x h within read =
-    let front = map (after_one d) (take number old) in
-    let long : length front ≡ number = length-map (take number old) (after_one d) ∙ length-take-le number old (omega arith) in
-    let place : number ≡ number + (number - number) = omega arith in
-    get_or_default old number None x within
-    ∙ ap (λ k. slice_index_or old k x) place
-    ∙ sym (get_or-drop number old (number - number) x)
-    ∙ sym (get_or-append_right front (drop number old) number number x long (omega arith))
-    ∙ ap (λ xs. slice_index_or xs number x) (sym h.neighbours)
-    ∙ sym read
+part_first d [] states numbered wide none = absurd (let wrong : 0 ≡ 33 = wide in omega (arith, wrong))
+part_first d (x ∷ xs) states numbered wide none =
+    subst (λ z. IsPartway d (z ∷ xs) (None ∷ []) [] states states numbered numbered 1) (sym none)
+    (record { neighbours = refl; entries = refl; states_are = no_states d states; numbered_are = no_numbered d numbered })
 
 -- the neighbours up to a number, one more
 longer : (old : List (Option Neighbour)) (number : ℕ) (x : Option Neighbour) → number < length old → slice_index_or old number None ≡ x → take (number + 1) old ≡ take number old ++ x ∷ []
@@ -72,36 +61,37 @@ entries_longer d old number x within is =
     let count : number ≡ 0 + length (take number old) = sym (length-take-le number old (omega arith)) ∙ sym (zero-add (length (take number old))) in
     ap (λ k. entries_all d 0 (take number old) ++ entries_one d k x) count ∙ sym (entries_more d 0 (take number old) x) ∙ ap (entries_all d 0) (sym (longer old number x within is))
 
-frames_longer : (d : Deed) (old : List (Option Neighbour)) (number : ℕ) (x : Option Neighbour) → number < length old → slice_index_or old number None ≡ x
-    → frames_all d (take number old) ++ frames_one d x ≡ frames_all d (take (number + 1) old)
-frames_longer d old number x within is = sym (frames_more d (take number old) x) ∙ ap (frames_all d) (sym (longer old number x within is))
-
--- the call of the next number
-pub part_next : (d : Deed) (old now : List (Option Neighbour)) (inside inside' : List Entry) (before after after' : Out) (number : ℕ) (x y : Option Neighbour) → IsPartway d old now inside before after number
-    → number < length old → x ≡ slice_index_or now number x → y ≡ after_one d x → Adds after after' (frames_one d x) → inside' ≡ inside ++ entries_one d number x
-    → IsPartway d old (slice_set now number y) inside' before after' (number + 1)
-part_next d old now inside inside' before after after' number x y h within read is frames told =
-    let was = there d old now inside before after number x h within read in
-    let longest = ap length told in
-    let more = one_few d number x in
-    let few = h.few in
+-- the next one
+pub part_next : (d : Deed) (old now : List (Option Neighbour)) (inside inside' : List Entry) (a b b' p q q' : Out) (number : ℕ) (x y : Option Neighbour) → IsPartway d old now inside a b p q number
+    → number < length old → x ≡ slice_index_or old number x → y ≡ after_one d x → Adds b b' (states_one d x) → Adds q q' (numbered_one d x) → inside' ≡ inside ++ entries_one d number x
+    → IsPartway d old (now ++ y ∷ []) inside' a b' p q' (number + 1)
+part_next d old now inside inside' a b b' p q q' number x y h within read is states numbered told =
+    let was : slice_index_or old number None ≡ x = get_or_default old number None x within ∙ sym read in
+    let more = longer old number x within was in
     record {
-      neighbours = ap (slice_set now number) is ∙ map_over_more (after_one d) old now number x within h.neighbours read;
-      entries = told ∙ ap (λ es. es ++ entries_one d number x) h.entries ∙ entries_longer d old number x within was;
-      frames = subst (λ fs. Adds before after' fs) (frames_longer d old number x within was) (adds_more before after after' _ _ h.frames frames);
-      few = omega (arith, longest, length-append inside (entries_one d number x), more);
+      neighbours = ap (λ xs. xs ++ y ∷ []) h.neighbours ∙ (ap (λ z. map (after_one d) (take number old) ++ z ∷ []) is ∙ (sym (map-append (after_one d) (take number old) (x ∷ [])) ∙ ap (map (after_one d)) (sym more)));
+      entries = told ∙ (ap (λ es. es ++ entries_one d number x) h.entries ∙ entries_longer d old number x within was);
+      states_are = subst (Adds a b') (sym (states_more d (take number old) x) ∙ ap (states_all d) (sym more)) (adds_more a b b' (states_all d (take number old)) (states_one d x) h.states_are states);
+      numbered_are = subst (Adds p q') (sym (numbered_more d (take number old) x) ∙ ap (numbered_all d) (sym more)) (adds_more p q q' (numbered_all d (take number old)) (numbered_one d x) h.numbered_are numbered);
     }
 
--- all calls are made
-pub part_last : (d : Deed) (old now : List (Option Neighbour)) (inside : List Entry) (before after : Out) (number : ℕ) → IsPartway d old now inside before after number → length old ≤ number
-    → (now ≡ after_all d old) × (inside ≡ entries_all d 0 old) × Adds before after (frames_all d old)
+-- all took part
+pub record HavePart (d : Deed) (old now : List (Option Neighbour)) (inside : List Entry) (states states' numbered numbered' : Out) : Type 0 where
+  pub neighbours : now ≡ after_all d old
+  pub entries : inside ≡ entries_all d 0 old
+  pub states_are : Adds states states' (states_all d old)
+  pub numbered_are : Adds numbered numbered' (numbered_all d old)
+
+pub part_last : (d : Deed) (old now : List (Option Neighbour)) (inside : List Entry) (a b p q : Out) (number : ℕ) → IsPartway d old now inside a b p q number → length old ≤ number → HavePart d old now inside a b p q
 unfolding after_all
-part_last d old now inside before after number h past =
-    let all = take_all number old past in (
-      h.neighbours ∙ ap (λ xs. map (after_one d) xs ++ drop number old) all ∙ ap (λ xs. map (after_one d) old ++ xs) (drop_all number old past) ∙ append-nil (map (after_one d) old),
-      h.entries ∙ ap (entries_all d 0) all,
-      subst (λ xs. Adds before after (frames_all d xs)) all h.frames,
-    )
+part_last d old now inside a b p q number h past =
+    let all = take_all number old past in
+    record {
+      neighbours = h.neighbours ∙ ap (map (after_one d)) all;
+      entries = h.entries ∙ ap (entries_all d 0) all;
+      states_are = subst (λ xs. Adds a b (states_all d xs)) all h.states_are;
+      numbered_are = subst (λ xs. Adds p q (numbered_all d xs)) all h.numbered_are;
+    }
 
 -- the table is as wide as before, and the node itself is no neighbour
 pub all_wide : (d : Deed) (old : List (Option Neighbour)) → length (after_all d old) ≡ length old
@@ -112,7 +102,3 @@ pub all_nobody : (d : Deed) (old : List (Option Neighbour)) → slice_index_or o
 unfolding after_all
 all_nobody d [] none = refl
 all_nobody d (x ∷ xs) none = ap (after_one d) none
-
--- what is put back as it was changes nothing
-pub put_back : (xs : List (Option Neighbour)) (number : ℕ) (place : Option Neighbour) (x y : Neighbour) → place ≡ slice_index_or xs number place → place ≡ Some x → y ≡ x → slice_set xs number (Some y) ≡ xs
-put_back xs number place x y read is same = ap (slice_set xs number) (ap (λ z. Some z) same ∙ sym is ∙ read) ∙ set-get_or xs number place

@@ -78,7 +78,7 @@ items_unsent peer numbers (Payload importance form from to kind lower upper code
 items_worked : (n : NodeState) (d : Due) (sends asked : List Entry) (s : SocketTable) (w : Work) (peer : ℕ) (m : Message) (w' : Work) (frames : List Outgoing) → IsWorked n d NothingDue sends asked (work_of w.neighbours s w.inside) → AreItems m
     → Puts n.own w peer m w' frames → IsWorked n d NothingDue sends asked (work_of w'.neighbours s w'.inside)
 items_worked n d sends asked s w peer m w' frames h are p =
-    let numbers = shown_contact p.neighbour.pair.link in
+    let numbers = shown_contact p.neighbour.pair in
     let a = addr_of_word (node_word peer) in
     let e = entry.Accepted a numbers Zero m in
     let was = work_of w.neighbours s w.inside in

@@ -18,8 +18,7 @@ use Rattle.tipc_journal.specs.Licensed.{next_answer}
 use Rattle.tipc_journal.specs.Steps.{NodeStep}
 use Rattle.tipc_topology.specs.Changing.{due}
 use Rattle.tipc_name_dist.specs.Items.{telling}
-use Rattle.tipc_pair.specs.Turns.{Happened, Opening, Outset, ShowsIn, called}
-use Rattle.tipc_pair.specs.Turns.Opening.{cuts, mends, ticks}
+use Rattle.tipc_pair.specs.PairTurns.{ShowsIn, quietly}
 use Rattle.tipc_sockets.specs.Publishing.{is_at, own_publication, published_at}
 use Rattle.tipc_sockets.specs.SocketTables.{with_socket}
 use Rattle.tipc_node.specs.declared.neighbours.Deed.{Deed}
@@ -27,14 +26,16 @@ use Rattle.tipc_node.specs.declared.neighbours.Deed.TheVariants as deed
 use Rattle.tipc_node.specs.declared.neighbours.Neighbour.{Neighbour}
 use Rattle.tipc_node.specs.Calls.{CanPerform, Makes, Performs, Sends, SendsByName, SendsTo, TakesPart, Tells, deed_work, sender_refusal, tick_work, way_refusal}
 use Rattle.tipc_node.specs.Messages.{destination_of, direct, limit_of, named}
-use Rattle.tipc_node.specs.Neighbours.{done, no_broadcast}
-use Rattle.tipc_node.specs.Nodes.{NodeState, after_one, change_entries, deed_note, entries_all, entries_one, frames_all, frames_one, mended_by, recorded, step_of, with_mended}
+use Rattle.tipc_node.specs.Neighbours.{IsOnBearer, course_of, done}
+use Rattle.tipc_node.specs.Nodes.{NodeState, after_one, change_entries, deed_note, entries_all, entries_one, frames_all, mended_by, numbered_one, recorded, states_one, step_of, with_mended}
 use Rattle.tipc_node.specs.Sockets.{cancelled_work, closed_work, crowd_refusal, first_answer, first_event, found_at, kept_answer, next_number, next_port, next_work, number_refusal, port_refusal, publication_refusal, published_work, received_work, socket_refusal, subscribed_work, subscription_refusal, timeouts_of, told_closing, told_withdrawal, waiting_at, with_sockets_of, withdrawal_refusal, withdrawn_entries, withdrawn_work}
-use Rattle.tipc_node.specs.Turns.{AreNamed, IsBrought, IsPlaced, Names, NodeTurn, PeerTurn, Suits, frames_to, is_accepted_for, is_change_of, is_delivered_from}
+use Rattle.tipc_node.specs.Turns.{AreNamed, IsBrought, IsOnOne, IsPlaced, Names, NodeTurn, PeerTurn, Suits, frames_to, is_accepted_for, is_change_of, is_delivered_from}
 use Rattle.tipc_node.specs.Works.{Work, begun, concluded, in_contact}
-use Rattle.tipc_node.proofs.Addressing.{AreFor, mend_for, tick_for}
+use Rattle.tipc_node.proofs.Addressing.{AreFor}
+use Rattle.tipc_node.proofs.Calm.{deed_happens, opening_of}
 use Rattle.tipc_node.proofs.Entries.{all_accept, all_changes, all_deliver, all_inside, all_placed, all_routed, inside_both}
 use Rattle.tipc_node.proofs.MessageRuns.{AreQuiet, goes_run, idle_run, none_quiet, quiet_run}
+use Rattle.tipc_node.proofs.Named.{first_frames}
 use Rattle.tipc_node.proofs.PeersTold.{tells_each_run}
 use Rattle.tipc_node.proofs.Plain.{IsPlain, IsPlainIn, crowd_plain, next_untaken, number_plain, plain_reason, port_plain, publication_plain, received_untaken, sender_plain, socket_plain, subscription_plain, way_plain, withdrawal_plain}
 use Rattle.tipc_node.proofs.Runs.{IsRun, run_then}
@@ -147,31 +148,26 @@ named_turn n n' by port kind instance importance body frames answered are h = ca
 
 -- ---- what happens to all neighbours
 
-done_for : (d : Deed) (b : ℕ) (x : Neighbour) → Names (node_word b) x.pair.link → AreFor (node_word b) (done d x).frames
-done_for deed.Mend b x named = mend_for (node_word b) x.pair.link named
-done_for deed.Cut b x named = tt
-done_for deed.Tick b x named = tick_for (node_word b) x.pair.link (no_broadcast x.in_step) named
+done_for : (d : Deed) (b : ℕ) (x : Neighbour) → Names (node_word b) x.pair → AreFor (node_word b) (done d x).states × AreFor (node_word b) (done d x).numbered
+done_for d b x named = first_frames (node_word b) x.pair (opening_of d x) (quietly (course_of d x)) named (deed_happens d x).0
 
 -- what a step tells of a neighbour, and which frames are for it
 record IsDone (d : Deed) (s : NodeStep) (frames : List Outgoing) (b : ℕ) (x : Neighbour) : Type 0 where
   pub event_is : s.event ≡ deed_note d
   pub answer_is : s.answer ≡ answer.Done
-  pub frames_are : frames_to b frames ≡ (done d x).frames
-  pub changes : filter (is_change_of b) s.inside ≡ change_entries b (done d x).change
+  pub frames_are : frames_to b frames ≡ (done d x).states ++ (done d x).numbered
+  pub changes : filter (is_change_of b) s.inside ≡ change_entries b (done d x).changes
   pub accepted : filter (is_accepted_for b) s.inside ≡ []
   pub delivered : filter (is_delivered_from b) s.inside ≡ []
 
--- what came of it there
-abbrev outset_of : Deed → Neighbour → Outset
-outset_of d x = called x.pair (done d x).after.pair.link (done d x).frames (done d x).change
-
-opened_turn : (own : ℕ) (d : Deed) (s : NodeStep) (frames : List Outgoing) (b : ℕ) (x : Neighbour) (opening : Opening) → IsDone d s frames b x → Suits s.event opening → IsBrought b [] opening → ShowsIn opening → Happened x.pair opening (outset_of d x)
-    → PeerTurn own [] s frames b x.pair (outset_of d x).pair
-opened_turn own d s frames b x opening h suits brought shows happened = opens_turn own [] s frames b x.pair opening (outset_of d x) (record {
+opened_turn : (own : ℕ) (d : Deed) (s : NodeStep) (frames : List Outgoing) (b : ℕ) (x : Neighbour) → IsDone d s frames b x → Suits s.event (opening_of d x) → IsOnOne (opening_of d x) → IsBrought b [] (opening_of d x) → ShowsIn (opening_of d x)
+    → PeerTurn own [] s frames b x.pair (course_of d x).pair
+opened_turn own d s frames b x h suits on_one brought shows = opens_turn own [] s frames b x.pair (opening_of d x) (quietly (course_of d x)) (record {
   suits = suits;
+  on_one = on_one;
   brought = brought;
   shows = shows;
-  happened = happened;
+  happened = (deed_happens d x).0;
   frames_are = h.frames_are;
   changes = h.changes;
   accepted = h.accepted;
@@ -179,16 +175,16 @@ opened_turn own d s frames b x opening h suits brought shows happened = opens_tu
   taken = λ answered es er p is taken from. absurd (let wrong : answer.Done ≡ answer.Arrived answered = sym h.answer_is ∙ is in cc);
 })
 
-done_turn : (own : ℕ) (d : Deed) (s : NodeStep) (frames : List Outgoing) (b : ℕ) (x : Neighbour) → IsDone d s frames b x → PeerTurn own [] s frames b x.pair (done d x).after.pair
-done_turn own deed.Mend s frames b x h = opened_turn own deed.Mend s frames b x mends h h.event_is tt tt refl
-done_turn own deed.Cut s frames b x h = opened_turn own deed.Cut s frames b x cuts h h.event_is tt tt refl
-done_turn own deed.Tick s frames b x h = opened_turn own deed.Tick s frames b x (ticks (no_broadcast x.in_step)) h h.event_is tt (shows_none x.in_step) refl
+done_turn : (own : ℕ) (d : Deed) (s : NodeStep) (frames : List Outgoing) (b : ℕ) (x : Neighbour) → IsOnBearer d → IsDone d s frames b x → PeerTurn own [] s frames b x.pair (done d x).after.pair
+done_turn own (deed.Mend bearer) s frames b x one h = opened_turn own (deed.Mend bearer) s frames b x h h.event_is one tt tt
+done_turn own (deed.Cut bearer) s frames b x one h = opened_turn own (deed.Cut bearer) s frames b x h h.event_is one tt tt
+done_turn own deed.Tick s frames b x one h = opened_turn own deed.Tick s frames b x h h.event_is tt tt (shows_none x.in_step)
 
 abbrev deed_node : NodeState → By → Deed → NodeState
 deed_node n by d = concluded (with_mended n (mended_by d n.mended)) by (deed_note d) (deed_work d n) answer.Done
 
-deed_turn : (n : NodeState) (by : By) (d : Deed) → AreNamed n → NodeTurn n (deed_node n by d) [] (step_of by (deed_note d) (entries_all d 0 n.neighbours) answer.Done) (frames_all d n.neighbours)
-deed_turn n by d named = record {
+deed_turn : (n : NodeState) (by : By) (d : Deed) → AreNamed n → IsOnBearer d → NodeTurn n (deed_node n by d) [] (step_of by (deed_note d) (entries_all d 0 n.neighbours) answer.Done) (frames_all d n.neighbours)
+deed_turn n by d named one = record {
   own = refl;
   boot = refl;
   journal = refl;
@@ -196,10 +192,10 @@ deed_turn n by d named = record {
   turns = λ b x there. record {
     after = (done d x).after;
     after_is = after_at d n.neighbours b ∙ ap (after_one d) there;
-    turn = done_turn n.own d (step_of by (deed_note d) (entries_all d 0 n.neighbours) answer.Done) (frames_all d n.neighbours) b x (record {
+    turn = done_turn n.own d (step_of by (deed_note d) (entries_all d 0 n.neighbours) answer.Done) (frames_all d n.neighbours) b x one (record {
       event_is = refl;
       answer_is = refl;
-      frames_are = shares d n.neighbours b each ∙ ap (frames_one d) there;
+      frames_are = shares d n.neighbours b each ∙ ap (λ o. states_one d o ++ numbered_one d o) there;
       changes = all_changes d n.neighbours b ∙ ap (entries_one d b) there;
       accepted = all_accept d b 0 n.neighbours;
       delivered = all_deliver d b 0 n.neighbours;
@@ -210,13 +206,13 @@ deed_turn n by d named = record {
   placed = all_placed n d;
 }
   where
-    each : (b : ℕ) (x : Neighbour) → slice_index_or n.neighbours b None ≡ Some x → AreFor (node_word b) (done d x).frames
+    each : (b : ℕ) (x : Neighbour) → slice_index_or n.neighbours b None ≡ Some x → AreFor (node_word b) (done d x).states × AreFor (node_word b) (done d x).numbered
     each b x there = done_for d b x (named b x there)
 
-takes_part_turn : (n n' : NodeState) (by : By) (d : Deed) (call : EventNote) (frames : List Outgoing) (answered : Answer) → AreNamed n → call ≡ deed_note d → TakesPart n by d n' frames answered → IsCall n n' by call frames answered
-takes_part_turn n n' by d call frames answered named is h =
+takes_part_turn : (n n' : NodeState) (by : By) (d : Deed) (call : EventNote) (frames : List Outgoing) (answered : Answer) → AreNamed n → IsOnBearer d → call ≡ deed_note d → TakesPart n by d n' frames answered → IsCall n n' by call frames answered
+takes_part_turn n n' by d call frames answered named one is h =
     subst (λ note. IsCall n n' by note frames answered) (sym is)
-    (turn_as n n' (deed_node n by d) by (deed_note d) [] frames (frames_all d n.neighbours) (kept_answer answered) answer.Done h.0 h.1 (ap kept_answer h.2) (entries_all d 0 n.neighbours, deed_turn n by d named))
+    (turn_as n n' (deed_node n by d) by (deed_note d) [] frames (frames_all d n.neighbours) (kept_answer answered) answer.Done h.0 h.1 (ap kept_answer h.2) (entries_all d 0 n.neighbours, deed_turn n by d named one))
 
 -- ---- a tick
 
@@ -248,10 +244,10 @@ tick_turn n by named = record {
   turns = λ b x there. record {
     after = (done deed.Tick x).after;
     after_is = after_at deed.Tick n.neighbours b ∙ ap (after_one deed.Tick) there;
-    turn = done_turn n.own deed.Tick (step_of by event.Tick (es ++ ts) answer.Done) (frames_all deed.Tick n.neighbours) b x (record {
+    turn = done_turn n.own deed.Tick (step_of by event.Tick (es ++ ts) answer.Done) (frames_all deed.Tick n.neighbours) b x tt (record {
       event_is = refl;
       answer_is = refl;
-      frames_are = shares deed.Tick n.neighbours b each ∙ ap (frames_one deed.Tick) there;
+      frames_are = shares deed.Tick n.neighbours b each ∙ ap (λ o. states_one deed.Tick o ++ numbered_one deed.Tick o) there;
       changes = quiet_behind (is_change_of b) es ts (quiet.changes b) ∙ all_changes deed.Tick n.neighbours b ∙ ap (entries_one deed.Tick b) there;
       accepted = quiet_behind (is_accepted_for b) es ts (quiet.accepted b) ∙ all_accept deed.Tick b 0 n.neighbours;
       delivered = quiet_behind (is_delivered_from b) es ts (quiet.delivered b) ∙ all_deliver deed.Tick b 0 n.neighbours;
@@ -271,7 +267,7 @@ tick_turn n by named = record {
     quiet : AreQuiet n ts []
     quiet = timed_quiet n (due n.sockets.watchers.kept)
 
-    each : (b : ℕ) (x : Neighbour) → slice_index_or n.neighbours b None ≡ Some x → AreFor (node_word b) (done deed.Tick x).frames
+    each : (b : ℕ) (x : Neighbour) → slice_index_or n.neighbours b None ≡ Some x → AreFor (node_word b) (done deed.Tick x).states × AreFor (node_word b) (done deed.Tick x).numbered
     each b x there = done_for deed.Tick b x (named b x there)
 
 -- ---- every call
@@ -316,6 +312,6 @@ performs_turn n n' by (event.NextEvent number) frames answered are can h =
 performs_turn n n' by event.Tick frames answered are can h =
     turn_as n n' (tick_node n by) by event.Tick [] frames (frames_all deed.Tick n.neighbours) (kept_answer answered) answer.Done h.0 h.1 (ap kept_answer h.2)
     (entries_all deed.Tick 0 n.neighbours ++ timeouts_of n.sockets, tick_turn n by are)
-performs_turn n n' by (event.Cut bearer) frames answered are can h = takes_part_turn n n' by deed.Cut (event.Cut bearer) frames answered are (ap event.Cut can) h
-performs_turn n n' by (event.Mend bearer) frames answered are can h = takes_part_turn n n' by deed.Mend (event.Mend bearer) frames answered are (ap event.Mend can) h
+performs_turn n n' by (event.Cut bearer) frames answered are can h = takes_part_turn n n' by (deed.Cut bearer) (event.Cut bearer) frames answered are can refl h
+performs_turn n n' by (event.Mend bearer) frames answered are can h = takes_part_turn n n' by (deed.Mend bearer) (event.Mend bearer) frames answered are can refl h
 performs_turn n n' by other frames answered are can h = absurd h

@@ -11,14 +11,13 @@ use Rattle.tipc_types.specs.declared.services.Publication.{Publication}
 use Rattle.tipc_journal.specs.Licensed.{next_answer}
 use Rattle.tipc_journal.specs.Refusals.{longest_body, most_sockets, most_sockets_made, most_subscriptions, most_subscriptions_made}
 use Rattle.tipc_topology.specs.Changing.{is_filter, of_number}
-use Rattle.tipc_link.specs.Sessions.{SessionEnd}
 use Rattle.tipc_sockets.specs.declared.publishing.PublishFault.{PublishFault}
 use Rattle.tipc_sockets.specs.declared.publishing.PublishFault.TheVariants as fault
 use Rattle.tipc_sockets.specs.Publishing.{publish_refusal, published_at}
 use Rattle.tipc_sockets.specs.SocketTables.{SocketTable, has_port}
 use Rattle.tipc_node.specs.declared.neighbours.Neighbour.{Neighbour}
 use Rattle.tipc_node.specs.Calls.{link_refusal, sender_refusal, way_refusal}
-use Rattle.tipc_node.specs.Nodes.{NodeState, session_with}
+use Rattle.tipc_node.specs.Nodes.{NodeState, load_with}
 use Rattle.tipc_node.specs.Sockets.{crowd_refusal, crowded_answer, first_answer, first_crowded, kept_answer, key_refusal, number_refusal, port_refusal, publication_refusal, refused_publication, socket_refusal, subscription_refusal, withdrawal_refusal}
 use Rattle.tipc_node.specs.Works.{neighbour_at}
 use Rattle.tipc_node.proofs.Addressing.{either}
@@ -98,14 +97,13 @@ sender_plain n port body =
     either IsPlainIn (has_port n.sockets port) (if nat_le (length body) longest_body then None else Some (answer.TooLong (length body))) (Some answer.NoSocket)
     (either IsPlainIn (nat_le (length body) longest_body) None (Some (answer.TooLong (length body))) tt long) no_socket
 
-link_plain : (o : Option SessionEnd) (limit : ℕ) → IsPlainIn (link_refusal o limit)
+link_plain : (o : Option (ℕ × ℕ)) (limit : ℕ) → IsPlainIn (link_refusal o limit)
 link_plain None limit = record { kept = refl; untaken = tt }
-link_plain (Some s) limit =
-    either IsPlainIn (nat_le limit (length s.sending.waiting)) (Some (answer.Congested (length s.sending.unacked) (length s.sending.waiting))) None (record { kept = refl; untaken = tt }) tt
+link_plain (Some load) limit = either IsPlainIn (nat_le limit load.1) (Some (answer.Congested load.0 load.1)) None (record { kept = refl; untaken = tt }) tt
 
 pub way_plain : (n : NodeState) (node : Addr) (limit : ℕ) → IsPlainIn (way_refusal n node limit)
 way_plain n node limit =
-    either IsPlainIn (node.word == n.own) None (link_refusal (session_with (neighbour_at n.neighbours node)) limit) tt (link_plain (session_with (neighbour_at n.neighbours node)) limit)
+    either IsPlainIn (node.word == n.own) None (link_refusal (load_with (neighbour_at n.neighbours node)) limit) tt (link_plain (load_with (neighbour_at n.neighbours node)) limit)
 
 pub received_untaken : (queue : List Message) → IsUntaken (kept_answer (first_answer queue))
 received_untaken [] = tt

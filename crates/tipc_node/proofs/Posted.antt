@@ -19,7 +19,7 @@ use Rattle.tipc_journal.specs.Refusals.{longest_body}
 use Rattle.tipc_name_table.specs.Matching.{closest, covers}
 use Rattle.tipc_sockets.specs.SocketTables.{has_port}
 use Rattle.tipc_node.specs.Calls.{Performs, Sends, SendsByName, sender_refusal}
-use Rattle.tipc_node.specs.Messages.{direct, limit_of, named}
+use Rattle.tipc_node.specs.Messages.{limit_of, named}
 use Rattle.tipc_node.specs.Nodes.{NodeState, recorded}
 use Rattle.tipc_node.specs.Sockets.{found_at}
 use Rattle.tipc_node.proofs.Wayfaring.{IsSentTo}
@@ -38,14 +38,6 @@ send_refused n n' by port to importance body box why answered some is = (
     sends = λ none. absurd (let wrong : Some why ≡ None = sym some ∙ none in let bad : ⊥ = cc in bad);
   },
   adds_none box,
-)
-
-pub send_made : (n n' : NodeState) (by : By) (port : ℕ) (to : PortId) (importance : Importance) (body : List ℕ) (box box' : Out) (why : Option Answer) → sender_refusal n port body ≡ None
-    → IsSentTo n n' by (SendPort port to importance body) (direct n.own port to importance body) (limit_of importance) answer.Sent box box' why → IsSend n n' by port to importance body box box' (unwrap_or why answer.Sent)
-send_made n n' by port to importance body box box' why none sent = (
-  sent.0,
-  record { refused = λ reason there. absurd (let wrong : None ≡ Some reason = sym none ∙ there in let bad : ⊥ = cc in bad); sends = λ _. sent.1 },
-  sent.2,
 )
 
 -- ---- by name

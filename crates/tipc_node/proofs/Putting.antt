@@ -1,5 +1,5 @@
 -- A message that goes away, or back; and what is delivered, one after the other: a node's work on a step tells of it.
-use Rattle.std.proofs.Common.{◌≡◌, ◌-◌, ◌==◌, ℕ, zero, suc, Bool, true, false, List, [], ◌∷◌, ◌++◌, Option, Some, None, is_some, inl, inr, refl, sym, ap, ◌∙◌, subst, arith}
+use Rattle.std.proofs.Common.{◌≡◌, ◌≤◌, ◌-◌, ◌==◌, ℕ, zero, suc, Bool, true, false, List, [], ◌∷◌, ◌++◌, Option, Some, None, is_some, inl, inr, refl, sym, ap, ◌∙◌, subst, arith}
 use Rattle.std.specs.Prelude.{◌⊎◌, if◌then◌else◌, option_and_then, slice_index_or, slice_set}
 use Rattle.std.proofs.lemmas.Bool.{cases_eq}
 use Rattle.std.proofs.lemmas.List.{append-nil, get_or-set_other}
@@ -16,9 +16,9 @@ use Rattle.tipc_journal.specs.Dues.{Due, FateDue, NothingDue, ReturnDue, comes_h
 use Rattle.tipc_journal.specs.Fates.{MayStand, scene_at}
 use Rattle.tipc_journal.specs.Queues.{queued_by}
 use Rattle.tipc_journal.proofs.Insides.{contact_inside}
-use Rattle.tipc_link_fsm.specs.Table.{is_up}
-use Rattle.tipc_link.specs.Sessions.{SessionEnd}
-use Rattle.tipc_pair.specs.Pairs.{contact_of}
+use Rattle.tipc_pair.specs.Facing.{PairEnds, contact_between, facing, turned}
+use Rattle.tipc_pair.specs.PairTurns.{PutsOne}
+use Rattle.tipc_pair.specs.Messages.{pieces_for}
 use Rattle.tipc_reassembly.specs.declared.opening.Opened.{Opened}
 use Rattle.tipc_reassembly.specs.declared.opening.Opened.TheVariants.{Whole, Passed}
 use Rattle.tipc_sockets.specs.declared.fates.Fate.{Fate}
@@ -28,24 +28,26 @@ use Rattle.tipc_sockets.specs.Telling.{fate_entry, is_for_one_there, is_payload,
 use Rattle.tipc_sockets.proofs.Entries.{told_entry}
 use Rattle.tipc_node.specs.declared.arriving.Delivery.{Delivery}
 use Rattle.tipc_node.specs.declared.neighbours.Neighbour.{Neighbour}
-use Rattle.tipc_node.specs.Messages.{destination_of, message_in}
-use Rattle.tipc_node.specs.Nodes.{NodeState, accepted_entry, deliveries_of, delivered_by, delivery_of, session_with, shown_contact}
-use Rattle.tipc_node.specs.Works.{DeliversAll, DeliversTo, Follows, GoesAway, GoesBack, Puts, PutsEach, Settles, Work, addr_of_word, fate_of, fated, noted, waiting_to, with_put}
+use Rattle.tipc_node.specs.Messages.{bytes_of, destination_of, message_in}
+use Rattle.tipc_node.specs.Nodes.{NodeState, accepted_entry, deliveries_of, delivered_by, delivery_of, shown_contact}
+use Rattle.tipc_node.specs.Works.{DeliversAll, DeliversTo, Follows, GoesAway, GoesBack, Puts, PutsEach, Settles, Work, addr_of_word, fate_of, fated, noted, waiting_to}
 use Rattle.tipc_node.specs.Works.DeliversAll.{none_left, one_more}
 use Rattle.tipc_node.proofs.Fating.{IsDone, IsLinked, IsReturn, contact_at, fate_leaves, fated_worked, linked_more, returned_is}
 use Rattle.tipc_node.proofs.LearntTold.{IsPeer, dropped_done, with_items_done}
 use Rattle.tipc_node.proofs.Noting.{IsNext, IsWorked, delivered_worked, reached_same, sent_by, worked_more, worked_on}
+use Rattle.tipc_node.proofs.Moves.{contact_there}
+use Rattle.tipc_node.proofs.PairPuts.{active_there, meets_contact, put_meets}
 use Rattle.tipc_node.proofs.Places.{set_either, set_there}
 use Rattle.tipc_node.proofs.Stable.{IsStable, delivers_stable, puts_stable}
 
 -- ---- what is put leaves each contact
 
-contact_set : (xs : List (Option Neighbour)) (peer : ℕ) (x y : Neighbour) → slice_index_or xs peer None ≡ Some x → contact_of y.pair.link ≡ contact_of x.pair.link → (a : Addr)
+contact_set : (xs : List (Option Neighbour)) (peer : ℕ) (x y : Neighbour) → slice_index_or xs peer None ≡ Some x → contact_between y.pair ≡ contact_between x.pair → (a : Addr)
     → contact_at (slice_set xs peer (Some y)) a ≡ contact_at xs a
 contact_set xs peer x y was same a = by (cases_eq (a.word - node_word 0) peer)
   where
     of : Option Neighbour → Option (ℕ × ℕ)
-    of o = option_and_then (λ (z : Neighbour). contact_of z.pair.link) o
+    of o = option_and_then (λ (z : Neighbour). contact_between z.pair) o
 
     by : ((a.word - node_word 0) ≡ peer) ⊎ ((a.word - node_word 0) ≡ peer → ⊥) → contact_at (slice_set xs peer (Some y)) a ≡ contact_at xs a
     by (inl here) =
@@ -56,45 +58,55 @@ contact_set xs peer x y was same a = by (cases_eq (a.word - node_word 0) peer)
 pub not_nobody : (xs : List (Option Neighbour)) (peer : ℕ) (x : Neighbour) → slice_index_or xs 0 None ≡ None → slice_index_or xs peer None ≡ Some x → 0 ≡ peer → ⊥
 not_nobody xs peer x none was is = (let wrong : None ≡ Some x = sym none ∙ ap (λ k. slice_index_or xs k None) is ∙ was in cc)
 
+-- a pair is seen from one of its two links still
+facing_two : (bearer : ℕ) (x : PairEnds) → x.bearer ≤ 1 → (facing bearer x).bearer ≤ 1
+unfolding facing
+facing_two bearer x two = elim (x.bearer == bearer) as (λ b. (if b then x else turned x).bearer ≤ 1) [ true ↦ two | false ↦ omega arith ]
+
+put_two : (x : PairEnds) (pieces : List (List ℕ)) (y : PairEnds) (frames : List Outgoing) → PutsOne x pieces y frames → x.bearer ≤ 1 → y.bearer ≤ 1
+put_two x pieces y frames h two =
+    let near : h.near.bearer ≤ 1 = subst (λ (z : PairEnds). z.bearer ≤ 1) (sym (let p = h.puts in p.after)) (facing_two h.bearer x two) in
+    subst (λ (z : PairEnds). z.bearer ≤ 1) (sym h.after) (facing_two x.bearer h.near near)
+
+-- what is put leaves the contact
+put_alike : (own : ℕ) (w : Work) (peer : ℕ) (m : Message) (w' : Work) (frames : List Outgoing) (p : Puts own w peer m w' frames) → contact_between p.then.pair ≡ contact_between p.neighbour.pair
+put_alike own w peer m w' frames p = meets_contact p.neighbour.pair p.then.pair (put_meets p.neighbour.pair (pieces_for (bytes_of own m)) p.then.pair frames p.puts.puts)
+
 pub puts_linked : (n : NodeState) (w : Work) (peer : ℕ) (m : Message) (w' : Work) (frames : List Outgoing) → IsLinked n w → Puts n.own w peer m w' frames → IsLinked n w'
-puts_linked n w peer m w' frames h p = subst (IsLinked n) (sym p.after) (record { contacts = contacts; begun = λ b x is. begun b x is (cases_eq b peer); nobody = nobody })
+puts_linked n w peer m w' frames h p = subst (IsLinked n) (sym p.after) (record { contacts = contacts; two = λ b x is. two b x is (cases_eq b peer); nobody = nobody })
   where
     y : Neighbour
-    y = with_put p.neighbour p.put
+    y = p.then
 
     xs : List (Option Neighbour)
     xs = slice_set w.neighbours peer (Some y)
 
-    more : IsLinked n (record { neighbours = w.neighbours; sockets = w.sockets; inside = w.inside ++ accepted_entry peer p.neighbour.pair.link m ∷ [] })
-    more = linked_more n w (accepted_entry peer p.neighbour.pair.link m) w.sockets h (λ a z. refl)
+    more : IsLinked n (record { neighbours = w.neighbours; sockets = w.sockets; inside = w.inside ++ accepted_entry peer p.neighbour.pair m ∷ [] })
+    more = linked_more n w (accepted_entry peer p.neighbour.pair m) w.sockets h (λ a z. refl)
 
-    contacts : (a : Addr) → contact (n.journal ++ (w.inside ++ accepted_entry peer p.neighbour.pair.link m ∷ [])) a ≡ contact_at xs a
-    contacts a = more.contacts a ∙ sym (contact_set w.neighbours peer p.neighbour y p.was refl a)
+    contacts : (a : Addr) → contact (n.journal ++ (w.inside ++ accepted_entry peer p.neighbour.pair m ∷ [])) a ≡ contact_at xs a
+    contacts a = more.contacts a ∙ sym (contact_set w.neighbours peer p.neighbour y p.was (put_alike n.own w peer m w' frames p) a)
 
-    begun : (b : ℕ) (x : Neighbour) → slice_index_or xs b None ≡ Some x → (b ≡ peer) ⊎ (b ≡ peer → ⊥) → is_up x.pair.link.fsm.state ≡ true → is_some x.pair.link.session ≡ true
-    begun b x is (inl here) up =
+    two : (b : ℕ) (x : Neighbour) → slice_index_or xs b None ≡ Some x → (b ≡ peer) ⊎ (b ≡ peer → ⊥) → x.pair.bearer ≤ 1
+    two b x is (inl here) =
         let same : y ≡ x = set_either w.neighbours peer x y (ap (λ k. slice_index_or xs k None) (sym here) ∙ is) in
-        ap (λ (z : Neighbour). is_some z.pair.link.session) (sym same)
-    begun b x is (inr other) up = h.begun b x (sym (get_or-set_other w.neighbours peer b (Some y) None other) ∙ is) up
+        subst (λ (z : Neighbour). z.pair.bearer ≤ 1) same (put_two p.neighbour.pair (pieces_for (bytes_of n.own m)) y.pair frames p.puts.puts (h.two peer p.neighbour p.was))
+    two b x is (inr other) = h.two b x (sym (get_or-set_other w.neighbours peer b (Some y) None other) ∙ is)
 
     nobody : slice_index_or xs 0 None ≡ None
     nobody = get_or-set_other w.neighbours peer 0 (Some y) None (not_nobody w.neighbours peer p.neighbour h.nobody p.was) ∙ h.nobody
 
 -- ---- what is put
 
--- a link with a session in use is up
-up_of : (x : Neighbour) (s : SessionEnd) → session_with (Some x) ≡ Some s → contact_of x.pair.link ≡ Some (shown_contact x.pair.link)
-up_of x s is = by (is_up x.pair.link.fsm.state) is
-  where
-    by : (b : Bool) → (if b then x.pair.link.session else None) ≡ Some s → ◌≡◌ {A = Option (ℕ × ℕ)} (if b then Some (shown_contact x.pair.link) else None) (Some (shown_contact x.pair.link))
-    by true there = refl
-    by false none = absurd cc
+-- there is contact with a peer for which something is put
+put_there : (own : ℕ) (w : Work) (peer : ℕ) (m : Message) (w' : Work) (frames : List Outgoing) (p : Puts own w peer m w' frames) → contact_between p.neighbour.pair ≡ Some (shown_contact p.neighbour.pair)
+put_there own w peer m w' frames p = let one = p.puts.puts in contact_there p.neighbour.pair (active_there p.neighbour.pair one.bearer one.active_is)
 
 -- the node that a message is put for is in the contact that its entry names
 pub put_contact : (n : NodeState) (w : Work) (m : Message) (w' : Work) (frames : List Outgoing) → IsLinked n w → (p : GoesAway n.own w m w' frames)
-    → contact (n.journal ++ w.inside) (destination_of m) ≡ Some (shown_contact p.neighbour.pair.link)
+    → contact (n.journal ++ w.inside) (destination_of m) ≡ Some (shown_contact p.neighbour.pair)
 put_contact n w m w' frames h p =
-    h.contacts (destination_of m) ∙ ap (option_and_then (λ (z : Neighbour). contact_of z.pair.link)) p.was ∙ up_of p.neighbour p.session p.session_is
+    h.contacts (destination_of m) ∙ ap (option_and_then (λ (z : Neighbour). contact_between z.pair)) p.was ∙ put_there n.own w ((destination_of m).word - node_word 0) m w' frames p
 
 above_word : (k : ℕ) → (0 ≡ k - node_word 0 → ⊥) → node_word (k - node_word 0) ≡ k
 above_word k above = by (k - node_word 0) refl above
@@ -130,11 +142,11 @@ sent_one peer numbers (Items withdrawal items) payload = absurd cc
 
 -- a message that the node sends
 pub sent_worked : (n : NodeState) (d : Due) (asked : List Entry) (w : Work) (peer : ℕ) (m : Message) (w' : Work) (frames : List Outgoing) → IsWorked n d NothingDue [] asked w → is_payload m ≡ true
-    → (p : Puts n.own w peer m w' frames) → IsWorked n d NothingDue (accepted_entry peer p.neighbour.pair.link m ∷ []) asked w'
+    → (p : Puts n.own w peer m w' frames) → IsWorked n d NothingDue (accepted_entry peer p.neighbour.pair m ∷ []) asked w'
 sent_worked n d asked w peer m w' frames h payload p =
-    let numbers = shown_contact p.neighbour.pair.link in
+    let numbers = shown_contact p.neighbour.pair in
     let e = entry.Accepted (addr_of_word (node_word peer)) numbers Zero m in
-    let xs = slice_set w.neighbours peer (Some (with_put p.neighbour p.put)) in
+    let xs = slice_set w.neighbours peer (Some p.then) in
     let after : Work = record { neighbours = xs; sockets = w.sockets; inside = w.inside ++ e ∷ [] } in
     let one = worked_more n d NothingDue [] asked w e w.sockets xs h (put_next n d NothingDue [] asked w (addr_of_word (node_word peer)) numbers m h tt) in
     let two = subst (λ es. IsWorked n d NothingDue es (asked ++ []) after) (sent_one (addr_of_word (node_word peer)) numbers m payload) one in
@@ -152,9 +164,9 @@ passed_worked : (n : NodeState) (d : Due) (sends asked : List Entry) (w : Work) 
 passed_worked n d sends asked w m w' frames h linked payload p =
     let peer = (destination_of m).word - node_word 0 in
     let a = addr_of_word (node_word peer) in
-    let numbers = shown_contact p.neighbour.pair.link in
+    let numbers = shown_contact p.neighbour.pair in
     let e = entry.Accepted a numbers Zero m in
-    let xs = slice_set w.neighbours peer (Some (with_put p.neighbour p.put)) in
+    let xs = slice_set w.neighbours peer (Some p.then) in
     let stands = passed_stands n d w m numbers a payload (put_contact n w m w' frames linked p) (put_node n w m w' frames linked p) in
     subst (IsWorked n d NothingDue sends asked) (sym p.after)
     (worked_on n d (ReturnDue m) NothingDue sends asked w e w.sockets xs h (put_next n d (ReturnDue m) sends asked w a numbers m h stands) refl refl refl)
@@ -233,7 +245,7 @@ all_given peer numbers (o ∷ opened) = (given_one peer numbers o, all_given pee
 reached_stable : (own : ℕ) (a : Addr) → IsStable own (λ w. is_some (contact_at w.neighbours a) ≡ true)
 reached_stable own a = record {
   put = λ w peer m w' frames h is.
-      ap (λ (u : Work). is_some (contact_at u.neighbours a)) h.after ∙ ap is_some (contact_set w.neighbours peer h.neighbour (with_put h.neighbour h.put) h.was refl a) ∙ is;
+      ap (λ (u : Work). is_some (contact_at u.neighbours a)) h.after ∙ ap is_some (contact_set w.neighbours peer h.neighbour h.then h.was (put_alike own w peer m w' frames h) a) ∙ is;
   fate = λ w m f is. is;
   note = λ w es is. is;
 }

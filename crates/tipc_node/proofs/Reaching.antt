@@ -1,5 +1,5 @@
 -- An arrival at a node, as its link or its sender has it.
-use Rattle.std.proofs.Common.{◌≡◌, ℕ, true, List, [], Some, None, Result, refl, sym, ap, ◌∙◌}
+use Rattle.std.proofs.Common.{◌≡◌, ℕ, true, List, [], Some, None, Result, refl, sym, ap, ◌∙◌, subst}
 use Rattle.std.specs.Prelude.{IfOk}
 use Rattle.std.proofs.lemmas.Result.{IfOk-weaker}
 use Rattle.tipc_types.specs.declared.link_words.Why.{Why}
@@ -11,7 +11,7 @@ use Rattle.tipc_outside.specs.Frames.{Adds, Out}
 use Rattle.tipc_outside.proofs.Adding.{adds_none}
 use Rattle.tipc_header.specs.Spelling.{view}
 use Rattle.tipc_node.specs.declared.arriving.Due.{Due}
-use Rattle.tipc_node.specs.Arrivals.{Arrives, IsDue}
+use Rattle.tipc_node.specs.Arrivals.{Arrives, Hears, IsDue}
 use Rattle.tipc_node.specs.Hearings.{HearsDue}
 use Rattle.tipc_node.specs.Nodes.{NodeState, has_room, stop_of, stopped_node}
 
@@ -34,9 +34,9 @@ stopped_met n n' by bearer number bytes box why r stopped ok =
       adds_none box,
     )
 
-pub heard_met : {E : Type 0} (n n' : NodeState) (by : By) (bearer number : ℕ) (bytes : List ℕ) (d : Due) (box box' : Out) (r : Result Arrival E) → stop_of n bearer bytes ≡ None → IsDue n bytes d.peer d.first d.second (view d.packet)
-    → IfOk r (HearsDue n n' by number d box box') → IfOk r (IsMet n by bearer number bytes n' box box')
-heard_met n n' by bearer number bytes d box box' r clear due ok = IfOk-weaker r (HearsDue n n' by number d box box') (IsMet n by bearer number bytes n' box box') met ok
+pub heard_met : {E : Type 0} (n n' : NodeState) (by : By) (bearer number : ℕ) (bytes : List ℕ) (d : Due) (box box' : Out) (r : Result Arrival E) → stop_of n bearer bytes ≡ None → d.bearer ≡ bearer
+    → IsDue n bytes d.bearer d.peer d.first d.second (view d.packet) → IfOk r (HearsDue n n' by number d box box') → IfOk r (IsMet n by bearer number bytes n' box box')
+heard_met n n' by bearer number bytes d box box' r clear on due ok = IfOk-weaker r (HearsDue n n' by number d box box') (IsMet n by bearer number bytes n' box box') met ok
   where
     met : (a : Arrival) → HearsDue n n' by number d box box' a → IsMet n by bearer number bytes n' box box' a
-    met a hears = let h = hears bytes due in (h.0, record { stopped = λ reason is. absurd (let wrong : None ≡ Some reason = sym clear ∙ is in cc); heard = λ _. h.1 }, h.2)
+    met a hears = let h = hears bytes due in (h.0, record { stopped = λ reason is. absurd (let wrong : None ≡ Some reason = sym clear ∙ is in cc); heard = λ _. subst (λ b. Hears n n' by b number bytes h.0 a) on h.1 }, h.2)

@@ -72,9 +72,6 @@ restore_next copies old waiting now place copy h =
       wide = wide ∙ h.wide;
     }
 
-pub restore_first : (copies old : List (Option Neighbour)) → length copies ≡ length old → IsPartRestored copies old copies old 0
-restore_first copies old wide = record { so_far = refl; left = omega (arith, wide); wide = refl }
-
 no_more : (xs : List (Option Neighbour)) → restored [] xs ≡ xs
 unfolding restored
 no_more [] = refl

@@ -1,6 +1,6 @@
 -- What goes back by a fate, and where.
 use Rattle.std.proofs.Common.{◌≡◌, ℕ, ◌-◌, ◌<◌, ◌≤◌, ◌==◌, ◌&&◌, ◌||◌, not, Bool, true, false, List, [], ◌∷◌, ◌++◌, Option, Some, None, Result, Ok, Err, if◌then◌else◌, refl, sym, ap, subst, ◌∙◌, arith, length, take, true≢false}
-use Rattle.std.specs.Prelude.{OnOk, is_some, option_map, nat_le, nat_lt, slice_index_or, slice_set, unwrap_or}
+use Rattle.std.specs.Prelude.{OnOk, is_some, option_map, nat_le, nat_lt, slice_index_or, unwrap_or}
 use Rattle.std.proofs.lemmas.Bool.Decides.{nat_tests}
 use Rattle.std.proofs.lemmas.List.{length-take}
 use Rattle.tipc_types.specs.Address.{node_word}
@@ -14,18 +14,19 @@ use Rattle.tipc_outside.proofs.Adding.{adds_none}
 use Rattle.tipc_journal.specs.declared.entries.Entry.{Entry}
 use Rattle.tipc_journal.specs.Dues.{comes_home, returned_message}
 use Rattle.tipc_journal.specs.Fates.{inbox_size, no_name, overload, return_limit}
-use Rattle.tipc_link.specs.Sessions.{SessionEnd, flush_frames}
+use Rattle.tipc_pair.specs.Facing.{in_contact}
 use Rattle.tipc_message.specs.Wire.{IsCarried, IsPayload}
 use Rattle.tipc_sockets.specs.declared.fates.Fate.{Fate}
 use Rattle.tipc_sockets.specs.declared.fates.Fate.TheVariants.{Queued, Returned, ReturnDropped, Dropped}
 use Rattle.tipc_sockets.specs.Fates.{after_fate, fate, is_by_name, is_offered, one_port_fate, refusal, return_fate, room_refusal, unqueued_fate}
 use Rattle.tipc_sockets.specs.SocketTables.{queue_at, SocketTable}
 use Rattle.tipc_sockets.specs.Telling.{fate_entry, origin_of}
+use Rattle.tipc_node.proofs.Neighbouring.{active_is}
 use Rattle.tipc_node.specs.declared.neighbours.Neighbour.{Neighbour}
-use Rattle.tipc_node.specs.Hearings.{Settled, WentAway, WentBack}
+use Rattle.tipc_node.specs.Hearings.{Settled, WentBack}
 use Rattle.tipc_node.specs.Messages.{destination_of}
-use Rattle.tipc_node.specs.Nodes.{session_with}
-use Rattle.tipc_node.specs.Works.{Follows, GoesBack, Puts, PutsOn, Work, addr_of_word, back_of, fate_of, fated, waiting_to, with_put, work_of}
+use Rattle.tipc_node.specs.Nodes.{load_with}
+use Rattle.tipc_node.specs.Works.{Follows, GoesBack, Work, addr_of_word, back_of, fate_of, fated, waiting_to, work_of}
 
 -- ---- what a return is like
 
@@ -105,46 +106,21 @@ pub payload_carried : (m : Message) → IsPayload m → IsCarried m
 payload_carried (Payload importance form from to kind lower upper code droppable body) is = is
 payload_carried (Items withdrawal items) is = absurd is
 
--- where packets are counted on the link to a node there is a session with the neighbour of its number
-pub session_to : (xs : List (Option Neighbour)) (node : Addr) (peer waiting : ℕ) (y : Neighbour) → node.word ≡ node_word peer → waiting_to xs node ≡ Some waiting → slice_index_or xs peer None ≡ Some y
-    → is_some (session_with (Some y)) ≡ true
-session_to xs node peer waiting y word counted was =
+-- where packets are counted on the link to a node there is contact with the neighbour of its number
+pub contact_to : (xs : List (Option Neighbour)) (node : Addr) (peer waiting : ℕ) (y : Neighbour) → node.word ≡ node_word peer → waiting_to xs node ≡ Some waiting → slice_index_or xs peer None ≡ Some y
+    → in_contact y.pair ≡ true
+contact_to xs node peer waiting y word counted was =
     let number : node.word - node_word 0 ≡ peer = omega (arith, word) in
-    some_session (session_with (Some y)) (ap (λ o. option_map (λ (s : SessionEnd). length s.sending.waiting) (session_with o)) (sym (ap (λ k. slice_index_or xs k None) number ∙ was)) ∙ counted)
+    active_is y.pair (some_load (load_with (Some y)) (ap (λ o. option_map (λ (load : ℕ × ℕ). load.1) (load_with o)) (sym (ap (λ k. slice_index_or xs k None) number ∙ was)) ∙ counted))
   where
-    some_session : (o : Option SessionEnd) → option_map (λ (s : SessionEnd). length s.sending.waiting) o ≡ Some waiting → is_some o ≡ true
-    some_session None is = absurd cc
-    some_session (Some s) is = refl
-
-pub went_away : (own : ℕ) (w : Work) (peer : ℕ) (x x' : Neighbour) (m : Message) (inside' : List Entry) (box box' : Out) → slice_index_or w.neighbours peer None ≡ Some x → (destination_of m).word ≡ node_word peer
-    → PutsOn own x x' peer m w.inside inside' box box' → WentAway own w m (work_of (slice_set w.neighbours peer (Some x')) w.sockets inside') box box'
-went_away own w peer x x' m inside' box box' was to h =
-    let number : (destination_of m).word - node_word 0 ≡ peer = omega (arith, to) in
-    record {
-      frames = flush_frames h.put;
-      goes = subst (λ k. Puts own w k m (work_of (slice_set w.neighbours peer (Some x')) w.sockets inside') (flush_frames h.put)) (sym number) (record {
-        neighbour = x;
-        was = was;
-        session = h.session;
-        session_is = h.session_is;
-        sendable = h.sendable;
-        put = h.put;
-        put_is = h.put_is;
-        after = ap (λ (y : Neighbour). work_of (slice_set w.neighbours peer (Some y)) w.sockets inside') h.after ∙ ap (work_of (slice_set w.neighbours peer (Some (with_put x h.put))) w.sockets) h.told;
-        frames_are = refl;
-      });
-      adds = h.adds;
-    }
+    some_load : (o : Option (ℕ × ℕ)) → option_map (λ (load : ℕ × ℕ). load.1) o ≡ Some waiting → is_some o ≡ true
+    some_load None is = absurd cc
+    some_load (Some load) is = refl
 
 -- at the own node it has a fate
 pub back_home : (own : ℕ) (w : Work) (m : Message) (w' : Work) (box : Out) → comes_home (addr_of_word own) m ≡ true → w' ≡ fated w m (fate_of w false m) → WentBack own w m w' box box
 back_home own w m w' box home is =
     record { frames = []; goes = record { home = λ _. (is, refl); away = λ no. absurd (true≢false (sym home ∙ no)) }; adds = adds_none box }
-
--- for a peer it is put on the link
-pub back_away : (own : ℕ) (w : Work) (m : Message) (w' : Work) (box box' : Out) → comes_home (addr_of_word own) m ≡ false → WentAway own w m w' box box' → WentBack own w m w' box box'
-back_away own w m w' box box' away h =
-    record { frames = h.frames; goes = record { home = λ home. absurd (true≢false (sym home ∙ away)); away = λ _. h.goes }; adds = h.adds }
 
 -- ---- a message that arrived has its fate
 

@@ -1,5 +1,5 @@
 -- The room of a journal for a whole step, and the journal while the step is recorded.
-use Rattle.std.proofs.Common.{◌≡◌, ◌+◌, ◌-◌, ◌≤◌, true, List, [], ◌∷◌, ◌++◌, length, sym, ap, ◌∙◌, append_assoc, append-nil, length-append, sum_by, arith}
+use Rattle.std.proofs.Common.{◌≡◌, ◌+◌, ◌-◌, ◌≤◌, true, List, [], ◌∷◌, ◌++◌, length, ap, ◌∙◌, length-append, sum_by, arith}
 use Rattle.std.proofs.lemmas.Bool.Decides.{nat_tests}
 use Rattle.std.proofs.lemmas.List.Sums.{sum_by-append, sum_by-cons}
 use Rattle.tipc_journal.specs.declared.entries.Entry.{Entry}
@@ -72,12 +72,3 @@ last_room now old first last inside small none empty under =
     let count = counted now [] old first inside under in
     let weight = weighed now [] old first inside under none in
     (omega arith, omega (arith, empty))
-
--- one entry more is recorded
-pub next_under : (now rest old : List Entry) (first next : Entry) (inside : List Entry) → IsUnder now (next ∷ rest) old first inside → IsUnder (now ++ next ∷ []) rest old first inside
-next_under now rest old first next inside under = append_assoc now (next ∷ []) rest ∙ under
-
--- all are recorded, and then the one that ends the step
-pub all_under : (now old : List Entry) (first last : Entry) (inside : List Entry) → IsUnder now [] old first inside → now ++ last ∷ [] ≡ old ++ first ∷ (inside ++ last ∷ [])
-all_under now old first last inside under =
-    ap (λ es. es ++ last ∷ []) (sym (append-nil now) ∙ under) ∙ append_assoc old (first ∷ inside) (last ∷ [])

@@ -1,5 +1,5 @@
 -- A run of a node's work in a step: entries that are noted, and messages that are put. What it does at each peer, and how one follows another.
-use Rattle.std.proofs.Common.{◌≡◌, ℕ, Bool, true, List, [], ◌++◌, Option, Some, None, filter, is_some, map, inl, inr, refl, sym, ap, ◌∙◌, subst, append_assoc}
+use Rattle.std.proofs.Common.{◌≡◌, ℕ, Bool, true, List, [], ◌++◌, Option, Some, None, filter, is_some, map, inl, inr, sym, ap, ◌∙◌, subst, append_assoc}
 use Rattle.std.specs.Prelude.{slice_index_or, slice_set}
 use Rattle.std.specs.List.{All}
 use Rattle.std.proofs.lemmas.List.{map-append}
@@ -11,29 +11,31 @@ use Rattle.tipc_outside.specs.declared.outgoing.Outgoing.{Outgoing}
 use Rattle.tipc_journal.specs.declared.entries.Entry.{Entry}
 use Rattle.tipc_journal.specs.declared.entries.Entry.TheVariants as entry
 use Rattle.tipc_journal.specs.Steps.{IsInside}
-use Rattle.tipc_pair.specs.Turns.{PutsOnto}
+use Rattle.tipc_pair.specs.Facing.{PairEnds}
+use Rattle.tipc_pair.specs.PairTurns.{PutsAll}
+use Rattle.tipc_pair.specs.PairTurns.PutsAll.{none_put}
 use Rattle.tipc_node.specs.declared.neighbours.Neighbour.{Neighbour}
 use Rattle.tipc_node.specs.Messages.{IsSendable, bytes_of}
-use Rattle.tipc_node.specs.Nodes.{NodeState, accepted_entry, neighbour_of}
+use Rattle.tipc_node.specs.Nodes.{NodeState, accepted_entry, neighbour_of, shown_contact}
 use Rattle.tipc_node.specs.Turns.{IsPlaced, IsRouted, Names, addr_of, frames_to, is_accepted_for, is_change_of, is_delivered_from, is_out_to}
 use Rattle.tipc_node.specs.Works.{Work}
 use Rattle.tipc_node.proofs.Entries.{inside_both}
 use Rattle.tipc_node.proofs.Places.{set_cases}
-use Rattle.tipc_node.proofs.LinkPuts.{puts_more, puts_stay}
+use Rattle.tipc_node.proofs.PairPuts.{puts_meet, puts_more}
 
 -- ---- neighbours
 
--- these stand under numbers of the node's neighbours, each with a link end for the peer of its number
+-- these stand under numbers of the node's neighbours, each with a pair for the peer of its number
 pub record StandFor (n : NodeState) (xs : List (Option Neighbour)) : Type 0 where
-  pub named : (b : ℕ) (x : Neighbour) → slice_index_or xs b None ≡ Some x → Names (node_word b) x.pair.link
+  pub named : (b : ℕ) (x : Neighbour) → slice_index_or xs b None ≡ Some x → Names (node_word b) x.pair
   pub within : (b : ℕ) (x : Neighbour) → slice_index_or xs b None ≡ Some x → is_some (neighbour_of n b) ≡ true
 
 -- so they do when another one stands at a number
-pub stand_set : (n : NodeState) (xs : List (Option Neighbour)) (peer : ℕ) (y : Neighbour) → StandFor n xs → Names (node_word peer) y.pair.link → is_some (neighbour_of n peer) ≡ true
+pub stand_set : (n : NodeState) (xs : List (Option Neighbour)) (peer : ℕ) (y : Neighbour) → StandFor n xs → Names (node_word peer) y.pair → is_some (neighbour_of n peer) ≡ true
     → StandFor n (slice_set xs peer (Some y))
 stand_set n xs peer y stand named there = record {
   named = λ b x is. elim (set_cases xs peer b x y is) [
-    | inl h ↦ subst (λ k. Names (node_word k) x.pair.link) (sym h.0) (subst (λ (z : Neighbour). Names (node_word peer) z.pair.link) h.1 named)
+    | inl h ↦ subst (λ k. Names (node_word k) x.pair) (sym h.0) (subst (λ (z : Neighbour). Names (node_word peer) z.pair) h.1 named)
     | inr before ↦ stand.named b x before
   ];
   within = λ b x is. elim (set_cases xs peer b x y is) [
@@ -48,14 +50,17 @@ stand_set n xs peer y stand named there = record {
 pub record RunAt (own b : ℕ) (es : List Entry) (frames : List Outgoing) (x x' : Neighbour) : Type 0 where
   pub messages : List Message
   pub sendable : All (IsSendable own) messages
-  pub puts : PutsOnto x.pair.link (map (bytes_of own) messages) (frames_to b frames) x'.pair.link
-  pub begun : x'.pair.begun ≡ x.pair.begun
+  pub puts : PutsAll x.pair (map (bytes_of own) messages) (frames_to b frames) x'.pair
   pub changes : filter (is_change_of b) es ≡ []
-  pub accepted : filter (is_accepted_for b) es ≡ map (accepted_entry b x.pair.link) messages
+  pub accepted : filter (is_accepted_for b) es ≡ map (accepted_entry b x.pair) messages
 
 -- what of both parts passes a test
 pub both_parts : (test : Entry → Bool) (xs ys front back : List Entry) → filter test xs ≡ front → filter test ys ≡ back → filter test (xs ++ ys) ≡ front ++ back
 both_parts test xs ys front back first second = filter-append test xs ys ∙ ap (λ es. es ++ filter test ys) first ∙ ap (λ es. front ++ es) second
+
+-- the contact stays
+puts_stay : (x : PairEnds) (ms : List (List ℕ)) (fs : List Outgoing) (y : PairEnds) → PutsAll x ms fs y → shown_contact y ≡ shown_contact x
+puts_stay x ms fs y h = let same = puts_meet x ms fs y h in ap (λ n. (n, y.seen)) same.contact ∙ ap (λ n. (x.contact, n)) same.seen
 
 abbrev accepted_in : ℕ → ℕ × ℕ → Message → Entry
 accepted_in b contact m = entry.Accepted (addr_of b) contact Zero m
@@ -63,32 +68,30 @@ accepted_in b contact m = entry.Accepted (addr_of b) contact Zero m
 then_at : (own b : ℕ) (es es' : List Entry) (fs fs' : List Outgoing) (x y z : Neighbour) → RunAt own b es fs x y → RunAt own b es' fs' y z → RunAt own b (es ++ es') (fs ++ fs') x z
 then_at own b es es' fs fs' x y z h k =
     let packets = map (bytes_of own) h.messages ++ map (bytes_of own) k.messages in
-    let all = puts_more x.pair.link (map (bytes_of own) h.messages) (frames_to b fs) y.pair.link (map (bytes_of own) k.messages) (frames_to b fs') z.pair.link h.puts k.puts in
-    let same = puts_stay x.pair.link (map (bytes_of own) h.messages) (frames_to b fs) y.pair.link h.puts in record {
+    let all = puts_more x.pair (map (bytes_of own) h.messages) (frames_to b fs) y.pair (map (bytes_of own) k.messages) (frames_to b fs') z.pair h.puts k.puts in
+    let same = puts_stay x.pair (map (bytes_of own) h.messages) (frames_to b fs) y.pair h.puts in record {
       messages = h.messages ++ k.messages;
       sendable = All-append (IsSendable own) h.messages k.messages h.sendable k.sendable;
-      puts = subst (λ ms. PutsOnto x.pair.link ms (frames_to b (fs ++ fs')) z.pair.link) (sym (map-append (bytes_of own) h.messages k.messages))
-          (subst (λ gs. PutsOnto x.pair.link packets gs z.pair.link) (sym (filter-append (is_out_to b) fs fs')) all);
-      begun = k.begun ∙ h.begun;
+      puts = subst (λ ms. PutsAll x.pair ms (frames_to b (fs ++ fs')) z.pair) (sym (map-append (bytes_of own) h.messages k.messages))
+          (subst (λ gs. PutsAll x.pair packets gs z.pair) (sym (filter-append (is_out_to b) fs fs')) all);
       changes = both_parts (is_change_of b) es es' [] [] h.changes k.changes;
       accepted =
-          both_parts (is_accepted_for b) es es' (map (accepted_entry b x.pair.link) h.messages) (map (accepted_entry b x.pair.link) k.messages) h.accepted
+          both_parts (is_accepted_for b) es es' (map (accepted_entry b x.pair) h.messages) (map (accepted_entry b x.pair) k.messages) h.accepted
           (k.accepted ∙ ap (λ contact. map (accepted_in b contact) k.messages) same)
-          ∙ sym (map-append (accepted_entry b x.pair.link) h.messages k.messages);
+          ∙ sym (map-append (accepted_entry b x.pair) h.messages k.messages);
     }
 
 -- they are accepted in the contact that there is behind them
-pub accepted_now : (own b : ℕ) (es : List Entry) (frames : List Outgoing) (x x' : Neighbour) (h : RunAt own b es frames x x') → filter (is_accepted_for b) es ≡ map (accepted_entry b x'.pair.link) h.messages
+pub accepted_now : (own b : ℕ) (es : List Entry) (frames : List Outgoing) (x x' : Neighbour) (h : RunAt own b es frames x x') → filter (is_accepted_for b) es ≡ map (accepted_entry b x'.pair) h.messages
 accepted_now own b es frames x x' h =
-    h.accepted ∙ ap (λ contact. map (accepted_in b contact) h.messages) (sym (puts_stay x.pair.link (map (bytes_of own) h.messages) (frames_to b frames) x'.pair.link h.puts))
+    h.accepted ∙ ap (λ contact. map (accepted_in b contact) h.messages) (sym (puts_stay x.pair (map (bytes_of own) h.messages) (frames_to b frames) x'.pair h.puts))
 
 -- no message is put where no frame leaves and nothing is told
 pub still_at : (own b : ℕ) (es : List Entry) (frames : List Outgoing) (x : Neighbour) → frames_to b frames ≡ [] → filter (is_change_of b) es ≡ [] → filter (is_accepted_for b) es ≡ [] → RunAt own b es frames x x
 still_at own b es frames x none changes accepted = record {
   messages = [];
   sendable = All-nil (IsSendable own);
-  puts = (none, refl);
-  begun = refl;
+  puts = subst (λ fs. PutsAll x.pair [] fs x.pair) (sym none) (none_put x.pair);
   changes = changes;
   accepted = accepted;
 }

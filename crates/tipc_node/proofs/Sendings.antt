@@ -6,18 +6,22 @@ use Rattle.std.proofs.lemmas.List.Elements.{All-map}
 use Rattle.tipc_types.specs.declared.message_forms.Form.TheVariants as form
 use Rattle.tipc_types.specs.declared.message_forms.Message.{Message}
 use Rattle.tipc_types.specs.declared.message_forms.Message.TheVariants as message
+use Rattle.tipc_header.specs.declared.packet.Header.{Header}
+use Rattle.tipc_header.specs.declared.packet.Header.TheVariants as header
 use Rattle.tipc_header.specs.Grammar.{Fits}
 use Rattle.tipc_header.specs.Spelling.{Fields, size_of, spelling}
 use Rattle.tipc_header.specs.Users.{header_size}
 use Rattle.tipc_header.proofs.Again.{length-spelling}
 use Rattle.tipc_message.specs.Wire.{items_packet, message_of, packet_of, payload_of, payload_packet}
 use Rattle.tipc_bundle.specs.Bundles.{may_stand_inside}
+use Rattle.tipc_tunnel.specs.Tunnels.{may_stand_inside as may_be_wrapped}
 use Rattle.tipc_fragments.specs.Cutting.{Piece, packet_of as piece_packet, packets_of, pieces_of}
 use Rattle.tipc_fragments.proofs.CutLaws.{length-packet, sent_fits}
 use Rattle.tipc_reassembly.specs.Slots.{IsCut}
 use Rattle.tipc_link.specs.Sessions.{IsWaiting}
 use Rattle.tipc_link.proofs.JoinLaws.{fragment_waits, inner_waits}
-use Rattle.tipc_pair.specs.Partners.{pieces_for}
+use Rattle.tipc_pair.specs.Messages.{pieces_for}
+use Rattle.tipc_pair.specs.Runs.{IsListed, plain}
 use Rattle.tipc_pair.proofs.Pieces.{All-one, pieces_cut}
 use Rattle.tipc_node.specs.Messages.{IsSendable, bytes_of, spelled}
 
@@ -70,16 +74,33 @@ spelled_waits : (own : ℕ) (m : Message) (bytes : List ℕ) → IsSpelled own m
 spelled_waits own m bytes s short =
     inner_waits bytes (record { packet = s.0; fits = s.2; spelled = s.3; inside = (carrier_with own m s.0 s.1 s.2).0 }) (omega (arith, short))
 
+-- what may stand in a bundle may stand in a tunnel packet
+inside_too : (h : Header) → may_stand_inside h ≡ true → may_be_wrapped h ≡ true
+inside_too (header.Payload x) is = refl
+inside_too (header.NameDistributor x) is = refl
+inside_too other is = absurd cc
+
+-- and stand in the lists of a link
+spelled_listed : (own : ℕ) (m : Message) (bytes : List ℕ) → IsSpelled own m bytes → length bytes < 1453 → IsListed bytes
+spelled_listed own m bytes s short =
+    plain (spelled_waits own m bytes s short) (record { packet = s.0; fits = s.2; spelled = s.3; inside = inside_too s.0.header (carrier_with own m s.0 s.1 s.2).0 }) (omega (arith, short))
+
 cut_waits : (piece : Piece) → IsCut piece → IsWaiting (spelling (piece_packet piece))
 cut_waits piece cut =
     fragment_waits (piece_packet piece) (record { fragment_type = piece.kind; broadcast_acknowledgement = 0; number = piece.number })
     (sent_fits piece 0 0 0 cut.first cut.number cut.some cut.most (omega arith) (omega arith) (omega arith)) refl (omega (arith, length-packet piece, cut.most))
 
+cut_listed : (piece : Piece) → IsCut piece → IsListed (spelling (piece_packet piece))
+cut_listed piece cut =
+    plain (cut_waits piece cut)
+    (record { packet = piece_packet piece; fits = sent_fits piece 0 0 0 cut.first cut.number cut.some cut.most (omega arith) (omega arith) (omega arith); spelled = refl; inside = refl })
+    (omega (arith, length-packet piece, cut.most))
+
 -- so may their fragments
-packets_wait : (m : List ℕ) → length m ≤ 66044 → All IsWaiting (packets_of m)
-packets_wait m short =
+packets_listed : (m : List ℕ) → length m ≤ 66044 → All IsListed (packets_of m)
+packets_listed m short =
     let cuts = pieces_cut m (omega (arith, short)) in
-    All-map IsWaiting (λ p. spelling (piece_packet p)) (pieces_of m) (λ k d within. cut_waits (slice_index_or (pieces_of m) k d) (cuts k d within))
+    All-map IsListed (λ p. spelling (piece_packet p)) (pieces_of m) (λ k d within. cut_listed (slice_index_or (pieces_of m) k d) (cuts k d within))
 
 alone : (bytes : List ℕ) → length bytes < 1453 → pieces_for bytes ≡ bytes ∷ []
 unfolding pieces_for
@@ -93,8 +114,8 @@ in_fragments bytes long = let is : nat_le (length bytes) 1452 ≡ false = grind 
 pub one_piece : (own : ℕ) (m : Message) (bytes : List ℕ) (pieces : List (List ℕ)) → IsSpelled own m bytes → length bytes < 1453 → pieces ≡ bytes ∷ [] → pieces ≡ pieces_for (bytes_of own m)
 one_piece own m bytes pieces s short is = is ∙ sym (alone bytes short) ∙ ap pieces_for (spelled_bytes own m bytes s)
 
-pub one_waits : (own : ℕ) (m : Message) (bytes : List ℕ) (pieces : List (List ℕ)) → IsSpelled own m bytes → length bytes < 1453 → pieces ≡ bytes ∷ [] → All IsWaiting pieces
-one_waits own m bytes pieces s short is = subst (All IsWaiting) (sym is) (All-one IsWaiting bytes (spelled_waits own m bytes s short))
+pub one_listed : (own : ℕ) (m : Message) (bytes : List ℕ) (pieces : List (List ℕ)) → IsSpelled own m bytes → length bytes < 1453 → pieces ≡ bytes ∷ [] → All IsListed pieces
+one_listed own m bytes pieces s short is = subst (All IsListed) (sym is) (All-one IsListed bytes (spelled_listed own m bytes s short))
 
 pub many_pieces : {E : Type 0} (own : ℕ) (m : Message) (bytes given : List ℕ) (r : Result (List (List ℕ)) E) → IsSpelled own m bytes → given ≡ bytes → 1453 ≤ length bytes → IfOk r (λ packets. packets ≡ packets_of given)
     → IfOk r (λ packets. packets ≡ pieces_for (bytes_of own m))
@@ -105,6 +126,6 @@ pub many_sendable : {E : Type 0} (own : ℕ) (m : Message) (bytes : List ℕ) (r
 many_sendable own m bytes (Ok packets) s = sendable_by own m bytes s
 many_sendable own m bytes (Err e) s = tt
 
-pub many_wait : {E : Type 0} (own : ℕ) (m : Message) (bytes given : List ℕ) (r : Result (List (List ℕ)) E) → IsSpelled own m bytes → given ≡ bytes → IfOk r (λ packets. packets ≡ packets_of given) → IfOk r (All IsWaiting)
-many_wait own m bytes given (Ok packets) s same is = subst (All IsWaiting) (sym is) (packets_wait given (spelled_most own m bytes given s same))
-many_wait own m bytes given (Err e) s same is = tt
+pub many_listed : {E : Type 0} (own : ℕ) (m : Message) (bytes given : List ℕ) (r : Result (List (List ℕ)) E) → IsSpelled own m bytes → given ≡ bytes → IfOk r (λ packets. packets ≡ packets_of given) → IfOk r (All IsListed)
+many_listed own m bytes given (Ok packets) s same is = subst (All IsListed) (sym is) (packets_listed given (spelled_most own m bytes given s same))
+many_listed own m bytes given (Err e) s same is = tt

@@ -1,6 +1,6 @@
 -- A message that a node sends goes its way or is refused there, as its journal tells.
 use Rattle.std.proofs.Common.{◌≡◌, ◌≤◌, ◌<◌, ◌==◌, ◌-◌, ◌||◌, ℕ, Bool, true, false, List, [], ◌∷◌, Option, Some, None, is_some, length, inl, inr, refl, sym, ap, ◌∙◌, subst, arith}
-use Rattle.std.specs.Prelude.{◌⊎◌, if◌then◌else◌, nat_le, option_and_then, option_map, option_to_list}
+use Rattle.std.specs.Prelude.{◌⊎◌, IfSome, if◌then◌else◌, nat_le, option_and_then, option_map, option_to_list}
 use Rattle.std.proofs.lemmas.Bool.{cases_lt}
 use Rattle.std.proofs.lemmas.Bool.Decides.{nat_tests}
 use Rattle.std.proofs.lemmas.List.{append-nil}
@@ -17,45 +17,48 @@ use Rattle.tipc_journal.specs.Contacts.{contact}
 use Rattle.tipc_journal.specs.Dues.{FateDue, NothingDue, comes_home, due_of_sent}
 use Rattle.tipc_journal.specs.Licensed.{accepted_for, accepted_of, is_reached}
 use Rattle.tipc_link_fsm.specs.Table.{is_up}
+use Rattle.tipc_link.specs.Links.{LinkEnd}
 use Rattle.tipc_link.specs.Sessions.{SessionEnd}
-use Rattle.tipc_pair.specs.Pairs.{contact_of}
+use Rattle.tipc_pair.specs.Facing.{PairEnds, active, contact_between, facing, turned}
+use Rattle.tipc_pair.specs.PairCalls.{load_in, load_of as link_load}
 use Rattle.tipc_sockets.specs.Telling.{is_for_one_there, is_payload}
 use Rattle.tipc_node.specs.declared.neighbours.Neighbour.{Neighbour}
 use Rattle.tipc_node.specs.Calls.{Goes, link_refusal, way_refusal}
 use Rattle.tipc_node.specs.Messages.{destination_of}
-use Rattle.tipc_node.specs.Nodes.{NodeState, neighbour_of, session_with, shown_contact}
-use Rattle.tipc_node.specs.Telling.{ArePacked, IsTold}
+use Rattle.tipc_node.specs.Nodes.{NodeState, neighbour_of, load_with, shown_contact}
+use Rattle.tipc_node.specs.Telling.{ArePacked, IsPacked, IsPackedEnd, IsPackedPair, IsTold}
 use Rattle.tipc_node.specs.Works.{Work, addr_of_word, begun, neighbour_at}
-use Rattle.tipc_node.proofs.Fating.{IsLinked, contact_at, session_some}
+use Rattle.tipc_node.proofs.Fating.{IsLinked, contact_at, load_some}
 use Rattle.tipc_node.proofs.Noting.{IsWorked, begun_worked}
+use Rattle.tipc_node.proofs.Packed.{first_bearer}
 use Rattle.tipc_node.proofs.Putting.{put_contact, put_node, sent_worked, settles_worked}
 
 -- ---- contacts at the beginning of a step
 
-of_link : (o : Option Neighbour) → option_and_then contact_of (option_map (λ (x : Neighbour). x.pair.link) o) ≡ option_and_then (λ (x : Neighbour). contact_of x.pair.link) o
-of_link None = refl
-of_link (Some x) = refl
+of_pair : (o : Option Neighbour) → option_and_then contact_between (option_map (λ (x : Neighbour). x.pair) o) ≡ option_and_then (λ (x : Neighbour). contact_between x.pair) o
+of_pair None = refl
+of_pair (Some x) = refl
 
 pub begun_linked : (n : NodeState) → IsTold n → IsLinked n (begun n)
 begun_linked n h = record {
   contacts = λ a. ap (λ es. contact es a) (append-nil n.journal) ∙ at a (cases_lt a.word (node_word 0));
-  begun = λ b x there. ((h.links b).abreast x.pair.link (ap (option_map (λ (y : Neighbour). y.pair.link)) there)).begun;
+  two = λ b x there. (let first = first_bearer n b x h there in omega (arith, first));
   nobody = h.nobody;
 }
   where
     at : (a : Addr) → (a.word < node_word 0) ⊎ (node_word 0 ≤ a.word) → contact n.journal a ≡ contact_at n.neighbours a
     at a (inl low) =
         let none : a.word - node_word 0 ≡ 0 = omega (arith, low) in
-        h.below a low ∙ sym (ap (λ k. option_and_then (λ (x : Neighbour). contact_of x.pair.link) (neighbour_of n k)) none ∙ ap (option_and_then (λ (x : Neighbour). contact_of x.pair.link)) h.nobody)
+        h.below a low ∙ sym (ap (λ k. option_and_then (λ (x : Neighbour). contact_between x.pair) (neighbour_of n k)) none ∙ ap (option_and_then (λ (x : Neighbour). contact_between x.pair)) h.nobody)
     at a (inr high) =
         let is : a.word ≡ node_word (a.word - node_word 0) = omega (arith, high) in
-        ap (λ k. contact n.journal (addr_of_word k)) is ∙ (h.links (a.word - node_word 0)).contact_is ∙ of_link (neighbour_of n (a.word - node_word 0))
+        ap (λ k. contact n.journal (addr_of_word k)) is ∙ (h.links (a.word - node_word 0)).contact_is ∙ of_pair (neighbour_of n (a.word - node_word 0))
 
--- there is a session exactly where the journal tells of a contact
-pub session_told : (n : NodeState) (a : Addr) → IsTold n → is_some (session_with (neighbour_at n.neighbours a)) ≡ is_some (contact n.journal a)
-session_told n a h =
+-- there is a load exactly where the journal tells of a contact
+pub load_told : (n : NodeState) (a : Addr) → IsTold n → is_some (load_with (neighbour_at n.neighbours a)) ≡ is_some (contact n.journal a)
+load_told n a h =
     let linked = begun_linked n h in
-    session_some (neighbour_at n.neighbours a) (λ x there. linked.begun _ x there) ∙ ap is_some (sym (linked.contacts a)) ∙ ap (λ es. is_some (contact es a)) (append-nil n.journal)
+    load_some (neighbour_at n.neighbours a) (λ x there. linked.two _ x there) ∙ ap is_some (sym (linked.contacts a)) ∙ ap (λ es. is_some (contact es a)) (append-nil n.journal)
 
 -- ---- the way of a message
 
@@ -64,18 +67,37 @@ pub data WayRefused (n : NodeState) (node : Addr) (limit : ℕ) : Answer → Typ
   unreached : is_reached (addr_of_word n.own) n.journal node ≡ false → WayRefused n node limit answer.NoNode
   crowded : (in_flight waiting : ℕ) → in_flight ≡ 50 → limit ≤ waiting → is_reached (addr_of_word n.own) n.journal node ≡ true → WayRefused n node limit (answer.Congested in_flight waiting)
 
--- a session in use is a neighbour's
-session_of : (o : Option Neighbour) (s : SessionEnd) → session_with o ≡ Some s → (x : Neighbour) × (o ≡ Some x) × (x.pair.link.session ≡ Some s)
-session_of None s is = absurd cc
-session_of (Some x) s is = by (is_up x.pair.link.fsm.state) is
+-- where packets wait on a link, 50 are unacknowledged there
+fifty : (end : Option LinkEnd) → IfSome end IsPackedEnd → 1 ≤ (link_load end).1 → (link_load end).0 ≡ 50
+fifty None packed some = absurd (let wrong : ⊥ = omega (arith, some) in wrong)
+fifty (Some e) packed some = by (is_up e.fsm.state) some
   where
-    by : (b : Bool) → (if b then x.pair.link.session else None) ≡ Some s → (y : Neighbour) × (Some x ≡ Some y) × (y.pair.link.session ≡ Some s)
-    by true there = (x, refl, there)
-    by false none = absurd cc
+    waits : (session : Option SessionEnd) → IfSome session IsPacked → 1 ≤ (load_in session).1 → (load_in session).0 ≡ 50
+    waits None is most = absurd (let wrong : ⊥ = omega (arith, most) in wrong)
+    waits (Some s) is most = full s.sending.waiting refl is.1 most
+      where
+        full : (packets : List (List ℕ)) → s.sending.waiting ≡ packets → (s.sending.waiting ≡ []) ⊎ (length s.sending.unacked ≡ 50) → 1 ≤ length s.sending.waiting → length s.sending.unacked ≡ 50
+        full packets same (inl none) most = absurd (let zero : length s.sending.waiting ≡ 0 = ap length none in let wrong : ⊥ = omega (arith, most, zero) in wrong)
+        full packets same (inr is) most = is
 
-fifty : (limit : ℕ) (s : SessionEnd) → 1 ≤ limit → limit ≤ length s.sending.waiting → (s.sending.waiting ≡ []) ⊎ (length s.sending.unacked ≡ 50) → length s.sending.unacked ≡ 50
-fifty limit s some many (inl none) = absurd (let zero : length s.sending.waiting ≡ 0 = ap length none in omega (arith, some, many, zero))
-fifty limit s some many (inr is) = is
+    by : (b : Bool) → 1 ≤ (if b then load_in e.session else (0, 0)).1 → (if b then load_in e.session else (0, 0)).0 ≡ 50
+    by true most = waits e.session packed most
+    by false most = absurd (let wrong : ⊥ = omega (arith, most) in wrong)
+
+facing_packed : (bearer : ℕ) (x : PairEnds) → IsPackedPair x → IfSome (facing bearer x).near IsPackedEnd
+unfolding facing
+facing_packed bearer x h = elim (x.bearer == bearer) as (λ b. IfSome (if b then x else turned x).near IsPackedEnd) [ true ↦ h.near | false ↦ h.far ]
+
+-- a load is a neighbour's
+full_load : (o : Option Neighbour) (load : ℕ × ℕ) → load_with o ≡ Some load → ((x : Neighbour) → o ≡ Some x → IsPackedPair x.pair) → 1 ≤ load.1 → load.0 ≡ 50
+full_load None load is packed some = absurd cc
+full_load (Some x) load is packed some = by (active x.pair) refl is
+  where
+    by : (a : Option ℕ) → active x.pair ≡ a → option_map (λ bearer. link_load (facing bearer x.pair).near) a ≡ Some load → load.0 ≡ 50
+    by None none there = absurd cc
+    by (Some bearer) on there =
+        let same : link_load (facing bearer x.pair).near ≡ load = cc in
+        sym (ap (λ (l : ℕ × ℕ). l.0) same) ∙ fifty (facing bearer x.pair).near (facing_packed bearer x.pair (packed x refl)) (subst (λ (l : ℕ × ℕ). 1 ≤ l.1) (sym same) some)
 
 reached_by : (own : ℕ) (journal : List Entry) (node : Addr) (b : Bool) → (node.word == own) ≡ false → is_some (contact journal node) ≡ b → is_reached (addr_of_word own) journal node ≡ b
 reached_by own journal node b other is = ap (λ c. c || is_some (contact journal node)) other ∙ is
@@ -83,35 +105,34 @@ reached_by own journal node b other is = ap (λ c. c || is_some (contact journal
 pub way_refused : (n : NodeState) (node : Addr) (limit : ℕ) (reason : Answer) → IsTold n → ArePacked n → 1 ≤ limit → way_refusal n node limit ≡ Some reason → WayRefused n node limit reason
 way_refused n node limit reason h packed some is = by (node.word == n.own) refl is
   where
-    link : (o : Option SessionEnd) → session_with (neighbour_at n.neighbours node) ≡ o → (node.word == n.own) ≡ false → link_refusal o limit ≡ Some reason → WayRefused n node limit reason
-    link None session other refused =
+    link : (o : Option (ℕ × ℕ)) → load_with (neighbour_at n.neighbours node) ≡ o → (node.word == n.own) ≡ false → link_refusal o limit ≡ Some reason → WayRefused n node limit reason
+    link None load_is other refused =
         let here : answer.NoNode ≡ reason = cc in
-        subst (WayRefused n node limit) here (unreached (reached_by n.own n.journal node false other (sym (session_told n node h) ∙ ap is_some session)))
-    link (Some s) session other refused = crowd (nat_le limit (length s.sending.waiting)) refl refused
+        subst (WayRefused n node limit) here (unreached (reached_by n.own n.journal node false other (sym (load_told n node h) ∙ ap is_some load_is)))
+    link (Some load) load_is other refused = crowd (nat_le limit load.1) refl refused
       where
-        crowd : (b : Bool) → nat_le limit (length s.sending.waiting) ≡ b → (if b then Some (answer.Congested (length s.sending.unacked) (length s.sending.waiting)) else None) ≡ Some reason → WayRefused n node limit reason
+        crowd : (b : Bool) → nat_le limit load.1 ≡ b → (if b then Some (answer.Congested load.0 load.1) else None) ≡ Some reason → WayRefused n node limit reason
         crowd false few none = absurd cc
         crowd true many full =
-            let here : answer.Congested (length s.sending.unacked) (length s.sending.waiting) ≡ reason = cc in
-            let of = session_of (neighbour_at n.neighbours node) s session in
-            let most : limit ≤ length s.sending.waiting = grind (arith, nat_tests, many) in
-            subst (WayRefused n node limit) here (crowded (length s.sending.unacked) (length s.sending.waiting) (fifty limit s some most (packed (node.word - node_word 0) of.0 s of.1 of.2).1) most
-            (reached_by n.own n.journal node true other (sym (session_told n node h) ∙ ap is_some session)))
+            let here : answer.Congested load.0 load.1 ≡ reason = cc in
+            let most : limit ≤ load.1 = grind (arith, nat_tests, many) in
+            subst (WayRefused n node limit) here (crowded load.0 load.1 (full_load (neighbour_at n.neighbours node) load load_is (λ x there. packed (node.word - node_word 0) x there) (omega (arith, some, most))) most
+            (reached_by n.own n.journal node true other (sym (load_told n node h) ∙ ap is_some load_is)))
 
-    by : (b : Bool) → (node.word == n.own) ≡ b → (if b then None else link_refusal (session_with (neighbour_at n.neighbours node)) limit) ≡ Some reason → WayRefused n node limit reason
+    by : (b : Bool) → (node.word == n.own) ≡ b → (if b then None else link_refusal (load_with (neighbour_at n.neighbours node)) limit) ≡ Some reason → WayRefused n node limit reason
     by true mine none = absurd cc
-    by false other refused = link (session_with (neighbour_at n.neighbours node)) refl other refused
+    by false other refused = link (load_with (neighbour_at n.neighbours node)) refl other refused
 
 pub way_open : (n : NodeState) (node : Addr) (limit : ℕ) → IsTold n → way_refusal n node limit ≡ None → is_reached (addr_of_word n.own) n.journal node ≡ true
 way_open n node limit h is = by (node.word == n.own) refl is
   where
-    link : (o : Option SessionEnd) → session_with (neighbour_at n.neighbours node) ≡ o → link_refusal o limit ≡ None → is_some (contact n.journal node) ≡ true
-    link None session open_way = absurd cc
-    link (Some s) session open_way = sym (session_told n node h) ∙ ap is_some session
+    link : (o : Option (ℕ × ℕ)) → load_with (neighbour_at n.neighbours node) ≡ o → link_refusal o limit ≡ None → is_some (contact n.journal node) ≡ true
+    link None load_is open_way = absurd cc
+    link (Some load) load_is open_way = sym (load_told n node h) ∙ ap is_some load_is
 
-    by : (b : Bool) → (node.word == n.own) ≡ b → (if b then None else link_refusal (session_with (neighbour_at n.neighbours node)) limit) ≡ None → is_reached (addr_of_word n.own) n.journal node ≡ true
+    by : (b : Bool) → (node.word == n.own) ≡ b → (if b then None else link_refusal (load_with (neighbour_at n.neighbours node)) limit) ≡ None → is_reached (addr_of_word n.own) n.journal node ≡ true
     by true mine none = ap (λ c. c || is_some (contact n.journal node)) mine
-    by false other open_way = reached_by n.own n.journal node true other (link (session_with (neighbour_at n.neighbours node)) refl open_way)
+    by false other open_way = reached_by n.own n.journal node true other (link (load_with (neighbour_at n.neighbours node)) refl open_way)
 
 -- ---- a message goes
 
@@ -144,7 +165,7 @@ goes_worked n m w frames h payload accepts there goes = by (comes_home (addr_of_
     by true is = put true is (settles_worked n (FateDue m false) [] [] (begun n) false m w frames (begun_worked n (FateDue m false) h) linked payload (λ _. there is) (goes.home is)).0
     by false is =
         let away = goes.away is in
-        let met : contact n.journal (destination_of m) ≡ Some (shown_contact away.neighbour.pair.link) = ap (λ es. contact es (destination_of m)) (sym (append-nil n.journal)) ∙ put_contact n (begun n) m w frames linked away in
+        let met : contact n.journal (destination_of m) ≡ Some (shown_contact away.neighbour.pair) = ap (λ es. contact es (destination_of m)) (sym (append-nil n.journal)) ∙ put_contact n (begun n) m w frames linked away in
         let peer = addr_of_word (node_word ((destination_of m).word - node_word 0)) in
-        put false is (subst (λ es. IsWorked n NothingDue NothingDue es [] w) (sym (accepted_there n.journal m (destination_of m) peer (shown_contact away.neighbour.pair.link) met (put_node n (begun n) m w frames linked away)))
+        put false is (subst (λ es. IsWorked n NothingDue NothingDue es [] w) (sym (accepted_there n.journal m (destination_of m) peer (shown_contact away.neighbour.pair) met (put_node n (begun n) m w frames linked away)))
         (sent_worked n NothingDue [] (begun n) ((destination_of m).word - node_word 0) m w frames (begun_worked n NothingDue h) payload away))

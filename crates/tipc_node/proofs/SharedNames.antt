@@ -17,7 +17,7 @@ use Rattle.tipc_sockets.specs.SocketTables.{with_socket}
 use Rattle.tipc_name_dist.specs.Items.{telling}
 use Rattle.tipc_node.specs.declared.neighbours.Deed.TheVariants as deed
 use Rattle.tipc_node.specs.Calls.{CanPerform, HasInstances, Performs}
-use Rattle.tipc_node.specs.Nodes.{NodeState, known_node, neighbour_of}
+use Rattle.tipc_node.specs.Nodes.{NodeState, end_with, known_node, neighbour_of}
 use Rattle.tipc_node.specs.Sharing.{SharesNames}
 use Rattle.tipc_journal.specs.Licensed.{next_answer}
 use Rattle.tipc_node.specs.Sockets.{cancelled_work, closed_work, first_answer, first_event, next_number, next_port, next_work, number_refusal, port_refusal, publication_refusal, published_work, received_work, socket_refusal, subscribed_work, subscription_refusal, told_closing, told_withdrawal, waiting_at, with_sockets_of, withdrawal_refusal, withdrawn_work}
@@ -46,12 +46,12 @@ new_shares n empty = record {
 
 -- ---- a link end is made
 
-pub known_shares : (n : NodeState) (peer : ℕ) → neighbour_of n peer ≡ None → SharesNames n → SharesNames (known_node n peer)
-known_shares n peer none shares = record {
+pub known_shares : (n : NodeState) (peer bearer : ℕ) → end_with bearer (neighbour_of n peer) ≡ None → IsTold n → SharesNames n → SharesNames (known_node n peer bearer)
+known_shares n peer bearer none is_told shares = record {
   own_names = shares.own_names;
   told = shares.told;
   holds = shares.holds;
-  unused = known_unused n peer none shares.unused;
+  unused = known_unused n peer bearer none is_told shares.unused;
 }
 
 -- ---- a call
@@ -81,7 +81,7 @@ performs_shares n n' by (event.NextEvent number) frames answered h shares can pe
     makes_shares n n' by (event.NextEvent number) (number_refusal n.sockets number) (next_work n number) (next_answer (first_event n.sockets number)) inside frames answered h h' shares t tt refl performs
 performs_shares n n' by event.Tick frames answered h shares can performs inside t h' ranges wide = tick_shares n n' by inside frames answered h h' shares t performs
 performs_shares n n' by (event.Cut bearer) frames answered h shares can performs inside t h' ranges wide =
-    deed_shares n n' by deed.Cut inside frames answered h h' shares (subst (λ b. IsTurnOf n n' by (event.Cut b) inside frames answered) can t) performs
+    deed_shares n n' by (deed.Cut bearer) inside frames answered h h' shares t performs
 performs_shares n n' by (event.Mend bearer) frames answered h shares can performs inside t h' ranges wide =
-    deed_shares n n' by deed.Mend inside frames answered h h' shares (subst (λ b. IsTurnOf n n' by (event.Mend b) inside frames answered) can t) performs
+    deed_shares n n' by (deed.Mend bearer) inside frames answered h h' shares t performs
 performs_shares n n' by call frames answered h shares can performs inside t h' ranges wide = absurd performs

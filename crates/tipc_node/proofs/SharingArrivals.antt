@@ -26,30 +26,30 @@ use Rattle.tipc_journal.specs.Names.{live}
 use Rattle.tipc_journal.specs.Steps.{NodeStep, step_entries}
 use Rattle.tipc_journal.specs.Streams.{accepted, delivered}
 use Rattle.tipc_journal.proofs.StreamLaws.{delivered_nil}
-use Rattle.tipc_link_fsm.specs.Table.{is_up}
-use Rattle.tipc_link.specs.Links.{LinkEnd}
-use Rattle.tipc_pair.specs.declared.changes.PairChange.{PairChange}
-use Rattle.tipc_pair.specs.declared.changes.PairChange.TheVariants.{Stay, Began, Ended}
-use Rattle.tipc_pair.specs.Pairs.{contact_of}
+use Rattle.tipc_pair.specs.declared.transitions.Transition.{Transition}
+use Rattle.tipc_pair.specs.declared.transitions.Transition.TheVariants.{ContactDown, ContactUp, LinkDown, LinkUp}
+use Rattle.tipc_pair.specs.Facing.{PairEnds, contact_between, in_contact}
 use Rattle.tipc_sockets.specs.SocketTables.{SocketTable}
 use Rattle.tipc_sockets.specs.Telling.{after_entry}
 use Rattle.tipc_node.specs.declared.neighbours.Neighbour.{Neighbour}
-use Rattle.tipc_node.specs.Arrivals.{Arrives, Greets, Hears}
-use Rattle.tipc_node.specs.Nodes.{NodeState, change_entries, neighbour_of, shown_contact, step_of, stop_of}
+use Rattle.tipc_node.specs.Arrivals.{Arrives, GreetsWhere, Hears}
+use Rattle.tipc_node.specs.Neighbours.{begins, is_of_contact}
+use Rattle.tipc_node.specs.Nodes.{NodeState, change_entries, change_entry, neighbour_of, shown_contact, step_of, stop_of}
 use Rattle.tipc_node.specs.Sharing.{HasTold, IsUnused, SharesNames, flow_with}
 use Rattle.tipc_node.specs.Telling.{IsTold, is_in_reach}
 use Rattle.tipc_node.specs.Turns.{NodeTurn, addr_of, is_change_of, is_delivered_from}
 use Rattle.tipc_node.specs.Works.{addr_of_word}
-use Rattle.tipc_node.proofs.Moves.{Tells, down_contact}
+use Rattle.tipc_node.proofs.Moves.{contact_by, contact_gone}
 use Rattle.tipc_node.proofs.Noting.{all_from}
 use Rattle.tipc_node.proofs.SharingDelivered.{filter_apart, is_delivery_of}
-use Rattle.tipc_node.proofs.SharingEnds.{Begins}
+use Rattle.tipc_node.proofs.PairTells.{Means, Story, began, contact_changes, ended, stays}
+use Rattle.tipc_node.proofs.SharingEnds.{begins_by_story, contact_by_story}
 use Rattle.tipc_node.proofs.SharingEntries.{is_beside, is_plain_for, keeps_live, live_then, names_stay, plain_accepted, same_live, sockets_live}
 use Rattle.tipc_node.proofs.SharingFlows.{accepted_then, delivered_of_peer, delivered_then}
 use Rattle.tipc_node.proofs.SharingHeard.{IsHeardAt, all_of_arrival, delivery_plain, heard_accepts, heard_at, heard_changes, heard_delivers, is_arrival_of, no_change, no_delivery, no_naming, none_learned, none_told}
 use Rattle.tipc_node.proofs.SharingSteps.{SharesAt, contact_there, other_than, shares_from, shown_by}
 use Rattle.tipc_node.proofs.SharingTold.{told_bulk, told_users}
-use Rattle.tipc_node.proofs.Telling.{contact_by, contact_goes, contact_told}
+use Rattle.tipc_node.proofs.Telling.{contact_goes, contact_told}
 
 -- ---- a peer beside the arrival
 
@@ -120,11 +120,11 @@ greeted_stay n peer numbers greeting shares before none = record {
   holds = shares.holds peer numbers before;
 }
 
-greeted_anew : (n : NodeState) (peer : ℕ) (numbers : ℕ × ℕ) (greeting : List Message) (x : Neighbour) → IsTold n → SharesNames n → neighbour_of n peer ≡ Some x → is_up x.pair.link.fsm.state ≡ false → numbers.0 ≡ x.pair.link.contact
+greeted_anew : (n : NodeState) (peer : ℕ) (numbers : ℕ × ℕ) (greeting : List Message) (x : Neighbour) → IsTold n → SharesNames n → neighbour_of n peer ≡ Some x → in_contact x.pair ≡ false → numbers.0 ≡ x.pair.contact
     → (node_word peer == n.own) ≡ false → IsBulk n.sockets.live greeting → IsGreeted n peer numbers greeting n.sockets
 greeted_anew n peer numbers greeting x h shares was down number apart bulk =
     let unused = subst (λ k. IsUnused n.journal peer k) (sym number) (shares.unused.next peer x was down) numbers.1 in
-    let alone : contact n.journal (addr_of peer) ≡ None = contact_there n peer x h was ∙ down_contact x.pair.link down in
+    let alone : contact n.journal (addr_of peer) ≡ None = contact_there n peer x h was ∙ contact_gone x.pair down in
     record {
       told = subst (HasTold n.own (live n.journal)) (sym (ap (λ ms. ms ++ greeting) unused.0)) (told_bulk n.own (live n.journal) greeting shares.own_names (subst (λ ps. IsBulk ps greeting) (sockets_live n h) bulk));
       holds = none_held n peer h alone apart ∙ ap (held_after (node_word peer) []) (sym unused.1);
@@ -133,7 +133,7 @@ greeted_anew n peer numbers greeting x h shares was down number apart bulk =
 -- ---- the peer after the arrival
 
 heard_shares : (n n' : NodeState) (bytes : List ℕ) (s : NodeStep) (frames : List Outgoing) (peer : ℕ) → IsTold n → NodeTurn n n' bytes s frames → (a : IsHeardAt n n' s.inside peer)
-    → IsGreeted n peer (shown_contact a.after) a.greeting (fold after_entry n.sockets (change_entries peer a.change)) → SharesAt n' peer (shown_contact a.after)
+    → IsGreeted n peer (shown_contact a.after) a.greeting (fold after_entry n.sockets (change_entries peer a.changes)) → SharesAt n' peer (shown_contact a.after)
 heard_shares n n' bytes s frames peer h t a g =
     let c = shown_contact a.after in
     let before = accepted n.journal (flow_with peer c) in
@@ -152,38 +152,53 @@ heard_shares n n' bytes s frames peer h t a g =
           ∙ ap (held_after (node_word peer) []) (sym delivers);
     }
 
+-- the changes of the contact alone change the sockets
+changed_sockets : (s : SocketTable) (peer : ℕ) (cs : List Transition) → fold after_entry s (change_entries peer cs) ≡ fold after_entry s (change_entries peer (filter is_of_contact cs))
+changed_sockets s peer [] = refl
+changed_sockets s peer (LinkUp bearer own theirs ∷ cs) = changed_sockets s peer cs
+changed_sockets s peer (LinkDown bearer because shown ∷ cs) = changed_sockets s peer cs
+changed_sockets s peer (ContactUp numbers ∷ cs) = changed_sockets s peer cs
+changed_sockets s peer (ContactDown numbers states shown ∷ cs) = changed_sockets (after_entry s (change_entry peer (ContactDown numbers states shown))) peer cs
+
 peer_at : (n n' : NodeState) (bytes : List ℕ) (s : NodeStep) (frames : List Outgoing) (peer : ℕ) (numbers : ℕ × ℕ) → IsTold n → IsTold n' → SharesNames n → NodeTurn n n' bytes s frames → IsHeardAt n n' s.inside peer
     → contact n'.journal (addr_of peer) ≡ Some numbers → SharesAt n' peer numbers
-peer_at n n' bytes s frames peer numbers h h' shares t a is = by a.change refl a.tells a.grows.begins a.greets now
+peer_at n n' bytes s frames peer numbers h h' shares t a is = by a.story refl a.means greeted now
   where
-    e : LinkEnd
-    e = a.neighbour.pair.link
+    x : PairEnds
+    x = a.neighbour.pair
 
     c : ℕ × ℕ
     c = shown_contact a.after
 
-    before : contact n.journal (addr_of peer) ≡ contact_of e
+    before : contact n.journal (addr_of peer) ≡ contact_between x
     before = contact_there n peer a.neighbour h a.was
 
-    now : contact_by (contact n.journal (addr_of peer)) a.change ≡ Some numbers
-    now = sym (ap (λ es. contact es (addr_of peer)) t.journal ∙ contact_told n.journal s peer (change_entries peer a.change) (heard_changes n n' s.inside peer a) ∙ contact_goes peer (contact n.journal (addr_of peer)) a.change) ∙ is
+    now : fold contact_by (contact_between x) (contact_changes a.story) ≡ Some numbers
+    now =
+        sym (ap (λ es. contact es (addr_of peer)) t.journal ∙ contact_told n.journal s peer (change_entries peer a.changes) (heard_changes n n' s.inside peer a) ∙ contact_goes peer (contact n.journal (addr_of peer)) a.changes
+        ∙ ap (λ z. fold contact_by z a.changes) before ∙ contact_by_story (contact_between x) a.changes a.story a.story_is) ∙ is
+
+    greeted : GreetsWhere (begins (contact_changes a.story)) n.sockets.live a.greeting
+    greeted = subst (λ b. GreetsWhere b n.sockets.live a.greeting) (begins_by_story a.changes a.story a.story_is) a.greets
 
     apart : (node_word peer == n.own) ≡ false
     apart = ap (λ o. node_word peer == o) (sym t.own) ∙ other_than n' peer numbers h' is
 
-    -- the link shows the numbers of the contact
-    at_last : contact_of a.after ≡ Some numbers → IsGreeted n peer c a.greeting (fold after_entry n.sockets (change_entries peer a.change)) → SharesAt n' peer numbers
-    at_last met g = subst (SharesAt n' peer) (shown_by a.after numbers met).1 (heard_shares n n' bytes s frames peer h t a g)
+    -- the pair shows the numbers of the contact
+    at_last : (story : Story) → a.story ≡ story → c ≡ numbers → IsGreeted n peer c a.greeting (fold after_entry n.sockets (change_entries peer (contact_changes story))) → SharesAt n' peer numbers
+    at_last story same shown g =
+        let sockets = changed_sockets n.sockets peer a.changes ∙ ap (λ cs. fold after_entry n.sockets (change_entries peer cs)) (a.story_is ∙ ap contact_changes same) in
+        subst (SharesAt n' peer) shown (heard_shares n n' bytes s frames peer h t a (subst (IsGreeted n peer c a.greeting) (sym sockets) g))
 
-    by : (change : PairChange) → a.change ≡ change → Tells e a.after change → Begins e a.after change → Greets n.sockets.live change a.greeting → contact_by (contact n.journal (addr_of peer)) change ≡ Some numbers → SharesAt n' peer numbers
-    by Stay same tells begins greets some =
-        let met : contact_of a.after ≡ Some numbers = tells.0 ∙ sym before ∙ some in
-        let shown : numbers ≡ c = sym (shown_by a.after numbers met).1 in
-        at_last met (subst (λ k. IsGreeted n peer c a.greeting (fold after_entry n.sockets (change_entries peer k))) (sym same) (greeted_stay n peer c a.greeting shares (some ∙ ap Some shown) greets))
-    by (Began own theirs fresh) same tells begins greets some =
-        let met : contact_of a.after ≡ Some numbers = tells.0 ∙ some in
-        at_last met (subst (λ k. IsGreeted n peer c a.greeting (fold after_entry n.sockets (change_entries peer k))) (sym same) (greeted_anew n peer c a.greeting a.neighbour h shares a.was begins.0 begins.1 apart greets))
-    by (Ended because shown gone number) same tells begins greets some = absurd (let wrong : ◌≡◌ {A = Option (ℕ × ℕ)} None (Some numbers) = some in cc)
+    by : (story : Story) → a.story ≡ story → Means x a.after story → GreetsWhere (begins (contact_changes story)) n.sockets.live a.greeting → fold contact_by (contact_between x) (contact_changes story) ≡ Some numbers → SharesAt n' peer numbers
+    by stays same means greets some =
+        let was = shown_by x numbers some in
+        let shown : c ≡ numbers = ap (λ k. (k, a.after.seen)) means.1 ∙ ap (λ k. (x.contact, k)) (means.2 was.0) ∙ was.1 in
+        at_last stays same shown (greeted_stay n peer c a.greeting shares (before ∙ some ∙ ap Some (sym shown)) greets)
+    by (began fresh) same means greets some =
+        let here : fresh ≡ numbers = cc in
+        at_last (began fresh) same (sym means.2 ∙ here) (greeted_anew n peer c a.greeting a.neighbour h shares a.was means.0 means.3 apart greets)
+    by (ended gone states shown) same means greets some = absurd (let wrong : ◌≡◌ {A = Option (ℕ × ℕ)} None (Some numbers) = some in cc)
 
 -- ---- an arrival
 
@@ -199,7 +214,7 @@ arrival_own : (n n' : NodeState) (bytes : List ℕ) (s : NodeStep) (frames : Lis
 arrival_own n n' bytes s frames shares t all =
     subst (λ o. AreOwn o (live n'.journal)) (sym t.own) (subst (AreOwn n.own) (sym (live_then n.journal n'.journal s t.journal ∙ same_live (live n.journal) s.inside all)) shares.own_names)
 
-hears_shares : (n n' : NodeState) (by : By) (bearer number : ℕ) (bytes : List ℕ) (frames : List Outgoing) (answered : Arrival) → IsTold n → IsTold n' → SharesNames n → Hears n n' by number bytes frames answered → (inside : List Entry)
+hears_shares : (n n' : NodeState) (by : By) (bearer number : ℕ) (bytes : List ℕ) (frames : List Outgoing) (answered : Arrival) → IsTold n → IsTold n' → SharesNames n → Hears n n' by bearer number bytes frames answered → (inside : List Entry)
     → NodeTurn n n' bytes (step_of by (Arrive bearer number) inside (answer.Arrived answered)) frames → SharesNames n'
 hears_shares n n' by bearer number bytes frames answered h h' shares hears inside t = shares_from n n' bytes s frames h shares t (arrival_own n n' bytes s frames shares t lives) at
   where
@@ -210,10 +225,10 @@ hears_shares n n' by bearer number bytes frames answered h h' shares hears insid
     peer = hears.peer
 
     same : hears.work.inside ≡ inside
-    same = same_inside n.journal by (Arrive 0 number) (Arrive bearer number) hears.work.inside inside (answer.Arrived answered) (answer.Arrived answered) (sym (ap (λ (k : NodeState). k.journal) hears.after) ∙ t.journal)
+    same = same_inside n.journal by (Arrive bearer number) (Arrive bearer number) hears.work.inside inside (answer.Arrived answered) (answer.Arrived answered) (sym (ap (λ (k : NodeState). k.journal) hears.after) ∙ t.journal)
 
     heard : IsHeardAt n n' inside peer
-    heard = subst (λ es. IsHeardAt n n' es peer) same (heard_at n n' by number bytes frames answered h hears)
+    heard = subst (λ es. IsHeardAt n n' es peer) same (heard_at n n' by bearer number bytes frames answered h hears)
 
     lives : list_all keeps_live inside ≡ true
     lives = all_from (is_arrival_of peer) keeps_live (no_naming peer) inside (all_of_arrival n n' inside peer heard)

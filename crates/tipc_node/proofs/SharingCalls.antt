@@ -22,8 +22,8 @@ use Rattle.tipc_journal.specs.Contacts.{contact}
 use Rattle.tipc_journal.specs.Names.{live}
 use Rattle.tipc_journal.specs.Steps.{NodeStep, step_entries}
 use Rattle.tipc_journal.specs.Streams.{accepted}
-use Rattle.tipc_pair.specs.declared.changes.PairChange.{PairChange}
-use Rattle.tipc_pair.specs.declared.changes.PairChange.TheVariants.{Stay, Began, Ended}
+use Rattle.tipc_pair.specs.declared.transitions.Transition.{Transition}
+use Rattle.tipc_pair.specs.declared.transitions.Transition.TheVariants.{ContactDown, ContactUp, LinkDown, LinkUp}
 use Rattle.tipc_sockets.specs.declared.fates.Fate.{Fate}
 use Rattle.tipc_sockets.specs.declared.fates.Fate.TheVariants.{Dropped, Queued, ReturnDropped, Returned}
 use Rattle.tipc_sockets.specs.Telling.{fate_entry, is_payload}
@@ -38,11 +38,11 @@ use Rattle.tipc_node.specs.Nodes.{NodeState, change_entries, deed_note, entries_
 use Rattle.tipc_node.specs.Sharing.{HasTold, SharesNames, flow_with}
 use Rattle.tipc_node.specs.Sockets.{found_at, kept_answer, timeouts_of}
 use Rattle.tipc_node.specs.Telling.{IsTold}
-use Rattle.tipc_node.specs.Turns.{NodeTurn, addr_of, is_change_of}
+use Rattle.tipc_node.specs.Turns.{NodeTurn, addr_of}
 use Rattle.tipc_node.specs.Works.{Work, begun}
 use Rattle.tipc_node.proofs.Concluding.{same_turn}
 use Rattle.tipc_node.proofs.Noting.{all_from}
-use Rattle.tipc_node.proofs.SharingEntries.{is_beside, is_plain_for, keeps_live, live_then, names_stay, plain_accepted, same_live}
+use Rattle.tipc_node.proofs.SharingEntries.{is_beside, is_end_of, is_plain_for, keeps_live, live_then, names_stay, plain_accepted, same_live}
 use Rattle.tipc_node.proofs.SharingFlows.{accepted_then, delivered_then}
 use Rattle.tipc_node.proofs.SharingSteps.{IsOwnCall, SharesAt, call_steady, other_than, shares_from}
 use Rattle.tipc_node.proofs.SharingTold.{told_users}
@@ -78,7 +78,7 @@ usual_plain : (b : ℕ) (e : Entry) → is_usual e ≡ true → is_plain_for b e
 usual_plain b (entry.Accepted peer numbers flow m) is = ap (λ t. t || not (peer.word == node_word b)) is
 usual_plain b other is = refl
 
-one_beside : (b : ℕ) (e : Entry) → is_usual e ≡ true → is_change_of b e ≡ false → is_beside b e ≡ true
+one_beside : (b : ℕ) (e : Entry) → is_usual e ≡ true → is_end_of b e ≡ false → is_beside b e ≡ true
 one_beside b (entry.Learned p) is apart = absurd (true≢false (sym is))
 one_beside b (entry.Forgot p) is apart = absurd (true≢false (sym is))
 one_beside b (entry.ContactDown peer numbers states shown) is apart = ap not apart
@@ -92,11 +92,11 @@ none_first {A} test x xs none = by (test x) refl none
     by true is h = absurd (let wrong : x ∷ filter test xs ≡ [] = h in cc)
     by false is h = (is, h)
 
-pub usual_beside : (b : ℕ) (es : List Entry) → list_all is_usual es ≡ true → filter (is_change_of b) es ≡ [] → list_all (is_beside b) es ≡ true
+pub usual_beside : (b : ℕ) (es : List Entry) → list_all is_usual es ≡ true → filter (is_end_of b) es ≡ [] → list_all (is_beside b) es ≡ true
 usual_beside b [] usual none = refl
 usual_beside b (e ∷ es) usual none =
     let both = and_parts (is_usual e) _ usual in
-    let parts = none_first (is_change_of b) e es none in
+    let parts = none_first (is_end_of b) e es none in
     and_from _ _ (one_beside b e both.0 parts.0) (usual_beside b es both.1 parts.1)
 
 -- ---- a call
@@ -104,7 +104,7 @@ usual_beside b (e ∷ es) usual none =
 -- what is to be known of a call for the peers in contact
 pub record CallShares (n : NodeState) (journal : List Entry) (inside : List Entry) : Type 0 where
   pub own : AreOwn n.own (live journal)
-  pub beside : (b : ℕ) → (node_word b == n.own) ≡ false → filter (is_change_of b) inside ≡ [] → list_all (is_beside b) inside ≡ true
+  pub beside : (b : ℕ) → (node_word b == n.own) ≡ false → filter (is_end_of b) inside ≡ [] → list_all (is_beside b) inside ≡ true
   pub told : (b : ℕ) (numbers : ℕ × ℕ) → contact n.journal (addr_of b) ≡ Some numbers
       → HasTold n.own (live journal) (accepted n.journal (flow_with b numbers) ++ accepted inside (flow_with b numbers))
 
@@ -120,7 +120,7 @@ call_shares n n' bytes s frames h h' shares t own c = shares_from n n' bytes s f
         record {
           told = subst (λ o. HasTold o (live n'.journal) (accepted n'.journal (flow_with b numbers))) (sym t.own) told;
           holds =
-              names_stay n n' s b h h' t.own t.journal apart (c.beside b apart steady.changes) ∙ shares.holds b numbers steady.before
+              names_stay n n' s b h h' t.own t.journal apart (c.beside b apart steady.no_end) ∙ shares.holds b numbers steady.before
               ∙ ap (held_after (node_word b) []) (sym none);
         }
 
@@ -200,14 +200,16 @@ name_shares n n' by port kind instance importance body inside frames answered h 
 
 -- ---- what happens to all neighbours
 
-changes_usual : (b : ℕ) (c : PairChange) → list_all is_usual (change_entries b c) ≡ true
-changes_usual b Stay = refl
-changes_usual b (Began own theirs numbers) = refl
-changes_usual b (Ended because shown numbers number) = refl
+changes_usual : (b : ℕ) (cs : List Transition) → list_all is_usual (change_entries b cs) ≡ true
+changes_usual b [] = refl
+changes_usual b (LinkUp bearer own theirs ∷ cs) = changes_usual b cs
+changes_usual b (LinkDown bearer because shown ∷ cs) = changes_usual b cs
+changes_usual b (ContactUp numbers ∷ cs) = changes_usual b cs
+changes_usual b (ContactDown numbers states shown ∷ cs) = changes_usual b cs
 
 one_usual : (d : Deed) (first : ℕ) (o : Option Neighbour) → list_all is_usual (entries_one d first o) ≡ true
 one_usual d first None = refl
-one_usual d first (Some x) = changes_usual first (done d x).change
+one_usual d first (Some x) = changes_usual first (done d x).changes
 
 all_usual : (d : Deed) (first : ℕ) (xs : List (Option Neighbour)) → list_all is_usual (entries_all d first xs) ≡ true
 unfolding entries_all
@@ -215,8 +217,8 @@ all_usual d first [] = refl
 all_usual d first (x ∷ xs) = all_both is_usual (entries_one d first x) (entries_all d (first + 1) xs) (one_usual d first x) (all_usual d (first + 1) xs)
 
 own_deed : (d : Deed) → IsOwnCall (deed_note d)
-own_deed deed.Mend = tt
-own_deed deed.Cut = tt
+own_deed (deed.Mend bearer) = tt
+own_deed (deed.Cut bearer) = tt
 own_deed deed.Tick = tt
 
 pub deed_shares : (n n' : NodeState) (by : By) (d : Deed) (inside : List Entry) (frames : List Outgoing) (answered : Answer) → IsTold n → IsTold n' → SharesNames n → IsTurnOf n n' by (deed_note d) inside frames answered

@@ -19,9 +19,13 @@ use Rattle.tipc_journal.proofs.NameLaws.{learned_append, live_append}
 use Rattle.tipc_journal.proofs.WholeSteps.{learned_step, live_step}
 use Rattle.tipc_sockets.specs.Telling.{is_payload}
 use Rattle.tipc_sockets.proofs.Closing.{eq_turned}
-use Rattle.tipc_node.specs.Nodes.{NodeState}
+use Rattle.tipc_pair.specs.declared.transitions.Transition.{Transition}
+use Rattle.tipc_pair.specs.declared.transitions.Transition.TheVariants.{ContactDown, ContactUp, LinkDown, LinkUp}
+use Rattle.tipc_node.specs.Neighbours.{is_of_contact}
+use Rattle.tipc_node.specs.Nodes.{NodeState, change_entries}
 use Rattle.tipc_node.specs.Sharing.{flow_with}
 use Rattle.tipc_node.specs.Telling.{IsTold}
+use Rattle.tipc_node.specs.Turns.{is_change_of}
 use Rattle.tipc_node.specs.Works.{addr_of_word}
 use Rattle.tipc_node.proofs.SharingFlows.{accepted_elsewhere}
 
@@ -59,6 +63,38 @@ is_beside b (entry.Learned p) = not (is_of (node_word b) p)
 is_beside b (entry.Forgot p) = not (is_of (node_word b) p)
 is_beside b (entry.ContactDown peer numbers states shown) = not (peer.word == node_word b)
 is_beside b other = true
+
+-- an entry by which the contact with node b ends
+abbrev pub is_end_of : ℕ → Entry → Bool
+is_end_of b (entry.ContactDown peer numbers states shown) = peer.word == node_word b
+is_end_of b other = false
+
+end_changes : (b : ℕ) (e : Entry) → is_end_of b e ≡ true → is_change_of b e ≡ true
+end_changes b (entry.ContactDown peer numbers states shown) is = is
+end_changes b other is = absurd (true≢false (sym is))
+
+-- of those that pass a test that is weaker anyway
+passed_both : {A : Type 0} (test weak : A → Bool) → ((x : A) → test x ≡ true → weak x ≡ true) → (xs : List A) → filter test (filter weak xs) ≡ filter test xs
+passed_both test weak all [] = refl
+passed_both {A} test weak all (x ∷ xs) = by (test x) (weak x) refl refl (passed_both test weak all xs)
+  where
+    by : (b c : Bool) → test x ≡ b → weak x ≡ c → filter test (filter weak xs) ≡ filter test xs → filter test (if c then x ∷ filter weak xs else filter weak xs) ≡ (if b then x ∷ filter test xs else filter test xs)
+    by true true hit passes later = ap (λ t. if t then x ∷ filter test (filter weak xs) else filter test (filter weak xs)) hit ∙ ap (λ ys. x ∷ ys) later
+    by true false hit passes later = absurd (true≢false (sym (all x hit) ∙ passes))
+    by false true hit passes later = ap (λ t. if t then x ∷ filter test (filter weak xs) else filter test (filter weak xs)) hit ∙ later
+    by false false hit passes later = later
+
+-- changes that don't tell of the contact end none
+changes_end : (b : ℕ) (cs : List Transition) → filter is_of_contact cs ≡ [] → filter (is_end_of b) (change_entries b cs) ≡ []
+changes_end b [] none = refl
+changes_end b (LinkUp bearer own theirs ∷ cs) none = changes_end b cs none
+changes_end b (LinkDown bearer because shown ∷ cs) none = changes_end b cs none
+changes_end b (ContactUp numbers ∷ cs) none = absurd (let wrong : ContactUp numbers ∷ filter is_of_contact cs ≡ [] = none in cc)
+changes_end b (ContactDown numbers states shown ∷ cs) none = absurd (let wrong : ContactDown numbers states shown ∷ filter is_of_contact cs ≡ [] = none in cc)
+
+-- a step that tells of such changes alone ends no contact with the peer
+pub none_ends : (b : ℕ) (es : List Entry) (cs : List Transition) → filter (is_change_of b) es ≡ change_entries b cs → filter is_of_contact cs ≡ [] → filter (is_end_of b) es ≡ []
+none_ends b es cs is none = sym (passed_both (is_end_of b) (is_change_of b) (end_changes b) es) ∙ ap (filter (is_end_of b)) is ∙ changes_end b cs none
 
 -- of those that are kept anyway
 kept_both : (test kept : Publication → Bool) → ((p : Publication) → test p ≡ true → kept p ≡ true) → (ps : List Publication) → filter test (filter kept ps) ≡ filter test ps

@@ -13,9 +13,9 @@ use Rattle.tipc_journal.specs.Streams.{Stream, accepted, accepted_message, deliv
 use Rattle.tipc_journal.proofs.StreamLaws.{accepted_step, delivered_step, stream_eq_false, stream_eq_refl}
 use Rattle.tipc_reassembly.specs.declared.opening.Opened.{Opened}
 use Rattle.tipc_reassembly.specs.declared.opening.Opened.TheVariants.{Whole, Passed}
-use Rattle.tipc_link.specs.Links.{LinkEnd}
+use Rattle.tipc_pair.specs.Facing.{PairEnds}
 use Rattle.tipc_pair.specs.declared.changes.PairOutcome.{PairOutcome}
-use Rattle.tipc_pair.specs.Partners.{opened_in}
+use Rattle.tipc_pair.specs.Messages.{opened_in}
 use Rattle.tipc_node.specs.Messages.{message_in}
 use Rattle.tipc_node.specs.Nodes.{accepted_entry, shown_contact}
 use Rattle.tipc_node.specs.Sharing.{flow_with}
@@ -94,9 +94,9 @@ puts_to_other b c numbers shown (m ∷ ms) apart =
     ∙ puts_to_other b c numbers shown ms apart
 
 -- as a turn tells of them
-pub entries_in : (b : ℕ) (e : LinkEnd) (ms : List Message) → map (accepted_entry b e) ms ≡ map (accepted_in b (shown_contact e)) ms
+pub entries_in : (b : ℕ) (x : PairEnds) (ms : List Message) → map (accepted_entry b x) ms ≡ map (accepted_in b (shown_contact x)) ms
 unfolding accepted_in
-entries_in b e ms = refl
+entries_in b x ms = refl
 
 -- ---- what a peer gave
 
@@ -117,14 +117,14 @@ all_elsewhere b numbers shown (o ∷ os) apart =
     ∙ all_elsewhere b numbers shown os apart
 
 -- in another contact
-pub given_elsewhere : (b : ℕ) (numbers : ℕ × ℕ) (e : LinkEnd) (given : PairOutcome) → (e.contact ≡ numbers.0 → ⊥) → delivered (given_entries b e given) (flow_with b numbers) ≡ []
+pub given_elsewhere : (b : ℕ) (numbers : ℕ × ℕ) (x : PairEnds) (given : PairOutcome) → (x.contact ≡ numbers.0 → ⊥) → delivered (given_entries b x given) (flow_with b numbers) ≡ []
 unfolding delivered
-given_elsewhere b numbers e given apart = all_elsewhere b numbers (shown_contact e) (opened_in given) apart
+given_elsewhere b numbers x given apart = all_elsewhere b numbers (shown_contact x) (opened_in given) apart
 
 -- nothing
-pub given_nothing : (b : ℕ) (numbers : ℕ × ℕ) (e : LinkEnd) (given : PairOutcome) → opened_in given ≡ [] → delivered (given_entries b e given) (flow_with b numbers) ≡ []
+pub given_nothing : (b : ℕ) (numbers : ℕ × ℕ) (x : PairEnds) (given : PairOutcome) → opened_in given ≡ [] → delivered (given_entries b x given) (flow_with b numbers) ≡ []
 unfolding delivered
-given_nothing b numbers e given none = ap (λ os. filter_map (delivered_message (flow_with b numbers)) (flat_map (delivered_of b (shown_contact e)) os)) none
+given_nothing b numbers x given none = ap (λ os. filter_map (delivered_message (flow_with b numbers)) (flat_map (delivered_of b (shown_contact x)) os)) none
 
 -- ---- a step
 

@@ -1,5 +1,5 @@
 -- A node shares its names with its peers after a call that changes them: each peer in contact was told of the change.
-use Rattle.std.proofs.Common.{◌≡◌, ◌≤◌, ◌<◌, ◌==◌, ◌&&◌, ℕ, zero, suc, Bool, true, false, cond, not, List, [], ◌∷◌, ◌++◌, Option, Some, None, filter, find, fold, is_some, length, map, if◌then◌else◌, refl, sym, ap, ◌∙◌, subst, true≢false, arith}
+use Rattle.std.proofs.Common.{◌≡◌, ◌≤◌, ◌<◌, ◌==◌, ◌&&◌, ℕ, zero, suc, Bool, true, false, cond, not, List, [], ◌∷◌, ◌++◌, Option, Some, None, filter, find, fold, length, map, if◌then◌else◌, refl, sym, ap, ◌∙◌, subst, true≢false, arith}
 use Rattle.std.specs.Prelude.{count_by, nat_le, nat_lt, option_map, option_to_list, slice_index_or, unwrap_or}
 use Rattle.std.specs.List.{list_all, list_any}
 use Rattle.std.proofs.lemmas.Bool.{and_from, and_parts}
@@ -34,16 +34,16 @@ use Rattle.tipc_sockets.proofs.Keeping.{not_refused}
 use Rattle.tipc_name_table.proofs.Places.{count_by-kept}
 use Rattle.tipc_node.specs.declared.neighbours.Neighbour.{Neighbour}
 use Rattle.tipc_node.specs.Calls.{Tells}
-use Rattle.tipc_node.specs.Nodes.{NodeState, neighbour_of, session_with, shown_contact, step_of}
+use Rattle.tipc_node.specs.Nodes.{NodeState, is_met, neighbour_of, shown_contact, step_of}
 use Rattle.tipc_node.specs.Sharing.{HasTold, SharesNames, flow_with}
 use Rattle.tipc_node.specs.Sockets.{closed_work, crowd_refusal, key_refusal, kept_answer, publication_refusal, published_work, refused_publication, told_closing, told_withdrawal, withdrawal_refusal, withdrawn_entries, withdrawn_work}
 use Rattle.tipc_node.specs.Telling.{IsTold}
-use Rattle.tipc_node.specs.Turns.{addr_of, is_change_of}
+use Rattle.tipc_node.specs.Turns.{addr_of}
 use Rattle.tipc_node.specs.Works.{Work, in_contact}
 use Rattle.tipc_node.proofs.Concluding.{same_turn}
 use Rattle.tipc_node.proofs.Places.{is_within}
 use Rattle.tipc_node.proofs.SharingCalls.{CallShares, IsTurnOf, call_shares, record_shares}
-use Rattle.tipc_node.proofs.SharingEntries.{is_beside, keeps_live, live_then, same_live, sockets_live}
+use Rattle.tipc_node.proofs.SharingEntries.{is_beside, is_end_of, keeps_live, live_then, same_live, sockets_live}
 use Rattle.tipc_node.proofs.SharingFlows.{accepted_in}
 use Rattle.tipc_node.proofs.SharingPeers.{numbers_at, puts_pass, tells_accepts, told_entries, told_once}
 use Rattle.tipc_node.proofs.SharingSteps.{IsOwnCall, linked_by}
@@ -107,7 +107,7 @@ naming_call n journal es told h within shares k is = record { own = subst (AreOw
     lives : live journal ≡ fold live_after (live n.journal) es
     lives = is ∙ fold-append live_after (live n.journal) es more ∙ same_live (fold live_after (live n.journal) es) more (told_pass keeps_live n.neighbours told (in_contact n.neighbours) accepted_keeps)
 
-    beside : (b : ℕ) → (node_word b == n.own) ≡ false → filter (is_change_of b) (es ++ more) ≡ [] → list_all (is_beside b) (es ++ more) ≡ true
+    beside : (b : ℕ) → (node_word b == n.own) ≡ false → filter (is_end_of b) (es ++ more) ≡ [] → list_all (is_beside b) (es ++ more) ≡ true
     beside b apart none =
         list_all-append (is_beside b) es more ∙ ap (λ t. t && list_all (is_beside b) more) (all_naming b es k.named) ∙ told_pass (is_beside b) n.neighbours told (in_contact n.neighbours) (accepted_beside b)
 
@@ -115,11 +115,9 @@ naming_call n journal es told h within shares k is = record { own = subst (AreOw
     telling_of b numbers met =
         let l = linked_by n b numbers h met in
         let high = within b l.neighbour l.there in
-        let abreast = (h.links b).abreast l.neighbour.pair.link (ap (option_map (λ (x : Neighbour). x.pair.link)) l.there) in
-        let session : is_some (session_with (slice_index_or n.neighbours b None)) ≡ true =
-        ap (λ (o : Option Neighbour). is_some (session_with o)) l.there ∙ ap (λ (t : Bool). is_some (if t then l.neighbour.pair.link.session else None)) l.up ∙ abreast.begun l.up in
-        let shown : numbers_at n.neighbours b ≡ numbers = ap (λ (o : Option Neighbour). unwrap_or (option_map (λ (x : Neighbour). shown_contact x.pair.link) o) (0, 0)) l.there ∙ l.shown in
-        let once : accepted more (flow_with b numbers) ≡ told = subst (λ c. accepted more (flow_with b c) ≡ told) shown (told_once n.neighbours told b (low b l.neighbour l.there) high session) in
+        let met_there : is_met (slice_index_or n.neighbours b None) ≡ true = ap is_met l.there ∙ l.up in
+        let shown : numbers_at n.neighbours b ≡ numbers = ap (λ (o : Option Neighbour). unwrap_or (option_map (λ (x : Neighbour). shown_contact x.pair) o) (0, 0)) l.there ∙ l.shown in
+        let once : accepted more (flow_with b numbers) ≡ told = subst (λ c. accepted more (flow_with b c) ≡ told) shown (told_once n.neighbours told b (low b l.neighbour l.there) high met_there) in
         let all : accepted (es ++ more) (flow_with b numbers) ≡ told = accepted_append es more (flow_with b numbers) ∙ ap (λ ms. ms ++ accepted more (flow_with b numbers)) (naming_accepts b numbers es k.named) ∙ once in
         subst (λ ps. HasTold n.own ps (accepted n.journal (flow_with b numbers) ++ accepted (es ++ more) (flow_with b numbers))) (sym lives)
         (subst (λ ms. HasTold n.own (fold live_after (live n.journal) es) (accepted n.journal (flow_with b numbers) ++ ms)) (sym all) (k.leads (accepted n.journal (flow_with b numbers)) (shares.told b numbers met)))

@@ -1,5 +1,5 @@
--- Messages that are put for peers, one behind the other, are accepted in the contacts that their links show.
-use Rattle.std.proofs.Common.{◌≡◌, ◌≤◌, ◌<◌, ◌+◌, ◌==◌, ◌&&◌, ℕ, zero, suc, Bool, true, false, cond, List, [], ◌∷◌, ◌++◌, Option, Some, None, is_some, map, if◌then◌else◌, refl, sym, ap, ◌∙◌, subst, append-nil, append_assoc, inl, inr, eqb-true, arith}
+-- Messages that are put for peers, one behind the other, are accepted in the contacts that their pairs show.
+use Rattle.std.proofs.Common.{◌≡◌, ◌≤◌, ◌<◌, ◌+◌, ◌==◌, ◌&&◌, ℕ, zero, suc, Bool, true, false, cond, List, [], ◌∷◌, ◌++◌, Option, Some, None, map, if◌then◌else◌, refl, sym, ap, ◌∙◌, subst, append-nil, append_assoc, inl, inr, eqb-true, arith}
 use Rattle.std.specs.Prelude.{◌⊎◌, count_by, option_map, slice_index_or, slice_set, unwrap_or}
 use Rattle.std.specs.List.{flat_map, list_all, range_with_len}
 use Rattle.std.proofs.lemmas.Bool.{and_from, cases_eq}
@@ -12,42 +12,46 @@ use Rattle.tipc_journal.specs.declared.entries.Entry.{Entry}
 use Rattle.tipc_journal.specs.Streams.{accepted}
 use Rattle.tipc_journal.proofs.StreamLaws.{accepted_append, accepted_nil}
 use Rattle.tipc_sockets.proofs.Counting.{count_by-agree, count_by-filter}
+use Rattle.tipc_pair.specs.Messages.{pieces_for}
 use Rattle.tipc_node.specs.declared.neighbours.Neighbour.{Neighbour}
-use Rattle.tipc_node.specs.Nodes.{session_with, shown_contact}
+use Rattle.tipc_node.specs.Messages.{bytes_of}
+use Rattle.tipc_node.specs.Nodes.{is_met, shown_contact}
 use Rattle.tipc_node.specs.Sharing.{flow_with}
-use Rattle.tipc_node.specs.Works.{Puts, PutsEach, TellsEach, Work, in_contact, with_put}
+use Rattle.tipc_node.specs.Works.{Puts, PutsEach, TellsEach, Work, in_contact}
 use Rattle.tipc_node.specs.Works.PutsEach.{none_left, one_more}
 use Rattle.tipc_node.specs.Works.TellsEach.{all_told, one_told}
 use Rattle.tipc_node.proofs.Entries.{other_word}
+use Rattle.tipc_node.proofs.PairPuts.{put_meets}
 use Rattle.tipc_node.proofs.Places.{set_there}
 use Rattle.tipc_node.proofs.SharingFlows.{accepted_in, puts_accepted, puts_to_other}
 
--- the contact numbers that the link to a peer shows; where there is no link, some numbers
+-- the contact numbers that the pair to a peer shows; where there is none, some numbers
 abbrev pub numbers_at : List (Option Neighbour) → ℕ → ℕ × ℕ
-numbers_at xs peer = unwrap_or (option_map (λ (x : Neighbour). shown_contact x.pair.link) (slice_index_or xs peer None)) (0, 0)
+numbers_at xs peer = unwrap_or (option_map (λ (x : Neighbour). shown_contact x.pair) (slice_index_or xs peer None)) (0, 0)
 
--- the links show the same
+-- the pairs show the same
 abbrev pub ShowAlike : List (Option Neighbour) → List (Option Neighbour) → Type 0
 ShowAlike xs ys = (b : ℕ) → numbers_at ys b ≡ numbers_at xs b
 
-pub numbers_of : (o : Option Neighbour) (x : Neighbour) → o ≡ Some x → unwrap_or (option_map (λ (y : Neighbour). shown_contact y.pair.link) o) (0, 0) ≡ shown_contact x.pair.link
-numbers_of o x is = ap (λ (p : Option Neighbour). unwrap_or (option_map (λ (y : Neighbour). shown_contact y.pair.link) p) (0, 0)) is
+pub numbers_of : (o : Option Neighbour) (x : Neighbour) → o ≡ Some x → unwrap_or (option_map (λ (y : Neighbour). shown_contact y.pair) o) (0, 0) ≡ shown_contact x.pair
+numbers_of o x is = ap (λ (p : Option Neighbour). unwrap_or (option_map (λ (y : Neighbour). shown_contact y.pair) p) (0, 0)) is
 
-pub set_alike : (xs : List (Option Neighbour)) (peer : ℕ) (x y : Neighbour) → slice_index_or xs peer None ≡ Some x → shown_contact y.pair.link ≡ shown_contact x.pair.link → ShowAlike xs (slice_set xs peer (Some y))
+pub set_alike : (xs : List (Option Neighbour)) (peer : ℕ) (x y : Neighbour) → slice_index_or xs peer None ≡ Some x → shown_contact y.pair ≡ shown_contact x.pair → ShowAlike xs (slice_set xs peer (Some y))
 set_alike xs peer x y was same b = elim (cases_eq b peer) [
   | inl here ↦
       ap (numbers_at (slice_set xs peer (Some y))) here ∙ numbers_of (slice_index_or (slice_set xs peer (Some y)) peer None) y (set_there xs peer x y was) ∙ same
       ∙ sym (numbers_of (slice_index_or xs peer None) x was) ∙ ap (numbers_at xs) (sym here)
-  | inr other ↦ ap (λ (o : Option Neighbour). unwrap_or (option_map (λ (z : Neighbour). shown_contact z.pair.link) o) (0, 0)) (get_or-set_other xs peer b (Some y) None other)
+  | inr other ↦ ap (λ (o : Option Neighbour). unwrap_or (option_map (λ (z : Neighbour). shown_contact z.pair) o) (0, 0)) (get_or-set_other xs peer b (Some y) None other)
 ]
 
 puts_alike : (own : ℕ) (w : Work) (peer : ℕ) (m : Message) (w' : Work) (frames : List Outgoing) → Puts own w peer m w' frames → ShowAlike w.neighbours w'.neighbours
 puts_alike own w peer m w' frames p =
-    subst (ShowAlike w.neighbours) (sym (ap (λ (v : Work). v.neighbours) p.after)) (set_alike w.neighbours peer p.neighbour (with_put p.neighbour p.put) p.was refl)
+    let meets = put_meets p.neighbour.pair (pieces_for (bytes_of own m)) p.then.pair frames p.puts.puts in
+    subst (ShowAlike w.neighbours) (sym (ap (λ (v : Work). v.neighbours) p.after)) (set_alike w.neighbours peer p.neighbour p.then p.was (ap (λ k. (k, p.then.pair.seen)) meets.contact ∙ ap (λ k. (p.neighbour.pair.contact, k)) meets.seen))
 
 -- ---- one peer
 
--- these entries are added, the sockets stay, and each link shows what it showed
+-- these entries are added, the sockets stay, and each pair shows what it showed
 pub record Accepts (w w' : Work) (es : List Entry) : Type 0 where
   pub inside : w'.inside ≡ w.inside ++ es
   pub sockets : w'.sockets ≡ w.sockets
@@ -184,20 +188,20 @@ and_none true = refl
 and_none false = refl
 
 -- a peer in contact is told once
-contact_once : (xs : List (Option Neighbour)) (b : ℕ) → 1 ≤ b → b ≤ 32 → is_some (session_with (slice_index_or xs b None)) ≡ true → count_by (λ p. p == b) (in_contact xs) ≡ 1
+contact_once : (xs : List (Option Neighbour)) (b : ℕ) → 1 ≤ b → b ≤ 32 → is_met (slice_index_or xs b None) ≡ true → count_by (λ p. p == b) (in_contact xs) ≡ 1
 unfolding in_contact
 contact_once xs b low high there =
-    count_by-filter (λ p. p == b) (λ p. is_some (session_with (slice_index_or xs p None))) (range_with_len 1 32)
-    ∙ count_by-agree (λ p. is_some (session_with (slice_index_or xs p None)) && (p == b)) (λ p. p == b) same (range_with_len 1 32)
+    count_by-filter (λ p. p == b) (λ p. is_met (slice_index_or xs p None)) (range_with_len 1 32)
+    ∙ count_by-agree (λ p. is_met (slice_index_or xs p None) && (p == b)) (λ p. p == b) same (range_with_len 1 32)
     ∙ range_once b 1 32 low (omega (arith, high))
   where
-    same : (p : ℕ) → is_some (session_with (slice_index_or xs p None)) && (p == b) ≡ (p == b)
+    same : (p : ℕ) → is_met (slice_index_or xs p None) && (p == b) ≡ (p == b)
     same p = by (p == b) refl
       where
-        by : (t : Bool) → (p == b) ≡ t → is_some (session_with (slice_index_or xs p None)) && (p == b) ≡ (p == b)
-        by true is = let here : p ≡ b = eqb-true _ _ is in ap (λ t. t && (p == b)) (ap (λ q. is_some (session_with (slice_index_or xs q None))) here ∙ there)
-        by false is = ap (λ t. is_some (session_with (slice_index_or xs p None)) && t) is ∙ and_none (is_some (session_with (slice_index_or xs p None))) ∙ sym is
+        by : (t : Bool) → (p == b) ≡ t → is_met (slice_index_or xs p None) && (p == b) ≡ (p == b)
+        by true is = let here : p ≡ b = eqb-true _ _ is in ap (λ t. t && (p == b)) (ap (λ q. is_met (slice_index_or xs q None)) here ∙ there)
+        by false is = ap (λ t. is_met (slice_index_or xs p None) && t) is ∙ and_none (is_met (slice_index_or xs p None)) ∙ sym is
 
-pub told_once : (xs : List (Option Neighbour)) (ms : List Message) (b : ℕ) → 1 ≤ b → b ≤ 32 → is_some (session_with (slice_index_or xs b None)) ≡ true
+pub told_once : (xs : List (Option Neighbour)) (ms : List Message) (b : ℕ) → 1 ≤ b → b ≤ 32 → is_met (slice_index_or xs b None) ≡ true
     → accepted (told_entries xs ms (in_contact xs)) (flow_with b (numbers_at xs b)) ≡ ms
 told_once xs ms b low high there = told_times xs ms b (in_contact xs) ∙ once ms b (in_contact xs) (contact_once xs b low high there)

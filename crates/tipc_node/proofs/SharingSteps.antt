@@ -1,6 +1,6 @@
 -- A node shares its names with its peers after a step, where it does with each peer that is in contact then.
 use Rattle.std.proofs.Common.{◌≡◌, ◌==◌, ℕ, Bool, true, false, List, [], Option, Some, None, filter, refl, sym, ap, ◌∙◌, subst, true≢false, eqb-true}
-use Rattle.std.specs.Prelude.{if◌then◌else◌, option_and_then, option_map}
+use Rattle.std.specs.Prelude.{IfSome, if◌then◌else◌, option_and_then, option_map}
 use Rattle.tipc_types.specs.Address.{node_word}
 use Rattle.tipc_types.specs.declared.node_calls.EventNote.{EventNote}
 use Rattle.tipc_types.specs.declared.node_calls.EventNote.TheVariants as event
@@ -12,38 +12,37 @@ use Rattle.tipc_journal.specs.Contacts.{contact}
 use Rattle.tipc_journal.specs.Names.{live}
 use Rattle.tipc_journal.specs.Steps.{NodeStep}
 use Rattle.tipc_journal.specs.Streams.{accepted, delivered}
-use Rattle.tipc_link_fsm.specs.Table.{is_up}
-use Rattle.tipc_link.specs.Links.{LinkEnd}
-use Rattle.tipc_pair.specs.declared.changes.PairChange.{PairChange}
-use Rattle.tipc_pair.specs.declared.changes.PairChange.TheVariants.{Stay, Began, Ended}
-use Rattle.tipc_pair.specs.Pairs.{contact_of}
-use Rattle.tipc_pair.specs.Partners.{PairState, opened_in}
-use Rattle.tipc_pair.specs.Turns.{Happened, Opening, Outset}
-use Rattle.tipc_pair.specs.Turns.Opening.{cuts, hears, mends, rests, ticks}
+use Rattle.tipc_pair.specs.Facing.{PairEnds, contact_between, in_contact}
+use Rattle.tipc_pair.specs.Messages.{opened_in}
+use Rattle.tipc_pair.specs.PairTurns.{Happened, Opening, Outset}
+use Rattle.tipc_pair.specs.PairTurns.Opening.{cuts, hears, makes, mends, rests, ticks}
 use Rattle.tipc_node.specs.declared.neighbours.Neighbour.{Neighbour}
-use Rattle.tipc_node.specs.Nodes.{NodeState, change_entries, neighbour_of, shown_contact}
+use Rattle.tipc_node.specs.Neighbours.{is_of_contact}
+use Rattle.tipc_node.specs.Nodes.{NodeState, neighbour_of, shown_contact}
 use Rattle.tipc_node.specs.Sharing.{HasTold, SharesNames, flow_with}
-use Rattle.tipc_node.specs.Telling.{IsTold}
-use Rattle.tipc_node.specs.Turns.{NodeTurn, PeerTurn, Suits, addr_of, is_change_of}
+use Rattle.tipc_node.specs.Telling.{AreAbreast, IsTold}
+use Rattle.tipc_node.specs.Turns.{NodeTurn, PeerTurn, Suits, addr_of}
 use Rattle.tipc_node.specs.Works.{addr_of_word}
-use Rattle.tipc_node.proofs.Moves.{IsCutOff, IsSilenced, Tells}
+use Rattle.tipc_node.proofs.Moves.{same_contact}
+use Rattle.tipc_node.proofs.PairEvents.{is_arrival}
+use Rattle.tipc_node.proofs.PairTells.{IsFall, Means, Story, began, contact_changes, ended, stays}
+use Rattle.tipc_node.proofs.SharingEntries.{is_end_of, none_ends}
 use Rattle.tipc_node.proofs.SharingFlows.{delivered_of_peer, given_nothing}
-use Rattle.tipc_node.proofs.SharingUnused.{turn_unused, was_there}
-use Rattle.tipc_node.proofs.TurnMoves.{MovesBy, turn_moves}
+use Rattle.tipc_node.proofs.SharingUnused.{peer_means, turn_unused, was_there}
 
 -- ---- a contact
 
--- the link to a peer in contact is up, and shows the numbers of the contact
+-- the pair to a peer in contact shows the numbers of the contact
 pub record IsLinkedBy (n : NodeState) (b : ℕ) (numbers : ℕ × ℕ) : Type 0 where
   pub neighbour : Neighbour
   pub there : neighbour_of n b ≡ Some neighbour
-  pub up : is_up neighbour.pair.link.fsm.state ≡ true
-  pub shown : shown_contact neighbour.pair.link ≡ numbers
+  pub up : in_contact neighbour.pair ≡ true
+  pub shown : shown_contact neighbour.pair ≡ numbers
 
-pub shown_by : (e : LinkEnd) (numbers : ℕ × ℕ) → contact_of e ≡ Some numbers → (is_up e.fsm.state ≡ true) × (shown_contact e ≡ numbers)
-shown_by e numbers is = by (is_up e.fsm.state) refl is
+pub shown_by : (x : PairEnds) (numbers : ℕ × ℕ) → contact_between x ≡ Some numbers → (in_contact x ≡ true) × (shown_contact x ≡ numbers)
+shown_by x numbers is = by (in_contact x) refl is
   where
-    by : (b : Bool) → is_up e.fsm.state ≡ b → (if b then Some (e.contact, e.peer_contact) else None) ≡ Some numbers → (is_up e.fsm.state ≡ true) × (shown_contact e ≡ numbers)
+    by : (b : Bool) → in_contact x ≡ b → (if b then Some (x.contact, x.seen) else None) ≡ Some numbers → (in_contact x ≡ true) × (shown_contact x ≡ numbers)
     by true up some = (up, cc)
     by false down none = absurd cc
 
@@ -52,16 +51,16 @@ linked_by n b numbers h is = by (neighbour_of n b) refl
   where
     by : (o : Option Neighbour) → neighbour_of n b ≡ o → IsLinkedBy n b numbers
     by None none =
-        let alone : contact n.journal (addr_of b) ≡ None = (h.links b).contact_is ∙ ap (λ (o : Option Neighbour). option_and_then contact_of (option_map (λ (x : Neighbour). x.pair.link) o)) none in
+        let alone : contact n.journal (addr_of b) ≡ None = (h.links b).contact_is ∙ ap (λ (o : Option Neighbour). option_and_then contact_between (option_map (λ (x : Neighbour). x.pair) o)) none in
         absurd (let wrong : ◌≡◌ {A = Option (ℕ × ℕ)} (Some numbers) None = sym is ∙ alone in cc)
     by (Some x) there =
-        let met : contact_of x.pair.link ≡ Some numbers = ap (λ (o : Option Neighbour). option_and_then contact_of (option_map (λ (y : Neighbour). y.pair.link) o)) (sym there) ∙ sym (h.links b).contact_is ∙ is in
-        let both = shown_by x.pair.link numbers met in
+        let met : contact_between x.pair ≡ Some numbers = ap (λ (o : Option Neighbour). option_and_then contact_between (option_map (λ (y : Neighbour). y.pair) o)) (sym there) ∙ sym (h.links b).contact_is ∙ is in
+        let both = shown_by x.pair numbers met in
         record { neighbour = x; there = there; up = both.0; shown = both.1 }
 
--- the contact with a neighbour is that of its link
-pub contact_there : (n : NodeState) (b : ℕ) (x : Neighbour) → IsTold n → neighbour_of n b ≡ Some x → contact n.journal (addr_of b) ≡ contact_of x.pair.link
-contact_there n b x h there = (h.links b).contact_is ∙ ap (λ (o : Option Neighbour). option_and_then contact_of (option_map (λ (y : Neighbour). y.pair.link) o)) there
+-- the contact with a neighbour is that of its pair
+pub contact_there : (n : NodeState) (b : ℕ) (x : Neighbour) → IsTold n → neighbour_of n b ≡ Some x → contact n.journal (addr_of b) ≡ contact_between x.pair
+contact_there n b x h there = (h.links b).contact_is ∙ ap (λ (o : Option Neighbour). option_and_then contact_between (option_map (λ (y : Neighbour). y.pair) o)) there
 
 -- a node isn't in contact with itself
 pub other_than : (n : NodeState) (b : ℕ) (numbers : ℕ × ℕ) → IsTold n → contact n.journal (addr_of b) ≡ Some numbers → (node_word b == n.own) ≡ false
@@ -95,53 +94,38 @@ abbrev pub IsOwnCall : EventNote → Type 0
 IsOwnCall (event.Arrive bearer number) = ⊥
 IsOwnCall other = Unit {0}
 
--- no contact begins
-abbrev BeginsNone : PairChange → Type 0
-BeginsNone Stay = Unit {0}
-BeginsNone (Began own theirs numbers) = ⊥
-BeginsNone (Ended because shown numbers number) = Unit {0}
+-- then nothing is given at any pair
+calm : (note : EventNote) (x : PairEnds) (opening : Opening) (o : Outset) → IsOwnCall note → Suits note opening → Happened x opening o → (is_arrival opening ≡ false) × (opened_in o.given ≡ [])
+calm note x rests o own suits is = (refl, ap (λ (p : Outset). opened_in p.given) is)
+calm note x (makes bearer is_mended) o own suits is = absurd suits
+calm note x (mends bearer) o own suits is = (refl, ap (λ (p : Outset). opened_in p.given) is)
+calm note x (cuts bearer) o own suits is = (refl, ap (λ (p : Outset). opened_in p.given) is)
+calm note x (ticks shown) o own suits is = (refl, ap (λ (p : Outset). opened_in p.given) is)
+calm note x (hears bearer es er p by shown) o own suits is = absurd (subst IsOwnCall suits own)
 
-cut_begins : (c : PairChange) → IsCutOff c → BeginsNone c
-cut_begins Stay h = tt
-cut_begins (Began own theirs numbers) h = h
-cut_begins (Ended because shown numbers number) h = tt
-
-silent_begins : (e : LinkEnd) (c : PairChange) → IsSilenced e c → BeginsNone c
-silent_begins e Stay h = tt
-silent_begins e (Began own theirs numbers) h = h
-silent_begins e (Ended because shown numbers number) h = tt
-
--- then no contact begins at any pair, and nothing is given
-calm : (note : EventNote) (x : PairState) (e' : LinkEnd) (opening : Opening) (o : Outset) → IsOwnCall note → Suits note opening → MovesBy x.link opening o e' → Happened x opening o → BeginsNone o.change × (opened_in o.given ≡ [])
-calm note x e' rests o own suits moved is = (subst BeginsNone (sym moved.0) tt, ap (λ (p : Outset). opened_in p.given) is)
-calm note x e' mends o own suits moved is = (subst BeginsNone (sym moved.0) tt, ap (λ (p : Outset). opened_in p.given) is)
-calm note x e' cuts o own suits moved is = (cut_begins o.change moved.0, ap (λ (p : Outset). opened_in p.given) is)
-calm note x e' (ticks shown) o own suits moved is = (silent_begins x.link o.change moved.0, ap (λ (p : Outset). opened_in p.given) is)
-calm note x e' (hears es er p by shown) o own suits moved is = absurd (subst IsOwnCall suits own)
-
--- a contact that there is after a step was there before it; the step tells of no change of it, and nothing was delivered in it
+-- a contact that there is after a step was there before it; the step doesn't tell of its end, and nothing was delivered in it
 pub record IsSteady (n : NodeState) (s : NodeStep) (b : ℕ) (numbers : ℕ × ℕ) : Type 0 where
   pub before : contact n.journal (addr_of b) ≡ Some numbers
-  pub changes : filter (is_change_of b) s.inside ≡ []
+  pub no_end : filter (is_end_of b) s.inside ≡ []
   pub none_delivered : delivered s.inside (flow_with b numbers) ≡ []
 
 steady_at : (n : NodeState) (bytes : List ℕ) (s : NodeStep) (frames : List Outgoing) (b : ℕ) (numbers : ℕ × ℕ) (x y : Neighbour) → IsTold n → neighbour_of n b ≡ Some x → PeerTurn n.own bytes s frames b x.pair y.pair → IsOwnCall s.event
-    → is_up y.pair.link.fsm.state ≡ true → contact_of y.pair.link ≡ Some numbers → IsSteady n s b numbers
+    → in_contact y.pair ≡ true → contact_between y.pair ≡ Some numbers → IsSteady n s b numbers
 steady_at n bytes s frames b numbers x y h there p own up met =
     let first = p.turn.first in
-    let abreast = (h.links b).abreast x.pair.link (ap (option_map (λ (z : Neighbour). z.pair.link)) there) in
-    let moves = turn_moves x.pair y.pair p.opening _ p.reply p.own_frames abreast p.turn in
-    let quiet = calm s.event x.pair y.pair.link p.opening first own p.suits moves.moved p.turn.happened in
-    by first.change refl moves.tells quiet.0 quiet.1
+    let abreast = subst (λ o. IfSome o AreAbreast) (ap (option_map (λ (z : Neighbour). z.pair)) there) (h.links b).abreast in
+    let m = peer_means n.own bytes s frames b x.pair y.pair abreast p in
+    let quiet = calm s.event x.pair p.opening first own p.suits p.turn.happened in
+    by m.story m.story_is m.means (m.falls quiet.0) quiet.1
   where
-    by : (c : PairChange) → p.turn.first.change ≡ c → Tells x.pair.link y.pair.link c → BeginsNone c → opened_in p.turn.first.given ≡ [] → IsSteady n s b numbers
-    by Stay is tells none nothing = record {
-      before = contact_there n b x h there ∙ sym tells.0 ∙ met;
-      changes = p.changes ∙ ap (change_entries b) is;
-      none_delivered = delivered_of_peer b numbers s.inside _ [] p.delivered (given_nothing b numbers p.turn.first.pair.link p.turn.first.given nothing);
+    by : (story : Story) → filter is_of_contact p.turn.first.course.changes ≡ contact_changes story → Means x.pair y.pair story → IsFall story → opened_in p.turn.first.given ≡ [] → IsSteady n s b numbers
+    by stays is means fall nothing = record {
+      before = contact_there n b x h there ∙ sym (same_contact x.pair y.pair means.0 means.1 (means.2 (sym means.0 ∙ up))) ∙ met;
+      no_end = none_ends b s.inside p.turn.first.course.changes p.changes is;
+      none_delivered = delivered_of_peer b numbers s.inside _ [] p.delivered (given_nothing b numbers x.pair p.turn.first.given nothing);
     }
-    by (Began mine theirs later) is tells none nothing = absurd none
-    by (Ended because shown later number) is tells none nothing = absurd (true≢false (sym up ∙ tells.2))
+    by (began fresh) is means fall nothing = absurd fall
+    by (ended gone states shown) is means fall nothing = absurd (true≢false (sym up ∙ means.2))
 
 pub call_steady : (n n' : NodeState) (bytes : List ℕ) (s : NodeStep) (frames : List Outgoing) (b : ℕ) (numbers : ℕ × ℕ) → IsTold n → IsTold n' → NodeTurn n n' bytes s frames → IsOwnCall s.event → contact n'.journal (addr_of b) ≡ Some numbers
     → IsSteady n s b numbers

@@ -1,5 +1,5 @@
 -- The entries that the work on a message adds to a step, and what it makes of the names that the sockets hold.
-use Rattle.std.proofs.Common.{◌≡◌, ◌&&◌, ℕ, Bool, true, false, List, [], ◌∷◌, ◌++◌, refl, sym, ap, ◌∙◌, subst, append-nil, append_assoc}
+use Rattle.std.proofs.Common.{◌≡◌, ◌&&◌, ℕ, Bool, true, false, List, [], ◌∷◌, ◌++◌, refl, sym, ap, ◌∙◌, subst, append_assoc}
 use Rattle.std.specs.List.{list_all}
 use Rattle.std.proofs.lemmas.Bool.{and_from}
 use Rattle.std.proofs.lemmas.List.Folds.{list_all-append}
@@ -34,9 +34,6 @@ pub record AddsOf (test : Entry → Bool) (w w' : Work) : Type 0 where
 
 pub all_both : (test : Entry → Bool) (xs ys : List Entry) → list_all test xs ≡ true → list_all test ys ≡ true → list_all test (xs ++ ys) ≡ true
 all_both test xs ys h k = list_all-append test xs ys ∙ ap (λ b. b && list_all test ys) h ∙ k
-
-pub adds_nothing : (test : Entry → Bool) (w w' : Work) → w'.inside ≡ w.inside → AddsOf test w w'
-adds_nothing test w w' is = record { entries = []; inside = is ∙ sym (append-nil w.inside); all = refl }
 
 pub adds_one : (test : Entry → Bool) (w w' : Work) (e : Entry) → w'.inside ≡ w.inside ++ e ∷ [] → test e ≡ true → AddsOf test w w'
 adds_one test w w' e is passes = record { entries = e ∷ []; inside = is; all = and_from (test e) true passes refl }

@@ -13,7 +13,7 @@ use Rattle.tipc_sockets.specs.declared.fates.Fate.TheVariants.{Queued, Returned,
 use Rattle.tipc_sockets.specs.SocketTables.{SocketTable}
 use Rattle.tipc_node.specs.declared.arriving.Delivery.{Delivery}
 use Rattle.tipc_node.specs.declared.neighbours.Neighbour.{Neighbour}
-use Rattle.tipc_node.specs.Works.{Delivers, DeliversAll, DeliversTo, Follows, GoesBack, Puts, PutsEach, Work, addr_of_word, fate_of, fated, noted, with_put}
+use Rattle.tipc_node.specs.Works.{Delivers, DeliversAll, DeliversTo, Follows, GoesBack, Puts, PutsEach, Work, addr_of_word, fate_of, fated, noted}
 use Rattle.tipc_node.specs.Works.DeliversAll.{none_left, one_more}
 use Rattle.tipc_node.specs.Works.PutsEach.{none_left as none_put, one_more as one_put}
 use Rattle.tipc_node.proofs.Changes.{IsSameNode, same_folded}
@@ -72,7 +72,7 @@ set_there (x ∷ xs) (suc i) (suc k) y there = set_there xs i k y there
 
 pub there_stable : (own k : ℕ) → IsStable own (λ w. is_there k w.neighbours ≡ true)
 there_stable own k = record {
-  put = λ w peer m w' frames h is. ap (λ (u : Work). is_there k u.neighbours) h.after ∙ set_there w.neighbours peer k (with_put h.neighbour h.put) is;
+  put = λ w peer m w' frames h is. ap (λ (u : Work). is_there k u.neighbours) h.after ∙ set_there w.neighbours peer k h.then is;
   fate = λ w m f is. is;
   note = λ w es is. is;
 }

@@ -1,5 +1,5 @@
 -- Why a frame reaches no link.
-use Rattle.std.proofs.Common.{◌≡◌, ◌⊎◌, ℕ, ◌-◌, ◌<◌, Bool, true, false, List, Option, Some, None, length, drop, refl, sym, ap, ◌∙◌, subst, arith}
+use Rattle.std.proofs.Common.{◌≡◌, ◌⊎◌, ℕ, ◌-◌, ◌<◌, ◌≤◌, ◌==◌, ◌&&◌, Bool, true, false, List, Option, Some, None, length, drop, refl, sym, ap, ◌∙◌, subst, arith}
 use Rattle.std.specs.Prelude.{if◌then◌else◌, is_some, slice_index_or}
 use Rattle.std.proofs.lemmas.Bool.Decides.{nat_tests}
 use Rattle.std.proofs.Math.Seq.{drop-append_seam}
@@ -13,7 +13,7 @@ use Rattle.tipc_header.specs.Spelling.{Fields}
 use Rattle.tipc_header.proofs.FrameWords.{length-envelope}
 use Rattle.tipc_node.specs.declared.neighbours.Neighbour.{Neighbour}
 use Rattle.tipc_node.specs.Limits.{most_frame_bytes}
-use Rattle.tipc_node.specs.Nodes.{is_frame_size, is_other, stop_among, stop_by_fault, stop_by_sender}
+use Rattle.tipc_node.specs.Nodes.{end_with, is_frame_size, is_mended_on, is_other, stop_among, stop_by_fault, stop_by_sender}
 
 abbrev pub IsBadSize : ℕ → Type 0
 IsBadSize n = (n < 16) ⊎ (most_frame_bytes < n)
@@ -27,55 +27,69 @@ packet_in first second packet frame is =
     ap (drop 16) is ∙ subst (λ k. drop k (frame_of first second packet) ≡ packet) (length-envelope first second) (drop-append_seam (envelope first second) packet)
 
 -- a frame was opened, on a bearer that is mended
-pub record IsOpened (mended : Bool) (bearer : ℕ) (bytes : List ℕ) (first second : ℕ) (packet : List ℕ) : Type 0 where
-  pub open_bearer : mended ≡ true
-  pub first_bearer : bearer ≡ 0
+pub record IsOpened (mended : Bool × Bool) (bearer : ℕ) (bytes : List ℕ) (first second : ℕ) (packet : List ℕ) : Type 0 where
+  pub open_bearer : is_mended_on mended bearer ≡ true
   pub size : IsBadSize (length bytes) → ⊥
   pub opened : bytes ≡ frame_of first second packet
 
 -- it was, where opening it tells so
-pub opened_at : (mended : Bool) (bearer : ℕ) (bytes : List ℕ) (first second : ℕ) (packet : List ℕ) → mended ≡ true → bearer ≡ 0 → (IsBadSize (length bytes) → true ≡ false) → bytes ≡ frame_of first second packet
+pub opened_at : (mended : Bool × Bool) (bearer : ℕ) (bytes : List ℕ) (first second : ℕ) (packet : List ℕ) → is_mended_on mended bearer ≡ true → (IsBadSize (length bytes) → true ≡ false) → bytes ≡ frame_of first second packet
     → IsOpened mended bearer bytes first second packet
-opened_at mended bearer bytes first second packet is_mended is_first good is =
-    record { open_bearer = is_mended; first_bearer = is_first; size = λ bad. (let wrong : true ≡ false = good bad in let no_way : ⊥ = cc in no_way); opened = is }
+opened_at mended bearer bytes first second packet is_mended good is =
+    record { open_bearer = is_mended; size = λ bad. (let wrong : true ≡ false = good bad in let no_way : ⊥ = cc in no_way); opened = is }
 
-by_fault : (own : ℕ) (mended : Bool) (xs : List (Option Neighbour)) (bearer : ℕ) (bytes : List ℕ) (first second : ℕ) (packet : List ℕ) → IsOpened mended bearer bytes first second packet
-    → stop_among own mended xs bearer bytes ≡ stop_by_fault own xs bytes (fault_of (drop 16 bytes))
+by_fault : (own : ℕ) (mended : Bool × Bool) (xs : List (Option Neighbour)) (bearer : ℕ) (bytes : List ℕ) (first second : ℕ) (packet : List ℕ) → IsOpened mended bearer bytes first second packet
+    → stop_among own mended xs bearer bytes ≡ stop_by_fault own xs bearer bytes (fault_of (drop 16 bytes))
 unfolding stop_among
-by_fault own mended xs bearer bytes first second packet o = rw o.open_bearer (rw o.first_bearer (rw (good_size (length bytes) o.size) refl))
+by_fault own mended xs bearer bytes first second packet o = ap (λ b. if b then (if is_frame_size (length bytes) then stop_by_fault own xs bearer bytes (fault_of (drop 16 bytes)) else Some why.Envelope) else Some why.Cut) o.open_bearer
+    ∙ ap (λ b. if b then stop_by_fault own xs bearer bytes (fault_of (drop 16 bytes)) else Some why.Envelope) (good_size (length bytes) o.size)
 
 -- the packet has a fault
-pub stop_header : (own : ℕ) (mended : Bool) (xs : List (Option Neighbour)) (bearer : ℕ) (bytes : List ℕ) (first second : ℕ) (packet : List ℕ) (fault : HeaderFault) → IsOpened mended bearer bytes first second packet
+pub stop_header : (own : ℕ) (mended : Bool × Bool) (xs : List (Option Neighbour)) (bearer : ℕ) (bytes : List ℕ) (first second : ℕ) (packet : List ℕ) (fault : HeaderFault) → IsOpened mended bearer bytes first second packet
     → fault_of packet ≡ Some fault → stop_among own mended xs bearer bytes ≡ Some (why.Header (number_of fault))
 stop_header own mended xs bearer bytes first second packet fault o has =
-    by_fault own mended xs bearer bytes first second packet o ∙ ap (stop_by_fault own xs bytes) (ap fault_of (packet_in first second packet bytes o.opened) ∙ has)
+    by_fault own mended xs bearer bytes first second packet o ∙ ap (stop_by_fault own xs bearer bytes) (ap fault_of (packet_in first second packet bytes o.opened) ∙ has)
 
 previous_at : (packet : List ℕ) → (fields_at packet).previous ≡ word_at 3 packet
 unfolding fields_at
 previous_at packet = refl
 
 -- the packet has no fault: by the sender that it names
-pub by_sender : (own : ℕ) (mended : Bool) (xs : List (Option Neighbour)) (bearer : ℕ) (bytes : List ℕ) (first second : ℕ) (packet : List ℕ) (p : Fields) → IsOpened mended bearer bytes first second packet
-    → fault_of packet ≡ None → p ≡ fields_at packet → stop_among own mended xs bearer bytes ≡ stop_by_sender own xs p.previous
+pub by_sender : (own : ℕ) (mended : Bool × Bool) (xs : List (Option Neighbour)) (bearer : ℕ) (bytes : List ℕ) (first second : ℕ) (packet : List ℕ) (p : Fields) → IsOpened mended bearer bytes first second packet
+    → fault_of packet ≡ None → p ≡ fields_at packet → stop_among own mended xs bearer bytes ≡ stop_by_sender own xs bearer p.previous
 by_sender own mended xs bearer bytes first second packet p o none read =
     by_fault own mended xs bearer bytes first second packet o
-    ∙ ap (stop_by_fault own xs bytes) (ap fault_of (packet_in first second packet bytes o.opened) ∙ none)
-    ∙ ap (stop_by_sender own xs) (ap (word_at 3) (packet_in first second packet bytes o.opened) ∙ sym (previous_at packet) ∙ ap (λ (q : Fields). q.previous) (sym read))
+    ∙ ap (stop_by_fault own xs bearer bytes) (ap fault_of (packet_in first second packet bytes o.opened) ∙ none)
+    ∙ ap (stop_by_sender own xs bearer) (ap (word_at 3) (packet_in first second packet bytes o.opened) ∙ sym (previous_at packet) ∙ ap (λ (q : Fields). q.previous) (sym read))
 
 -- it is no other node
-pub sender_own : (own : ℕ) (xs : List (Option Neighbour)) (word : ℕ) → is_other own word ≡ false → stop_by_sender own xs word ≡ Some why.Own
-sender_own own xs word self = rw self refl
+pub sender_own : (own : ℕ) (xs : List (Option Neighbour)) (bearer word : ℕ) → is_other own word ≡ false → stop_by_sender own xs bearer word ≡ Some why.Own
+sender_own own xs bearer word self = rw self refl
 
-by_neighbour : (own : ℕ) (xs : List (Option Neighbour)) (peer word : ℕ) (known : Bool) → is_other own word ≡ true → word ≡ node_word peer → is_some (slice_index_or xs peer None) ≡ known
-    → stop_by_sender own xs word ≡ (if known then None else Some why.Unknown)
-by_neighbour own xs peer word known other is has =
+by_neighbour : (own : ℕ) (xs : List (Option Neighbour)) (bearer peer word : ℕ) (known : Bool) → is_other own word ≡ true → word ≡ node_word peer → is_some (end_with bearer (slice_index_or xs peer None)) ≡ known
+    → stop_by_sender own xs bearer word ≡ (if known then None else Some why.Unknown)
+by_neighbour own xs bearer peer word known other is has =
     let number : word - node_word 0 ≡ peer = omega (arith, is) in
-    (rw other refl) ∙ ap (λ k. if is_some (slice_index_or xs k None) then None else Some why.Unknown) number ∙ ap (λ b. if b then None else Some why.Unknown) has
+    (rw other refl) ∙ ap (λ k. if is_some (end_with bearer (slice_index_or xs k None)) then None else Some why.Unknown) number ∙ ap (λ b. if b then None else Some why.Unknown) has
 
 -- there is no link end to the sender
-pub sender_unknown : (own : ℕ) (xs : List (Option Neighbour)) (peer word : ℕ) → is_other own word ≡ true → word ≡ node_word peer → is_some (slice_index_or xs peer None) ≡ false → stop_by_sender own xs word ≡ Some why.Unknown
-sender_unknown own xs peer word other is has = by_neighbour own xs peer word false other is has
+pub sender_unknown : (own : ℕ) (xs : List (Option Neighbour)) (bearer peer word : ℕ) → is_other own word ≡ true → word ≡ node_word peer → is_some (end_with bearer (slice_index_or xs peer None)) ≡ false → stop_by_sender own xs bearer word ≡ Some why.Unknown
+sender_unknown own xs bearer peer word other is has = by_neighbour own xs bearer peer word false other is has
 
--- the sender is a neighbour
-pub sender_known : (own : ℕ) (xs : List (Option Neighbour)) (peer word : ℕ) → is_other own word ≡ true → word ≡ node_word peer → is_some (slice_index_or xs peer None) ≡ true → stop_by_sender own xs word ≡ None
-sender_known own xs peer word other is has = by_neighbour own xs peer word true other is has
+-- there is one
+pub sender_known : (own : ℕ) (xs : List (Option Neighbour)) (bearer peer word : ℕ) → is_other own word ≡ true → word ≡ node_word peer → is_some (end_with bearer (slice_index_or xs peer None)) ≡ true → stop_by_sender own xs bearer word ≡ None
+sender_known own xs bearer peer word other is has = by_neighbour own xs bearer peer word true other is has
+
+-- a bearer that is mended is one of the two
+pub mended_two : (mended : Bool × Bool) (bearer : ℕ) → is_mended_on mended bearer ≡ true → bearer ≤ 1
+mended_two mended bearer is = by (bearer == 0) (bearer == 1) refl refl is
+  where
+    by : (first second : Bool) → (bearer == 0) ≡ first → (bearer == 1) ≡ second → (if first then mended.0 else (second && mended.1)) ≡ true → bearer ≤ 1
+    by true second one two on = grind (arith, nat_tests, one)
+    by false true one two on = grind (arith, nat_tests, two)
+    by false false one two on = cc
+
+-- a peer to which there is a link end is known
+pub end_known : (bearer : ℕ) (place : Option Neighbour) → is_some (end_with bearer place) ≡ true → is_some place ≡ true
+end_known bearer None there = there
+end_known bearer (Some x) there = refl

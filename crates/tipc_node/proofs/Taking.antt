@@ -1,5 +1,5 @@
 -- What the code of an arrival did to the parts of a node is what the arrival makes of it.
-use Rattle.std.proofs.Common.{◌≡◌, ℕ, zero, suc, ◌<◌, ◌≤◌, true, false, List, [], ◌∷◌, ◌++◌, Option, Some, None, length, length-set, refl, sym, ap, subst, ◌∙◌, arith}
+use Rattle.std.proofs.Common.{◌≡◌, ℕ, zero, suc, ◌<◌, ◌≤◌, true, List, [], ◌∷◌, ◌++◌, Option, Some, None, length, length-set, refl, sym, ap, subst, ◌∙◌, arith}
 use Rattle.std.specs.Prelude.{is_some, fold, slice_index_or, slice_set}
 use Rattle.std.specs.List.{list_all}
 use Rattle.std.proofs.lemmas.List.{get_or-set_other, get_or-set_same, get_or_default}
@@ -12,10 +12,8 @@ use Rattle.tipc_types.specs.declared.node_calls.EventNote.TheVariants.{Arrive}
 use Rattle.tipc_outside.specs.Frames.{Adds, Out}
 use Rattle.tipc_header.specs.Spelling.{view}
 use Rattle.tipc_journal.specs.declared.entries.Entry.{Entry}
-use Rattle.tipc_link.specs.Links.{answered_frames}
-use Rattle.tipc_pair.specs.declared.changes.PairChange.{PairChange}
-use Rattle.tipc_pair.specs.Pairs.{shows_contact}
-use Rattle.tipc_pair.specs.Partners.{opened_in}
+use Rattle.tipc_pair.specs.declared.transitions.Transition.{Transition}
+use Rattle.tipc_pair.specs.Messages.{opened_in}
 use Rattle.tipc_sockets.specs.SocketTables.{SocketTable}
 use Rattle.tipc_sockets.specs.Telling.{after_entry}
 use Rattle.tipc_node.specs.declared.arriving.Delivery.{Delivery}
@@ -24,16 +22,15 @@ use Rattle.tipc_node.specs.declared.arriving.Hearing.{Hearing}
 use Rattle.tipc_node.specs.declared.listening.HeardPacket.{HeardPacket}
 use Rattle.tipc_node.specs.declared.neighbours.Neighbour.{Neighbour}
 use Rattle.tipc_node.specs.Arrivals.{Greets, IsDue}
-use Rattle.tipc_node.specs.Hearings.{is_plain, AllDelivered, Followed, HasHeard, IsHeard, IsNumbered, IsPrepared, IsReady, Worked, greets_at, heard_at, met_due}
-use Rattle.tipc_node.specs.Neighbours.{answered_neighbour, no_broadcast}
+use Rattle.tipc_node.specs.Hearings.{is_plain, AllDelivered, Followed, HasHeard, IsHeard, IsPrepared, Worked, heard_at}
+use Rattle.tipc_node.specs.Neighbours.{answered_neighbour, answering}
 use Rattle.tipc_node.specs.Nodes.{NodeState, change_entries, entries_in, is_change, message_count, neighbour_of, shown_contact}
 use Rattle.tipc_node.specs.Sure.{all_wait, messages_in, told_in, with_all_waiting}
 use Rattle.tipc_node.specs.Works.{Work, concluded, work_of}
 use Rattle.tipc_node.proofs.Changes.{IsSameNode, change_changes, same_folded}
-use Rattle.tipc_node.proofs.Delivering.{all_plain, nothing_delivered}
-use Rattle.tipc_node.proofs.Greeting.{greets_after, nobody_greeted, quiet_greets}
+use Rattle.tipc_node.proofs.Delivering.{all_plain}
+use Rattle.tipc_node.proofs.Greeting.{nobody_greeted}
 use Rattle.tipc_node.proofs.Heard.{heard_worked}
-use Rattle.tipc_node.proofs.Hearings.{HasTurned, nothing_given, taken_heard, told_names}
 use Rattle.tipc_node.proofs.Stable.{all_stable, ports_stable, puts_stable}
 use Rattle.tipc_node.proofs.Surely.{same_sockets, sure_delivered}
 
@@ -53,120 +50,69 @@ some_place (Some y) there = (y, refl)
 
 -- ---- the STATE leaves behind the packet
 
--- y sent as z the STATE that was due
-pub record HasAnswered (y z : Neighbour) (box box' : Out) : Type 0 where
-  pub answered : z ≡ answered_neighbour y
-  pub state : Adds box box' (answered_frames y.pair.link (no_broadcast y.in_step))
+-- y sent as z the STATE that was due on a bearer
+pub record HasAnswered (bearer : ℕ) (y z : Neighbour) (box box' : Out) : Type 0 where
+  pub answered : z ≡ answered_neighbour bearer y
+  pub state : Adds box box' (answering bearer y).states
 
 -- the neighbours after it
-answered_place : (xs : List (Option Neighbour)) (peer : ℕ) (y z : Neighbour) (box box' : Out) → HasAnswered y z box box'
-    → slice_set xs peer (Some z) ≡ slice_set (slice_set xs peer (Some y)) peer (Some (answered_neighbour y))
-answered_place xs peer y z box box' h = ap (λ (w : Neighbour). slice_set xs peer (Some w)) h.answered ∙ sym (set_twice xs peer (Some y) (Some (answered_neighbour y)))
+answered_place : (xs : List (Option Neighbour)) (peer bearer : ℕ) (y z : Neighbour) (box box' : Out) → HasAnswered bearer y z box box'
+    → slice_set xs peer (Some z) ≡ slice_set (slice_set xs peer (Some y)) peer (Some (answered_neighbour bearer y))
+answered_place xs peer bearer y z box box' h = ap (λ (w : Neighbour). slice_set xs peer (Some w)) h.answered ∙ sym (set_twice xs peer (Some y) (Some (answered_neighbour bearer y)))
 
 -- what followed where nobody is greeted, and the neighbours stay while something is delivered
-quiet_followed : (own peer : ℕ) (xs : List (Option Neighbour)) (s : SocketTable) (y z : Neighbour) (change : PairChange) (ds : List Delivery) (sockets : SocketTable) (inside : List Entry) (a b c : Out)
-    → peer < length xs → Greets s.live change [] → AllDelivered own peer (heard_at xs s peer y change) ds (work_of (slice_set xs peer (Some y)) sockets inside) a b → HasAnswered y z b c
-    → Followed own peer change ds (heard_at xs s peer y change) (work_of (slice_set xs peer (Some z)) sockets inside) a c
-quiet_followed own peer xs s y z change ds sockets inside a b c within nobody delivered h = record {
-  told = heard_at xs s peer y change;
+quiet_followed : (own peer bearer : ℕ) (xs : List (Option Neighbour)) (s : SocketTable) (y z : Neighbour) (changes : List Transition) (ds : List Delivery) (sockets : SocketTable) (inside : List Entry) (a b c : Out)
+    → peer < length xs → Greets (fold after_entry s (change_entries peer changes)).live changes [] → AllDelivered own peer (heard_at xs s peer y changes) ds (work_of (slice_set xs peer (Some y)) sockets inside) a b → HasAnswered bearer y z b c
+    → Followed own peer bearer changes ds (heard_at xs s peer y changes) (work_of (slice_set xs peer (Some z)) sockets inside) a c
+quiet_followed own peer bearer xs s y z changes ds sockets inside a b c within nobody delivered h = record {
+  told = heard_at xs s peer y changes;
   told_box = a;
-  greeted = nobody_greeted own peer change (heard_at xs s peer y change) a (greets_after s peer change [] nobody);
+  greeted = nobody_greeted own peer changes (heard_at xs s peer y changes) a nobody;
   work = work_of (slice_set xs peer (Some y)) sockets inside;
   work_box = b;
   delivered = delivered;
   then = y;
   then_is = get_or-set_same xs peer (Some y) None within;
-  after = ap (λ ys. work_of ys sockets inside) (answered_place xs peer y z b c h);
+  after = ap (λ ys. work_of ys sockets inside) (answered_place xs peer bearer y z b c h);
   adds = h.state;
 }
 
--- ---- a RESET or an ACTIVATE
-
--- what became of the link is told, and names are forgotten by it
-pub record IsNoted (n : NodeState) (peer : ℕ) (change : PairChange) (empty inside : List Entry) (sockets : SocketTable) : Type 0 where
-  pub none : empty ≡ []
-  pub noted_is : inside ≡ empty ++ change_entries peer change
-  pub sockets_are : sockets ≡ fold after_entry n.sockets inside
-
-pub noticed : (n : NodeState) (by : By) (bytes : List ℕ) (x y z : Neighbour) (d : Due) (number : ℕ) (given : HeardPacket) (empty inside : List Entry) (sockets : SocketTable) (a b c : Out)
-    → IsDue n bytes d.peer d.first d.second (view d.packet) → neighbour_of n d.peer ≡ Some x → d.peer < length n.neighbours → shows_contact d.packet.header ≡ true
-    → greets_at (neighbour_of n d.peer) n.sockets.live ≡ false → HasHeard x d number y given a b → HasAnswered y z b c → IsNoted n d.peer given.change empty inside sockets
-    → IsHeard n (concluded n by (Arrive 0 number) (work_of (slice_set n.neighbours d.peer (Some z)) sockets inside) (answer.Arrived given.answer)) by number bytes a c given.answer
-noticed n by bytes x y z d number given empty inside sockets a b c due was within shows quiet heard h k =
-    let xs = n.neighbours in
-    let s = n.sockets in
-    let peer = d.peer in
-    let es = change_entries peer given.change in
-    let start = heard_at xs s peer y given.change in
-    let entries : inside ≡ es = k.noted_is ∙ ap (λ fs. fs ++ es) k.none in
-    let nobody : Greets s.live given.change [] = subst (λ (ch : PairChange). Greets s.live ch []) (sym heard.change) (quiet_greets (neighbour_of n peer) x d number s.live was quiet) in
-    let followed = quiet_followed n.own peer xs s y z given.change [] (fold after_entry s es) es b b c within nobody (nothing_delivered n.own peer start b) h in
-    let last = work_of (slice_set xs peer (Some z)) sockets inside in
-    let same : work_of (slice_set xs peer (Some z)) (fold after_entry s es) es ≡ last =
-    ap (λ (t : SocketTable). work_of (slice_set xs peer (Some z)) t es) (sym (k.sockets_are ∙ ap (fold after_entry s) entries)) ∙ ap (work_of (slice_set xs peer (Some z)) sockets) (sym entries) in
-    heard_worked n by bytes x d number given.answer last a c due was (record {
-      given = given;
-      work = start;
-      between = b;
-      heard = record { after = y; heard = heard; work = refl };
-      answer = refl;
-      followed = subst (λ (ds : List Delivery). Followed n.own peer given.change ds start last b c) (sym (nothing_given x d number y given a b shows heard)) (subst (λ (u : Work). Followed n.own peer given.change [] start u b c) same followed);
-    })
-
 -- ---- each message surely waits
 
--- what is told: what became of the link, and then what was delivered
-pub record IsAllTold (n : NodeState) (peer : ℕ) (change : PairChange) (ds : List Delivery) (empty noted inside told : List Entry) (messages : List Message) (sockets : SocketTable) : Type 0 where
-  pub none : empty ≡ []
-  pub noted_is : noted ≡ empty ++ change_entries peer change
-  pub told_is : told ≡ told_in ds
+-- what is told, where nothing becomes of the links and the contact: what was delivered
+pub record IsAllTold (n : NodeState) (ds : List Delivery) (inside : List Entry) (messages : List Message) (sockets : SocketTable) : Type 0 where
+  pub inside_is : inside ≡ told_in ds
   pub messages_are : messages ≡ messages_in ds
-  pub inside_is : inside ≡ noted ++ told
   pub sockets_are : sockets ≡ with_all_waiting n.sockets messages
   pub sure : all_wait n.sockets (message_count ds) ds ≡ true
 
-all_told : (n : NodeState) (peer : ℕ) (change : PairChange) (ds : List Delivery) (empty noted inside told : List Entry) (messages : List Message) (sockets : SocketTable)
-    → IsAllTold n peer change ds empty noted inside told messages sockets → inside ≡ change_entries peer change ++ told_in ds
-all_told n peer change ds empty noted inside told messages sockets h =
-    h.inside_is ∙ ap (λ es. es ++ told) (h.noted_is ∙ ap (λ es. es ++ change_entries peer change) h.none) ∙ ap (λ es. change_entries peer change ++ es) h.told_is
-
--- the sockets stay by what a packet that shows no contact number makes of the link
-same_names : (x : Neighbour) (d : Due) (number : ℕ) (s : SocketTable) (change : PairChange) → shows_contact d.packet.header ≡ false → change ≡ (met_due x d number).change
-    → fold after_entry s (change_entries d.peer change) ≡ s
-same_names x d number s change plain is = ap (λ (ch : PairChange). fold after_entry s (change_entries d.peer ch)) is ∙ told_names x d.first d.second number (view d.packet) d.peer s plain
-
-pub taken_all : (n : NodeState) (by : By) (bytes : List ℕ) (x y z : Neighbour) (d : Due) (h : Hearing) (change : PairChange) (empty noted inside told : List Entry) (messages : List Message) (sockets : SocketTable) (a b c : Out)
-    → IsDue n bytes d.peer d.first d.second (view d.packet) → neighbour_of n d.peer ≡ Some x → d.peer < length n.neighbours → shows_contact d.packet.header ≡ false → IsPrepared (neighbour_of n d.peer) d h
-    → greets_at (neighbour_of n d.peer) n.sockets.live ≡ false → HasTurned x d h.number h.arriving.begun y change a b → HasAnswered y z b c
-    → IsAllTold n d.peer change h.deliveries.items empty noted inside told messages sockets
-    → IsHeard n (concluded n by (Arrive 0 h.number) (work_of (slice_set n.neighbours d.peer (Some z)) sockets inside) (answer.Arrived h.answer)) by h.number bytes a c h.answer
-taken_all n by bytes x y z d h change empty noted inside told messages sockets a b c due was within plain prepared quiet turned answered k =
+pub taken_all : (n : NodeState) (by : By) (bytes : List ℕ) (x y z : Neighbour) (d : Due) (h : Hearing) (given : HeardPacket) (inside : List Entry) (messages : List Message) (sockets : SocketTable) (a b c : Out)
+    → IsDue n bytes d.bearer d.peer d.first d.second (view d.packet) → neighbour_of n d.peer ≡ Some x → d.peer < length n.neighbours → IsPrepared (neighbour_of n d.peer) d h
+    → HasHeard x d h.number y given a b → given.changes ≡ [] → given.deliveries.items ≡ h.deliveries.items → given.answer ≡ h.answer → HasAnswered d.bearer y z b c
+    → IsAllTold n h.deliveries.items inside messages sockets
+    → IsHeard n (concluded n by (Arrive d.bearer h.number) (work_of (slice_set n.neighbours d.peer (Some z)) sockets inside) (answer.Arrived h.answer)) by d.bearer h.number bytes a c h.answer
+taken_all n by bytes x y z d h given inside messages sockets a b c due was within prepared heard none same_deliveries same_answer answered k =
     let xs = n.neighbours in
     let s = n.sockets in
     let peer = d.peer in
     let ds = h.deliveries.items in
-    let given : HeardPacket = record { change = change; deliveries = h.deliveries; answer = h.answer } in
-    let heard = taken_heard (neighbour_of n peer) x d h h.number y given a b was plain refl prepared turned refl refl in
-    let start = heard_at xs s peer y change in
-    let still = same_names x d h.number s change plain turned.change_is in
-    let all_plain_ones = ap (λ es. list_all is_plain (entries_in es)) prepared.deliveries ∙ all_plain peer (shown_contact prepared.neighbour.pair.link) (opened_in h.arriving.outcome) in
-    let sure : all_wait start.sockets (message_count ds) ds ≡ true = ap (λ (t : SocketTable). all_wait t (message_count ds) ds) still ∙ k.sure in
-    let delivered = sure_delivered n.own peer start ds b sure all_plain_ones in
-    let nobody : Greets s.live change [] = subst (λ (ch : PairChange). Greets s.live ch []) (sym turned.change_is) (quiet_greets (neighbour_of n peer) x d h.number s.live was quiet) in
-    let queued = with_all_waiting start.sockets (messages_in ds) in
-    let entries = change_entries peer change ++ told_in ds in
-    let followed = quiet_followed n.own peer xs s y z change ds queued entries b b c within nobody delivered answered in
+    let start = heard_at xs s peer y [] in
+    let all_plain_ones = ap (λ es. list_all is_plain (entries_in es)) prepared.deliveries ∙ all_plain peer (shown_contact prepared.neighbour.pair) (opened_in h.arriving.outcome) in
+    let delivered = sure_delivered n.own peer start ds b k.sure all_plain_ones in
+    let queued = with_all_waiting s (messages_in ds) in
+    let followed = quiet_followed n.own peer d.bearer xs s y z [] ds queued (told_in ds) b b c within refl delivered answered in
     let last = work_of (slice_set xs peer (Some z)) sockets inside in
-    let sockets_are : queued ≡ sockets = ap (λ (t : SocketTable). with_all_waiting t (messages_in ds)) still ∙ ap (with_all_waiting s) (sym k.messages_are) ∙ sym k.sockets_are in
-    let same : work_of (slice_set xs peer (Some z)) queued entries ≡ last =
-    ap (λ (t : SocketTable). work_of (slice_set xs peer (Some z)) t entries) sockets_are ∙ ap (work_of (slice_set xs peer (Some z)) sockets) (sym (all_told n peer change ds empty noted inside told messages sockets k)) in
+    let sockets_are : queued ≡ sockets = ap (with_all_waiting s) (sym k.messages_are) ∙ sym k.sockets_are in
+    let same : work_of (slice_set xs peer (Some z)) queued (told_in ds) ≡ last =
+    ap (λ (t : SocketTable). work_of (slice_set xs peer (Some z)) t (told_in ds)) sockets_are ∙ ap (work_of (slice_set xs peer (Some z)) sockets) (sym k.inside_is) in
     heard_worked n by bytes x d h.number h.answer last a c due was (record {
       given = given;
       work = start;
       between = b;
-      heard = record { after = y; heard = heard; work = refl };
-      answer = refl;
-      followed = subst (λ (u : Work). Followed n.own peer change ds start u b c) same followed;
+      heard = record { after = y; heard = heard; work = ap (heard_at xs s peer y) (sym none) };
+      answer = sym same_answer;
+      followed = subst (λ cs. Followed n.own peer d.bearer cs given.deliveries.items start last b c) (sym none)
+          (subst (λ es. Followed n.own peer d.bearer [] es start last b c) (sym same_deliveries) (subst (λ (u : Work). Followed n.own peer d.bearer [] ds start u b c) same followed));
     })
 
 -- ---- what is true of every node
@@ -187,39 +133,32 @@ same_put s s' ms is = subst (λ (t : SocketTable). (t.own ≡ s.own) × (t.ports
 
 -- ---- as the draft has it
 
-pub ready_there : (place : Option Neighbour) (x : Neighbour) (d : Due) (heard : Option Hearing) → place ≡ Some x → IsReady place d heard → IsReady (Some x) d heard
-ready_there place x d heard was ready = subst (λ o. IsReady o d heard) was ready
-
-pub some_number : (heard : Option Hearing) → (number : ℕ) × IsNumbered number heard
-some_number None = (0, tt)
-some_number (Some h) = (h.number, refl)
-
 -- what is told of what a neighbour heard
-pub record IsToldOf (neighbours : List (Option Neighbour)) (sockets sockets' : SocketTable) (peer : ℕ) (y : Neighbour) (change : PairChange) (empty empty' inside : List Entry) : Type 0 where
+pub record IsToldOf (neighbours : List (Option Neighbour)) (sockets sockets' : SocketTable) (peer : ℕ) (y : Neighbour) (changes : List Transition) (empty empty' inside : List Entry) : Type 0 where
   pub none : empty ≡ []
   pub still : empty' ≡ empty
-  pub told : inside ≡ empty' ++ change_entries peer change
+  pub told : inside ≡ empty' ++ change_entries peer changes
   pub purged : sockets' ≡ fold after_entry sockets inside
 
-told_inside : (neighbours : List (Option Neighbour)) (sockets sockets' : SocketTable) (peer : ℕ) (y : Neighbour) (change : PairChange) (empty empty' inside : List Entry) → IsToldOf neighbours sockets sockets' peer y change empty empty' inside
-    → inside ≡ change_entries peer change
-told_inside neighbours sockets sockets' peer y change empty empty' inside h = h.told ∙ ap (λ es. es ++ change_entries peer change) (h.still ∙ h.none)
+told_inside : (neighbours : List (Option Neighbour)) (sockets sockets' : SocketTable) (peer : ℕ) (y : Neighbour) (changes : List Transition) (empty empty' inside : List Entry) → IsToldOf neighbours sockets sockets' peer y changes empty empty' inside
+    → inside ≡ change_entries peer changes
+told_inside neighbours sockets sockets' peer y changes empty empty' inside h = h.told ∙ ap (λ es. es ++ change_entries peer changes) (h.still ∙ h.none)
 
-pub told_changes : (peer : ℕ) (change : PairChange) (empty empty' inside : List Entry) → empty ≡ [] → empty' ≡ empty → inside ≡ empty' ++ change_entries peer change → list_all is_change inside ≡ true
-told_changes peer change empty empty' inside none still told =
-    ap (λ es. list_all is_change es) (told ∙ ap (λ es. es ++ change_entries peer change) (still ∙ none)) ∙ change_changes peer change
+pub told_changes : (peer : ℕ) (changes : List Transition) (empty empty' inside : List Entry) → empty ≡ [] → empty' ≡ empty → inside ≡ empty' ++ change_entries peer changes → list_all is_change inside ≡ true
+told_changes peer changes empty empty' inside none still told =
+    ap (λ es. list_all is_change es) (told ∙ ap (λ es. es ++ change_entries peer changes) (still ∙ none)) ∙ change_changes peer changes
 
-pub told_work : (neighbours : List (Option Neighbour)) (sockets sockets' : SocketTable) (peer : ℕ) (y : Neighbour) (change : PairChange) (empty empty' inside : List Entry) → IsToldOf neighbours sockets sockets' peer y change empty empty' inside
-    → work_of (slice_set neighbours peer (Some y)) sockets' inside ≡ heard_at neighbours sockets peer y change
-told_work neighbours sockets sockets' peer y change empty empty' inside h =
-    let entries = told_inside neighbours sockets sockets' peer y change empty empty' inside h in
+pub told_work : (neighbours : List (Option Neighbour)) (sockets sockets' : SocketTable) (peer : ℕ) (y : Neighbour) (changes : List Transition) (empty empty' inside : List Entry) → IsToldOf neighbours sockets sockets' peer y changes empty empty' inside
+    → work_of (slice_set neighbours peer (Some y)) sockets' inside ≡ heard_at neighbours sockets peer y changes
+told_work neighbours sockets sockets' peer y changes empty empty' inside h =
+    let entries = told_inside neighbours sockets sockets' peer y changes empty empty' inside h in
     ap (λ (s : SocketTable). work_of (slice_set neighbours peer (Some y)) s inside) (h.purged ∙ ap (fold after_entry sockets) entries)
-    ∙ ap (work_of (slice_set neighbours peer (Some y)) (fold after_entry sockets (change_entries peer change))) entries
+    ∙ ap (work_of (slice_set neighbours peer (Some y)) (fold after_entry sockets (change_entries peer changes))) entries
 
 -- what was given is plain
 pub heard_plain : (x : Neighbour) (d : Due) (number : ℕ) (y : Neighbour) (h : HeardPacket) (box box' : Out) → HasHeard x d number y h box box' → list_all is_plain (entries_in h.deliveries.items) ≡ true
 heard_plain x d number y h box box' heard =
-    ap (λ es. list_all is_plain (entries_in es)) heard.deliveries ∙ all_plain d.peer (shown_contact (met_due x d number).after) (opened_in heard.out)
+    ap (λ es. list_all is_plain (entries_in es)) heard.deliveries ∙ all_plain d.peer (shown_contact x.pair) (opened_in heard.out.given)
 
 -- the sockets are of the same node, and have the same ports
 pub worked_same : (own : ℕ) (xs : List (Option Neighbour)) (s : SocketTable) (x : Neighbour) (d : Due) (number : ℕ) (answered : Arrival) (w' : Work) (box box' : Out) → Worked own xs s x d number answered w' box box'
@@ -227,7 +166,7 @@ pub worked_same : (own : ℕ) (xs : List (Option Neighbour)) (s : SocketTable) (
 worked_same own xs s x d number answered w' box box' h =
     let f = h.followed in
     let stable = ports_stable own s in
-    let first : IsSameNode s h.work.sockets = subst (λ (w : Work). IsSameNode s w.sockets) (sym h.heard.work) (same_folded s (change_entries d.peer h.given.change)) in
+    let first : IsSameNode s h.work.sockets = subst (λ (w : Work). IsSameNode s w.sockets) (sym h.heard.work) (same_folded s (change_entries d.peer h.given.changes)) in
     let told = puts_stable own d.peer (λ (w : Work). IsSameNode s w.sockets) stable h.work f.greeted.messages f.told f.greeted.frames f.greeted.puts first in
     let all = all_stable own d.peer (λ (w : Work). IsSameNode s w.sockets) stable f.told h.given.deliveries.items f.work f.delivered.frames f.delivered.delivers told in
     subst (λ (w : Work). IsSameNode s w.sockets) (sym f.after) all

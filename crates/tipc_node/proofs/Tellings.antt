@@ -1,16 +1,14 @@
 -- The messages by which peers are told of names: how they are put, one behind the other, for one peer after the other.
-use Rattle.std.proofs.Common.{◌≡◌, ◌⊎◌, ◌<◌, ◌≤◌, ◌+◌, ◌*◌, ◌-◌, ℕ, zero, suc, Bool, true, false, List, [], ◌∷◌, ◌++◌, Option, Some, None, filter, inl, inr, is_some, length, take, refl, sym, ap, ◌∙◌, subst, add-zero, append_assoc, append-nil, eqb-true, length-append, sum_by, arith}
-use Rattle.std.specs.Prelude.{◌==◌, if◌then◌else◌, find, option_map, slice_index_or, slice_set}
+use Rattle.std.proofs.Common.{◌≡◌, ◌⊎◌, ◌<◌, ◌≤◌, ◌+◌, ◌*◌, ◌-◌, ℕ, zero, suc, Bool, true, false, List, [], ◌∷◌, ◌++◌, Option, Some, None, filter, inl, inr, length, take, refl, sym, ap, ◌∙◌, subst, add-zero, append_assoc, append-nil, eqb-true, length-append, sum_by, arith}
+use Rattle.std.specs.Prelude.{◌==◌, if◌then◌else◌, find, slice_index_or, slice_set}
 use Rattle.std.specs.List.{All, range_with_len}
 use Rattle.std.proofs.lemmas.Bool.{cases_eq}
 use Rattle.std.proofs.lemmas.Bool.Decides.{nat_tests}
-use Rattle.std.proofs.lemmas.Grind.{flat_map-append}
-use Rattle.std.proofs.lemmas.List.{get_or-set_other, set-get_or, set-set, take_all, take_more}
+use Rattle.std.proofs.lemmas.List.{get_or-set_other, set-get_or, set-set, take_more}
 use Rattle.std.proofs.lemmas.List.Elements.{All-append, All-cons, All-nil, filter-append}
 use Rattle.std.proofs.lemmas.List.Sums.{sum_by-append, sum_by_push}
 use Rattle.tipc_types.specs.declared.message_forms.Message.{Message}
 use Rattle.tipc_types.specs.declared.message_forms.Message.TheVariants.{Items}
-use Rattle.tipc_types.specs.declared.node_calls.Answer.TheVariants as answer
 use Rattle.tipc_types.specs.declared.services.Publication.{Publication}
 use Rattle.tipc_outside.specs.declared.outgoing.Outgoing.{Outgoing}
 use Rattle.tipc_outside.specs.Frames.{Out}
@@ -19,17 +17,19 @@ use Rattle.tipc_message.specs.Wire.{IsCarried}
 use Rattle.tipc_journal.specs.declared.entries.Entry.{Entry}
 use Rattle.tipc_journal.specs.Names.{is_clusterwide}
 use Rattle.tipc_journal.specs.Room.{counted_bytes, entry_bytes}
-use Rattle.tipc_link_fsm.specs.Table.{is_up}
-use Rattle.tipc_link.specs.Sessions.{SessionEnd, flush_frames, flushed}
+use Rattle.tipc_pair.specs.Facing.{in_contact as in_contact_with}
+use Rattle.tipc_pair.specs.Messages.{pieces_for}
 use Rattle.tipc_name_dist.specs.Items.{item_of, telling, tellings}
 use Rattle.tipc_sockets.specs.SocketTables.{SocketTable}
 use Rattle.tipc_node.specs.declared.neighbours.Neighbour.{Neighbour}
 use Rattle.tipc_node.specs.Drafts.{PutEach, ToldEach, peer_in_contact}
-use Rattle.tipc_node.specs.Nodes.{accepted_entry, session_with, waiting_in}
-use Rattle.tipc_node.specs.Sockets.{crowded_answer, first_crowded, is_crowded}
-use Rattle.tipc_node.specs.Works.{Puts, PutsEach, PutsOn, TellsEach, Work, in_contact, is_in_contact, with_put, work_of}
+use Rattle.tipc_node.specs.Messages.{bytes_of}
+use Rattle.tipc_node.specs.Nodes.{accepted_entry, is_met, load_with, waiting_in}
+use Rattle.tipc_node.specs.Sockets.{first_crowded, is_crowded}
+use Rattle.tipc_node.specs.Works.{Puts, PutsEach, PutsOn, TellsEach, Work, in_contact, is_in_contact, work_of}
 use Rattle.tipc_node.specs.Works.PutsEach.{none_left, one_more}
 use Rattle.tipc_node.specs.Works.TellsEach.{all_told, one_told}
+use Rattle.tipc_node.proofs.PairPuts.{active_there, put_meets}
 use Rattle.tipc_node.proofs.Places.{set_there}
 use Rattle.tipc_node.proofs.Wayfaring.{puts_by}
 
@@ -52,9 +52,6 @@ all_tellings P withdrawal holds (p ∷ ps) = All-append P (telling withdrawal p)
 
 one_carried : (withdrawal : Bool) (p : Publication) → IsCarried (Items withdrawal (item_of p ∷ []))
 one_carried withdrawal p = (omega arith, omega arith)
-
-pub telling_carried : (withdrawal : Bool) (p : Publication) → All IsCarried (telling withdrawal p)
-telling_carried withdrawal p = each_telling IsCarried withdrawal (one_carried withdrawal) p
 
 pub tellings_carried : (withdrawal : Bool) (ps : List Publication) → All IsCarried (tellings withdrawal ps)
 tellings_carried withdrawal ps = all_tellings IsCarried withdrawal (one_carried withdrawal) ps
@@ -86,14 +83,6 @@ tellings_light withdrawal (p ∷ ps) =
     let both = sum_by-append counted_bytes (telling withdrawal p) (tellings withdrawal ps) in
     omega (arith, one, rest, both)
 
--- what is told of one publication more
-pub tellings_more : (withdrawal : Bool) (ps : List Publication) (i : ℕ) (p : Publication) → i < length ps → p ≡ slice_index_or ps i p → tellings withdrawal (take i ps) ++ telling withdrawal p ≡ tellings withdrawal (take (i + 1) ps)
-tellings_more withdrawal ps i p within is =
-    ap (λ ms. tellings withdrawal (take i ps) ++ ms) (sym (append-nil (telling withdrawal p)))
-    ∙ sym (flat_map-append (telling withdrawal) (take i ps) (p ∷ []))
-    ∙ ap (λ q. tellings withdrawal (take i ps ++ q ∷ [])) is
-    ∙ ap (tellings withdrawal) (sym (take_more ps i p within))
-
 -- ---- numbers one after the other
 
 range_first : (a n k : ℕ) → k ≡ suc n → range_with_len a k ≡ a ∷ range_with_len (a + 1) n
@@ -120,41 +109,27 @@ find_first test number below =
     let more : 33 - number ≡ suc (33 - (number + 1)) = omega (arith, below) in
     ap (find test) (range_first number (33 - (number + 1)) (33 - number) more)
 
-pub crowded_here : (xs : List (Option Neighbour)) (number waiting : ℕ) → IsClear xs number → number < 33 → waiting ≡ waiting_in (session_with (slice_index_or xs number None)) → 1000 ≤ waiting
-    → Some (answer.NamesCongested number waiting) ≡ option_map (crowded_answer xs) (first_crowded xs)
-crowded_here xs number waiting clear below is many =
-    let here : is_crowded xs number ≡ true = grind (arith, nat_tests, is, many) in
-    ap (λ k. Some (answer.NamesCongested number k)) is
-    ∙ ap (λ (b : Bool). option_map (crowded_answer xs) (if b then Some number else find (is_crowded xs) (range_with_len (number + 1) (33 - (number + 1))))) (sym here)
-    ∙ ap (option_map (crowded_answer xs)) (sym (find_first (is_crowded xs) number below) ∙ clear.below)
-
-pub clear_next : (xs : List (Option Neighbour)) (number waiting : ℕ) → IsClear xs number → number < 33 → waiting ≡ waiting_in (session_with (slice_index_or xs number None)) → waiting < 1000 → IsClear xs (number + 1)
+pub clear_next : (xs : List (Option Neighbour)) (number waiting : ℕ) → IsClear xs number → number < 33 → waiting ≡ waiting_in (load_with (slice_index_or xs number None)) → waiting < 1000 → IsClear xs (number + 1)
 clear_next xs number waiting clear below is few =
     let here : is_crowded xs number ≡ false = grind (arith, nat_tests, is, few) in
     record { below = sym (find_first (is_crowded xs) number below ∙ ap (λ (b : Bool). if b then Some number else find (is_crowded xs) (range_with_len (number + 1) (33 - (number + 1)))) here) ∙ clear.below }
 
-pub all_clear : (xs : List (Option Neighbour)) (number : ℕ) → IsClear xs number → 33 ≤ number → None ≡ option_map (crowded_answer xs) (first_crowded xs)
-all_clear xs number clear past =
-    let none : 33 - number ≡ 0 = omega (arith, past) in
-    ap (option_map (crowded_answer xs)) (sym (ap (λ k. find (is_crowded xs) (range_with_len number k)) none) ∙ clear.below)
-
 -- ---- contacts
 
 -- a message that is put leaves the contact
-put_stays : (x : Neighbour) (s put : SessionEnd) → session_with (Some x) ≡ Some s → is_some (session_with (Some (with_put x put))) ≡ true
-put_stays x s put is = by (is_up x.pair.link.fsm.state) is
-  where
-    by : (b : Bool) → (if b then x.pair.link.session else None) ≡ Some s → is_some (if b then Some (flushed put) else None) ≡ true
-    by true there = refl
-    by false none = absurd cc
+put_stays : (own peer : ℕ) (x y : Neighbour) (m : Message) (inside inside' : List Entry) (a b : Out) → PutsOn own x y peer m inside inside' a b → in_contact_with y.pair ≡ true
+put_stays own peer x y m inside inside' a b p =
+    let one = p.puts.puts in
+    let meets = put_meets x.pair (pieces_for (bytes_of own m)) y.pair p.frames one in
+    meets.there ∙ active_there x.pair one.bearer one.active_is
 
 -- and so does one that changes at its place the contacts of all
-pub contact_kept : (xs : List (Option Neighbour)) (peer k : ℕ) (x y : Neighbour) → slice_index_or xs peer None ≡ Some x → is_some (session_with (Some x)) ≡ true → is_some (session_with (Some y)) ≡ true
+pub contact_kept : (xs : List (Option Neighbour)) (peer k : ℕ) (x y : Neighbour) → slice_index_or xs peer None ≡ Some x → in_contact_with x.pair ≡ true → in_contact_with y.pair ≡ true
     → is_in_contact (slice_set xs peer (Some y)) k ≡ is_in_contact xs k
 contact_kept xs peer k x y was before after = by (cases_eq k peer)
   where
     test : Option Neighbour → Bool
-    test o = is_some (session_with o)
+    test o = is_met o
 
     by : (k ≡ peer) ⊎ (k ≡ peer → ⊥) → is_in_contact (slice_set xs peer (Some y)) k ≡ is_in_contact xs k
     by (inl here) = ap (is_in_contact (slice_set xs peer (Some y))) here ∙ ap test (set_there xs peer x y was) ∙ after ∙ sym before ∙ sym (ap test was) ∙ ap (is_in_contact xs) (sym here)
@@ -170,14 +145,14 @@ puts_each_last own peer _ _ u _ m _ gs (one_more w between v x ms first rest hea
 -- the first of them are put on the link to a neighbour, with which there is contact still
 pub record IsPutting (own peer : ℕ) (ms : List Message) (x y : Neighbour) (before inside : List Entry) (a b : Out) (count : ℕ) : Type 0 where
   pub puts : (xs : List (Option Neighbour)) (s : SocketTable) → slice_index_or xs peer None ≡ Some x → PutEach own (work_of xs s before) peer (take count ms) (work_of (slice_set xs peer (Some y)) s inside) a b
-  pub contact : is_some (session_with (Some y)) ≡ true
+  pub contact : in_contact_with y.pair ≡ true
   pub few : length inside ≡ length before + count
   pub light : sum_by entry_bytes inside ≡ sum_by entry_bytes before + sum_by counted_bytes (take count ms)
 
 set_same : (xs : List (Option Neighbour)) (peer : ℕ) (x : Neighbour) → slice_index_or xs peer None ≡ Some x → slice_set xs peer (Some x) ≡ xs
 set_same xs peer x was = ap (slice_set xs peer) (sym was) ∙ set-get_or xs peer None
 
-pub putting_first : (own peer : ℕ) (ms : List Message) (x : Neighbour) (es : List Entry) (a : Out) → is_some (session_with (Some x)) ≡ true → IsPutting own peer ms x x es es a a 0
+pub putting_first : (own peer : ℕ) (ms : List Message) (x : Neighbour) (es : List Entry) (a : Out) → in_contact_with x.pair ≡ true → IsPutting own peer ms x x es es a a 0
 putting_first own peer ms x es a contact = record {
   puts = λ xs s was. record {
     frames = [];
@@ -195,38 +170,24 @@ putting_next own peer ms x y z before inside inside' a b c count m h within is p
     let more : take count ms ++ m ∷ [] ≡ take (count + 1) ms = ap (λ n. take count ms ++ n ∷ []) is ∙ sym (take_more ms count m within) in
     let few = h.few in
     let light = h.light in
-    let longer = ap length p.told ∙ length-append inside (accepted_entry peer y.pair.link m ∷ []) in
-    let heavier : sum_by entry_bytes inside' ≡ sum_by entry_bytes inside + counted_bytes m = ap (sum_by entry_bytes) p.told ∙ sum_by_push entry_bytes inside (accepted_entry peer y.pair.link m) in
+    let longer = ap length p.told ∙ length-append inside (accepted_entry peer y.pair m ∷ []) in
+    let heavier : sum_by entry_bytes inside' ≡ sum_by entry_bytes inside + counted_bytes m = ap (sum_by entry_bytes) p.told ∙ sum_by_push entry_bytes inside (accepted_entry peer y.pair m) in
     let counted : sum_by counted_bytes (take (count + 1) ms) ≡ sum_by counted_bytes (take count ms) + counted_bytes m = ap (sum_by counted_bytes) (sym more) ∙ sum_by_push counted_bytes (take count ms) m in
     record {
       puts = λ xs s was.
           let first = h.puts xs s was in
           let ys = slice_set xs peer (Some y) in
           let one = puts_by own peer ys s inside inside' y z m b c (set_there xs peer x y was) p in
-          let here = subst (λ zs. Puts own (work_of ys s inside) peer m (work_of zs s inside') (flush_frames p.put)) (set-set xs peer (Some y) (Some z)) one in record {
-            frames = first.frames ++ flush_frames p.put;
-            puts = subst (λ ns. PutsEach own peer (work_of xs s before) ns (work_of (slice_set xs peer (Some z)) s inside') (first.frames ++ flush_frames p.put)) more
-                (puts_each_last own peer (work_of xs s before) (work_of ys s inside) (work_of (slice_set xs peer (Some z)) s inside') (take count ms) m first.frames (flush_frames p.put) first.puts here);
-            adds = adds_more a b c first.frames (flush_frames p.put) first.adds p.adds;
+          let here = subst (λ zs. Puts own (work_of ys s inside) peer m (work_of zs s inside') (p.frames)) (set-set xs peer (Some y) (Some z)) one in record {
+            frames = first.frames ++ p.frames;
+            puts = subst (λ ns. PutsEach own peer (work_of xs s before) ns (work_of (slice_set xs peer (Some z)) s inside') (first.frames ++ p.frames)) more
+                (puts_each_last own peer (work_of xs s before) (work_of ys s inside) (work_of (slice_set xs peer (Some z)) s inside') (take count ms) m first.frames (p.frames) first.puts here);
+            adds = adds_more a b c first.frames (p.frames) first.adds p.adds;
           };
-      contact = subst (λ n. is_some (session_with (Some n)) ≡ true) (sym p.after) (put_stays y p.session p.put p.session_is);
+      contact = put_stays own peer y z m inside inside' b c p;
       few = omega (arith, few, longer);
       light = omega (arith, light, heavier, counted);
     }
-
--- all of them are put
-pub putting_last : (own peer : ℕ) (ms : List Message) (x y : Neighbour) (before inside : List Entry) (a b : Out) (count : ℕ) → IsPutting own peer ms x y before inside a b count → length ms ≤ count → count ≤ length ms
-    → IsPutting own peer ms x y before inside a b (length ms)
-putting_last own peer ms x y before inside a b count h past within =
-    let same : count ≡ length ms = omega (arith, past, within) in
-    subst (IsPutting own peer ms x y before inside a b) same h
-
-abbrev pub IsPutFor : ℕ → ℕ → List Message → Neighbour → Neighbour → List Entry → List Entry → Out → Out → Type 0
-IsPutFor own peer ms x y before inside a b = (xs : List (Option Neighbour)) (s : SocketTable) → slice_index_or xs peer None ≡ Some x → PutEach own (work_of xs s before) peer ms (work_of (slice_set xs peer (Some y)) s inside) a b
-
-pub all_put : (own peer : ℕ) (ms : List Message) (x y : Neighbour) (before inside : List Entry) (a b : Out) (count : ℕ) → IsPutting own peer ms x y before inside a b count → length ms ≤ count → IsPutFor own peer ms x y before inside a b
-all_put own peer ms x y before inside a b count h past xs s was =
-    subst (λ ns. PutEach own (work_of xs s before) peer ns (work_of (slice_set xs peer (Some y)) s inside) a b) (take_all count ms past) (h.puts xs s was)
 
 -- ---- the same messages for several peers
 

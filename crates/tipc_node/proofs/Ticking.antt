@@ -1,7 +1,8 @@
 -- A tick: it happens to all neighbours, then subscriptions time out, and it passes for the others. The journal tells of the node after it.
 use Rattle.std.specs.Prelude.{◌==◌, nat_le, not}
 use Rattle.std.specs.List.{list_all, list_any}
-use Rattle.std.proofs.Common.{◌≡◌, ◌&&◌, ◌||◌, ℕ, Bool, true, false, List, [], ◌∷◌, ◌++◌, Option, cond, filter, fold, map, refl, sym, ap, ◌∙◌, subst}
+use Rattle.std.proofs.Common.{◌≡◌, ◌&&◌, ◌||◌, ℕ, Bool, true, false, List, [], ◌∷◌, ◌++◌, Option, cond, filter, fold, length, map, refl, sym, ap, ◌∙◌, subst, take}
+use Rattle.std.proofs.Math.Seq.{take-append_seam}
 use Rattle.std.proofs.lemmas.Bool.{and_parts}
 use Rattle.std.proofs.lemmas.List.Folds.{list_any-append}
 use Rattle.tipc_types.specs.declared.node_calls.Answer.{Answer}
@@ -25,10 +26,11 @@ use Rattle.tipc_sockets.specs.SocketTables.{with_watchers, AreSockets, SocketTab
 use Rattle.tipc_sockets.specs.Telling.{after_entry}
 use Rattle.tipc_sockets.proofs.StepsTold.{told_passed}
 use Rattle.tipc_sockets.proofs.Subscribers.{timeouts_told}
+use Rattle.tipc_node.specs.declared.neighbours.Deed.{Deed}
 use Rattle.tipc_node.specs.declared.neighbours.Deed.TheVariants as deed
 use Rattle.tipc_node.specs.Calls.{Ticks, deed_work, tick_work}
 use Rattle.tipc_node.specs.declared.neighbours.Neighbour.{Neighbour}
-use Rattle.tipc_node.specs.Nodes.{NodeState, after_all, entries_all, is_change, step_of}
+use Rattle.tipc_node.specs.Nodes.{NodeState, after_all, deed_note, entries_all, is_change, mended_by, step_of, with_mended}
 use Rattle.tipc_node.specs.Sockets.{kept_answer, timeouts_of}
 use Rattle.tipc_node.specs.Telling.{IsTold}
 use Rattle.tipc_node.specs.Turns.{NodeTurn}
@@ -162,3 +164,15 @@ ticks_from n by xs mid s journal neighbours between passes told =
         ∙ ap (λ (ns : List ℕ). with_watchers first (passed (fold (λ t number. ended_at number t) first.watchers ns)))
         (due_changes n.sockets (entries_all deed.Tick 0 n.neighbours) (all_changes deed.Tick 0 n.neighbours))
         ∙ sym (ap (λ (x : SocketTable). with_watchers x (passed x.watchers)) (ends_each first numbers))
+
+-- what stands in front of what was added behind it
+pub front_of : (told more all : List Entry) (count : ℕ) → all ≡ told ++ more → count ≡ length told → take count all ≡ told
+front_of told more all count is counted = (λ i. take (counted i) (is i)) ∙ take-append_seam told more
+
+-- the parts of the node are those of the work on all neighbours
+pub takes_from : (n : NodeState) (by : By) (d : Deed) (mended : Bool × Bool) (xs : List (Option Neighbour)) (s : SocketTable) (journal : List Entry) → mended ≡ mended_by d n.mended → xs ≡ after_all d n.neighbours
+    → s ≡ fold after_entry n.sockets (entries_all d 0 n.neighbours)
+    → journal ≡ n.journal ++ step_entries (step_of by (deed_note d) (entries_all d 0 n.neighbours) answer.Done)
+    → record { own = n.own; boot = n.boot; mended = mended; neighbours = xs; sockets = s; journal = journal } ≡ concluded (with_mended n (mended_by d n.mended)) by (deed_note d) (deed_work d n) answer.Done
+takes_from n by d mended xs s journal repaired neighbours sockets told =
+    (λ i. record { own = n.own; boot = n.boot; mended = repaired i; neighbours = neighbours i; sockets = sockets i; journal = told i })

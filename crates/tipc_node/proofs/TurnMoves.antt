@@ -1,165 +1,133 @@
--- What a turn tells of a link end is so, before it and after it, and has its cause.
-use Rattle.std.proofs.Common.{◌≡◌, ◌≤◌, ◌+◌, ◌||◌, ℕ, true, false, List, [], ◌∷◌, Option, Some, None, is_some, option_map, if◌then◌else◌, refl, sym, ap, ◌∙◌, subst, arith}
+-- What a turn tells of a pair is so, before it and after it.
+use Rattle.std.proofs.Common.{◌≡◌, ℕ, Bool, true, false, List, [], append-nil, Option, Some, None, is_some, refl, sym, ◌∙◌, subst}
 use Rattle.tipc_types.specs.declared.link_words.BroadcastState.{BroadcastState}
-use Rattle.tipc_types.specs.declared.link_words.Why.{Why}
 use Rattle.tipc_outside.specs.declared.outgoing.Outgoing.{Outgoing}
-use Rattle.tipc_header.specs.Spelling.{Fields}
-use Rattle.tipc_fragments.specs.Joining.{Joining}
-use Rattle.tipc_recv_window.specs.declared.outcomes.LinkOutcome.{LinkOutcome}
-use Rattle.tipc_link_fsm.specs.Table.{Fsm, is_reset_reset, is_up}
-use Rattle.tipc_link.specs.Links.{LinkEnd, known}
-use Rattle.tipc_link.specs.Sessions.{answered}
-use Rattle.tipc_pair.specs.declared.changes.PairChange.{PairChange}
-use Rattle.tipc_pair.specs.declared.changes.PairChange.TheVariants.{Stay}
-use Rattle.tipc_pair.specs.declared.changes.PairOutcome.{PairOutcome}
-use Rattle.tipc_pair.specs.Pairs.{arrival, contact_of, cut_pair}
-use Rattle.tipc_pair.specs.Partners.{OpensTo, PairState, deferred, ignored, took}
-use Rattle.tipc_pair.specs.Turns.{Happened, Opening, Outset, PairTurn, PutsOnto, answered_by, heard}
-use Rattle.tipc_pair.specs.Turns.Opening.{cuts, hears, mends, rests, ticks}
-use Rattle.tipc_node.specs.Telling.{IsAbreast, epochs_of, silence_of}
-use Rattle.tipc_node.specs.Turns.{IsTakenBy}
-use Rattle.tipc_node.proofs.ArrivalMoves.{IsAs, IsMet, arrival_met}
-use Rattle.tipc_node.proofs.Moves.{IsCutOff, IsSilenced, Tells, cut_moves, mapped_some, tested, tick_moves}
+use Rattle.tipc_link_fsm.specs.Table.{is_up, on_cut, on_tick}
+use Rattle.tipc_link.specs.Links.{LinkEnd, answered_with, cut_end, mended_end, with_session}
+use Rattle.tipc_link.specs.Sessions.{flushed}
+use Rattle.tipc_pair.specs.declared.transitions.Transition.{Transition}
+use Rattle.tipc_pair.specs.Changeovers.{released}
+use Rattle.tipc_pair.specs.Courses.{Course, going_on}
+use Rattle.tipc_pair.specs.Facing.{PairEnds, facing, is_up_at, with_near}
+use Rattle.tipc_pair.specs.PairCalls.{Puts, answered_at, answered_near, at_bearer, cut_at, cut_near, mended, mended_near, tick_at, tick_near, ticked}
+use Rattle.tipc_pair.specs.PairTurns.{Happened, Opening, Outset, PairTurn, PutsAll, PutsOne, Reply, replied}
+use Rattle.tipc_pair.specs.PairTurns.Opening.{cuts, hears, makes, mends, rests, ticks}
+use Rattle.tipc_pair.specs.PairTurns.PutsAll.{none_put, puts_one}
+use Rattle.tipc_pair.specs.Messages.{pieces_for}
+use Rattle.tipc_node.specs.Telling.{AreAbreast}
+use Rattle.tipc_node.proofs.ArrivalMoves.{arrives_runs, stepped_runs}
+use Rattle.tipc_node.proofs.CourseMoves.{follows, near_of, released_runs, still_near}
+use Rattle.tipc_node.proofs.LinkMoves.{cut_moves, tick_turns}
+use Rattle.tipc_node.proofs.Moves.{Goes, IsApt, Runs, Tells, abreast_apt, apt_abreast, goes_facing, goes_tells, goes_then, mapped_some, runs_on, stays_itself, still_goes, tested}
 
--- ---- what a turn does
+-- a call at the link of a bearer
+at_runs : (bearer : ℕ) (x : PairEnds) (call : PairEnds → Course) → IsApt x → ((y : PairEnds) → IsApt y → Runs y (call y)) → Runs x (at_bearer bearer x call)
+at_runs bearer x call h runs = goes_facing bearer x (call (facing bearer x)).pair (call (facing bearer x)).changes h (runs (facing bearer x))
 
--- what a packet does that is heard
-pub record IsHeardBy (e : LinkEnd) (es er : ℕ) (p : Fields) (by : ℕ) (shown : BroadcastState) (o : Outset) (e' : LinkEnd) : Type 0 where
-  pub met : IsMet e es p.header (arrival e es er p by shown)
-  pub change_is : o.change ≡ (arrival e es er p by shown).change
-  pub silence : silence_of e' ≤ silence_of e
-  -- after one that isn't ignored the peer was heard now
-  pub taken : IsTakenBy (hears es er p by shown) o.given → silence_of e' ≡ 0
+-- ---- the bearer is mended or cut, and a tick
 
--- why the end changes, and for how long its peer wasn't heard then, by what happens first
-abbrev pub MovesBy : LinkEnd → Opening → Outset → LinkEnd → Type 0
-MovesBy e rests o e' = (o.change ≡ Stay) × (silence_of e' ≤ silence_of e)
-MovesBy e mends o e' = (o.change ≡ Stay) × (silence_of e' ≤ silence_of e)
-MovesBy e cuts o e' = IsCutOff o.change × (silence_of e' ≤ silence_of e)
-MovesBy e (ticks shown) o e' = IsSilenced e o.change × (silence_of e' ≤ silence_of e + 1)
-MovesBy e (hears es er p by shown) o e' = IsHeardBy e es er p by shown o e'
+mended_at : (x : PairEnds) (near : Option LinkEnd) → IsApt x → x.near ≡ near → Goes x (mended_near x near) []
+mended_at x None h is = stays_itself x h
+mended_at x (Some e) h is = still_goes x (with_near x (mended_end e)) (still_near x e (mended_end e) h is refl refl (λ some. some))
 
--- an end after a turn
-pub record TurnMoves (e e' : LinkEnd) (opening : Opening) (o : Outset) : Type 0 where
-  pub tells : Tells e e' o.change
-  pub abreast : IsAbreast e'
-  pub moved : MovesBy e opening o e'
+mended_runs : (x : PairEnds) → IsApt x → Runs x (mended x)
+mended_runs x h = mended_at x x.near h refl
+
+cut_there : (x : PairEnds) (near : Option LinkEnd) → IsApt x → x.near ≡ near → Runs x (cut_at x near)
+cut_there x None h is = stays_itself x h
+cut_there x (Some e) h is = follows x e (cut_end e (is_up_at x.far)) (on_cut e.fsm (is_up_at x.far)).change 0 h is (cut_moves x.bearer e (is_up_at x.far) (near_of x e h is))
+
+cut_runs : (x : PairEnds) → IsApt x → Runs x (cut_near x)
+cut_runs x h = let first = cut_there x x.near h refl in runs_on x (cut_at x x.near) released first (released_runs (cut_at x x.near).pair first.apt)
+
+tick_there : (x : PairEnds) (near : Option LinkEnd) (shown : BroadcastState) → IsApt x → x.near ≡ near → Runs x (tick_at shown x near)
+tick_there x None shown h is = stays_itself x h
+tick_there x (Some e) shown h is = stepped_runs x e (on_tick e.fsm (is_up_at x.far)) 0 shown h is (tick_turns e.fsm (is_up_at x.far) (near_of x e h is).abreast.peer_is)
+
+tick_runs : (bearer : ℕ) (x : PairEnds) (shown : BroadcastState) → IsApt x → Runs x (at_bearer bearer x (tick_near shown))
+tick_runs bearer x shown h = at_runs bearer x (tick_near shown) h (λ y apt. tick_there y y.near shown apt refl)
+
+ticked_runs : (x : PairEnds) (shown : BroadcastState) → IsApt x → Runs x (ticked shown x)
+ticked_runs x shown h =
+    let one = at_bearer 0 x (tick_near shown) in
+    let two : PairEnds → Course = λ y. at_bearer 1 y (tick_near shown) in
+    let first = tick_runs 0 x shown h in
+    let both = runs_on x one two first (tick_runs 1 one.pair shown first.apt) in
+    runs_on x (going_on one two) released both (released_runs (going_on one two).pair both.apt)
 
 -- ---- what happens first
 
-rests_move : (e : LinkEnd) (opening : Opening) (o : Outset) → o.change ≡ Stay → IsAbreast e → MovesBy e opening o e → TurnMoves e e opening o
-rests_move e opening o stays abreast moved = record { tells = subst (Tells e e) (sym stays) (refl, refl); abreast = abreast; moved = moved }
+-- no end is made
+abbrev pub MakesNone : Opening → Type 0
+MakesNone (makes bearer is_mended) = ⊥
+MakesNone other = Unit {0}
 
-abbrev FirstMoves : PairState → Opening → Outset → Type 0
-FirstMoves x opening o = TurnMoves x.link o.pair.link opening o
-
--- the peer was heard where what it sent was given, or waits
-taken_in : (begun last : Joining) (made : LinkOutcome) (given : PairOutcome) (es er : ℕ) (p : Fields) (by : ℕ) (shown : BroadcastState) → OpensTo begun made given last → IsTakenBy (hears es er p by shown) given
-    → (reason : Why) → made ≡ LinkOutcome.Ignored reason → ⊥
-taken_in begun last _ _ es er p by shown (took brings) taken reason is = cc
-taken_in begun last _ _ es er p by shown deferred taken reason is = cc
-taken_in begun last _ _ es er p by shown ignored taken reason is = taken
-
-first_moves : (x : PairState) (opening : Opening) (o : Outset) → IsAbreast x.link → Happened x opening o → TurnMoves x.link o.pair.link opening o
-first_moves x rests o abreast is = subst (FirstMoves x rests) (sym is) (record { tells = (refl, refl); abreast = abreast; moved = (refl, omega arith) })
-first_moves x mends o abreast is = subst (FirstMoves x mends) (sym is) (record { tells = (refl, refl); abreast = record { peer_is = abreast.peer_is; begun = abreast.begun }; moved = (refl, omega arith) })
-first_moves x cuts o abreast is =
-    let m = cut_moves x.link abreast in
-    let still : silence_of (cut_pair x.link) ≤ silence_of x.link + 0 = m.0.silence in
-    subst (FirstMoves x cuts) (sym is) (record { tells = m.0.tells; abreast = m.0.abreast; moved = (m.1, omega (arith, still)) })
-first_moves x (ticks shown) o abreast is =
-    let m = tick_moves x.link abreast in
-    subst (FirstMoves x (ticks shown)) (sym is) (record { tells = m.0.tells; abreast = m.0.abreast; moved = (m.1, m.0.silence) })
-first_moves x (hears es er p by shown) o abreast is =
-    let m = arrival_met x.link es er p by shown abreast in
-    let heard_by : IsHeardBy x.link es er p by shown (heard (arrival x.link es er p by shown) is.1 is.0) (arrival x.link es er p by shown).after = record {
-      met = m;
-      change_is = refl;
-      silence = m.silence;
-      taken = λ taken. m.taken (taken_in _ is.1 _ is.0 es er p by shown is.2 taken);
-    } in
-    subst (FirstMoves x (hears es er p by shown)) (sym is.3) (record { tells = m.tells; abreast = m.abreast; moved = heard_by })
+pub first_runs : (x : PairEnds) (opening : Opening) (o : Outset) → IsApt x → MakesNone opening → Happened x opening o → Runs x o.course
+first_runs x rests o h none is = subst (λ (u : Outset). Runs x u.course) (sym is) (stays_itself x h)
+first_runs x (makes bearer is_mended) o h none is = absurd none
+first_runs x (mends bearer) o h none is = subst (λ (u : Outset). Runs x u.course) (sym is) (at_runs bearer x mended h mended_runs)
+first_runs x (cuts bearer) o h none is = subst (λ (u : Outset). Runs x u.course) (sym is) (at_runs bearer x cut_near h cut_runs)
+first_runs x (ticks shown) o h none is = subst (λ (u : Outset). Runs x u.course) (sym is) (ticked_runs x shown h)
+first_runs x (hears bearer es er p by shown) o h none is =
+    subst (λ (u : Outset). Runs x u.course) (sym is.3) (goes_facing bearer x is.0.pair is.0.changes h (λ apt. arrives_runs (facing bearer x) es er p by shown is.0 is.1 apt is.2))
 
 -- ---- what is put and the answer leave it as it is
 
-pub puts_as : (e : LinkEnd) (messages : List (List ℕ)) (frames : List Outgoing) (e' : LinkEnd) → PutsOnto e messages frames e' → IsAs e e' e.fsm
-puts_as e [] frames e' h = subst (λ (x : LinkEnd). IsAs e x e.fsm) (sym h.1) (record { fsm = refl; contact = refl; seen = refl })
-puts_as e (m ∷ messages) frames e' h = subst (λ (x : LinkEnd). IsAs e x e.fsm) (sym h.after) (record { fsm = refl; contact = refl; seen = refl })
+puts_there : (x : PairEnds) (pieces : List (List ℕ)) (y : PairEnds) (frames : List Outgoing) → IsApt x → Puts x pieces y frames → Goes x y []
+puts_there x pieces y frames h p =
+    let end = with_session p.end (flushed p.put) in
+    subst (λ z. Goes x z []) (sym p.after) (still_goes x (with_near x end) (still_near x p.end end h p.end_is refl refl (λ some. refl)))
 
-pub answered_as : (answer : Option BroadcastState) (e : LinkEnd) → IsAs e (answered_by answer e) e.fsm
-answered_as None e = record { fsm = refl; contact = refl; seen = refl }
-answered_as (Some shown) e =
-    elim (is_up e.fsm.state) as (λ b. IsAs e (if b then record e { session = option_map answered e.session } else e) e.fsm) [
-      | true ↦ record { fsm = refl; contact = refl; seen = refl }
-      | false ↦ record { fsm = refl; contact = refl; seen = refl }
-    ]
+pub put_goes : (x : PairEnds) (pieces : List (List ℕ)) (y : PairEnds) (frames : List Outgoing) → IsApt x → PutsOne x pieces y frames → Goes x y []
+put_goes x pieces y frames h p = subst (λ z. Goes x z []) (sym p.after) (goes_facing p.bearer x p.near [] h (λ apt. puts_there (facing p.bearer x) pieces p.near frames apt p.puts))
 
--- the end after a turn is as it was after what happened first
-pub turn_as : (x x' : PairState) (opening : Opening) (messages : List (List ℕ)) (answer : Option BroadcastState) (frames : List Outgoing) → (t : PairTurn x opening messages answer x' frames)
-    → IsAs t.first.pair.link x'.link t.first.pair.link.fsm
-turn_as x x' opening messages answer frames t =
-    let put = puts_as t.first.pair.link messages t.put_frames t.put t.puts in
-    let last = answered_as answer t.put in
-    subst (λ (y : PairState). IsAs t.first.pair.link y.link t.first.pair.link.fsm) (sym t.after) (record { fsm = last.fsm ∙ put.fsm; contact = last.contact ∙ put.contact; seen = last.seen ∙ put.seen })
+pub puts_go : (x : PairEnds) (messages : List (List ℕ)) (frames : List Outgoing) (y : PairEnds) → IsApt x → PutsAll x messages frames y → Goes x y []
+puts_go x _ _ _ h (none_put _) = stays_itself x h
+puts_go x _ _ y h (puts_one _ between _ m messages first frames one all) =
+    let here = put_goes x (pieces_for m) between first h one in goes_then x between y [] [] here (puts_go between messages frames y here.apt all)
 
--- and its session is one still
-puts_begun : (e : LinkEnd) (messages : List (List ℕ)) (frames : List Outgoing) (e' : LinkEnd) → PutsOnto e messages frames e' → is_some e.session ≡ true → is_some e'.session ≡ true
-puts_begun e [] frames e' h is = ap (λ (x : LinkEnd). is_some x.session) h.1 ∙ is
-puts_begun e (m ∷ messages) frames e' h is = ap (λ (x : LinkEnd). is_some x.session) h.after
+answered_fsm : (e : LinkEnd) (taken : ℕ) (asks : Bool) → (answered_with e taken asks).fsm ≡ e.fsm
+answered_fsm e taken asks = tested (λ (x : LinkEnd). x.fsm ≡ e.fsm) (is_up e.fsm.state) _ _ (λ _. refl) (λ _. refl)
 
-answered_begun : (answer : Option BroadcastState) (e : LinkEnd) → is_some e.session ≡ true → is_some (answered_by answer e).session ≡ true
-answered_begun None e is = is
-answered_begun (Some shown) e is = tested (λ (x : LinkEnd). is_some x.session ≡ true) (is_up e.fsm.state) _ _ (λ _. mapped_some _ e.session is) (λ _. is)
+answered_on : (e : LinkEnd) (taken : ℕ) (asks : Bool) → (answered_with e taken asks).bearer ≡ e.bearer
+answered_on e taken asks = tested (λ (x : LinkEnd). x.bearer ≡ e.bearer) (is_up e.fsm.state) _ _ (λ _. refl) (λ _. refl)
 
-turn_begun : (x x' : PairState) (opening : Opening) (messages : List (List ℕ)) (answer : Option BroadcastState) (frames : List Outgoing) → (t : PairTurn x opening messages answer x' frames)
-    → is_some t.first.pair.link.session ≡ true → is_some x'.link.session ≡ true
-turn_begun x x' opening messages answer frames t is =
-    ap (λ (y : PairState). is_some y.link.session) t.after ∙ answered_begun answer t.put (puts_begun t.first.pair.link messages t.put_frames t.put t.puts is)
+answered_some : (e : LinkEnd) (taken : ℕ) (asks : Bool) → is_some e.session ≡ true → is_some (answered_with e taken asks).session ≡ true
+answered_some e taken asks is = tested (λ (x : LinkEnd). is_some x.session ≡ true) (is_up e.fsm.state) _ _ (λ _. mapped_some _ e.session is) (λ _. is)
 
--- ---- an end that is as another was is alike
+answered_there : (x : PairEnds) (near : Option LinkEnd) (taken : ℕ) (asks : Bool) (shown : BroadcastState) → IsApt x → x.near ≡ near → Goes x (answered_at x near taken asks shown).pair []
+answered_there x None taken asks shown h is = stays_itself x h
+answered_there x (Some e) taken asks shown h is =
+    still_goes x (with_near x (answered_with e taken asks)) (still_near x e (answered_with e taken asks) h is (answered_fsm e taken asks) (answered_on e taken asks) (answered_some e taken asks))
 
-as_contact : (e e' : LinkEnd) → IsAs e e' e.fsm → contact_of e' ≡ contact_of e
-as_contact e e' a =
-    ap (λ (f : Fsm). if is_up f.state then Some (e'.contact, e'.peer_contact) else None) a.fsm ∙ ap (λ n. if is_up e.fsm.state then Some (n, e'.peer_contact) else None) a.contact
-    ∙ ap (λ n. if is_up e.fsm.state then Some (e.contact, n) else None) a.seen
-
-as_epochs : (e e' : LinkEnd) → IsAs e e' e.fsm → epochs_of e' ≡ epochs_of e
-as_epochs e e' a = ap (λ (f : Fsm). if is_up f.state then Some (f.own, known f.peer) else None) a.fsm
-
-as_silence : (e e' : LinkEnd) → IsAs e e' e.fsm → silence_of e' ≡ silence_of e
-as_silence e e' a = ap (λ (f : Fsm). if is_up f.state then f.silent else 0) a.fsm
-
-as_up : (e e' : LinkEnd) → IsAs e e' e.fsm → is_up e'.fsm.state ≡ is_up e.fsm.state
-as_up e e' a = ap (λ (f : Fsm). is_up f.state) a.fsm
-
-as_abreast : (e e' : LinkEnd) → IsAs e e' e.fsm → (is_some e.session ≡ true → is_some e'.session ≡ true) → IsAbreast e → IsAbreast e'
-as_abreast e e' a begun abreast = record {
-  begun = λ up. begun (abreast.begun (ap (λ (f : Fsm). is_up f.state) (sym a.fsm) ∙ up));
-  peer_is = λ is. ap (λ (f : Fsm). f.peer) a.fsm ∙ abreast.peer_is (ap (λ (f : Fsm). is_up f.state || is_reset_reset f.state) (sym a.fsm) ∙ is) ∙ ap (λ (f : Fsm). Some f.highest) (sym a.fsm);
-}
-
-as_tells : (e0 e e' : LinkEnd) (change : PairChange) → IsAs e e' e.fsm → Tells e0 e change → Tells e0 e' change
-as_tells e0 e e' Stay a h = (as_contact e e' a ∙ h.0, as_epochs e e' a ∙ h.1)
-as_tells e0 e e' (PairChange.Began own theirs numbers) a h = (as_contact e e' a ∙ h.0, as_epochs e e' a ∙ h.1, as_silence e e' a ∙ h.2)
-as_tells e0 e e' (PairChange.Ended cause shown numbers number) a h = (h.0, h.1, as_up e e' a ∙ h.2)
-
-as_moved : (e0 e e' : LinkEnd) (opening : Opening) (o : Outset) → silence_of e' ≡ silence_of e → MovesBy e0 opening o e → MovesBy e0 opening o e'
-as_moved e0 e e' rests o same h = (h.0, let most = h.1 in omega (arith, same, most))
-as_moved e0 e e' mends o same h = (h.0, let most = h.1 in omega (arith, same, most))
-as_moved e0 e e' cuts o same h = (h.0, let most = h.1 in omega (arith, same, most))
-as_moved e0 e e' (ticks shown) o same h = (h.0, let most = h.1 in omega (arith, same, most))
-as_moved e0 e e' (hears es er p by shown) o same h = record { met = h.met; change_is = h.change_is; silence = (let most = h.silence in omega (arith, same, most)); taken = λ taken. same ∙ h.taken taken }
+pub replied_goes : (reply : Option Reply) (x : PairEnds) → IsApt x → Goes x (replied reply x).pair []
+replied_goes None x h = stays_itself x h
+replied_goes (Some r) x h =
+    let y = facing r.bearer x in
+    goes_facing r.bearer x (answered_near 0 false r.shown y).pair [] h (λ apt. answered_there y y.near 0 false r.shown apt refl)
 
 -- ---- the turn
 
-pub turn_moves : (x x' : PairState) (opening : Opening) (messages : List (List ℕ)) (answer : Option BroadcastState) (frames : List Outgoing) → IsAbreast x.link → (t : PairTurn x opening messages answer x' frames)
-    → TurnMoves x.link x'.link opening t.first
-turn_moves x x' opening messages answer frames abreast t =
-    let first = first_moves x opening t.first abreast t.happened in
-    let e = t.first.pair.link in
-    let same = turn_as x x' opening messages answer frames t in
-    record {
-      tells = as_tells x.link e x'.link t.first.change same first.tells;
-      abreast = as_abreast e x'.link same (turn_begun x x' opening messages answer frames t) first.abreast;
-      moved = as_moved x.link e x'.link opening t.first (as_silence e x'.link same) first.moved;
-    }
+still_goes_on : (x y z : PairEnds) (cs : List Transition) → Goes x y cs → Goes y z [] → Goes x z cs
+still_goes_on x y z cs h k = subst (Goes x z) (append-nil cs) (goes_then x y z cs [] h k)
+
+pub turn_goes : (x y : PairEnds) (opening : Opening) (messages : List (List ℕ)) (reply : Option Reply) (frames : List Outgoing) → IsApt x → MakesNone opening → (t : PairTurn x opening messages reply y frames)
+    → Goes x y t.first.course.changes
+turn_goes x y opening messages reply frames h none t =
+    let first = first_runs x opening t.first h none t.happened in
+    let put = puts_go t.first.course.pair messages t.put_frames t.put first.apt t.puts in
+    let last = replied_goes reply t.put put.apt in
+    subst (λ z. Goes x z t.first.course.changes) (sym t.after)
+    (still_goes_on x t.put (replied reply t.put).pair t.first.course.changes (still_goes_on x t.first.course.pair t.put t.first.course.changes first put) last)
+
+-- a pair after a turn
+pub record TurnMoves (x y : PairEnds) (o : Outset) : Type 0 where
+  pub tells : Tells x y o.course.changes
+  pub abreast : AreAbreast y
+
+pub turn_moves : (x y : PairEnds) (opening : Opening) (messages : List (List ℕ)) (reply : Option Reply) (frames : List Outgoing) → AreAbreast x → MakesNone opening → (t : PairTurn x opening messages reply y frames)
+    → TurnMoves x y t.first
+turn_moves x y opening messages reply frames abreast none t =
+    let apt = abreast_apt x abreast in
+    let goes = turn_goes x y opening messages reply frames apt none t in
+    record { tells = goes_tells x y t.first.course.changes apt.two goes; abreast = apt_abreast y (goes.bearer ∙ abreast.first) goes.apt }

@@ -11,16 +11,17 @@ use Rattle.tipc_outside.specs.declared.outgoing.Outgoing.{Outgoing}
 use Rattle.tipc_header.specs.Spelling.{Fields}
 use Rattle.tipc_journal.specs.declared.entries.Entry.{Entry}
 use Rattle.tipc_journal.specs.Steps.{IsInside, NodeStep}
-use Rattle.tipc_pair.specs.declared.changes.PairChange.TheVariants.{Stay}
-use Rattle.tipc_pair.specs.Partners.{PairState, pair_state}
-use Rattle.tipc_pair.specs.Turns.{Happened, Opening, Outset, ShowsIn, called}
+use Rattle.tipc_pair.specs.Courses.{rests as nothing}
+use Rattle.tipc_pair.specs.Facing.{PairEnds}
+use Rattle.tipc_pair.specs.PairTurns.{Happened, Opening, Outset, ShowsIn, quietly}
 use Rattle.tipc_link.specs.Parts.{IsShowable}
-use Rattle.tipc_pair.specs.Turns.Opening.{rests}
+use Rattle.tipc_pair.specs.PairTurns.Opening.{rests}
+use Rattle.tipc_pair.specs.PairTurns.PutsAll.{none_put}
 use Rattle.tipc_node.specs.declared.neighbours.Neighbour.{Neighbour}
 use Rattle.tipc_node.specs.Messages.{IsSendable}
 use Rattle.tipc_node.specs.Neighbours.{no_broadcast}
 use Rattle.tipc_node.specs.Nodes.{NodeState, change_entries, step_of}
-use Rattle.tipc_node.specs.Turns.{AreNamed, IsBrought, IsFrom, IsPlaced, IsTakenBy, IsTakenIn, NodeTurn, PeerTurn, Suits, frames_to, given_entries, is_accepted_for, is_change_of, is_delivered_from}
+use Rattle.tipc_node.specs.Turns.{AreNamed, IsBrought, IsFrom, IsOnOne, IsPlaced, IsTakenBy, IsTakenIn, NodeTurn, PeerTurn, Suits, frames_to, given_entries, is_accepted_for, is_change_of, is_delivered_from}
 use Rattle.tipc_node.specs.Works.{Work, begun, concluded}
 use Rattle.tipc_node.proofs.Runs.{IsRun, RunAt, Runs, StandFor, accepted_now}
 
@@ -28,7 +29,7 @@ use Rattle.tipc_node.proofs.Runs.{IsRun, RunAt, Runs, StandFor, accepted_now}
 pub shows_none : (in_step : Bool) → IsShowable (no_broadcast in_step)
 shows_none in_step = record { acknowledged = omega arith; next = omega arith; start = omega arith; gap = omega arith }
 
--- an answer that doesn't tell of a packet that the link's session took
+-- an answer that doesn't tell of a packet that a link's session took
 abbrev pub IsUntaken : Answer → Type 0
 IsUntaken (answer.Arrived answered) = IsTakenIn answered → ⊥
 IsUntaken other = Unit {0}
@@ -39,31 +40,33 @@ not_taken kept answered untaken is = subst IsUntaken is untaken
 -- ---- a peer to which no message is put
 
 -- what happens first at the pair to node b in a step, which tells of it
-pub record Opens (bytes : List ℕ) (s : NodeStep) (frames : List Outgoing) (b : ℕ) (x : PairState) (opening : Opening) (o : Outset) : Type 0 where
+pub record Opens (bytes : List ℕ) (s : NodeStep) (frames : List Outgoing) (b : ℕ) (x : PairEnds) (opening : Opening) (o : Outset) : Type 0 where
   pub suits : Suits s.event opening
+  pub on_one : IsOnOne opening
   pub brought : IsBrought b bytes opening
   pub shows : ShowsIn opening
   pub happened : Happened x opening o
-  pub frames_are : frames_to b frames ≡ o.frames
-  pub changes : filter (is_change_of b) s.inside ≡ change_entries b o.change
+  pub frames_are : frames_to b frames ≡ o.course.states ++ o.course.numbered
+  pub changes : filter (is_change_of b) s.inside ≡ change_entries b o.course.changes
   pub accepted : filter (is_accepted_for b) s.inside ≡ []
-  pub delivered : filter (is_delivered_from b) s.inside ≡ given_entries b o.pair.link o.given
+  pub delivered : filter (is_delivered_from b) s.inside ≡ given_entries b x o.given
   pub taken : (answered : Arrival) (es er : ℕ) (p : Fields) → s.answer ≡ answer.Arrived answered → IsTakenIn answered → IsFrom b bytes es er p → IsTakenBy opening o.given
 
-pub opens_turn : (own : ℕ) (bytes : List ℕ) (s : NodeStep) (frames : List Outgoing) (b : ℕ) (x : PairState) (opening : Opening) (o : Outset) → Opens bytes s frames b x opening o
-    → PeerTurn own bytes s frames b x (pair_state o.pair.link o.pair.begun)
+pub opens_turn : (own : ℕ) (bytes : List ℕ) (s : NodeStep) (frames : List Outgoing) (b : ℕ) (x : PairEnds) (opening : Opening) (o : Outset) → Opens bytes s frames b x opening o
+    → PeerTurn own bytes s frames b x o.course.pair
 opens_turn own bytes s frames b x opening o h = record {
   opening = opening;
   suits = h.suits;
+  on_one = h.on_one;
   brought = h.brought;
   shows = h.shows;
   messages = [];
   sendable = All-nil (IsSendable own);
   reply = None;
   shows_last = tt;
-  own_frames = o.frames ++ [];
-  turn = record { first = o; happened = h.happened; put_frames = []; put = o.pair.link; puts = (refl, refl); after = refl; frames_are = refl };
-  frames_are = h.frames_are ∙ sym (append-nil o.frames);
+  own_frames = o.course.states ++ (o.course.numbered ++ []);
+  turn = record { first = o; happened = h.happened; put_frames = []; put = o.course.pair; puts = none_put o.course.pair; after = refl; frames_are = refl };
+  frames_are = h.frames_are ∙ ap (λ fs. o.course.states ++ fs) (sym (append-nil o.course.numbered));
   changes = h.changes;
   accepted = h.accepted;
   delivered = h.delivered;
@@ -85,6 +88,7 @@ pub rests_turn : (own : ℕ) (bytes : List ℕ) (s : NodeStep) (frames : List Ou
 rests_turn own bytes s frames b es own_frames x x' h run = record {
   opening = rests;
   suits = tt;
+  on_one = tt;
   brought = tt;
   shows = tt;
   messages = run.messages;
@@ -93,12 +97,12 @@ rests_turn own bytes s frames b es own_frames x x' h run = record {
   shows_last = tt;
   own_frames = frames_to b own_frames ++ [];
   turn = record {
-    first = called x.pair x.pair.link [] Stay;
+    first = quietly (nothing x.pair);
     happened = refl;
     put_frames = frames_to b own_frames;
-    put = x'.pair.link;
+    put = x'.pair;
     puts = run.puts;
-    after = ap (pair_state x'.pair.link) run.begun;
+    after = refl;
     frames_are = refl;
   };
   frames_are = h.frames_are ∙ sym (append-nil (frames_to b own_frames));

@@ -1,10 +1,8 @@
 -- The way of a message that a node sends: why it is refused, and what is put.
 use Rattle.std.proofs.Common.{◌≡◌, ◌-◌, ◌<◌, ◌≤◌, ℕ, zero, suc, Bool, true, false, List, [], ◌∷◌, ◌++◌, Option, None, Some, length, refl, sym, ap, subst, ◌∙◌, true≢false, arith}
-use Rattle.std.specs.Prelude.{◌==◌, if◌then◌else◌, nat_le, slice_index_or, slice_set, unwrap_or}
-use Rattle.std.proofs.lemmas.Bool.Decides.{nat_tests}
+use Rattle.std.specs.Prelude.{◌==◌, if◌then◌else◌, option_map, slice_index_or, slice_set, unwrap_or}
 use Rattle.std.proofs.lemmas.List.{get_or_default}
-use Rattle.tipc_types.specs.Address.{IsNodeWord, node_word}
-use Rattle.tipc_types.specs.declared.identity.Addr.{Addr}
+use Rattle.tipc_types.specs.Address.{node_word}
 use Rattle.tipc_types.specs.declared.message_forms.Form.TheVariants as form
 use Rattle.tipc_types.specs.declared.message_forms.Message.{Message}
 use Rattle.tipc_types.specs.declared.message_forms.Message.TheVariants.{Payload, Items}
@@ -17,31 +15,30 @@ use Rattle.tipc_outside.proofs.Adding.{adds_none}
 use Rattle.tipc_journal.specs.declared.entries.Entry.{Entry}
 use Rattle.tipc_journal.specs.Dues.{comes_home}
 use Rattle.tipc_journal.specs.Steps.{step_entries}
-use Rattle.tipc_link.specs.Sessions.{flush_frames}
 use Rattle.tipc_message.specs.Wire.{IsPayload}
+use Rattle.tipc_pair.specs.Facing.{active, facing, in_contact}
+use Rattle.tipc_pair.specs.PairCalls.{load_of as link_load}
 use Rattle.tipc_sockets.specs.SocketTables.{SocketTable}
 use Rattle.tipc_node.specs.declared.neighbours.Neighbour.{Neighbour}
 use Rattle.tipc_node.specs.Calls.{Goes, SendsTo, link_refusal, way_refusal}
 use Rattle.tipc_node.specs.Messages.{destination_of}
-use Rattle.tipc_node.specs.Nodes.{NodeState, recorded, session_with, step_of}
+use Rattle.tipc_node.specs.Nodes.{NodeState, is_met, load_with, recorded, step_of}
 use Rattle.tipc_node.specs.Works.{Puts, PutsOn, Settles, Work, addr_of_word, begun, concluded, neighbour_at, work_of}
 use Rattle.tipc_node.proofs.Making.{node_of}
+use Rattle.tipc_node.proofs.PairPuts.{active_there}
 use Rattle.tipc_node.proofs.Refusals.{HasPlace, place_at}
 
 -- ---- what is put
 
 pub puts_by : (own peer : ℕ) (xs : List (Option Neighbour)) (s : SocketTable) (inside inside' : List Entry) (x x' : Neighbour) (m : Message) (box box' : Out) → slice_index_or xs peer None ≡ Some x
-    → (p : PutsOn own x x' peer m inside inside' box box') → Puts own (work_of xs s inside) peer m (work_of (slice_set xs peer (Some x')) s inside') (flush_frames p.put)
+    → (p : PutsOn own x x' peer m inside inside' box box') → Puts own (work_of xs s inside) peer m (work_of (slice_set xs peer (Some x')) s inside') p.frames
 puts_by own peer xs s inside inside' x x' m box box' was p = record {
   neighbour = x;
   was = was;
-  session = p.session;
-  session_is = p.session_is;
   sendable = p.sendable;
-  put = p.put;
-  put_is = p.put_is;
-  after = ap (λ y. work_of (slice_set xs peer (Some y)) s inside') p.after ∙ ap (work_of _ s) p.told;
-  frames_are = refl;
+  then = x';
+  puts = p.puts;
+  after = ap (work_of (slice_set xs peer (Some x')) s) p.told;
 }
 
 -- ---- the node that a message is for
@@ -56,31 +53,32 @@ is_for_another own (Items withdrawal items) payload away = absurd payload
 
 -- a message that is on its way to another node has its place on the link there
 pub way_place : (n : NodeState) (m : Message) (limit : ℕ) → IsPayload m → comes_home (addr_of_word n.own) m ≡ false → way_refusal n (destination_of m) limit ≡ None
-    → HasPlace (session_with (neighbour_at n.neighbours (destination_of m))) limit
+    → HasPlace (load_with (neighbour_at n.neighbours (destination_of m))) limit
 way_place n m limit payload away clear =
     let other = is_for_another n.own m payload away in
-    place_at (session_with (neighbour_at n.neighbours (destination_of m))) limit
-    (sym (ap (λ (b : Bool). if b then None else link_refusal (session_with (neighbour_at n.neighbours (destination_of m))) limit) other) ∙ clear)
+    place_at (load_with (neighbour_at n.neighbours (destination_of m))) limit
+    (sym (ap (λ (b : Bool). if b then None else link_refusal (load_with (neighbour_at n.neighbours (destination_of m))) limit) other) ∙ clear)
+
+-- and there is contact with the neighbour of its number
+pub way_met : (n : NodeState) (m : Message) (limit peer : ℕ) → IsPayload m → comes_home (addr_of_word n.own) m ≡ false → way_refusal n (destination_of m) limit ≡ None → (destination_of m).word ≡ node_word peer
+    → is_met (slice_index_or n.neighbours peer None) ≡ true
+way_met n m limit peer payload away clear named =
+    let has = way_place n m limit payload away clear in
+    let place : (destination_of m).word - node_word 0 ≡ peer = omega (arith, named) in
+    subst (λ k. is_met (slice_index_or n.neighbours k None) ≡ true) place (by (neighbour_at n.neighbours (destination_of m)) has.1)
+  where
+    of : (x : Neighbour) (o : Option ℕ) (numbers : ℕ × ℕ) → active x.pair ≡ o → option_map (λ bearer. link_load (facing bearer x.pair).near) o ≡ Some numbers → in_contact x.pair ≡ true
+    of x None numbers is none = absurd cc
+    of x (Some bearer) numbers is some = active_there x.pair bearer is
+
+    by : {numbers : ℕ × ℕ} (o : Option Neighbour) → load_with o ≡ Some numbers → is_met o ≡ true
+    by None none = absurd cc
+    by {numbers} (Some x) some = of x (active x.pair) numbers refl some
 
 past_all : {A : Type 0} (xs : List (Option A)) (place : ℕ) → length xs ≤ place → slice_index_or xs place None ≡ None
 past_all [] place past = refl
 past_all (x ∷ xs) zero past = absurd (omega (arith, past))
 past_all (x ∷ xs) (suc place) past = past_all xs place (omega (arith, past))
-
--- where there is a neighbour, its address is one of the 32
-nobody_there : (xs : List (Option Neighbour)) (node : Addr) → length xs ≡ 33 → slice_index_or xs 0 None ≡ None → (IsNodeWord node.word → ⊥) → neighbour_at xs node ≡ None
-nobody_there xs node wide nobody other = by (nat_le node.word 16781312) (nat_le 33 (node.word - 16781312)) refl refl
-  where
-    by : (low past : Bool) → nat_le node.word 16781312 ≡ low → nat_le 33 (node.word - 16781312) ≡ past → slice_index_or xs (node.word - 16781312) None ≡ None
-    by true past l p = let place : node.word - 16781312 ≡ 0 = grind (arith, nat_tests, l) in ap (λ k. slice_index_or xs k None) place ∙ nobody
-    by false true l p = past_all xs (node.word - 16781312) (let far : 33 ≤ node.word - 16781312 = grind (arith, nat_tests, p) in omega (arith, wide, far))
-    by false false l p = absurd (other (grind (arith, nat_tests, l, p), grind (arith, nat_tests, l, p)))
-
-pub has_number : (xs : List (Option Neighbour)) (node : Addr) (limit : ℕ) → length xs ≡ 33 → slice_index_or xs 0 None ≡ None → HasPlace (session_with (neighbour_at xs node)) limit → (IsNodeWord node.word → ⊥) → ⊥
-has_number xs node limit wide nobody has other =
-    let none = nobody_there xs node wide nobody other in
-    let wrong : None ≡ Some has.0 = sym (ap session_with none) ∙ has.1 in
-    absurd (let bad : ⊥ = cc in bad)
 
 -- ---- a message whose way was looked at
 
@@ -90,7 +88,7 @@ IsSentTo n n' by note m limit sent box box' why = (frames : List Outgoing) × Se
 
 pub way_refused : (n n' : NodeState) (by : By) (note : EventNote) (m : Message) (limit : ℕ) (sent why answered : Answer) (box : Out) → way_refusal n (destination_of m) limit ≡ Some why → (answered ≡ why) × (n' ≡ recorded n by note [] why)
     → IsSentTo n n' by note m limit sent box box (Some answered)
-way_refused n n' by note m limit sent why answered box some is = (
+way_refused n n' by note m limit _ why answered box some is = (
   [],
   record {
     refused = λ reason there. (let same : why ≡ reason = (let both : Some why ≡ Some reason = sym some ∙ there in cc) in (is.1 ∙ ap (recorded n by note []) same, refl, is.0 ∙ same));
@@ -101,7 +99,7 @@ way_refused n n' by note m limit sent why answered box some is = (
 
 clear_way : (n n' : NodeState) (by : By) (note : EventNote) (m : Message) (limit : ℕ) (sent : Answer) (box box' : Out) (w : Work) (frames : List Outgoing) → way_refusal n (destination_of m) limit ≡ None → Goes n.own (begun n) m w frames
     → n' ≡ concluded n by note w sent → Adds box box' frames → IsSentTo n n' by note m limit sent box box' None
-clear_way n n' by note m limit sent box box' w frames none goes after adds = (
+clear_way n n' by note m limit _ box box' w frames none goes after adds = (
   frames,
   record {
     refused = λ reason there. absurd (let wrong : None ≡ Some reason = sym none ∙ there in let bad : ⊥ = cc in bad);
@@ -145,8 +143,8 @@ pub away_sent : (n k : NodeState) (by : By) (note : EventNote) (peer : ℕ) (m :
 away_sent n k by note peer m sent x x' es told journal box box' same was empty p recorded =
     subst (λ (z : NodeState). (w : Work) × (frames : List Outgoing) × Puts z.own (begun z) peer m w frames × (node_of k (slice_set k.neighbours peer (Some x')) k.sockets journal ≡ concluded z by note w sent) × Adds box box' frames) same (
       work_of (slice_set k.neighbours peer (Some x')) k.sockets told,
-      flush_frames p.put,
-      subst (λ fs. Puts k.own (work_of k.neighbours k.sockets fs) peer m (work_of (slice_set k.neighbours peer (Some x')) k.sockets told) (flush_frames p.put)) empty (puts_by k.own peer k.neighbours k.sockets es told x x' m box box' was p),
+      p.frames,
+      subst (λ fs. Puts k.own (work_of k.neighbours k.sockets fs) peer m (work_of (slice_set k.neighbours peer (Some x')) k.sockets told) p.frames) empty (puts_by k.own peer k.neighbours k.sockets es told x x' m box box' was p),
       ap (node_of k (slice_set k.neighbours peer (Some x')) k.sockets) recorded,
       p.adds,
     )

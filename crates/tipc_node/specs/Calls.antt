@@ -17,13 +17,12 @@ use Rattle.tipc_journal.specs.Dues.{comes_home}
 use Rattle.tipc_journal.specs.Licensed.{IsPickedOf, next_answer}
 use Rattle.tipc_journal.specs.Refusals.{longest_body}
 use Rattle.tipc_name_dist.specs.Items.{telling}
-use Rattle.tipc_link.specs.Sessions.{SessionEnd}
 use Rattle.tipc_sockets.specs.Publishing.{own_publication}
 use Rattle.tipc_sockets.specs.SocketTables.{has_port, with_socket}
 use Rattle.tipc_node.specs.declared.neighbours.Deed.{Deed}
 use Rattle.tipc_node.specs.declared.neighbours.Deed.TheVariants as deed
 use Rattle.tipc_node.specs.Messages.{destination_of, direct, limit_of, named}
-use Rattle.tipc_node.specs.Nodes.{NodeState, after_all, deed_note, entries_all, frames_all, mended_by, recorded, session_with, step_of, with_mended}
+use Rattle.tipc_node.specs.Nodes.{NodeState, after_all, deed_note, entries_all, frames_all, mended_by, recorded, load_with, step_of, with_mended}
 use Rattle.tipc_node.specs.Sockets.{cancelled_work, closed_work, crowd_refusal, first_answer, first_event, found_at, kept_answer, next_number, next_port, next_work, number_refusal, passed_work, port_refusal, publication_refusal, published_work, received_work, socket_refusal, subscribed_work, subscription_refusal, timeouts_of, told_closing, told_withdrawal, waiting_at, with_sockets_of, withdrawal_refusal, withdrawn_work}
 use Rattle.tipc_node.specs.Sharing.{SharesNames}
 use Rattle.tipc_node.specs.Telling.{IsTold}
@@ -51,15 +50,14 @@ abbrev pub sender_refusal : NodeState → ℕ → List ℕ → Option Answer
 sender_refusal n port body =
     if has_port n.sockets port then (if nat_le (length body) longest_body then None else Some (answer.TooLong (length body))) else Some answer.NoSocket
 
--- there is no contact, or as many packets wait on the link as may before a message of this importance
-abbrev pub link_refusal : Option SessionEnd → ℕ → Option Answer
+-- there is no contact, or as many packets wait on the active link as may before a message of this importance
+abbrev pub link_refusal : Option (ℕ × ℕ) → ℕ → Option Answer
 link_refusal None limit = Some answer.NoNode
-link_refusal (Some s) limit =
-    if nat_le limit (length s.sending.waiting) then Some (answer.Congested (length s.sending.unacked) (length s.sending.waiting)) else None
+link_refusal (Some load) limit = if nat_le limit load.1 then Some (answer.Congested load.0 load.1) else None
 
 -- a message for the own node needs no link
 abbrev pub way_refusal : NodeState → Addr → ℕ → Option Answer
-way_refusal n node limit = if node.word == n.own then None else link_refusal (session_with (neighbour_at n.neighbours node)) limit
+way_refusal n node limit = if node.word == n.own then None else link_refusal (load_with (neighbour_at n.neighbours node)) limit
 
 -- A message of the node's goes its way: for the own node it has its fate here, and for another one it is accepted.
 pub record Goes (own : ℕ) (w : Work) (m : Message) (w' : Work) (frames : List Outgoing) : Type 0 where
@@ -141,11 +139,11 @@ Performs n by (Cancel number) n' frames answered =
 Performs n by (NextEvent number) n' frames answered =
     Makes n by (NextEvent number) (number_refusal n.sockets number) (next_work n number) (next_answer (first_event n.sockets number)) n' frames answered
 Performs n by Tick n' frames answered = Ticks n by n' frames answered
-Performs n by (Cut bearer) n' frames answered = TakesPart n by deed.Cut n' frames answered
-Performs n by (Mend bearer) n' frames answered = TakesPart n by deed.Mend n' frames answered
+Performs n by (Cut bearer) n' frames answered = TakesPart n by (deed.Cut bearer) n' frames answered
+Performs n by (Mend bearer) n' frames answered = TakesPart n by (deed.Mend bearer) n' frames answered
 Performs n by other n' frames answered = ⊥
 
--- What a call needs of its arguments: what is mended or cut is bearer 0. A multicast isn't built yet, and an arrival isn't performed.
+-- What a call needs of its arguments: what is mended or cut is one of the two bearers. A multicast isn't built yet, and an arrival isn't performed.
 abbrev pub CanPerform : EventNote → Type 0
 CanPerform Socket = Unit {0}
 CanPerform (Close port) = Unit {0}
@@ -158,8 +156,8 @@ CanPerform (Subscribe asked) = Unit {0}
 CanPerform (Cancel number) = Unit {0}
 CanPerform (NextEvent number) = Unit {0}
 CanPerform Tick = Unit {0}
-CanPerform (Cut bearer) = bearer ≡ 0
-CanPerform (Mend bearer) = bearer ≡ 0
+CanPerform (Cut bearer) = bearer ≤ 1
+CanPerform (Mend bearer) = bearer ≤ 1
 CanPerform other = ⊥
 
 -- the range of a publication has instances, as each service range

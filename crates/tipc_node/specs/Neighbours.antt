@@ -1,19 +1,20 @@
 -- What a node keeps of a peer, and what each call makes of it.
-use Rattle.std.specs.Prelude.{ℕ, Bool, true, false, List, [], ◌||◌, ◌&&◌}
+use Rattle.std.specs.Prelude.{◌≡◌, ◌≤◌, ℕ, Bool, true, false, not, List, ◌||◌, ◌&&◌}
+use Rattle.std.specs.List.{list_any}
+use Rattle.tipc_types.specs.Address.{node_word}
 use Rattle.tipc_types.specs.declared.link_words.BroadcastState.{BroadcastState}
 use Rattle.tipc_outside.specs.declared.outgoing.Outgoing.{Outgoing}
 use Rattle.tipc_header.specs.declared.packet.Header.{Header}
 use Rattle.tipc_header.specs.declared.packet.Header.TheVariants as header
 use Rattle.tipc_header.specs.Spelling.{Fields}
-use Rattle.tipc_link_fsm.specs.Table.{on_cut, on_tick}
-use Rattle.tipc_recv_window.specs.declared.outcomes.LinkOutcome.{LinkOutcome}
-use Rattle.tipc_fragments.specs.Joining.{Joining}
-use Rattle.tipc_link.specs.Links.{LinkEnd, answered_end, mend_frames, mended_end}
-use Rattle.tipc_pair.specs.declared.changes.PairChange.{PairChange}
-use Rattle.tipc_pair.specs.declared.changes.PairChange.TheVariants.{Stay}
 use Rattle.tipc_pair.specs.declared.changes.PairOutcome.{PairOutcome}
-use Rattle.tipc_pair.specs.Pairs.{Met, arrival, change_of, cut_pair, tick_frames, tick_pair}
-use Rattle.tipc_pair.specs.Partners.{begun_after, pair_state}
+use Rattle.tipc_pair.specs.declared.transitions.Transition.{Transition}
+use Rattle.tipc_pair.specs.declared.transitions.Transition.TheVariants.{ContactDown, ContactUp}
+use Rattle.tipc_pair.specs.Courses.{Course}
+use Rattle.tipc_pair.specs.Facing.{PairEnds, alone}
+use Rattle.tipc_pair.specs.PairCalls.{answered_near, at_bearer, cut_near, mended, ticked}
+use Rattle.tipc_pair.specs.PairTurns.{Happened, Outset, PutsOne, made_near}
+use Rattle.tipc_pair.specs.PairTurns.Opening.{hears}
 use Rattle.tipc_node.specs.declared.neighbours.Neighbour.{Neighbour}
 use Rattle.tipc_node.specs.declared.neighbours.Deed.{Deed}
 use Rattle.tipc_node.specs.declared.neighbours.Deed.TheVariants as deed
@@ -22,43 +23,86 @@ use Rattle.tipc_node.specs.declared.neighbours.Deed.TheVariants as deed
 abbrev pub no_broadcast : Bool → BroadcastState
 no_broadcast in_step = record { acknowledged = 0; next = 1; start = 1; gap = 0; in_step = in_step }
 
-abbrev pub neighbour : LinkEnd → Joining → Bool → Neighbour
-neighbour link begun in_step = record { pair = pair_state link begun; in_step = in_step }
+abbrev pub neighbour : PairEnds → Bool → Neighbour
+neighbour pair in_step = record { pair = pair; in_step = in_step }
+
+-- a peer of a node with this address word, in this boot, to which no link end is made yet
+abbrev pub stranger : ℕ → ℕ → ℕ → Neighbour
+stranger own peer boot = neighbour (alone own (node_word peer) boot) false
+
+-- whether a contact began or ended
+abbrev pub is_of_contact : Transition → Bool
+is_of_contact (ContactUp contact) = true
+is_of_contact (ContactDown contact states shown) = true
+is_of_contact other = false
+
+-- whether a contact began by one of these changes
+abbrev pub is_beginning : Transition → Bool
+is_beginning (ContactUp contact) = true
+is_beginning other = false
+
+abbrev pub begins : List Transition → Bool
+begins changes = list_any is_beginning changes
+
+-- and whether one ended
+abbrev pub is_ending : Transition → Bool
+is_ending (ContactDown contact states shown) = true
+is_ending other = false
+
+abbrev pub ends : List Transition → Bool
+ends changes = list_any is_ending changes
 
 -- a node is in step with a peer from a STATE on that it took of it, for as long as the contact lasts
-abbrev pub stays_in_step : Bool → PairChange → Bool
-stays_in_step in_step Stay = in_step
-stays_in_step in_step other = false
+abbrev pub stays_in_step : Bool → List Transition → Bool
+stays_in_step in_step changes = in_step && not (list_any is_of_contact changes)
+
+-- a link end is made on a bearer, which is mended or not
+abbrev pub making : ℕ → Bool → Neighbour → Course
+making bearer is_mended x = at_bearer bearer x.pair (made_near is_mended)
 
 -- ---- what happens to all neighbours alike
+
+-- what is mended or cut is one of the two bearers
+abbrev pub IsOnBearer : Deed → Type 0
+IsOnBearer (deed.Mend bearer) = bearer ≤ 1
+IsOnBearer (deed.Cut bearer) = bearer ≤ 1
+IsOnBearer deed.Tick = Unit {0}
+
+abbrev pub course_of : Deed → Neighbour → Course
+course_of (deed.Mend bearer) x = at_bearer bearer x.pair mended
+course_of (deed.Cut bearer) x = at_bearer bearer x.pair cut_near
+course_of deed.Tick x = ticked (no_broadcast x.in_step) x.pair
 
 -- a neighbour after a call, the frames that leave for it, and what is told
 pub record Done : Type 0 where
   pub after : Neighbour
-  pub frames : List Outgoing
-  pub change : PairChange
+  -- those of link states and of repeated packets, and those of packets that are numbered then
+  pub states : List Outgoing
+  pub numbered : List Outgoing
+  pub changes : List Transition
 
-abbrev pub done_by : Neighbour → LinkEnd → List Outgoing → PairChange → Done
-done_by x link frames change =
-    record { after = neighbour link (begun_after change x.pair.begun) (stays_in_step x.in_step change); frames = frames; change = change }
+abbrev pub done_by : Neighbour → Course → Done
+done_by x c = record { after = neighbour c.pair (stays_in_step x.in_step c.changes); states = c.states; numbered = c.numbered; changes = c.changes }
 
 abbrev pub done : Deed → Neighbour → Done
-done deed.Mend x = done_by x (mended_end x.pair.link) (mend_frames x.pair.link) Stay
-done deed.Cut x = done_by x (cut_pair x.pair.link) [] (change_of x.pair.link (on_cut x.pair.link.fsm false) 0)
-done deed.Tick x = done_by x (tick_pair x.pair.link) (tick_frames x.pair.link (no_broadcast x.in_step)) (change_of x.pair.link (on_tick x.pair.link.fsm false) 0)
+done d x = done_by x (course_of d x)
+
+-- ---- messages
+
+-- the packets of a message are put on the active link, and nothing else changes
+pub record PutsThere (x : Neighbour) (pieces : List (List ℕ)) (x' : Neighbour) (frames : List Outgoing) : Type 0 where
+  pub puts : PutsOne x.pair pieces x'.pair frames
+  pub in_step : x'.in_step ≡ x.in_step
 
 -- ---- an arrival
 
-abbrev pub met_by : Neighbour → ℕ → ℕ → Fields → ℕ → Met
-met_by x es er p by = arrival x.pair.link es er p by (no_broadcast x.in_step)
+-- a packet arrives on a bearer from the peer, under an envelope of these two epochs and by the arrival of that number: this came of it
+abbrev pub HearsAt : Neighbour → (bearer es er : ℕ) → Fields → ℕ → Outset → Type 0
+HearsAt x bearer es er p by o = Happened x.pair (hears bearer es er p by (no_broadcast x.in_step)) o
 
 abbrev pub is_state : Header → Bool
 is_state (header.State s) = true
 is_state other = false
-
-abbrev pub is_taken : LinkOutcome → Bool
-is_taken (LinkOutcome.Took packets) = true
-is_taken other = false
 
 -- whether an arrival gave what its link took
 abbrev pub is_given : PairOutcome → Bool
@@ -66,13 +110,16 @@ is_given (PairOutcome.Took opened) = true
 is_given other = false
 
 -- whether the node is in step after an arrival
-abbrev pub in_step_after : Neighbour → Fields → Met → Bool
-in_step_after x p m = stays_in_step x.in_step m.change || (is_state p.header && is_taken m.outcome)
+abbrev pub in_step_after : Neighbour → Fields → Outset → Bool
+in_step_after x p o = stays_in_step x.in_step o.course.changes || (is_state p.header && is_given o.given)
 
--- what an arrival makes of a neighbour before the STATE that is due leaves; this message is begun then
-abbrev pub heard_neighbour : Neighbour → Fields → Met → Joining → Neighbour
-heard_neighbour x p m last = neighbour m.after last (in_step_after x p m)
+-- what an arrival makes of a neighbour before the STATE that is due leaves
+abbrev pub heard_neighbour : Neighbour → Fields → Outset → Neighbour
+heard_neighbour x p o = neighbour o.course.pair (in_step_after x p o)
 
--- the STATE that is due leaves
-abbrev pub answered_neighbour : Neighbour → Neighbour
-answered_neighbour x = neighbour (answered_end x.pair.link) x.pair.begun x.in_step
+-- the STATE that is due on a bearer leaves
+abbrev pub answering : ℕ → Neighbour → Course
+answering bearer x = at_bearer bearer x.pair (answered_near 0 false (no_broadcast x.in_step))
+
+abbrev pub answered_neighbour : ℕ → Neighbour → Neighbour
+answered_neighbour bearer x = neighbour (answering bearer x).pair x.in_step

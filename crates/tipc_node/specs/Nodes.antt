@@ -1,8 +1,7 @@
 -- A node, and what each call makes of it.
-use Rattle.std.specs.Prelude.{ℕ, ◌+◌, ◌-◌, ◌==◌, Bool, true, false, List, [], ◌∷◌, ◌++◌, Option, Some, None, drop, length, map, nat_le, nat_lt, not, is_some, option_and_then, slice_index_or, slice_set, sum_by, ◌&&◌, if◌then◌else◌}
+use Rattle.std.specs.Prelude.{ℕ, ◌+◌, ◌-◌, ◌==◌, Bool, true, false, List, [], ◌∷◌, ◌++◌, Option, Some, None, drop, length, map, nat_le, nat_lt, not, is_some, option_and_then, option_map, slice_index_or, slice_set, sum_by, ◌&&◌, if◌then◌else◌}
 use Rattle.std.specs.List.{flat_map}
 use Rattle.tipc_types.specs.Address.{node_word}
-use Rattle.tipc_types.specs.declared.link_words.LinkState.TheVariants.{ResetUnknown}
 use Rattle.tipc_types.specs.declared.link_words.Why.{Why}
 use Rattle.tipc_types.specs.declared.link_words.Why.TheVariants as why
 use Rattle.tipc_types.specs.declared.message_forms.Flow.TheVariants.{Zero}
@@ -22,15 +21,14 @@ use Rattle.tipc_journal.specs.Steps.{NodeStep, step_entries}
 use Rattle.tipc_header.specs.declared.fault.HeaderFault.{HeaderFault}
 use Rattle.tipc_header.specs.Faults.{fault_of, number_of}
 use Rattle.tipc_header.specs.Reading.{word_at}
-use Rattle.tipc_link_fsm.specs.Table.{is_up}
-use Rattle.tipc_link.specs.Links.{LinkEnd, mend_frames, mended_end}
-use Rattle.tipc_link.specs.Sessions.{SessionEnd}
-use Rattle.tipc_pair.specs.declared.changes.PairChange.{PairChange}
-use Rattle.tipc_pair.specs.declared.changes.PairChange.TheVariants.{Stay, Began, Ended}
+use Rattle.tipc_link.specs.Links.{LinkEnd}
+use Rattle.tipc_pair.specs.declared.transitions.Transition.{Transition}
+use Rattle.tipc_pair.specs.declared.transitions.Transition.TheVariants.{ContactDown, ContactUp, LinkDown, LinkUp}
 use Rattle.tipc_pair.specs.declared.changes.PairOutcome.{PairOutcome}
-use Rattle.tipc_pair.specs.Pairs.{contact_of, lonely}
-use Rattle.tipc_pair.specs.Partners.{opened_in}
-use Rattle.tipc_fragments.specs.Joining.{fresh}
+use Rattle.tipc_pair.specs.Courses.{Course}
+use Rattle.tipc_pair.specs.Facing.{PairEnds, active, contact_between, facing, in_contact}
+use Rattle.tipc_pair.specs.PairCalls.{load_of as link_load}
+use Rattle.tipc_pair.specs.Messages.{opened_in}
 use Rattle.tipc_reassembly.specs.declared.opening.Opened.{Opened}
 use Rattle.tipc_sockets.specs.SocketTables.{SocketTable}
 use Rattle.tipc_reassembly.specs.declared.opening.Opened.TheVariants.{Whole, Passed}
@@ -41,13 +39,13 @@ use Rattle.tipc_node.specs.declared.neighbours.Deed.{Deed}
 use Rattle.tipc_node.specs.declared.neighbours.Deed.TheVariants as deed
 use Rattle.tipc_node.specs.Limits.{free_entries, free_message_bytes, most_frame_bytes}
 use Rattle.tipc_node.specs.Messages.{message_in}
-use Rattle.tipc_node.specs.Neighbours.{done, neighbour}
+use Rattle.tipc_node.specs.Neighbours.{done, making, neighbour, stranger}
 
--- a node: its address word, its boot number, whether bearer 0 is mended, its neighbours by number, its sockets, and its journal
+-- a node: its address word, its boot number, whether bearer 0 is mended and whether bearer 1 is, its neighbours by number, its sockets, and its journal
 pub record NodeState : Type 0 where
   pub own : ℕ
   pub boot : ℕ
-  pub mended : Bool
+  pub mended : Bool × Bool
   pub neighbours : List (Option Neighbour)
   pub sockets : SocketTable
   pub journal : List Entry
@@ -58,15 +56,17 @@ neighbour_of n peer = slice_index_or n.neighbours peer None
 
 -- the contact in which node n is with a peer: n's own contact number, then the peer's
 abbrev pub contact_with : NodeState → ℕ → Option (ℕ × ℕ)
-contact_with n peer = option_and_then (λ x. contact_of x.pair.link) (neighbour_of n peer)
+contact_with n peer = option_and_then (λ x. contact_between x.pair) (neighbour_of n peer)
+
+-- the link end that is kept of a peer on a bearer
+abbrev pub end_with : ℕ → Option Neighbour → Option LinkEnd
+end_with bearer None = None
+end_with bearer (Some x) = (facing bearer x.pair).near
 
 abbrev pub with_neighbours : NodeState → List (Option Neighbour) → NodeState
 with_neighbours n xs = record { own = n.own; boot = n.boot; mended = n.mended; neighbours = xs; sockets = n.sockets; journal = n.journal }
 
-abbrev pub with_sockets : NodeState → SocketTable → NodeState
-with_sockets n sockets = record { own = n.own; boot = n.boot; mended = n.mended; neighbours = n.neighbours; sockets = sockets; journal = n.journal }
-
-abbrev pub with_mended : NodeState → Bool → NodeState
+abbrev pub with_mended : NodeState → Bool × Bool → NodeState
 with_mended n mended = record { own = n.own; boot = n.boot; mended = mended; neighbours = n.neighbours; sockets = n.sockets; journal = n.journal }
 
 -- ---- the journal
@@ -84,13 +84,15 @@ abbrev pub recorded : NodeState → By → EventNote → List Entry → Answer �
 recorded n by event inside answered =
     record { own = n.own; boot = n.boot; mended = n.mended; neighbours = n.neighbours; sockets = n.sockets; journal = n.journal ++ step_entries (step_of by event inside answered) }
 
--- what is recorded of a change of the link to a peer
-abbrev pub change_entries : ℕ → PairChange → List Entry
-change_entries peer Stay = []
-change_entries peer (Began own_epoch peer_epoch contact) =
-    entry.LinkUp (record { word = node_word peer }) 0 own_epoch peer_epoch ∷ entry.ContactUp (record { word = node_word peer }) contact ∷ []
-change_entries peer (Ended cause shown_epoch contact shown_contact) =
-    entry.LinkDown (record { word = node_word peer }) 0 cause shown_epoch ∷ entry.ContactDown (record { word = node_word peer }) contact (Some ResetUnknown, None) shown_contact ∷ []
+-- what is recorded of a change of the links to a peer, or of the contact with it
+abbrev pub change_entry : ℕ → Transition → Entry
+change_entry peer (LinkUp bearer own_epoch peer_epoch) = entry.LinkUp (record { word = node_word peer }) bearer own_epoch peer_epoch
+change_entry peer (LinkDown bearer cause shown_epoch) = entry.LinkDown (record { word = node_word peer }) bearer cause shown_epoch
+change_entry peer (ContactUp contact) = entry.ContactUp (record { word = node_word peer }) contact
+change_entry peer (ContactDown contact states shown) = entry.ContactDown (record { word = node_word peer }) contact states shown
+
+abbrev pub change_entries : ℕ → List Transition → List Entry
+change_entries peer changes = map (change_entry peer) changes
 
 -- whether an entry tells of a link, or of a contact
 abbrev pub is_change : Entry → Bool
@@ -106,72 +108,111 @@ abbrev pub after_one : Deed → Option Neighbour → Option Neighbour
 after_one d None = None
 after_one d (Some x) = Some (done d x).after
 
-abbrev pub frames_one : Deed → Option Neighbour → List Outgoing
-frames_one d None = []
-frames_one d (Some x) = (done d x).frames
+abbrev pub states_one : Deed → Option Neighbour → List Outgoing
+states_one d None = []
+states_one d (Some x) = (done d x).states
+
+abbrev pub numbered_one : Deed → Option Neighbour → List Outgoing
+numbered_one d None = []
+numbered_one d (Some x) = (done d x).numbered
 
 abbrev pub entries_one : Deed → ℕ → Option Neighbour → List Entry
 entries_one d number None = []
-entries_one d number (Some x) = change_entries number (done d x).change
+entries_one d number (Some x) = change_entries number (done d x).changes
 
 unfoldable pub after_all : Deed → List (Option Neighbour) → List (Option Neighbour)
 after_all d xs = map (after_one d) xs
 
-unfoldable pub frames_all : Deed → List (Option Neighbour) → List Outgoing
-frames_all d xs = flat_map (frames_one d) xs
+-- all frames of link states and of repeated packets leave first, and then those of packets that are numbered, by peer both times
+unfoldable pub states_all : Deed → List (Option Neighbour) → List Outgoing
+states_all d xs = flat_map (states_one d) xs
+
+unfoldable pub numbered_all : Deed → List (Option Neighbour) → List Outgoing
+numbered_all d xs = flat_map (numbered_one d) xs
+
+abbrev pub frames_all : Deed → List (Option Neighbour) → List Outgoing
+frames_all d xs = states_all d xs ++ numbered_all d xs
 
 -- the first of them has that number
 unfoldable pub entries_all : Deed → ℕ → List (Option Neighbour) → List Entry
 entries_all d number [] = []
 entries_all d number (x ∷ xs) = entries_one d number x ++ entries_all d (number + 1) xs
 
--- the session to a peer, where the node is in contact with it
-abbrev pub session_with : Option Neighbour → Option SessionEnd
-session_with None = None
-session_with (Some x) = if is_up x.pair.link.fsm.state then x.pair.link.session else None
+-- how many packets are unacknowledged and how many wait on the active link to a peer, where the node is in contact with it
+abbrev pub active_load : PairEnds → Option (ℕ × ℕ)
+active_load x = option_map (λ bearer. link_load (facing bearer x).near) (active x)
 
--- how many packets are unacknowledged, and how many wait, on a link: none without contact
-abbrev pub unacked_in : Option SessionEnd → ℕ
+abbrev pub load_with : Option Neighbour → Option (ℕ × ℕ)
+load_with None = None
+load_with (Some x) = active_load x.pair
+
+-- whether there is contact with a peer
+abbrev pub is_met : Option Neighbour → Bool
+is_met None = false
+is_met (Some x) = in_contact x.pair
+
+-- each of the two: none without contact
+abbrev pub unacked_in : Option (ℕ × ℕ) → ℕ
 unacked_in None = 0
-unacked_in (Some s) = length s.sending.unacked
+unacked_in (Some load) = load.0
 
-abbrev pub waiting_in : Option SessionEnd → ℕ
+abbrev pub waiting_in : Option (ℕ × ℕ) → ℕ
 waiting_in None = 0
-waiting_in (Some s) = length s.sending.waiting
+waiting_in (Some load) = load.1
 
--- how many packets are unacknowledged, and how many wait, on all links of a node that are up
+-- how many are unacknowledged and how many wait on the link of a bearer, where it is up
+abbrev pub load_on : ℕ → Option Neighbour → ℕ × ℕ
+load_on bearer x = link_load (end_with bearer x)
+
+-- and on all links of a node that are up
 unfoldable pub load_all : List (Option Neighbour) → ℕ × ℕ
-load_all xs = (sum_by (λ x. unacked_in (session_with x)) xs, sum_by (λ x. waiting_in (session_with x)) xs)
+load_all xs = (sum_by (λ x. (load_on 0 x).0 + (load_on 1 x).0) xs, sum_by (λ x. (load_on 0 x).1 + (load_on 1 x).1) xs)
 
 abbrev pub load_of : NodeState → ℕ × ℕ
 load_of n = load_all n.neighbours
 
--- the entry of a message that is accepted for a peer, to which this is the link end
-abbrev pub accepted_entry : ℕ → LinkEnd → Message → Entry
-accepted_entry peer e m = entry.Accepted (record { word = node_word peer }) (e.contact, e.peer_contact) Zero m
+-- the entry of a message that is accepted for a peer, to which this is the pair
+abbrev pub accepted_entry : ℕ → PairEnds → Message → Entry
+accepted_entry peer x m = entry.Accepted (record { word = node_word peer }) (x.contact, x.seen) Zero m
 
 -- ---- all neighbours at once
 
 abbrev pub deed_note : Deed → EventNote
-deed_note deed.Mend = event.Mend 0
-deed_note deed.Cut = event.Cut 0
+deed_note (deed.Mend bearer) = event.Mend bearer
+deed_note (deed.Cut bearer) = event.Cut bearer
 deed_note deed.Tick = event.Tick
 
-abbrev pub mended_by : Deed → Bool → Bool
-mended_by deed.Mend mended = true
-mended_by deed.Cut mended = false
+-- whether a bearer is mended; there are two: 0 and 1
+abbrev pub is_mended_on : Bool × Bool → ℕ → Bool
+is_mended_on mended bearer = if bearer == 0 then mended.0 else ((bearer == 1) && mended.1)
+
+abbrev pub with_mended_on : Bool × Bool → ℕ → Bool → Bool × Bool
+with_mended_on mended bearer now = if bearer == 0 then (now, mended.1) else (mended.0, now)
+
+abbrev pub mended_by : Deed → Bool × Bool → Bool × Bool
+mended_by (deed.Mend bearer) mended = with_mended_on mended bearer true
+mended_by (deed.Cut bearer) mended = with_mended_on mended bearer false
 mended_by deed.Tick mended = mended
 
 -- ---- a link end to a peer is made
 
-abbrev pub new_pair : NodeState → ℕ → LinkEnd
-new_pair n peer = lonely n.own (node_word peer) n.boot
+-- what is kept of a peer, which may be a stranger still
+abbrev pub acquaintance : NodeState → ℕ → Option Neighbour → Neighbour
+acquaintance n peer None = stranger n.own peer n.boot
+acquaintance n peer (Some x) = x
 
-abbrev pub known_node : NodeState → ℕ → NodeState
-known_node n peer = with_neighbours n (slice_set n.neighbours peer (Some (neighbour (if n.mended then mended_end (new_pair n peer) else new_pair n peer) fresh false)))
+-- the end on a bearer is made, and says that it is mended where the bearer is
+abbrev pub known_course : NodeState → ℕ → ℕ → Course
+known_course n peer bearer = making bearer (is_mended_on n.mended bearer) (acquaintance n peer (neighbour_of n peer))
 
-abbrev pub known_frames : NodeState → ℕ → List Outgoing
-known_frames n peer = if n.mended then mend_frames (new_pair n peer) else []
+abbrev pub known_neighbour : NodeState → ℕ → ℕ → Neighbour
+known_neighbour n peer bearer = neighbour (known_course n peer bearer).pair (acquaintance n peer (neighbour_of n peer)).in_step
+
+abbrev pub known_node : NodeState → ℕ → ℕ → NodeState
+known_node n peer bearer = with_neighbours n (slice_set n.neighbours peer (Some (known_neighbour n peer bearer)))
+
+abbrev pub known_frames : NodeState → ℕ → ℕ → List Outgoing
+known_frames n peer bearer = (known_course n peer bearer).states
 
 -- ---- arrivals
 
@@ -205,13 +246,14 @@ arrival_answer (PairOutcome.Took opened) deliveries = arrival.Took (message_coun
 arrival_answer PairOutcome.Deferred deliveries = arrival.Deferred
 arrival_answer (PairOutcome.Ignored reason) deliveries = arrival.Ignored reason
 
--- the contact that a link end shows
-abbrev pub shown_contact : LinkEnd → ℕ × ℕ
-shown_contact e = (e.contact, e.peer_contact)
+-- the contact that a pair shows
+abbrev pub shown_contact : PairEnds → ℕ × ℕ
+shown_contact x = (x.contact, x.seen)
 
--- what an arrival from a peer delivers, whose link end is this one after it
-abbrev pub arrival_deliveries : ℕ → LinkEnd → PairOutcome → List Delivery
-arrival_deliveries peer e out = deliveries_of peer (shown_contact e) (opened_in out)
+-- what an arrival from a peer delivers, which found the pair like this: something is given only in a contact that lasts, or begins under
+-- these numbers
+abbrev pub arrival_deliveries : ℕ → PairEnds → PairOutcome → List Delivery
+arrival_deliveries peer x out = deliveries_of peer (shown_contact x) (opened_in out)
 
 -- ---- an arrival that reaches no link
 
@@ -222,21 +264,23 @@ is_frame_size bytes = nat_le 16 bytes && nat_le bytes most_frame_bytes
 unfoldable pub is_other : ℕ → ℕ → Bool
 is_other own word = nat_lt (node_word 0) word && (nat_le word (node_word 32) && not (word == own))
 
--- the sender that a frame names has to be another of the 32 nodes, and a neighbour
-abbrev pub stop_by_sender : ℕ → List (Option Neighbour) → ℕ → Option Why
-stop_by_sender own neighbours word =
-    if is_other own word then (if is_some (slice_index_or neighbours (word - node_word 0) None) then None else Some why.Unknown) else Some why.Own
+-- the sender that a frame names has to be another of the 32 nodes, and there has to be a link end to it on the bearer
+abbrev pub stop_by_sender : ℕ → List (Option Neighbour) → ℕ → ℕ → Option Why
+stop_by_sender own neighbours bearer word =
+    if is_other own word
+    then (if is_some (end_with bearer (slice_index_or neighbours (word - node_word 0) None)) then None else Some why.Unknown)
+    else Some why.Own
 
-abbrev pub stop_by_fault : ℕ → List (Option Neighbour) → List ℕ → Option HeaderFault → Option Why
-stop_by_fault own neighbours bytes (Some fault) = Some (why.Header (number_of fault))
-stop_by_fault own neighbours bytes None = stop_by_sender own neighbours (word_at 3 (drop 16 bytes))
+abbrev pub stop_by_fault : ℕ → List (Option Neighbour) → ℕ → List ℕ → Option HeaderFault → Option Why
+stop_by_fault own neighbours bearer bytes (Some fault) = Some (why.Header (number_of fault))
+stop_by_fault own neighbours bearer bytes None = stop_by_sender own neighbours bearer (word_at 3 (drop 16 bytes))
 
--- why a frame that arrives on a bearer reaches no link, the first reason that holds: the bearer is cut, as bearer 1 always is; it
--- has no frame's size; its packet has a fault; it names no other node as its sender; there is no link end to that
-unfoldable pub stop_among : ℕ → Bool → List (Option Neighbour) → ℕ → List ℕ → Option Why
+-- why a frame that arrives on a bearer reaches no link, the first reason that holds: the bearer is cut; it has no frame's size; its packet
+-- has a fault; it names no other node as its sender; there is no link end to that on the bearer
+unfoldable pub stop_among : ℕ → Bool × Bool → List (Option Neighbour) → ℕ → List ℕ → Option Why
 stop_among own mended neighbours bearer bytes =
-    if mended && (bearer == 0)
-    then (if is_frame_size (length bytes) then stop_by_fault own neighbours bytes (fault_of (drop 16 bytes)) else Some why.Envelope)
+    if is_mended_on mended bearer
+    then (if is_frame_size (length bytes) then stop_by_fault own neighbours bearer bytes (fault_of (drop 16 bytes)) else Some why.Envelope)
     else Some why.Cut
 
 abbrev pub stop_of : NodeState → ℕ → List ℕ → Option Why

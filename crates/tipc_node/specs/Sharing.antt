@@ -12,7 +12,7 @@ use Rattle.tipc_journal.specs.Names.{live}
 use Rattle.tipc_journal.specs.Streams.{Stream, accepted, delivered}
 use Rattle.tipc_name_dist.specs.Agreeing.{Agrees, AreOwn}
 use Rattle.tipc_name_dist.specs.Applying.{applied_each, held_after}
-use Rattle.tipc_link_fsm.specs.Table.{is_up}
+use Rattle.tipc_pair.specs.Facing.{in_contact}
 use Rattle.tipc_node.specs.declared.neighbours.Neighbour.{Neighbour}
 use Rattle.tipc_node.specs.Nodes.{NodeState, neighbour_of}
 use Rattle.tipc_node.specs.Turns.{addr_of}
@@ -35,9 +35,9 @@ IsUnused journal peer number = (theirs : ℕ)
 -- so it is with a contact that is yet to begin: of a peer that isn't known, under a later number, and under the next one
 pub record AreUnused (n : NodeState) : Type 0 where
   pub strangers : (b number : ℕ) → neighbour_of n b ≡ None → IsUnused n.journal b number
-  pub later : (b number : ℕ) (x : Neighbour) → neighbour_of n b ≡ Some x → x.pair.link.contact < number → IsUnused n.journal b number
-  pub next : (b : ℕ) (x : Neighbour) → neighbour_of n b ≡ Some x → is_up x.pair.link.fsm.state ≡ false
-      → IsUnused n.journal b x.pair.link.contact
+  pub later : (b number : ℕ) (x : Neighbour) → neighbour_of n b ≡ Some x → x.pair.contact < number → IsUnused n.journal b number
+  pub next : (b : ℕ) (x : Neighbour) → neighbour_of n b ≡ Some x → in_contact x.pair ≡ false
+      → IsUnused n.journal b x.pair.contact
 
 pub record SharesNames (n : NodeState) : Type 0 where
   -- its live publications are its own, each of a range that has instances

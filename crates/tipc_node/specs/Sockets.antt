@@ -21,7 +21,7 @@ use Rattle.tipc_sockets.specs.declared.publishing.PublishFault.TheVariants as fa
 use Rattle.tipc_sockets.specs.Publishing.{closed, is_at, own_publication, published_at, publish_refusal}
 use Rattle.tipc_sockets.specs.SocketTables.{has_port, queue_at, taken_from, with_queues, with_watchers, SocketTable}
 use Rattle.tipc_node.specs.declared.neighbours.Neighbour.{Neighbour}
-use Rattle.tipc_node.specs.Nodes.{NodeState, session_with, waiting_in}
+use Rattle.tipc_node.specs.Nodes.{NodeState, load_with, waiting_in}
 use Rattle.tipc_node.specs.Works.{Work, begun, noted}
 
 -- the work on a step that changed the sockets so, and nothing else
@@ -153,10 +153,10 @@ names_limit = 1000
 
 -- whether as many packets wait on the link to the peer of that number
 abbrev pub is_crowded : List (Option Neighbour) → ℕ → Bool
-is_crowded xs peer = nat_le names_limit (waiting_in (session_with (slice_index_or xs peer None)))
+is_crowded xs peer = nat_le names_limit (waiting_in (load_with (slice_index_or xs peer None)))
 
 abbrev pub crowded_answer : List (Option Neighbour) → ℕ → Answer
-crowded_answer xs peer = answer.NamesCongested peer (waiting_in (session_with (slice_index_or xs peer None)))
+crowded_answer xs peer = answer.NamesCongested peer (waiting_in (load_with (slice_index_or xs peer None)))
 
 -- the lowest peer on whose link as many packets wait
 unfoldable pub first_crowded : List (Option Neighbour) → Option ℕ

@@ -1,6 +1,6 @@
 -- What a node's journal tells of the node: it is whole steps, each answered as it may be, in which each message has its fate; and contacts,
 -- links that are up, sockets and names are what it says. What a packet tells of its sender.
-use Rattle.std.specs.Prelude.{◌≡◌, ◌≤◌, ◌<◌, ◌⊎◌, ℕ, ◌||◌, Bool, true, false, List, [], Option, Some, None, if◌then◌else◌, is_some, length, option_and_then}
+use Rattle.std.specs.Prelude.{◌≡◌, ◌≤◌, ◌<◌, ◌⊎◌, IfSome, nat_le, ℕ, ◌||◌, Bool, true, false, List, [], Option, Some, None, if◌then◌else◌, is_some, length, option_and_then}
 use Rattle.std.specs.List.{All, list_all}
 use Rattle.tipc_types.specs.Address.{node_word}
 use Rattle.tipc_types.specs.declared.identity.Addr.{Addr}
@@ -22,7 +22,7 @@ use Rattle.tipc_journal.specs.Steps.{IsWhole, steps}
 use Rattle.tipc_link_fsm.specs.Table.{is_reset_reset, is_up}
 use Rattle.tipc_link.specs.Links.{LinkEnd, known}
 use Rattle.tipc_link.specs.Sessions.{SessionEnd}
-use Rattle.tipc_pair.specs.Pairs.{contact_of}
+use Rattle.tipc_pair.specs.Facing.{PairEnds, contact_between, facing}
 use Rattle.tipc_ports.specs.Numbers.{port_number}
 use Rattle.tipc_sockets.specs.SocketTables.{AreSockets}
 use Rattle.tipc_sockets.specs.Telling.{AreTold}
@@ -30,7 +30,7 @@ use Rattle.tipc_node.specs.declared.neighbours.Neighbour.{Neighbour}
 use Rattle.tipc_node.specs.Messages.{limit_of}
 use Rattle.tipc_node.specs.Nodes.{NodeState, neighbour_of}
 use Rattle.tipc_node.specs.Works.{addr_of_word}
-use Rattle.tipc_node.specs.Turns.{addr_of, link_in}
+use Rattle.tipc_node.specs.Turns.{addr_of, pair_in}
 
 -- the two epochs of a link that is up
 abbrev pub epochs_of : LinkEnd → Option (ℕ × ℕ)
@@ -44,16 +44,28 @@ abbrev pub silence_in : Option LinkEnd → ℕ
 silence_in None = 0
 silence_in (Some e) = silence_of e
 
+-- the two epochs of the link of a bearer to a peer, where it is up; there are two bearers
+abbrev pub epochs_on : ℕ → PairEnds → Option (ℕ × ℕ)
+epochs_on bearer x = if nat_le bearer 1 then option_and_then epochs_of (facing bearer x).near else None
+
 -- an end that is up or heard its peer's reset has seen no epoch of the peer above the one that it knows; and one that is up has a session
 pub record IsAbreast (e : LinkEnd) : Type 0 where
   pub peer_is : (is_up e.fsm.state || is_reset_reset e.fsm.state) ≡ true → e.fsm.peer ≡ Some e.fsm.highest
   pub begun : is_up e.fsm.state ≡ true → is_some e.session ≡ true
 
--- a journal tells the contact with node p, and the epochs of the link to it where it is up
-pub record TellsOf (journal : List Entry) (p : ℕ) (link : Option LinkEnd) : Type 0 where
-  pub contact_is : contact journal (addr_of p) ≡ option_and_then contact_of link
-  pub epochs_are : up_epochs journal (addr_of p) 0 ≡ option_and_then epochs_of link
-  pub abreast : (e : LinkEnd) → link ≡ Some e → IsAbreast e
+-- a pair, seen from bearer 0's link, whose ends are so, each on its bearer
+pub record AreAbreast (x : PairEnds) : Type 0 where
+  pub first : x.bearer ≡ 0
+  pub near : IfSome x.near IsAbreast
+  pub far : IfSome x.far IsAbreast
+  pub near_on : IfSome x.near (λ (e : LinkEnd). e.bearer ≡ 0)
+  pub far_on : IfSome x.far (λ (e : LinkEnd). e.bearer ≡ 1)
+
+-- a journal tells the contact with node p, and the epochs of each link to it that is up
+pub record TellsOf (journal : List Entry) (p : ℕ) (pair : Option PairEnds) : Type 0 where
+  pub contact_is : contact journal (addr_of p) ≡ option_and_then contact_between pair
+  pub epochs_are : (bearer : ℕ) → up_epochs journal (addr_of p) bearer ≡ option_and_then (epochs_on bearer) pair
+  pub abreast : IfSome pair AreAbreast
 
 -- a publication is the node's own, or of a node in contact
 abbrev pub is_in_reach : ℕ → List Entry → Publication → Bool
@@ -82,12 +94,20 @@ AllFull entries = All (λ p. IsFull p.step.event p.step.answer) (steps entries)
 abbrev pub IsPacked : SessionEnd → Type 0
 IsPacked s = (length s.sending.unacked ≤ 50) × ((s.sending.waiting ≡ []) ⊎ (length s.sending.unacked ≡ 50))
 
+-- so it is at the session of a link end, where it has one
+abbrev pub IsPackedEnd : LinkEnd → Type 0
+IsPackedEnd e = IfSome e.session IsPacked
+
+pub record IsPackedPair (x : PairEnds) : Type 0 where
+  pub near : IfSome x.near IsPackedEnd
+  pub far : IfSome x.far IsPackedEnd
+
 abbrev pub ArePacked : NodeState → Type 0
-ArePacked n = (b : ℕ) (x : Neighbour) (s : SessionEnd) → neighbour_of n b ≡ Some x → x.pair.link.session ≡ Some s → IsPacked s
+ArePacked n = (b : ℕ) (x : Neighbour) → neighbour_of n b ≡ Some x → IsPackedPair x.pair
 
 pub record IsTold (n : NodeState) : Type 0 where
   pub whole : IsWhole n.journal
-  pub links : (p : ℕ) → TellsOf n.journal p (link_in n p)
+  pub links : (p : ℕ) → TellsOf n.journal p (pair_in n p)
   -- no neighbour has the number 0; and there is no contact with the node itself, or with an address below those of the cluster
   pub nobody : neighbour_of n 0 ≡ None
   pub alone : contact n.journal (addr_of_word n.own) ≡ None

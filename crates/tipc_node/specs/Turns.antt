@@ -1,12 +1,12 @@
 -- What a node does in one event, in one form for all of them: it records a step, and at the pair to each peer it takes a turn, of which the
 -- step tells. What else changes (sockets, say) is beside it.
-use Rattle.std.specs.Prelude.{◌≡◌, ◌<◌, ◌^◌, ℕ, ◌==◌, Bool, true, false, List, [], ◌∷◌, ◌++◌, Option, Some, None, filter, is_some, map, option_map}
+use Rattle.std.specs.Prelude.{◌≡◌, ◌≤◌, ◌<◌, ◌^◌, ℕ, ◌==◌, Bool, true, false, List, [], ◌∷◌, ◌++◌, Option, Some, None, filter, is_some, map, option_map}
 use Rattle.std.specs.List.{All, flat_map}
+use Rattle.std.specs.Prelude.{IfSome}
 use Rattle.tipc_types.specs.Address.{node_word}
 use Rattle.tipc_types.specs.declared.identity.Addr.{Addr}
 use Rattle.tipc_types.specs.declared.identity.To.{To}
 use Rattle.tipc_types.specs.declared.identity.To.TheVariants as to
-use Rattle.tipc_types.specs.declared.link_words.BroadcastState.{BroadcastState}
 use Rattle.tipc_types.specs.declared.message_forms.Flow.TheVariants.{Zero}
 use Rattle.tipc_types.specs.declared.message_forms.Message.{Message}
 use Rattle.tipc_types.specs.declared.node_calls.Answer.TheVariants as answer
@@ -27,9 +27,10 @@ use Rattle.tipc_link.specs.Links.{LinkEnd}
 use Rattle.tipc_link.specs.Sessions.{SessionEnd}
 use Rattle.tipc_pair.specs.declared.changes.PairOutcome.{PairOutcome}
 use Rattle.tipc_pair.specs.declared.changes.PairOutcome.TheVariants as outcome
-use Rattle.tipc_pair.specs.Partners.{PairState, opened_in}
-use Rattle.tipc_pair.specs.Turns.{Opening, PairTurn, ShowsAtLast, ShowsIn}
-use Rattle.tipc_pair.specs.Turns.Opening.{rests, mends, cuts, ticks, hears}
+use Rattle.tipc_pair.specs.Facing.{PairEnds}
+use Rattle.tipc_pair.specs.Messages.{opened_in}
+use Rattle.tipc_pair.specs.PairTurns.{Opening, PairTurn, Reply, ShowsAtLast, ShowsIn}
+use Rattle.tipc_pair.specs.PairTurns.Opening.{rests, makes, mends, cuts, ticks, hears}
 use Rattle.tipc_node.specs.declared.neighbours.Neighbour.{Neighbour}
 use Rattle.tipc_node.specs.Messages.{IsSendable, bytes_of, message_in}
 use Rattle.tipc_node.specs.Nodes.{NodeState, accepted_entry, change_entries, neighbour_of, shown_contact}
@@ -37,13 +38,13 @@ use Rattle.tipc_node.specs.Nodes.{NodeState, accepted_entry, change_entries, nei
 abbrev pub addr_of : ℕ → Addr
 addr_of n = record { word = node_word n }
 
--- the link end to a peer
-abbrev pub link_in : NodeState → ℕ → Option LinkEnd
-link_in n peer = option_map (λ x. x.pair.link) (neighbour_of n peer)
+-- the pair to a peer
+abbrev pub pair_in : NodeState → ℕ → Option PairEnds
+pair_in n peer = option_map (λ x. x.pair) (neighbour_of n peer)
 
 -- ---- what a step tells of a peer
 
--- an entry tells of the link to node b, or of the contact with it
+-- an entry tells of a link to node b, or of the contact with it
 abbrev pub is_change_of : ℕ → Entry → Bool
 is_change_of b (entry.LinkUp peer bearer own theirs) = peer.word == node_word b
 is_change_of b (entry.LinkDown peer bearer cause shown) = peer.word == node_word b
@@ -70,8 +71,8 @@ abbrev pub delivered_of : ℕ → ℕ × ℕ → Opened → List Entry
 delivered_of b contact (Whole packet by) = delivered_message b contact (message_in packet) by
 delivered_of b contact (Passed place) = []
 
-abbrev pub given_entries : ℕ → LinkEnd → PairOutcome → List Entry
-given_entries b e given = flat_map (delivered_of b (shown_contact e)) (opened_in given)
+abbrev pub given_entries : ℕ → PairEnds → PairOutcome → List Entry
+given_entries b x given = flat_map (delivered_of b (shown_contact x)) (opened_in given)
 
 -- ---- frames
 
@@ -88,23 +89,38 @@ abbrev pub frames_to : ℕ → List Outgoing → List Outgoing
 frames_to b frames = filter (is_out_to b) frames
 
 -- a link end whose frames are for the node with that address word
-pub record Names (word : ℕ) (e : LinkEnd) : Type 0 where
+pub record IsEndTo (word : ℕ) (e : LinkEnd) : Type 0 where
   pub peer : e.peer ≡ word
   pub session : (s : SessionEnd) → e.session ≡ Some s → s.peer ≡ word
 
--- each link end of the node is for the peer under whose number it stands
+-- a pair, seen from bearer 0's link, whose frames are for it
+pub record Names (word : ℕ) (x : PairEnds) : Type 0 where
+  pub first : x.bearer ≡ 0
+  pub peer : x.peer ≡ word
+  pub near : IfSome x.near (IsEndTo word)
+  pub far : IfSome x.far (IsEndTo word)
+
+-- each pair of the node is for the peer under whose number it stands
 abbrev pub AreNamed : NodeState → Type 0
-AreNamed n = (b : ℕ) (x : Neighbour) → neighbour_of n b ≡ Some x → Names (node_word b) x.pair.link
+AreNamed n = (b : ℕ) (x : Neighbour) → neighbour_of n b ≡ Some x → Names (node_word b) x.pair
 
 -- ---- the turn at one peer
 
 -- what happened at the pair first is the event of the step
 abbrev pub Suits : EventNote → Opening → Type 0
 Suits note rests = Unit {0}
-Suits note mends = note ≡ event.Mend 0
-Suits note cuts = note ≡ event.Cut 0
+Suits note (makes bearer is_mended) = ⊥
+Suits note (mends bearer) = note ≡ event.Mend bearer
+Suits note (cuts bearer) = note ≡ event.Cut bearer
 Suits note (ticks shown) = note ≡ event.Tick
-Suits note (hears es er p by shown) = note ≡ event.Arrive 0 by
+Suits note (hears bearer es er p by shown) = note ≡ event.Arrive bearer by
+
+-- it happened on one of the two bearers
+abbrev pub IsOnOne : Opening → Type 0
+IsOnOne (mends bearer) = bearer ≤ 1
+IsOnOne (cuts bearer) = bearer ≤ 1
+IsOnOne (hears bearer es er p by shown) = bearer ≤ 1
+IsOnOne other = Unit {0}
 
 -- a frame brings this packet, which names node b as its sender, under an envelope of these two epochs
 pub record IsFrom (b : ℕ) (bytes : List ℕ) (es er : ℕ) (p : Fields) : Type 0 where
@@ -116,10 +132,10 @@ pub record IsFrom (b : ℕ) (bytes : List ℕ) (es er : ℕ) (p : Fields) : Type
 
 -- what is heard came in the frame that arrived, from node b
 abbrev pub IsBrought : ℕ → List ℕ → Opening → Type 0
-IsBrought b bytes (hears es er p by shown) = IsFrom b bytes es er p
+IsBrought b bytes (hears bearer es er p by shown) = IsFrom b bytes es er p
 IsBrought b bytes other = Unit {0}
 
--- what an arrival answers that is of the link's session: its packet was taken, or waits until those before it were taken
+-- what an arrival answers that is of a link's session: its packet was taken, or waits until those before it were taken
 abbrev pub IsTakenIn : Arrival → Type 0
 IsTakenIn (arrival.Took messages) = Unit {0}
 IsTakenIn arrival.Deferred = Unit {0}
@@ -127,27 +143,28 @@ IsTakenIn (arrival.Ignored reason) = ⊥
 
 -- the pair heard what arrived, and didn't ignore it
 abbrev pub IsTakenBy : Opening → PairOutcome → Type 0
-IsTakenBy (hears es er p by shown) (outcome.Took opened) = Unit {0}
-IsTakenBy (hears es er p by shown) outcome.Deferred = Unit {0}
+IsTakenBy (hears bearer es er p by shown) (outcome.Took opened) = Unit {0}
+IsTakenBy (hears bearer es er p by shown) outcome.Deferred = Unit {0}
 IsTakenBy other given = ⊥
 
 -- The node's turn at the pair to node b in this step, in which these bytes arrived, where a frame did; all frames that left are these.
-pub record PeerTurn (own : ℕ) (bytes : List ℕ) (s : NodeStep) (frames : List Outgoing) (b : ℕ) (x x' : PairState) : Type 0 where
+pub record PeerTurn (own : ℕ) (bytes : List ℕ) (s : NodeStep) (frames : List Outgoing) (b : ℕ) (x x' : PairEnds) : Type 0 where
   pub opening : Opening
   pub suits : Suits s.event opening
+  pub on_one : IsOnOne opening
   pub brought : IsBrought b bytes opening
   pub shows : ShowsIn opening
   pub messages : List Message
   pub sendable : All (IsSendable own) messages
-  pub reply : Option BroadcastState
+  pub reply : Option Reply
   pub shows_last : ShowsAtLast reply
   pub own_frames : List Outgoing
   pub turn : PairTurn x opening (map (bytes_of own) messages) reply x' own_frames
   pub frames_are : frames_to b frames ≡ own_frames
   -- the step tells of it
-  pub changes : filter (is_change_of b) s.inside ≡ change_entries b turn.first.change
+  pub changes : filter (is_change_of b) s.inside ≡ change_entries b turn.first.course.changes
   pub accepted : filter (is_accepted_for b) s.inside ≡ map (accepted_entry b turn.put) messages
-  pub delivered : filter (is_delivered_from b) s.inside ≡ given_entries b turn.first.pair.link turn.first.given
+  pub delivered : filter (is_delivered_from b) s.inside ≡ given_entries b x turn.first.given
   pub taken : (answered : Arrival) (es er : ℕ) (p : Fields) → s.answer ≡ answer.Arrived answered → IsTakenIn answered
       → IsFrom b bytes es er p → IsTakenBy opening turn.first.given
 

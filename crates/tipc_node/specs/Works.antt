@@ -1,6 +1,6 @@
 -- A node's work on one step: what it has made so far of its neighbours and its sockets, and what happened inside the step. A message that
 -- arrived, or that the node sent to itself, has its fate at once; a return goes back at once.
-use Rattle.std.specs.Prelude.{◌≡◌, ◌-◌, ℕ, Bool, true, false, List, [], ◌∷◌, ◌++◌, Option, Some, None, filter, fold, is_some, length, option_map, slice_index_or, slice_set}
+use Rattle.std.specs.Prelude.{◌≡◌, ◌-◌, ℕ, Bool, true, false, List, [], ◌∷◌, ◌++◌, Option, Some, None, filter, fold, option_map, slice_index_or, slice_set}
 use Rattle.std.specs.List.{range_with_len}
 use Rattle.tipc_types.specs.Address.{node_word}
 use Rattle.tipc_types.specs.declared.identity.Addr.{Addr}
@@ -15,9 +15,7 @@ use Rattle.tipc_journal.specs.declared.entries.Entry.{Entry}
 use Rattle.tipc_journal.specs.Dues.{comes_home}
 use Rattle.tipc_journal.specs.Steps.{step_entries}
 use Rattle.tipc_name_dist.specs.Applying.{learnt_entries}
-use Rattle.tipc_link.specs.Links.{with_session}
-use Rattle.tipc_link.specs.Sessions.{SessionEnd, IsPut, flush_frames, flushed}
-use Rattle.tipc_pair.specs.Partners.{pieces_for}
+use Rattle.tipc_pair.specs.Messages.{pieces_for}
 use Rattle.tipc_sockets.specs.declared.fates.Fate.{Fate}
 use Rattle.tipc_sockets.specs.declared.fates.Fate.TheVariants.{Returned}
 use Rattle.tipc_sockets.specs.Fates.{after_fate, fate}
@@ -26,8 +24,8 @@ use Rattle.tipc_sockets.specs.Telling.{after_entry, fate_entry, origin_of}
 use Rattle.tipc_node.specs.declared.arriving.Delivery.{Delivery}
 use Rattle.tipc_node.specs.declared.neighbours.Neighbour.{Neighbour}
 use Rattle.tipc_node.specs.Messages.{IsSendable, bytes_of, destination_of}
-use Rattle.tipc_node.specs.Neighbours.{neighbour}
-use Rattle.tipc_node.specs.Nodes.{NodeState, accepted_entry, session_with, step_of}
+use Rattle.tipc_node.specs.Neighbours.{PutsThere}
+use Rattle.tipc_node.specs.Nodes.{NodeState, accepted_entry, is_met, load_with, step_of}
 
 -- the neighbours and the sockets so far, and the entries of the step so far
 pub record Work : Type 0 where
@@ -71,40 +69,30 @@ fated w m f = record { neighbours = w.neighbours; sockets = after_fate w.sockets
 abbrev pub neighbour_at : List (Option Neighbour) → Addr → Option Neighbour
 neighbour_at neighbours node = slice_index_or neighbours (node.word - node_word 0) None
 
--- how many packets wait on the link to a node, where there is contact
+-- how many packets wait on the active link to a node, where there is contact
 abbrev pub waiting_to : List (Option Neighbour) → Addr → Option ℕ
-waiting_to neighbours node = option_map (λ (s : SessionEnd). length s.sending.waiting) (session_with (neighbour_at neighbours node))
+waiting_to neighbours node = option_map (λ (load : ℕ × ℕ). load.1) (load_with (neighbour_at neighbours node))
 
--- a neighbour whose session is this one, but for the waiting packets that move up
-abbrev pub with_put : Neighbour → SessionEnd → Neighbour
-with_put x put = neighbour (with_session x.pair.link (flushed put)) x.pair.begun x.in_step
-
--- A message is accepted for the node of that number, and put on the link to it in the packets that it takes; these frames leave.
+-- A message is accepted for the node of that number, and put on the active link to it in the packets that it takes; these frames leave.
 pub record Puts (own : ℕ) (w : Work) (peer : ℕ) (m : Message) (w' : Work) (frames : List Outgoing) : Type 0 where
   pub neighbour : Neighbour
   pub was : slice_index_or w.neighbours peer None ≡ Some neighbour
-  pub session : SessionEnd
-  pub session_is : session_with (Some neighbour) ≡ Some session
   pub sendable : IsSendable own m
-  pub put : SessionEnd
-  pub put_is : IsPut session (pieces_for (bytes_of own m)) put
+  pub then : Neighbour
+  pub puts : PutsThere neighbour (pieces_for (bytes_of own m)) then frames
   pub after : w' ≡ record {
-    neighbours = slice_set w.neighbours peer (Some (with_put neighbour put));
+    neighbours = slice_set w.neighbours peer (Some then);
     sockets = w.sockets;
-    inside = w.inside ++ accepted_entry peer neighbour.pair.link m ∷ [];
+    inside = w.inside ++ accepted_entry peer neighbour.pair m ∷ [];
   }
-  pub frames_are : frames ≡ flush_frames put
 
 -- what that makes of the neighbour alone, of what is told, and of the box of frames
 pub record PutsOn (own : ℕ) (x x' : Neighbour) (peer : ℕ) (m : Message) (inside inside' : List Entry) (box box' : Out) : Type 0 where
-  pub session : SessionEnd
-  pub session_is : session_with (Some x) ≡ Some session
   pub sendable : IsSendable own m
-  pub put : SessionEnd
-  pub put_is : IsPut session (pieces_for (bytes_of own m)) put
-  pub after : x' ≡ with_put x put
-  pub told : inside' ≡ inside ++ accepted_entry peer x.pair.link m ∷ []
-  pub adds : Adds box box' (flush_frames put)
+  pub frames : List Outgoing
+  pub puts : PutsThere x (pieces_for (bytes_of own m)) x' frames
+  pub told : inside' ≡ inside ++ accepted_entry peer x.pair m ∷ []
+  pub adds : Adds box box' frames
 
 -- it is put for the node that it is for
 abbrev pub GoesAway : ℕ → Work → Message → Work → List Outgoing → Type 0
@@ -121,7 +109,7 @@ pub data PutsEach (own peer : ℕ) : Work → List Message → Work → List Out
 
 -- whether there is contact with the peer of that number
 abbrev pub is_in_contact : List (Option Neighbour) → ℕ → Bool
-is_in_contact xs peer = is_some (session_with (slice_index_or xs peer None))
+is_in_contact xs peer = is_met (slice_index_or xs peer None)
 
 -- the peers with which there is contact, in order of their numbers
 unfoldable pub in_contact : List (Option Neighbour) → List ℕ

@@ -8,13 +8,13 @@ ghost use Rattle.tipc_header.specs.Grammar.{Fits};
 ghost use Rattle.tipc_header.specs.Spelling.{spelling, view};
 ghost use Rattle.tipc_journal.specs.Room.{counted_bytes, entry_bytes};
 ghost use Rattle.tipc_reassembly.specs.declared.opening.Opened.TheVariants.{Whole};
-ghost use Rattle.tipc_pair.specs.Partners.{opened_in};
+ghost use Rattle.tipc_pair.specs.Messages.{opened_in};
 ghost use Rattle.tipc_node.specs.Deliveries.{HasNoFault};
 ghost use Rattle.tipc_node.specs.Hearings.{IsPrepared};
 ghost use Rattle.tipc_node.specs.Limits.{free_entries, free_message_bytes};
-ghost use Rattle.tipc_node.specs.Nodes.{arrival_answer, deliveries_of, delivered_by, delivery_of, is_other, message_count, shown_contact, stop_among, taken_count};
+ghost use Rattle.tipc_node.specs.Nodes.{arrival_answer, deliveries_of, delivered_by, delivery_of, end_with, is_other, message_count, stop_among, taken_count};
 
-use crate::neighbours::Neighbour;
+use crate::neighbours::{Bearers, Neighbour, is_mended_on, no_broadcast};
 use crate::recording::{FREE_ENTRIES, FREE_MESSAGE_BYTES};
 use std::alloc::Global;
 use tipc_header::{Packet, decode, open_frame};
@@ -27,9 +27,12 @@ use tipc_types::{Addr, Arrival, Flow, Message, NoMemory, Why};
 /// The most entries of what an arrival delivers, of the free entries that a call needs.
 const MOST_TOLD: usize = FREE_ENTRIES as usize - 4;
 
-/// A packet that is due at the link of the node that it names as its sender, and the two numbers of its envelope.
+/// A packet that is due at the link of a bearer to the node that it names as its sender, and the two numbers of its
+/// envelope.
 #[derive(Clone, Copy)]
 pub struct Due<'a> {
+    /// The bearer, 0 or 1.
+    pub bearer: u8,
     /// The sender's number.
     pub peer: u8,
     /// The first number of the envelope.
@@ -44,18 +47,19 @@ pub struct Due<'a> {
 #[tactic(auto, unfolding(crate::specs::Nodes::stop_among))]
 pub fn look<'a>(
     own: Addr,
-    mended: bool,
+    mended: Bearers,
     neighbours: &[Option<Neighbour>],
     bearer: u8,
     frame: &'a [u8],
 ) -> Result<Due<'a>, Why>
-    ensures due { IfOk result (λ d. (1 ≤ d.peer) × (d.peer ≤ 32) × Fits (view d.packet) ×
+    ensures due { IfOk result (λ d. (1 ≤ d.peer) × (d.peer ≤ 32) × (d.bearer ≤ 1) × Fits (view d.packet) ×
         (frame.now ≡ frame_of d.first d.second (spelling (view d.packet))) × (d.packet.previous ≡ node_word d.peer) ×
-        (is_some (slice_index_or neighbours.now d.peer None) ≡ true)) }
+        (is_some (end_with d.bearer (slice_index_or neighbours.now d.peer None)) ≡ true)) }
+    ensures bearer { IfOk result (λ d. d.bearer ≡ bearer) }
     ensures clear { IfOk result (λ d. stop_among own.word mended neighbours.now bearer frame.now ≡ None) }
     ensures stopped { IfErr result (λ why. stop_among own.word mended neighbours.now bearer frame.now ≡ Some why) }
 {
-    if !mended || bearer != 0 {
+    if !is_mended_on(mended, bearer) {
         return Err(Why::Cut);
     }
     let Some(opened) = open_frame(frame) else {
@@ -68,10 +72,11 @@ pub fn look<'a>(
     let Some(peer) = sender_of(own, packet.previous) else {
         return Err(Why::Own);
     };
-    if !is_known(neighbours, peer) {
+    if !has_end(neighbours, peer, bearer) {
         return Err(Why::Unknown);
     }
     Ok(Due {
+        bearer,
         peer,
         first: opened.first,
         second: opened.second,
@@ -93,12 +98,13 @@ fn sender_of(own: Addr, previous: u32) -> Option<u8>
     }
 }
 
-/// Whether there is a link end to the peer.
-pub fn is_known(neighbours: &[Option<Neighbour>], peer: u8) -> bool
-    ensures { result ≡ is_some (slice_index_or neighbours.now peer None) }
+/// Whether there is a link end to the peer on a bearer, 0 or 1.
+pub fn has_end(neighbours: &[Option<Neighbour>], peer: u8, bearer: u8) -> bool
+    requires { bearer ≤ 1 }
+    ensures { result ≡ is_some (end_with bearer (slice_index_or neighbours.now peer None)) }
 {
     match neighbours.get(peer as usize) {
-        Some(Some(_)) => true,
+        Some(Some(neighbour)) => neighbour.pair.state(bearer).is_some(),
         _ => false,
     }
 }
@@ -237,10 +243,10 @@ fn counted_bytes(entry: &Entry) -> u64
     }
 }
 
-/// Whether these entries have room in the step that tells of an arrival, beside its begin, its end, and two changes.
+/// Whether these entries have room in the step that tells of a call, beside its begin, its end, and two more.
 ///
-/// They always have: what is given at once came in the packets that were held, 50 at most, and in this one, beside a
-/// message that was begun. A frame has at most 1,516 bytes, and each user's message in it has three entries at most
+/// They always have: a call changes the links and the contact of a pair three times at most. What an arrival gives at
+/// once came in the packets that were held, 50 at most, and in this one, beside a message that was begun. A frame has at most 1,516 bytes, and each user's message in it has three entries at most
 /// in 24 bytes or more, each message of items one more than it has items, of 20 bytes: some ten thousand entries at
 /// most, and some 300,000 bytes with the returns. A greeting has 1,024 items at most, in 15 messages.
 pub fn fits(entries: &[Entry]) -> bool
@@ -293,8 +299,7 @@ pub fn arrival_answer(outcome: &PairOutcome, deliveries: &[Delivery]) -> Arrival
     }
 }
 
-/// What a packet that shows no contact number will make of a neighbour, what it delivers, and what will have become
-/// of it.
+/// What a packet will make of a neighbour, what it delivers, and what will have become of it.
 #[derive(Drop)]
 pub struct Hearing {
     /// The number of the arrival at this node.
@@ -307,8 +312,7 @@ pub struct Hearing {
     pub answer: Arrival,
 }
 
-/// What a packet that shows no contact number will make of a neighbour; `number` is the arrival's number at this
-/// node. Nothing is changed yet.
+/// What a packet will make of a neighbour; `number` is the arrival's number at this node. Nothing is changed yet.
 pub fn prepare(
     alloc: Global,
     neighbour: &Neighbour,
@@ -316,13 +320,16 @@ pub fn prepare(
     due: &Due<'_>,
 ) -> Result<Hearing, NoMemory>
     requires peer { (1 ≤ due.now.peer) × (due.now.peer ≤ 32) }
+    requires bearer { due.now.bearer ≤ 1 }
     requires fits { Fits (view due.now.packet) }
     ensures number { IfOk result (λ h. h.number ≡ number) }
     ensures prepared { IfOk result (λ h. IsPrepared (Some neighbour.now) due.now h) }
 {
-    let arriving = neighbour
-        .pair
-        .prepare(alloc, due.first, due.second, &due.packet, number)?;
+    let shown = no_broadcast(neighbour.in_step);
+    let packet = &due.packet;
+    let arriving = neighbour.pair.prepare(
+        alloc, due.bearer, due.first, due.second, packet, number, shown,
+    )?;
     let contact = neighbour.contact_numbers();
     let deliveries = prepare_deliveries(alloc, due.peer, contact, arriving.outcome())?;
     if deliveries.len() > MOST_TOLD {

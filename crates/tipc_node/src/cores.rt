@@ -7,29 +7,31 @@ ghost use Rattle.tipc_outside.specs.declared.outgoing.Outgoing.{Outgoing};
 ghost use Rattle.tipc_journal.specs.Counting.{is_sent_by_name};
 ghost use Rattle.tipc_sockets.specs.SocketTables.{AreSockets, no_sockets};
 ghost use Rattle.tipc_node.specs.Calls.{CanPerform, IsPickedFrom, Performs, TakesPart, Ticks};
-ghost use Rattle.tipc_node.specs.Nodes.{has_room, known_frames, known_node, load_of, neighbour_of, recorded};
+ghost use Rattle.tipc_node.specs.Neighbours.{IsOnBearer};
+ghost use Rattle.tipc_node.specs.Nodes.{end_with, has_room, is_mended_on, known_frames, known_node, load_of, neighbour_of, recorded};
 
-use crate::neighbours::{Deed, NUMBERS, Neighbour, deed_note, load_all, mended_by, take_part_all};
+use crate::arriving::fits;
+use crate::drafts::leave;
+use crate::neighbours::{
+    Bearers, Deed, NUMBERS, Neighbour, Parting, acquaintance, deed_note, is_mended_on, load_all,
+    mended_by, part_of_all,
+};
 use crate::recording::{NodeFault, has_room, note_timeouts, record};
 use crate::settling::purge_ended;
 use std::alloc::Global;
 use std::marker::Model;
 use tipc_journal::Journal;
 use tipc_outside::Outbox;
-use tipc_pair::Pair;
 use tipc_pick::{Chooser, Pick};
 use tipc_sockets::Sockets;
 use tipc_types::{Addr, Answer, By, EventNote, NoMemory};
-
-/// The most changes of links that one call tells of: two for each peer.
-const MOST_CHANGES: u64 = 64;
 
 /// The parts of a node in one boot. A call of it is one step of the journal, where it doesn't fail.
 #[derive(Drop)]
 pub struct Core {
     pub(crate) own: Addr,
     pub(crate) boot: u32,
-    pub(crate) mended: bool,
+    pub(crate) mended: Bearers,
     pub(crate) neighbours: Vec<Option<Neighbour>>,
     pub(crate) sockets: Sockets,
     pub(crate) journal: Journal,
@@ -71,14 +73,14 @@ impl Core {
     pub fn new(alloc: Global, own: Addr, boot: u32) -> Result<Core, NoMemory>
         requires node { IsNodeWord own.word }
         requires boot { 1 ≤ boot }
-        ensures own { IfOk result (λ n. (n.own ≡ own.word) × (n.boot ≡ boot) × (n.mended ≡ false)) }
+        ensures own { IfOk result (λ n. (n.own ≡ own.word) × (n.boot ≡ boot) × (n.mended ≡ (false, false))) }
         ensures alone { IfOk result (λ n. (peer : ℕ) → neighbour_of n peer ≡ None) }
         ensures empty { IfOk result (λ n. (n.sockets ≡ no_sockets own.word boot) × (n.journal ≡ [])) }
     {
         Ok(Core {
             own,
             boot,
-            mended: false,
+            mended: (false, false),
             neighbours: no_neighbours(alloc)?,
             sockets: Sockets::new(alloc, own, boot),
             journal: Journal::new(alloc),
@@ -96,11 +98,11 @@ impl Core {
         }
     }
 
-    /// Whether bearer 0 is mended.
-    pub fn is_mended(&self) -> bool
-        ensures { result ≡ self.now.mended }
+    /// Whether a bearer is mended. There are two: 0 and 1.
+    pub fn is_mended(&self, bearer: u8) -> bool
+        ensures { result ≡ is_mended_on self.now.mended bearer }
     {
-        self.mended
+        is_mended_on(self.mended, bearer)
     }
 
     /// Its address.
@@ -147,21 +149,20 @@ impl Core {
         let _ = self.sockets.live();
     }
 
-    /// Makes the link end to a peer that isn't known, on bearer 0.
-    pub fn know(&mut self, alloc: Global, peer: u8, out: &mut Outbox)
+    /// Makes the link end to a peer on a bearer, 0 or 1, on which there is none.
+    pub fn know(&mut self, alloc: Global, peer: u8, bearer: u8, out: &mut Outbox)
         requires peer { (1 ≤ peer) × (peer ≤ 32) }
-        ensures after { self.new ≡ known_node self.old peer }
-        ensures frames { Adds out.old out.new (known_frames self.old peer) }
+        requires bearer { bearer ≤ 1 }
+        requires alone { end_with bearer (neighbour_of self.old peer) ≡ None }
+        ensures after { self.new ≡ known_node self.old peer bearer }
+        ensures frames { Adds out.old out.new (known_frames self.old peer bearer) }
         ensures within { peer < length self.old.neighbours }
     {
-        let mut pair = Pair::new(alloc, self.own, Addr::node(peer), self.boot);
-        if self.mended {
-            pair.mend(alloc, out);
-        }
-        self.neighbours[peer as usize] = Some(Neighbour {
-            pair,
-            in_step: false,
-        });
+        let mended = is_mended_on(self.mended, bearer);
+        let place = self.neighbours[peer as usize].take();
+        let mut neighbour = acquaintance(alloc, self.own, self.boot, peer, place);
+        neighbour.make(alloc, bearer, mended, out);
+        self.neighbours[peer as usize] = Some(neighbour);
     }
 
     /// Performs a call, whose step is recorded: each call as its own function says.
@@ -249,8 +250,8 @@ impl Core {
             EventNote::Cancel { number } => self.cancel(alloc, by, number),
             EventNote::NextEvent { number } => self.next_event(alloc, by, number),
             EventNote::Tick => self.tick(alloc, by, out),
-            EventNote::Cut { .. } => self.take_part(alloc, by, Deed::Cut, out),
-            EventNote::Mend { .. } => self.take_part(alloc, by, Deed::Mend, out),
+            EventNote::Cut { bearer } => self.take_part(alloc, by, Deed::Cut(bearer), out),
+            EventNote::Mend { bearer } => self.take_part(alloc, by, Deed::Mend(bearer), out),
             EventNote::Multicast { .. } | EventNote::Arrive { .. } => unreachable!(),
         }
     }
@@ -273,7 +274,7 @@ impl Core {
         Ok(why)
     }
 
-    /// Lets something happen to all neighbours: the bearer is mended or cut. The names of each peer with which the
+    /// Lets something happen to all neighbours: a bearer is mended or cut. The names of each peer with which the
     /// contact ends by it are forgotten.
     fn take_part(
         &mut self,
@@ -282,17 +283,30 @@ impl Core {
         deed: Deed,
         out: &mut Outbox,
     ) -> Result<Answer, NoMemory>
+        requires deed { IsOnBearer deed }
         requires room { has_room self.old.journal ≡ true }
         ensures ok { IfOk result (λ a. (frames : List Outgoing) × TakesPart self.old by deed self.new frames a ×
             Adds out.old out.new frames) }
         ensures err { OnErr result ((self.new ≡ self.old) × (out.new ≡ out.old)) }
     {
-        self.journal.reserve(MOST_CHANGES + 2)?;
-        let mut inside = Vec::with_capacity(alloc, MOST_CHANGES as usize)?;
-        take_part_all(&mut self.neighbours, alloc, deed, &mut inside, out);
-        purge_ended(&mut self.sockets, inside.as_slice());
+        let mut event = Parting::new(alloc);
+        let after = part_of_all(self.neighbours.as_slice(), alloc, deed, &mut event)?;
+        if !fits(event.inside.as_slice()) {
+            return Err(NoMemory);
+        }
+        self.journal.reserve(event.inside.len() as u64 + 2)?;
+        self.neighbours = after;
+        purge_ended(&mut self.sockets, event.inside.as_slice());
         self.mended = mended_by(deed, self.mended);
-        record(&mut self.journal, by, deed_note(deed), inside, Answer::Done);
+        leave(event.states, out);
+        leave(event.numbered, out);
+        record(
+            &mut self.journal,
+            by,
+            deed_note(deed),
+            event.inside,
+            Answer::Done,
+        );
         Ok(Answer::Done)
     }
 
@@ -305,14 +319,27 @@ impl Core {
         ensures err { OnErr result ((self.new ≡ self.old) × (out.new ≡ out.old)) }
     {
         let due = self.sockets.due(alloc)?;
-        let count = due.as_slice().len() as u64;
-        self.journal.reserve(MOST_CHANGES + count + 2)?;
-        let mut inside = Vec::with_capacity(alloc, (MOST_CHANGES + count) as usize)?;
-        take_part_all(&mut self.neighbours, alloc, Deed::Tick, &mut inside, out);
-        purge_ended(&mut self.sockets, inside.as_slice());
+        let mut event = Parting::new(alloc);
+        let after = part_of_all(self.neighbours.as_slice(), alloc, Deed::Tick, &mut event)?;
+        let changed = event.inside.len();
+        event.inside.reserve(due.as_slice().len())?;
+        note_timeouts(&mut event.inside, due.as_slice());
+        if !fits(event.inside.as_slice()) {
+            return Err(NoMemory);
+        }
+        self.journal.reserve(event.inside.len() as u64 + 2)?;
+        self.neighbours = after;
+        purge_ended(&mut self.sockets, &event.inside.as_slice()[..changed]);
         self.sockets.pass();
-        note_timeouts(&mut inside, due.as_slice());
-        record(&mut self.journal, by, EventNote::Tick, inside, Answer::Done);
+        leave(event.states, out);
+        leave(event.numbered, out);
+        record(
+            &mut self.journal,
+            by,
+            EventNote::Tick,
+            event.inside,
+            Answer::Done,
+        );
         Ok(Answer::Done)
     }
 }

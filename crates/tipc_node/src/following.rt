@@ -6,27 +6,27 @@ ghost use Rattle.std.specs.List.{list_all};
 ghost use Rattle.tipc_types.specs.declared.message_forms.Message.{Message};
 ghost use Rattle.tipc_outside.specs.Frames.{Adds};
 ghost use Rattle.tipc_journal.specs.Room.{entry_bytes};
-ghost use Rattle.tipc_link.specs.Links.{answered_frames};
+ghost use Rattle.tipc_pair.specs.Preparing.{changes_of};
 ghost use Rattle.tipc_name_dist.specs.Items.{IsBulk};
 ghost use Rattle.tipc_node.specs.declared.neighbours.Neighbour.{Neighbour};
 ghost use Rattle.tipc_node.specs.Drafts.{drafted, taken_back, AreTables, PutEach};
-ghost use Rattle.tipc_node.specs.Hearings.{is_plain, Followed, Greeted, HasSession, HeardThere, IsNumbered, IsReady, Worked};
+ghost use Rattle.tipc_node.specs.Hearings.{is_plain, Followed, Greeted, HasContact, HeardThere, IsPrepared, Worked};
 ghost use Rattle.tipc_node.specs.Limits.{free_entries, free_message_bytes};
-ghost use Rattle.tipc_node.specs.Neighbours.{answered_neighbour, no_broadcast};
-ghost use Rattle.tipc_node.specs.Nodes.{entries_in, session_with};
+ghost use Rattle.tipc_node.specs.Neighbours.{answered_neighbour, answering, begins};
+ghost use Rattle.tipc_node.specs.Nodes.{entries_in, is_met};
 
 use crate::arriving::{Delivery, Due, Hearing, fits};
 use crate::delivery::deliver_all;
 use crate::drafts::{Draft, keep};
 use crate::listening::HeardPacket;
 use crate::neighbours::Neighbour;
-use crate::recording::note_change;
+use crate::recording::note_changes;
 use crate::settling::purge_ended;
 use crate::sharing::put_each;
 use std::alloc::Global;
 use tipc_journal::Journal;
 use tipc_name_dist::bulk;
-use tipc_pair::PairChange;
+use tipc_pair::Transition;
 use tipc_sockets::Sockets;
 use tipc_types::{Addr, Arrival, NoMemory};
 
@@ -41,7 +41,7 @@ fn tell_live(
 ) -> Result<(), NoMemory>
     requires tables { AreTables neighbours.old.items draft.old }
     requires peer { (1 ≤ peer) × (peer ≤ 32) }
-    requires contact { is_some (session_with (slice_index_or neighbours.old.items peer None)) ≡ true }
+    requires contact { is_met (slice_index_or neighbours.old.items peer None) ≡ true }
     ensures told { OnOk result ((messages : List Message) × IsBulk sockets.now.live messages ×
         PutEach own.word (drafted neighbours.old.items sockets.now draft.old) peer messages
         (drafted neighbours.new.items sockets.now draft.new) draft.old.out draft.new.out) }
@@ -64,6 +64,18 @@ fn tell_live(
     )
 }
 
+/// Whether a contact began by one of these changes.
+pub fn begins(changes: &[Transition]) -> bool
+    ensures { result ≡ begins changes.now }
+{
+    changes.iter().any(|change| match change {
+        Transition::ContactUp { .. } => true,
+        Transition::ContactDown { .. } => false,
+        Transition::LinkUp { .. } => false,
+        Transition::LinkDown { .. } => false,
+    })
+}
+
 /// Tells the peer of that number of the live publications, where the contact with it began.
 fn greet(
     alloc: Global,
@@ -72,36 +84,37 @@ fn greet(
     neighbours: &mut Vec<Option<Neighbour>>,
     sockets: &Sockets,
     draft: &mut Draft,
-    change: PairChange,
+    changes: &[Transition],
 ) -> Result<(), NoMemory>
     requires tables { AreTables neighbours.old.items draft.old }
     requires peer { (1 ≤ peer) × (peer ≤ 32) }
-    requires session { HasSession change (slice_index_or neighbours.old.items peer None) }
-    ensures greeted { OnOk result (Greeted own.word peer change (drafted neighbours.old.items sockets.now draft.old)
+    requires contact { HasContact changes.now (slice_index_or neighbours.old.items peer None) }
+    ensures greeted { OnOk result (Greeted own.word peer changes.now (drafted neighbours.old.items sockets.now draft.old)
         (drafted neighbours.new.items sockets.now draft.new) draft.old.out draft.new.out) }
     ensures tables { AreTables neighbours.new.items draft.new }
     ensures kept { taken_back neighbours.new.items draft.new ≡ taken_back neighbours.old.items draft.old }
 {
-    match change {
-        PairChange::Began { .. } => tell_live(alloc, own, peer, neighbours, sockets, draft),
-        PairChange::Stay => Ok(()),
-        PairChange::Ended { .. } => Ok(()),
+    if !begins(changes) {
+        return Ok(());
     }
+    tell_live(alloc, own, peer, neighbours, sockets, draft)
 }
 
-/// The neighbour of that number sends the STATE that is due.
+/// The neighbour of that number sends the STATE that is due on a bearer, where it has a link end.
 fn answer(
     alloc: Global,
     neighbours: &mut Vec<Option<Neighbour>>,
     draft: &mut Draft,
     peer: u8,
+    bearer: u8,
 ) -> Result<(), NoMemory>
     requires tables { AreTables neighbours.old.items draft.old }
     requires peer { (1 ≤ peer) × (peer ≤ 32) }
+    requires bearer { bearer ≤ 1 }
     requires there { is_some (slice_index_or neighbours.old.items peer None) ≡ true }
     ensures answered { (y : Neighbour) → slice_index_or neighbours.old.items peer None ≡ Some y → OnOk result
-        ((neighbours.new.items ≡ slice_set neighbours.old.items peer (Some (answered_neighbour y))) ×
-        Adds draft.old.out draft.new.out (answered_frames y.pair.link (no_broadcast y.in_step))) }
+        ((neighbours.new.items ≡ slice_set neighbours.old.items peer (Some (answered_neighbour bearer y))) ×
+        Adds draft.old.out draft.new.out (answering bearer y).states) }
     ensures tables { AreTables neighbours.new.items draft.new }
     ensures kept { taken_back neighbours.new.items draft.new ≡ taken_back neighbours.old.items draft.old }
     ensures inside { draft.new.inside.items ≡ draft.old.inside.items }
@@ -110,7 +123,7 @@ fn answer(
     let Some(neighbour) = &mut neighbours[peer as usize] else {
         unreachable!()
     };
-    neighbour.answer(alloc, &mut draft.out);
+    neighbour.answer(alloc, bearer, &mut draft.out);
     Ok(())
 }
 
@@ -119,69 +132,71 @@ fn answer(
 fn follow(
     alloc: Global,
     own: Addr,
-    peer: u8,
+    due: &Due<'_>,
     neighbours: &mut Vec<Option<Neighbour>>,
     sockets: &mut Sockets,
     draft: &mut Draft,
-    change: PairChange,
+    changes: &[Transition],
     deliveries: Vec<Delivery>,
 ) -> Result<(), NoMemory>
     requires tables { AreTables neighbours.old.items draft.old }
     requires own { sockets.old.own ≡ own.word }
-    requires peer { (1 ≤ peer) × (peer ≤ 32) }
-    requires there { is_some (slice_index_or neighbours.old.items peer None) ≡ true }
-    requires session { HasSession change (slice_index_or neighbours.old.items peer None) }
+    requires peer { (1 ≤ due.now.peer) × (due.now.peer ≤ 32) }
+    requires bearer { due.now.bearer ≤ 1 }
+    requires there { is_some (slice_index_or neighbours.old.items due.now.peer None) ≡ true }
+    requires contact { HasContact changes.now (slice_index_or neighbours.old.items due.now.peer None) }
     requires plain { list_all is_plain (entries_in deliveries.items) ≡ true }
-    ensures followed { OnOk result (Followed own.word peer change deliveries.items
+    ensures followed { OnOk result (Followed own.word due.now.peer due.now.bearer changes.now deliveries.items
         (drafted neighbours.old.items sockets.old draft.old) (drafted neighbours.new.items sockets.new draft.new)
         draft.old.out draft.new.out) }
     ensures tables { AreTables neighbours.new.items draft.new }
     ensures kept { taken_back neighbours.new.items draft.new ≡ taken_back neighbours.old.items draft.old }
 {
-    greet(alloc, own, peer, neighbours, sockets, draft, change)?;
+    let peer = due.peer;
+    greet(alloc, own, peer, neighbours, sockets, draft, changes)?;
     deliver_all(alloc, own, peer, neighbours, sockets, draft, deliveries)?;
-    answer(alloc, neighbours, draft, peer)
+    answer(alloc, neighbours, draft, peer, due.bearer)
 }
 
-/// A neighbour hears the packet that is due, and what became of the link and the contact is told. Names of a peer
-/// with which the contact ended are forgotten. Of a packet that shows no contact number `heard` is what was prepared.
+/// A neighbour hears the packet that is due, as it was prepared, and what became of the links and the contact is told.
+/// Names of a peer with which the contact ended are forgotten.
 fn hear_there(
     alloc: Global,
     neighbours: &mut Vec<Option<Neighbour>>,
     sockets: &mut Sockets,
     draft: &mut Draft,
     due: &Due<'_>,
-    heard: Option<Hearing>,
+    heard: Hearing,
 ) -> Result<HeardPacket, NoMemory>
     requires tables { AreTables neighbours.old.items draft.old }
     requires empty { draft.old.inside.items ≡ [] }
     requires peer { (1 ≤ due.now.peer) × (due.now.peer ≤ 32) }
+    requires bearer { due.now.bearer ≤ 1 }
     requires there { is_some (slice_index_or neighbours.old.items due.now.peer None) ≡ true }
-    requires ready { IsReady (slice_index_or neighbours.old.items due.now.peer None) due.now heard }
-    ensures heard { (x : Neighbour) (number : ℕ) → slice_index_or neighbours.old.items due.now.peer None ≡ Some x →
-        IsNumbered number heard → IfOk result (λ given. HeardThere neighbours.old.items sockets.old x due.now number
+    requires prepared { IsPrepared (slice_index_or neighbours.old.items due.now.peer None) due.now heard }
+    ensures heard { (x : Neighbour) → slice_index_or neighbours.old.items due.now.peer None ≡ Some x →
+        IfOk result (λ given. HeardThere neighbours.old.items sockets.old x due.now heard.number
         given (drafted neighbours.new.items sockets.new draft.new) draft.old.out draft.new.out) }
     ensures there { OnOk result (is_some (slice_index_or neighbours.new.items due.now.peer None) ≡ true) }
-    ensures session { IfOk result (λ given.
-        HasSession given.change (slice_index_or neighbours.new.items due.now.peer None)) }
+    ensures contact { IfOk result (λ given.
+        HasContact given.changes (slice_index_or neighbours.new.items due.now.peer None)) }
     ensures plain { IfOk result (λ given. list_all is_plain (entries_in given.deliveries.items) ≡ true) }
     ensures own { sockets.new.own ≡ sockets.old.own }
     ensures tables { AreTables neighbours.new.items draft.new }
     ensures kept { taken_back neighbours.new.items draft.new ≡ taken_back neighbours.old.items draft.old }
 {
     keep(&mut draft.copies, neighbours.as_slice(), due.peer)?;
-    draft.inside.reserve(2)?;
+    draft.inside.reserve(heard.arriving.changes().len())?;
     let Some(neighbour) = &mut neighbours[due.peer as usize] else {
         unreachable!()
     };
     let given = neighbour.hear(alloc, due, heard, &mut draft.out);
-    note_change(&mut draft.inside, due.peer, given.change);
+    note_changes(&mut draft.inside, due.peer, given.changes.as_slice());
     purge_ended(sockets, draft.inside.as_slice());
     Ok(given)
 }
 
-/// A neighbour hears the packet that is due, and that follows. Of a packet that shows no contact number `heard` is
-/// what was prepared. The journal is made ready for the step.
+/// A neighbour hears the packet that is due, as it was prepared, and that follows. The journal is made ready for the step.
 pub fn hear_in(
     alloc: Global,
     own: Addr,
@@ -190,17 +205,18 @@ pub fn hear_in(
     journal: &mut Journal,
     draft: &mut Draft,
     due: &Due<'_>,
-    heard: Option<Hearing>,
+    heard: Hearing,
 ) -> Result<Arrival, NoMemory>
     requires tables { AreTables neighbours.old.items draft.old }
     requires own { sockets.old.own ≡ own.word }
     requires empty { draft.old.inside.items ≡ [] }
     requires peer { (1 ≤ due.now.peer) × (due.now.peer ≤ 32) }
+    requires bearer { due.now.bearer ≤ 1 }
     requires there { is_some (slice_index_or neighbours.old.items due.now.peer None) ≡ true }
-    requires ready { IsReady (slice_index_or neighbours.old.items due.now.peer None) due.now heard }
-    ensures worked { (x : Neighbour) (number : ℕ) → slice_index_or neighbours.old.items due.now.peer None ≡ Some x →
-        IsNumbered number heard → IfOk result (λ answered. Worked own.word neighbours.old.items sockets.old x due.now
-        number answered (drafted neighbours.new.items sockets.new draft.new) draft.old.out draft.new.out) }
+    requires prepared { IsPrepared (slice_index_or neighbours.old.items due.now.peer None) due.now heard }
+    ensures worked { (x : Neighbour) → slice_index_or neighbours.old.items due.now.peer None ≡ Some x →
+        IfOk result (λ answered. Worked own.word neighbours.old.items sockets.old x due.now
+        heard.number answered (drafted neighbours.new.items sockets.new draft.new) draft.old.out draft.new.out) }
     ensures journal { journal.new.entries ≡ journal.old.entries }
     ensures spare { OnOk result (length draft.new.inside.items + 2 ≤ journal.new.spare) }
     ensures fits { OnOk result ((length draft.new.inside.items ≤ free_entries - 4) ×
@@ -209,10 +225,16 @@ pub fn hear_in(
     ensures kept { taken_back neighbours.new.items draft.new ≡ taken_back neighbours.old.items draft.old }
 {
     let given = hear_there(alloc, neighbours, sockets, draft, due, heard)?;
-    let (change, deliveries) = (given.change, given.deliveries);
-    let peer = due.peer;
+    let (changes, deliveries) = (given.changes, given.deliveries);
     follow(
-        alloc, own, peer, neighbours, sockets, draft, change, deliveries,
+        alloc,
+        own,
+        due,
+        neighbours,
+        sockets,
+        draft,
+        changes.as_slice(),
+        deliveries,
     )?;
     if !fits(draft.inside.as_slice()) {
         return Err(NoMemory);

@@ -1,27 +1,28 @@
 //! What a node makes of a peer by what it hears of it.
 
-ghost use Rattle.std.specs.Prelude.{◌≡◌, ℕ, ◌||◌, ◌&&◌, Some, true, false, IfOk};
+ghost use Rattle.std.specs.Prelude.{◌≡◌, ◌≤◌, ℕ, ◌||◌, ◌&&◌, Some, true, false, IfOk};
 ghost use Rattle.tipc_outside.specs.Frames.{Adds};
-ghost use Rattle.tipc_header.specs.Spelling.{Fields, view};
-ghost use Rattle.tipc_link.specs.Links.{answered_frames};
-ghost use Rattle.tipc_pair.specs.Pairs.{shows_contact};
-ghost use Rattle.tipc_pair.specs.Partners.{IsPairArriving, OpensTo, begun_after};
-ghost use Rattle.tipc_node.specs.Hearings.{HasHeard, IsNumbered, IsReady};
-ghost use Rattle.tipc_node.specs.Neighbours.{answered_neighbour, heard_neighbour, is_given, is_state, met_by, no_broadcast, stays_in_step};
+ghost use Rattle.tipc_header.specs.Spelling.{view};
+ghost use Rattle.tipc_pair.specs.Courses.{sent_in};
+ghost use Rattle.tipc_pair.specs.Facing.{in_contact};
+ghost use Rattle.tipc_pair.specs.PairTurns.{Outset};
+ghost use Rattle.tipc_pair.specs.Preparing.{Prepares, changes_of};
+ghost use Rattle.tipc_node.specs.Hearings.{HasHeard, IsPrepared};
+ghost use Rattle.tipc_node.specs.Neighbours.{answered_neighbour, answering, begins, ends, heard_neighbour, is_given, is_state, no_broadcast, stays_in_step, HearsAt};
 
-use crate::arriving::{Delivery, Due, Hearing, arrival_answer};
+use crate::arriving::{Delivery, Due, Hearing};
 use crate::neighbours::{Neighbour, no_broadcast, stays_in_step};
 use std::alloc::Global;
 use tipc_header::{Header, Packet};
 use tipc_outside::Outbox;
-use tipc_pair::{PairArrival, PairArriving, PairChange, PairOutcome};
+use tipc_pair::{PairArriving, PairOutcome, Transition, TransitionList};
 use tipc_types::{Arrival, NoMemory};
 
 /// What came of a packet that a neighbour heard.
 #[derive(Drop)]
 pub struct HeardPacket {
-    /// What became of the link and the contact.
-    pub change: PairChange,
+    /// What became of the links and the contact.
+    pub changes: TransitionList,
     /// What it delivers.
     pub deliveries: Vec<Delivery>,
     /// What became of the arrival.
@@ -64,101 +65,70 @@ fn gets_in_step(header: &Header, outcome: &PairOutcome) -> bool
 }
 
 /// Whether a node is in step with the broadcast of a peer after an arrival.
-fn is_in_step(in_step: bool, change: PairChange, gets_in_step: bool) -> bool
-    ensures { result ≡ (stays_in_step in_step change || gets_in_step) }
+fn is_in_step(in_step: bool, changes: &[Transition], gets_in_step: bool) -> bool
+    ensures { result ≡ (stays_in_step in_step changes.now || gets_in_step) }
 {
-    stays_in_step(in_step, change) || gets_in_step
+    stays_in_step(in_step, changes) || gets_in_step
 }
 
 impl Neighbour {
-    /// Takes a RESET or an ACTIVATE that arrived. No call of it fails.
-    pub fn notice(
-        &mut self,
-        alloc: Global,
-        es: u64,
-        er: u64,
-        header: Header,
-        out: &mut Outbox,
-    ) -> PairArrival
-        requires { shows_contact header ≡ true }
-        ensures change { (p : Fields) (by : ℕ) → p.header ≡ header →
-            result.change ≡ (met_by self.old es er p by).change }
-        ensures opens { (p : Fields) (by : ℕ) → p.header ≡ header →
-            OpensTo (begun_after (met_by self.old es er p by).change self.old.pair.begun)
-            (met_by self.old es er p by).outcome result.outcome self.new.pair.begun }
-        ensures after { (p : Fields) (by : ℕ) → p.header ≡ header →
-            self.new ≡ heard_neighbour self.old p (met_by self.old es er p by) self.new.pair.begun }
-        ensures frames { (p : Fields) (by : ℕ) → p.header ≡ header →
-            Adds out.old out.new (met_by self.old es er p by).frames }
-    {
-        let shown = no_broadcast(self.in_step);
-        let arrival = self.pair.notice(alloc, es, er, header, shown, out);
-        self.in_step = stays_in_step(self.in_step, arrival.change);
-        arrival
-    }
-
-    /// Takes a packet that shows no contact number, as its pair told of it when it was as it is.
+    /// Takes a packet, as its pair told of it when it was as it is.
     pub fn take(
         &mut self,
         alloc: Global,
         arriving: PairArriving,
         packet: &Packet<'_>,
         out: &mut Outbox,
-    ) -> PairChange
-        requires plain { shows_contact packet.now.header ≡ false }
-        requires arriving { (es : ℕ) × (er : ℕ) × (by : ℕ) ×
-            IsPairArriving self.old.pair es er (view packet.now) by arriving }
-        ensures change { (es er by : ℕ) → IsPairArriving self.old.pair es er (view packet.now) by arriving →
-            result ≡ (met_by self.old es er (view packet.now) by).change }
-        ensures after { (es er by : ℕ) → IsPairArriving self.old.pair es er (view packet.now) by arriving →
-            self.new ≡ heard_neighbour self.old (view packet.now)
-            (met_by self.old es er (view packet.now) by) arriving.begun }
-        ensures frames { (es er by : ℕ) → IsPairArriving self.old.pair es er (view packet.now) by arriving →
-            Adds out.old out.new (met_by self.old es er (view packet.now) by).frames }
+    ) -> TransitionList
+        requires { (es : ℕ) × (er : ℕ) × (by : ℕ) ×
+            Prepares self.old.pair es er (view packet.now) by (no_broadcast self.old.in_step) arriving }
+        ensures takes { (es er by : ℕ) →
+            Prepares self.old.pair es er (view packet.now) by (no_broadcast self.old.in_step) arriving → (o : Outset) ×
+            HearsAt self.old arriving.bearer es er (view packet.now) by o × (o.given ≡ arriving.outcome) ×
+            (o.course.changes ≡ result) × (self.new ≡ heard_neighbour self.old (view packet.now) o) ×
+            Adds out.old out.new (sent_in o.course) }
+        ensures changes { result ≡ changes_of arriving.way }
+        // Where a contact begins there is one.
+        ensures contact { begins result ≡ true → in_contact self.new.pair ≡ true }
+        ensures once { begins result ≡ true → ends result ≡ false }
     {
+        self.pair.sound();
         let gets_in_step = gets_in_step(&packet.header, arriving.outcome());
         let shown = no_broadcast(self.in_step);
-        let change = self.pair.commit(alloc, arriving, packet, shown, out);
-        self.in_step = is_in_step(self.in_step, change, gets_in_step);
-        change
+        let arrival = self.pair.commit(alloc, arriving, packet, shown, out);
+        self.in_step = is_in_step(self.in_step, arrival.changes.as_slice(), gets_in_step);
+        arrival.changes
     }
 
-    /// Hears the packet that is due. Of a packet that shows no contact number `heard` is what was prepared when the
-    /// neighbour was as it is.
+    /// Hears the packet that is due, as it was prepared when the neighbour was as it is.
     pub fn hear(
         &mut self,
         alloc: Global,
         due: &Due<'_>,
-        heard: Option<Hearing>,
+        heard: Hearing,
         out: &mut Outbox,
     ) -> HeardPacket
-        requires { IsReady (Some self.old) due.now heard }
-        ensures { (number : ℕ) → IsNumbered number heard →
-            HasHeard self.old due.now number self.new result out.old out.new }
+        requires { IsPrepared (Some self.old) due.now heard }
+        ensures heard { HasHeard self.old due.now heard.number self.new result out.old out.new }
+        ensures changes { result.changes ≡ changes_of heard.arriving.way }
+        // Where a contact begins there is one.
+        ensures contact { begins result.changes ≡ true → in_contact self.new.pair ≡ true }
     {
-        let Some(heard) = heard else {
-            let arrival = self.notice(alloc, due.first, due.second, due.packet.header, out);
-            return HeardPacket {
-                change: arrival.change,
-                deliveries: Vec::new(alloc),
-                answer: arrival_answer(&arrival.outcome, &[]),
-            };
-        };
         HeardPacket {
-            change: self.take(alloc, heard.arriving, &due.packet, out),
+            changes: self.take(alloc, heard.arriving, &due.packet, out),
             deliveries: heard.deliveries,
             answer: heard.answer,
         }
     }
 
-    /// Sends the STATE that is due.
-    pub fn answer(&mut self, alloc: Global, out: &mut Outbox)
-        ensures after { self.new ≡ answered_neighbour self.old }
-        ensures frames { Adds out.old out.new
-            (answered_frames self.old.pair.link (no_broadcast self.old.in_step)) }
+    /// Sends the STATE that is due on a bearer, 0 or 1.
+    pub fn answer(&mut self, alloc: Global, bearer: u8, out: &mut Outbox)
+        requires { bearer ≤ 1 }
+        ensures after { self.new ≡ answered_neighbour bearer self.old }
+        ensures frames { Adds out.old out.new (answering bearer self.old).states }
     {
-        self.pair
-            .answer(alloc, 0, false, no_broadcast(self.in_step), out);
+        let shown = no_broadcast(self.in_step);
+        self.pair.answer(alloc, bearer, 0, false, shown, out);
     }
 
     /// A neighbour that is as this one.

@@ -1,17 +1,19 @@
 //! The peers of a node, and what a call does at each.
 
-ghost use Rattle.std.specs.Prelude.{◌≡◌, ◌+◌, ◌++◌, ◌≤◌, [], true, All, Some, None, is_some, length, slice_index_or, vec_capacity, vec_len, IfSome, IfNone, OnErr, OnOk};
+ghost use Rattle.std.specs.Prelude.{◌≡◌, ◌+◌, ◌++◌, ◌≤◌, ◌&&◌, not, ℕ, List, [], true, false, All, Some, None, is_some, length, slice_index_or, unwrap_or, IfOk, IfSome, IfNone, OnErr, OnOk};
+ghost use Rattle.std.specs.List.{list_any};
 ghost use Rattle.tipc_outside.specs.Frames.{Adds};
-ghost use Rattle.tipc_link.specs.Links.{with_session};
-ghost use Rattle.tipc_link.specs.Sessions.{SessionEnd, IsPut, IsWaiting, flush_frames, flushed};
-ghost use Rattle.tipc_node.specs.Nodes.{accepted_entry, after_all, after_one, deed_note, entries_all, entries_one, frames_all, frames_one, load_all, mended_by, session_with, shown_contact, unacked_in, waiting_in};
-ghost use Rattle.tipc_node.specs.Neighbours.{done, neighbour, no_broadcast, stays_in_step};
+ghost use Rattle.tipc_outside.specs.declared.outgoing.Outgoing.{Outgoing};
+ghost use Rattle.tipc_pair.specs.Facing.{facing, in_contact};
+ghost use Rattle.tipc_pair.specs.Runs.{IsListed};
+ghost use Rattle.tipc_node.specs.Nodes.{accepted_entry, after_all, after_one, deed_note, entries_all, entries_one, load_all, load_on, load_with, mended_by, numbered_all, numbered_one, shown_contact, states_all, states_one, unacked_in, waiting_in, with_mended_on, is_mended_on};
+ghost use Rattle.tipc_node.specs.Neighbours.{course_of, done, is_of_contact, making, neighbour, no_broadcast, stays_in_step, stranger, IsOnBearer, PutsThere};
 
-use crate::recording::note_change;
+use crate::recording::note_changes;
 use std::alloc::Global;
 use tipc_journal::Entry;
 use tipc_outside::Outbox;
-use tipc_pair::{Pair, PairChange};
+use tipc_pair::{Pair, Transition, TransitionList};
 use tipc_types::{Addr, BroadcastState, EventNote, Flow, Message, NoMemory, Pieces};
 
 /// The numbers of nodes are from 1 to 32.
@@ -20,7 +22,7 @@ pub const NUMBERS: usize = 33;
 /// What a node keeps of a peer.
 #[derive(Drop)]
 pub struct Neighbour {
-    /// The link end to it, and the contact.
+    /// The link ends to it, and the contact.
     pub pair: Pair,
     /// Whether this node took a STATE of it in this contact, and so is in step with its broadcast.
     pub in_step: bool,
@@ -29,23 +31,38 @@ pub struct Neighbour {
 /// What happens to all neighbours of a node alike.
 #[derive(Clone, Copy, Debug, PartialEq, Eq)]
 pub enum Deed {
-    /// The bearer is mended.
-    Mend,
-    /// The bearer is cut.
-    Cut,
+    /// A bearer, 0 or 1, is mended.
+    Mend(u8),
+    /// A bearer, 0 or 1, is cut.
+    Cut(u8),
     /// A tick.
     Tick,
 }
 
-/// Whether a node is still in step with the broadcast of a peer.
-pub fn stays_in_step(in_step: bool, change: PairChange) -> bool
-    ensures { result ≡ stays_in_step in_step change }
+/// Whether a contact began or ended.
+fn is_of_contact(change: &Transition) -> bool
+    ensures { result ≡ is_of_contact change.now }
 {
     match change {
-        PairChange::Stay => in_step,
-        PairChange::Began { .. } => false,
-        PairChange::Ended { .. } => false,
+        Transition::ContactUp { .. } => true,
+        Transition::ContactDown { .. } => true,
+        Transition::LinkUp { .. } => false,
+        Transition::LinkDown { .. } => false,
     }
+}
+
+/// Whether a contact began or ended by one of these changes.
+fn has_one_of_contact(changes: &[Transition]) -> bool
+    ensures { result ≡ list_any is_of_contact changes.now }
+{
+    changes.iter().any(|change| is_of_contact(change))
+}
+
+/// Whether a node is still in step with the broadcast of a peer after these changes.
+pub fn stays_in_step(in_step: bool, changes: &[Transition]) -> bool
+    ensures { result ≡ stays_in_step in_step changes.now }
+{
+    in_step && !has_one_of_contact(changes)
 }
 
 /// What a STATE of a node that has broadcast nothing says of the broadcast.
@@ -61,41 +78,148 @@ pub fn no_broadcast(in_step: bool) -> BroadcastState
     }
 }
 
+/// The bearers of a node: whether 0 is mended, and whether 1 is.
+pub type Bearers = (bool, bool);
+
+/// Whether a bearer is mended. There are two: 0 and 1.
+pub fn is_mended_on(mended: Bearers, bearer: u8) -> bool
+    ensures { result ≡ is_mended_on mended bearer }
+{
+    match bearer {
+        0 => mended.0,
+        1 => mended.1,
+        _ => false,
+    }
+}
+
+/// The bearers where one of them is mended now, or cut.
+fn with_mended_on(mended: Bearers, bearer: u8, now: bool) -> Bearers
+    requires { bearer ≤ 1 }
+    ensures { result ≡ with_mended_on mended bearer now }
+{
+    match bearer {
+        0 => (now, mended.1),
+        _ => (mended.0, now),
+    }
+}
+
+/// What is kept of a peer, which may be a stranger still.
+pub fn acquaintance(
+    alloc: Global,
+    own: Addr,
+    boot: u32,
+    peer: u8,
+    place: Option<Neighbour>,
+) -> Neighbour
+    requires { (1 ≤ peer) × (peer ≤ 32) }
+    ensures { result ≡ unwrap_or place (stranger own.word peer boot) }
+{
+    match place {
+        Some(neighbour) => neighbour,
+        None => Neighbour::stranger(alloc, own, peer, boot),
+    }
+}
+
 impl Neighbour {
-    /// Takes part in what happens to all neighbours alike.
-    pub fn take_part(&mut self, alloc: Global, deed: Deed, out: &mut Outbox) -> PairChange
-        ensures after { self.new ≡ (done deed self.old).after }
-        ensures change { result ≡ (done deed self.old).change }
-        ensures frames { Adds out.old out.new (done deed self.old).frames }
+    /// A peer to which no link end is made yet.
+    pub fn stranger(alloc: Global, own: Addr, peer: u8, boot: u32) -> Neighbour
+        requires { (1 ≤ peer) × (peer ≤ 32) }
+        ensures { result ≡ stranger own.word peer boot }
     {
-        let change = match deed {
-            Deed::Mend => {
-                self.pair.mend(alloc, out);
-                PairChange::Stay
-            }
-            Deed::Cut => self.pair.cut(alloc, out),
-            Deed::Tick => self.pair.tick(alloc, no_broadcast(self.in_step), out),
-        };
-        self.in_step = stays_in_step(self.in_step, change);
-        change
+        Neighbour {
+            pair: Pair::new(alloc, own, Addr::node(peer), boot),
+            in_step: false,
+        }
     }
 
-    /// The numbers of packets unacknowledged and waiting on the link: None exactly where there is no contact.
-    pub fn load(&self) -> Option<(u32, u32)>
-        ensures some { IfSome result (λ counts. (s : SessionEnd) × (session_with (Some self.now) ≡ Some s) ×
-            (counts.0 ≡ length s.sending.unacked) × (counts.1 ≡ length s.sending.waiting)) }
-        ensures none { IfNone result (session_with (Some self.now) ≡ None) }
+    /// Makes the link end on a bearer, 0 or 1, that has none; the bearer is mended, or it isn't.
+    pub fn make(&mut self, alloc: Global, bearer: u8, mended: bool, out: &mut Outbox)
+        requires bearer { bearer ≤ 1 }
+        requires none { (facing bearer self.old.pair).near ≡ None }
+        ensures after { self.new ≡ neighbour (making bearer mended self.old).pair self.old.in_step }
+        ensures frames { Adds out.old out.new (making bearer mended self.old).states }
     {
-        if self.pair.is_up() {
-            self.pair.load()
-        } else {
-            None
+        self.pair.sound();
+        self.pair.make_end(bearer);
+        if mended {
+            self.pair.mend(alloc, bearer, out);
         }
+    }
+
+    /// Lets something happen at its pair. The frames of link states and of repeated packets go into `states`, and those of
+    /// packets that are numbered then into `numbered`.
+    fn undergo(
+        &mut self,
+        alloc: Global,
+        deed: Deed,
+        states: &mut Outbox,
+        numbered: &mut Outbox,
+    ) -> Result<TransitionList, NoMemory>
+        requires { IsOnBearer deed }
+        ensures after { OnOk result (self.new ≡ neighbour (course_of deed self.old).pair self.old.in_step) }
+        ensures changes { IfOk result (λ changes. changes ≡ (course_of deed self.old).changes) }
+        ensures states { OnOk result (Adds states.old states.new (course_of deed self.old).states) }
+        ensures numbered { OnOk result (Adds numbered.old numbered.new (course_of deed self.old).numbered) }
+    {
+        match deed {
+            Deed::Mend(bearer) => {
+                self.pair.mend(alloc, bearer, states);
+                Ok(TransitionList::new(alloc))
+            }
+            Deed::Cut(bearer) => self.pair.cut_apart(alloc, bearer, states, numbered),
+            Deed::Tick => {
+                let shown = no_broadcast(self.in_step);
+                self.pair.tick_apart(alloc, shown, states, numbered)
+            }
+        }
+    }
+
+    /// Takes part in what happens to all neighbours alike: as [`Neighbour::undergo`], and it may be that the node isn't in
+    /// step with its broadcast any more.
+    pub fn take_part(
+        &mut self,
+        alloc: Global,
+        deed: Deed,
+        states: &mut Outbox,
+        numbered: &mut Outbox,
+    ) -> Result<TransitionList, NoMemory>
+        requires { IsOnBearer deed }
+        ensures after { OnOk result (self.new ≡ (done deed self.old).after) }
+        ensures changes { IfOk result (λ changes. changes ≡ (done deed self.old).changes) }
+        ensures states { OnOk result (Adds states.old states.new (done deed self.old).states) }
+        ensures numbered { OnOk result (Adds numbered.old numbered.new (done deed self.old).numbered) }
+    {
+        let changes = self.undergo(alloc, deed, states, numbered)?;
+        self.in_step = stays_in_step(self.in_step, changes.as_slice());
+        Ok(changes)
+    }
+
+    /// Whether there is contact with it.
+    pub fn is_met(&self) -> bool
+        ensures { result ≡ in_contact self.now.pair }
+    {
+        self.pair.contact().is_some()
+    }
+
+    /// The numbers of packets unacknowledged and waiting on the active link: None exactly where there is no contact.
+    pub fn load(&self) -> Option<(u32, u32)>
+        ensures { result ≡ load_with (Some self.now) }
+    {
+        let bearer = self.pair.active()?;
+        Some(self.pair.load(bearer))
+    }
+
+    /// The numbers of packets unacknowledged and waiting on the link of a bearer, 0 or 1: zeros where it isn't up.
+    fn load_on(&self, bearer: u8) -> (u32, u32)
+        requires { bearer ≤ 1 }
+        ensures { result ≡ load_on bearer (Some self.now) }
+    {
+        self.pair.load(bearer)
     }
 
     /// The node's own contact number and the highest that the peer has shown.
     pub fn contact_numbers(&self) -> (u64, u64)
-        ensures { result ≡ shown_contact self.now.pair.link }
+        ensures { result ≡ shown_contact self.now.pair }
     {
         (self.pair.own_contact(), self.pair.peer_contact())
     }
@@ -103,7 +227,7 @@ impl Neighbour {
     /// The entry of a message that is accepted for the peer of this number.
     pub fn accepted(&self, peer: u8, message: Message) -> Entry
         requires { (1 ≤ peer) × (peer ≤ 32) }
-        ensures { result ≡ accepted_entry peer self.now.pair.link message }
+        ensures { result ≡ accepted_entry peer self.now.pair message }
     {
         Entry::Accepted {
             peer: Addr::node(peer),
@@ -113,15 +237,13 @@ impl Neighbour {
         }
     }
 
-    /// Puts the packets of a message on the link, where there is a contact. The caller has asked whether as many
-    /// packets wait as may before such a message. For more than 4,294,967,294 that wait there is no memory.
+    /// Puts the packets of a message on the active link, where there is a contact. The caller has asked whether as
+    /// many packets wait as may before such a message. For more than 4,294,967,294 that wait there is no memory.
     pub fn send(&mut self, alloc: Global, pieces: Pieces, out: &mut Outbox) -> Result<(), NoMemory>
-        requires contact { is_some (session_with (Some self.old)) ≡ true }
-        requires pieces { All IsWaiting pieces }
-        ensures ok { (s : SessionEnd) → session_with (Some self.old) ≡ Some s →
-            OnOk result ((put : SessionEnd) × IsPut s pieces put ×
-            (self.new ≡ neighbour (with_session self.old.pair.link (flushed put)) self.old.pair.begun
-            self.old.in_step) × Adds out.old out.new (flush_frames put)) }
+        requires contact { in_contact self.old.pair ≡ true }
+        requires pieces { All IsListed pieces }
+        ensures ok { OnOk result ((frames : List Outgoing) × PutsThere self.old pieces self.new frames ×
+            Adds out.old out.new frames) }
         ensures err { OnErr result ((self.new ≡ self.old) × (out.new ≡ out.old)) }
     {
         match self.pair.send(alloc, pieces, u32::MAX, out) {
@@ -136,85 +258,124 @@ pub fn deed_note(deed: Deed) -> EventNote
     ensures { result ≡ deed_note deed }
 {
     match deed {
-        Deed::Mend => EventNote::Mend { bearer: 0 },
-        Deed::Cut => EventNote::Cut { bearer: 0 },
+        Deed::Mend(bearer) => EventNote::Mend { bearer },
+        Deed::Cut(bearer) => EventNote::Cut { bearer },
         Deed::Tick => EventNote::Tick,
     }
 }
 
-/// Whether the bearer is mended after a call that all neighbours take part in.
-pub fn mended_by(deed: Deed, mended: bool) -> bool
+/// The bearers after a call that all neighbours take part in.
+pub fn mended_by(deed: Deed, mended: Bearers) -> Bearers
+    requires { IsOnBearer deed }
     ensures { result ≡ mended_by deed mended }
 {
     match deed {
-        Deed::Mend => true,
-        Deed::Cut => false,
+        Deed::Mend(bearer) => with_mended_on(mended, bearer, true),
+        Deed::Cut(bearer) => with_mended_on(mended, bearer, false),
         Deed::Tick => mended,
     }
 }
 
-/// Lets something happen to the neighbour of that number, where there is one, and tells what became of the link to
-/// it.
-fn take_part_at(
-    place: &mut Option<Neighbour>,
-    alloc: Global,
-    deed: Deed,
-    number: u8,
-    inside: &mut Vec<Entry>,
-    out: &mut Outbox,
-)
-    requires number { (1 ≤ number) × (number ≤ 32) }
-    requires room { vec_len inside.old + 2 ≤ vec_capacity inside.old }
-    ensures after { place.new ≡ after_one deed place.old }
-    ensures entries { inside.new.items ≡ inside.old.items ++ entries_one deed number place.old }
-    ensures frames { Adds out.old out.new (frames_one deed place.old) }
-    ensures room { vec_capacity inside.new ≡ vec_capacity inside.old }
-{
-    let Some(neighbour) = place else {
-        return;
-    };
-    let change = neighbour.take_part(alloc, deed, out);
-    note_change(inside, number, change);
+/// What happened at neighbours so far, and the frames that leave: those of link states and of repeated packets leave
+/// before those of packets that are numbered then.
+#[derive(Drop)]
+pub struct Parting {
+    /// What is told.
+    pub inside: Vec<Entry>,
+    /// Frames of link states and of repeated packets.
+    pub states: Outbox,
+    /// Frames of packets that are numbered.
+    pub numbered: Outbox,
 }
 
-/// Lets something happen to each neighbour, in order of their numbers, and tells what became of the links.
-pub fn take_part_all(
-    neighbours: &mut Vec<Option<Neighbour>>,
-    alloc: Global,
-    deed: Deed,
-    inside: &mut Vec<Entry>,
-    out: &mut Outbox,
-)
-    requires wide { length neighbours.old.items ≡ 33 }
-    requires nobody { slice_index_or neighbours.old.items 0 None ≡ None }
-    requires room { 64 ≤ vec_capacity inside.old }
-    requires empty { inside.old.items ≡ [] }
-    ensures after { neighbours.new.items ≡ after_all deed neighbours.old.items }
-    ensures entries { inside.new.items ≡ entries_all deed 0 neighbours.old.items }
-    ensures frames { Adds out.old out.new (frames_all deed neighbours.old.items) }
-    ensures room { vec_capacity inside.old ≤ vec_capacity inside.new }
-{
-    for number in 1..NUMBERS {
-        take_part_at(
-            &mut neighbours[number],
-            alloc,
-            deed,
-            number as u8,
-            inside,
-            out,
-        );
+impl Parting {
+    /// Nothing happened.
+    pub fn new(alloc: Global) -> Parting
+        ensures inside { result.inside.items ≡ [] }
+        ensures states { (result.states.frames ≡ []) × (result.states.lost ≡ false) }
+        ensures numbered { (result.numbered.frames ≡ []) × (result.numbered.lost ≡ false) }
+    {
+        Parting {
+            inside: Vec::new(alloc),
+            states: Outbox::new(alloc),
+            numbered: Outbox::new(alloc),
+        }
     }
 }
 
-/// The numbers of packets unacknowledged and waiting on the link to a neighbour: none where there is no contact.
+/// The neighbour of that number, where there is one, as it is when this happened to it; and what became of the links to
+/// it is told.
+fn part_of(
+    place: &Option<Neighbour>,
+    alloc: Global,
+    deed: Deed,
+    number: u8,
+    event: &mut Parting,
+) -> Result<Option<Neighbour>, NoMemory>
+    requires deed { IsOnBearer deed }
+    requires number { (1 ≤ number) × (number ≤ 32) }
+    ensures after { IfOk result (λ after. after ≡ after_one deed place.now) }
+    ensures entries { OnOk result (event.new.inside.items ≡ event.old.inside.items ++ entries_one deed number place.now) }
+    ensures states { OnOk result (Adds event.old.states event.new.states (states_one deed place.now)) }
+    ensures numbered { OnOk result (Adds event.old.numbered event.new.numbered (numbered_one deed place.now)) }
+{
+    let Some(neighbour) = place else {
+        return Ok(None);
+    };
+    let mut after = neighbour.copy()?;
+    let changes = after.take_part(alloc, deed, &mut event.states, &mut event.numbered)?;
+    event.inside.reserve(changes.len())?;
+    note_changes(&mut event.inside, number, changes.as_slice());
+    Ok(Some(after))
+}
+
+/// The neighbours as they are when something happened to each, in order of their numbers; and what became of the links
+/// is told. Those that were aren't changed.
+pub fn part_of_all(
+    neighbours: &[Option<Neighbour>],
+    alloc: Global,
+    deed: Deed,
+    event: &mut Parting,
+) -> Result<Vec<Option<Neighbour>>, NoMemory>
+    requires deed { IsOnBearer deed }
+    requires wide { length neighbours.now ≡ 33 }
+    requires nobody { slice_index_or neighbours.now 0 None ≡ None }
+    requires empty { event.old.inside.items ≡ [] }
+    ensures after { IfOk result (λ after. after.items ≡ after_all deed neighbours.now) }
+    ensures entries { OnOk result (event.new.inside.items ≡ entries_all deed 0 neighbours.now) }
+    ensures states { OnOk result (Adds event.old.states event.new.states (states_all deed neighbours.now)) }
+    ensures numbered { OnOk result (Adds event.old.numbered event.new.numbered (numbered_all deed neighbours.now)) }
+{
+    let mut after = Vec::new(alloc);
+    after.push(None)?;
+    for number in 1..NUMBERS {
+        let place = &neighbours[number];
+        after.push(part_of(place, alloc, deed, number as u8, event)?)?;
+    }
+    Ok(after)
+}
+
+/// The numbers of packets unacknowledged and waiting on the active link to a neighbour: none where there is no contact.
 pub fn load_at(place: &Option<Neighbour>) -> (u32, u32)
-    ensures unacked { result.0 ≡ unacked_in (session_with place.now) }
-    ensures waiting { result.1 ≡ waiting_in (session_with place.now) }
+    ensures unacked { result.0 ≡ unacked_in (load_with place.now) }
+    ensures waiting { result.1 ≡ waiting_in (load_with place.now) }
 {
     let Some(neighbour) = place else {
         return (0, 0);
     };
     neighbour.load().unwrap_or((0, 0))
+}
+
+/// The numbers of packets unacknowledged and waiting on the link of a bearer, 0 or 1, to a neighbour: zeros where it
+/// isn't up.
+fn load_there(place: &Option<Neighbour>, bearer: u8) -> (u32, u32)
+    requires { bearer ≤ 1 }
+    ensures { result ≡ load_on bearer place.now }
+{
+    let Some(neighbour) = place else {
+        return (0, 0);
+    };
+    neighbour.load_on(bearer)
 }
 
 /// The numbers of packets unacknowledged and waiting on all links together, of those that are up.
@@ -226,9 +387,10 @@ pub fn load_all(neighbours: &[Option<Neighbour>]) -> (u64, u64)
     let mut unacked = 0;
     let mut waiting = 0;
     for place in neighbours {
-        let (in_flight, queued) = load_at(place);
-        unacked += in_flight as u64;
-        waiting += queued as u64;
+        let first = load_there(place, 0);
+        let second = load_there(place, 1);
+        unacked += first.0 as u64 + second.0 as u64;
+        waiting += first.1 as u64 + second.1 as u64;
     }
     (unacked, waiting)
 }

@@ -1,16 +1,17 @@
 //! The node, its calls, and what arrives at it.
 
-ghost use Rattle.std.specs.Prelude.{◌≡◌, ℕ, ◌+◌, ◌%◌, ◌^◌, ◌<◌, ◌≤◌, [], true, false, if◌then◌else◌, None, Some, Err, length, is_some, option_map, IfOk, IfSome, IfNone, OnErr, OnOk};
+ghost use Rattle.std.specs.Prelude.{◌≡◌, ℕ, ◌+◌, ◌%◌, ◌^◌, ◌<◌, ◌≤◌, [], true, false, if◌then◌else◌, None, Some, Err, length, is_some, IfOk, IfSome, IfNone, OnErr, OnOk};
 ghost use Rattle.tipc_types.specs.Address.{node_word, IsNodeWord};
 ghost use Rattle.tipc_outside.specs.Frames.{Adds};
 ghost use Rattle.tipc_journal.specs.Streams.{accepted, delivered};
 ghost use Rattle.tipc_journal.specs.Counting.{is_sent_by_name};
 ghost use Rattle.tipc_journal.specs.Matches.{names};
 ghost use Rattle.tipc_journal.specs.Licensed.{IsPicked};
+ghost use Rattle.tipc_pair.specs.Facing.{state_of};
 ghost use Rattle.tipc_sockets.specs.SocketTables.{no_sockets};
 ghost use Rattle.tipc_node.specs.Arrivals.{Arrived};
 ghost use Rattle.tipc_node.specs.Calls.{CanPerform, HasInstances, Performed};
-ghost use Rattle.tipc_node.specs.Nodes.{contact_with, has_room, known_frames, known_node, load_of, neighbour_of};
+ghost use Rattle.tipc_node.specs.Nodes.{contact_with, end_with, has_room, is_mended_on, known_frames, known_node, load_of, neighbour_of};
 ghost use Rattle.tipc_node.specs.Sharing.{SharesNames};
 ghost use Rattle.tipc_node.specs.Telling.{IsTold};
 
@@ -58,7 +59,7 @@ impl Node {
     pub fn new(alloc: Global, own: Addr, boot: u32) -> Result<Node, NoMemory>
         requires node { IsNodeWord own.word }
         requires boot { 1 ≤ boot }
-        ensures own { IfOk result (λ n. (n.own ≡ own.word) × (n.boot ≡ boot) × (n.mended ≡ false)) }
+        ensures own { IfOk result (λ n. (n.own ≡ own.word) × (n.boot ≡ boot) × (n.mended ≡ (false, false))) }
         ensures alone { IfOk result (λ n. (peer : ℕ) → neighbour_of n peer ≡ None) }
         ensures empty { IfOk result (λ n. (n.sockets ≡ no_sockets own.word boot) × (n.journal ≡ [])) }
         ensures told { IfOk result (λ n. IsTold n) }
@@ -84,11 +85,11 @@ impl Node {
         self.core.neighbour(peer)
     }
 
-    /// Whether bearer 0 is mended.
-    pub fn is_mended(&self) -> bool
-        ensures { result ≡ self.now.mended }
+    /// Whether a bearer is mended. There are two: 0 and 1.
+    pub fn is_mended(&self, bearer: u8) -> bool
+        ensures { result ≡ is_mended_on self.now.mended bearer }
     {
-        self.core.is_mended()
+        self.core.is_mended(bearer)
     }
 
     /// Its address.
@@ -156,11 +157,12 @@ impl Node {
         self.core.load()
     }
 
-    /// The state of the link end to the peer on bearer 0: None exactly where there is none.
-    pub fn links(&self, peer: u8) -> Option<LinkState>
-        ensures { result ≡ option_map (λ x. x.pair.link.fsm.state) (neighbour_of self.now peer) }
+    /// The state of the link end to the peer on a bearer, 0 or 1: None exactly where there is none.
+    pub fn links(&self, peer: u8, bearer: u8) -> Option<LinkState>
+        requires { bearer ≤ 1 }
+        ensures { result ≡ state_of (end_with bearer (neighbour_of self.now peer)) }
     {
-        Some(self.neighbour(peer)?.pair.state())
+        self.neighbour(peer)?.pair.state(bearer)
     }
 
     /// All publications that it knows, in order of node, port and key.
@@ -179,17 +181,18 @@ impl Node {
         self.core.into_journal()
     }
 
-    /// Makes the link end to a peer that isn't known, on bearer 0.
-    pub fn know(&mut self, alloc: Global, peer: u8, out: &mut Outbox)
+    /// Makes the link end to a peer on a bearer, 0 or 1, on which there is none.
+    pub fn know(&mut self, alloc: Global, peer: u8, bearer: u8, out: &mut Outbox)
         requires peer { (1 ≤ peer) × (peer ≤ 32) }
-        requires alone { neighbour_of self.old peer ≡ None }
-        ensures after { self.new ≡ known_node self.old peer }
-        ensures frames { Adds out.old out.new (known_frames self.old peer) }
+        requires bearer { bearer ≤ 1 }
+        requires alone { end_with bearer (neighbour_of self.old peer) ≡ None }
+        ensures after { self.new ≡ known_node self.old peer bearer }
+        ensures frames { Adds out.old out.new (known_frames self.old peer bearer) }
         ensures within { peer < length self.old.neighbours }
         ensures told { IsTold self.new }
         ensures shares { SharesNames self.new }
     {
-        self.core.know(alloc, peer, out);
+        self.core.know(alloc, peer, bearer, out);
     }
 
     /// Performs a call, and answers it: a socket is made or closed, names are published there and withdrawn, a message is sent to a port

@@ -12,7 +12,7 @@ ghost use Rattle.tipc_message.specs.Wire.{IsPayload};
 ghost use Rattle.tipc_sockets.specs.Telling.{origin_of};
 ghost use Rattle.tipc_node.specs.Calls.{Sends, SendsByName, SendsTo, sender_refusal, way_refusal};
 ghost use Rattle.tipc_node.specs.Messages.{destination_of};
-ghost use Rattle.tipc_node.specs.Nodes.{has_room, session_with};
+ghost use Rattle.tipc_node.specs.Nodes.{has_room, is_met};
 ghost use Rattle.tipc_node.specs.Sockets.{found_at};
 ghost use Rattle.tipc_node.specs.Works.{Work, begun, concluded, work_of, Puts, Settles};
 
@@ -125,7 +125,7 @@ impl Core {
         requires peer { (1 ≤ peer) × (peer ≤ 32) }
         requires payload { IsPayload m }
         requires small { counted_bytes m ≤ longest_body }
-        requires contact { is_some (session_with (slice_index_or self.old.neighbours peer None)) ≡ true }
+        requires contact { is_met (slice_index_or self.old.neighbours peer None) ≡ true }
         ensures sent { OnOk result ((w : Work) × (frames : List Outgoing)
             × Puts self.old.own (begun self.old) peer m w frames ×
             (self.new ≡ concluded self.old by note w sent) × Adds out.old out.new frames) }

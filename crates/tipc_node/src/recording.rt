@@ -5,13 +5,13 @@ ghost use Rattle.tipc_journal.specs.declared.entries.Entry.TheVariants.{TimedOut
 ghost use Rattle.tipc_journal.specs.Room.{entry_bytes};
 ghost use Rattle.tipc_journal.specs.Steps.{step_entries};
 ghost use Rattle.tipc_node.specs.Limits.{free_entries, free_message_bytes};
-ghost use Rattle.tipc_node.specs.Nodes.{change_entries, has_room, step_of};
+ghost use Rattle.tipc_node.specs.Nodes.{change_entries, change_entry, has_room, step_of};
 
 use std::alloc::{AllocError, AllocFailed};
 use std::collections::VecDeque;
 use tipc_journal::{Entry, Journal, MOST_ENTRIES, MOST_MESSAGE_BYTES};
-use tipc_pair::PairChange;
-use tipc_types::{Addr, Answer, By, EventNote, LinkState, NoMemory};
+use tipc_pair::Transition;
+use tipc_types::{Addr, Answer, By, EventNote, NoMemory};
 
 /// A call is refused where the journal has fewer free entries than this. (This project's profile.)
 pub const FREE_ENTRIES: u64 = 65_536;
@@ -113,49 +113,55 @@ pub fn note_timeouts(inside: &mut Vec<Entry>, numbers: &[u32])
     }
 }
 
-/// Tells what became of the link to a peer and of the contact with it, in a list that has room.
-pub fn note_change(inside: &mut Vec<Entry>, peer: u8, change: PairChange)
-    requires peer { (1 ≤ peer) × (peer ≤ 32) }
-    requires room { vec_len inside.old + 2 ≤ vec_capacity inside.old }
-    ensures entries { inside.new.items ≡ inside.old.items ++ change_entries peer change }
-    ensures room { vec_capacity inside.new ≡ vec_capacity inside.old }
+/// The entry of what became of a link to a peer, or of the contact with it.
+fn change_entry(peer: u8, change: Transition) -> Entry
+    requires { (1 ≤ peer) × (peer ≤ 32) }
+    ensures { result ≡ change_entry peer change }
 {
+    let peer = Addr::node(peer);
     match change {
-        PairChange::Stay => {}
-        PairChange::Began {
+        Transition::LinkUp {
+            bearer,
             own_epoch,
             peer_epoch,
-            contact,
-        } => {
-            inside.push_reserved(Entry::LinkUp {
-                peer: Addr::node(peer),
-                bearer: 0,
-                own_epoch,
-                peer_epoch,
-            });
-            inside.push_reserved(Entry::ContactUp {
-                peer: Addr::node(peer),
-                contact,
-            });
-        }
-        PairChange::Ended {
+        } => Entry::LinkUp {
+            peer,
+            bearer,
+            own_epoch,
+            peer_epoch,
+        },
+        Transition::LinkDown {
+            bearer,
             cause,
             shown_epoch,
+        } => Entry::LinkDown {
+            peer,
+            bearer,
+            cause,
+            shown: shown_epoch,
+        },
+        Transition::ContactUp { contact } => Entry::ContactUp { peer, contact },
+        Transition::ContactDown {
             contact,
-            shown_contact,
-        } => {
-            inside.push_reserved(Entry::LinkDown {
-                peer: Addr::node(peer),
-                bearer: 0,
-                cause,
-                shown: shown_epoch,
-            });
-            inside.push_reserved(Entry::ContactDown {
-                peer: Addr::node(peer),
-                contact,
-                states: (Some(LinkState::ResetUnknown), None),
-                shown: shown_contact,
-            });
-        }
+            states,
+            shown,
+        } => Entry::ContactDown {
+            peer,
+            contact,
+            states,
+            shown,
+        },
+    }
+}
+
+/// Tells what became of the links to a peer and of the contact with it, in a list that has room.
+pub fn note_changes(inside: &mut Vec<Entry>, peer: u8, changes: &[Transition])
+    requires peer { (1 ≤ peer) × (peer ≤ 32) }
+    requires room { vec_len inside.old + length changes.now ≤ vec_capacity inside.old }
+    ensures entries { inside.new.items ≡ inside.old.items ++ change_entries peer changes.now }
+    ensures room { vec_capacity inside.new ≡ vec_capacity inside.old }
+{
+    for change in changes {
+        inside.push_reserved(change_entry(peer, *change));
     }
 }

@@ -3,8 +3,8 @@
 ghost use Rattle.std.specs.Prelude.{◌≡◌, ◌≤◌, All, length, IfOk};
 ghost use Rattle.tipc_journal.specs.Refusals.{longest_body};
 ghost use Rattle.tipc_journal.specs.Room.{counted_bytes};
-ghost use Rattle.tipc_link.specs.Sessions.{IsWaiting};
-ghost use Rattle.tipc_pair.specs.Partners.{pieces_for};
+ghost use Rattle.tipc_pair.specs.Messages.{pieces_for};
+ghost use Rattle.tipc_pair.specs.Runs.{IsListed};
 ghost use Rattle.tipc_message.specs.Wire.{IsCarried, IsPayload};
 ghost use Rattle.tipc_node.specs.Messages.{IsSendable, bytes_of, direct, limit_of, named};
 
@@ -114,7 +114,7 @@ pub fn pieces(alloc: Global, own: Addr, message: &Message) -> Result<Pieces, NoM
     requires { IsCarried message.now }
     ensures sendable { IfOk result (λ pieces. IsSendable own.word message.now) }
     ensures value { IfOk result (λ pieces. pieces ≡ pieces_for (bytes_of own.word message.now)) }
-    ensures waiting { IfOk result (All IsWaiting) }
+    ensures listed { IfOk result (All IsListed) }
 {
     let packet = packet_bytes(alloc, own, message)?;
     if packet.len() >= LEAST_CUT {

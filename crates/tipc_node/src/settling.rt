@@ -3,12 +3,12 @@
 ghost use Rattle.std.specs.Prelude.{◌≡◌, ◌≤◌, ◌++◌, ◌∷◌, [], true, None, Some, fold, is_some, length, IfOk, IfSome, IfNone, OnErr, OnOk};
 ghost use Rattle.std.specs.List.{list_all};
 ghost use Rattle.tipc_journal.specs.Dues.{comes_home};
-ghost use Rattle.tipc_link.specs.Sessions.{SessionEnd};
+ghost use Rattle.tipc_pair.specs.Facing.{in_contact};
 ghost use Rattle.tipc_message.specs.Wire.{IsCarried};
 ghost use Rattle.tipc_sockets.specs.Fates.{after_fate};
 ghost use Rattle.tipc_sockets.specs.Telling.{after_entry, fate_entry, origin_of};
 ghost use Rattle.tipc_node.specs.Messages.{destination_of};
-ghost use Rattle.tipc_node.specs.Nodes.{is_change, session_with};
+ghost use Rattle.tipc_node.specs.Nodes.{is_change, load_with};
 ghost use Rattle.tipc_node.specs.Works.{back_of, fate_of, neighbour_at, waiting_to, work_of, PutsOn};
 
 use crate::neighbours::Neighbour;
@@ -23,13 +23,10 @@ use tipc_types::{Addr, Form, Message, NoMemory};
 /// The address word that node 0 would have: the numbers of nodes are counted from it.
 const NODE_ZERO: u32 = 0x0100_1000;
 
-/// The numbers of packets unacknowledged and waiting on the link to the node of an address: None exactly where there is
+/// The numbers of packets unacknowledged and waiting on the active link to the node of an address: None exactly where there is
 /// no contact with it.
 pub fn load_to(neighbours: &[Option<Neighbour>], node: Addr) -> Option<(u32, u32)>
-    ensures some { IfSome result (λ counts. (s : SessionEnd) ×
-        (session_with (neighbour_at neighbours.now node) ≡ Some s) × (counts.0 ≡ length s.sending.unacked) ×
-        (counts.1 ≡ length s.sending.waiting)) }
-    ensures none { IfNone result (session_with (neighbour_at neighbours.now node) ≡ None) }
+    ensures { result ≡ load_with (neighbour_at neighbours.now node) }
 {
     match neighbours.get(node.word.saturating_sub(NODE_ZERO) as usize) {
         Some(Some(neighbour)) => neighbour.load(),
@@ -37,7 +34,7 @@ pub fn load_to(neighbours: &[Option<Neighbour>], node: Addr) -> Option<(u32, u32
     }
 }
 
-/// The number of packets that wait on the link to the node of an address: None exactly where there is no contact with it.
+/// The number of packets that wait on the active link to the node of an address: None exactly where there is no contact with it.
 pub fn waiting_to(neighbours: &[Option<Neighbour>], node: Addr) -> Option<u32>
     ensures { result ≡ waiting_to neighbours.now node }
 {
@@ -127,7 +124,7 @@ pub fn meet(
     Ok(back)
 }
 
-/// Puts a message on the link to the neighbour of that number, in the packets that it takes, and tells that it is
+/// Puts a message on the active link to the neighbour of that number, in the packets that it takes, and tells that it is
 /// accepted.
 pub fn put_on(
     neighbour: &mut Neighbour,
@@ -140,7 +137,7 @@ pub fn put_on(
 ) -> Result<(), NoMemory>
     requires peer { (1 ≤ peer) × (peer ≤ 32) }
     requires carried { IsCarried m }
-    requires contact { is_some (session_with (Some neighbour.old)) ≡ true }
+    requires contact { in_contact neighbour.old.pair ≡ true }
     ensures put { OnOk result (PutsOn own.word neighbour.old neighbour.new peer m inside.old.items inside.new.items
         out.old out.new) }
     ensures err { OnErr result ((neighbour.new ≡ neighbour.old) × (inside.new.items ≡ inside.old.items) ×

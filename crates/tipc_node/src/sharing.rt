@@ -5,10 +5,11 @@ ghost use Rattle.tipc_message.specs.Wire.{IsCarried};
 ghost use Rattle.tipc_journal.specs.Names.{is_clusterwide};
 ghost use Rattle.tipc_journal.specs.Room.{counted_bytes, entry_bytes};
 ghost use Rattle.tipc_name_dist.specs.Items.{telling, tellings};
+ghost use Rattle.tipc_pair.specs.Facing.{in_contact};
 ghost use Rattle.tipc_sockets.specs.SocketTables.{SocketTable};
 ghost use Rattle.tipc_node.specs.Drafts.{drafted, nothing_out, peer_in_contact, taken_back, AreTables, PutEach, ToldEach, ToldPeers};
 ghost use Rattle.tipc_node.specs.Limits.{free_entries, free_message_bytes};
-ghost use Rattle.tipc_node.specs.Nodes.{session_with, waiting_in};
+ghost use Rattle.tipc_node.specs.Nodes.{load_with, waiting_in};
 ghost use Rattle.tipc_node.specs.Sockets.{crowd_refusal, crowded_answer, first_crowded};
 ghost use Rattle.tipc_node.specs.Works.{is_in_contact, work_of};
 
@@ -82,7 +83,7 @@ pub fn tellings(
 
 /// The number of packets that wait on the link to a peer: none where there is no contact with it.
 fn waiting_at(neighbours: &[Option<Neighbour>], peer: u8) -> u32
-    ensures { result ≡ waiting_in (session_with (slice_index_or neighbours.now peer None)) }
+    ensures { result ≡ waiting_in (load_with (slice_index_or neighbours.now peer None)) }
 {
     match neighbours.get(peer as usize) {
         Some(place) => load_at(place).1,
@@ -128,12 +129,12 @@ pub fn put_each(
 ) -> Result<(), NoMemory>
     requires peer { (1 ≤ peer) × (peer ≤ 32) }
     requires carried { All IsCarried messages.now }
-    requires contact { is_some (session_with (Some neighbour.old)) ≡ true }
+    requires contact { in_contact neighbour.old.pair ≡ true }
     ensures puts { OnOk result ((xs : List (Option Neighbour)) (s : SocketTable) →
         slice_index_or xs peer None ≡ Some neighbour.old →
         PutEach own.word (work_of xs s inside.old.items) peer messages.now
         (work_of (slice_set xs peer (Some neighbour.new)) s inside.new.items) out.old out.new) }
-    ensures contact { OnOk result (is_some (session_with (Some neighbour.new)) ≡ true) }
+    ensures contact { OnOk result (in_contact neighbour.new.pair ≡ true) }
     ensures few { OnOk result (length inside.new.items ≡ length inside.old.items + length messages.now) }
     ensures light { OnOk result (sum_by entry_bytes inside.new.items ≡
         sum_by entry_bytes inside.old.items + sum_by counted_bytes messages.now) }
@@ -149,7 +150,7 @@ fn is_in_contact(neighbours: &[Option<Neighbour>], peer: u8) -> bool
     ensures { result ≡ is_in_contact neighbours.now peer }
 {
     match neighbours.get(peer as usize) {
-        Some(Some(neighbour)) => neighbour.load().is_some(),
+        Some(Some(neighbour)) => neighbour.is_met(),
         _ => false,
     }
 }

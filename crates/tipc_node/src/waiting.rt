@@ -1,7 +1,7 @@
 //! What an arrival delivers, where each message surely waits at its port: nothing goes back by it, and what can fail
 //! is done before the node is changed.
 
-ghost use Rattle.std.specs.Prelude.{◌≡◌, ◌++◌, ◌+◌, ◌≤◌, ◌∷◌, [], true, length, vec_capacity, vec_len, IfOk, OnOk};
+ghost use Rattle.std.specs.Prelude.{◌≡◌, ◌++◌, ◌∷◌, [], true, IfOk, OnOk};
 ghost use Rattle.tipc_journal.specs.declared.entries.Entry.{Entry};
 ghost use Rattle.tipc_sockets.specs.Fates.{port_of};
 ghost use Rattle.tipc_node.specs.Sure.{all_wait, are_sure, message_of, messages_in, told_in, told_of, waits_surely, with_all_waiting};
@@ -82,17 +82,6 @@ pub fn prepare_waiting(alloc: Global, deliveries: Vec<Delivery>) -> Result<Waiti
         tell(alloc, &mut told, delivery)?;
     }
     Ok(told)
-}
-
-/// Tells these entries in a list that has room.
-pub fn tell_all(inside: &mut Vec<Entry>, entries: Vec<Entry>)
-    requires room { vec_len inside.old + length entries.items ≤ vec_capacity inside.old }
-    ensures { inside.new.items ≡ inside.old.items ++ entries.items }
-{
-    let mut waiting = VecDeque::from_vec(entries);
-    while let Some(entry) = waiting.pop_front() {
-        inside.push_reserved(entry);
-    }
 }
 
 /// Puts messages that surely wait at their ports there. It takes no memory.

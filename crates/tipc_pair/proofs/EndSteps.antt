@@ -22,7 +22,7 @@ use Rattle.tipc_pair.specs.Runs.{IsListed}
 use Rattle.tipc_pair.proofs.EndFacts.{session_kept, session_mapped, some_mapped}
 use Rattle.tipc_link.proofs.Ends.{after-is, ended-is, followed_session, forgotten-is}
 use Rattle.tipc_contact.proofs.Calls.{not_last}
-use Rattle.tipc_pair.proofs.Keeping.{Falls, on_reset_falls}
+use Rattle.tipc_pair.proofs.Falls.{Falls, on_reset_falls}
 use Rattle.tipc_pair.proofs.SessionFacts.{arrived_on, begun_on, flushed_on, given_up_on, put_listed, put_on, told_on, waiting_given_on}
 
 -- ---- epochs of a boot

@@ -1,8 +1,5 @@
-pub mod Keeping
-pub mod Meeting
-pub mod DownEnds
+pub mod Falls
 pub mod Pieces
-pub mod Holding
 pub mod Listed
 pub mod Restoring
 pub mod EndFacts

@@ -26,8 +26,8 @@ use Rattle.tipc_pair.specs.Courses.{AddsCourse, Course, LeavingState, going_on, 
 use Rattle.tipc_pair.specs.Facing.{PairEnds, facing, is_up_at, turned, with_near}
 use Rattle.tipc_pair.specs.PairFacts.{IsPairOfEnds}
 use Rattle.tipc_link.specs.Parts.{is_quiet}
-use Rattle.tipc_pair.specs.Partners.{OpensTo, took}
-use Rattle.tipc_pair.specs.Partners.{deferred as defers, ignored as ignores}
+use Rattle.tipc_pair.specs.Messages.{OpensTo, took}
+use Rattle.tipc_pair.specs.Messages.{deferred as defers, ignored as ignores}
 use Rattle.tipc_pair.specs.PairArrivals.{Arrives, Does, Heard, by_number, deferred, hears, ignored, met, opens, passing, reset_change, reset_given, reset_near, with_begun, with_bytes}
 use Rattle.tipc_pair.specs.PairOpenings.{HearsAndOpens, IsQuiet, NoneCarriedIn, Opens, are_plain, is_plain, standing_of, standing_with}
 use Rattle.tipc_pair.proofs.Arrivings.{met_does, met_near_is}

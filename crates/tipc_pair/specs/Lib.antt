@@ -1,7 +1,5 @@
-pub mod Pairs
-pub mod Partners
+pub mod Messages
 pub mod Held
-pub mod Turns
 pub mod Facing
 pub mod Runs
 pub mod Courses

@@ -3,7 +3,7 @@ use Rattle.std.specs.Prelude.{◌≡◌, ◌<◌, ℕ, Bool, List, [], Option, S
 use Rattle.tipc_types.specs.declared.link_words.BroadcastState.{BroadcastState}
 use Rattle.tipc_outside.specs.declared.outgoing.Outgoing.{Outgoing}
 use Rattle.tipc_link_fsm.specs.Table.{Outcome, is_up, on_cut, on_tick}
-use Rattle.tipc_link.specs.Links.{LinkEnd, after, answered_with, cut_end, frames, frames_with, mend_frames, mended_end, with_session}
+use Rattle.tipc_link.specs.Links.{LinkEnd, after, answered_with, count_of, cut_end, frames, frames_with, mend_frames, mended_end, with_session}
 use Rattle.tipc_link.specs.Sessions.{IsPut, SessionEnd, flush_frames, flushed}
 use Rattle.tipc_pair.specs.Changeovers.{following, released}
 use Rattle.tipc_pair.specs.Courses.{Course, going_on, rests}
@@ -104,6 +104,11 @@ numbers_of session = option_map (λ (s : SessionEnd). (s.sending.numbered, s.tak
 abbrev pub numbered_of : Option LinkEnd → Option (ℕ × ℕ)
 numbered_of None = None
 numbered_of (Some e) = numbers_of e.session
+
+-- the own epoch of the present session or the last one, and how many packets were numbered in it
+abbrev pub last_count_of : Option LinkEnd → Option (ℕ × ℕ)
+last_count_of None = None
+last_count_of (Some e) = count_of e.session
 
 -- ---- the answer
 

@@ -1,4 +1,4 @@
--- What a node does at a pair with two links in one event: one thing happens there first, then messages are put, and last the STATE that is
+-- What a node does at a pair in one event: one thing happens there first, then messages are put, and last the STATE that is
 -- due is sent. Each call of a node is such a turn at each of its pairs; at most of them nothing happens and no message is put.
 use Rattle.std.specs.Prelude.{◌≡◌, ℕ, Bool, true, false, List, [], ◌∷◌, ◌++◌, Option, Some, None}
 use Rattle.tipc_types.specs.declared.link_words.BroadcastState.{BroadcastState}
@@ -10,7 +10,7 @@ use Rattle.tipc_pair.specs.Courses.{Course, going_on, rests as nothing}
 use Rattle.tipc_pair.specs.Facing.{PairEnds, active, facing, with_made}
 use Rattle.tipc_pair.specs.PairArrivals.{Arrives}
 use Rattle.tipc_pair.specs.PairCalls.{Puts, answered_near, at_bearer, cut_near, mended, ticked}
-use Rattle.tipc_pair.specs.Partners.{pieces_for}
+use Rattle.tipc_pair.specs.Messages.{pieces_for}
 
 -- ---- what happens first
 

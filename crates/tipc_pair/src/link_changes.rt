@@ -277,6 +277,7 @@ impl LinkEnds {
     pub(crate) fn release(&mut self, alloc: Global, event: &mut Leaving)
         ensures after { self.new ≡ (released self.old).pair }
         ensures adds { AddsCourse event.old event.new (released self.old) }
+        ensures quiet { event.new.changes ≡ event.old.changes }
     {
         self.release_near(alloc, event);
         self.turn();
@@ -288,6 +289,7 @@ impl LinkEnds {
     fn release_near(&mut self, alloc: Global, event: &mut Leaving)
         ensures after { self.new ≡ (release_near self.old).pair }
         ensures adds { AddsCourse event.old event.new (release_near self.old) }
+        ensures quiet { event.new.changes ≡ event.old.changes }
     {
         if !is_clear(&self.far) {
             return;

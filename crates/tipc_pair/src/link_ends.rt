@@ -6,7 +6,7 @@ ghost use Rattle.std.specs.Prelude.{All, ℕ, List, ◌<◌, Err, ◌≡◌, ◌
 ghost use Rattle.tipc_outside.specs.Frames.{Adds};
 ghost use Rattle.tipc_link.specs.Links.{LinkEnd};
 ghost use Rattle.tipc_pair.specs.Facing.{is_up_at, state_of};
-ghost use Rattle.tipc_pair.specs.PairCalls.{load_of, numbered_of};
+ghost use Rattle.tipc_pair.specs.PairCalls.{last_count_of, load_of, numbered_of};
 ghost use Rattle.tipc_link.specs.Sessions.{SessionEnd};
 ghost use Rattle.tipc_link_fsm.specs.Table.{is_last};
 
@@ -64,6 +64,7 @@ impl Model for LinkEnds {
 }
 
 impl LinkEnds {
+    ghost use Rattle.tipc_pair.specs.PairFacts.{IsPairOfEnds};
     ghost use Rattle.tipc_pair.specs.Facing.{active, alone, facing, in_contact, turned, with_made};
     ghost use Rattle.tipc_pair.specs.Courses.{AddsCourse};
     ghost use Rattle.tipc_pair.specs.PairCalls.{answered_near, at_bearer, cut_at, cut_near, mended, session_at, tick_near, ticked, Puts};
@@ -151,6 +152,13 @@ impl LinkEnds {
         ensures going_on { result ≡ true → is_last self.now.contact ≡ false }
     {
         is_up(&self.near) || is_up(&self.far)
+    }
+
+    /// What is true of every pair is true of it. It does nothing.
+    pub(crate) fn sound(&self)
+        ensures { IsPairOfEnds self.now }
+    {
+        let _ = &self.bearer;
     }
 
     /// The contact numbers: the node's own, and the highest that the peer has shown.
@@ -369,6 +377,17 @@ pub(crate) fn load_of(link: &Option<Link>) -> (u32, u32)
     match link {
         Some(link) if link.is_up() => link.load().unwrap_or((0, 0)),
         _ => (0, 0),
+    }
+}
+
+/// The own epoch of an end's present session, or of its last one, and how many packets were numbered in it. None exactly where there is no
+/// end, or it had no session.
+pub(crate) fn last_count_of(link: &Option<Link>) -> Option<(u64, u64)>
+    ensures { result ≡ last_count_of link.now }
+{
+    match link {
+        Some(link) => link.last_count(),
+        None => None,
     }
 }
 

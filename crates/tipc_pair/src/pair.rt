@@ -1,82 +1,97 @@
 //! A node's side of its pair with a peer.
 
-ghost use Rattle.std.specs.Prelude.{◌≡◌, ℕ, ◌<◌, ◌≤◌, [], true, false, Some, None, Err, length, All, IfOk, OnErr, OnOk};
+ghost use Rattle.std.specs.Prelude.{◌≡◌, ℕ, ◌≤◌, ◌<◌, [], true, false, Some, None, Err, All, List, length, IfOk, OnErr, OnOk};
 ghost use Rattle.tipc_header.specs.Grammar.{Fits};
-ghost use Rattle.tipc_header.specs.Spelling.{Fields, view};
+ghost use Rattle.tipc_header.specs.Spelling.{view};
 ghost use Rattle.tipc_outside.specs.Frames.{Adds};
-ghost use Rattle.tipc_fragments.specs.Joining.{Joining, fresh};
-ghost use Rattle.tipc_link_fsm.specs.Table.{Fsm, is_up, on_cut, on_tick};
-ghost use Rattle.tipc_link.specs.Links.{LinkEnd, answered_with, frames_with, mend_frames, mended_end, numbered_in, with_session};
-ghost use Rattle.tipc_link.specs.Sessions.{SessionEnd, IsPut, IsWaiting, flush_frames, flushed};
-ghost use Rattle.tipc_pair.specs.Pairs.{arrival, change_of, contact_of, cut_pair, link_met, lonely, noticed, shows_contact, tick_frames, tick_pair, told_of};
-ghost use Rattle.tipc_pair.specs.Partners.{IsPairArriving, OpensTo, begun_after, pair_state};
+ghost use Rattle.tipc_outside.specs.declared.outgoing.Outgoing.{Outgoing};
+ghost use Rattle.tipc_link.specs.Sessions.{SessionEnd};
+ghost use Rattle.tipc_pair.specs.Courses.{Course, sent_in};
 
-use crate::changes::{PairArrival, PairChange, PairOutcome};
-use crate::end::End;
+use crate::changes::{PairArrival, PairOutcome};
+use crate::leaving::Leaving;
+use crate::link_ends::{LinkEnds, last_count_of, load_of, numbered_of, state_of};
+use crate::preparing::Way;
+use crate::transitions::{Transition, TransitionList};
 use std::alloc::Global;
 use std::marker::Model;
-use tipc_header::{Header, Packet};
-use tipc_link::Arriving;
-use tipc_link_fsm::Change;
+use tipc_header::Packet;
 use tipc_outside::Outbox;
-use tipc_reassembly::{OpenedList, Reassembly};
-use tipc_recv_window::LinkOutcome;
 use tipc_send_window::OfferFault;
-use tipc_types::{Addr, BroadcastState, LinkState, NoMemory, Pieces, Why};
+use tipc_types::{Addr, BroadcastState, LinkState, NoMemory, Pieces};
 
-/// What a packet that shows no contact number will make of a pair: [`Pair::prepare`] tells it, and [`Pair::commit`] does it.
+/// What a packet will make of a pair: [`Pair::prepare`] tells it, and [`Pair::commit`] does it.
 #[derive(Drop)]
 pub struct PairArriving {
-    arriving: Arriving,
-    reassembly: Reassembly,
+    bearer: u8,
+    way: Way,
     outcome: PairOutcome,
 }
 
 impl Model for PairArriving {
-    ghost use Rattle.tipc_pair.specs.Partners.{PairArrivingState};
+    ghost use Rattle.tipc_pair.specs.Preparing.{Prepared};
 
-    ghost Value = { PairArrivingState };
+    ghost Value = { Prepared };
 
-    ghost view = { λ a. record { link = a.arriving; begun = a.reassembly; outcome = a.outcome } };
+    ghost view = { λ a. record { bearer = a.bearer; way = a.way; outcome = a.outcome } };
 }
 
 impl PairArriving {
-    /// What is given.
+    ghost use Rattle.tipc_pair.specs.Preparing.{changes_of};
+
+    /// What will be given.
     pub fn outcome(&self) -> &PairOutcome
         ensures { result.now ≡ self.now.outcome }
     {
         &self.outcome
     }
+
+    /// What will be told of links and contact, in order.
+    pub fn changes(&self) -> &[Transition]
+        ensures { result.now ≡ changes_of self.now.way }
+    {
+        self.way.changes()
+    }
 }
 
-/// What a node keeps of a peer: the link end on bearer 0, the contact numbers of the two, and the message that is begun of the
-/// fragments that were taken.
+/// What a node keeps of a peer: a link end on each of the two bearers, as far as they are made, the contact numbers of the two nodes, and the
+/// message that is begun of the fragments that were taken on either link.
 ///
-/// The node is in contact with the peer exactly while the link is up. When the contact ends, the node takes the next contact
-/// number, the end the next epoch, and the peer's epoch is forgotten. A begun message is dropped when a contact begins or ends.
-/// (This project's profile.)
+/// The node is in contact with the peer exactly while a link is up. Messages go over the active link, which is the up link of the higher
+/// priority: bearer 0's, where that is up. When a link goes down while the other one is up, that one gets what it leaves, and the end is held
+/// until all of that is acknowledged. When bearer 0's link goes up while bearer 1's is up, it takes the traffic over. (This project's profile.)
 #[derive(Drop)]
 pub struct Pair {
-    end: End,
-    reassembly: Reassembly,
+    /// Seen from bearer 0's link.
+    ends: LinkEnds,
 }
 
 impl Model for Pair {
-    ghost use Rattle.tipc_pair.specs.Partners.{PairState};
+    ghost use Rattle.std.specs.Prelude.{◌≡◌};
+    ghost use Rattle.tipc_pair.specs.Facing.{PairEnds};
 
-    ghost Value = { PairState };
+    ghost Value = { PairEnds };
 
-    ghost view = { λ p. record { link = p.end; begun = p.reassembly } };
+    ghost view = { λ p. p.ends };
+
+    ghost invariant = { λ p. p.ends.bearer ≡ 0 };
 }
 
 impl Pair {
-    /// The pair of a node that has just begun this boot, on a bearer that counts as cut.
+    ghost use Rattle.tipc_pair.specs.Facing.{active, alone, contact_between, facing, in_contact, state_of, with_made};
+    ghost use Rattle.tipc_pair.specs.PairArrivals.{Arrives};
+    ghost use Rattle.tipc_pair.specs.Courses.{IsToldOf};
+    ghost use Rattle.tipc_pair.specs.PairCalls.{active_session, answered_near, at_bearer, cut_near, last_count_of, load_of, mended, numbered_of, ticked, Sends};
+    ghost use Rattle.tipc_pair.specs.PairFacts.{AreHeldRightly, IsPairOfEnds};
+    ghost use Rattle.tipc_pair.specs.Preparing.{changes_of, Prepares};
+    ghost use Rattle.tipc_pair.specs.Runs.{IsListed};
+
+    /// The pair of a node that has just begun this boot: no end is made.
     pub fn new(alloc: Global, own: Addr, peer: Addr, boot: u32) -> Pair
-        ensures { result ≡ pair_state (lonely own.word peer.word boot) fresh }
+        ensures { result ≡ alone own.word peer.word boot }
     {
         Pair {
-            end: End::new(own, peer, boot),
-            reassembly: Reassembly::new(alloc),
+            ends: LinkEnds::new(alloc, own, peer, boot),
         }
     }
 
@@ -85,64 +100,178 @@ impl Pair {
         ensures { IfOk result (λ pair. pair ≡ self.now) }
     {
         Ok(Pair {
-            end: self.end.copy()?,
-            reassembly: self.reassembly.copy()?,
+            ends: self.ends.copy()?,
         })
     }
 
-    /// The contact: the node's own contact number, and the peer's. None exactly where the node isn't in contact with the peer.
-    pub fn contact(&self) -> Option<(u64, u64)>
-        ensures { result ≡ contact_of self.now.link }
+    /// Makes the link end on a bearer, 0 or 1, that has none. It counts as cut: [`Pair::mend`] tells that it is mended.
+    pub fn make_end(&mut self, bearer: u8)
+        requires bearer { bearer ≤ 1 }
+        requires none { (facing bearer self.old).near ≡ None }
+        ensures { self.new ≡ facing 0 (with_made (facing bearer self.old)) }
     {
-        self.end.contact()
+        self.ends.face(bearer);
+        self.ends.make();
+        self.ends.face(0);
     }
 
-    /// The bearer is mended: as [`tipc_link::Link::mend`].
-    pub fn mend(&mut self, alloc: Global, out: &mut Outbox)
-        ensures after { self.new ≡ pair_state (mended_end self.old.link) self.old.begun }
-        ensures frames { Adds out.old out.new (mend_frames self.old.link) }
+    /// A bearer, 0 or 1, is mended: as [`tipc_link::Link::mend`]. Nothing is done where it has no link end.
+    pub fn mend(&mut self, alloc: Global, bearer: u8, out: &mut Outbox)
+        requires { bearer ≤ 1 }
+        ensures after { self.new ≡ (at_bearer bearer self.old mended).pair }
+        ensures frames { Adds out.old out.new (sent_in (at_bearer bearer self.old mended)) }
     {
-        self.end.mend(alloc, out);
+        self.ends.face(bearer);
+        self.ends.mend(alloc, out);
+        self.ends.face(0);
     }
 
-    /// Drops the begun message where a contact began or ended.
-    fn renew(&mut self, alloc: Global, change: PairChange)
-        ensures { self.new ≡ pair_state self.old.link (begun_after change self.old.begun) }
-    {
-        match change {
-            PairChange::Stay => {}
-            PairChange::Began { .. } => self.reassembly = Reassembly::new(alloc),
-            PairChange::Ended { .. } => self.reassembly = Reassembly::new(alloc),
-        }
-    }
-
-    /// The bearer is cut: a link that is up goes down, and the contact ends. Nothing is sent.
-    pub fn cut(&mut self, alloc: Global, out: &mut Outbox) -> PairChange
-        ensures after { self.new ≡ pair_state (cut_pair self.old.link) (begun_after result self.old.begun) }
-        ensures change { result ≡ change_of self.old.link (on_cut self.old.link.fsm false) 0 }
-        ensures frames { Adds out.old out.new [] }
-    {
-        let change = self.end.cut(alloc, out);
-        self.renew(alloc, change);
-        change
-    }
-
-    /// A tick: as [`tipc_link::Link::tick`]. With a link that goes down the contact ends.
-    pub fn tick(&mut self, alloc: Global, shown: BroadcastState, out: &mut Outbox) -> PairChange
-        ensures after { self.new ≡ pair_state (tick_pair self.old.link) (begun_after result self.old.begun) }
-        ensures change { result ≡ change_of self.old.link (on_tick self.old.link.fsm false) 0 }
-        ensures frames { Adds out.old out.new (tick_frames self.old.link shown) }
-    {
-        let change = self.end.tick(alloc, shown, out);
-        self.renew(alloc, change);
-        change
-    }
-
-    /// Puts packets on the link, and sends those that the window of 50 has room for: as [`tipc_link::Link::send`]. It needs a contact.
+    /// A bearer, 0 or 1, is cut: its link goes down, where it is up. The other link gets what it leaves, or the contact ends. Nothing is
+    /// sent on the bearer.
     ///
     /// # Errors
     ///
-    /// Congested exactly where at least `limit` packets wait; else NoMemory. Either changes nothing.
+    /// Where memory runs out. Nothing is changed then.
+    pub fn cut(
+        &mut self,
+        alloc: Global,
+        bearer: u8,
+        out: &mut Outbox,
+    ) -> Result<TransitionList, NoMemory>
+        requires { bearer ≤ 1 }
+        ensures after { OnOk result (self.new ≡ (at_bearer bearer self.old cut_near).pair) }
+        ensures changes { IfOk result (λ changes. changes ≡ (at_bearer bearer self.old cut_near).changes) }
+        ensures frames { OnOk result (Adds out.old out.new (sent_in (at_bearer bearer self.old cut_near))) }
+        // An end is held only where the other link has a tunnel packet, and the contact ends only where no link is up.
+        ensures held { AreHeldRightly self.old → OnOk result (AreHeldRightly self.new) }
+        ensures goes_on { in_contact self.old ≡ true → OnOk result (in_contact self.new ≡ true →
+            self.new.contact ≡ self.old.contact) }
+        ensures err { OnErr result ((self.new ≡ self.old) × (out.new ≡ out.old)) }
+    {
+        let event = self.cut_ends(alloc, bearer)?;
+        Ok(event.leave(out))
+    }
+
+    /// As [`Pair::cut`], with the frames in two boxes, so that others may leave between them: `states` gets those of link states and of
+    /// repeated packets, `numbered` those of packets that are numbered then.
+    ///
+    /// # Errors
+    ///
+    /// Where memory runs out. Nothing is changed then.
+    pub fn cut_apart(
+        &mut self,
+        alloc: Global,
+        bearer: u8,
+        states: &mut Outbox,
+        numbered: &mut Outbox,
+    ) -> Result<TransitionList, NoMemory>
+        requires { bearer ≤ 1 }
+        ensures after { OnOk result (self.new ≡ (at_bearer bearer self.old cut_near).pair) }
+        ensures changes { IfOk result (λ changes. changes ≡ (at_bearer bearer self.old cut_near).changes) }
+        ensures states { OnOk result (Adds states.old states.new (at_bearer bearer self.old cut_near).states) }
+        ensures numbered { OnOk result (Adds numbered.old numbered.new (at_bearer bearer self.old cut_near).numbered) }
+        // An end is held only where the other link has a tunnel packet, and the contact ends only where no link is up.
+        ensures held { AreHeldRightly self.old → OnOk result (AreHeldRightly self.new) }
+        ensures goes_on { in_contact self.old ≡ true → OnOk result (in_contact self.new ≡ true →
+            self.new.contact ≡ self.old.contact) }
+        ensures err { OnErr result ((self.new ≡ self.old) × (states.new ≡ states.old) × (numbered.new ≡ numbered.old)) }
+    {
+        let event = self.cut_ends(alloc, bearer)?;
+        Ok(event.leave_apart(states, numbered))
+    }
+
+    /// A bearer is cut, and this leaves with it.
+    fn cut_ends(&mut self, alloc: Global, bearer: u8) -> Result<Leaving, NoMemory>
+        requires { bearer ≤ 1 }
+        ensures after { OnOk result (self.new ≡ (at_bearer bearer self.old cut_near).pair) }
+        ensures told { IfOk result (λ event. IsToldOf (at_bearer bearer self.old cut_near) event) }
+        ensures held { AreHeldRightly self.old → OnOk result (AreHeldRightly self.new) }
+        ensures goes_on { in_contact self.old ≡ true → OnOk result (in_contact self.new ≡ true →
+            self.new.contact ≡ self.old.contact) }
+        ensures err { OnErr result (self.new ≡ self.old) }
+    {
+        let mut event = Leaving::new(alloc);
+        let mut next = self.ends.copy()?;
+        next.face(bearer);
+        next.cut(alloc, &mut event)?;
+        next.face(0);
+        self.ends = next;
+        Ok(event)
+    }
+
+    /// A tick of both links, bearer 0's with all that follows and then bearer 1's: as [`tipc_link::Link::tick`]. `shown` fills the
+    /// broadcast fields of STATE.
+    ///
+    /// # Errors
+    ///
+    /// Where memory runs out. Nothing is changed then.
+    pub fn tick(
+        &mut self,
+        alloc: Global,
+        shown: BroadcastState,
+        out: &mut Outbox,
+    ) -> Result<TransitionList, NoMemory>
+        ensures after { OnOk result (self.new ≡ (ticked shown self.old).pair) }
+        ensures changes { IfOk result (λ changes. changes ≡ (ticked shown self.old).changes) }
+        ensures frames { OnOk result (Adds out.old out.new (sent_in (ticked shown self.old))) }
+        // An end is held only where the other link has a tunnel packet, and the contact ends only where no link is up.
+        ensures held { AreHeldRightly self.old → OnOk result (AreHeldRightly self.new) }
+        ensures goes_on { in_contact self.old ≡ true → OnOk result (in_contact self.new ≡ true →
+            self.new.contact ≡ self.old.contact) }
+        ensures err { OnErr result ((self.new ≡ self.old) × (out.new ≡ out.old)) }
+    {
+        let event = self.tick_ends(alloc, shown)?;
+        Ok(event.leave(out))
+    }
+
+    /// As [`Pair::tick`], with the frames in two boxes, as of [`Pair::cut_apart`].
+    ///
+    /// # Errors
+    ///
+    /// Where memory runs out. Nothing is changed then.
+    pub fn tick_apart(
+        &mut self,
+        alloc: Global,
+        shown: BroadcastState,
+        states: &mut Outbox,
+        numbered: &mut Outbox,
+    ) -> Result<TransitionList, NoMemory>
+        ensures after { OnOk result (self.new ≡ (ticked shown self.old).pair) }
+        ensures changes { IfOk result (λ changes. changes ≡ (ticked shown self.old).changes) }
+        ensures states { OnOk result (Adds states.old states.new (ticked shown self.old).states) }
+        ensures numbered { OnOk result (Adds numbered.old numbered.new (ticked shown self.old).numbered) }
+        // An end is held only where the other link has a tunnel packet, and the contact ends only where no link is up.
+        ensures held { AreHeldRightly self.old → OnOk result (AreHeldRightly self.new) }
+        ensures goes_on { in_contact self.old ≡ true → OnOk result (in_contact self.new ≡ true →
+            self.new.contact ≡ self.old.contact) }
+        ensures err { OnErr result ((self.new ≡ self.old) × (states.new ≡ states.old) × (numbered.new ≡ numbered.old)) }
+    {
+        let event = self.tick_ends(alloc, shown)?;
+        Ok(event.leave_apart(states, numbered))
+    }
+
+    /// A tick of both links, and this leaves with it.
+    fn tick_ends(&mut self, alloc: Global, shown: BroadcastState) -> Result<Leaving, NoMemory>
+        ensures after { OnOk result (self.new ≡ (ticked shown self.old).pair) }
+        ensures told { IfOk result (λ event. IsToldOf (ticked shown self.old) event) }
+        ensures held { AreHeldRightly self.old → OnOk result (AreHeldRightly self.new) }
+        ensures goes_on { in_contact self.old ≡ true → OnOk result (in_contact self.new ≡ true →
+            self.new.contact ≡ self.old.contact) }
+        ensures err { OnErr result (self.new ≡ self.old) }
+    {
+        let mut event = Leaving::new(alloc);
+        let mut next = self.ends.copy()?;
+        next.tick(alloc, shown, &mut event)?;
+        self.ends = next;
+        Ok(event)
+    }
+
+    /// Puts packets on the active link, and sends those that the window of 50 has room for: as [`tipc_link::Link::send`]. It needs a
+    /// contact. Each packet is payload, name items or a fragment, of at most 1,452 bytes.
+    ///
+    /// # Errors
+    ///
+    /// Congested exactly where at least `limit` packets wait on the active link; else NoMemory. Either changes nothing.
     pub fn send(
         &mut self,
         alloc: Global,
@@ -150,72 +279,67 @@ impl Pair {
         limit: u32,
         out: &mut Outbox,
     ) -> Result<(), OfferFault>
-        requires up { is_up self.old.link.fsm.state ≡ true }
-        requires pieces { All IsWaiting pieces }
-        ensures ok { (s : SessionEnd) → self.old.link.session ≡ Some s →
-            OnOk result ((length s.sending.waiting < limit) ×
-            ((put : SessionEnd) × IsPut s pieces put ×
-            (self.new ≡ pair_state (with_session self.old.link (flushed put)) self.old.begun) ×
-            Adds out.old out.new (flush_frames put))) }
-        ensures congested { (s : SessionEnd) → self.old.link.session ≡ Some s → limit ≤ length s.sending.waiting →
+        requires contact { in_contact self.old ≡ true }
+        requires pieces { All IsListed pieces }
+        ensures ok { OnOk result ((frames : List Outgoing) × Sends self.old pieces limit self.new frames ×
+            Adds out.old out.new frames) }
+        ensures congested { (s : SessionEnd) → active_session self.old ≡ Some s → limit ≤ length s.sending.waiting →
             result ≡ Err (OfferFault.Congested (length s.sending.unacked) (length s.sending.waiting)) }
-        ensures congested_only { (s : SessionEnd) (in_flight waiting : ℕ) → self.old.link.session ≡ Some s →
+        ensures congested_only { (s : SessionEnd) (in_flight waiting : ℕ) → active_session self.old ≡ Some s →
             result ≡ Err (OfferFault.Congested in_flight waiting) → limit ≤ length s.sending.waiting }
         ensures err { OnErr result ((self.new ≡ self.old) × (out.new ≡ out.old)) }
     {
-        self.end.send(alloc, pieces, limit, out)
+        if self.ends.near_is_up() {
+            return self.ends.send(alloc, pieces, limit, out);
+        }
+        self.ends.turn();
+        let answer = self.ends.send(alloc, pieces, limit, out);
+        self.ends.turn();
+        answer
     }
 
-    /// Takes a RESET or an ACTIVATE that arrived under an envelope of these two epochs: `es` is the sender's, `er` this end's as
-    /// the sender knows it. `shown` fills the broadcast fields of a STATE that is sent. No call of it fails.
+    /// Takes a packet that arrived on a bearer, 0 or 1, that has a link end, under an envelope of these two epochs: `es` is the sender's,
+    /// `er` this end's as the sender knows it, and `by` is the arrival's number at this node. `shown` fills the broadcast fields of a STATE
+    /// that is sent.
     ///
-    /// It shows the peer's contact number. Below the highest seen it is ignored. Above, the highest is raised: a contact ends, and
-    /// without contact the peer's epoch is forgotten. Then a RESET goes on, and an ACTIVATE where no contact ended. A RESET
-    /// that takes the link down ends the contact, and is given to the end again.
-    pub fn notice(
+    /// A tunnel packet is opened as it is taken: an original of the other link's present session takes that link down, and then the packet
+    /// inside is given to the record of the other link.
+    ///
+    /// # Errors
+    ///
+    /// Where memory runs out. Nothing is changed then.
+    pub fn arrive(
         &mut self,
         alloc: Global,
+        bearer: u8,
         es: u64,
         er: u64,
-        header: Header,
+        packet: &Packet<'_>,
+        by: u64,
         shown: BroadcastState,
         out: &mut Outbox,
-    ) -> PairArrival
-        requires { shows_contact header ≡ true }
-        ensures after { (p : Fields) (by : ℕ) → p.header ≡ header →
-            self.new.link ≡ (arrival self.old.link es er p by shown).after }
-        ensures frames { (p : Fields) (by : ℕ) → p.header ≡ header →
-            Adds out.old out.new (arrival self.old.link es er p by shown).frames }
-        ensures change { (p : Fields) (by : ℕ) → p.header ≡ header →
-            result.change ≡ (arrival self.old.link es er p by shown).change }
-        ensures opens { (p : Fields) (by : ℕ) → p.header ≡ header →
-            OpensTo (begun_after result.change self.old.begun) (arrival self.old.link es er p by shown).outcome result.outcome self.new.begun }
+    ) -> Result<PairArrival, NoMemory>
+        requires bearer { bearer ≤ 1 }
+        requires fits { Fits (view packet.now) }
+        ensures ok { IfOk result (λ a. (c : Course) ×
+            Arrives (facing bearer self.old) es er (view packet.now) by shown c a.outcome ×
+            (self.new ≡ facing 0 c.pair) × (a.changes ≡ c.changes) × Adds out.old out.new (sent_in c)) }
+        // An end is held only where the other link has a tunnel packet. The contact ends only where no link is up, or the peer showed a higher
+        // contact number.
+        ensures held { AreHeldRightly self.old → OnOk result (AreHeldRightly self.new) }
+        ensures goes_on { in_contact self.old ≡ true → OnOk result (in_contact self.new ≡ true →
+            self.new.seen ≡ self.old.seen →
+            self.new.contact ≡ self.old.contact) }
+        ensures err { OnErr result ((self.new ≡ self.old) × (out.new ≡ out.old)) }
     {
-        let noticed = self.end.notice(alloc, es, er, header, shown, out);
-        self.renew(alloc, noticed.change);
-        PairArrival {
-            change: noticed.change,
-            outcome: given(alloc, noticed.ignored),
-        }
+        let (way, outcome) = self.ends.prepare(alloc, bearer, es, er, packet, by, shown)?;
+        let event = self.ends.commit(alloc, bearer, way, packet, shown);
+        let changes = event.leave(out);
+        Ok(PairArrival { changes, outcome })
     }
 
-    /// What is begun when the packets are opened that an arrival with this change brought.
-    fn next(&self, alloc: Global, change: Change) -> Result<Reassembly, NoMemory>
-        ensures { (e : LinkEnd) (fsm : Fsm) (es : ℕ) →
-            IfOk result (λ r. r ≡ begun_after (told_of e fsm change es) self.now.begun) }
-    {
-        match change {
-            Change::Up => Ok(Reassembly::new(alloc)),
-            Change::Down(_) => Ok(Reassembly::new(alloc)),
-            Change::Stay => self.reassembly.copy(),
-            Change::Answer(_) => self.reassembly.copy(),
-            Change::Ignore(_) => self.reassembly.copy(),
-        }
-    }
-
-    /// What a packet that arrived under an envelope of these two epochs makes of the pair, where it shows no contact number: `es` is
-    /// the sender's, `er` this end's as the sender knows it, and `by` is the arrival's number at this node. Nothing is changed yet:
-    /// [`Pair::commit`] does it.
+    /// What a packet that arrives on a bearer, 0 or 1, will make of the pair: as [`Pair::arrive`], but nothing is changed yet, which
+    /// [`Pair::commit`] does.
     ///
     /// # Errors
     ///
@@ -223,26 +347,27 @@ impl Pair {
     pub fn prepare(
         &self,
         alloc: Global,
+        bearer: u8,
         es: u64,
         er: u64,
         packet: &Packet<'_>,
         by: u64,
+        shown: BroadcastState,
     ) -> Result<PairArriving, NoMemory>
-        requires { Fits (view packet.now) }
-        ensures { IfOk result (λ a. IsPairArriving self.now es er (view packet.now) by a) }
+        requires bearer { bearer ≤ 1 }
+        requires fits { Fits (view packet.now) }
+        ensures bearer { IfOk result (λ a. a.bearer ≡ bearer) }
+        ensures prepares { IfOk result (λ a. Prepares self.now es er (view packet.now) by shown a) }
     {
-        let arriving = self.end.prepare(alloc, es, er, packet, by)?;
-        let mut reassembly = self.next(alloc, arriving.change())?;
-        let outcome = opened(alloc, &mut reassembly, arriving.outcome())?;
+        let (way, outcome) = self.ends.prepare(alloc, bearer, es, er, packet, by, shown)?;
         Ok(PairArriving {
-            arriving,
-            reassembly,
+            bearer,
+            way,
             outcome,
         })
     }
 
-    /// Takes a packet that shows no contact number, as [`Pair::prepare`] told of it when the pair was as it is. `shown` fills the
-    /// broadcast fields of a STATE that is sent.
+    /// Takes a packet, as [`Pair::prepare`] told of it when the pair was as it is.
     pub fn commit(
         &mut self,
         alloc: Global,
@@ -250,152 +375,120 @@ impl Pair {
         packet: &Packet<'_>,
         shown: BroadcastState,
         out: &mut Outbox,
-    ) -> PairChange
-        requires { (es : ℕ) × (er : ℕ) × (by : ℕ) × IsPairArriving self.old es er (view packet.now) by arriving }
-        ensures after { self.new ≡ pair_state (link_met self.old.link arriving.link.states (view packet.now) arriving.link.hearing.by shown).after arriving.begun }
-        ensures frames { Adds out.old out.new (link_met self.old.link arriving.link.states (view packet.now) arriving.link.hearing.by shown).frames }
-        ensures change { result ≡ (link_met self.old.link arriving.link.states (view packet.now) arriving.link.hearing.by shown).change }
+    ) -> PairArrival
+        requires { (es : ℕ) × (er : ℕ) × (by : ℕ) × Prepares self.old es er (view packet.now) by shown arriving }
+        ensures arrives { (es er by : ℕ) → Prepares self.old es er (view packet.now) by shown arriving → (c : Course) ×
+            Arrives (facing arriving.bearer self.old) es er (view packet.now) by shown c result.outcome ×
+            (self.new ≡ facing 0 c.pair) × (result.changes ≡ c.changes) × Adds out.old out.new (sent_in c) }
+        ensures outcome { result.outcome ≡ arriving.outcome }
+        ensures changes { result.changes ≡ changes_of arriving.way }
+        // An end is held only where the other link has a tunnel packet. The contact ends only where no link is up, or the peer showed a higher
+        // contact number.
+        ensures held { AreHeldRightly self.old → AreHeldRightly self.new }
+        ensures goes_on { in_contact self.old ≡ true → in_contact self.new ≡ true → self.new.seen ≡ self.old.seen →
+            self.new.contact ≡ self.old.contact }
     {
-        self.reassembly = arriving.reassembly;
-        self.end
-            .commit(alloc, arriving.arriving, packet, shown, out)
+        let PairArriving {
+            bearer,
+            way,
+            outcome,
+        } = arriving;
+        let event = self.ends.commit(alloc, bearer, way, packet, shown);
+        let changes = event.leave(out);
+        PairArrival { changes, outcome }
     }
 
-    /// Sends the STATE that an arrival left due: as [`tipc_link::Link::answer`]. Nothing is sent without contact.
+    /// Sends the STATE that is due after an arrival on a bearer, 0 or 1: as [`tipc_link::Link::answer`]. The arrival took so many broadcast
+    /// packets, and `due` says that it asks for a STATE by the broadcast. Nothing is sent where the bearer's link isn't up.
     pub fn answer(
         &mut self,
         alloc: Global,
+        bearer: u8,
         broadcast: u32,
         due: bool,
         shown: BroadcastState,
         out: &mut Outbox,
     )
-        ensures after { self.new ≡ pair_state (answered_with self.old.link broadcast due) self.old.begun }
-        ensures frames { Adds out.old out.new (frames_with self.old.link broadcast due shown) }
+        requires { bearer ≤ 1 }
+        ensures after { self.new ≡ (at_bearer bearer self.old (answered_near broadcast due shown)).pair }
+        ensures frames { Adds out.old out.new (sent_in (at_bearer bearer self.old (answered_near broadcast due shown))) }
     {
-        self.end.answer(alloc, broadcast, due, shown, out);
+        self.ends.face(bearer);
+        self.ends.answer(alloc, broadcast, due, shown, out);
+        self.ends.face(0);
     }
 
-    /// Whether the link is up.
-    pub fn is_up(&self) -> bool
-        ensures { result ≡ is_up self.now.link.fsm.state }
+    /// It is seen from bearer 0's link, and what is true of every pair is true of it. It does nothing.
+    pub fn sound(&self)
+        ensures first { self.now.bearer ≡ 0 }
+        ensures pair { IsPairOfEnds self.now }
     {
-        self.end.is_up()
+        self.ends.sound();
     }
 
-    /// The state of the link.
-    pub fn state(&self) -> LinkState
-        ensures { result ≡ self.now.link.fsm.state }
+    /// The contact: the node's own contact number, and the peer's. None exactly where the node isn't in contact with the peer.
+    pub fn contact(&self) -> Option<(u64, u64)>
+        ensures { result ≡ contact_between self.now }
     {
-        self.end.state()
+        if self.ends.in_contact() {
+            Some(self.ends.contact_numbers())
+        } else {
+            None
+        }
     }
 
-    /// The link's own epoch.
-    pub fn own_epoch(&self) -> u64
-        ensures { result ≡ self.now.link.fsm.own }
+    /// The bearer of the active link. None exactly where the node isn't in contact with the peer.
+    pub fn active(&self) -> Option<u8>
+        ensures { result ≡ active self.now }
     {
-        self.end.own_epoch()
+        self.ends.active()
     }
 
-    /// The peer's epoch, where it is known.
-    pub fn peer_epoch(&self) -> Option<u64>
-        ensures { result ≡ self.now.link.fsm.peer }
+    /// The state of the link end on a bearer, 0 or 1. None exactly where there is none.
+    pub fn state(&self, bearer: u8) -> Option<LinkState>
+        requires { bearer ≤ 1 }
+        ensures { result ≡ state_of (facing bearer self.now).near }
     {
-        self.end.peer_epoch()
+        state_of(self.ends.end_on(bearer))
+    }
+
+    /// The numbers of unacknowledged and of waiting packets of the link on a bearer, 0 or 1: zeros where it isn't up.
+    pub fn load(&self, bearer: u8) -> (u32, u32)
+        requires { bearer ≤ 1 }
+        ensures { result ≡ load_of (facing bearer self.now).near }
+    {
+        load_of(self.ends.end_on(bearer))
+    }
+
+    /// How many packets each direction numbered in the present session of a bearer, 0 or 1, or the last one: the own ones exactly, and the
+    /// peer's as taken. None exactly where there is no link end, or it had no session.
+    pub fn numbered(&self, bearer: u8) -> Option<(u64, u64)>
+        requires { bearer ≤ 1 }
+        ensures { result ≡ numbered_of (facing bearer self.now).near }
+    {
+        numbered_of(self.ends.end_on(bearer))
+    }
+
+    /// The own epoch of the present session of a bearer, 0 or 1, or of the last one, and how many packets were numbered in it. None exactly
+    /// where there is no link end, or it had no session.
+    pub fn last_count(&self, bearer: u8) -> Option<(u64, u64)>
+        requires { bearer ≤ 1 }
+        ensures { result ≡ last_count_of (facing bearer self.now).near }
+    {
+        last_count_of(self.ends.end_on(bearer))
     }
 
     /// The node's own contact number for the peer: of the present contact, or the next one.
     pub fn own_contact(&self) -> u64
-        ensures { result ≡ self.now.link.contact }
+        ensures { result ≡ self.now.contact }
     {
-        self.end.own_contact()
+        self.ends.contact_numbers().0
     }
 
     /// The highest contact number that the peer has shown, 0 where it has shown none.
     pub fn peer_contact(&self) -> u64
-        ensures { result ≡ self.now.link.peer_contact }
+        ensures { result ≡ self.now.seen }
     {
-        self.end.peer_contact()
-    }
-
-    /// As [`tipc_link::Link::numbered`].
-    pub fn numbered(&self) -> Option<(u64, u64)>
-        ensures some { (s : SessionEnd) → self.now.link.session ≡ Some s →
-            result ≡ Some (s.sending.numbered, s.taken) }
-        ensures none { self.now.link.session ≡ None → result ≡ None }
-    {
-        self.end.numbered()
-    }
-
-    /// As [`tipc_link::Link::load`].
-    pub fn load(&self) -> Option<(u32, u32)>
-        ensures some { (s : SessionEnd) → self.now.link.session ≡ Some s →
-            result ≡ Some (length s.sending.unacked, length s.sending.waiting) }
-        ensures none { self.now.link.session ≡ None → result ≡ None }
-    {
-        self.end.load()
-    }
-
-    /// How many packets were numbered in the present session, or the last one, where this is its own epoch. None exactly where
-    /// it isn't.
-    pub fn session_count(&self, epoch: u64) -> Option<u64>
-        ensures { result ≡ numbered_in self.now.link.session epoch }
-    {
-        self.end.session_count(epoch)
-    }
-
-    /// As [`tipc_link::Link::last_count`].
-    pub fn last_count(&self) -> Option<(u64, u64)>
-        ensures some { (s : SessionEnd) → self.now.link.session ≡ Some s →
-            result ≡ Some (s.epoch, s.sending.numbered) }
-        ensures none { self.now.link.session ≡ None → result ≡ None }
-    {
-        self.end.last_count()
-    }
-}
-
-/// What a RESET or an ACTIVATE gives.
-fn given(alloc: Global, ignored: Option<Why>) -> PairOutcome
-    ensures { (s : Joining) → OpensTo s (noticed ignored) result s }
-{
-    match ignored {
-        Some(why) => PairOutcome::Ignored(why),
-        None => PairOutcome::Took(OpenedList::new(alloc)),
-    }
-}
-
-/// Opens what a link made of an arrival.
-pub(crate) fn opened(
-    alloc: Global,
-    reassembly: &mut Reassembly,
-    outcome: &LinkOutcome,
-) -> Result<PairOutcome, NoMemory>
-    ensures ok { IfOk result (λ given. OpensTo reassembly.old outcome.now given reassembly.new) }
-    ensures err { OnErr result (reassembly.new ≡ reassembly.old) }
-{
-    match outcome {
-        LinkOutcome::Took(taken) => {
-            let opened = reassembly.open(alloc, taken.as_slice())?;
-            Ok(PairOutcome::Took(opened))
-        }
-        LinkOutcome::Deferred => Ok(PairOutcome::Deferred),
-        LinkOutcome::Ignored(why) => Ok(PairOutcome::Ignored(*why)),
-    }
-}
-
-/// Whether a packet shows a contact number: a RESET or an ACTIVATE.
-pub fn shows_contact(header: &Header) -> bool
-    ensures { result ≡ shows_contact header.now }
-{
-    match header {
-        Header::Reset(_) => true,
-        Header::Activate(_) => true,
-        Header::Discovery(_) => false,
-        Header::State(_) => false,
-        Header::Payload(_) => false,
-        Header::Bundler(_) => false,
-        Header::Changeover(_) => false,
-        Header::NameDistributor(_) => false,
-        Header::Fragmenter(_) => false,
+        self.ends.contact_numbers().1
     }
 }

@@ -1,20 +1,20 @@
 //! What a packet will make of a pair, told before anything is changed.
 
-ghost use Rattle.std.specs.Prelude.{◌≡◌, ◌≤◌, ℕ, Some, IfOk};
+ghost use Rattle.std.specs.Prelude.{◌≡◌, ◌≤◌, ℕ, [], Some, IfOk, OnErr};
 ghost use Rattle.std.specs.List.{list_all};
 ghost use Rattle.tipc_header.specs.Grammar.{Fits};
 ghost use Rattle.tipc_header.specs.Spelling.{view};
 ghost use Rattle.tipc_link.specs.Hearings.{ArrivingState};
 ghost use Rattle.tipc_link.specs.Parts.{is_quiet};
 ghost use Rattle.tipc_pair.specs.PairOpenings.{are_plain, is_plain};
-ghost use Rattle.tipc_pair.specs.Partners.{OpensTo};
+ghost use Rattle.tipc_pair.specs.Messages.{OpensTo};
 ghost use Rattle.tipc_pair.specs.declared.changes.PairOutcome.{PairOutcome};
 
 use crate::changes::PairOutcome;
 use crate::leaving::Leaving;
 use crate::link_ends::{LinkEnds, is_up};
-use crate::pair::opened;
 use crate::runs::is_tunnel;
+use crate::transitions::Transition;
 use std::alloc::Global;
 use tipc_contact::Standing;
 use tipc_header::{Header, Packet};
@@ -36,13 +36,28 @@ pub(crate) enum Way {
     Whole(LinkEnds, Leaving),
 }
 
+impl Way {
+    ghost use Rattle.tipc_pair.specs.Preparing.{changes_of};
+
+    /// What will be told of links and contact.
+    pub(crate) fn changes(&self) -> &[Transition]
+        ensures { result.now ≡ changes_of self.now }
+    {
+        match self {
+            Way::Whole(_, told) => told.changes.as_slice(),
+            Way::Quiet(_, _) => &[],
+            Way::Passes => &[],
+        }
+    }
+}
+
 impl LinkEnds {
     ghost use Rattle.tipc_pair.specs.Changeovers.{released};
     ghost use Rattle.tipc_pair.specs.Courses.{Course, IsToldOf};
     ghost use Rattle.tipc_pair.specs.Facing.{facing, is_up_at};
     ghost use Rattle.tipc_pair.specs.PairArrivals.{hears, Arrives};
     ghost use Rattle.tipc_pair.specs.PairOpenings.{standing_with, HearsAndOpens, IsQuiet};
-    ghost use Rattle.tipc_pair.specs.Preparing.{IsPrepared};
+    ghost use Rattle.tipc_pair.specs.Preparing.{changes_of, IsPrepared};
 
     /// How a packet that arrives on a bearer will change the pair, and what it will give. It came under an envelope of these two epochs: `es`
     /// is the sender's, `er` this end's as the sender knows it, and `by` is the arrival's number at this node. `shown` fills the broadcast
@@ -176,6 +191,7 @@ impl LinkEnds {
             IsPrepared (facing bearer self.old) es er (view packet.now) by shown way given → (c : Course) ×
             Arrives (facing bearer self.old) es er (view packet.now) by shown c given ×
             (self.new ≡ facing self.old.bearer c.pair) × IsToldOf c result }
+        ensures changes { result.changes ≡ changes_of way }
         ensures bearer { self.new.bearer ≡ self.old.bearer }
     {
         let before = self.bearer;
@@ -195,9 +211,10 @@ impl LinkEnds {
     ) -> Leaving
         requires prepared { (es : ℕ) × (er : ℕ) × (by : ℕ) × (given : PairOutcome) ×
             IsPrepared self.old es er (view packet.now) by shown way given }
-        ensures { (es er by : ℕ) (given : PairOutcome) → IsPrepared self.old es er (view packet.now) by shown way given →
+        ensures told { (es er by : ℕ) (given : PairOutcome) → IsPrepared self.old es er (view packet.now) by shown way given →
             (c : Course) × Arrives self.old es er (view packet.now) by shown c given × (self.new ≡ c.pair) ×
             IsToldOf c result }
+        ensures changes { result.changes ≡ changes_of way }
     {
         match way {
             Way::Passes => self.let_pass(alloc),
@@ -215,6 +232,7 @@ impl LinkEnds {
     fn let_pass(&mut self, alloc: Global) -> Leaving
         ensures after { self.new ≡ (released self.old).pair }
         ensures told { IsToldOf (released self.old) result }
+        ensures quiet { result.changes ≡ [] }
     {
         let mut event = Leaving::new(alloc);
         self.release(alloc, &mut event);
@@ -232,10 +250,11 @@ impl LinkEnds {
     ) -> Leaving
         requires quiet { (es : ℕ) × (er : ℕ) × (by : ℕ) × IsQuiet self.old es er (view packet.now) by arriving }
         requires same { standing_with self.old packet.now.header ≡ Standing.Same }
-        ensures { (es er by : ℕ) (given : PairOutcome) → IsQuiet self.old es er (view packet.now) by arriving →
+        ensures told { (es er by : ℕ) (given : PairOutcome) → IsQuiet self.old es er (view packet.now) by arriving →
             OpensTo self.old.begun arriving.hearing.outcome given reassembly →
             (c : Course) × Arrives self.old es er (view packet.now) by shown c given × (self.new ≡ c.pair) ×
             IsToldOf c result }
+        ensures quiet { result.changes ≡ [] }
     {
         let mut event = Leaving::new(alloc);
         self.meet_quietly(alloc, arriving, reassembly, packet, shown, &mut event);
@@ -255,10 +274,11 @@ impl LinkEnds {
     )
         requires quiet { (es : ℕ) × (er : ℕ) × (by : ℕ) × IsQuiet self.old es er (view packet.now) by arriving }
         requires same { standing_with self.old packet.now.header ≡ Standing.Same }
-        ensures { (es er by : ℕ) (given : PairOutcome) → IsQuiet self.old es er (view packet.now) by arriving →
+        ensures told { (es er by : ℕ) (given : PairOutcome) → IsQuiet self.old es er (view packet.now) by arriving →
             OpensTo self.old.begun arriving.hearing.outcome given reassembly →
             HearsAndOpens (hears packet.now.header es er (view packet.now) by shown self.old) given
             self.new event.old event.new }
+        ensures quiet { event.new.changes ≡ event.old.changes }
     {
         let Some(link) = &mut self.near else {
             unreachable!()
@@ -328,4 +348,23 @@ fn is_plain(packet: &Taken) -> bool
     ensures { result ≡ is_plain packet.now }
 {
     !packet.packet.is_empty() && !is_tunnel(packet.packet.as_slice())
+}
+
+/// Opens what a link made of an arrival.
+fn opened(
+    alloc: Global,
+    reassembly: &mut Reassembly,
+    outcome: &LinkOutcome,
+) -> Result<PairOutcome, NoMemory>
+    ensures ok { IfOk result (λ given. OpensTo reassembly.old outcome.now given reassembly.new) }
+    ensures err { OnErr result (reassembly.new ≡ reassembly.old) }
+{
+    match outcome {
+        LinkOutcome::Took(taken) => {
+            let opened = reassembly.open(alloc, taken.as_slice())?;
+            Ok(PairOutcome::Took(opened))
+        }
+        LinkOutcome::Deferred => Ok(PairOutcome::Deferred),
+        LinkOutcome::Ignored(why) => Ok(PairOutcome::Ignored(*why)),
+    }
 }

@@ -1,6 +1,5 @@
 //! What is told of the links and the contact of a pair.
 
-use crate::changes::PairOutcome;
 use tipc_types::{Cause, LinkState, Sequence};
 
 /// A link of a pair went up or down, or the contact began or ended. A contact is two contact numbers: the node's own, then the
@@ -43,12 +42,3 @@ pub enum Transition {
 
 /// What happened to the links and the contact of a pair, in order.
 pub type TransitionList = Sequence<Transition>;
-
-/// What an arrival did to a pair, and what it gave.
-#[derive(Clone, Debug, Drop, PartialEq)]
-pub struct LinkPairArrival {
-    /// What became of the links and the contact.
-    pub changes: TransitionList,
-    /// What was given.
-    pub outcome: PairOutcome,
-}

@@ -1,4 +1,4 @@
--- A whole arrival at a pair with two links, as deeds.
+-- A whole arrival at a pair, as deeds.
 use Rattle.std.proofs.Common.{◌≡◌, ◌<◌, ◌^◌, ◌&&◌, ◌==◌, ℕ, Bool, true, false, if◌then◌else◌, List, ◌∷◌, Option, Some, None, refl, sym, ap, ◌∙◌, subst, append-nil, eqb-true, arith}
 use Rattle.std.specs.Prelude.{nat_lt}
 use Rattle.std.proofs.lemmas.Bool.{eqb-false, ltb-false, true≢false}

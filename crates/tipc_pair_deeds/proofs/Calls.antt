@@ -1,4 +1,4 @@
--- The calls of a pair with two links as deeds: the bearer is cut, a tick passes, messages are sent, and the STATE that is due.
+-- The calls of a pair as deeds: the bearer is cut, a tick passes, messages are sent, and the STATE that is due.
 use Rattle.std.proofs.Common.{◌≡◌, ◌≤◌, ◌⊎◌, ℕ, Bool, true, false, if◌then◌else◌, List, [], ◌∷◌, ◌++◌, Option, Some, None, option_map, refl, sym, ap, ◌∙◌, subst, inl, inr, arith}
 use Rattle.tipc_types.specs.declared.link_words.BroadcastState.{BroadcastState}
 use Rattle.tipc_types.specs.declared.link_words.Cause.{Cause}

@@ -24,7 +24,7 @@ use Rattle.tipc_pair.specs.Runs.{IsListed, left_by, taken_over}
 use Rattle.tipc_pair.proofs.EndFacts.{end_mapped, near_kept, released_kept, session_kept, some_mapped}
 use Rattle.tipc_pair.proofs.EndSteps.{both_kept, end_after, end_given, end_handed, end_heard, far_of, fsm_after, has_changed, near_of, session_is, some_after}
 use Rattle.tipc_pair.proofs.Followings.{parted_kept}
-use Rattle.tipc_pair.proofs.Keeping.{Falls}
+use Rattle.tipc_pair.proofs.Falls.{Falls}
 use Rattle.tipc_pair.proofs.SessionFacts.{flushed_on, put_listed}
 use Rattle.tipc_paired.proofs.CallDeeds.{call_named}
 use Rattle.tipc_paired.proofs.SessionDeeds.{epochs_fit}

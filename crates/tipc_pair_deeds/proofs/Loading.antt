@@ -55,10 +55,6 @@ flush_bearer : (s : SessionEnd) (b : ℕ) → s.bearer ≡ b → Each (λ (o : O
 unfolding flush_frames
 flush_bearer s b is k o there = (let at = packet_frames-at s s.sending.numbered (moving s) k o there in ap (λ (q : Outgoing). q.bearer) at.2 ∙ is)
 
-numbered_epoch : (s : SessionEnd) → (flushed s).epoch ≡ s.epoch
-unfolding flushed
-numbered_epoch s = refl
-
 -- those that wait are numbered and told
 pub flushes : (v y : View) (b : ℕ) (e : LinkEnd) (s : SessionEnd) → ArePaired v y → IsUp (v.wires b) e s → (after : View) × Loaded v y after b e s
 flushes v y b e s h up =

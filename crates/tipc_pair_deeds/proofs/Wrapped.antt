@@ -116,8 +116,8 @@ left_put own s h = Each-append (IsPacket own) _ _ (run_put own Original (old_of 
 pub over_put : (own : ℕ) (s : SessionEnd) → CanHandOver own s → Each (IsPacket own) (taken_over s)
 over_put own s h = Each-append (IsPacket own) _ _ (run_put own Duplicate (old_of s) (acked_of s.sending) s.sending.unacked h.unacked h.two h.fits h.few) h.waiting
 
--- and it may stand in the lists of the other link
-all_of : (P : List ℕ → Type 0) (xs : List (List ℕ)) → Each P xs → All P xs
+-- what holds of each holds of all
+pub all_of : (P : List ℕ → Type 0) (xs : List (List ℕ)) → Each P xs → All P xs
 all_of P [] h = All-nil P
 all_of P (x ∷ xs) h = All-cons P x xs (h 0 x refl) (all_of P xs (λ k y is. h (suc k) y is))
 

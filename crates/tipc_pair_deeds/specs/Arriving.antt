@@ -1,4 +1,4 @@
--- A packet arrives at a pair with two links: which frame it came in, what is asked of a tunnel packet, and what was
+-- A packet arrives at a pair: which frame it came in, what is asked of a tunnel packet, and what was
 -- numbered and taken, by bearer and by the epoch of the sender.
 use Rattle.std.specs.Prelude.{◌≡◌, ◌<◌, ◌≤◌, ◌==◌, ℕ, ◌+◌, ◌^◌, true, false, List, [], ◌∷◌, Option, Some, None, drop, length, slice_get, take, if◌then◌else◌}
 use Rattle.tipc_types.specs.declared.link_words.BroadcastState.{BroadcastState}

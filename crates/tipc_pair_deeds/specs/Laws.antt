@@ -1,4 +1,4 @@
--- Each call of a pair with two links is deeds, with the frames that it says: what it numbers, it numbers on one link, in its present session.
+-- Each call of a pair is deeds, with the frames that it says: what it numbers, it numbers on one link, in its present session.
 use Rattle.std.specs.Prelude.{◌≡◌, ℕ, Bool, List, Some, None, slice_get}
 use Rattle.tipc_types.specs.declared.link_words.BroadcastState.{BroadcastState}
 use Rattle.tipc_outside.specs.declared.outgoing.Outgoing.{Outgoing}

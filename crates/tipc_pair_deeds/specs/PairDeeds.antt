@@ -1,4 +1,4 @@
--- What a node does in a call of a pair with two links, as deeds one after the other: the pair then, the frames that it told, and what was
+-- What a node does in a call of a pair, as deeds one after the other: the pair then, the frames that it told, and what was
 -- numbered and taken on each bearer, by the epoch of the sender.
 use Rattle.std.specs.Prelude.{◌≡◌, ◌<◌, ◌≤◌, ◌==◌, ℕ, List, [], ◌++◌, Option, Some, None, length, slice_get, if◌then◌else◌}
 use Rattle.tipc_outside.specs.declared.outgoing.Outgoing.{Outgoing}

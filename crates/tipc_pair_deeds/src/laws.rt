@@ -1,4 +1,4 @@
-//! Laws of the calls of a pair with two links. They do nothing when they run.
+//! Laws of the calls of a pair. They do nothing when they run.
 //!
 //! Whatever a node does in one call is deeds of the two nodes, one after the other, and each deed keeps them paired. So the law of two
 //! nodes can be proved deed by deed, and holds of each call.

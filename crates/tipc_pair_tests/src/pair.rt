@@ -1,4 +1,4 @@
-//! Tests of two nodes with two links, as tables of what is done to them and of what is seen then.
+//! Tests of two nodes with a pair each, as tables of what is done to them and of what is seen then.
 
 ghost use Rattle.std.specs.Prelude.{◌≡◌, ◌≤◌, None, IfOk};
 ghost use Rattle.tipc_pair.specs.Facing.{facing};
@@ -10,7 +10,7 @@ use std::test::Fail;
 use tipc_header::{decode, open_frame};
 use tipc_message::packet_bytes;
 use tipc_outside::{Outbox, Outgoing};
-use tipc_pair::{LinkPair, LinkPairArrival, PairOutcome, Transition};
+use tipc_pair::{Pair, PairArrival, PairOutcome, Transition};
 use tipc_reassembly::Opened;
 use tipc_types::{
     Addr, BroadcastState, Bytes, Cause, Form, Importance, LinkState, Message, Pieces, PortId, Why,
@@ -30,7 +30,7 @@ const NO_BROADCAST: BroadcastState = BroadcastState {
 /// One of the two nodes, and the frames that it has sent.
 #[derive(Drop)]
 struct Node {
-    pair: LinkPair,
+    pair: Pair,
     sent: Outbox,
     /// How many of them have arrived at the other node or were lost.
     gone: usize,
@@ -40,7 +40,7 @@ impl Node {
     /// A node with an end on each bearer, both cut.
     #[tactic(auto, unfolding(tipc_pair::specs::Facing::facing))]
     fn new(alloc: Global, own: Addr, peer: Addr) -> Node {
-        let mut pair = LinkPair::new(alloc, own, peer, 1);
+        let mut pair = Pair::new(alloc, own, peer, 1);
         pair.make_end(0);
         pair.make_end(1);
         Node {
@@ -51,7 +51,7 @@ impl Node {
     }
 
     /// A frame arrives, and the STATE that is due then is sent.
-    fn take(&mut self, alloc: Global, frame: &Outgoing) -> Result<LinkPairArrival, Fail> {
+    fn take(&mut self, alloc: Global, frame: &Outgoing) -> Result<PairArrival, Fail> {
         let arrival = if frame.bearer == 0 {
             self.prepare_and_commit(alloc, frame)?
         } else {
@@ -64,7 +64,7 @@ impl Node {
     }
 
     /// A frame arrives on bearer 1, in one call.
-    fn arrive(&mut self, alloc: Global, frame: &Outgoing) -> Result<LinkPairArrival, Fail> {
+    fn arrive(&mut self, alloc: Global, frame: &Outgoing) -> Result<PairArrival, Fail> {
         let opened = open_frame(frame.frame.as_slice()).ok_or("no frame")?;
         let packet = decode(opened.packet).ok().ok_or("no packet")?;
         let (es, er) = (opened.first, opened.second);
@@ -75,11 +75,7 @@ impl Node {
     }
 
     /// A frame arrives on bearer 0, and it is told before what it gives.
-    fn prepare_and_commit(
-        &mut self,
-        alloc: Global,
-        frame: &Outgoing,
-    ) -> Result<LinkPairArrival, Fail> {
+    fn prepare_and_commit(&mut self, alloc: Global, frame: &Outgoing) -> Result<PairArrival, Fail> {
         let opened = open_frame(frame.frame.as_slice()).ok_or("no frame")?;
         let packet = decode(opened.packet).ok().ok_or("no packet")?;
         let (es, er) = (opened.first, opened.second);

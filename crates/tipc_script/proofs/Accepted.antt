@@ -26,7 +26,7 @@ mend_accepted text n x h =
     let bearer = h.0.1 in
     spelled text mend_row (decimal n ∷ decimal x ∷ []) (Mend n x) h.1 refl
     (rw (no_space-decimal n (omega arith), no_space-decimal x (omega arith)) refl) refl
-    (rw (is_number-decimal 1 32 n node.0 node.1 (omega arith), is_number-decimal 0 0 x (omega arith) (omega arith) (omega arith)) refl)
+    (rw (is_number-decimal 1 32 n node.0 node.1 (omega arith), is_number-decimal 0 1 x (omega arith) bearer (omega arith)) refl)
     (rw (number_of-decimal n (omega arith), number_of-decimal x (omega arith)) refl)
 
 cut_accepted : (text : List ℕ) (n x : ℕ) → Asks text (Cut n x) → IsAccepted text (Cut n x)
@@ -36,7 +36,7 @@ cut_accepted text n x h =
     let bearer = h.0.1 in
     spelled text cut_row (decimal n ∷ decimal x ∷ []) (Cut n x) h.1 refl
     (rw (no_space-decimal n (omega arith), no_space-decimal x (omega arith)) refl) refl
-    (rw (is_number-decimal 1 32 n node.0 node.1 (omega arith), is_number-decimal 0 0 x (omega arith) (omega arith) (omega arith)) refl)
+    (rw (is_number-decimal 1 32 n node.0 node.1 (omega arith), is_number-decimal 0 1 x (omega arith) bearer (omega arith)) refl)
     (rw (number_of-decimal n (omega arith), number_of-decimal x (omega arith)) refl)
 
 tick_accepted : (text : List ℕ) (n : ℕ) → Asks text (Tick n) → IsAccepted text (Tick n)
@@ -59,7 +59,7 @@ link_accepted text a b x h =
     let bearer = h.0.2 in
     spelled text link_row (decimal a ∷ decimal b ∷ decimal x ∷ []) (Link a b x) h.1 refl
     (rw (no_space-decimal a (omega arith), no_space-decimal b (omega arith), no_space-decimal x (omega arith)) refl) refl
-    (rw (is_number-decimal 1 32 a first.0 first.1 (omega arith), is_number-decimal 1 32 b second.0 second.1 (omega arith), is_number-decimal 0 0 x (omega arith) (omega arith) (omega arith)) refl)
+    (rw (is_number-decimal 1 32 a first.0 first.1 (omega arith), is_number-decimal 1 32 b second.0 second.1 (omega arith), is_number-decimal 0 1 x (omega arith) bearer (omega arith)) refl)
     (rw (number_of-decimal a (omega arith), number_of-decimal b (omega arith), number_of-decimal x (omega arith)) refl)
 
 mark_accepted : (text : List ℕ) → Asks text Mark → IsAccepted text Mark
@@ -80,7 +80,7 @@ arrive_accepted text n x k h =
     let frame = h.0.2 in
     spelled text arrive_row (decimal n ∷ decimal x ∷ decimal k ∷ []) (Arrive n x k) h.1 refl
     (rw (no_space-decimal n (omega arith), no_space-decimal x (omega arith), no_space-decimal k (omega arith)) refl) refl
-    (rw (is_number-decimal 1 32 n node.0 node.1 (omega arith), is_number-decimal 0 0 x (omega arith) (omega arith) (omega arith), is_number-decimal 0 1000000 k (omega arith) frame (omega arith)) refl)
+    (rw (is_number-decimal 1 32 n node.0 node.1 (omega arith), is_number-decimal 0 1 x (omega arith) bearer (omega arith), is_number-decimal 0 1000000 k (omega arith) frame (omega arith)) refl)
     (rw (number_of-decimal n (omega arith), number_of-decimal x (omega arith), number_of-decimal k (omega arith)) refl)
 
 receive_accepted : (text : List ℕ) (n p : ℕ) → Asks text (Receive n p) → IsAccepted text (Receive n p)
@@ -108,7 +108,7 @@ unfolding row_of row_fault first_fault end_fault
 pump_accepted text x h =
     let bearer = h.0 in
     spelled text pump_row (decimal x ∷ []) (Pump x) h.1 refl (rw (no_space-decimal x (omega arith)) refl) refl
-    (rw (is_number-decimal 0 0 x (omega arith) (omega arith) (omega arith)) refl) (rw (number_of-decimal x (omega arith)) refl)
+    (rw (is_number-decimal 0 1 x (omega arith) bearer (omega arith)) refl) (rw (number_of-decimal x (omega arith)) refl)
 
 settle_accepted : (text : List ℕ) (r : ℕ) → Asks text (Settle r) → IsAccepted text (Settle r)
 unfolding row_of row_fault first_fault end_fault
@@ -122,7 +122,7 @@ unfolding row_of row_fault first_fault end_fault
 air_accepted text x h =
     let bearer = h.0 in
     spelled text air_row (decimal x ∷ []) (Air x) h.1 refl (rw (no_space-decimal x (omega arith)) refl) refl
-    (rw (is_number-decimal 0 0 x (omega arith) (omega arith) (omega arith)) refl) (rw (number_of-decimal x (omega arith)) refl)
+    (rw (is_number-decimal 0 1 x (omega arith) bearer (omega arith)) refl) (rw (number_of-decimal x (omega arith)) refl)
 
 show_accepted : (text : List ℕ) (x k : ℕ) → Asks text (Show x k) → IsAccepted text (Show x k)
 unfolding row_of row_fault first_fault end_fault
@@ -131,7 +131,7 @@ show_accepted text x k h =
     let frame = h.0.1 in
     spelled text show_row (decimal x ∷ decimal k ∷ []) (Show x k) h.1 refl
     (rw (no_space-decimal x (omega arith), no_space-decimal k (omega arith)) refl) refl
-    (rw (is_number-decimal 0 0 x (omega arith) (omega arith) (omega arith), is_number-decimal 0 1000000 k (omega arith) frame (omega arith)) refl)
+    (rw (is_number-decimal 0 1 x (omega arith) bearer (omega arith), is_number-decimal 0 1000000 k (omega arith) frame (omega arith)) refl)
     (rw (number_of-decimal x (omega arith), number_of-decimal k (omega arith)) refl)
 
 links_accepted : (text : List ℕ) (n : ℕ) → Asks text (Links n) → IsAccepted text (Links n)

@@ -24,7 +24,7 @@ mend_found : IsFound mend_row
 mend_found text left e h =
     let x = behind left in
     let node = number_taken 1 32 left h.0 in
-    let bearer = number_taken 0 0 x h.1.0 in
+    let bearer = number_taken 0 1 x h.1.0 in
     let last = h.1.1 in
     (((node.1, node.2), omega (arith, bearer.2)), respelled text mend_row.word left.tokens (decimal (first_number left) ∷ decimal (first_number x) ∷ []) e cc)
 
@@ -32,7 +32,7 @@ cut_found : IsFound cut_row
 cut_found text left e h =
     let x = behind left in
     let node = number_taken 1 32 left h.0 in
-    let bearer = number_taken 0 0 x h.1.0 in
+    let bearer = number_taken 0 1 x h.1.0 in
     let last = h.1.1 in
     (((node.1, node.2), omega (arith, bearer.2)), respelled text cut_row.word left.tokens (decimal (first_number left) ∷ decimal (first_number x) ∷ []) e cc)
 
@@ -54,7 +54,7 @@ link_found text left e h =
     let x = behind b in
     let first = number_taken 1 32 left h.0 in
     let second = number_taken 1 32 b h.1.0 in
-    let bearer = number_taken 0 0 x h.1.1.0 in
+    let bearer = number_taken 0 1 x h.1.1.0 in
     let last = h.1.1.1 in (
       ((first.1, first.2), (second.1, second.2), omega (arith, bearer.2)),
       respelled text link_row.word left.tokens (decimal (first_number left) ∷ decimal (first_number b) ∷ decimal (first_number x) ∷ []) e cc,
@@ -74,7 +74,7 @@ arrive_found text left e h =
     let x = behind left in
     let k = behind x in
     let node = number_taken 1 32 left h.0 in
-    let bearer = number_taken 0 0 x h.1.0 in
+    let bearer = number_taken 0 1 x h.1.0 in
     let frame = number_taken 0 1000000 k h.1.1.0 in
     let last = h.1.1.1 in (
       ((node.1, node.2), omega (arith, bearer.2), frame.2),
@@ -99,7 +99,7 @@ drain_found text left e h =
 
 pump_found : IsFound pump_row
 pump_found text left e h =
-    let bearer = number_taken 0 0 left h.0 in
+    let bearer = number_taken 0 1 left h.0 in
     let last = h.1 in
     (omega (arith, bearer.2), respelled text pump_row.word left.tokens (decimal (first_number left) ∷ []) e cc)
 
@@ -111,14 +111,14 @@ settle_found text left e h =
 
 air_found : IsFound air_row
 air_found text left e h =
-    let bearer = number_taken 0 0 left h.0 in
+    let bearer = number_taken 0 1 left h.0 in
     let last = h.1 in
     (omega (arith, bearer.2), respelled text air_row.word left.tokens (decimal (first_number left) ∷ []) e cc)
 
 show_found : IsFound show_row
 show_found text left e h =
     let k = behind left in
-    let bearer = number_taken 0 0 left h.0 in
+    let bearer = number_taken 0 1 left h.0 in
     let frame = number_taken 0 1000000 k h.1.0 in
     let last = h.1.1 in
     ((omega (arith, bearer.2), frame.2), respelled text show_row.word left.tokens (decimal (first_number left) ∷ decimal (first_number k) ∷ []) e cc)

@@ -110,7 +110,7 @@ abbrev pub takes : Kind → List ℕ → Bool
 takes NewNode token = is_number 1 32 token
 takes OldNode token = is_number 1 32 token
 takes AnyNode token = is_number 1 32 token
-takes BearerNumber token = is_number 0 0 token
+takes BearerNumber token = is_number 0 1 token
 takes AnyNumber token = is_number 0 4294967295 token
 takes FrameNumber token = is_number 0 1000000 token
 takes RoundsNumber token = is_number 0 1000000 token

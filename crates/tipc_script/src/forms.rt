@@ -15,7 +15,7 @@ const HIGHEST_FRAME: u32 = 1_000_000;
 const MOST_ROUNDS: u32 = 1_000_000;
 
 /// The highest number of a bearer.
-const HIGHEST_BEARER: u32 = 0;
+const HIGHEST_BEARER: u32 = 1;
 
 /// What follows `node`.
 #[tactic(auto, unfolding(crate::specs::Faults::row_fault))]

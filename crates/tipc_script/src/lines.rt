@@ -29,7 +29,7 @@ pub enum Filter {
     Service,
 }
 
-/// What a line of a script asks for. Nodes have numbers from 1 to 32, and the bearer is 0. (This
+/// What a line of a script asks for. Nodes have numbers from 1 to 32, and a bearer is 0 or 1. (This
 /// project's profile.)
 #[derive(Clone, Debug, Drop, PartialEq)]
 pub enum Line {

@@ -4,10 +4,12 @@ use Rattle.tipc_types.specs.declared.node_calls.Answer.{Answer}
 use Rattle.tipc_world.specs.declared.events.WorldEvent.{WorldEvent}
 use Rattle.tipc_world.specs.declared.events.WorldFault.{WorldFault}
 use Rattle.tipc_world.specs.declared.events.WorldFault.TheVariants as fault
+use Rattle.tipc_world.specs.Skies.{air_on}
 use Rattle.tipc_world.specs.States.{WorldState}
+use Rattle.tipc_sim.specs.Ends.{ends_of}
 use Rattle.tipc_sim.specs.Courses.{Asks, Comes, Course, Drains, Goes, Maybe, Once, Takes, TakesAll, Then}
-use Rattle.tipc_sim.specs.declared.frames.Receivers.TheVariants.{Any}
-use Rattle.tipc_sim.specs.Meanings.{arrival_asked, Delivers, JoinsFrom, Links, Round, Rounds, Settles}
+use Rattle.tipc_sim.specs.declared.places.Places.{Places}
+use Rattle.tipc_sim.specs.Meanings.{Arrivals, Delivers, JoinsFrom, Links, Round, Rounds, Settles}
 use Rattle.tipc_sim.proofs.WorldLaws.{answered_few}
 
 -- ---- one number
@@ -25,20 +27,21 @@ pub takes_fault : (asks : Asks) (number : ℕ) (before now : WorldState) (event 
 takes_fault asks number before now event (fault.Limit stop) e once = let P : Option WorldEvent → Type 0 = λ o. Maybe o before (Err stop) now in subst P (sym e) once
 takes_fault asks number before now event fault.NoMemory e once = tt
 
-maybe_few : (asked : Option WorldEvent) (before : WorldState) (made : Bool) (now : WorldState) → Maybe asked before (Ok made) now → length now.air ≤ max 100000 (length before.air)
-maybe_few None before made now h = omega (arith, ap (λ w. length w.air) h.1)
-maybe_few (Some event) before made now h = answered_few before event now h.1.0 h.1.1
+maybe_few : (bearer : ℕ) (asked : Option WorldEvent) (before : WorldState) (made : Bool) (now : WorldState) → Maybe asked before (Ok made) now → length (air_on bearer now.air) ≤ max 100000 (length (air_on bearer before.air))
+maybe_few bearer None before made now h = omega (arith, ap (λ w. length (air_on bearer w.air)) h.1)
+maybe_few bearer (Some event) before made now h = answered_few bearer before event now h.1.0 h.1.1
 
-pub takes_few : (asks : Asks) (number : ℕ) (before : WorldState) (made : Bool) (now : WorldState) → Takes asks number before (Ok made) now → length now.air ≤ max 100000 (length before.air)
-takes_few asks number before made now h = maybe_few (asks before number) before made now h
+-- what a number asks for leaves the air of a bearer within the limit, or as long as it was
+pub takes_few : (bearer : ℕ) (asks : Asks) (number : ℕ) (before : WorldState) (made : Bool) (now : WorldState) → Takes asks number before (Ok made) now → length (air_on bearer now.air) ≤ max 100000 (length (air_on bearer before.air))
+takes_few bearer asks number before made now h = maybe_few bearer (asks before number) before made now h
 
 -- ---- numbers in order
 
 -- the next number stopped
-pub halts_at : (asks : Asks) (first : ℕ) (start : WorldState) (next count : ℕ) (before now : WorldState) (f : WorldFault) → Goes asks first start next count before → Comes (Takes asks next before) (Err f) now
-    → Comes (Drains asks first start) (Err f) now
-halts_at asks first start next count before now (fault.Limit stop) goes stopped = record { next = next; count = count; before = before; goes = goes; stopped = stopped }
-halts_at asks first start next count before now fault.NoMemory goes stopped = tt
+pub halts_at : (asks : Asks) (bearer first : ℕ) (start : WorldState) (next count : ℕ) (before now : WorldState) (f : WorldFault) → Goes asks first start next count before → Comes (Takes asks next before) (Err f) now
+    → Comes (Drains asks bearer first start) (Err f) now
+halts_at asks bearer first start next count before now (fault.Limit stop) goes stopped = record { next = next; count = count; before = before; goes = goes; stopped = stopped }
+halts_at asks bearer first start next count before now fault.NoMemory goes stopped = tt
 
 pub all_halts : (asks : Asks) (first end : ℕ) (start : WorldState) (next count : ℕ) (before now : WorldState) (f : WorldFault) → next < end → Goes asks first start next count before → Comes (Takes asks next before) (Err f) now
     → Comes (TakesAll asks first end start) (Err f) now
@@ -62,21 +65,20 @@ then_came first second start between now a (Err fault.NoMemory) before after = t
 -- ---- rounds
 
 -- a frame of a round stopped
-pub delivery_halts : (first : ℕ) (start : WorldState) (next count : ℕ) (before now : WorldState) (f : WorldFault) → next < length start.air → Goes (arrival_asked Any) first start next count before
-    → Comes (Takes (arrival_asked Any) next before) (Err f) now → Comes (Delivers first start) (Err f) now
-delivery_halts first start next count before now (fault.Limit stop) below goes stopped = all_halts (arrival_asked Any) first (length start.air) start next count before now (fault.Limit stop) below goes stopped
-delivery_halts first start next count before now fault.NoMemory below goes stopped = tt
+pub delivers_halt : (places ends : Places) (start now : WorldState) (f : WorldFault) → ends ≡ ends_of start.air → Comes (Arrivals places ends start) (Err f) now → Comes (Delivers places start) (Err f) now
+delivers_halt places ends start now (fault.Limit stop) is came = subst (λ k. Arrivals places k start (Err stop) now) is came
+delivers_halt places ends start now fault.NoMemory is came = tt
 
 -- a round stopped
-pub settle_halts : (rounds : ℕ) (start : WorldState) (done place : ℕ) (before now : WorldState) (f : WorldFault) → done < rounds → Rounds start done place before → Comes (Round place before) (Err f) now
+pub settle_halts : (rounds : ℕ) (start : WorldState) (done : ℕ) (places : Places) (before now : WorldState) (f : WorldFault) → done < rounds → Rounds start done places before → Comes (Round places before) (Err f) now
     → Comes (Settles rounds start) (Err f) now
-settle_halts rounds start done place before now (fault.Limit stop) fewer made stopped = record { done = done; fewer = fewer; place = place; before = before; made = made; stopped = stopped }
-settle_halts rounds start done place before now fault.NoMemory fewer made stopped = tt
+settle_halts rounds start done places before now (fault.Limit stop) fewer made stopped = record { done = done; fewer = fewer; places = places; before = before; made = made; stopped = stopped }
+settle_halts rounds start done places before now fault.NoMemory fewer made stopped = tt
 
 -- ---- a link
 
 -- an event of a link stopped
-pub links_halt : (named : List (ℕ × ℕ)) (first second place : ℕ) (start now : WorldState) (f : WorldFault) → place ≡ length start.air → Comes (JoinsFrom place named first second start) (Err f) now
-    → Comes (Links named first second start) (Err f) now
-links_halt named first second place start now (fault.Limit stop) is came = subst (λ k. JoinsFrom k named first second start (Err stop) now) is came
-links_halt named first second place start now fault.NoMemory is came = tt
+pub links_halt : (named : List (ℕ × ℕ)) (first second bearer place : ℕ) (start now : WorldState) (f : WorldFault) → place ≡ length (air_on bearer start.air)
+    → Comes (JoinsFrom place named first second bearer start) (Err f) now → Comes (Links named first second bearer start) (Err f) now
+links_halt named first second bearer place start now (fault.Limit stop) is came = subst (λ k. JoinsFrom k named first second bearer start (Err stop) now) is came
+links_halt named first second bearer place start now fault.NoMemory is came = tt

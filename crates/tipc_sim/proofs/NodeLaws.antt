@@ -1,5 +1,5 @@
 -- A line without fault can be done.
-use Rattle.std.proofs.Common.{◌≡◌, arith, ℕ, leb, Bool, true, false, not, Option, Some, None, List, [], ◌∷◌, drop, refl, sym, subst, ◌∙◌, inl, inr}
+use Rattle.std.proofs.Common.{◌≡◌, ℕ, leb, Bool, true, false, not, Option, Some, None, List, [], ◌∷◌, drop, refl, sym, subst, ◌∙◌, inl, inr}
 use Rattle.std.specs.Option.{option_or}
 use Rattle.std.proofs.lemmas.Bool.{cases_Bool}
 use Rattle.tipc_script.specs.declared.lines.NodeToken.{NodeToken}
@@ -66,7 +66,7 @@ link_can : CanDo link_row
 link_can there text left asks e =
     let first = old_in_place there (OldNode ∷ BearerNumber ∷ []) left e in
     let second = old_in_place there (BearerNumber ∷ []) (behind left) first.1 in
-    (first.0, second.0)
+    (first.0, second.0, asks.0.2)
 
 mark_can : CanDo mark_row
 mark_can there text left asks e = tt
@@ -116,7 +116,7 @@ burst_can there text left asks e =
     (first.0, second.0, asks.0.1)
 
 pump_can : CanDo pump_row
-pump_can there text left asks e = tt
+pump_can there text left asks e = asks.0
 
 settle_can : CanDo settle_row
 settle_can there text left asks e = tt
@@ -218,7 +218,7 @@ can_happen w notes (Withdraw node port key) event can e = subst (CanHappen w) (i
 can_happen w notes (Subscribe node kind lower upper timeout filter) event can e = subscribe_can w node kind lower upper timeout filter event can e
 can_happen w notes (Event node number) event can e = subst (CanHappen w) (inside e) (can, tt)
 can_happen w notes (Cancel node number) event can e = subst (CanHappen w) (inside e) (can, tt)
-can_happen w notes (Arrive node bearer frame) event can e = subst (CanHappen w) (inside e) (can.0, omega (arith, can.1))
+can_happen w notes (Arrive node bearer frame) event can e = subst (CanHappen w) (inside e) (can.0, can.1)
 can_happen w notes (Receive node port) event can e = subst (CanHappen w) (inside e) (can, tt)
 can_happen w notes Nothing event can e = absurd cc
 can_happen w notes (Node node) event can e = absurd cc

@@ -8,6 +8,7 @@ use Rattle.tipc_world.specs.declared.events.WorldFault.TheVariants as fault
 use Rattle.tipc_world.specs.Good.{IsGood}
 use Rattle.tipc_world.specs.Growth.{Grows}
 use Rattle.tipc_world.specs.Limits.{IsAnswered, Stops}
+use Rattle.tipc_world.specs.Skies.{air_on}
 use Rattle.tipc_world.specs.States.{WorldState, WorldView, is_there}
 
 -- What events come to that begin in one world and end in another: all of them happened, which gives a value, or a limit stopped the next.
@@ -66,10 +67,10 @@ abbrev pub TakesAll : Asks → ℕ → ℕ → Course (Unit {0})
 TakesAll asks first end start (Ok done) now = (count : ℕ) × Goes asks first start end count now
 TakesAll asks first end start (Err limit) now = (halts : Halts asks first start limit now) × (halts.next < end)
 
--- the places of the air are taken from the first on, until none is left; the value is how many events happened
-abbrev pub Drains : Asks → ℕ → Course ℕ
-Drains asks first start (Ok count) now = (end : ℕ) × (length now.air ≤ end) × Goes asks first start end count now
-Drains asks first start (Err limit) now = Halts asks first start limit now
+-- the places of a bearer's air are taken from the first on, until none is left; the value is how many events happened
+abbrev pub Drains : Asks → ℕ → ℕ → Course ℕ
+Drains asks bearer first start (Ok count) now = (end : ℕ) × (length (air_on bearer now.air) ≤ end) × Goes asks first start end count now
+Drains asks bearer first start (Err limit) now = Halts asks first start limit now
 
 -- one course and then another
 abbrev pub Then : {A B : Type 0} → Course A → Course B → Course B

@@ -25,13 +25,16 @@ use Rattle.tipc_world.specs.declared.events.WorldEvent.{WorldEvent}
 use Rattle.tipc_world.specs.declared.events.WorldEvent.TheVariants as event
 use Rattle.tipc_world.specs.Growth.{Grows}
 use Rattle.tipc_world.specs.Readers.{links_of, table_of}
+use Rattle.tipc_world.specs.Skies.{air_on}
 use Rattle.tipc_world.specs.States.{WorldState, counted, flow_of, is_there}
 use Rattle.tipc_world.specs.Steps.{IsJoined}
+use Rattle.tipc_sim.specs.declared.places.Places.{Places}
 use Rattle.tipc_sim.specs.Courses.{Course, Once}
+use Rattle.tipc_sim.specs.Ends.{ends_of, place_on}
 use Rattle.tipc_sim.specs.Meanings.{Mends, Links as LinksUp, Pumps, Settles}
 use Rattle.tipc_sim.specs.Messages.{low_message, Bursts, ReceivesAll, SendsAgain}
 use Rattle.tipc_sim.specs.Nodes.{makes}
-use Rattle.tipc_sim.specs.Noted.{NotesState, marked, naming, pumped, with_named}
+use Rattle.tipc_sim.specs.Noted.{NotesState, marked, naming, pumped, pumped_to, with_named}
 
 -- a world, and what the script keeps beside it
 pub record Scene : Type 0 where
@@ -84,7 +87,7 @@ event_of (Tick node) notes = Some (event.Call node call.Tick)
 event_of (Restart node) notes = Some (event.Restart node)
 event_of (Socket node) notes = Some (event.Call node call.Socket)
 event_of (Send node port to importance body) notes = Some (event.Call node (sending port to importance body))
-event_of (Arrive node bearer frame) notes = Some (event.Arrive node bearer (counted (notes.base + frame)))
+event_of (Arrive node bearer frame) notes = Some (event.Arrive node bearer (counted (place_on bearer notes.bases + frame)))
 event_of (Receive node port) notes = Some (event.Call node (call.Receive port))
 event_of other notes = service_event other
 
@@ -112,9 +115,9 @@ Repeated comes noted start (Ok given) now = IsToldTimes comes given.0 start now 
 Repeated comes noted start (Err stop) now = comes start (Err stop) now
 
 -- it is told how many messages were moved, and noted how far frames are pumped
-abbrev pub Moves : Course (ℕ × ℕ) → NotesState → Course Outcome
-Moves comes notes start (Ok given) now = (count : ℕ) × (place : ℕ) × comes start (Ok (count, place)) now
-    × (given ≡ (told.Answer (answer.Moved count), pumped notes place))
+abbrev pub Moves : Course (ℕ × Places) → NotesState → Course Outcome
+Moves comes notes start (Ok given) now = (count : ℕ) × (places : Places) × comes start (Ok (count, places)) now
+    × (given ≡ (told.Answer (answer.Moved count), pumped_to notes places))
 Moves comes notes start (Err stop) now = comes start (Err stop) now
 
 -- what is told of a world that stays as it is, and what is noted
@@ -135,8 +138,8 @@ shown (Some f) = told.Frame f.from f.to f.frame
 -- what is told of a line that leaves everything as it is: a line that asks for nothing is one, and a publication or a subscription is
 -- one where its range is bad
 abbrev pub told_of : Line → NotesState → WorldState → Told
-told_of (Air bearer) notes w = told.Answer (answer.Air (length w.air - notes.base))
-told_of (Show bearer frame) notes w = shown (slice_get w.air (counted (notes.base + frame)))
+told_of (Air bearer) notes w = told.Answer (answer.Air (length (air_on bearer w.air) - place_on bearer notes.bases))
+told_of (Show bearer frame) notes w = shown (slice_get (air_on bearer w.air) (counted (place_on bearer notes.bases + frame)))
 told_of (Links node) notes w = told.Answer (answer.Links (links_of w.members node))
 told_of (Table node) notes w = told.Table (table_of w.members node)
 told_of (Flow from to) notes w = told.Answer (flow_of w.members from to)
@@ -149,7 +152,7 @@ abbrev pub Conversed : Line → NotesState → Course Outcome
 Conversed (Repeat times node port to importance body) notes start came now = Repeated (SendsAgain times (event.Call node (sending port to importance body))) notes start came now
 Conversed (Drain node port) notes start came now = Answered (ReceivesAll node port) notes start came now
 Conversed (Burst node port to_node to_port times body) notes start came now =
-    Moves (Bursts times (low_message node port to_node to_port body) (event.Call to_node (call.Receive to_port)) notes.place) notes start came now
+    Moves (Bursts times (low_message node port to_node to_port body) (event.Call to_node (call.Receive to_port)) notes.places) notes start came now
 Conversed other notes start came now = Stays (told_of other notes start) notes start came now
 
 -- what becomes of a world by a line that isn't one event
@@ -157,9 +160,9 @@ abbrev pub Composed : Line → NotesState → Course Outcome
 Composed (Node node) notes start came now = ComesIn node notes start came now
 Composed (Mend node bearer) notes start came now = Answered (Mends notes.named node bearer) notes start came now
 Composed (Link first second bearer) notes start came now =
-    Answered (LinksUp (naming notes.named first second) first second) (with_named notes (naming notes.named first second)) start came now
-Composed Mark notes start came now = Stays (told.Answer answer.Done) (marked notes (length now.air)) start came now
-Composed (Pump bearer) notes start came now = Answered (Pumps notes.place) (pumped notes (length now.air)) start came now
+    Answered (LinksUp (naming notes.named first second) first second bearer) (with_named notes (naming notes.named first second)) start came now
+Composed Mark notes start came now = Stays (told.Answer answer.Done) (marked notes (ends_of now.air)) start came now
+Composed (Pump bearer) notes start came now = Answered (Pumps bearer (place_on bearer notes.places)) (pumped notes bearer (length (air_on bearer now.air))) start came now
 Composed (Settle rounds) notes start came now = Answered (Settles rounds) notes start came now
 Composed other notes start came now = Conversed other notes start came now
 

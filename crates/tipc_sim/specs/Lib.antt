@@ -1,4 +1,5 @@
 pub mod Courses
+pub mod Ends
 pub mod Happenings
 pub mod Lines
 pub mod Meanings

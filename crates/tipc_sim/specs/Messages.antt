@@ -9,7 +9,8 @@ use Rattle.tipc_world.specs.declared.events.Limit.{Limit}
 use Rattle.tipc_world.specs.declared.events.WorldEvent.{WorldEvent}
 use Rattle.tipc_world.specs.declared.events.WorldEvent.TheVariants as event
 use Rattle.tipc_world.specs.States.{WorldState}
-use Rattle.tipc_sim.specs.Courses.{Course, Once}
+use Rattle.tipc_sim.specs.declared.places.Places.{Places}
+use Rattle.tipc_sim.specs.Courses.{Course, Once, Then}
 use Rattle.tipc_sim.specs.Meanings.{Pumps}
 
 -- the answer says that a message was sent
@@ -90,55 +91,63 @@ ReceivesAll node port start (Err limit) now = RepeatHalts (event.Call node (call
 abbrev pub low_message : ℕ → ℕ → ℕ → ℕ → List ℕ → WorldEvent
 low_message node port to_node to_port body = event.Call node (call.SendPort port (port_at to_node to_port) Low body)
 
--- The frames from a place on are pumped, and then a message is received. The value is whether there was one, and up to which place frames are
--- pumped then.
-abbrev pub PumpsAndReceives : ℕ → WorldEvent → Course (Bool × ℕ)
-PumpsAndReceives place receive start (Ok value) now =
-    (between : WorldState) × (pumped : Answer) × (last : Answer) × Pumps place start (Ok pumped) between
-    × Once receive between (Ok last) now × (value ≡ (is_message last, length between.air))
-PumpsAndReceives place receive start (Err limit) now =
-    Pumps place start (Err limit) now ⊎ ((between : WorldState) × (pumped : Answer) × Pumps place start (Ok pumped) between × Once receive between (Err limit) now)
+-- The frames of bearer 0 and then those of bearer 1 are pumped, from these places on. The value is the places up to which frames are pumped
+-- then: frames that are sent on bearer 0 while bearer 1 is pumped wait.
+abbrev pub PumpsBoth : Places → Course Places
+PumpsBoth places start (Ok ends) now =
+    (between : WorldState) × (first : Answer) × (second : Answer) × Pumps 0 places.first start (Ok first) between
+    × Pumps 1 places.second between (Ok second) now
+    × (ends ≡ record { first = length between.air.first; second = length now.air.second })
+PumpsBoth places start (Err limit) now = Then (Pumps 0 places.first) (Pumps 1 places.second) start (Err limit) now
+
+-- The frames from these places on are pumped, and then a message is received. The value is whether there was one, and up to which places frames
+-- are pumped then.
+abbrev pub PumpsAndReceives : Places → WorldEvent → Course (Bool × Places)
+PumpsAndReceives places receive start (Ok value) now =
+    (between : WorldState) × (ends : Places) × (last : Answer) × PumpsBoth places start (Ok ends) between
+    × Once receive between (Ok last) now × (value ≡ (is_message last, ends))
+PumpsAndReceives places receive start (Err limit) now = Then (PumpsBoth places) (Once receive) start (Err limit) now
 
 -- the same where the message was sent, and else nothing
-abbrev pub Follows : Bool → ℕ → WorldEvent → Course (Bool × ℕ)
-Follows true place receive start came now = PumpsAndReceives place receive start came now
-Follows false place receive start (Ok value) now = (now ≡ start) × (value ≡ (false, place))
-Follows false place receive start (Err limit) now = ⊥
+abbrev pub Follows : Bool → Places → WorldEvent → Course (Bool × Places)
+Follows true places receive start came now = PumpsAndReceives places receive start came now
+Follows false places receive start (Ok value) now = (now ≡ start) × (value ≡ (false, places))
+Follows false places receive start (Err limit) now = ⊥
 
--- A message is sent, and where it was, frames are pumped and a message is received. The value is whether one was, and up to which place frames
+-- A message is sent, and where it was, frames are pumped and a message is received. The value is whether one was, and up to which places frames
 -- are pumped then.
-abbrev pub Turn : WorldEvent → WorldEvent → ℕ → Course (Bool × ℕ)
-Turn send receive place start (Ok value) now = (between : WorldState) × (answer : Answer)
-    × Once send start (Ok answer) between × Follows (is_sent answer) place receive between (Ok value) now
-Turn send receive place start (Err limit) now =
-    Once send start (Err limit) now ⊎ ((between : WorldState) × (answer : Answer) × Once send start (Ok answer) between × Follows (is_sent answer) place receive between (Err limit) now)
+abbrev pub Turn : WorldEvent → WorldEvent → Places → Course (Bool × Places)
+Turn send receive places start (Ok value) now = (between : WorldState) × (answer : Answer)
+    × Once send start (Ok answer) between × Follows (is_sent answer) places receive between (Ok value) now
+Turn send receive places start (Err limit) now =
+    Once send start (Err limit) now ⊎ ((between : WorldState) × (answer : Answer) × Once send start (Ok answer) between × Follows (is_sent answer) places receive between (Err limit) now)
 
--- So many turns were made, one after the other, and a message was received in each. The frames before that place are pumped.
-pub data Turns (send receive : WorldEvent) (first : ℕ) (start : WorldState) : ℕ → ℕ → WorldState → Type 0 where
+-- So many turns were made, one after the other, and a message was received in each. The frames before those places are pumped.
+pub data Turns (send receive : WorldEvent) (first : Places) (start : WorldState) : ℕ → Places → WorldState → Type 0 where
   begin : Turns send receive first start 0 first start
-  go_on : (count place : ℕ) (before : WorldState) (next : ℕ) (now : WorldState)
-      → Turns send receive first start count place before → Turn send receive place before (Ok (true, next)) now
+  go_on : (count : ℕ) (places : Places) (before : WorldState) (next : Places) (now : WorldState)
+      → Turns send receive first start count places before → Turn send receive places before (Ok (true, next)) now
       → Turns send receive first start (count + 1) next now
 
 -- likewise, and then one in which none was
-pub record TurnsUntil (send receive : WorldEvent) (first : ℕ) (start : WorldState) (count end : ℕ) (now : WorldState) : Type 0 where
-  pub place : ℕ
+pub record TurnsUntil (send receive : WorldEvent) (first : Places) (start : WorldState) (count : ℕ) (ends : Places) (now : WorldState) : Type 0 where
+  pub places : Places
   pub before : WorldState
-  pub made : Turns send receive first start count place before
-  pub fails : Turn send receive place before (Ok (false, end)) now
+  pub made : Turns send receive first start count places before
+  pub fails : Turn send receive places before (Ok (false, ends)) now
 
 -- likewise, and a limit stopped an event of the next one
-pub record TurnHalts (send receive : WorldEvent) (times first : ℕ) (start : WorldState) (limit : Limit) (now : WorldState) : Type 0 where
+pub record TurnHalts (send receive : WorldEvent) (times : ℕ) (first : Places) (start : WorldState) (limit : Limit) (now : WorldState) : Type 0 where
   pub count : ℕ
   pub fewer : count < times
-  pub place : ℕ
+  pub places : Places
   pub before : WorldState
-  pub made : Turns send receive first start count place before
-  pub stopped : Turn send receive place before (Err limit) now
+  pub made : Turns send receive first start count places before
+  pub stopped : Turn send receive places before (Err limit) now
 
--- So many turns are made at most, until no message is received. The value is in how many one was, and up to which place frames are pumped
+-- So many turns are made at most, until no message is received. The value is in how many one was, and up to which places frames are pumped
 -- then.
-abbrev pub Bursts : ℕ → WorldEvent → WorldEvent → ℕ → Course (ℕ × ℕ)
+abbrev pub Bursts : ℕ → WorldEvent → WorldEvent → Places → Course (ℕ × Places)
 Bursts times send receive first start (Ok value) now =
     (Turns send receive first start times value.1 now × (value.0 ≡ times))
     ⊎ (TurnsUntil send receive first start value.0 value.1 now × (value.0 < times))

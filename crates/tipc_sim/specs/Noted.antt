@@ -1,16 +1,18 @@
 -- What a script keeps beside the world.
 use Rattle.std.specs.Prelude.{ℕ, ◌==◌, Bool, ◌&&◌, ◌||◌, if◌then◌else◌, List, [], ◌∷◌, ◌++◌}
 use Rattle.std.specs.List.{list_any}
+use Rattle.tipc_sim.specs.declared.places.Places.{Places}
+use Rattle.tipc_sim.specs.Ends.{first_frames, with_place}
 
--- the place in the air that the script calls 0, the place of the next frame that is pumped, and the pairs of nodes for which a link was
--- asked for
+-- the places in the air of both bearers that the script calls 0, those of the next frames that are pumped, and the pairs of nodes for which
+-- a link was asked for
 pub record NotesState : Type 0 where
-  pub base : ℕ
-  pub place : ℕ
+  pub bases : Places
+  pub places : Places
   pub named : List (ℕ × ℕ)
 
 abbrev pub no_notes : NotesState
-no_notes = record { base = 0; place = 0; named = [] }
+no_notes = record { bases = first_frames; places = first_frames; named = [] }
 
 abbrev pub is_pair : ℕ → ℕ → ℕ × ℕ → Bool
 is_pair a b pair = ((pair.0 == a) && (pair.1 == b)) || ((pair.0 == b) && (pair.1 == a))
@@ -24,12 +26,16 @@ abbrev pub naming : List (ℕ × ℕ) → ℕ → ℕ → List (ℕ × ℕ)
 naming named a b = if (a == b) || is_named named a b then named else named ++ (a, b) ∷ []
 
 abbrev pub with_named : NotesState → List (ℕ × ℕ) → NotesState
-with_named s named = record { base = s.base; place = s.place; named = named }
+with_named s named = record { bases = s.bases; places = s.places; named = named }
 
--- frames are counted, and pumped, from this place on
-abbrev pub marked : NotesState → ℕ → NotesState
-marked s place = record { base = place; place = place; named = s.named }
+-- frames are counted, and pumped, from these places on
+abbrev pub marked : NotesState → Places → NotesState
+marked s ends = record { bases = ends; places = ends; named = s.named }
 
--- the frames before this place were pumped
-abbrev pub pumped : NotesState → ℕ → NotesState
-pumped s place = record { base = s.base; place = place; named = s.named }
+-- the frames before these places were pumped
+abbrev pub pumped_to : NotesState → Places → NotesState
+pumped_to s places = record { bases = s.bases; places = places; named = s.named }
+
+-- the frames of a bearer before this place were pumped
+abbrev pub pumped : NotesState → ℕ → ℕ → NotesState
+pumped s bearer place = pumped_to s (with_place s.places bearer place)

@@ -3,6 +3,7 @@
 ghost use Rattle.std.specs.Prelude.{◌≡◌, ◌+◌, ◌<◌, ◌≤◌, ◌^◌, ◌==◌, ◌||◌, ℕ, true, false, length, slice_get, IfErr, IfOk, OnOk, find};
 ghost use Rattle.tipc_report.specs.Text.{told_line};
 ghost use Rattle.tipc_world.specs.Calls.{CanHappen};
+ghost use Rattle.tipc_world.specs.Skies.{air_on};
 ghost use Rattle.tipc_world.specs.States.{counted, is_there};
 ghost use Rattle.tipc_world.specs.Good.{IsGood};
 ghost use Rattle.tipc_world.specs.Growth.{Grows};
@@ -10,6 +11,7 @@ ghost use Rattle.tipc_script.specs.Grammar.{asked};
 ghost use Rattle.tipc_script.specs.Faults.{Tells};
 ghost use Rattle.tipc_sim.specs.Nodes.{is_misplaced, fault_where, makes, CanBeDone};
 ghost use Rattle.tipc_sim.specs.Courses.{Comes, Continues};
+ghost use Rattle.tipc_sim.specs.Ends.{place_on};
 ghost use Rattle.tipc_sim.specs.Happenings.{beside, event_of, filter_number, scene, sending, service_event, shown, subscription_event, told_of, wished, Answers, Composed, Conversed, IsLimited, Moves, Repeated};
 ghost use Rattle.tipc_sim.specs.Meanings.{Links, Pumps};
 ghost use Rattle.tipc_sim.specs.Messages.{is_call, low_message, Bursts, SendsAgain};
@@ -21,6 +23,7 @@ use crate::frames::{make, pump};
 use crate::linking::{link, mend};
 use crate::messages::{Socket, burst, receive_all, repeat};
 use crate::notes::Notes;
+use crate::places::ends_of;
 use crate::settling::settle;
 use std::alloc::Global;
 use tipc_pick::Pick;
@@ -220,43 +223,47 @@ fn event_of(line: Line, notes: &Notes) -> Result<WorldEvent, Line>
         } => Ok(WorldEvent::Arrive {
             node,
             bearer,
-            frame: notes.base().saturating_add(frame),
+            frame: notes.base(bearer).saturating_add(frame),
         }),
         Line::Receive { node, port } => Ok(call(node, EventNote::Receive { port })),
         other => service_event(other),
     }
 }
 
-/// Names two nodes as a pair and links them.
+/// Names two nodes as a pair and links them on a bearer.
 fn link_named<P: Pick>(
     alloc: Global,
     first: u8,
     second: u8,
+    bearer: u8,
     world: &mut World<P>,
     notes: &mut Notes,
 ) -> Result<Answer, WorldFault>
     requires first { is_there world.old.state first ≡ true }
     requires second { is_there world.old.state second ≡ true }
-    ensures comes { Comes (Links (naming notes.old.named first second) first second world.old.state) result world.new.state }
+    requires bearer { bearer ≤ 1 }
+    ensures comes { Comes (Links (naming notes.old.named first second) first second bearer world.old.state) result world.new.state }
     ensures noted { OnOk result (notes.new ≡ with_named notes.old (naming notes.old.named first second)) }
     ensures continues { Continues P.gives world.old world.new }
 {
     notes.name(first, second)?;
-    link(alloc, notes, first, second, world)
+    link(alloc, notes, first, second, bearer, world)
 }
 
-/// Pumps the frames that aren't pumped yet.
+/// Pumps the frames of a bearer that aren't pumped yet.
 fn pump_on<P: Pick>(
     alloc: Global,
+    bearer: u8,
     world: &mut World<P>,
     notes: &mut Notes,
 ) -> Result<Answer, WorldFault>
-    ensures comes { Comes (Pumps notes.old.place world.old.state) result world.new.state }
-    ensures noted { OnOk result (notes.new ≡ pumped notes.old (length world.new.state.air)) }
+    requires { bearer ≤ 1 }
+    ensures comes { Comes (Pumps bearer (place_on bearer notes.old.places) world.old.state) result world.new.state }
+    ensures noted { OnOk result (notes.new ≡ pumped notes.old bearer (length (air_on bearer world.new.state.air))) }
     ensures continues { Continues P.gives world.old world.new }
 {
-    let answer = pump(alloc, notes.place(), world)?;
-    notes.pump_to(world.air_len());
+    let answer = pump(alloc, bearer, notes.places().on(bearer), world)?;
+    notes.pump_to(bearer, world.air_len(bearer));
     Ok(answer)
 }
 
@@ -272,11 +279,11 @@ fn burst_on<P: Pick>(
     requires can { CanHappen world.old.state message.now }
     requires sends { is_call message.now ≡ true }
     requires there { is_there world.old.state at.node ≡ true }
-    ensures comes { Comes (Moves (Bursts times message.now (WorldEvent.Call at.node (EventNote.Receive at.port)) notes.old.place) notes.old world.old.state) (beside result notes.new) world.new.state }
+    ensures comes { Comes (Moves (Bursts times message.now (WorldEvent.Call at.node (EventNote.Receive at.port)) notes.old.places) notes.old world.old.state) (beside result notes.new) world.new.state }
     ensures continues { Continues P.gives world.old world.new }
 {
-    let (moved, place) = burst(alloc, times, message, at, notes.place(), world)?;
-    notes.pump_to(place);
+    let (moved, places) = burst(alloc, times, message, at, notes.places(), world)?;
+    notes.pump_both_to(places);
     Ok(Told::Answer(Answer::Moved(moved)))
 }
 
@@ -309,11 +316,11 @@ fn low_message(node: u8, port: u32, at: Socket, body: Bytes) -> WorldEvent
     send(node, port, Destination::Port(to), Importance::Low, body)
 }
 
-/// The frame of that number since the last mark, where there is one.
-fn shown<P: Pick>(frame: u64, world: &World<P>, notes: &Notes) -> Result<Told, NoMemory>
-    ensures { IfOk result (λ told. told ≡ shown (slice_get world.now.state.air (counted (notes.now.base + frame)))) }
+/// The frame of a bearer of that number since the last mark, where there is one.
+fn shown<P: Pick>(bearer: u8, frame: u64, world: &World<P>, notes: &Notes) -> Result<Told, NoMemory>
+    ensures { IfOk result (λ told. told ≡ shown (slice_get (air_on bearer world.now.state.air) (counted (place_on bearer notes.now.bases + frame)))) }
 {
-    let Some(sent) = world.frame(notes.base().saturating_add(frame)) else {
+    let Some(sent) = world.frame(bearer, notes.base(bearer).saturating_add(frame)) else {
         return Ok(Told::Answer(Answer::NoFrame));
     };
     Ok(Told::Frame {
@@ -334,10 +341,10 @@ fn tell<P: Pick>(
     ensures { IfOk result (λ told. told ≡ told_of line.now notes.now world.now.state) }
 {
     Ok(match line {
-        Line::Air { bearer: _ } => {
-            Told::Answer(Answer::Air(world.air_len().saturating_sub(notes.base())))
-        }
-        Line::Show { bearer: _, frame } => shown(*frame, world, notes)?,
+        Line::Air { bearer } => Told::Answer(Answer::Air(
+            world.air_len(*bearer).saturating_sub(notes.base(*bearer)),
+        )),
+        Line::Show { bearer, frame } => shown(*bearer, *frame, world, notes)?,
         Line::Links { node } => Told::Answer(Answer::Links(world.links(alloc, *node)?)),
         Line::Table { node } => Told::Table(world.table(alloc, *node)?),
         Line::Flow { from, to } => Told::Answer(world.flow(*from, *to)),
@@ -408,17 +415,17 @@ fn compose<P: Pick>(
             world.add_node(alloc, node)?;
             Answer::Done
         }
-        Line::Mend { node, bearer: _ } => mend(alloc, notes, node, world)?,
+        Line::Mend { node, bearer } => mend(alloc, notes, node, bearer, world)?,
         Line::Link {
             first,
             second,
-            bearer: _,
-        } => link_named(alloc, first, second, world, notes)?,
+            bearer,
+        } => link_named(alloc, first, second, bearer, world, notes)?,
         Line::Mark => {
-            notes.mark(world.air_len());
+            notes.mark(ends_of(world));
             Answer::Done
         }
-        Line::Pump { bearer: _ } => pump_on(alloc, world, notes)?,
+        Line::Pump { bearer } => pump_on(alloc, bearer, world, notes)?,
         Line::Settle { rounds } => settle(alloc, rounds, world)?,
         other => return converse(alloc, other, world, notes),
     };

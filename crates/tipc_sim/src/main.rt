@@ -7,6 +7,7 @@ mod lines;
 mod linking;
 mod messages;
 mod notes;
+mod places;
 mod reading;
 mod running;
 mod scripts;

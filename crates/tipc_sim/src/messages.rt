@@ -4,9 +4,10 @@ ghost use Rattle.std.specs.Prelude.{◌≡◌, ◌≤◌, true, IfOk};
 ghost use Rattle.tipc_world.specs.Calls.{CanHappen};
 ghost use Rattle.tipc_world.specs.States.{is_there};
 ghost use Rattle.tipc_sim.specs.Courses.{Comes, Continues, Once};
-ghost use Rattle.tipc_sim.specs.Messages.{drained_answer, is_call, is_message, is_sent, Bursts, PumpsAndReceives, ReceivesAll, SendsAgain, Turn};
+ghost use Rattle.tipc_sim.specs.Messages.{drained_answer, is_call, is_message, is_sent, Bursts, PumpsAndReceives, PumpsBoth, ReceivesAll, SendsAgain, Turn};
 
 use crate::frames::{make, pump};
+use crate::places::Places;
 use std::alloc::{AllocError, Global};
 use tipc_pick::Pick;
 use tipc_types::{Answer, EventNote};
@@ -134,70 +135,87 @@ pub fn receive_all<P: Pick>(
     }
 }
 
-/// Pumps the frames from a place on, and lets a message be received. It answers whether there was one, and up to which place
+/// Pumps the frames of bearer 0 and then those of bearer 1, from these places on, and answers up to which places frames are pumped then.
+fn pump_both<P: Pick>(
+    alloc: Global,
+    places: Places,
+    world: &mut World<P>,
+) -> Result<Places, WorldFault>
+    ensures comes { Comes (PumpsBoth places world.old.state) result world.new.state }
+    ensures continues { Continues P.gives world.old world.new }
+{
+    pump(alloc, 0, places.first, world)?;
+    let first = world.air_len(0);
+    pump(alloc, 1, places.second, world)?;
+    Ok(Places {
+        first,
+        second: world.air_len(1),
+    })
+}
+
+/// Pumps the frames from these places on, and lets a message be received. It answers whether there was one, and up to which places
 /// frames are pumped then.
 fn pump_and_receive<P: Pick>(
     alloc: Global,
     at: Socket,
-    place: u64,
+    places: Places,
     world: &mut World<P>,
-) -> Result<(bool, u64), WorldFault>
+) -> Result<(bool, Places), WorldFault>
     requires { is_there world.old.state at.node ≡ true }
-    ensures comes { Comes (PumpsAndReceives place (WorldEvent.Call at.node (EventNote.Receive at.port)) world.old.state) result world.new.state }
+    ensures comes { Comes (PumpsAndReceives places (WorldEvent.Call at.node (EventNote.Receive at.port)) world.old.state) result world.new.state }
     ensures continues { Continues P.gives world.old world.new }
 {
-    pump(alloc, place, world)?;
-    let end = world.air_len();
+    let ends = pump_both(alloc, places, world)?;
     let answer = receive(alloc, at, world)?;
-    Ok((is_message(&answer), end))
+    Ok((is_message(&answer), ends))
 }
 
 /// Lets a message be sent, and where it was, pumps frames and lets a message be received. It answers whether there was one, and
-/// up to which place frames are pumped then.
+/// up to which places frames are pumped then.
 fn turn<P: Pick>(
     alloc: Global,
     message: &WorldEvent,
     at: Socket,
-    place: u64,
+    places: Places,
     world: &mut World<P>,
-) -> Result<(bool, u64), WorldFault>
+) -> Result<(bool, Places), WorldFault>
     requires can { CanHappen world.old.state message.now }
     requires there { is_there world.old.state at.node ≡ true }
-    ensures comes { Comes (Turn message.now (WorldEvent.Call at.node (EventNote.Receive at.port)) place world.old.state) result world.new.state }
+    ensures comes { Comes (Turn message.now (WorldEvent.Call at.node (EventNote.Receive at.port)) places world.old.state) result world.new.state }
     ensures continues { Continues P.gives world.old world.new }
 {
     let answer = send(alloc, message, world)?;
     if !is_sent(&answer) {
-        return Ok((false, place));
+        return Ok((false, places));
     }
-    pump_and_receive(alloc, at, place, world)
+    pump_and_receive(alloc, at, places, world)
 }
 
-/// Makes so many turns at most, until no message is received. It answers in how many one was, and up to which place frames are
+/// Makes so many turns at most, until no message is received. It answers in how many one was, and up to which places frames are
 /// pumped then.
 pub fn burst<P: Pick>(
     alloc: Global,
     times: u32,
     message: &WorldEvent,
     at: Socket,
-    first: u64,
+    first: Places,
     world: &mut World<P>,
-) -> Result<(u64, u64), WorldFault>
+) -> Result<(u64, Places), WorldFault>
     requires can { CanHappen world.old.state message.now }
     requires sends { is_call message.now ≡ true }
     requires there { is_there world.old.state at.node ≡ true }
     ensures comes { Comes (Bursts times message.now (WorldEvent.Call at.node (EventNote.Receive at.port)) first world.old.state) result world.new.state }
     ensures continues { Continues P.gives world.old world.new }
 {
-    let mut place = first;
+    let mut places = first;
     let mut moved = 0;
     for _ in 0..times {
-        let (came, next) = turn(alloc, message, at, place, world)?;
-        place = next;
+        let (came, next) = turn(alloc, message, at, places, world)?;
+        places = next;
         if !came {
-            return Ok((moved, place));
+            return Ok((moved, places));
         }
         moved += 1;
     }
-    Ok((moved, place))
+    Ok((moved, places))
 }

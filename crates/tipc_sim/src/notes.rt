@@ -1,18 +1,20 @@
-//! What a run keeps beside its world: the pump's place and the pairs that are named.
+//! What a run keeps beside its world: the places of its pump and the pairs that are named.
 
-ghost use Rattle.std.specs.Prelude.{◌≡◌, ◌≢◌, true, length, OnOk, OnErr};
-ghost use Rattle.tipc_sim.specs.Noted.{is_named, marked, naming, no_notes, pumped, with_named};
+ghost use Rattle.std.specs.Prelude.{◌≡◌, ◌≢◌, true, OnOk, OnErr};
+ghost use Rattle.tipc_sim.specs.Ends.{place_on};
+ghost use Rattle.tipc_sim.specs.Noted.{is_named, marked, naming, no_notes, pumped, pumped_to, with_named};
 
+use crate::places::Places;
 use std::alloc::Global;
 use std::marker::Model;
 use tipc_types::NoMemory;
 
-/// What a script keeps beside the world: where it counts frames from, how far it has pumped, and the pairs of nodes for
-/// which it asked for a link. (This project's profile.)
+/// What a script keeps beside the world: where it counts the frames of each bearer from, how far it has pumped them, and the pairs of
+/// nodes for which it asked for a link. (This project's profile.)
 #[derive(Drop)]
 pub struct Notes {
-    base: u64,
-    place: u64,
+    bases: Places,
+    places: Places,
     named: Vec<(u8, u8)>,
 }
 
@@ -22,7 +24,7 @@ impl Model for Notes {
 
     ghost Value = { NotesState };
 
-    ghost view = { λ n. record { base = n.base; place = n.place; named = n.named.items } };
+    ghost view = { λ n. record { bases = n.bases; places = n.places; named = n.named.items } };
 
     ghost invariant = { λ n. All (λ pair. pair.0 ≢ pair.1) n.named.items };
 }
@@ -32,25 +34,29 @@ impl Notes {
     pub fn new(alloc: Global) -> Notes
         ensures { result ≡ no_notes }
     {
+        let first = Places {
+            first: 0,
+            second: 0,
+        };
         Notes {
-            base: 0,
-            place: 0,
+            bases: first,
+            places: first,
             named: Vec::new(alloc),
         }
     }
 
-    /// The place in the air of the frame that the script calls 0.
-    pub fn base(&self) -> u64
-        ensures { result ≡ self.now.base }
+    /// The place in the air of a bearer of the frame that the script calls 0.
+    pub fn base(&self, bearer: u8) -> u64
+        ensures { result ≡ place_on bearer self.now.bases }
     {
-        self.base
+        self.bases.on(bearer)
     }
 
-    /// The place in the air of the next frame that is pumped.
-    pub fn place(&self) -> u64
-        ensures { result ≡ self.now.place }
+    /// The places in the air of both bearers of the next frames that are pumped.
+    pub fn places(&self) -> Places
+        ensures { result ≡ self.now.places }
     {
-        self.place
+        self.places
     }
 
     /// Whether a link between these two nodes was asked for, in either order. A node is never named with itself.
@@ -78,18 +84,25 @@ impl Notes {
         Ok(())
     }
 
-    /// Lets frames count, and be pumped, from this place on.
-    pub fn mark(&mut self, place: u64)
-        ensures { self.new ≡ marked self.old place }
+    /// Lets frames count, and be pumped, from these places on.
+    pub fn mark(&mut self, ends: Places)
+        ensures { self.new ≡ marked self.old ends }
     {
-        self.base = place;
-        self.place = place;
+        self.bases = ends;
+        self.places = ends;
     }
 
-    /// Notes that the frames before this place were pumped.
-    pub fn pump_to(&mut self, place: u64)
-        ensures { self.new ≡ pumped self.old place }
+    /// Notes that the frames of a bearer before this place were pumped.
+    pub fn pump_to(&mut self, bearer: u8, place: u64)
+        ensures { self.new ≡ pumped self.old bearer place }
     {
-        self.place = place;
+        self.places = self.places.with(bearer, place);
+    }
+
+    /// Notes that the frames of both bearers before these places were pumped.
+    pub fn pump_both_to(&mut self, places: Places)
+        ensures { self.new ≡ pumped_to self.old places }
+    {
+        self.places = places;
     }
 }

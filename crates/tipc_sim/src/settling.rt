@@ -1,11 +1,13 @@
 //! The line `settle`: ticks and deliveries until nothing is under way.
 
-ghost use Rattle.std.specs.Prelude.{◌≡◌, ◌≤◌, length, IfOk};
+ghost use Rattle.std.specs.Prelude.{◌≡◌, IfOk};
 ghost use Rattle.tipc_world.specs.Readers.{load_of};
 ghost use Rattle.tipc_sim.specs.Courses.{Comes, Continues, Takes, TakesAll};
+ghost use Rattle.tipc_sim.specs.Ends.{ends_of, AreBefore};
 ghost use Rattle.tipc_sim.specs.Meanings.{settled_answer, tick_asked, Round, Settles};
 
 use crate::frames::{deliver, make};
+use crate::places::{Places, ends_of};
 use std::alloc::Global;
 use tipc_pick::Pick;
 use tipc_types::{Answer, EventNote};
@@ -41,16 +43,16 @@ fn tick_all<P: Pick>(alloc: Global, world: &mut World<P>) -> Result<(), WorldFau
     Ok(())
 }
 
-/// Makes a round: a tick passes at every node, and then the frames from a place on arrive that are in the air. It answers
-/// the place behind them.
-fn round<P: Pick>(alloc: Global, place: u64, world: &mut World<P>) -> Result<u64, WorldFault>
-    requires { place ≤ length world.old.state.air }
-    ensures comes { Comes (Round place world.old.state) result world.new.state }
-    ensures behind { IfOk result (λ end. end ≤ length world.new.state.air) }
+/// Makes a round: a tick passes at every node, and then the frames from some places on arrive that are in the air. It answers
+/// the places behind them.
+fn round<P: Pick>(alloc: Global, places: Places, world: &mut World<P>) -> Result<Places, WorldFault>
+    requires { AreBefore places (ends_of world.old.state.air) }
+    ensures comes { Comes (Round places world.old.state) result world.new.state }
+    ensures behind { IfOk result (λ ends. AreBefore ends (ends_of world.new.state.air)) }
     ensures continues { Continues P.gives world.old world.new }
 {
     tick_all(alloc, world)?;
-    deliver(alloc, place, world)
+    deliver(alloc, places, world)
 }
 
 /// Whether packets are under way, and how many.
@@ -75,9 +77,9 @@ pub fn settle<P: Pick>(
     ensures comes { Comes (Settles rounds world.old.state) result world.new.state }
     ensures continues { Continues P.gives world.old world.new }
 {
-    let mut place = world.air_len();
+    let mut places = ends_of(world);
     for _ in 0..rounds {
-        place = round(alloc, place, world)?;
+        places = round(alloc, places, world)?;
     }
     Ok(settled_answer(world))
 }

@@ -32,9 +32,6 @@ released_queue P line w x count h within =
       waits = h.waits;
     }
 
-released_none : (w : Sending) → released w 0 ≡ w
-released_none w = refl
-
 pub acknowledges : (count : ℕ) (b : Bearer) (x : SendingEnds) (t : Traffic) (s : State) → StandFor b x t s → x.near.state ≡ Up → count ≤ length x.near.window.unacked → (1 ≤ count → AreTaken s count)
     → Become b (near_window x (released x.near.window count)) t s
 acknowledges zero b x t s h up within taken = record { state = s; follows = stays; stand = h }

@@ -29,7 +29,7 @@ use Rattle.tipc_twin_links.specs.Ends.{session_by}
 use Rattle.tipc_twin_links.specs.Turning.{RunsWhereUp}
 use Rattle.tipc_twin_links.specs.Acting.{Acted, window_at}
 use Rattle.tipc_twin_links.proofs.Acted.{acted_falls, falls_back, near_acted}
-use Rattle.tipc_twin_links.proofs.Ending.{Goes, Rests, goes, over_then, rests_same, rests_then, stops}
+use Rattle.tipc_twin_links.proofs.Ending.{Goes, Rests, goes, over_then, rests_same, stops}
 use Rattle.tipc_twin_links.proofs.Freeing.{AreUp, UpWhere}
 use Rattle.tipc_twin_links.proofs.Happening.{follows_sound, sound_turned}
 use Rattle.tipc_twin_links.proofs.Reacting.{Turned, fell, last, rose, still, turns}
@@ -48,9 +48,6 @@ pub record Quietly (x y : PairEnds) : Type 0 where
 
 pub quietly_same : (x : PairEnds) → Quietly x x
 quietly_same x = record { seen = refl; up = λ up. up; rests = rests_same x }
-
-quietly_then : (x y z : PairEnds) → Quietly x y → Quietly y z → Quietly x z
-quietly_then x y z h k = record { seen = k.seen ∙ h.seen; up = λ up. k.up (h.up up); rests = rests_then x y z h.rests k.rests }
 
 pub goes_quietly : (b : Bearer) (x y y' : PairEnds) (t : Traffic) (z : State) → Goes b x y t z → Quietly y y' → Goes b x y' t z
 goes_quietly b x y y' t z (goes h) k = goes (record { contact = k.rests.contact ∙ h.contact; acted = subst (λ e. Acted b (ends_seen x) e t z) (sym k.seen) h.acted; up = k.up h.up })

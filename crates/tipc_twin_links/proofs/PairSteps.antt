@@ -26,9 +26,6 @@ use Rattle.tipc_twin_links.proofs.Turning.{become_turned, stand_turned}
 
 -- ---- packets that wait move up
 
-pub moved_up : SendingEnds → SendingEnds
-moved_up x = near_window x (advanced (room x.near.window) x.near.window)
-
 room_within : (w : Sending) → length w.unacked ≤ 50 → (room w ≤ length w.waiting) × (length w.unacked + room w ≤ 50)
 room_within w few = (omega arith, omega arith)
 

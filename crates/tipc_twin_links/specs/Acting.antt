@@ -1,4 +1,4 @@
--- What a call of a pair with two links makes of what the node sends: the packets that get numbers, and the events of
+-- What a call of a pair makes of what the node sends: the packets that get numbers, and the events of
 -- the sender; or the contact is over.
 use Rattle.std.specs.Prelude.{◌≡◌, ◌≤◌, ℕ, ◌+◌, false, true, List, [], ◌∷◌, ◌++◌, Option, Some, None, length}
 use Rattle.tipc_header.specs.Spelling.{Fields}

@@ -1,4 +1,4 @@
--- The laws of a whole call of a pair with two links, as a sender. b is the bearer of the near link.
+-- The laws of a whole call of a pair, as a sender. b is the bearer of the near link.
 use Rattle.std.specs.Prelude.{◌≡◌, ℕ, Bool, false, List, None}
 use Rattle.tipc_types.specs.declared.link_words.BroadcastState.{BroadcastState}
 use Rattle.tipc_outside.specs.declared.outgoing.Outgoing.{Outgoing}

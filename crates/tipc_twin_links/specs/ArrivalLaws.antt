@@ -1,4 +1,4 @@
--- The laws of a pair with two links as a receiver: what an arrival takes is the next packets that were put, and its
+-- The laws of a pair as a receiver: what an arrival takes is the next packets that were put, and its
 -- records stay those of the sender's sessions. b is the bearer of the near link.
 use Rattle.std.specs.Prelude.{◌≡◌, ◌≤◌, ℕ, false, true, List, Some}
 use Rattle.tipc_types.specs.declared.packet_lists.Taken.{Taken}

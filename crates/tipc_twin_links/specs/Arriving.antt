@@ -1,4 +1,4 @@
--- What an arrival at a pair with two links makes of its receiving records, and which packets come of it.
+-- What an arrival at a pair makes of its receiving records, and which packets come of it.
 use Rattle.std.specs.Prelude.{◌≡◌, ◌<◌, ◌≤◌, ◌⊎◌, ℕ, ◌+◌, false, true, List, [], ◌++◌, Some, is_some, length, slice_get, take}
 use Rattle.tipc_types.specs.declared.link_words.BroadcastState.{BroadcastState}
 use Rattle.tipc_types.specs.declared.link_words.Why.{Why}

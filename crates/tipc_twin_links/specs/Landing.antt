@@ -1,4 +1,4 @@
--- What a packet that arrives at a pair with two links must be, for what it takes to be the next packets that were put.
+-- What a packet that arrives at a pair must be, for what it takes to be the next packets that were put.
 use Rattle.std.specs.Prelude.{◌≡◌, ◌≤◌, ℕ, false, true, Some}
 use Rattle.tipc_header.specs.declared.packet.Header.TheVariants as header
 use Rattle.tipc_header.specs.declared.packet.Reset.{Reset}

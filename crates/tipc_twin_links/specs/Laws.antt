@@ -1,4 +1,4 @@
--- The laws of two nodes with two links, one of which sends and the other one receives. Each step that either takes is
+-- The laws of two nodes, one of which sends and the other one receives. Each step that either takes is
 -- events of two links and their tunnels. b is the bearer of the near link.
 use Rattle.std.specs.Prelude.{Bool, ◌≡◌, ◌≢◌, ℕ, ◌+◌, ◌≤◌, ◌<◌, ◌-◌, false, true, List, [], Option, length, slice_index_or, take}
 use Rattle.tipc_header.specs.declared.packet.ChangeoverType.{ChangeoverType}

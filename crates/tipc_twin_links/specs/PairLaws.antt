@@ -1,4 +1,4 @@
--- The laws of a pair with two links as a sender: what each of its steps makes of the two ends is events of two links
+-- The laws of a pair as a sender: what each of its steps makes of the two ends is events of two links
 -- and their tunnels. z is a state of these, and b the bearer of the near link.
 use Rattle.std.specs.Prelude.{◌≡◌, ◌≢◌, ◌≤◌, ◌<◌, ◌^◌, ℕ, ◌+◌, ◌-◌, false, true, List, Some, length, take}
 use Rattle.tipc_types.specs.declared.link_words.OldSession.{OldSession}

@@ -1,4 +1,4 @@
--- The laws of a pair with two links, one of which goes up or down: what follows is events of the sender.
+-- The laws of a pair of which a link goes up or down: what follows is events of the sender.
 use Rattle.std.specs.Prelude.{◌≡◌, ℕ, Bool, true, Some}
 use Rattle.tipc_link_fsm.specs.Table.{Fsm, Outcome, on_activate, on_cut, on_peer_tunnel, on_reset, on_tick, on_traffic}
 use Rattle.tipc_link.specs.Links.{LinkEnd, after}

@@ -1,4 +1,4 @@
-//! Laws of a node whose pair with a peer has two links. They do nothing when they run.
+//! Laws of a node at its pair with a peer. They do nothing when they run.
 
 ghost use Rattle.tipc_twin_links.specs.PairLaws.{ArrivalsHear, FailsOver, HearsFollow, JoinsOnFollow, LetsGo, ListedTravel, PutsOnFollow, RisesOnFollow, SwitchesOver};
 ghost use Rattle.tipc_twin_links.specs.ArrivalLaws.{ActivatesReceive, OthersReceive, ResetsReceive, FollowingKeeps, PacketsCome, ReleaseKeeps, RisingsReceive, SessionsReceive, TakenAreGiven, TakenAreReceived};
@@ -28,7 +28,7 @@ pub fn a_sender_acts_by_events()
     ensures releases { ReleasesFollow }
 {}
 
-/// So it is with a pair of two links: an arrival's acknowledgement, packets that are put, a link that goes up beside
+/// So it is with a pair: an arrival's acknowledgement, packets that are put, a link that goes up beside
 /// the other one or in its place, a failover, and the release of an end.
 pub fn a_pair_acts_by_events()
     ensures arrives { ArrivalsHear }
@@ -55,7 +55,7 @@ pub fn a_receiver_takes_by_events()
     ensures kept { RecordsAreKept }
 {}
 
-/// An arrival at a pair with two links takes the next packets that were put, and the pair's records stay those of the
+/// An arrival at a pair takes the next packets that were put, and the pair's records stay those of the
 /// sender's sessions.
 pub fn a_pair_takes_by_events()
     ensures come { PacketsCome }
@@ -86,7 +86,7 @@ pub fn a_pair_turns_by_events()
     ensures releases { ReleasesFollowOn }
 {}
 
-/// So is a whole call of a pair with two links: the contact goes on and packets get numbers by events, or it is over
+/// So is a whole call of a pair: the contact goes on and packets get numbers by events, or it is over
 /// then.
 pub fn a_pair_calls_by_events()
     ensures ends { PairsAreEnds }

@@ -43,7 +43,7 @@ use Rattle.tipc_pair_deeds.proofs.Pairs.{of_facing, takes_rest}
 use Rattle.tipc_pair_deeds.proofs.Stepping.{First, last_took, stepped_takes}
 use Rattle.tipc_pair_deeds.specs.PairDeeds.{Did, IsOfPair, Took, both_more, called_more, cut_at_more, followed_more, none_more, tick_more}
 use Rattle.tipc_twins.specs.Carrying.{Carries, KeepsCarried, none_taken}
-use Rattle.tipc_twins.specs.Pieces.{Keeps, KeepsNumbers}
+use Rattle.tipc_twins.specs.Pieces.{KeepsNumbers}
 use Rattle.tipc_twins.specs.PieceLaws.{CutsKeep, TicksKeep}
 use Rattle.tipc_twins.specs.Twins.{AreTwins, sends_in}
 use Rattle.tipc_twins.proofs.Carrying.{carries_then}
@@ -82,10 +82,6 @@ ended_carried v y x e call cause epoch shown h pair near alone may down =
     let did = did_then v y v1 last [] _ none_more none_more none_more none_more (fallen_did v y x.bearer e call cause end may down) m.1 in
     let took = last_took v y last x e call cause epoch shown alone did m.3 in
     (last, subst (λ k. TookBy v y last x e call epoch shown k) (sym down) took, twins.0, carries)
-
-pub ended_keeps : (v y : View) (x : PairEnds) (e : LinkEnd) (call : Call) (cause : Cause) (epoch : ℕ) (shown : BroadcastState) → AreTwins v y → IsOfPair v x → x.near ≡ Some e → is_up_at x.far ≡ false → MayCall v y x.bearer call → (outcome e.fsm call).change ≡ Down cause
-    → Keeps v y (stepped x e (outcome e.fsm call) epoch shown) (followed_more (with_near x (after e (outcome e.fsm call))) (outcome e.fsm call).change)
-ended_keeps v y x e call cause epoch shown h pair near alone may down = keeps_of v y h _ _ (ended_carried v y x e call cause epoch shown h pair near alone may down)
 
 -- ---- a tick
 
@@ -132,9 +128,6 @@ tick_keeps_at v y p (Some e) shown h pair near may showable =
 -- a tick passes at the near link
 pub tick_carried : (v y : View) (p : PairEnds) (shown : BroadcastState) (h : AreTwins v y) → IsOfPair v p → IsPairOfEnds p → IsShowable shown → KeepsCarried v y h (tick_near shown p) (tick_more p)
 tick_carried v y p shown h pair may showable = tick_keeps_at v y p p.near shown h pair refl may showable
-
-pub tick_keeps : (v y : View) (p : PairEnds) (shown : BroadcastState) → AreTwins v y → IsOfPair v p → IsPairOfEnds p → IsShowable shown → Keeps v y (tick_near shown p) (tick_more p)
-tick_keeps v y p shown h pair may showable = keeps_of v y h (tick_near shown p) (tick_more p) (tick_carried v y p shown h pair may showable)
 
 -- ---- the bearer is cut
 

@@ -145,7 +145,7 @@ reset_given_last : (x : PairEnds) (o : Option LinkEnd) (es : ℕ) (held : Bool) 
 reset_given_last x None es held shown is = quiet_last x x (last_same x)
 reset_given_last x (Some e) es held shown is = stepped_last x e (on_reset e.fsm es held) es shown is (reset_quiet e.fsm es held)
 
-reset_last : (x : PairEnds) (es : ℕ) (shown : BroadcastState) → NumbersLast x (reset_near es shown x).course.pair (called_more x x.near (ResetArrives es (is_up_at x.far)))
+pub reset_last : (x : PairEnds) (es : ℕ) (shown : BroadcastState) → NumbersLast x (reset_near es shown x).course.pair (called_more x x.near (ResetArrives es (is_up_at x.far)))
 unfolding going_on
 reset_last x es shown =
     let held = is_up_at x.far in
@@ -227,7 +227,7 @@ unwraps_last x _ _ _ (tunnel first others t speaks) two =
     let inner = inner_last y t first.by y.far refl in
     record { keeps = last_then x y _ down.keeps inner; numbers = of_last (taken_down_more t.kind t.old.epoch x) y _ inner down.numbers }
 
-opens_last : (x : PairEnds) (o : LinkOutcome) (c : Course) (given : PairOutcome) (i : OpensInto x o c given) → x.bearer ≤ 1 → NumbersLast x c.pair (opens_more x o c given i)
+pub opens_last : (x : PairEnds) (o : LinkOutcome) (c : Course) (given : PairOutcome) (i : OpensInto x o c given) → x.bearer ≤ 1 → NumbersLast x c.pair (opens_more x o c given i)
 opens_last x _ _ _ (opens u brings) two = (let k = unwraps_last x _ _ _ u two in record { keeps = record { bearer = k.keeps.bearer; near = k.keeps.near; far = k.keeps.far }; numbers = k.numbers })
 opens_last x _ _ _ deferred two = quiet_last x x (last_same x)
 opens_last x _ _ _ ignored two = quiet_last x x (last_same x)

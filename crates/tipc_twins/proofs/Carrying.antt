@@ -43,13 +43,6 @@ taken_changed own theirs packets = in_changed none_taken own theirs packets
 
 -- ---- every contact
 
-pub carries_same : (x y : View) (h : AreTwins x y) → Carries x x y h h none_taken
-carries_same x y h = record {
-  later = omega arith;
-  sends = λ own theirs. inl (takes_same _ _ refl);
-  receives = λ own theirs. takes_same _ _ refl;
-}
-
 -- one step and then another
 pub carries_then : (x x' x'' y : View) (h : AreTwins x y) (k : AreTwins x' y) (l : AreTwins x'' y) (t u : ℕ → ℕ → List (List ℕ)) → Carries x x' y h k t → Carries x' x'' y k l u → Carries x x'' y h l (λ own theirs. t own theirs ++ u own theirs)
 carries_then x x' x'' y h k l t u f s = record {

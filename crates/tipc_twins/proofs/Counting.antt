@@ -1,16 +1,13 @@
 -- What a node took of the sessions of a contact is counted by the records of it, also once the contact is over.
-use Rattle.std.proofs.Common.{◌≡◌, ◌<◌, ◌≤◌, ◌⊎◌, nat_lt, ℕ, ◌+◌, true, false, List, [], ◌++◌, Option, Some, None, length, refl, sym, ap, ◌∙◌, subst, inl, inr, append-nil, arith}
+use Rattle.std.proofs.Common.{◌≡◌, ◌<◌, ◌≤◌, ◌⊎◌, nat_lt, ℕ, ◌+◌, true, false, List, [], ◌++◌, Option, Some, None, length, refl, sym, ap, ◌∙◌, subst, inl, inr, arith}
 use Rattle.std.proofs.lemmas.Bool.{cases_lt}
 use Rattle.std.proofs.lemmas.Bool.Decides.{nat_tests}
-use Rattle.tipc_link.specs.Links.{LinkEnd}
-use Rattle.tipc_link.specs.Records.{Received}
 use Rattle.tipc_changeover.specs.Links.{other, turned, Bearer, Receiver, Sender, State}
 use Rattle.tipc_changeover.specs.Events.{acted, opened, told, Acknowledge, Deferred, Event, Failover, Late, LinkUp, MayAct, Next, Number, Old, Opening, Passed, Put, Record, Release, Switch, TakePlain, TakeTunnel}
 use Rattle.tipc_changeover.specs.Parts.{Ends}
 use Rattle.tipc_twin_links.specs.Following.{far, is_received, near, stays, Takes}
-use Rattle.tipc_twin_links.specs.Receiving.{IsOfSession, record_at}
 use Rattle.tipc_twin_links.specs.Traffic.{Lines}
-use Rattle.tipc_paired.proofs.Wires.{none_some, prefix_long, same_some}
+use Rattle.tipc_paired.proofs.Wires.{prefix_long, same_some}
 use Rattle.tipc_paired.specs.Paired.{ArePaired}
 use Rattle.tipc_paired.specs.Views.{Begun, View}
 use Rattle.tipc_twins.specs.Carriages.{AreCounted, AreSessions, BeganIn, Carriage, HasTakenOf, IsCounted, IsHad, Numbers}
@@ -171,24 +168,6 @@ pub counted_taken : (x y y' : View) (b own theirs : ℕ) (l : Lines) (r r' : Rec
 counted_taken x y y' b own theirs l r r' takes rises k epoch began = elim (takes epoch) [
   | inl same ↦ counted_on l r r' epoch (length ((y'.wires b).got epoch)) rises (still_counted x y y' b own theirs l r epoch same k began)
   | inr by ↦ λ some. inr (by.epoch_is, by.taken)
-]
-
--- a record of a session of the contact counts what was taken of it
-pub record_counts : (x y : View) (b : ℕ) (l : Lines) (a : Received) (r : Receiver) → ArePaired y x → record_at (y.wires b).end ≡ Some a → IsOfSession l a r → IsCountedBy l r a.epoch (length ((y.wires b).got a.epoch))
-record_counts x y b l a r h has session = of (y.wires b).end refl where
-  of : (o : Option LinkEnd) → (y.wires b).end ≡ o → IsCountedBy l r a.epoch (length ((y.wires b).got a.epoch))
-  of None none = absurd (none_some a (record_at (y.wires b).end) (ap record_at none) has)
-  of (Some e) is = (
-      let kept = ((h.here.wires b).kept e a is (sym (ap record_at is) ∙ has)).takes in
-      let taken = session.taken in
-      record { begun = session.begun; epoch_is = session.epoch; taken = omega arith })
-
--- so more is taken as it may be, where each session of which any packets were taken has its record
-pub takes_by : (x y y' : View) (b : ℕ) (l : Lines) (r : Receiver) (more : ℕ → List (List ℕ)) → ArePaired y' x → ((epoch : ℕ) → (y'.wires b).got epoch ≡ (y.wires b).got epoch ++ more epoch)
-    → ((epoch : ℕ) → (more epoch ≡ []) ⊎ ((a : Received) × (record_at (y'.wires b).end ≡ Some a) × (a.epoch ≡ epoch) × IsOfSession l a r)) → TakesFor y y' b l r
-takes_by x y y' b l r more h got each epoch = elim (each epoch) [
-  | inl none ↦ inl (got epoch ∙ (ap (λ ps. (y.wires b).got epoch ++ ps) none ∙ append-nil ((y.wires b).got epoch)))
-  | inr on ↦ inr (subst (λ e. IsCountedBy l r e (length ((y'.wires b).got e))) on.2 (record_counts x y' b l on.0 r h on.1 on.3))
 ]
 
 -- ---- sessions that the sender has had

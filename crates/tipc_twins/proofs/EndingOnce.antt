@@ -13,7 +13,7 @@ use Rattle.tipc_pair.specs.PairArrivals.{behind, reset_change, reset_given, rese
 use Rattle.tipc_pair.specs.PairCalls.{at_bearer, cut_at, cut_near, stepped, tick_at, tick_near, ticked}
 use Rattle.tipc_pair.proofs.CourseLaws.{then_pair}
 use Rattle.tipc_pair.proofs.HeldLaws.{GoesQuietly, cut_at_goes, not_in, released_goes, reset_holds, reset_quiet, stepped_goes, tick_holds, tick_quiet}
-use Rattle.tipc_pair.proofs.Keeping.{Falls, on_cut_falls, on_reset_falls, on_tick_falls}
+use Rattle.tipc_pair.proofs.Falls.{Falls, on_cut_falls, on_reset_falls, on_tick_falls}
 use Rattle.tipc_twins.proofs.BegunArrivals.{risen_contact, risen_out}
 use Rattle.tipc_twins.proofs.QuietCourses.{released_numbers}
 use Rattle.tipc_twins.proofs.SendTwins.{facing_numbers}

@@ -81,10 +81,6 @@ numbers_then x y z n m h k = record { keeps = last_then x y z h.keeps k.keeps; n
 
 -- ---- seen from either link
 
-pub at_turned : (x : PairEnds) (b k : ℕ) → x.bearer ≤ 1 → IsLastAt (turned x) b k → IsLastAt x b k
-at_turned x b k two (inl near) = inr near
-at_turned x b k two (inr far) = inl (far.0 ∙ other_twice x.bearer two, far.1)
-
 pub turned_at : (x : PairEnds) (b k : ℕ) → x.bearer ≤ 1 → IsLastAt x b k → IsLastAt (turned x) b k
 turned_at x b k two (inl near) = inr (near.0 ∙ sym (other_twice x.bearer two), near.1)
 turned_at x b k two (inr far) = inl far

@@ -18,11 +18,11 @@ pub mod BesideSteps
 pub mod TwinSteps
 pub mod Carrying
 pub mod Deeds
+pub mod Packets
+pub mod Slots
 pub mod Talking
 pub mod Talks
-pub mod RisingTwins
 pub mod EndingTwins
-pub mod Pieces
 pub mod Linking
 pub mod HadSessions
 pub mod PieceTwins

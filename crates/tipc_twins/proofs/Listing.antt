@@ -13,7 +13,7 @@ use Rattle.tipc_fragments.proofs.CutLaws.{length-packet, sent_fits}
 use Rattle.tipc_tunnel.specs.Tunnels.{may_stand_inside}
 use Rattle.tipc_reassembly.specs.Slots.{IsCut}
 use Rattle.tipc_link.proofs.JoinLaws.{fragment_waits, inner_waits}
-use Rattle.tipc_pair.specs.Partners.{pieces_for}
+use Rattle.tipc_pair.specs.Messages.{pieces_for}
 use Rattle.tipc_pair.specs.Runs.{IsListed, plain}
 use Rattle.tipc_pair.proofs.Pieces.{All-one, pieces_cut}
 

@@ -1,4 +1,4 @@
--- The pair of a node with two links: what is seen of it, and a piece of a call that keeps the two nodes what they are.
+-- The pair of a node: what is seen of it, and a piece of a call that keeps the two nodes what they are.
 use Rattle.std.proofs.Common.{◌≡◌, ◌||◌, ℕ, Bool, true, false, List, Option, refl, sym, ap, ◌∙◌, subst, inl, inr}
 use Rattle.std.proofs.lemmas.Bool.{cases_Bool}
 use Rattle.tipc_fragments.specs.Joining.{fresh}

@@ -9,8 +9,8 @@ use Rattle.tipc_link.specs.Sessions.{IsPut, MayJoin, SessionEnd, joins, last_of,
 use Rattle.tipc_pair.specs.Facing.{PairEnds, facing, is_up_at}
 use Rattle.tipc_pair.specs.PairCalls.{Sends}
 use Rattle.tipc_pair.specs.PairFacts.{IsPairOfEnds}
-use Rattle.tipc_pair.specs.Partners.{pieces_for}
-use Rattle.tipc_partners.proofs.Packets.{one_piece}
+use Rattle.tipc_pair.specs.Messages.{pieces_for}
+use Rattle.tipc_twins.proofs.Packets.{one_piece}
 use Rattle.tipc_changeover.specs.Links.{Bearer, First, Second, State}
 use Rattle.tipc_changeover.proofs.Staying.{reached_sound}
 use Rattle.tipc_twin_links.specs.Acting.{put_in}

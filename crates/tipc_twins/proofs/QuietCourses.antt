@@ -40,11 +40,6 @@ use Rattle.tipc_twins.proofs.PairViews.{course_carried, stand_from, with_carried
 
 -- ---- one course and then another
 
-pub keeps_then : (v y : View) (c : Course) (step : PairEnds → Course) (n m : ℕ → ℕ → List (List ℕ)) → Keeps v y c n → ((mid : View) → AreTwins mid y → IsOfPair mid c.pair → Keeps mid y (step c.pair) m) → Keeps v y (going_on c step) (both_more n m)
-keeps_then v y c step n m first next =
-    let last = next first.0 first.2 first.1.pair in
-    (last.0, took_then v y first.0 last.0 c step n m none_more none_more first.1 last.1, last.2)
-
 -- so it is with what crosses
 pub keeps_of : (v y : View) (h : AreTwins v y) (c : Course) (n : ℕ → ℕ → List (List ℕ)) → KeepsCarried v y h c n → Keeps v y c n
 keeps_of v y h c n m = (m.0, m.1, m.2)
@@ -57,10 +52,6 @@ carried_then v y h c step n m first next =
 
 pub carried_at : (v y : View) (h : AreTwins v y) (b : ℕ) (x : PairEnds) (call : PairEnds → Course) (n : ℕ → ℕ → List (List ℕ)) → KeepsCarried v y h (call (facing b x)) n → KeepsCarried v y h (at_bearer b x call) n
 carried_at v y h b x call n m = (m.0, record { did = m.1.did; pair = of_facing m.0 x.bearer (call (facing b x)).pair m.1.pair }, m.2, m.3)
-
--- at the link of a bearer
-pub keeps_at : (v y : View) (b : ℕ) (x : PairEnds) (call : PairEnds → Course) (n : ℕ → ℕ → List (List ℕ)) → Keeps v y (call (facing b x)) n → Keeps v y (at_bearer b x call) n
-keeps_at v y b x call n m = (m.0, record { did = m.1.did; pair = of_facing m.0 x.bearer (call (facing b x)).pair m.1.pair }, m.2)
 
 pub bearer_of : (n : ℕ) → n ≤ 1 → (b : Bearer) × (n ≡ number_as b)
 bearer_of n two = elim (cases_Bool (n == 0)) [
@@ -109,14 +100,8 @@ quiet_both v y p c h pair v' took numbers seen records =
       acted = subst (λ e. Acted b (ends_seen p) e traffic state) (sym seen) (nothing_acted b p traffic state (stand_at b v y h p pair at.1));
     }) (λ epoch differ. refl) (λ epoch differ. refl)
 
-pub quiet_twins : (v y : View) (p : PairEnds) (c : Course) → AreTwins v y → IsOfPair v p → (v' : View) → Took v y v' c none_more none_more → KeepsNumbers p c.pair → ends_seen c.pair ≡ ends_seen p → records_of c.pair ≡ records_of p → AreTwins v' y
-quiet_twins v y p c h pair v' took numbers seen records = (quiet_both v y p c h pair v' took numbers seen records).0
-
 pub quiet_carried : (v y : View) (p : PairEnds) (c : Course) (h : AreTwins v y) → IsOfPair v p → Takes v y c none_more none_more → KeepsNumbers p c.pair → ends_seen c.pair ≡ ends_seen p → records_of c.pair ≡ records_of p → KeepsCarried v y h c none_more
 quiet_carried v y p c h pair t numbers seen records = with_carried v y h c none_more t (quiet_both v y p c h pair t.0 t.1 numbers seen records)
-
-pub quiet_keeps : (v y : View) (p : PairEnds) (c : Course) → AreTwins v y → IsOfPair v p → Takes v y c none_more none_more → KeepsNumbers p c.pair → ends_seen c.pair ≡ ends_seen p → records_of c.pair ≡ records_of p → Keeps v y c none_more
-quiet_keeps v y p c h pair t numbers seen records = (t.0, t.1, quiet_twins v y p c h pair t.0 t.1 numbers seen records)
 
 -- ---- an end is made, its bearer is mended, and a STATE is sent
 
@@ -201,6 +186,3 @@ released_carried v y p h pair up held =
       before = (released_goes p).stays;
       acted = acted_of b p (released p).pair traffic state numbers.contact acts;
     }) (λ epoch differ. refl) (λ epoch differ. refl))
-
-pub releases_keep : (v y : View) (p : PairEnds) → AreTwins v y → IsOfPair v p → AreUp p → HeldUp p → Keeps v y (released p) none_more
-releases_keep v y p h pair up held = keeps_of v y h (released p) none_more (released_carried v y p h pair up held)

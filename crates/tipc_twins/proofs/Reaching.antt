@@ -1,5 +1,5 @@
 -- Two nodes are seen to talk after any turns and restarts of either.
-use Rattle.tipc_twins.specs.Reaching.{AreReached, ReachedAreFronts, ReachedAreSeen, Steps, here, new, restarts, there, turns}
+use Rattle.tipc_twins.specs.Reaching.{ReachedAreFronts, ReachedAreSeen, Steps, here, new, restarts, there, turns}
 use Rattle.tipc_twins.specs.Sights.{AreSeen, Sight}
 use Rattle.tipc_twins.proofs.Sights.{front, restarted, starts, turned}
 use Rattle.tipc_twins.proofs.Sights.{turns as turns_seen}

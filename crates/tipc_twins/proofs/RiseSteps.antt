@@ -9,10 +9,10 @@ use Rattle.tipc_paired.proofs.RiseDeeds.{Went, begun_stays}
 use Rattle.tipc_paired.proofs.Wires.{epoch_of_end, map_at, none_some, on_put, on_put_else, put_same, same_some, session_of_down, session_of_up}
 use Rattle.tipc_paired.specs.Deeds.{begun_by, with_begun}
 use Rattle.tipc_paired.specs.Paired.{ArePaired, IsShown}
-use Rattle.tipc_paired.specs.Views.{Begun, IsApart, View, Wire, epoch_on, fsm_in, notice_of, put_at, session_on, with_wire}
+use Rattle.tipc_paired.specs.Views.{Begun, View, Wire, epoch_on, fsm_in, notice_of, put_at, session_on, with_wire}
 use Rattle.tipc_twins.specs.Carriages.{IsPresent, Numbers}
 use Rattle.tipc_twins.specs.Numbers.{AreRecorded, IsRecorded, IsToldIn}
-use Rattle.tipc_twins.specs.Steps.{Enters, RecordAfter, Stays, as_it_was, is_kept}
+use Rattle.tipc_twins.specs.Steps.{RecordAfter, Stays, as_it_was, is_kept}
 use Rattle.tipc_twins.proofs.Recorded.{kept_recorded}
 use Rattle.tipc_twins.proofs.Stale.{apart_absent}
 
@@ -69,10 +69,6 @@ new_session x y b e e' es m =
 
 pub new_present : (x y : View) (b : ℕ) (e e' : LinkEnd) (es : ℕ) → Went x y b e e' es → IsPresent (risen_view x b e') x.node.contact x.node.seen
 new_present x y b e e' es m = record { bearer = b; session = session_of e'; session_is = new_session x y b e e' es m; own_is = refl; theirs_is = refl }
-
-new_begun : (x y : View) (b : ℕ) (e e' : LinkEnd) (es : ℕ) → Went x y b e e' es → ((risen_view x b e').wires b).begun e'.fsm.own ≡ Some (begun_by x.node e')
-new_begun x y b e e' es m =
-    ap (λ (w : Wire). w.begun e'.fsm.own) (put_same x.wires b (with_begun x.node (x.wires b) e')) ∙ put_same (x.wires b).begun e'.fsm.own (Some (begun_by x.node e'))
 
 peer_known : (x y : View) (b : ℕ) (e e' : LinkEnd) (es : ℕ) → Went x y b e e' es → known e'.fsm.peer ≡ es
 peer_known x y b e e' es m = ap known m.peer_is
@@ -133,19 +129,6 @@ record_after x y b e e' es m t c = after c (on_put_else x.wires b (with_begun x.
     after : (c : ℕ) → (record_at ((risen_view x b e').wires c).end ≡ record_at (x.wires c).end) ⊎ ((c ≡ b) × (record_at ((risen_view x b e').wires c).end ≡ Some (kept_for (record_at (x.wires c).end) es))) → RecordAfter y x (risen_view x b e') c
     after c (inl same) = as_it_was same
     after c (inr kept) = is_kept es (subst (λ i. IsToldIn y.told i es x.node.seen x.node.contact) (sym kept.0) t) kept.1
-
-pub rises_enters : (x y : View) (b : ℕ) (e e' : LinkEnd) (es : ℕ) → ArePaired x y → IsApart x → Went x y b e e' es → IsToldIn y.told b es x.node.seen x.node.contact → Enters y x (risen_view x b e')
-rises_enters x y b e e' es h apart m t = record {
-  apart = apart;
-  node = refl;
-  some = λ ahead. ahead b e'.fsm.own (begun_by x.node e') (new_begun x y b e e' es m) refl refl;
-  begun = λ c epoch g is. risen_begun x y b e e' es c epoch g h m is;
-  bearer = b;
-  epoch = es;
-  shown = t;
-  records = record_after x y b e e' es m t;
-  got = λ c epoch. on_put x.wires b (with_begun x.node (x.wires b) e') (λ c (w : Wire). w.got epoch ≡ (x.wires c).got epoch) refl (λ c. refl) c;
-}
 
 -- records of before stay, and the one of the link is kept or made for an epoch that was told
 pub rises_recorded : (x y : View) (b : ℕ) (e e' : LinkEnd) (es : ℕ) → Went x y b e e' es → IsToldIn y.told b es x.node.seen x.node.contact → AreRecorded x y → AreRecorded (risen_view x b e') y

@@ -13,7 +13,7 @@ use Rattle.tipc_link.specs.Links.{with_session}
 use Rattle.tipc_link.specs.Sessions.{IsPut, SessionEnd, flushed, joins, moving, waits}
 use Rattle.tipc_pair.specs.Facing.{PairEnds, facing, in_contact, is_up_at, turned}
 use Rattle.tipc_pair.specs.PairCalls.{Sends}
-use Rattle.tipc_pair.specs.Partners.{pieces_for}
+use Rattle.tipc_pair.specs.Messages.{pieces_for}
 use Rattle.tipc_pair.proofs.Facings.{facing_back}
 use Rattle.tipc_pair.proofs.HeldLaws.{or_turns}
 use Rattle.tipc_pair.proofs.Listed.{spelled_tunnel}

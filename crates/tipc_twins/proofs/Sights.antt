@@ -1,4 +1,4 @@
--- Two nodes with two links talk on as a world tells of them, whatever either does.
+-- Two nodes talk on as a world tells of them, whatever either does.
 use Rattle.std.specs.Prelude.{All, slice_get}
 use Rattle.std.proofs.Common.{◌≡◌, ◌≤◌, ◌⊎◌, ℕ, ◌+◌, zero, suc, List, [], ◌++◌, Some, None, refl, sym, ap, ◌∙◌, subst, inl, inr, append-nil, arith}
 use Rattle.tipc_header.specs.Spelling.{Fields}
@@ -7,7 +7,7 @@ use Rattle.tipc_reassembly.specs.Slots.{packets_in}
 use Rattle.tipc_contact.specs.Sides.{first_number}
 use Rattle.tipc_link.specs.Laws.{IsPrefixOf}
 use Rattle.tipc_pair.specs.Facing.{PairEnds, alone, facing}
-use Rattle.tipc_pair.specs.Partners.{IsMessage, opened_in}
+use Rattle.tipc_pair.specs.Messages.{IsMessage, opened_in}
 use Rattle.tipc_pair.specs.PairTurns.{Happened, Opening, Outset}
 use Rattle.tipc_pair.specs.PairTurns.Opening.{cuts, hears, makes, mends, rests, ticks}
 use Rattle.tipc_paired.proofs.Wires.{none_some}

@@ -1,4 +1,4 @@
--- How many bytes the packets have that a node with two links numbers, and the frames that carry them.
+-- How many bytes the packets have that a node numbers, and the frames that carry them.
 use Rattle.std.specs.Prelude.{All, option_map, slice_get, ◌*◌}
 use Rattle.std.proofs.Common.{◌≡◌, ◌≤◌, ◌+◌, ℕ, zero, suc, true, Bool, List, [], ◌∷◌, Some, length, refl, ap, sym, subst, ◌∙◌, arith, length-append}
 use Rattle.std.proofs.lemmas.List.Elements.{All-head, All-tail}

@@ -11,7 +11,7 @@ use Rattle.tipc_pair.specs.Courses.{Course}
 use Rattle.tipc_pair.specs.Facing.{PairEnds, facing, in_contact, is_up_at, turned}
 use Rattle.tipc_pair.specs.PairArrivals.{Arrives, OpensInto, as_it_is, deferred, hears, ignored, none_taken, opens, taken_in, tunnel}
 use Rattle.tipc_pair.specs.PairFacts.{IsPairOfEnds}
-use Rattle.tipc_pair.specs.Partners.{opened_in}
+use Rattle.tipc_pair.specs.Messages.{opened_in}
 use Rattle.tipc_pair.proofs.HeldLaws.{or_turns}
 use Rattle.tipc_paired.specs.Paired.{ArePaired}
 use Rattle.tipc_paired.specs.Views.{View}

@@ -10,7 +10,7 @@ use Rattle.tipc_reassembly.specs.Slots.{IsWholePacket, packets_in}
 use Rattle.tipc_pair.specs.declared.changes.PairOutcome.{PairOutcome}
 use Rattle.tipc_pair.specs.Facing.{PairEnds, facing, in_contact, is_up_at, turned}
 use Rattle.tipc_pair.specs.PairArrivals.{with_bytes}
-use Rattle.tipc_pair.specs.Partners.{opened_in}
+use Rattle.tipc_pair.specs.Messages.{opened_in}
 use Rattle.tipc_pair.proofs.ArrivalLaws.{arrival_held}
 use Rattle.tipc_pair.proofs.Followings.{far_down, near_down}
 use Rattle.tipc_pair.proofs.HeldLaws.{GoesQuietly, held_up, rightly_facing}

@@ -7,8 +7,8 @@ use Rattle.tipc_reassembly.specs.Slots.{packets_in}
 use Rattle.tipc_pair.specs.Facing.{PairEnds, alone}
 use Rattle.tipc_pair.specs.PairCalls.{Sends}
 use Rattle.tipc_pair.specs.PairFacts.{AreHeldRightly, IsPairOfEnds}
-use Rattle.tipc_pair.specs.Partners.{IsMessage, pieces_for}
-use Rattle.tipc_partners.proofs.Packets.{message_inner, more_packets}
+use Rattle.tipc_pair.specs.Messages.{IsMessage, pieces_for}
+use Rattle.tipc_twins.proofs.Packets.{message_inner, more_packets}
 use Rattle.tipc_paired.proofs.Wires.{session_of_up}
 use Rattle.tipc_paired.specs.Deeds.{restarted}
 use Rattle.tipc_paired.specs.Paired.{ArePaired, IsPacket}

@@ -17,9 +17,9 @@ use Rattle.tipc_reassembly.specs.Slots.{HasOpened, IsSlot, IsWholePacket, Slot, 
 use Rattle.tipc_reassembly.proofs.FrontLaws.{opened_front, opened_more, opened_none}
 use Rattle.tipc_link.specs.Sessions.{MayJoin, SessionEnd, joins, last_of, put, waits}
 use Rattle.tipc_link.proofs.LinkLaw.{Each-append, Each-one}
-use Rattle.tipc_pair.specs.Partners.{pieces_for}
-use Rattle.tipc_partners.proofs.Contacts.{all_of_each}
-use Rattle.tipc_partners.proofs.Slots.{IsMore, front_items, more_slots}
+use Rattle.tipc_pair.specs.Messages.{pieces_for}
+use Rattle.tipc_pair_deeds.proofs.Wrapped.{all_of}
+use Rattle.tipc_twins.proofs.Slots.{IsMore, front_items, more_slots}
 use Rattle.tipc_link.specs.Records.{is_tunnel}
 use Rattle.tipc_changeover.specs.Links.{Bearer, State, Up}
 use Rattle.tipc_changeover.specs.Sound.{Sound}
@@ -65,7 +65,7 @@ items_front c put given begun n h = front_items n h.slots (flat_map items_of put
 
 -- the messages that were given are a front of those that were put
 pub given_front : (c : Carriage) (put given : List (List ℕ)) (begun : Joining) → AreMessages c put given begun → IsFrontOf given put
-given_front c put given begun h = opened_front put (flat_map slot_items (take (length c.state.delivered) h.slots)) given begun h.opened (all_of_each IsInner put h.messages) (items_front c put given begun (length c.state.delivered) h)
+given_front c put given begun h = opened_front put (flat_map slot_items (take (length c.state.delivered) h.slots)) given begun h.opened (all_of IsInner put h.messages) (items_front c put given begun (length c.state.delivered) h)
 
 -- ---- a message is put
 
@@ -165,7 +165,7 @@ gives_more c c' put given begun last brought opened h same within within' longer
     let items : flat_map slot_items (take n' slots) ≡ flat_map slot_items (take n slots) ++ flat_map slot_items next = ap (λ (ss : List Slot). flat_map slot_items ss) two ∙ flat_map-append slot_items (take n slots) next in
     let front : IsFrontOf (flat_map slot_items (take n slots) ++ flat_map slot_items next) (flat_map items_of put) = subst (λ xs. IsFrontOf xs (flat_map items_of put)) items (items_front c put given begun n' h) in
     let sound : All IsSlot next = All-take IsSlot (length due) (drop n slots) (All-drop IsSlot n slots h.sound) in
-    let more = opened_more put (flat_map slot_items (take n slots)) given begun next brought opened last h.opened (all_of_each IsInner put h.messages) front sound due_is brings in (
+    let more = opened_more put (flat_map slot_items (take n slots)) given begun next brought opened last h.opened (all_of IsInner put h.messages) front sound due_is brings in (
       record {
         messages = h.messages;
         slots = slots;

@@ -22,12 +22,12 @@ use Rattle.tipc_paired.specs.Views.{View, epoch_on, put_at}
 use Rattle.tipc_pair_deeds.proofs.Pairs.{up_end}
 use Rattle.tipc_pair_deeds.specs.PairDeeds.{IsOfPair, Takes, failing_more, followed_more, more_at, none_more}
 use Rattle.tipc_twins.specs.Carrying.{KeepsCarried}
-use Rattle.tipc_twins.specs.Pieces.{Keeps, KeepsNumbers, state_from, traffic_from}
+use Rattle.tipc_twins.specs.Pieces.{KeepsNumbers, state_from, traffic_from}
 use Rattle.tipc_twins.specs.Twins.{AreTwins, sends_in}
 use Rattle.tipc_twins.proofs.Chaining.{AreNow}
 use Rattle.tipc_twins.proofs.Leaving.{epoch_seen}
 use Rattle.tipc_twins.proofs.PairViews.{course_carried, with_carried}
-use Rattle.tipc_twins.proofs.QuietCourses.{keeps_of, numbers_same}
+use Rattle.tipc_twins.proofs.QuietCourses.{numbers_same}
 
 -- ---- what follows keeps the contact numbers, where the contact goes on
 
@@ -116,7 +116,3 @@ turn_carried b v y h p z k c pair is bearer far t quiet numbers records before t
     let at : (u : SessionEnd) → is_up_at z.far ≡ true → session_at z.far ≡ Some u → u.epoch ≡ epoch_on v'.node (v'.wires (other z.bearer)) = λ u up session.
     far_session v y p u h.paired pair (ap is_up_at (sym far) ∙ up) (ap session_at (sym far) ∙ session) ∙ (sym there ∙ ap (λ n. epoch_on v'.node (v'.wires (other n))) (sym bearer)) in
     with_carried v y h c (followed_more z k) t (course_carried b v y h p c (followed_more z k) pair is t.0 t.1 (record { numbers = numbers; records = records; before = before; acted = on.acted }) (followed_now v' z k 0 quiet at) (followed_now v' z k 1 quiet at))
-
-pub turn_keeps : (b : Bearer) (v y : View) (h : AreTwins v y) (p z : PairEnds) (k : Change) (c : Course) → IsOfPair v p → p.bearer ≡ number_as b → z.bearer ≡ p.bearer → z.far ≡ p.far → Takes v y c (followed_more z k) none_more → is_going_up k ≡ false
-    → KeepsNumbers p c.pair → records_of c.pair ≡ records_of p → (in_contact c.pair ≡ true → in_contact p ≡ true) → Turned b p c.pair false (traffic_from b (sends_in v y h).traffic) (state_from b (sends_in v y h).state) → Keeps v y c (followed_more z k)
-turn_keeps b v y h p z k c pair is bearer far t quiet numbers records before turned = keeps_of v y h c (followed_more z k) (turn_carried b v y h p z k c pair is bearer far t quiet numbers records before turned)

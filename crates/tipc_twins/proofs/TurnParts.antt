@@ -1,4 +1,4 @@
--- A part of a node's turn at its pair with two links, as deeds of the node, and two nodes that go on talking.
+-- A part of a node's turn at its pair, as deeds of the node, and two nodes that go on talking.
 use Rattle.std.proofs.Common.{◌≡◌, ◌≤◌, ◌+◌, ◌⊎◌, ◌==◌, if◌then◌else◌, ℕ, true, false, List, [], ◌++◌, Option, Some, None, length, refl, sym, ap, ◌∙◌, inl, inr, append-nil, length-append, arith}
 use Rattle.tipc_types.specs.declared.link_words.BroadcastState.{BroadcastState}
 use Rattle.tipc_outside.specs.declared.outgoing.Outgoing.{Outgoing}

@@ -1,4 +1,4 @@
--- What happens first in a node's turn at its pair with two links: a call, or a packet that arrives; and two nodes go on talking.
+-- What happens first in a node's turn at its pair: a call, or a packet that arrives; and two nodes go on talking.
 use Rattle.std.specs.Prelude.{All}
 use Rattle.std.proofs.Common.{◌≡◌, ◌≤◌, ◌⊎◌, ℕ, true, false, [], None, refl, sym, ap, ◌∙◌, subst, inl, inr, arith}
 use Rattle.tipc_types.specs.declared.link_words.BroadcastState.{BroadcastState}
@@ -10,7 +10,7 @@ use Rattle.tipc_pair.specs.Facing.{PairEnds, facing, with_made}
 use Rattle.tipc_pair.specs.PairArrivals.{Arrives}
 use Rattle.tipc_link.specs.Parts.{IsShowable}
 use Rattle.tipc_pair.specs.PairCalls.{at_bearer, cut_near, mended, ticked}
-use Rattle.tipc_pair.specs.Partners.{opened_in}
+use Rattle.tipc_pair.specs.Messages.{opened_in}
 use Rattle.tipc_pair.specs.PairTurns.{Happened, Opening, Outset, ShowsIn, made_near, quietly, seen_as}
 use Rattle.tipc_pair.specs.PairTurns.Opening.{cuts, hears, makes, mends, rests, ticks}
 use Rattle.tipc_pair.proofs.Facings.{facing_back}

@@ -1,4 +1,4 @@
--- A node takes a whole turn at its pair with two links: behind what happens first, messages are put and the STATE that is due is sent.
+-- A node takes a whole turn at its pair: behind what happens first, messages are put and the STATE that is due is sent.
 use Rattle.std.specs.Prelude.{All}
 use Rattle.std.proofs.Common.{◌≡◌, ◌+◌, ℕ, false, List, [], ◌∷◌, ◌++◌, Option, Some, None, length, refl, sym, ap, ◌∙◌, subst, append_assoc, append-nil, arith}
 use Rattle.std.proofs.lemmas.List.Elements.{All-head, All-tail}
@@ -11,9 +11,9 @@ use Rattle.tipc_link.specs.Sessions.{moving}
 use Rattle.tipc_pair.specs.Courses.{sent_in}
 use Rattle.tipc_pair.specs.Facing.{PairEnds, facing}
 use Rattle.tipc_pair.specs.PairCalls.{Sends, answered_at as answered_at_end, answered_near, at_bearer}
-use Rattle.tipc_pair.specs.Partners.{IsMessage, opened_in, pieces_for}
+use Rattle.tipc_pair.specs.Messages.{IsMessage, opened_in, pieces_for}
 use Rattle.tipc_pair.specs.PairTurns.{Happened, Opening, Outset, PutsAll, PutsOne, Reply, ShowsAtLast, ShowsIn, none_put, puts_one, replied}
-use Rattle.tipc_partners.proofs.Packets.{message_inner}
+use Rattle.tipc_twins.proofs.Packets.{message_inner}
 use Rattle.tipc_pair.proofs.HeldLaws.{GoesQuietly}
 use Rattle.tipc_paired.specs.Views.{Node}
 use Rattle.tipc_pair_deeds.specs.PairDeeds.{more_at, none_more}

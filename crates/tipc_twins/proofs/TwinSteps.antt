@@ -1,4 +1,4 @@
--- Two nodes with two links stay what they are to each other, whatever step either takes.
+-- Two nodes stay what they are to each other, whatever step either takes.
 use Rattle.std.proofs.Common.{◌≡◌, ℕ, [], Some, None, refl, sym, ap, ◌∙◌, inl, arith}
 use Rattle.std.specs.Prelude.{slice_get}
 use Rattle.tipc_changeover.specs.Reached.{at_begin}

@@ -1,4 +1,4 @@
--- The laws of two nodes with two links when a frame of one arrives at the other, in a contact that lasts.
+-- The laws of two nodes when a frame of one arrives at the other, in a contact that lasts.
 use Rattle.std.specs.Prelude.{◌≡◌, ℕ, true}
 use Rattle.tipc_header.specs.Spelling.{Fields}
 use Rattle.tipc_fragments.specs.Joining.{Joining}

@@ -1,4 +1,4 @@
--- What crosses between two nodes with two links while one of them goes on: what was put in each contact, and what was
+-- What crosses between two nodes while one of them goes on: what was put in each contact, and what was
 -- taken of it.
 use Rattle.std.specs.Prelude.{◌≡◌, ◌==◌, ◌&&◌, ◌<◌, ◌≤◌, ◌⊎◌, ℕ, List, [], ◌++◌, if◌then◌else◌}
 use Rattle.tipc_pair.specs.Courses.{Course}

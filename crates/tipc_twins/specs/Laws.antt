@@ -1,4 +1,4 @@
--- The laws of two nodes with two links. Each is promised by a public function of the crate. x takes the step, beside y.
+-- The laws of two nodes. Each is promised by a public function of the crate. x takes the step, beside y.
 use Rattle.std.specs.Prelude.{◌≡◌, ◌<◌, ◌≤◌, ◌^◌, ℕ, true, All, List, ◌∷◌, [], ◌++◌, Some, length, map}
 use Rattle.tipc_types.specs.declared.link_words.Cause.{Cause}
 use Rattle.tipc_types.specs.declared.packet_lists.Taken.{Taken}
@@ -18,7 +18,7 @@ use Rattle.tipc_link_fsm.specs.Table.{is_up}
 use Rattle.tipc_pair.specs.Facing.{PairEnds}
 use Rattle.tipc_pair.specs.PairCalls.{Sends as PairSends}
 use Rattle.tipc_pair.specs.PairFacts.{IsPairOfEnds}
-use Rattle.tipc_pair.specs.Partners.{pieces_for}
+use Rattle.tipc_pair.specs.Messages.{pieces_for}
 use Rattle.tipc_pair_deeds.specs.PairDeeds.{IsOfPair}
 use Rattle.tipc_twin_links.specs.Acting.{put_in}
 use Rattle.tipc_twin_links.specs.Traffic.{Traffic}

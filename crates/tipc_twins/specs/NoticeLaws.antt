@@ -1,4 +1,4 @@
--- The laws of two nodes with two links when a RESET or an ACTIVATE of one arrives at the other.
+-- The laws of two nodes when a RESET or an ACTIVATE of one arrives at the other.
 use Rattle.std.specs.Prelude.{◌≡◌, ℕ, false, []}
 use Rattle.tipc_types.specs.declared.link_words.BroadcastState.{BroadcastState}
 use Rattle.tipc_header.specs.Spelling.{Fields}

@@ -1,4 +1,4 @@
--- The laws of the calls of a pair with two links, as what they keep of two nodes.
+-- The laws of the calls of a pair, as what they keep of two nodes.
 use Rattle.std.specs.Prelude.{◌≡◌, ℕ, Bool, List, None, Some, slice_get}
 use Rattle.tipc_types.specs.declared.link_words.BroadcastState.{BroadcastState}
 use Rattle.tipc_outside.specs.declared.outgoing.Outgoing.{Outgoing}

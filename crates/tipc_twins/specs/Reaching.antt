@@ -1,11 +1,11 @@
--- Two nodes with two links after any turns and restarts of either, in any order: what they come to from the beginning.
+-- Two nodes after any turns and restarts of either, in any order: what they come to from the beginning.
 use Rattle.std.specs.Prelude.{◌<◌, ℕ, ◌+◌, ◌^◌, All, List, Option}
 use Rattle.tipc_outside.specs.declared.outgoing.Outgoing.{Outgoing}
 use Rattle.tipc_reassembly.specs.Slots.{packets_in}
 use Rattle.tipc_link.specs.Laws.{IsPrefixOf}
 use Rattle.tipc_pair.specs.Facing.{PairEnds}
 use Rattle.tipc_pair.specs.PairTurns.{Opening, PairTurn, Reply, ShowsAtLast, ShowsIn}
-use Rattle.tipc_pair.specs.Partners.{IsMessage, opened_in}
+use Rattle.tipc_pair.specs.Messages.{IsMessage, opened_in}
 use Rattle.tipc_twins.specs.Sights.{AreSeen, Goes, IsNew, MayHappen, Restarts, Sight, pair_seen}
 
 -- A step of v beside w: it takes a turn at its pair, whatever happens there first and whatever is put, or is restarted.

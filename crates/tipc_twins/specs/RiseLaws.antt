@@ -1,4 +1,4 @@
--- The laws of two nodes with two links when a link of one of them goes up: the first one, with which a contact begins,
+-- The laws of two nodes when a link of one of them goes up: the first one, with which a contact begins,
 -- or one beside the other.
 use Rattle.std.specs.Prelude.{◌≡◌, ℕ, Some}
 use Rattle.tipc_types.specs.declared.link_words.BroadcastState.{BroadcastState}

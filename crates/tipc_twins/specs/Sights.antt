@@ -1,4 +1,4 @@
--- Two nodes with two links as a world tells of them: what each keeps, what its journals record of the other, and the
+-- Two nodes as a world tells of them: what each keeps, what its journals record of the other, and the
 -- frames that came into the air. That they are talking says what they did besides: their sessions, and frames that
 -- were lost.
 use Rattle.std.specs.Prelude.{◌≡◌, ◌<◌, ◌≤◌, ◌⊎◌, ℕ, ◌+◌, ◌^◌, ◌==◌, ◌&&◌, true, All, List, [], ◌++◌, Option, Some, None, length, slice_get, if◌then◌else◌}
@@ -13,7 +13,7 @@ use Rattle.tipc_link.specs.Laws.{IsPrefixOf}
 use Rattle.tipc_link.specs.Links.{LinkEnd, is_traffic}
 use Rattle.tipc_link.specs.Sessions.{SessionEnd}
 use Rattle.tipc_pair.specs.Facing.{PairEnds, facing, in_contact}
-use Rattle.tipc_pair.specs.Partners.{IsMessage, opened_in}
+use Rattle.tipc_pair.specs.Messages.{IsMessage, opened_in}
 use Rattle.tipc_pair.specs.PairTurns.{Happened, Opening, Outset, PairTurn, Reply, ShowsAtLast, ShowsIn}
 use Rattle.tipc_paired.specs.Paired.{IsEnd}
 use Rattle.tipc_paired.specs.Views.{Frame, Node, View, er_of, es_of}

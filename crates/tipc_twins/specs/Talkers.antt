@@ -1,4 +1,4 @@
--- Two nodes with two links and their messages: what each call of either one's pair keeps of them.
+-- Two nodes and their messages: what each call of either one's pair keeps of them.
 use Rattle.std.specs.Prelude.{◌≡◌, ◌<◌, ◌≤◌, ◌^◌, ◌⊎◌, ℕ, Bool, All, List, ◌∷◌, [], ◌++◌, None, map}
 use Rattle.tipc_types.specs.declared.link_words.BroadcastState.{BroadcastState}
 use Rattle.tipc_types.specs.declared.packet_lists.Taken.{Taken}
@@ -17,7 +17,7 @@ use Rattle.tipc_pair.specs.Facing.{PairEnds, alone, facing, with_made}
 use Rattle.tipc_pair.specs.PairArrivals.{Arrives}
 use Rattle.tipc_pair.specs.PairCalls.{Sends, answered_near, at_bearer, cut_near, mended, tick_near, ticked}
 use Rattle.tipc_pair.specs.PairFacts.{AreHeldRightly, IsPairOfEnds}
-use Rattle.tipc_pair.specs.Partners.{IsMessage, opened_in, pieces_for}
+use Rattle.tipc_pair.specs.Messages.{IsMessage, opened_in, pieces_for}
 use Rattle.tipc_pair.specs.Runs.{IsListed}
 use Rattle.tipc_paired.specs.Deeds.{restarted}
 use Rattle.tipc_paired.specs.Paired.{IsNew}

@@ -1,4 +1,4 @@
--- What the frames of two nodes with two links tell of their contacts: what was taken in them, and what was put into the
+-- What the frames of two nodes tell of their contacts: what was taken in them, and what was put into the
 -- packets that they carry.
 use Rattle.std.specs.Prelude.{◌≡◌, ◌≤◌, ◌<◌, ℕ, ◌+◌, true, false, All, List, Some, length, option_map, slice_get, take}
 use Rattle.std.specs.List.{flat_map}

@@ -1,4 +1,4 @@
--- What holds of two nodes whose pair has two links, at every moment.
+-- What holds of two nodes with a pair each, at every moment.
 use Rattle.std.specs.Prelude.{◌≡◌, ℕ, Some}
 use Rattle.tipc_paired.specs.Paired.{ArePaired}
 use Rattle.tipc_paired.specs.Views.{Begun, View}

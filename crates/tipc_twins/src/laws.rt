@@ -1,4 +1,4 @@
-//! Laws of two nodes whose pair has two links. They do nothing when they run.
+//! Laws of two nodes with a pair each. They do nothing when they run.
 
 ghost use Rattle.tipc_twins.specs.Arrivals.{ArrivalsKeep};
 ghost use Rattle.tipc_twins.specs.PieceLaws.{AnswersKeep, CutsKeep, MakesKeep, MendsKeep, SendsKeep, TicksKeep};

@@ -1,6 +1,6 @@
 -- The age of a frame.
 use Rattle.std.proofs.Common.{◌≡◌, ◌-◌, ℕ, Bool, true, false, List, Option, Some, None, length, max, inl, inr, refl, sym, ap, ◌∙◌, arith}
-use Rattle.std.specs.Prelude.{if◌then◌else◌, drop, slice_get, ◌==◌}
+use Rattle.std.specs.Prelude.{if◌then◌else◌, drop, slice_get}
 use Rattle.tipc_types.specs.Address.{node_word}
 use Rattle.tipc_header.specs.Faults.{fault_of}
 use Rattle.tipc_node.specs.Nodes.{is_frame_size}
@@ -8,40 +8,41 @@ use Rattle.tipc_paired.specs.Views.{er_of, es_of}
 use Rattle.tipc_world.specs.declared.air.Sent.{Sent}
 use Rattle.tipc_world.specs.Air.{number_of_node}
 use Rattle.tipc_world.specs.Due.{age_by_fault, age_of, frame_for, is_for, kept_for, session_age, HasNoSession, HasSession}
+use Rattle.tipc_world.specs.Skies.{AirState, air_on}
 use Rattle.tipc_world.specs.States.{MemberState, count_at}
 
 number_is : (word n : ℕ) → word ≡ node_word n → number_of_node word ≡ n
 number_is word n is = omega (arith, is)
 
-ages : (members : List (Option MemberState)) (f : Sent) (n : ℕ) (es er : ℕ) → HasSession f.frame es er → age_of members f n ≡ session_age members f n
+ages : (members : List (Option MemberState)) (f : Sent) (n bearer es er : ℕ) → HasSession f.frame es er → age_of members f n bearer ≡ session_age members f n bearer
 unfolding age_of
-ages members f n es er h =
-    ap (λ b. if b then age_by_fault members f n (fault_of (drop 16 f.frame)) else 0) h.size
-    ∙ (ap (age_by_fault members f n) h.clear ∙ ap (λ b. if b then session_age members f n else 0) h.traffic)
+ages members f n bearer es er h =
+    ap (λ b. if b then age_by_fault members f n bearer (fault_of (drop 16 f.frame)) else 0) h.size
+    ∙ (ap (age_by_fault members f n bearer) h.clear ∙ ap (λ b. if b then session_age members f n bearer else 0) h.traffic)
 
 -- the age of a STATE or a numbered packet from a node
-pub session_age_is : (members : List (Option MemberState)) (f : Sent) (from n es er : ℕ) → HasSession f.frame es er → f.from.word ≡ node_word from
-    → max (count_at members from n es - f.numbered) (count_at members n from er - f.peer_numbered) ≡ age_of members f n
-session_age_is members f from n es er h is =
+pub session_age_is : (members : List (Option MemberState)) (f : Sent) (from n bearer es er : ℕ) → HasSession f.frame es er → f.from.word ≡ node_word from
+    → max (count_at members from n bearer es - f.numbered) (count_at members n from bearer er - f.peer_numbered) ≡ age_of members f n bearer
+session_age_is members f from n bearer es er h is =
     let a = number_is f.from.word from is in
-    sym (ages members f n es er h
-    ∙ (ap (λ x. max (count_at members x n (es_of f.frame) - f.numbered) (count_at members n x (er_of f.frame) - f.peer_numbered)) a
-    ∙ (ap (λ x. max (count_at members from n x - f.numbered) (count_at members n from (er_of f.frame) - f.peer_numbered)) (sym h.sender_is)
-    ∙ ap (λ x. max (count_at members from n es - f.numbered) (count_at members n from x - f.peer_numbered)) (sym h.receiver_is))))
+    sym (ages members f n bearer es er h
+    ∙ (ap (λ x. max (count_at members x n bearer (es_of f.frame) - f.numbered) (count_at members n x bearer (er_of f.frame) - f.peer_numbered)) a
+    ∙ (ap (λ x. max (count_at members from n bearer x - f.numbered) (count_at members n from bearer (er_of f.frame) - f.peer_numbered)) (sym h.sender_is)
+    ∙ ap (λ x. max (count_at members from n bearer es - f.numbered) (count_at members n from bearer x - f.peer_numbered)) (sym h.receiver_is))))
 
 -- another frame has none
-pub no_age : (members : List (Option MemberState)) (f : Sent) (n : ℕ) → HasNoSession f.frame → 0 ≡ age_of members f n
+pub no_age : (members : List (Option MemberState)) (f : Sent) (n bearer : ℕ) → HasNoSession f.frame → 0 ≡ age_of members f n bearer
 unfolding age_of
-no_age members f n (inl size) = sym (ap (λ b. if b then age_by_fault members f n (fault_of (drop 16 f.frame)) else 0) size)
-no_age members f n (inr (inl fault)) = by (is_frame_size (length f.frame))
+no_age members f n bearer (inl size) = sym (ap (λ b. if b then age_by_fault members f n bearer (fault_of (drop 16 f.frame)) else 0) size)
+no_age members f n bearer (inr (inl fault)) = by (is_frame_size (length f.frame))
   where
-    by : (b : Bool) → 0 ≡ (if b then age_by_fault members f n (fault_of (drop 16 f.frame)) else 0)
-    by true = sym (ap (age_by_fault members f n) fault.1)
+    by : (b : Bool) → 0 ≡ (if b then age_by_fault members f n bearer (fault_of (drop 16 f.frame)) else 0)
+    by true = sym (ap (age_by_fault members f n bearer) fault.1)
     by false = refl
-no_age members f n (inr (inr other)) = by (is_frame_size (length f.frame))
+no_age members f n bearer (inr (inr other)) = by (is_frame_size (length f.frame))
   where
-    by : (b : Bool) → 0 ≡ (if b then age_by_fault members f n (fault_of (drop 16 f.frame)) else 0)
-    by true = sym (ap (age_by_fault members f n) other.0 ∙ ap (λ b. if b then session_age members f n else 0) other.1)
+    by : (b : Bool) → 0 ≡ (if b then age_by_fault members f n bearer (fault_of (drop 16 f.frame)) else 0)
+    by true = sym (ap (age_by_fault members f n bearer) other.0 ∙ ap (λ b. if b then session_age members f n bearer else 0) other.1)
     by false = refl
 
 kept_is : (o : Option Sent) (n : ℕ) (f : Sent) → kept_for o n ≡ Some f → o ≡ Some f
@@ -52,11 +53,7 @@ kept_is (Some g) n f e = by (is_for g.to n) e
     by true e = e
     by false e = absurd cc
 
-placed_by : (air : List Sent) (n k : ℕ) (f : Sent) (b : Bool) → (if b then kept_for (slice_get air k) n else None) ≡ Some f → slice_get air k ≡ Some f
-placed_by air n k f true e = kept_is (slice_get air k) n f e
-placed_by air n k f false e = absurd cc
-
--- a frame for a node stands at its place in the air
-pub frame_is_there : (air : List Sent) (n bearer k : ℕ) (f : Sent) → frame_for air n bearer k ≡ Some f → slice_get air k ≡ Some f
+-- a frame for a node stands at its place in the air of its bearer
+pub frame_is_there : (air : AirState) (n bearer k : ℕ) (f : Sent) → frame_for air n bearer k ≡ Some f → slice_get (air_on bearer air) k ≡ Some f
 unfolding frame_for
-frame_is_there air n bearer k f e = placed_by air n k f (bearer == 0) e
+frame_is_there air n bearer k f e = kept_is (slice_get (air_on bearer air) k) n f e

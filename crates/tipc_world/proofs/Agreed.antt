@@ -22,14 +22,13 @@ use Rattle.tipc_name_dist.specs.Applying.{applied_each, held_after, Applied}
 use Rattle.tipc_name_dist.specs.Items.{items_in}
 use Rattle.tipc_name_dist.proofs.Fronts.{held_by_front, payloads_behind}
 use Rattle.tipc_contact.specs.Sides.{boot_of}
-use Rattle.tipc_link_fsm.specs.Table.{is_up}
-use Rattle.tipc_pair.specs.Pairs.{contact_of}
+use Rattle.tipc_pair.specs.Facing.{contact_between, in_contact}
 use Rattle.tipc_node.specs.declared.neighbours.Neighbour.{Neighbour}
 use Rattle.tipc_node.specs.Nodes.{neighbour_of}
 use Rattle.tipc_node.specs.Sharing.{HasTold, flow_with}
 use Rattle.tipc_node.specs.Turns.{addr_of}
 use Rattle.tipc_node.proofs.Refusing.{told_names}
-use Rattle.tipc_world.specs.declared.air.Sent.{Sent}
+use Rattle.tipc_world.specs.Skies.{AirState}
 use Rattle.tipc_world.specs.Shared.{AreShared, IsShared}
 use Rattle.tipc_world.specs.Sound.{IsSound}
 use Rattle.tipc_world.specs.States.{MemberState, accepted_at, delivered_at, history, member_at, stream_of}
@@ -103,18 +102,18 @@ own_number true own theirs numbers is = ap (λ (o : Option (ℕ × ℕ)). (unwra
 own_number false own theirs numbers is = absurd cc
 
 -- the contact in which a node is has a number of the present boot
-contact_now : (members : List (Option MemberState)) (air : List Sent) (a b : ℕ) (m : MemberState) (numbers : ℕ × ℕ) → IsSound members air → slice_index_or members a None ≡ Some m → IsShared m → contact m.node.journal (addr_of b) ≡ Some numbers
+contact_now : (members : List (Option MemberState)) (air : AirState) (a b : ℕ) (m : MemberState) (numbers : ℕ × ℕ) → IsSound members air → slice_index_or members a None ≡ Some m → IsShared m → contact m.node.journal (addr_of b) ≡ Some numbers
     → m.node.boot ≤ boot_of numbers.0
 contact_now members air a b m numbers sound was h is = case (neighbour_of m.node b) refl
   where
     case : (o : Option Neighbour) → neighbour_of m.node b ≡ o → m.node.boot ≤ boot_of numbers.0
     case None alone =
-        let none : Some numbers ≡ None = sym is ∙ (h.told.links b).contact_is ∙ ap (λ o. option_and_then contact_of (option_map (λ (x : Neighbour). x.pair.link) o)) alone in
+        let none : Some numbers ≡ None = sym is ∙ (h.told.links b).contact_is ∙ ap (λ o. option_and_then contact_between (option_map (λ (x : Neighbour). x.pair) o)) alone in
         absurd cc
     case (Some x) there =
-        let e = x.pair.link in
-        let shown : contact_of e ≡ Some numbers = sym (ap (λ o. option_and_then contact_of (option_map (λ (y : Neighbour). y.pair.link) o)) there) ∙ sym (h.told.links b).contact_is ∙ is in
-        let own : e.contact ≡ numbers.0 = own_number (is_up e.fsm.state) e.contact e.peer_contact numbers shown in
+        let e = x.pair in
+        let shown : contact_between e ≡ Some numbers = sym (ap (λ o. option_and_then contact_between (option_map (λ (y : Neighbour). y.pair) o)) there) ∙ sym (h.told.links b).contact_is ∙ is in
+        let own : e.contact ≡ numbers.0 = own_number (in_contact e) e.contact e.seen numbers shown in
         let boot : boot_of numbers.0 ≡ m.node.boot = ap boot_of (sym own) ∙ boot_is (stage members air) a b m x sound was there in
         omega (arith, boot)
 
@@ -147,7 +146,7 @@ unfolding delivered_at
 delivered_is members b a own theirs m was h above = ap (λ (es : List Entry). delivered es (stream_of a own theirs Zero)) (history_at-is members b m (member_at-is members b m was)) ∙ delivered_now m a own theirs h above
 
 -- the promise of two nodes, where a front of what was accepted is delivered
-pair_agrees : (members : List (Option MemberState)) (air : List Sent) (a b : ℕ) (m n : MemberState) → IsSound members air → AreShared members → slice_index_or members a None ≡ Some m → slice_index_or members b None ≡ Some n
+pair_agrees : (members : List (Option MemberState)) (air : AirState) (a b : ℕ) (m n : MemberState) → IsSound members air → AreShared members → slice_index_or members a None ≡ Some m → slice_index_or members b None ≡ Some n
     → (d : AreNamesDone members a b) → IsPrefixOf (delivered_at members b a d.theirs d.own Zero) (accepted_at members a b d.own d.theirs Zero) → Agrees (node_word a) (live (journal_now members a)) (names (journal_now members b))
 pair_agrees members air a b m n sound all here there d front =
     let h = all a m here in
@@ -168,7 +167,7 @@ pair_agrees members air a b m n sound all here there d front =
     ap (λ (es : List Entry). filter (is_of (node_word a)) (names es)) its ∙ ap (filter (is_of (node_word a))) (sym (told_names n.node k.told)) ∙ agrees ∙ ap (λ (es : List Entry). shared (live es)) (sym mine)
 
 -- so it is with all nodes
-pub tables_agree : (members : List (Option MemberState)) (air : List Sent) → IsSound members air → AreShared members
+pub tables_agree : (members : List (Option MemberState)) (air : AirState) → IsSound members air → AreShared members
     → ((a b own theirs : ℕ) → IsPrefixOf (delivered_at members b a own theirs Zero) (accepted_at members a b theirs own Zero)) → AreTables members
 tables_agree members air sound all front a b d = case (slice_index_or members a None) (slice_index_or members b None) refl refl
   where

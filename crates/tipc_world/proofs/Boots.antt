@@ -1,9 +1,9 @@
 -- The boots of the nodes, and the counts of a world.
 use Rattle.std.proofs.Common.{◌≡◌, ◌≤◌, ◌+◌, ℕ, Bool, true, false, List, [], Option, Some, None, slice_index_or, slice_set, refl, sym, ap, subst, ◌∙◌, inl, inr, arith}
-use Rattle.std.specs.Prelude.{if◌then◌else◌, ◌&&◌, is_none}
+use Rattle.std.specs.Prelude.{if◌then◌else◌, ◌&&◌, is_none, option_map}
 use Rattle.tipc_types.specs.declared.node_calls.Answer.{Answer}
 use Rattle.tipc_outside.specs.declared.outgoing.Outgoing.{Outgoing}
-use Rattle.tipc_world.specs.declared.air.Sent.{Sent}
+use Rattle.tipc_world.specs.Skies.{AirState}
 use Rattle.tipc_world.specs.declared.events.WorldEvent.{WorldEvent}
 use Rattle.tipc_world.specs.declared.events.WorldEvent.TheVariants.{Know, Restart, Call, Arrive}
 use Rattle.tipc_world.specs.Calls.{counts_at}
@@ -15,8 +15,10 @@ use Rattle.tipc_world.specs.Limits.{IsFree}
 use Rattle.tipc_world.specs.States.{MemberState, WorldState, member_at}
 use Rattle.tipc_world.specs.Steps.{stage, Becomes, Happens, IsArrival, Stage}
 use Rattle.std.proofs.lemmas.Bool.{cases_eq}
+use Rattle.tipc_node.specs.declared.neighbours.Neighbour.{Neighbour}
+use Rattle.tipc_node.specs.Nodes.{neighbour_of}
 use Rattle.tipc_world.proofs.Advancing.{Counts}
-use Rattle.tipc_world.proofs.LookUps.{link_at-is, member_at-changed, member_at-is, member_at-other}
+use Rattle.tipc_world.proofs.LookUps.{pair_at-is, member_at-changed, member_at-is, member_at-other}
 use Rattle.tipc_world.proofs.Outcomes.{some_is}
 use Rattle.tipc_world.proofs.SoundWorlds.{HaveNextBoots}
 
@@ -28,7 +30,7 @@ stays : (m m' : MemberState) → m'.node.boot ≡ m.node.boot → IsNext m m'
 stays m m' same = omega (arith, same)
 
 does_boot : (stamp : ℕ) (event : WorldEvent) (bytes : List ℕ) (m m' : MemberState) (frames : List Outgoing) (answered : Answer) → Does stamp event bytes m m' frames answered → IsNext m m'
-does_boot stamp (Know node peer) bytes m m' frames answered h = stays m m' (ap (λ (x : MemberState). x.node.boot) h.0)
+does_boot stamp (Know node peer bearer) bytes m m' frames answered h = stays m m' (ap (λ (x : MemberState). x.node.boot) h.0)
 does_boot stamp (Restart node) bytes m m' frames answered h = let next = h.0.node.boot_is in omega (arith, next)
 does_boot stamp (Call node call) bytes m m' frames answered h = stays m m' h.turn.turn.boot
 does_boot stamp (Arrive node bearer place) bytes m m' frames answered h = stays m m' h.turn.turn.boot
@@ -94,7 +96,7 @@ arrival_boots old new stamp node bearer place answered lost most None e h below 
 
 becomes_boots : (old new : Stage) (stamp : ℕ) (event : WorldEvent) (answered : Answer) (lost : Bool) (most : ℕ) → Becomes old stamp event new answered lost → BootsBelow old.members most → BootsBelow new.members (most + 1)
 becomes_boots old new stamp (Arrive node bearer place) answered lost most h below = arrival_boots old new stamp node bearer place answered lost most _ refl h below
-becomes_boots old new stamp (Know node peer) answered lost most h below = happens_boots old new stamp (Know node peer) [] answered lost most h below
+becomes_boots old new stamp (Know node peer bearer) answered lost most h below = happens_boots old new stamp (Know node peer bearer) [] answered lost most h below
 becomes_boots old new stamp (Restart node) answered lost most h below = happens_boots old new stamp (Restart node) [] answered lost most h below
 becomes_boots old new stamp (Call node call) answered lost most h below = happens_boots old new stamp (Call node call) [] answered lost most h below
 
@@ -106,11 +108,11 @@ arrival_still old new stamp node bearer place answered lost (Some why) e none h 
 
 becomes_still : (old new : Stage) (stamp : ℕ) (event : WorldEvent) (answered : Answer) (lost : Bool) → Becomes old stamp event new answered lost → counts_at old.members old.air event ≡ false → new.members ≡ old.members
 becomes_still old new stamp (Arrive node bearer place) answered lost h none = arrival_still old new stamp node bearer place answered lost _ refl none h
-becomes_still old new stamp (Know node peer) answered lost h none = absurd cc
+becomes_still old new stamp (Know node peer bearer) answered lost h none = absurd cc
 becomes_still old new stamp (Restart node) answered lost h none = absurd cc
 becomes_still old new stamp (Call node call) answered lost h none = absurd cc
 
-pub steady_after : (old : WorldState) (event : WorldEvent) (members : List (Option MemberState)) (air : List Sent) (events stamps : ℕ) (lost counted : Bool) (answered : Answer)
+pub steady_after : (old : WorldState) (event : WorldEvent) (members : List (Option MemberState)) (air : AirState) (events stamps : ℕ) (lost counted : Bool) (answered : Answer)
     → Becomes (stage old.members old.air) old.stamps event (stage members air) answered lost → Counts old event counted events stamps → IsFree old.members old.air old.events event
     → IsSteady old.members old.events old.stamps → IsSteady members events stamps
 steady_after old event members air events stamps lost counted answered becomes k free steady =
@@ -118,7 +120,11 @@ steady_after old event members air events stamps lost counted answered becomes k
     (λ is n m there. let b = becomes_boots (stage old.members old.air) (stage members air) old.stamps event answered lost (old.events + 1) becomes steady.boots n m there in omega (arith, b))
     (λ is. becomes_still (stage old.members old.air) (stage members air) old.stamps event answered lost becomes (sym k.counted_is ∙ is))
 
-pub settled_of : (members : List (Option MemberState)) (air : List Sent) (events stamps : ℕ) → IsSound members air → IsSteady members events stamps → AreSettled members
+nobody : (o : Option Neighbour) → option_map (λ (x : Neighbour). x.pair) o ≡ None → o ≡ None
+nobody None none = refl
+nobody (Some x) none = absurd cc
+
+pub settled_of : (members : List (Option MemberState)) (air : AirState) (events stamps : ℕ) → IsSound members air → IsSteady members events stamps → AreSettled members
 settled_of members air events stamps sound steady n m there =
     let number = sound.numbered n m there in
     let boot = steady.boots n m there in
@@ -127,11 +133,11 @@ settled_of members air events stamps sound steady n m there =
       from_one = number.0.0;
       to_32 = number.0.1;
       own = number.1;
-      known = λ peer above. sym (link_at-is members n peer m (member_at-is members n m there)) ∙ sound.known n peer (λ is. absurd (let most = is.1 in omega (arith, above, most)));
+      known = λ peer above. nobody (neighbour_of m.node peer) (sym (pair_at-is members n peer m (member_at-is members n m there)) ∙ sound.known n peer (λ is. absurd (let most = is.1 in omega (arith, above, most))));
       boot = omega (arith, boot, few);
     }
 
-pub next_boots : (members : List (Option MemberState)) (air : List Sent) (events stamps : ℕ) → IsSound members air → IsSteady members events stamps → HaveNextBoots members
+pub next_boots : (members : List (Option MemberState)) (air : AirState) (events stamps : ℕ) → IsSound members air → IsSteady members events stamps → HaveNextBoots members
 next_boots members air events stamps sound steady n m there =
     let boot = steady.boots n m there in
     let few = steady.few in

@@ -1,29 +1,28 @@
 -- What a turn gives was put by the peer.
-use Rattle.std.proofs.Common.{◌≡◌, ◌+◌, ◌<◌, ℕ, List, ◌++◌, Option, Some, None, length, slice_get, slice_index_or, sym, ap, subst, ◌∙◌, length-append, arith}
+use Rattle.std.proofs.Common.{◌≡◌, ◌+◌, ◌<◌, ◌⊎◌, ℕ, List, [], ◌++◌, Option, Some, None, length, slice_get, slice_index_or, sym, ap, subst, ◌∙◌, length-append, arith}
 use Rattle.std.proofs.lemmas.List.{get_or-append-add}
 use Rattle.std.proofs.lemmas.Option.{get_or_from_slice_get, slice_get-get_or, slice_get_within}
 use Rattle.std.proofs.Math.ListN.{get_or-append}
 use Rattle.tipc_types.specs.Address.{node_word}
 use Rattle.tipc_types.specs.declared.message_forms.Flow.TheVariants.{Zero}
 use Rattle.tipc_outside.specs.declared.outgoing.Outgoing.{Outgoing}
-use Rattle.tipc_fragments.specs.Joining.{Joining}
 use Rattle.tipc_journal.specs.Steps.{NodeStep}
 use Rattle.tipc_reassembly.specs.Slots.{packets_in}
-use Rattle.tipc_link.specs.Links.{LinkEnd}
 use Rattle.tipc_link.proofs.LinkLaw.{Each}
-use Rattle.tipc_pair.specs.Partners.{PairState, opened_in, pair_state}
-use Rattle.tipc_pair.specs.Turns.{Happened, Opening, Outset, ShowsIn}
-use Rattle.tipc_partners.specs.Sights.{AreSeen, ComesIn, HasOnly, Sight}
-use Rattle.tipc_partners.proofs.Sights.{gives}
+use Rattle.tipc_pair.specs.Facing.{PairEnds}
+use Rattle.tipc_pair.specs.PairTurns.{Happened, Opening, Outset, ShowsIn}
+use Rattle.tipc_pair.specs.Messages.{opened_in}
+use Rattle.tipc_twins.specs.Sights.{AreSeen, MayHappen, Sight, StaysIn, pair_seen}
+use Rattle.tipc_twins.proofs.Sights.{gives}
 use Rattle.tipc_node.specs.Turns.{NodeTurn}
-use Rattle.tipc_world.specs.declared.air.Sent.{Sent}
+use Rattle.tipc_world.specs.Skies.{AirState}
 use Rattle.tipc_world.specs.Sound.{IsSound}
 use Rattle.tipc_world.specs.States.{MemberState, accepted_at}
 use Rattle.tipc_world.specs.Steps.{Stage}
 use Rattle.tipc_world.specs.Views.{sight_at}
-use Rattle.tipc_world.proofs.Coming.{ComesOut, comes_in}
+use Rattle.tipc_world.proofs.Coming.{ComesOut, may_happen}
 use Rattle.tipc_world.proofs.LookUps.{member_at-is}
-use Rattle.tipc_world.proofs.Standing.{acquainted, neighbour_apart, sight_only, sight_partial}
+use Rattle.tipc_world.proofs.Standing.{acquainted, neighbour_apart, pair_sight}
 use Rattle.tipc_world.proofs.Turning.{sight_in}
 use Rattle.tipc_world.proofs.TurnStreams.{AreBrought, Brings, IsOfMessage, put_message}
 
@@ -36,31 +35,26 @@ in_middle xs ys zs k x there =
     ∙ ap Some (get_or-append (xs ++ ys) zs x (length xs + k) front ∙ get_or-append-add xs ys k x ∙ get_or_from_slice_get ys k x x there)
 
 -- what happens first at a pair gives packets of messages, where each packet that the peer put is one
-opening_brings : (word : ℕ) (v w : Sight) (e : LinkEnd) (opening : Opening) (o : Outset) → AreSeen v w → HasOnly v 0 e → ComesIn v w 0 opening → ShowsIn opening → Happened (pair_state e v.partial) opening o
-    → ((own theirs : ℕ) → Each (IsOfMessage word) (w.put own theirs)) → Brings word (opened_in o.given)
-opening_brings word v w e opening o h only c shows happened known =
-    let g = gives v w 0 e opening o h only c shows happened in
+opening_brings : (word : ℕ) (v w : Sight) (x : PairEnds) (opening : Opening) (o : Outset) → pair_seen v ≡ x → AreSeen v w → MayHappen v w opening → ShowsIn opening → Happened x opening o
+    → ((own theirs : ℕ) → Each (IsOfMessage word) (w.put own theirs)) → Brings word x o
+opening_brings word v w x opening o pair h may shows happened known =
+    let g = gives v w opening o h may shows (subst (λ y. Happened y opening o) (sym pair) happened) in
     let before = v.given v.node.contact v.node.seen in
     record {
       whole = g.whole;
       known = λ k packet there.
           known v.node.seen v.node.contact (length before + k) packet (subst (λ ps. slice_get ps (length before + k) ≡ Some packet) (sym g.front.1) (in_middle before (packets_in (opened_in o.given)) g.front.0 k packet there));
+      contact = subst (λ y. (opened_in o.given ≡ []) ⊎ StaysIn y o.course.pair) pair g.contact;
     }
 
--- the same of a pair whose begun message is that of the node
-pair_brings : (word : ℕ) (v w : Sight) (x : PairState) (opening : Opening) (o : Outset) → x.begun ≡ v.partial → AreSeen v w → HasOnly v 0 x.link → ComesIn v w 0 opening → ShowsIn opening
-    → ((own theirs : ℕ) → Each (IsOfMessage word) (w.put own theirs)) → Happened x opening o → Brings word (opened_in o.given)
-pair_brings word v w x opening o begun h only c shows known =
-    subst (λ (j : Joining). Happened (pair_state x.link j) opening o → Brings word (opened_in o.given)) (sym begun) (λ happened. opening_brings word v w x.link opening o h only c shows happened known)
-
 -- what a node of a sound world put is of a message that it can send
-put_known : (members : List (Option MemberState)) (air : List Sent) (a b : ℕ) → IsSound members air → (own theirs : ℕ) → Each (IsOfMessage (node_word a)) ((sight_at members air a b).put own theirs)
+put_known : (members : List (Option MemberState)) (air : AirState) (a b : ℕ) → IsSound members air → (own theirs : ℕ) → Each (IsOfMessage (node_word a)) ((sight_at members air a b).put own theirs)
 unfolding sight_at accepted_at
 put_known members air a b h own theirs k packet there = put_message (node_word a) (accepted_at members a b own theirs Zero) k packet (h.accepted a b own theirs) there
 
 -- in a sound world a node's turn gives the messages of its peers
 pub are_brought : (old : Stage) (a : ℕ) (m m' : MemberState) (bytes : List ℕ) (s : NodeStep) (frames : List Outgoing) → IsSound old.members old.air → slice_index_or old.members a None ≡ Some m
-    → (t : NodeTurn m.node m'.node bytes s frames) → ComesOut old a bytes → AreBrought m.node m'.node bytes s frames t
+    → (t : NodeTurn m.node m'.node bytes s frames) → ComesOut old a s.event bytes → AreBrought m.node m'.node bytes s frames t
 are_brought old a m m' bytes s frames sound there t out b x is =
     let was = member_at-is old.members a m there in
     let knows = acquainted old.members old.air a m sound there in
@@ -68,5 +62,5 @@ are_brought old a m m' bytes s frames sound there t out b x is =
     let p = (t.turns b x is).turn in
     let v = sight_in old a b in
     let w = sight_in old b a in
-    pair_brings (node_word b) v w x.pair p.opening p.turn.first (sym (sight_partial old a b m x was is)) (sound.pairs a b knows.number other.0 (λ e. other.1 (sym e))) (sight_only old a b m x was is)
-    (comes_in v w b bytes p.opening (λ es er q. out b es er q) p.brought) p.shows (put_known old.members old.air b a sound) p.turn.happened
+    opening_brings (node_word b) v w x.pair p.opening p.turn.first (pair_sight old a b m x sound was is) (sound.pairs a b knows.number other.0 (λ e. other.1 (sym e)))
+    (may_happen v w b s.event bytes p.opening (λ bearer number es er q. out bearer number b es er q) p.suits p.on_one p.brought) p.shows p.turn.happened (put_known old.members old.air b a sound)

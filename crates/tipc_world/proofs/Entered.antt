@@ -11,7 +11,7 @@ use Rattle.tipc_journal.specs.declared.entries.Entry.TheVariants as entry
 use Rattle.tipc_journal.specs.Prefixes.{IsPrefixOf}
 use Rattle.tipc_journal.specs.Streams.{Stream, accepted, accepted_message, delivered, delivered_message, stream_eq}
 use Rattle.tipc_journal.proofs.StreamLaws.{stream_eq_true}
-use Rattle.tipc_world.specs.declared.air.Sent.{Sent}
+use Rattle.tipc_world.specs.Skies.{AirState}
 use Rattle.tipc_world.specs.Lawful.{AreLawful, HasBegun, IsWithin}
 use Rattle.tipc_world.specs.States.{MemberState, accepted_at, delivered_at, history, history_at, member_at, stream_of}
 use Rattle.tipc_node.specs.Turns.{addr_of}
@@ -48,7 +48,7 @@ within_longer js i j (entry.Accepted peer numbers flow message) at h = let found
 within_longer js i j (entry.Delivered peer numbers flow message by) at h = let found = entry_in js i j h.place (entry.ContactUp peer numbers) at h.entry_is in record { place = found.0; entry_is = found.1 }
 within_longer js i j other at h = tt
 
-history_within : (air : List Sent) (m : MemberState) → AreLawful air m → (k : ℕ) (e : Entry) → slice_get (history m) k ≡ Some e → IsWithin (history m) e
+history_within : (air : AirState) (m : MemberState) → AreLawful air m → (k : ℕ) (e : Entry) → slice_get (history m) k ≡ Some e → IsWithin (history m) e
 history_within air m lawful k e there =
     let js = m.past ++ m.node.journal ∷ [] in
     let found = entry_of js k e (subst (λ (es : List Entry). slice_get es k ≡ Some e) (history_is m) there) in
@@ -91,7 +91,7 @@ delivered_within entries s message messages all is = let found = entry_for (deli
 
 -- ---- two nodes
 
-all_within : (members : List (Option MemberState)) (air : List Sent) (n : ℕ) → ((k : ℕ) (m : MemberState) → slice_index_or members k None ≡ Some m → AreLawful air m)
+all_within : (members : List (Option MemberState)) (air : AirState) (n : ℕ) → ((k : ℕ) (m : MemberState) → slice_index_or members k None ≡ Some m → AreLawful air m)
     → (k : ℕ) (e : Entry) → slice_get (history_at members n) k ≡ Some e → IsWithin (history_at members n) e
 unfolding history_at member_at
 all_within members air n lawful = case (slice_index_or members n None) refl
@@ -100,7 +100,7 @@ all_within members air n lawful = case (slice_index_or members n None) refl
     case None is k e there = absurd cc
     case (Some m) is k e there = history_within air m (lawful n m is) k e there
 
-pub both_entered : (members : List (Option MemberState)) (air : List Sent) (a b a_number b_number : ℕ) (flow : Flow) → ((k : ℕ) (m : MemberState) → slice_index_or members k None ≡ Some m → AreLawful air m)
+pub both_entered : (members : List (Option MemberState)) (air : AirState) (a b a_number b_number : ℕ) (flow : Flow) → ((k : ℕ) (m : MemberState) → slice_index_or members k None ≡ Some m → AreLawful air m)
     → IsPrefixOf (delivered_at members b a b_number a_number flow) (accepted_at members a b a_number b_number flow) → delivered_at members b a b_number a_number flow ≢ []
     → HasBegun (history_at members a) (addr_of b) (a_number, b_number) × HasBegun (history_at members b) (addr_of a) (b_number, a_number)
 unfolding delivered_at accepted_at

@@ -12,7 +12,7 @@ use Rattle.tipc_types.specs.declared.identity.Addr.{Addr}
 use Rattle.tipc_types.specs.declared.message_forms.Flow.TheVariants.{Zero}
 use Rattle.tipc_types.specs.declared.node_calls.PeerLinks.{PeerLinks}
 use Rattle.tipc_world.specs.Readers.{link_shown, links_up_to}
-use Rattle.tipc_world.specs.States.{MemberState, counted, history, joined, link_at, stream_of}
+use Rattle.tipc_world.specs.States.{MemberState, counted, history, joined, pair_at, stream_of}
 
 pub joined_are : (journals : List JournalState) → joined journals ≡ flat_map (λ entries. entries) (map (λ j. j.entries) journals)
 joined_are [] = refl
@@ -81,11 +81,11 @@ pub delivered_none : (s : Stream) → 0 ≡ counted (length (delivered [] s))
 delivered_none s = sym (ap (λ xs. counted (length xs)) (delivered_nil s))
 
 -- the link ends to the peers below a number, and the one to that peer
-pub links_more : (members : List (Option MemberState)) (n peer : ℕ) (links links' : List PeerLinks) → 1 ≤ peer → links ≡ links_up_to members n (peer - 1) → links' ≡ links ++ link_shown peer (link_at members n peer)
+pub links_more : (members : List (Option MemberState)) (n peer : ℕ) (links links' : List PeerLinks) → 1 ≤ peer → links ≡ links_up_to members n (peer - 1) → links' ≡ links ++ link_shown peer (pair_at members n peer)
     → links' ≡ links_up_to members n (peer + 1 - 1)
 unfolding links_up_to
 links_more members n peer links links' some so_far more =
     let next : suc (peer - 1) ≡ peer = omega (arith, some) in
     let all : peer + 1 - 1 ≡ suc (peer - 1) = omega (arith, some) in
-    more ∙ (ap (λ xs. xs ++ link_shown peer (link_at members n peer)) so_far
-    ∙ (ap (λ k. links_up_to members n (peer - 1) ++ link_shown k (link_at members n k)) (sym next) ∙ ap (links_up_to members n) (sym all)))
+    more ∙ (ap (λ xs. xs ++ link_shown peer (pair_at members n peer)) so_far
+    ∙ (ap (λ k. links_up_to members n (peer - 1) ++ link_shown k (pair_at members n k)) (sym next) ∙ ap (links_up_to members n) (sym all)))

@@ -1,5 +1,5 @@
 -- A world only grows.
-use Rattle.std.proofs.Common.{◌≡◌, ℕ, Bool, List, [], Option, Some, None, inl, inr, map, take, slice_index_or, slice_set, refl, sym, ap, subst, ◌∙◌, append-nil}
+use Rattle.std.proofs.Common.{◌≡◌, ◌==◌, ◌++◌, ℕ, Bool, true, false, if◌then◌else◌, List, [], Option, Some, None, inl, inr, take, slice_index_or, slice_set, refl, sym, ap, subst, ◌∙◌, append-nil}
 use Rattle.std.proofs.lemmas.Bool.{cases_eq}
 use Rattle.tipc_types.specs.declared.node_calls.Answer.{Answer}
 use Rattle.tipc_journal.specs.Prefixes.{IsPrefixOf}
@@ -7,12 +7,13 @@ use Rattle.tipc_outside.specs.declared.outgoing.Outgoing.{Outgoing}
 use Rattle.tipc_journal.specs.Steps.{step_entries}
 use Rattle.tipc_world.specs.declared.events.WorldEvent.{WorldEvent}
 use Rattle.tipc_world.specs.declared.events.WorldEvent.TheVariants.{Know, Restart, Call, Arrive}
-use Rattle.tipc_world.specs.Air.{airborne}
+use Rattle.tipc_world.specs.Air.{Leaves, leaving_on}
+use Rattle.tipc_world.specs.Skies.{AirState, air_on}
 use Rattle.tipc_world.specs.Calls.{node_of}
 use Rattle.tipc_world.specs.Deeds.{Does}
 use Rattle.tipc_world.specs.Due.{unarrived}
 use Rattle.tipc_world.specs.Growth.{Grows}
-use Rattle.tipc_world.specs.States.{MemberState, WorldState, history, history_at}
+use Rattle.tipc_world.specs.States.{MemberState, WorldState, contact_at, history, history_at}
 use Rattle.tipc_world.specs.Steps.{Becomes, Happens, IsArrival, IsStep, Stage, stage}
 use Rattle.tipc_world.proofs.LookUps.{history_at-is, history_at-same, member_at-changed, member_at-is, member_at-other}
 use Rattle.tipc_world.proofs.Histories.{history_restarted, history_same}
@@ -24,19 +25,19 @@ prefix_same xs ys same = ([], same ∙ sym (append-nil xs))
 
 -- all that ever happened at a node
 does_grow : (stamp : ℕ) (event : WorldEvent) (bytes : List ℕ) (m m' : MemberState) (frames : List Outgoing) (answered : Answer) → Does stamp event bytes m m' frames answered → IsPrefixOf (history m) (history m')
-does_grow stamp (Know node peer) bytes m m' frames answered h = prefix_same (history m) (history m') (history_same m m' (ap (λ (n : MemberState). n.past) h.0) (ap (λ (n : MemberState). n.node.journal) h.0))
+does_grow stamp (Know node peer bearer) bytes m m' frames answered h = prefix_same (history m) (history m') (history_same m m' (ap (λ (n : MemberState). n.past) h.0) (ap (λ (n : MemberState). n.node.journal) h.0))
 does_grow stamp (Restart node) bytes m m' frames answered h = prefix_same (history m) (history m') (history_restarted m m' h.0)
 does_grow stamp (Call node call) bytes m m' frames answered h = (step_entries (made_step stamp call m m' frames answered h), turn_history m m' [] _ frames (made_turn stamp call m m' frames answered h))
 does_grow stamp (Arrive node bearer place) bytes m m' frames answered h = (step_entries (met_step stamp bearer place bytes m m' frames answered h), turn_history m m' bytes _ frames (met_turn stamp bearer place bytes m m' frames answered h))
 
 -- the air and each node's history grew
 pub record StageGrows (old new : Stage) : Type 0 where
-  pub air : IsPrefixOf old.air new.air
+  pub air : (bearer : ℕ) → IsPrefixOf (air_on bearer old.air) (air_on bearer new.air)
   pub histories : (n : ℕ) → IsPrefixOf (history_at old.members n) (history_at new.members n)
 
 stage_same : (old new : Stage) → new ≡ old → StageGrows old new
 stage_same old new same = record {
-  air = prefix_same old.air new.air (ap (λ (s : Stage). s.air) same);
+  air = λ bearer. prefix_same (air_on bearer old.air) (air_on bearer new.air) (ap (λ (s : Stage). air_on bearer s.air) same);
   histories = λ n. prefix_same (history_at old.members n) (history_at new.members n) (ap (λ (s : Stage). history_at s.members n) same);
 }
 
@@ -54,9 +55,19 @@ put_grows members a m m' was longer n =
       | inr other ↦ prefix_same (history_at members n) (history_at members' n) (history_at-same members members' n (member_at-other members a n m' other))
     ]
 
+-- on each bearer, as frames come there behind all others
+leaves_grow : (old new : AirState) (met : ℕ → Option (ℕ × ℕ)) (members : List (Option MemberState)) (a : ℕ) (frames : List Outgoing) (lost : Bool) → Leaves old new met members a frames lost → (bearer : ℕ) → IsPrefixOf (air_on bearer old) (air_on bearer new)
+leaves_grow old new met members a frames lost l bearer = subst (λ air. IsPrefixOf (air_on bearer old) (air_on bearer air)) (sym l.air) (by (bearer == 0) (bearer == 1))
+  where
+    by : (s t : Bool) → IsPrefixOf (if s then old.first else (if t then old.second else []))
+        (if s then old.first ++ leaving_on 0 met members a (take l.count frames) else (if t then old.second ++ leaving_on 1 met members a (take l.count frames) else []))
+    by true t = (leaving_on 0 met members a (take l.count frames), refl)
+    by false true = (leaving_on 1 met members a (take l.count frames), refl)
+    by false false = ([], refl)
+
 pub happens_grows : (old new : Stage) (stamp : ℕ) (event : WorldEvent) (bytes : List ℕ) (answered : Answer) (lost : Bool) → Happens old new stamp event bytes answered lost → StageGrows old new
 happens_grows old new stamp event bytes answered lost h = record {
-  air = (map (airborne new.members (node_of event)) (take h.turns.leaves.count h.frames), h.turns.leaves.air);
+  air = λ bearer. leaves_grow old.air new.air (contact_at old.members (node_of event)) new.members (node_of event) h.frames lost h.turns.leaves bearer;
   histories = λ n. subst (λ ms. IsPrefixOf (history_at old.members n) (history_at ms n)) (sym h.turns.members)
       (put_grows old.members (node_of event) h.before h.after h.turns.was (does_grow stamp event bytes h.before h.after h.frames answered h.does) n);
 }

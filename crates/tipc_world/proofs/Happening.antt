@@ -1,24 +1,31 @@
 -- An event among the nodes and in the air, put together from what its calls say.
-use Rattle.std.proofs.Common.{◌≡◌, ◌≤◌, ℕ, suc, zero, Bool, true, false, List, Option, Some, None, [], ◌∷◌, ◌++◌, map, take, refl, sym, ap, ◌∙◌}
-use Rattle.std.specs.Prelude.{is_some, option_map, slice_get, slice_index_or}
+use Rattle.std.proofs.Common.{◌≡◌, ◌≤◌, ℕ, suc, zero, Bool, true, false, List, Option, Some, None, [], ◌∷◌, ◌++◌, length, take, refl, sym, ap, ◌∙◌, subst, arith}
+use Rattle.std.proofs.Math.Path.{fun_ext}
+use Rattle.std.proofs.lemmas.Bool.Decides.{nat_tests}
+use Rattle.std.specs.Prelude.{All, if◌then◌else◌, is_some, nat_le, option_map, slice_get, slice_index_or}
 use Rattle.tipc_types.specs.Address.{node_word}
 use Rattle.tipc_types.specs.declared.node_calls.Answer.{Answer}
 use Rattle.tipc_outside.specs.declared.outgoing.Outgoing.{Outgoing}
 use Rattle.tipc_outside.specs.Frames.{Adds, Out}
 use Rattle.tipc_node.specs.declared.neighbours.Neighbour.{Neighbour}
-use Rattle.tipc_node.specs.Nodes.{neighbour_of}
+use Rattle.tipc_link.specs.Links.{LinkEnd}
+use Rattle.tipc_pair.specs.Facing.{facing}
+use Rattle.tipc_node.specs.Nodes.{end_with, neighbour_of}
 use Rattle.tipc_world.specs.declared.air.Sent.{Sent}
 use Rattle.tipc_world.specs.declared.events.WorldEvent.{WorldEvent}
 use Rattle.tipc_world.specs.declared.events.WorldEvent.TheVariants.{Know, Restart, Call, Arrive}
-use Rattle.tipc_world.specs.Air.{airborne, Emits, Leaves}
+use Rattle.tipc_world.specs.Air.{met_in, with_leaving, Emits, IsSized, Leaves}
+use Rattle.tipc_world.specs.Numbers.{end_on}
+use Rattle.tipc_world.specs.Skies.{AirState, air_on}
 use Rattle.tipc_world.specs.Calls.{CanDoAt, CanHappenAt, node_of}
 use Rattle.tipc_world.specs.Due.{frame_for, unarrived}
 use Rattle.tipc_world.specs.Events.{AreSettled, DidAt}
 use Rattle.tipc_world.specs.Sound.{IsSound}
-use Rattle.tipc_world.specs.States.{MemberState, knows}
+use Rattle.tipc_world.specs.States.{MemberState, contact_at, knows}
 use Rattle.tipc_world.specs.Steps.{stage, Happens, IsArrival}
 use Rattle.tipc_world.proofs.Calls.{the_some}
-use Rattle.tipc_world.proofs.LookUps.{link_at-is, member_at-is}
+use Rattle.tipc_world.proofs.Contacts.{met_is}
+use Rattle.tipc_world.proofs.LookUps.{member_at-is, pair_at-is}
 
 -- a front of a front is a front
 front_of_front : {A : Type 0} (k n : ℕ) (xs : List A) → (m : ℕ) × (take k (take n xs) ≡ take m xs)
@@ -27,19 +34,20 @@ front_of_front (suc k) zero xs = (0, refl)
 front_of_front (suc k) (suc n) [] = (0, refl)
 front_of_front (suc k) (suc n) (x ∷ xs) = let rest = front_of_front k n xs in (suc rest.0, ap (λ ys. x ∷ ys) rest.1)
 
-leaves_of : (air air' : List Sent) (members : List (Option MemberState)) (a : ℕ) (frames : List Outgoing) (box box' : Out) (lost : Bool)
-    → box.frames ≡ [] → Adds box box' frames → Emits air air' members a box' lost → Leaves air air' members a frames lost
-leaves_of air air' members a frames box box' lost empty adds emits = by lost refl
+leaves_of : (air air' : AirState) (met : ℕ → Option (ℕ × ℕ)) (members : List (Option MemberState)) (a : ℕ) (frames : List Outgoing) (box box' : Out) (lost : Bool)
+    → box.frames ≡ [] → Adds box box' frames → Emits air air' met members a box' lost → Leaves air air' met members a frames lost
+leaves_of air air' met members a frames box box' lost empty adds emits = by lost refl
   where
     boxed : box'.frames ≡ take adds.count frames
     boxed = adds.front ∙ ap (λ xs. xs ++ take adds.count frames) empty
 
-    by : (b : Bool) → lost ≡ b → Leaves air air' members a frames lost
+    by : (b : Bool) → lost ≡ b → Leaves air air' met members a frames lost
     by true is =
         let front = front_of_front emits.some.count adds.count frames in
         record {
           count = front.0;
-          air = emits.some.air ∙ ap (λ xs. air ++ map (airborne members a) xs) (ap (take emits.some.count) boxed ∙ front.1);
+          air = emits.some.air ∙ ap (with_leaving air met members a) (ap (take emits.some.count) boxed ∙ front.1);
+          sized = subst (All IsSized) (ap (take emits.some.count) boxed ∙ front.1) emits.some.sized;
           whole = λ kept. absurd cc;
         }
     by false is =
@@ -47,13 +55,14 @@ leaves_of air air' members a frames box box' lost empty adds emits = by lost ref
         let count = (adds.whole all.0).1 in
         record {
           count = adds.count;
-          air = all.1 ∙ ap (λ xs. air ++ map (airborne members a) xs) boxed;
+          air = all.1 ∙ ap (with_leaving air met members a) boxed;
+          sized = subst (All IsSized) boxed all.2;
           whole = λ kept. count;
         }
 
-pub happens_of : (old new : List (Option MemberState)) (air air' : List Sent) (stamp : ℕ) (event : WorldEvent) (bytes : List ℕ) (box box' : Out) (answered : Answer) (lost : Bool)
-    → box.frames ≡ [] → DidAt old new stamp event bytes box box' answered → Emits air air' new (node_of event) box' lost → Happens (stage old air) (stage new air') stamp event bytes answered lost
-happens_of old new air air' stamp event bytes box box' answered lost empty did emits = record {
+pub happens_of : (old new : List (Option MemberState)) (air air' : AirState) (met : ℕ → Option (ℕ × ℕ)) (stamp : ℕ) (event : WorldEvent) (bytes : List ℕ) (box box' : Out) (answered : Answer) (lost : Bool)
+    → ((b : ℕ) → met b ≡ contact_at old (node_of event) b) → box.frames ≡ [] → DidAt old new stamp event bytes box box' answered → Emits air air' met new (node_of event) box' lost → Happens (stage old air) (stage new air') stamp event bytes answered lost
+happens_of old new air air' met stamp event bytes box box' answered lost was empty did emits = record {
   before = did.before;
   after = did.after;
   frames = did.did.frames;
@@ -61,12 +70,23 @@ happens_of old new air air' stamp event bytes box box' answered lost empty did e
   turns = record {
     was = did.was;
     members = did.new_is;
-    leaves = leaves_of air air' new (node_of event) did.did.frames box box' lost empty did.did.adds emits;
+    leaves = subst (λ m. Leaves air air' m new (node_of event) did.did.frames lost) (fun_ext was) (leaves_of air air' met new (node_of event) did.did.frames box box' lost empty did.did.adds emits);
   };
 }
 
+-- the same of contacts that were gathered before, and of the nodes and the contacts as the calls see them
+pub happens_as : (old before new after : List (Option MemberState)) (air air' : AirState) (met seen : List (Option (ℕ × ℕ))) (stamp node : ℕ) (event : WorldEvent) (bytes : List ℕ) (box box' : Out) (answered : Answer) (lost : Bool)
+    → AreSettled old → node ≡ node_of event → before ≡ old → length met ≡ 33 → ((b : ℕ) → b ≤ 32 → slice_index_or met b None ≡ contact_at before node b) → seen ≡ met → after ≡ new
+    → box.frames ≡ [] → DidAt old new stamp event bytes box box' answered → Emits air air' (met_in seen) after node box' lost → Happens (stage old air) (stage new air') stamp event bytes answered lost
+happens_as old before new after air air' met seen stamp node event bytes box box' answered lost settled at was few each same now empty did emits =
+    let a = node_of event in
+    let contacts : (b : ℕ) → b ≤ 32 → slice_index_or met b None ≡ contact_at old a b = λ b low. each b low ∙ (ap (λ ms. contact_at ms node b) was ∙ ap (λ n. contact_at old n b) at) in
+    let here = subst (λ n. Emits air air' (met_in seen) after n box' lost) at emits in
+    let left = subst (λ ms. Emits air air' (met_in seen) ms a box' lost) now here in
+    happens_of old new air air' (met_in met) stamp event bytes box box' answered lost (met_is old a met settled few contacts) empty did (subst (λ m. Emits air air' (met_in m) new a box' lost) same left)
+
 -- a frame arrived
-pub arrival_of : (old new : List (Option MemberState)) (air air' : List Sent) (stamp node bearer place : ℕ) (f : Sent) (answered : Answer) (lost : Bool)
+pub arrival_of : (old new : List (Option MemberState)) (air air' : AirState) (stamp node bearer place : ℕ) (f : Sent) (answered : Answer) (lost : Bool)
     → frame_for air node bearer place ≡ Some f → unarrived old air node bearer place ≡ None → Happens (stage old air) (stage new air') stamp (Arrive node bearer place) f.frame answered lost
     → IsArrival (stage old air) (stage new air') stamp node bearer place answered lost
 arrival_of old new air air' stamp node bearer place f answered lost there arrives happens = record {
@@ -75,9 +95,9 @@ arrival_of old new air air' stamp node bearer place f answered lost there arrive
 }
 
 -- the frames in the air were sent by nodes
-pub senders_of : (members : List (Option MemberState)) (air : List Sent) → IsSound members air → (k : ℕ) (f : Sent) → slice_get air k ≡ Some f
+pub senders_of : (members : List (Option MemberState)) (air : AirState) → IsSound members air → (bearer k : ℕ) (f : Sent) → slice_get (air_on bearer air) k ≡ Some f
     → (n : ℕ) × (1 ≤ n) × (n ≤ 32) × (f.from.word ≡ node_word n)
-senders_of members air sound k f there = let flies = sound.frames k f there in (flies.from, flies.from_number.0, flies.from_number.1, flies.from_is)
+senders_of members air sound bearer k f there = let flies = sound.frames bearer k f there in (flies.from, flies.from_number.0, flies.from_number.1, flies.from_is)
 
 -- ---- what an event needs of its node
 
@@ -87,24 +107,31 @@ there_settled members n settled there =
     let is = settled n m.0 m.1 in
     (is.from_one, is.to_32)
 
--- a node that doesn't know another has no neighbour there
-pub not_known : (members : List (Option MemberState)) (a peer : ℕ) (m : MemberState) → slice_index_or members a None ≡ Some m → knows members a peer ≡ false → neighbour_of m.node peer ≡ None
-not_known members a peer m was unknown = case (neighbour_of m.node peer) (ap is_some (sym (link_at-is members a peer m (member_at-is members a m was))) ∙ unknown)
+-- a node that doesn't know another on a bearer has no link end to it there
+pub not_known : (members : List (Option MemberState)) (a peer bearer : ℕ) (m : MemberState) → slice_index_or members a None ≡ Some m → bearer ≤ 1 → knows members a peer bearer ≡ false → end_with bearer (neighbour_of m.node peer) ≡ None
+not_known members a peer bearer m was low unknown =
+    case (neighbour_of m.node peer) (ap (λ o. is_some (end_on bearer o)) (sym (pair_at-is members a peer m (member_at-is members a m was))) ∙ unknown)
   where
-    case : (o : Option Neighbour) → is_some (option_map (λ (x : Neighbour). x.pair.link) o) ≡ false → o ≡ None
-    case None none = refl
-    case (Some x) none = absurd cc
+    none : (o : Option LinkEnd) → is_some o ≡ false → o ≡ None
+    none None is = refl
+    none (Some e) is = absurd cc
+
+    case : (o : Option Neighbour) → is_some (end_on bearer (option_map (λ (x : Neighbour). x.pair) o)) ≡ false → end_with bearer o ≡ None
+    case None is = refl
+    case (Some x) is =
+        let one : nat_le bearer 1 ≡ true = grind (arith, nat_tests, low) in
+        none (facing bearer x.pair).near (ap (λ t. is_some (if t then (facing bearer x.pair).near else None)) (sym one) ∙ is)
 
 -- an event that can happen and is no arrival, at the node where it happens
 pub can_do : (members : List (Option MemberState)) (event : WorldEvent) → AreSettled members → ((node bearer frame : ℕ) → event ≡ Arrive node bearer frame → ⊥) → CanHappenAt members event → CanDoAt members event
-can_do members (Know node peer) settled other can m was =
-    let number = there_settled members peer settled can.1 in (number.0, number.1, not_known members node peer m was can.3)
+can_do members (Know node peer bearer) settled other can m was =
+    let number = there_settled members peer settled can.1 in (number.0, number.1, can.3, not_known members node peer bearer m was can.3 can.4)
 can_do members (Restart node) settled other can m was = tt
 can_do members (Call node call) settled other can m was = can.1
 can_do members (Arrive node bearer frame) settled other can m was = absurd (other node bearer frame refl)
 
 pub at_its_node : (members : List (Option MemberState)) (event : WorldEvent) → ((node bearer frame : ℕ) → event ≡ Arrive node bearer frame → ⊥) → CanHappenAt members event → is_some (slice_index_or members (node_of event) None) ≡ true
-at_its_node members (Know node peer) other can = can.0
+at_its_node members (Know node peer bearer) other can = can.0
 at_its_node members (Restart node) other can = can
 at_its_node members (Call node call) other can = can.0
 at_its_node members (Arrive node bearer frame) other can = can.0

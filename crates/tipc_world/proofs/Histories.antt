@@ -16,9 +16,9 @@ use Rattle.tipc_journal.specs.Streams.{accepted, accepted_message, delivered, de
 use Rattle.tipc_journal.proofs.StreamLaws.{accepted_step, delivered_step}
 use Rattle.tipc_reassembly.specs.declared.opening.Opened.{Opened}
 use Rattle.tipc_reassembly.specs.declared.opening.Opened.TheVariants.{Whole, Passed}
-use Rattle.tipc_link.specs.Links.{LinkEnd}
 use Rattle.tipc_pair.specs.declared.changes.PairOutcome.{PairOutcome}
-use Rattle.tipc_pair.specs.Partners.{opened_in}
+use Rattle.tipc_pair.specs.Facing.{PairEnds}
+use Rattle.tipc_pair.specs.Messages.{opened_in}
 use Rattle.tipc_node.specs.Messages.{message_in}
 use Rattle.tipc_node.specs.Nodes.{accepted_entry, shown_contact}
 use Rattle.tipc_node.specs.Turns.{delivered_message as delivery_of, delivered_of, given_entries, is_accepted_for, is_delivered_from}
@@ -134,13 +134,13 @@ either_way true ms = refl
 either_way false ms = refl
 
 -- those of messages that were put on the link to a peer
-pub accepted_holds : (b : ℕ) (e : LinkEnd) (ms : List Message) (own theirs : ℕ) (flow : Flow) → accepted (map (accepted_entry b e) ms) (stream_of b own theirs flow) ≡ come_to e.contact e.peer_contact ms own theirs flow
+pub accepted_holds : (b : ℕ) (x : PairEnds) (ms : List Message) (own theirs : ℕ) (flow : Flow) → accepted (map (accepted_entry b x) ms) (stream_of b own theirs flow) ≡ come_to x.contact x.seen ms own theirs flow
 unfolding accepted
-accepted_holds b e [] own theirs flow = sym (either_way (flow_eq flow Zero && ((own == e.contact) && (theirs == e.peer_contact))) [])
-accepted_holds b e (m ∷ ms) own theirs flow =
-    ap (λ xs. cons_option (accepted_message (stream_of b own theirs flow) (accepted_entry b e m)) xs) (accepted_holds b e ms own theirs flow)
-    ∙ ap (λ t. cons_option (if t then Some m else None) (come_to e.contact e.peer_contact ms own theirs flow)) (stream_test b e.contact e.peer_contact own theirs flow)
-    ∙ come_more (flow_eq flow Zero && ((own == e.contact) && (theirs == e.peer_contact))) m ms
+accepted_holds b x [] own theirs flow = sym (either_way (flow_eq flow Zero && ((own == x.contact) && (theirs == x.seen))) [])
+accepted_holds b x (m ∷ ms) own theirs flow =
+    ap (λ xs. cons_option (accepted_message (stream_of b own theirs flow) (accepted_entry b x m)) xs) (accepted_holds b x ms own theirs flow)
+    ∙ ap (λ t. cons_option (if t then Some m else None) (come_to x.contact x.seen ms own theirs flow)) (stream_test b x.contact x.seen own theirs flow)
+    ∙ come_more (flow_eq flow Zero && ((own == x.contact) && (theirs == x.seen))) m ms
 
 -- the messages of what was given
 abbrev pub message_given : Opened → Option Message
@@ -155,32 +155,32 @@ come_front : (t : Bool) (o : Option Message) (ms : List Message) → (if t then 
 come_front true o ms = refl
 come_front false o ms = refl
 
-one_message : (b : ℕ) (e : LinkEnd) (o : Option Message) (by : List ℕ) (own theirs : ℕ) (flow : Flow)
-    → filter_map (delivered_message (stream_of b own theirs flow)) (delivery_of b (shown_contact e) o by) ≡ come_to e.contact e.peer_contact (option_to_list o) own theirs flow
-one_message b e (Some m) by own theirs flow =
-    ap (λ t. cons_option (if t then Some m else None) []) (stream_test b e.contact e.peer_contact own theirs flow) ∙ chosen (flow_eq flow Zero && ((own == e.contact) && (theirs == e.peer_contact))) m
-one_message b e None by own theirs flow = sym (either_way (flow_eq flow Zero && ((own == e.contact) && (theirs == e.peer_contact))) [])
+one_message : (b : ℕ) (x : PairEnds) (o : Option Message) (by : List ℕ) (own theirs : ℕ) (flow : Flow)
+    → filter_map (delivered_message (stream_of b own theirs flow)) (delivery_of b (shown_contact x) o by) ≡ come_to x.contact x.seen (option_to_list o) own theirs flow
+one_message b x (Some m) by own theirs flow =
+    ap (λ t. cons_option (if t then Some m else None) []) (stream_test b x.contact x.seen own theirs flow) ∙ chosen (flow_eq flow Zero && ((own == x.contact) && (theirs == x.seen))) m
+one_message b x None by own theirs flow = sym (either_way (flow_eq flow Zero && ((own == x.contact) && (theirs == x.seen))) [])
 
-one_given : (b : ℕ) (e : LinkEnd) (o : Opened) (own theirs : ℕ) (flow : Flow)
-    → filter_map (delivered_message (stream_of b own theirs flow)) (delivered_of b (shown_contact e) o) ≡ come_to e.contact e.peer_contact (option_to_list (message_given o)) own theirs flow
-one_given b e (Whole packet by) own theirs flow = one_message b e (message_in packet) by own theirs flow
-one_given b e (Passed place) own theirs flow = sym (either_way (flow_eq flow Zero && ((own == e.contact) && (theirs == e.peer_contact))) [])
+one_given : (b : ℕ) (x : PairEnds) (o : Opened) (own theirs : ℕ) (flow : Flow)
+    → filter_map (delivered_message (stream_of b own theirs flow)) (delivered_of b (shown_contact x) o) ≡ come_to x.contact x.seen (option_to_list (message_given o)) own theirs flow
+one_given b x (Whole packet by) own theirs flow = one_message b x (message_in packet) by own theirs flow
+one_given b x (Passed place) own theirs flow = sym (either_way (flow_eq flow Zero && ((own == x.contact) && (theirs == x.seen))) [])
 
-all_given : (b : ℕ) (e : LinkEnd) (opened : List Opened) (own theirs : ℕ) (flow : Flow)
-    → filter_map (delivered_message (stream_of b own theirs flow)) (flat_map (delivered_of b (shown_contact e)) opened) ≡ come_to e.contact e.peer_contact (messages_given opened) own theirs flow
-all_given b e [] own theirs flow = sym (either_way (flow_eq flow Zero && ((own == e.contact) && (theirs == e.peer_contact))) [])
-all_given b e (o ∷ os) own theirs flow =
+all_given : (b : ℕ) (x : PairEnds) (opened : List Opened) (own theirs : ℕ) (flow : Flow)
+    → filter_map (delivered_message (stream_of b own theirs flow)) (flat_map (delivered_of b (shown_contact x)) opened) ≡ come_to x.contact x.seen (messages_given opened) own theirs flow
+all_given b x [] own theirs flow = sym (either_way (flow_eq flow Zero && ((own == x.contact) && (theirs == x.seen))) [])
+all_given b x (o ∷ os) own theirs flow =
     let h = delivered_message (stream_of b own theirs flow) in
-    filter_map-append h (delivered_of b (shown_contact e) o) (flat_map (delivered_of b (shown_contact e)) os)
-    ∙ ap (λ xs. xs ++ filter_map h (flat_map (delivered_of b (shown_contact e)) os)) (one_given b e o own theirs flow)
-    ∙ ap (λ xs. come_to e.contact e.peer_contact (option_to_list (message_given o)) own theirs flow ++ xs) (all_given b e os own theirs flow)
-    ∙ come_front (flow_eq flow Zero && ((own == e.contact) && (theirs == e.peer_contact))) (message_given o) (messages_given os)
+    filter_map-append h (delivered_of b (shown_contact x) o) (flat_map (delivered_of b (shown_contact x)) os)
+    ∙ ap (λ xs. xs ++ filter_map h (flat_map (delivered_of b (shown_contact x)) os)) (one_given b x o own theirs flow)
+    ∙ ap (λ xs. come_to x.contact x.seen (option_to_list (message_given o)) own theirs flow ++ xs) (all_given b x os own theirs flow)
+    ∙ come_front (flow_eq flow Zero && ((own == x.contact) && (theirs == x.seen))) (message_given o) (messages_given os)
 
 -- those of what a peer gave
-pub given_holds : (b : ℕ) (e : LinkEnd) (given : PairOutcome) (own theirs : ℕ) (flow : Flow)
-    → delivered (given_entries b e given) (stream_of b own theirs flow) ≡ come_to e.contact e.peer_contact (messages_given (opened_in given)) own theirs flow
+pub given_holds : (b : ℕ) (x : PairEnds) (given : PairOutcome) (own theirs : ℕ) (flow : Flow)
+    → delivered (given_entries b x given) (stream_of b own theirs flow) ≡ come_to x.contact x.seen (messages_given (opened_in given)) own theirs flow
 unfolding delivered
-given_holds b e given own theirs flow = all_given b e (opened_in given) own theirs flow
+given_holds b x given own theirs flow = all_given b x (opened_in given) own theirs flow
 
 -- ---- a step
 

@@ -1,213 +1,267 @@
--- The last session of a link end stays the last one through a turn, but where an arrival takes the link up.
-use Rattle.std.proofs.Common.{◌≡◌, ℕ, ◌==◌, ◌&&◌, ◌||◌, Bool, true, false, List, [], ◌∷◌, Option, Some, None, option_map, if◌then◌else◌, refl, sym, ap, ◌∙◌, subst}
-use Rattle.std.specs.Prelude.{nat_lt, not}
+-- The last session of each link end stays the last one through a turn, but where an arrival on its bearer takes the link up.
+use Rattle.std.specs.Prelude.{◌==◌, ◌||◌, nat_le, nat_lt, if◌then◌else◌}
+use Rattle.std.proofs.Common.{◌≡◌, ◌≤◌, ℕ, zero, suc, Bool, true, false, List, Option, Some, None, refl, sym, ap, ◌∙◌, subst, arith}
+use Rattle.std.proofs.lemmas.Bool.Decides.{nat_tests}
 use Rattle.tipc_types.specs.declared.link_words.BroadcastState.{BroadcastState}
-use Rattle.tipc_types.specs.declared.link_words.LinkState.{LinkState}
-use Rattle.tipc_types.specs.declared.link_words.LinkState.TheVariants.{ResetUnknown, ResetReset, WorkingWorking, WorkingUnknown, Held}
-use Rattle.tipc_types.specs.declared.link_words.Reply.TheVariants as reply
+use Rattle.tipc_types.specs.declared.link_words.Why.TheVariants as why
 use Rattle.tipc_outside.specs.declared.outgoing.Outgoing.{Outgoing}
 use Rattle.tipc_header.specs.declared.packet.Header.{Header}
 use Rattle.tipc_header.specs.declared.packet.Header.TheVariants as header
 use Rattle.tipc_header.specs.Spelling.{Fields}
 use Rattle.tipc_link_fsm.specs.declared.changes.Change.{Change}
-use Rattle.tipc_link_fsm.specs.declared.changes.Change.TheVariants.{Up, Answer}
-use Rattle.tipc_link_fsm.specs.Table.{Fsm, Outcome, forget_peer, is_held, is_in_reset, is_last, is_peer, is_reset_reset, is_session, is_up, on_activate, on_cut, on_reset, on_tick, on_traffic, tick_in, up_tick}
-use Rattle.tipc_link.specs.Links.{LinkEnd, after, cut_end, followed, heard_end, is_down, is_heard, outcome_of, with_fsm}
-use Rattle.tipc_link.specs.Sessions.{Carries, Content, IsPut, Nothing, SessionEnd, Shows, answered, arrived, content_of, flushed, heard, joins, released, repeated, spoke, told, waits}
-use Rattle.tipc_pair.specs.Pairs.{Met, arrival, arrival_of, by_number, link_met, parted, reset_down, reset_met, reset_up, risen, risen_activate, risen_reset, settled}
-use Rattle.tipc_pair.specs.Partners.{PairState, pieces_for}
-use Rattle.tipc_pair.specs.Turns.{Happened, Opening, Outset, PairTurn, PutsAll, PutsOnto, answered_by}
-use Rattle.tipc_pair.specs.Turns.Opening.{cuts, hears, mends, rests, ticks}
-use Rattle.tipc_pair.specs.Turns.PutsAll.{none_put, puts_one}
-use Rattle.tipc_node.proofs.Addressing.{either}
+use Rattle.tipc_link_fsm.specs.declared.changes.Change.TheVariants.{Answer, Down, Ignore, Stay, Up}
+use Rattle.tipc_link_fsm.specs.Table.{Fsm, Outcome, is_up}
+use Rattle.tipc_link_fsm.proofs.Moves.{is_going_up}
+use Rattle.tipc_link.specs.Links.{LinkEnd, after, arrival_end, heard_end, is_heard, outcome_of}
+use Rattle.tipc_link.specs.Sessions.{arrived, content_of}
+use Rattle.tipc_pair.specs.declared.changes.PairOutcome.{PairOutcome}
+use Rattle.tipc_pair.specs.Changeovers.{released, risen}
+use Rattle.tipc_pair.specs.Courses.{Course, going_on}
+use Rattle.tipc_pair.specs.Facing.{PairEnds, active, facing, in_contact, is_up_at, other, turned, with_made, with_near}
+use Rattle.tipc_pair.specs.PairArrivals.{Arrives, Heard, activate_higher, activates, behind, by_number, hears as heard_by, met_at, met_near, passing, reset_near}
+use Rattle.tipc_pair.specs.PairCalls.{answered_at, at_bearer, mended_near}
+use Rattle.tipc_pair.specs.PairTurns.{Happened, Opening, Outset, PairTurn, PutsAll, Reply, made_near, replied}
+use Rattle.tipc_pair.specs.PairTurns.Opening.{cuts, hears, makes, mends, rests, ticks}
+use Rattle.tipc_pair.specs.PairTurns.PutsAll.{none_put, puts_one}
+use Rattle.tipc_pair.proofs.Facings.{facing_far, facing_near}
+use Rattle.tipc_node.specs.Turns.{IsOnOne}
+use Rattle.tipc_node.proofs.LinkSteps.{StepOf, outcome_steps}
+use Rattle.tipc_twins.proofs.LastSessions.{KeepsLast, after_last, arrived_last, following_last, last_epoch, last_same, last_then, mapped_last, numbers_facing, quiet_last, released_last, risen_last}
+use Rattle.tipc_twins.proofs.CallSessions.{answered_last, cut_last, mended_last, opens_last, puts_last, reset_last, ticked_last}
+use Rattle.tipc_world.specs.Numbers.{end_on}
+use Rattle.tipc_world.proofs.Pairings.{first_end, second_end}
 
--- the epoch of an end's last session
-abbrev pub last_epoch : LinkEnd → Option ℕ
-last_epoch e = option_map (λ s. s.epoch) e.session
+-- ---- what is heard on the near link
 
--- the session of an end is the last one of another
-abbrev IsLastOf : LinkEnd → LinkEnd → Type 0
-IsLastOf e e' = last_epoch e' ≡ last_epoch e
+-- the far end has the last session of before, and so has the near one where its link was up
+pub record KeepsSteady (x y : PairEnds) : Type 0 where
+  pub bearer : y.bearer ≡ x.bearer
+  pub near : is_up_at x.near ≡ true → last_epoch y.near ≡ last_epoch x.near
+  pub far : last_epoch y.far ≡ last_epoch x.far
 
--- ---- a session
+steady_of : (x y : PairEnds) → KeepsLast x y → KeepsSteady x y
+steady_of x y k = record { bearer = k.bearer; near = λ up. k.near; far = k.far }
 
-mapped_epoch : (f : SessionEnd → SessionEnd) (o : Option SessionEnd) → ((s : SessionEnd) → (f s).epoch ≡ s.epoch) → option_map (λ (s : SessionEnd). s.epoch) (option_map f o) ≡ option_map (λ (s : SessionEnd). s.epoch) o
-mapped_epoch f None keeps = refl
-mapped_epoch f (Some s) keeps = ap Some (keeps s)
+steady_then : (x y z : PairEnds) → KeepsSteady x y → KeepsLast y z → KeepsSteady x z
+steady_then x y z h k = record { bearer = k.bearer ∙ h.bearer; near = λ up. k.near ∙ h.near up; far = k.far ∙ h.far }
 
-spoke_epoch : {A : Type 0} (s : SessionEnd) (xs : List A) → (spoke s xs).epoch ≡ s.epoch
-spoke_epoch s [] = refl
-spoke_epoch s (x ∷ xs) = refl
+-- a link that is up doesn't go up
+not_rising : (f g : Fsm) (c : Change) → StepOf f g c → is_up f.state ≡ true → is_going_up c ≡ false
+not_rising f g Up step up = absurd (let low = step.0 in let wrong : ⊥ = cc in wrong)
+not_rising f g (Down cause) step up = refl
+not_rising f g Stay step up = refl
+not_rising f g (Answer reply) step up = refl
+not_rising f g (Ignore reason) step up = refl
 
-heard_epoch : (s : SessionEnd) (by acknowledgement : ℕ) (c : Content) → (heard s by acknowledgement c).epoch ≡ s.epoch
-heard_epoch s by acknowledgement (Shows next gap probe) = spoke_epoch (released s acknowledgement) (repeated (released s acknowledgement) acknowledgement gap)
-heard_epoch s by acknowledgement (Carries number packet) = refl
-heard_epoch s by acknowledgement Nothing = refl
+arrival_end_last : (e : LinkEnd) (o : Outcome) (p : Fields) (by : ℕ) → is_going_up o.change ≡ false → last_epoch (Some (arrival_end e o p by)) ≡ last_epoch (Some e)
+arrival_end_last e o p by quiet = elim (is_heard p.header o.change) as (λ t. last_epoch (Some (if t then heard_end (after e o) by p.acknowledgement (content_of p) else after e o)) ≡ last_epoch (Some e)) [
+  | true ↦ mapped_last (λ s. arrived s by p.acknowledgement (content_of p)) (λ s. arrived_last s by p.acknowledgement (content_of p)) (after e o).session ∙ after_last e o quiet
+  | false ↦ after_last e o quiet
+]
 
-flushed_epoch : (s : SessionEnd) → (flushed s).epoch ≡ s.epoch
-unfolding flushed
-flushed_epoch s = refl
+met_steady : (x : PairEnds) (n : Option LinkEnd) (es er : ℕ) (p : Fields) (by : ℕ) (shown : BroadcastState) → x.near ≡ n → KeepsSteady x (met_at es er p by shown x n).course.pair
+unfolding going_on
+met_steady x None es er p by shown is = steady_of x x (last_same x)
+met_steady x (Some e) es er p by shown is =
+    let o = outcome_of e.fsm p.header es er (is_up_at x.far) in
+    let z = with_near x (arrival_end e o p by) in
+    let k = (following_last z o.change es).keeps in
+    record {
+      bearer = k.bearer;
+      near = λ up.
+          let quiet = not_rising e.fsm o.after o.change (outcome_steps e.fsm p.header es er (is_up_at x.far)).step (ap is_up_at (sym is) ∙ up) in
+          k.near ∙ arrival_end_last e o p by quiet ∙ ap last_epoch (sym is);
+      far = k.far;
+    }
 
-arrived_epoch : (s : SessionEnd) (by acknowledgement : ℕ) (c : Content) → (arrived s by acknowledgement c).epoch ≡ s.epoch
-arrived_epoch s by acknowledgement (Shows next gap probe) = flushed_epoch _ ∙ heard_epoch s by acknowledgement (Shows next gap probe)
-arrived_epoch s by acknowledgement (Carries number packet) = flushed_epoch _ ∙ heard_epoch s by acknowledgement (Carries number packet)
-arrived_epoch s by acknowledgement Nothing = refl
+-- by the contact number that is shown
+number_steady : (x : PairEnds) (number : ℕ) (same higher : Heard) → KeepsSteady x same.course.pair → KeepsSteady x higher.course.pair → KeepsSteady x (by_number x number same higher).course.pair
+number_steady x number same higher h k = elim (nat_lt number x.seen) as (λ t. KeepsSteady x (if t then passing x why.Contact else (if number == x.seen then same else higher)).course.pair) [
+  | true ↦ steady_of x x (last_same x)
+  | false ↦ elim (number == x.seen) as (λ t. KeepsSteady x (if t then same else higher).course.pair) [
+    | true ↦ h
+    | false ↦ k
+  ]
+]
 
-put_epoch : (s : SessionEnd) (pieces : List (List ℕ)) (s' : SessionEnd) → IsPut s pieces s' → s'.epoch ≡ s.epoch
-put_epoch s _ _ (joins packets packet may) = refl
-put_epoch s _ _ (waits pieces apart) = refl
+no_contact : (a b : Bool) → (a || b) ≡ false → a ≡ true → ⊥
+no_contact true b none up = cc
+no_contact false b none up = cc
 
--- ---- which states begin a session
+activate_steady : (x : PairEnds) (number es er : ℕ) (p : Fields) (by : ℕ) (shown : BroadcastState) → KeepsSteady x (activate_higher number (met_near es er p by shown) x).course.pair
+unfolding going_on
+activate_steady x number es er p by shown =
+    let q = (risen x number).pair in
+    let first = risen_last x number in
+    elim (in_contact x) as (λ t. in_contact x ≡ t → KeepsSteady x (activates t (risen x number) (behind (risen x number) (met_near es er p by shown))).course.pair) [
+      | true ↦ λ is. steady_of x q first
+      | false ↦ λ none.
+          let second = met_steady q q.near es er p by shown refl in
+          record {
+            bearer = second.bearer ∙ first.bearer;
+            near = λ up. absurd (no_contact (is_up_at x.near) (is_up_at x.far) none up);
+            far = second.far ∙ first.far;
+          }
+    ] refl
 
--- the one that is chosen
-chosen : {A : Type 0} (P : A → Type 0) (t : Bool) (x y : A) → t ≡ true → P x → P (if t then x else y)
-chosen P t x y is px = subst (λ b. P (if b then x else y)) (sym is) px
+hears_steady : (h : Header) (x : PairEnds) (es er : ℕ) (p : Fields) (by : ℕ) (shown : BroadcastState) → KeepsSteady x (heard_by h es er p by shown x).course.pair
+unfolding going_on
+hears_steady (header.Reset said) x es er p by shown =
+    let q = (risen x said.contact).pair in
+    number_steady x said.contact (reset_near es shown x) (behind (risen x said.contact) (reset_near es shown)) (steady_of x _ (reset_last x es shown).keeps)
+    (steady_of x _ (last_then x q _ (risen_last x said.contact) (reset_last q es shown).keeps))
+hears_steady (header.Activate said) x es er p by shown =
+    number_steady x said.contact (met_near es er p by shown x) (activate_higher said.contact (met_near es er p by shown) x) (met_steady x x.near es er p by shown refl) (activate_steady x said.contact es er p by shown)
+hears_steady other x es er p by shown = met_steady x x.near es er p by shown refl
 
-other : {A : Type 0} (P : A → Type 0) (t : Bool) (x y : A) → t ≡ false → P y → P (if t then x else y)
-other P t x y is py = subst (λ b. P (if b then x else y)) (sym is) py
+arrival_steady : (x : PairEnds) (es er : ℕ) (p : Fields) (by : ℕ) (shown : BroadcastState) (c : Course) (given : PairOutcome) → Arrives x es er p by shown c given → x.bearer ≤ 1 → KeepsSteady x c.pair
+unfolding going_on
+arrival_steady x es er p by shown c given a two =
+    let m = heard_by p.header es er p by shown x in
+    let z = m.course.pair in
+    let one = hears_steady p.header x es er p by shown in
+    let low : z.bearer ≤ 1 = (let is = one.bearer in omega arith) in
+    let then_ = (opens_last z m.outcome a.opened given a.opens low).keeps in
+    let y = a.opened.pair in
+    let last = released_last y (let is = then_.bearer in omega arith) in
+    subst (λ (d : Course). KeepsSteady x d.pair) (sym a.course) (steady_then x z (released y).pair one (last_then z y (released y).pair then_ last))
 
--- no session begins with this outcome
-abbrev IsStill : Outcome → Type 0
-IsStill o = o.change ≡ Up → ⊥
+-- ---- by bearer
 
-reset_still : (f : Fsm) (es : ℕ) → IsStill (on_reset f es false)
-unfolding on_reset
-reset_still f es =
-    either IsStill (is_held f.state) _ _ (λ e. absurd cc)
-    (either IsStill (nat_lt es f.highest || (is_up f.state && is_peer f.peer es)) _ _ (λ e. absurd cc) (either IsStill (is_up f.state) _ _ (λ e. absurd cc) (λ e. absurd cc)))
+-- the last session of the end on a bearer, of a pair that is seen from bearer 0's link
+abbrev pub last_on : ℕ → PairEnds → Option ℕ
+last_on b x = last_epoch (end_on b (Some x))
 
-up_tick_still : (f : Fsm) → IsStill (up_tick f false)
-up_tick_still f = either IsStill (f.silent == 4) _ _ (λ e. absurd cc) (λ e. absurd cc)
+by_bearer : (x y : PairEnds) (b : ℕ) → x.bearer ≡ 0 → y.bearer ≡ 0 → (b ≡ 0 → last_epoch y.near ≡ last_epoch x.near) → (b ≡ 1 → last_epoch y.far ≡ last_epoch x.far) → last_on b y ≡ last_on b x
+by_bearer x y zero first last near far = ap last_epoch (first_end y last) ∙ near refl ∙ ap last_epoch (sym (first_end x first))
+by_bearer x y (suc zero) first last near far = ap last_epoch (second_end y last) ∙ far refl ∙ ap last_epoch (sym (second_end x first))
+by_bearer x y (suc (suc b)) first last near far =
+    let past : nat_le (suc (suc b)) 1 ≡ false = grind (arith, nat_tests) in
+    ap (λ t. last_epoch (if t then (facing (suc (suc b)) y).near else None)) past ∙ sym (ap (λ t. last_epoch (if t then (facing (suc (suc b)) x).near else None)) past)
 
-tick_in_still : (st : LinkState) (f : Fsm) → IsStill (tick_in st f false)
-tick_in_still ResetUnknown f e = absurd cc
-tick_in_still ResetReset f e = absurd cc
-tick_in_still Held f e = absurd cc
-tick_in_still WorkingWorking f e = up_tick_still f e
-tick_in_still WorkingUnknown f e = up_tick_still f e
+-- a pair that is seen from bearer 0's link has the last sessions of before
+pub record StaysLast (x y : PairEnds) : Type 0 where
+  pub first : y.bearer ≡ 0
+  pub last : (b : ℕ) → last_on b y ≡ last_on b x
 
-tick_still : (f : Fsm) → IsStill (on_tick f false)
-unfolding on_tick
-tick_still f e = tick_in_still f.state f e
+stays_of : (x y : PairEnds) → x.bearer ≡ 0 → KeepsLast x y → StaysLast x y
+stays_of x y first k = record { first = k.bearer ∙ first; last = λ b. by_bearer x y b first (k.bearer ∙ first) (λ _. k.near) (λ _. k.far) }
 
-no_reset : (st : LinkState) → is_up st ≡ true → is_in_reset st ≡ false
-no_reset WorkingWorking up = refl
-no_reset WorkingUnknown up = refl
-no_reset ResetUnknown up = absurd cc
-no_reset ResetReset up = absurd cc
-no_reset Held up = absurd cc
+-- ---- what happens first
 
-no_reset_reset : (st : LinkState) → is_up st ≡ true → is_reset_reset st ≡ false
-no_reset_reset WorkingWorking up = refl
-no_reset_reset WorkingUnknown up = refl
-no_reset_reset ResetUnknown up = absurd cc
-no_reset_reset ResetReset up = absurd cc
-no_reset_reset Held up = absurd cc
+facing_low : (bearer : ℕ) (x : PairEnds) → x.bearer ≤ 1 → (facing bearer x).bearer ≤ 1
+unfolding facing
+facing_low bearer x two = elim (x.bearer == bearer) as (λ b. (if b then x else turned x).bearer ≤ 1) [ true ↦ two | false ↦ omega arith ]
 
-and_false : (t : Bool) → (t && false) ≡ false
-and_false true = refl
-and_false false = refl
+-- an arrival that comes on the bearer finds the link there up
+abbrev pub IsSteady : PairEnds → ℕ → Opening → Type 0
+IsSteady x b (hears bearer es er p by shown) = b ≡ bearer → is_up_at (end_on b (Some x)) ≡ true
+IsSteady x b other = Unit {0}
 
-activate_still : (f : Fsm) (es er : ℕ) → is_up f.state ≡ true → IsStill (on_activate f es er)
-unfolding on_activate
-activate_still f es er up =
-    either IsStill (is_held f.state) _ _ (λ e. absurd cc)
-    (other IsStill ((is_in_reset f.state && not (is_last f.own)) && ((er == f.own) && not (nat_lt es f.highest))) _ _ (ap (λ t. (t && not (is_last f.own)) && ((er == f.own) && not (nat_lt es f.highest))) (no_reset f.state up))
-    (either IsStill (is_up f.state && is_session f es er) _ _ (λ e. absurd cc) (λ e. absurd cc)))
+-- the pair is seen from bearer 0's link then, and the end on a bearer has the last session of before
+pub record OpensLast (x : PairEnds) (opening : Opening) (y : PairEnds) : Type 0 where
+  pub first : y.bearer ≡ 0
+  pub last : (b : ℕ) → IsSteady x b opening → last_on b y ≡ last_on b x
 
-traffic_still : (f : Fsm) (es er : ℕ) → is_up f.state ≡ true → IsStill (on_traffic f es er)
-unfolding on_traffic
-traffic_still f es er up =
-    other IsStill (is_session f es er && (is_reset_reset f.state && not (is_last f.own))) _ _
-    (ap (λ t. is_session f es er && (t && not (is_last f.own))) (no_reset_reset f.state up) ∙ and_false (is_session f es er))
-    (either IsStill (is_session f es er && is_up f.state) _ _ (λ e. absurd cc) (λ e. absurd cc))
+opens_of : (x y : PairEnds) (opening : Opening) → x.bearer ≡ 0 → KeepsLast x y → OpensLast x opening y
+opens_of x y opening first k = let s = stays_of x y first k in record { first = s.first; last = λ b _. s.last b }
 
--- a link that is up begins no session
-up_still : (f : Fsm) (h : Header) (es er : ℕ) → is_up f.state ≡ true → IsStill (outcome_of f h es er false)
-up_still f (header.Reset r) es er up = reset_still f es
-up_still f (header.Activate a) es er up = activate_still f es er up
-up_still f (header.Discovery d) es er up = λ e. absurd cc
-up_still f rest es er up = traffic_still f es er up
+low_of : (x : PairEnds) → x.bearer ≡ 0 → x.bearer ≤ 1
+low_of x first = omega (arith, first)
 
--- ---- a link end
+heard_last : (x : PairEnds) (bearer es er : ℕ) (p : Fields) (by : ℕ) (shown : BroadcastState) (c : Course) (given : PairOutcome) → x.bearer ≡ 0 → bearer ≤ 1 → Arrives (facing bearer x) es er p by shown c given
+    → OpensLast x (hears bearer es er p by shown) (facing x.bearer c.pair)
+heard_last x zero es er p by shown c given first low a =
+    let here : facing 0 x ≡ x = facing_near 0 x first in
+    let k = arrival_steady (facing 0 x) es er p by shown c given a (subst (λ (y : PairEnds). y.bearer ≤ 1) (sym here) (low_of x first)) in
+    let zero_is : c.pair.bearer ≡ 0 = k.bearer ∙ ap (λ (y : PairEnds). y.bearer) here ∙ first in
+    let same : facing x.bearer c.pair ≡ c.pair = ap (λ n. facing n c.pair) first ∙ facing_near 0 c.pair zero_is in
+    subst (OpensLast x (hears 0 es er p by shown)) (sym same) (record {
+      first = zero_is;
+      last = λ b steady. by_bearer x c.pair b first zero_is
+          (λ is. k.near (ap (λ (y : PairEnds). is_up_at y.near) here ∙ ap is_up_at (sym (first_end x first)) ∙ ap (λ n. is_up_at (end_on n (Some x))) (sym is) ∙ steady is) ∙ ap (λ (y : PairEnds). last_epoch y.near) here)
+          (λ is. k.far ∙ ap (λ (y : PairEnds). last_epoch y.far) here);
+    })
+heard_last x (suc zero) es er p by shown c given first low a =
+    let apart : (x.bearer == 1) ≡ false = ap (λ n. n == 1) first in
+    let here : facing 1 x ≡ turned x = facing_far 1 x apart in
+    let one_is : (facing 1 x).bearer ≡ 1 = ap (λ (y : PairEnds). y.bearer) here ∙ ap other first in
+    let k = arrival_steady (facing 1 x) es er p by shown c given a (omega (arith, one_is)) in
+    let bearer_is : c.pair.bearer ≡ 1 = k.bearer ∙ one_is in
+    let back : (c.pair.bearer == 0) ≡ false = ap (λ n. n == 0) bearer_is in
+    let same : facing x.bearer c.pair ≡ turned c.pair = ap (λ n. facing n c.pair) first ∙ facing_far 0 c.pair back in
+    let zero_is : (turned c.pair).bearer ≡ 0 = ap other bearer_is in
+    subst (OpensLast x (hears 1 es er p by shown)) (sym same) (record {
+      first = zero_is;
+      last = λ b steady. by_bearer x (turned c.pair) b first zero_is
+          (λ is. k.far ∙ ap (λ (y : PairEnds). last_epoch y.far) here)
+          (λ is. k.near (ap (λ (y : PairEnds). is_up_at y.near) here ∙ ap is_up_at (sym (second_end x first)) ∙ ap (λ n. is_up_at (end_on n (Some x))) (sym is) ∙ steady is) ∙ ap (λ (y : PairEnds). last_epoch y.near) here);
+    })
+heard_last x (suc (suc bearer)) es er p by shown c given first low a = absurd (let wrong : ⊥ = omega arith in wrong)
 
-followed_last : (e : LinkEnd) (c : Change) → (c ≡ Up → ⊥) → IsLastOf e (followed e c)
-followed_last e Up still = absurd (still refl)
-followed_last e (Answer (reply.State probe)) still = mapped_epoch told e.session (λ s. refl)
-followed_last e rest still = refl
+-- an end is made by none of these
+abbrev pub MakesNone : Opening → Type 0
+MakesNone (makes bearer mended) = ⊥
+MakesNone other = Unit {0}
 
-after_last : (e : LinkEnd) (o : Outcome) → IsStill o → IsLastOf e (after e o)
-after_last e o still = followed_last (with_fsm e o.after) o.change still
+opening_last : (x : PairEnds) (opening : Opening) (o : Outset) → x.bearer ≡ 0 → IsOnOne opening → MakesNone opening → Happened x opening o → OpensLast x opening o.course.pair
+opening_last x rests o first on none is = subst (λ (u : Outset). OpensLast x rests u.course.pair) (sym is) (opens_of x x rests first (last_same x))
+opening_last x (makes bearer mended) o first on none is = absurd none
+opening_last x (mends bearer) o first on none is =
+    let y = facing bearer x in
+    subst (λ (u : Outset). OpensLast x (mends bearer) u.course.pair) (sym is)
+    (opens_of x _ (mends bearer) first (numbers_facing bearer x (mended_near y y.near) _ (low_of x first) (quiet_last y (mended_near y y.near) (mended_last y y.near refl))).keeps)
+opening_last x (cuts bearer) o first on none is =
+    let y = facing bearer x in
+    subst (λ (u : Outset). OpensLast x (cuts bearer) u.course.pair) (sym is)
+    (opens_of x _ (cuts bearer) first (numbers_facing bearer x _ _ (low_of x first) (cut_last y (facing_low bearer x (low_of x first)))).keeps)
+opening_last x (ticks shown) o first on none is =
+    subst (λ (u : Outset). OpensLast x (ticks shown) u.course.pair) (sym is) (opens_of x _ (ticks shown) first (ticked_last x shown (low_of x first)).keeps)
+opening_last x (hears bearer es er p by shown) o first on none is =
+    subst (λ (u : Outset). OpensLast x (hears bearer es er p by shown) u.course.pair) (sym is.3) (heard_last x bearer es er p by shown is.0 is.1 first on is.2)
 
-settled_last : (e : LinkEnd) (o : Outcome) → IsStill o → IsLastOf e (settled e o)
-settled_last e o still = either (IsLastOf e) (is_down o.change) (parted (after e o)) (after e o) (after_last e o still) (after_last e o still)
+-- an end that is made has had no session
+pub made_last : (x : PairEnds) (bearer : ℕ) (mended : Bool) → x.bearer ≡ 0 → (facing bearer x).near ≡ None → StaysLast x (at_bearer bearer x (made_near mended)).pair
+unfolding going_on
+made_last x bearer mended first none =
+    let y = facing bearer x in
+    let made : KeepsLast y (with_made y) = record { bearer = refl; near = sym (ap last_epoch none); far = refl } in
+    stays_of x _ first (numbers_facing bearer x (made_near mended y).pair _ (low_of x first) (quiet_last y (made_near mended y).pair (by mended made))).keeps
+  where
+    by : (t : Bool) → KeepsLast (facing bearer x) (with_made (facing bearer x)) → KeepsLast (facing bearer x) (made_near t (facing bearer x)).pair
+    by true made = record { bearer = refl; near = made.near; far = refl }
+    by false made = made
 
-risen_last : (e : LinkEnd) (number : ℕ) → IsLastOf e (risen e number)
-risen_last e number = either (IsLastOf e) (is_up e.fsm.state) (parted e) (with_fsm e (forget_peer e.fsm).after) refl refl
+-- ---- messages are put, and the answer is given
 
--- what an arrival made of an end left its last session
-abbrev LeavesLast : LinkEnd → Met → Type 0
-LeavesLast e m = IsLastOf e m.after
+active_low : (x : PairEnds) (bearer : ℕ) → active x ≡ Some bearer → bearer ≤ 1
+active_low x bearer is = by (is_up_at (facing 0 x).near) (is_up_at (facing 1 x).near) is
+  where
+    by : (s t : Bool) → (if s then Some 0 else (if t then Some 1 else None)) ≡ Some bearer → bearer ≤ 1
+    by true t is = let same : 0 ≡ bearer = cc in omega (arith, same)
+    by false true is = let same : 1 ≡ bearer = cc in omega (arith, same)
+    by false false is = absurd cc
 
-link_last : (e : LinkEnd) (o : Outcome) (p : Fields) (by : ℕ) (shown : BroadcastState) → IsStill o → LeavesLast e (link_met e o p by shown)
-link_last e o p by shown still =
-    either (IsLastOf e) (is_heard p.header o.change) (heard_end (after e o) by p.acknowledgement (content_of p)) (after e o)
-    (mapped_epoch (λ s. arrived s by p.acknowledgement (content_of p)) (after e o).session (λ s. arrived_epoch s by p.acknowledgement (content_of p)) ∙ after_last e o still) (after_last e o still)
+all_put_last : (x : PairEnds) (messages : List (List ℕ)) (frames : List Outgoing) (y : PairEnds) → x.bearer ≤ 1 → PutsAll x messages frames y → KeepsLast x y
+all_put_last _ _ _ _ two (none_put x) = last_same x
+all_put_last _ _ _ _ two (puts_one x between last m messages first frames one more) =
+    let k = subst (KeepsLast x) (sym one.after) (puts_last one.bearer x one.near _ first (active_low x one.bearer one.active_is) two one.puts).keeps in
+    last_then x between last k (all_put_last between messages frames last (let is = k.bearer in omega arith) more)
 
-reset_last : (e : LinkEnd) (o : Outcome) (es : ℕ) (shown : BroadcastState) → IsStill o → LeavesLast e (reset_met e o es shown)
-reset_last e o es shown still =
-    either (LeavesLast e) (is_down o.change) (reset_up e o es shown) (reset_down e o shown)
-    (after_last (settled e o) (on_reset (settled e o).fsm es false) (reset_still (settled e o).fsm es) ∙ settled_last e o still) (after_last e o still)
+replied_last : (reply : Option Reply) (x : PairEnds) → x.bearer ≤ 1 → KeepsLast x (replied reply x).pair
+replied_last None x two = last_same x
+replied_last (Some r) x two =
+    let y = facing r.bearer x in
+    (numbers_facing r.bearer x (answered_at y y.near 0 false r.shown).pair _ two (quiet_last y (answered_at y y.near 0 false r.shown).pair (answered_last y y.near 0 false r.shown refl))).keeps
 
-number_last : (e : LinkEnd) (number : ℕ) (same higher : Met) → LeavesLast e same → LeavesLast e higher → LeavesLast e (by_number e number same higher)
-number_last e number same higher s h = either (LeavesLast e) (nat_lt number e.peer_contact) _ _ refl (either (LeavesLast e) (number == e.peer_contact) same higher s h)
+-- ---- the turn
 
-risen_reset_last : (e : LinkEnd) (number es : ℕ) (shown : BroadcastState) → LeavesLast e (risen_reset e number es shown)
-risen_reset_last e number es shown = reset_last (risen e number) (on_reset (risen e number).fsm es false) es shown (reset_still (risen e number).fsm es) ∙ risen_last e number
-
-risen_activate_last : (e : LinkEnd) (number es er : ℕ) (p : Fields) (by : ℕ) (shown : BroadcastState) → is_up e.fsm.state ≡ true → LeavesLast e (risen_activate e number es er p by shown)
-risen_activate_last e number es er p by shown up = chosen (LeavesLast e) (is_up e.fsm.state) _ _ up (risen_last e number)
-
-arrival_by : (h : Header) (e : LinkEnd) (es er : ℕ) (p : Fields) (by : ℕ) (shown : BroadcastState) → is_up e.fsm.state ≡ true → LeavesLast e (arrival_of h e es er p by shown)
-arrival_by (header.Reset r) e es er p by shown up = number_last e r.contact _ _ (reset_last e (on_reset e.fsm es false) es shown (reset_still e.fsm es)) (risen_reset_last e r.contact es shown)
-arrival_by (header.Activate a) e es er p by shown up =
-    number_last e a.contact _ _ (link_last e (outcome_of e.fsm p.header es er false) p by shown (up_still e.fsm p.header es er up)) (risen_activate_last e a.contact es er p by shown up)
-arrival_by rest e es er p by shown up = link_last e (outcome_of e.fsm p.header es er false) p by shown (up_still e.fsm p.header es er up)
-
-arrival_last : (e : LinkEnd) (es er : ℕ) (p : Fields) (by : ℕ) (shown : BroadcastState) → is_up e.fsm.state ≡ true → LeavesLast e (arrival e es er p by shown)
-unfolding arrival
-arrival_last e es er p by shown up = arrival_by p.header e es er p by shown up
-
--- ---- a turn
-
--- what is heard is heard by a link that is up
-abbrev pub IsSteady : LinkEnd → Opening → Type 0
-IsSteady e (hears es er p by shown) = is_up e.fsm.state ≡ true
-IsSteady e _ = Unit {0}
-
-opening_last : (x : PairState) (opening : Opening) (o : Outset) → IsSteady x.link opening → Happened x opening o → IsLastOf x.link o.pair.link
-opening_last x rests o steady is = ap (λ (u : Outset). last_epoch u.pair.link) is
-opening_last x mends o steady is = ap (λ (u : Outset). last_epoch u.pair.link) is
-opening_last x cuts o steady is = ap (λ (u : Outset). last_epoch u.pair.link) is
-    ∙ either (IsLastOf x.link) (is_down (on_cut x.link.fsm false).change) (parted (cut_end x.link false)) (cut_end x.link false) refl refl
-opening_last x (ticks shown) o steady is = ap (λ (u : Outset). last_epoch u.pair.link) is ∙ settled_last x.link (on_tick x.link.fsm false) (tick_still x.link.fsm)
-opening_last x (hears es er p by shown) o steady is = ap (λ (u : Outset). last_epoch u.pair.link) is.3 ∙ arrival_last x.link es er p by shown steady
-
-all_last : (s : SessionEnd) (messages : List (List ℕ)) (frames : List Outgoing) (last : SessionEnd) → PutsAll s messages frames last → last.epoch ≡ s.epoch
-all_last s _ _ _ (none_put _) = refl
-all_last s _ _ last (puts_one _ s' _ m messages frames put all) = all_last (flushed s') messages frames last all ∙ flushed_epoch s' ∙ put_epoch s (pieces_for m) s' put
-
-onto_last : (e : LinkEnd) (messages : List (List ℕ)) (frames : List Outgoing) (e' : LinkEnd) → PutsOnto e messages frames e' → IsLastOf e e'
-onto_last e [] frames e' h = ap last_epoch h.1
-onto_last e (m ∷ messages) frames e' h =
-    ap last_epoch h.after ∙ ap Some (all_last h.session (m ∷ messages) frames h.last h.puts) ∙ sym (ap (option_map (λ (s : SessionEnd). s.epoch)) h.session_is)
-
-answered_last : (answer : Option BroadcastState) (e : LinkEnd) → IsLastOf e (answered_by answer e)
-answered_last None e = refl
-answered_last (Some shown) e = either (IsLastOf e) (is_up e.fsm.state) _ _ (mapped_epoch answered e.session (λ s. refl)) refl
-
--- an end's last session stays the last one, where no arrival takes the link up
-pub turn_last : (x x' : PairState) (opening : Opening) (messages : List (List ℕ)) (answer : Option BroadcastState) (frames : List Outgoing) → IsSteady x.link opening → PairTurn x opening messages answer x' frames
-    → last_epoch x'.link ≡ last_epoch x.link
-turn_last x x' opening messages answer frames steady t =
-    ap (λ (u : PairState). last_epoch u.link) t.after ∙ answered_last answer t.put ∙ onto_last t.first.pair.link messages t.put_frames t.put t.puts ∙ opening_last x opening t.first steady t.happened
+pub turn_last : (x x' : PairEnds) (opening : Opening) (messages : List (List ℕ)) (reply : Option Reply) (frames : List Outgoing) → x.bearer ≡ 0 → IsOnOne opening → MakesNone opening
+    → PairTurn x opening messages reply x' frames → OpensLast x opening x'
+turn_last x x' opening messages reply frames first on none t =
+    let y = t.first.course.pair in
+    let one = opening_last x opening t.first first on none t.happened in
+    let k = all_put_last y messages t.put_frames t.put (low_of y one.first) t.puts in
+    let l = last_then y t.put (replied reply t.put).pair k (replied_last reply t.put (let is = k.bearer in let start = one.first in omega arith)) in
+    let s = stays_of y (replied reply t.put).pair one.first l in
+    subst (OpensLast x opening) (sym t.after) (record { first = s.first; last = λ b steady. s.last b ∙ one.last b steady })

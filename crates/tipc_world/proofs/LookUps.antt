@@ -2,9 +2,8 @@
 use Rattle.std.proofs.Common.{◌≡◌, ◌≢◌, ℕ, ◌<◌, Bool, true, false, List, [], Option, Some, None, length, option_map, option_and_then, unwrap_or, slice_index_or, slice_set, if◌then◌else◌, refl, ap, inl, inr, get_or-set_same, get_or-set_other}
 use Rattle.std.proofs.lemmas.Bool.{cases_lt}
 use Rattle.std.proofs.lemmas.List.{get_or_past}
-use Rattle.tipc_fragments.specs.Joining.{fresh}
-use Rattle.tipc_node.specs.Turns.{link_in}
-use Rattle.tipc_world.specs.States.{MemberState, begun_at, begun_in, boot_at, count_at, count_of, history, history_at, link_at, member_at}
+use Rattle.tipc_node.specs.Turns.{pair_in}
+use Rattle.tipc_world.specs.States.{MemberState, boot_at, count_at, count_of, history, history_at, member_at, pair_at}
 
 -- a choice of the same
 pub either_way : {A : Type 0} (t : Bool) (x : A) → (if t then x else x) ≡ x
@@ -40,38 +39,30 @@ pub boot_at-is : (members : List (Option MemberState)) (a : ℕ) (m : MemberStat
 unfolding boot_at
 boot_at-is members a m is = ap (λ o. unwrap_or (option_map (λ (n : MemberState). n.node.boot) o) 1) is
 
-pub link_at-is : (members : List (Option MemberState)) (a b : ℕ) (m : MemberState) → member_at members a ≡ Some m → link_at members a b ≡ link_in m.node b
-unfolding link_at
-link_at-is members a b m is = ap (λ o. option_and_then (λ (n : MemberState). link_in n.node b) o) is
-
-pub begun_at-is : (members : List (Option MemberState)) (a b : ℕ) (m : MemberState) → member_at members a ≡ Some m → begun_at members a b ≡ begun_in m.node b
-unfolding begun_at
-begun_at-is members a b m is = ap (λ o. unwrap_or (option_map (λ (n : MemberState). begun_in n.node b) o) fresh) is
+pub pair_at-is : (members : List (Option MemberState)) (a b : ℕ) (m : MemberState) → member_at members a ≡ Some m → pair_at members a b ≡ pair_in m.node b
+unfolding pair_at
+pair_at-is members a b m is = ap (λ o. option_and_then (λ (n : MemberState). pair_in n.node b) o) is
 
 pub history_at-is : (members : List (Option MemberState)) (a : ℕ) (m : MemberState) → member_at members a ≡ Some m → history_at members a ≡ history m
 unfolding history_at
 history_at-is members a m is = ap (λ o. unwrap_or (option_map history o) []) is
 
-pub count_at-is : (members : List (Option MemberState)) (a b epoch : ℕ) (m : MemberState) → member_at members a ≡ Some m → count_at members a b epoch ≡ count_of m b epoch
+pub count_at-is : (members : List (Option MemberState)) (a b bearer epoch : ℕ) (m : MemberState) → member_at members a ≡ Some m → count_at members a b bearer epoch ≡ count_of m b bearer epoch
 unfolding count_at
-count_at-is members a b epoch m is = ap (λ o. unwrap_or (option_map (λ (n : MemberState). count_of n b epoch) o) 0) is
+count_at-is members a b bearer epoch m is = ap (λ o. unwrap_or (option_map (λ (n : MemberState). count_of n b bearer epoch) o) 0) is
 
 pub boot_at-same : (members members' : List (Option MemberState)) (a : ℕ) → member_at members' a ≡ member_at members a → boot_at members' a ≡ boot_at members a
 unfolding boot_at
 boot_at-same members members' a is = ap (λ o. unwrap_or (option_map (λ (n : MemberState). n.node.boot) o) 1) is
 
-pub link_at-same : (members members' : List (Option MemberState)) (a b : ℕ) → member_at members' a ≡ member_at members a → link_at members' a b ≡ link_at members a b
-unfolding link_at
-link_at-same members members' a b is = ap (λ o. option_and_then (λ (n : MemberState). link_in n.node b) o) is
-
-pub begun_at-same : (members members' : List (Option MemberState)) (a b : ℕ) → member_at members' a ≡ member_at members a → begun_at members' a b ≡ begun_at members a b
-unfolding begun_at
-begun_at-same members members' a b is = ap (λ o. unwrap_or (option_map (λ (n : MemberState). begun_in n.node b) o) fresh) is
+pub pair_at-same : (members members' : List (Option MemberState)) (a b : ℕ) → member_at members' a ≡ member_at members a → pair_at members' a b ≡ pair_at members a b
+unfolding pair_at
+pair_at-same members members' a b is = ap (λ o. option_and_then (λ (n : MemberState). pair_in n.node b) o) is
 
 pub history_at-same : (members members' : List (Option MemberState)) (a : ℕ) → member_at members' a ≡ member_at members a → history_at members' a ≡ history_at members a
 unfolding history_at
 history_at-same members members' a is = ap (λ o. unwrap_or (option_map history o) []) is
 
-pub count_at-same : (members members' : List (Option MemberState)) (a b epoch : ℕ) → member_at members' a ≡ member_at members a → count_at members' a b epoch ≡ count_at members a b epoch
+pub count_at-same : (members members' : List (Option MemberState)) (a b bearer epoch : ℕ) → member_at members' a ≡ member_at members a → count_at members' a b bearer epoch ≡ count_at members a b bearer epoch
 unfolding count_at
-count_at-same members members' a b epoch is = ap (λ o. unwrap_or (option_map (λ (n : MemberState). count_of n b epoch) o) 0) is
+count_at-same members members' a b bearer epoch is = ap (λ o. unwrap_or (option_map (λ (n : MemberState). count_of n b bearer epoch) o) 0) is

@@ -8,7 +8,7 @@ use Rattle.tipc_header.specs.Grammar.{Fits}
 use Rattle.tipc_header.specs.Spelling.{Fields, spelling}
 use Rattle.tipc_header.proofs.RoundTrip.{one_packet}
 use Rattle.tipc_message.specs.Wire.{items_packet, message_of, packet_of, payload_of, payload_packet}
-use Rattle.tipc_pair.specs.Partners.{IsMessage}
+use Rattle.tipc_pair.specs.Messages.{IsMessage}
 use Rattle.tipc_node.specs.Messages.{IsSendable, bytes_of, spelled}
 use Rattle.tipc_world.proofs.Outcomes.{some_is}
 

@@ -17,7 +17,7 @@ use Rattle.tipc_node.specs.Calls.{CallTurn}
 use Rattle.tipc_node.specs.Nodes.{step_of}
 use Rattle.tipc_node.specs.Sockets.{kept_answer}
 use Rattle.tipc_node.specs.Works.{addr_of_word}
-use Rattle.tipc_world.specs.declared.air.Sent.{Sent}
+use Rattle.tipc_world.specs.Skies.{AirState}
 use Rattle.tipc_world.specs.declared.events.WorldEvent.{WorldEvent}
 use Rattle.tipc_world.specs.declared.events.WorldEvent.TheVariants.{Know, Restart, Call, Arrive}
 use Rattle.tipc_world.specs.Answered.{AreOrderly}
@@ -72,7 +72,7 @@ records a recorded m m' event bytes kept frames number own past calls h =
       callers = h.told.answered;
     }
 
-made_orderly : {P : Type 0} (gives : P → ℕ → ℕ → ℕ → Type 0) (members : List (Option MemberState)) (air : List Sent) (a recorded : ℕ) (call : EventNote) (m m' : MemberState) (frames : List Outgoing) (answered : Answer) (chooser chooser' : Choosing P)
+made_orderly : {P : Type 0} (gives : P → ℕ → ℕ → ℕ → Type 0) (members : List (Option MemberState)) (air : AirState) (a recorded : ℕ) (call : EventNote) (m m' : MemberState) (frames : List Outgoing) (answered : Answer) (chooser chooser' : Choosing P)
     → IsSound members air → slice_index_or members a None ≡ Some m → Makes recorded call m m' frames answered → Chooses gives m (Call a call) answered chooser chooser' → AreOrderly gives members recorded chooser
     → AreOrderly gives (slice_set members a (Some m')) (recorded + 1) chooser'
 made_orderly gives members air a recorded call m m' frames answered chooser chooser' sound was h c orderly =
@@ -82,7 +82,7 @@ made_orderly gives members air a recorded call m m' frames answered chooser choo
     (λ turn at. kept_picked (gives chooser.pick) turn _ m.node.journal call answered (subst (λ w. IsPicked (gives chooser.pick) turn (addr_of_word w) m.node.journal call answered) number.1 (c.picked turn at)))
     (c.turns ∙ ap (turned chooser) (sym (kept_named call answered))) orderly
 
-met_orderly : {P : Type 0} (gives : P → ℕ → ℕ → ℕ → Type 0) (members : List (Option MemberState)) (air : List Sent) (a recorded bearer place : ℕ) (bytes : List ℕ) (m m' : MemberState) (frames : List Outgoing) (answered : Answer)
+met_orderly : {P : Type 0} (gives : P → ℕ → ℕ → ℕ → Type 0) (members : List (Option MemberState)) (air : AirState) (a recorded bearer place : ℕ) (bytes : List ℕ) (m m' : MemberState) (frames : List Outgoing) (answered : Answer)
     (chooser chooser' : Choosing P) → IsSound members air → slice_index_or members a None ≡ Some m → Meets recorded bearer place bytes m m' frames answered → Chooses gives m (Arrive a bearer place) answered chooser chooser'
     → AreOrderly gives members recorded chooser → AreOrderly gives (slice_set members a (Some m')) (recorded + 1) chooser'
 met_orderly gives members air a recorded bearer place bytes m m' frames answered chooser chooser' sound was h c orderly =
@@ -92,12 +92,12 @@ met_orderly gives members air a recorded bearer place bytes m m' frames answered
 
 -- ---- all events
 
-does_orderly : {P : Type 0} (gives : P → ℕ → ℕ → ℕ → Type 0) (members : List (Option MemberState)) (air : List Sent) (recorded : ℕ) (event : WorldEvent) (bytes : List ℕ) (m m' : MemberState) (frames : List Outgoing) (answered : Answer)
+does_orderly : {P : Type 0} (gives : P → ℕ → ℕ → ℕ → Type 0) (members : List (Option MemberState)) (air : AirState) (recorded : ℕ) (event : WorldEvent) (bytes : List ℕ) (m m' : MemberState) (frames : List Outgoing) (answered : Answer)
     (chooser chooser' : Choosing P) → IsSound members air → slice_index_or members (node_of event) None ≡ Some m → Does recorded event bytes m m' frames answered → Chooses gives m event answered chooser chooser'
     → AreOrderly gives members recorded chooser → AreOrderly gives (slice_set members (node_of event) (Some m')) (if is_recorded event then recorded + 1 else recorded) chooser'
-does_orderly gives members air recorded (Know a peer) bytes m m' frames answered chooser chooser' sound was h c orderly =
+does_orderly gives members air recorded (Know a peer bearer) bytes m m' frames answered chooser chooser' sound was h c orderly =
     subst (AreOrderly gives (slice_set members a (Some m')) recorded) (sym c.turns)
-    (subst (λ k. AreOrderly gives (slice_set members a (Some k)) recorded chooser) (sym h.0) (know_orderly gives members recorded a peer chooser m was orderly))
+    (subst (λ k. AreOrderly gives (slice_set members a (Some k)) recorded chooser) (sym h.0) (know_orderly gives members recorded a peer bearer chooser m was orderly))
 does_orderly gives members air recorded (Restart a) bytes m m' frames answered chooser chooser' sound was h c orderly =
     subst (AreOrderly gives (slice_set members a (Some m')) recorded) (sym c.turns) (restart_orderly gives members recorded a chooser m m' was h.0 orderly)
 does_orderly gives members air recorded (Call a call) bytes m m' frames answered chooser chooser' sound was h c orderly = made_orderly gives members air a recorded call m m' frames answered chooser chooser' sound was h c orderly
@@ -125,32 +125,17 @@ arrival_orderly gives old new recorded node bearer place answered lost chooser c
 becomes_orderly : {P : Type 0} (gives : P → ℕ → ℕ → ℕ → Type 0) (old new : Stage) (recorded : ℕ) (event : WorldEvent) (answered : Answer) (lost : Bool) (chooser chooser' : Choosing P) → CanHappenAt old.members event
     → IsSound old.members old.air → Becomes old recorded event new answered lost → ChoosesAt gives old.members event answered chooser chooser' → AreOrderly gives old.members recorded chooser
     → AreOrderly gives new.members (if is_call_at old.members old.air event then recorded + 1 else recorded) chooser'
-becomes_orderly gives old new recorded (Know node peer) answered lost chooser chooser' can sound h c orderly = happens_orderly gives old new recorded (Know node peer) [] answered lost chooser chooser' sound h c orderly
+becomes_orderly gives old new recorded (Know node peer bearer) answered lost chooser chooser' can sound h c orderly = happens_orderly gives old new recorded (Know node peer bearer) [] answered lost chooser chooser' sound h c orderly
 becomes_orderly gives old new recorded (Restart node) answered lost chooser chooser' can sound h c orderly = happens_orderly gives old new recorded (Restart node) [] answered lost chooser chooser' sound h c orderly
 becomes_orderly gives old new recorded (Call node call) answered lost chooser chooser' can sound h c orderly = happens_orderly gives old new recorded (Call node call) [] answered lost chooser chooser' sound h c orderly
 becomes_orderly gives old new recorded (Arrive node bearer place) answered lost chooser chooser' can sound h c orderly =
     arrival_orderly gives old new recorded node bearer place answered lost chooser chooser' (unarrived old.members old.air node bearer place) refl can.0 sound h c orderly
 
 -- after an event of a world
-pub orderly_after : {P : Type 0} (gives : P → ℕ → ℕ → ℕ → Type 0) (old : WorldState) (event : WorldEvent) (members : List (Option MemberState)) (air : List Sent) (events stamps : ℕ) (lost counted : Bool) (answered : Answer)
+pub orderly_after : {P : Type 0} (gives : P → ℕ → ℕ → ℕ → Type 0) (old : WorldState) (event : WorldEvent) (members : List (Option MemberState)) (air : AirState) (events stamps : ℕ) (lost counted : Bool) (answered : Answer)
     (chooser chooser' : Choosing P) → CanHappenAt old.members event → IsSound old.members old.air → Becomes (stage old.members old.air) old.stamps event (stage members air) answered lost → Counts old event counted events stamps
     → ChoosesAt gives old.members event answered chooser chooser' → AreOrderly gives old.members old.stamps chooser → AreOrderly gives members stamps chooser'
 orderly_after gives old event members air events stamps lost counted answered chooser chooser' can sound becomes counts c orderly =
     let step = world_step old event members air events stamps lost counted answered becomes counts in
     subst (λ n. AreOrderly gives members n chooser') (sym step.stamps)
     (becomes_orderly gives (stage old.members old.air) (stage members air) old.stamps event answered lost chooser chooser' can sound becomes c orderly)
-
--- ---- the pick
-
-there_at : (members : List (Option MemberState)) (event : WorldEvent) → CanHappenAt members event → is_some (slice_index_or members (node_of event) None) ≡ true
-there_at members (Know node peer) can = can.0
-there_at members (Restart node) can = can
-there_at members (Call node call) can = can.0
-there_at members (Arrive node bearer place) can = can.0
-
--- an event leaves the pick
-pub pick_stays : {P : Type 0} (gives : P → ℕ → ℕ → ℕ → Type 0) (members : List (Option MemberState)) (event : WorldEvent) (answered : Answer) (chooser chooser' : Choosing P) → CanHappenAt members event
-    → ChoosesAt gives members event answered chooser chooser' → chooser'.pick ≡ chooser.pick
-pick_stays gives members event answered chooser chooser' can c =
-    let m = the_some (slice_index_or members (node_of event) None) (there_at members event can) in
-    ap (λ x. x.pick) (c m.0 m.1).turns

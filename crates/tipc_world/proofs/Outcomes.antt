@@ -1,12 +1,12 @@
 -- What calls come to.
 use Rattle.std.proofs.Common.{◌≡◌, ◌<◌, ◌+◌, ◌++◌, ◌∷◌, ℕ, List, None, [], Some, Result, Ok, Err, refl, sym, ap, subst, arith}
-use Rattle.std.specs.Prelude.{IfOk, unwrap_or}
+use Rattle.std.specs.Prelude.{IfOk, option_map, unwrap_or}
 use Rattle.std.proofs.lemmas.List.{append-nil}
 use Rattle.tipc_outside.specs.Frames.{Adds, Out}
 use Rattle.tipc_journal.specs.declared.entries.Entry.{Entry}
-use Rattle.tipc_node.specs.Nodes.{NodeState}
-use Rattle.tipc_node.specs.Turns.{link_in}
-use Rattle.tipc_world.specs.Members.{AreNoted, IsFresh, IsRestarted}
+use Rattle.tipc_node.specs.declared.neighbours.Neighbour.{Neighbour}
+use Rattle.tipc_node.specs.Nodes.{NodeState, neighbour_of}
+use Rattle.tipc_world.specs.Members.{AreNoted, IsFresh, IsRestarted, Tally}
 use Rattle.tipc_world.specs.States.{MemberState}
 use Rattle.tipc_world.proofs.Counts.{counts_stay}
 
@@ -27,12 +27,12 @@ adds_none box box' same = subst (λ b. Adds box b []) (sym same) (record {
 })
 
 -- a node was restarted, after all its sessions were noted
-pub restarted_as : (m : MemberState) (n : NodeState) (past : List (List Entry)) (before counts : List ((ℕ × ℕ) × ℕ)) → IsFresh n m.node.own (m.node.boot + 1) → past ≡ m.past ++ m.node.journal ∷ []
-    → before ≡ m.counts → AreNoted before counts m.node 33 → ((peer : ℕ) → 32 < peer → link_in m.node peer ≡ None) → IsRestarted m (record { node = n; past = past; calls = 0; arrivals = m.arrivals; counts = counts })
+pub restarted_as : (m : MemberState) (n : NodeState) (past : List (List Entry)) (before counts : List Tally) → IsFresh n m.node.own (m.node.boot + 1) → past ≡ m.past ++ m.node.journal ∷ []
+    → before ≡ m.counts → AreNoted before counts m.node 33 → ((peer : ℕ) → 32 < peer → neighbour_of m.node peer ≡ None) → IsRestarted m (record { node = n; past = past; calls = 0; arrivals = m.arrivals; counts = counts })
 restarted_as m n past before counts fresh journals same noted few = record {
   node = fresh;
   past = journals;
   calls = refl;
   arrivals = refl;
-  counts = counts_stay m _ (subst (λ cs. AreNoted cs counts m.node 33) same noted) fresh.alone few;
+  counts = counts_stay m _ (subst (λ cs. AreNoted cs counts m.node 33) same noted) (λ peer. ap (option_map (λ (x : Neighbour). x.pair)) (fresh.alone peer)) (λ peer high. ap (option_map (λ (x : Neighbour). x.pair)) (few peer high));
 }

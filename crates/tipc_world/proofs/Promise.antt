@@ -7,8 +7,8 @@ use Rattle.tipc_types.specs.declared.message_forms.Message.{Message}
 use Rattle.tipc_journal.specs.declared.entries.Entry.TheVariants as entry
 use Rattle.tipc_journal.specs.Prefixes.{IsPrefixOf}
 use Rattle.tipc_link.proofs.LinkLaw.{Each}
-use Rattle.tipc_partners.proofs.Sights.{front}
-use Rattle.tipc_world.specs.declared.air.Sent.{Sent}
+use Rattle.tipc_twins.proofs.Sights.{front}
+use Rattle.tipc_world.specs.Skies.{AirState}
 use Rattle.tipc_world.specs.Answered.{AreOrderly}
 use Rattle.tipc_world.specs.Good.{IsGood}
 use Rattle.tipc_node.specs.Messages.{IsSendable, bytes_of}
@@ -20,7 +20,7 @@ use Rattle.tipc_world.specs.Watched.{AreWatched}
 use Rattle.tipc_world.proofs.Agreed.{tables_agree}
 use Rattle.tipc_world.proofs.Entered.{both_entered}
 use Rattle.tipc_world.proofs.Messages.{same_bytes}
-use Rattle.tipc_world.proofs.Truth.{frame_is_true}
+use Rattle.tipc_world.proofs.Truth.{frame_is_true, truth_is}
 
 pub no_message : (ys : List Message) → IsPrefixOf [] ys
 no_message ys = (ys, refl)
@@ -38,7 +38,7 @@ messages_in_front own (x ∷ xs) (y ∷ ys) hx hy h =
     (later.0, ap (λ m. m ∷ ys) same ∙ ap (λ ms. x ∷ ms) later.1)
 
 -- two nodes of a sound world that are apart keep the promise for flow Zero
-pair_promise : (members : List (Option MemberState)) (air : List Sent) (a b own theirs : ℕ) → IsSound members air
+pair_promise : (members : List (Option MemberState)) (air : AirState) (a b own theirs : ℕ) → IsSound members air
     → delivered_at members b a own theirs Zero ≢ [] → IsPrefixOf (delivered_at members b a own theirs Zero) (accepted_at members a b theirs own Zero)
 unfolding sight_at accepted_at delivered_at
 pair_promise members air a b own theirs h some =
@@ -47,7 +47,7 @@ pair_promise members air a b own theirs h some =
     (front (sight_at members air b a) (sight_at members air a b) (h.pairs b a numbers.0 numbers.1 numbers.2) own theirs)
 
 -- what was delivered in flow Zero is nothing, or was delivered between two nodes
-zero_promise : (members : List (Option MemberState)) (air : List Sent) (a b own theirs : ℕ) → IsSound members air
+zero_promise : (members : List (Option MemberState)) (air : AirState) (a b own theirs : ℕ) → IsSound members air
     → IsPrefixOf (delivered_at members b a own theirs Zero) (accepted_at members a b theirs own Zero)
 zero_promise members air a b own theirs h = case (delivered_at members b a own theirs Zero) refl
   where
@@ -55,12 +55,12 @@ zero_promise members air a b own theirs h = case (delivered_at members b a own t
     case [] none = subst (λ ds. IsPrefixOf ds (accepted_at members a b theirs own Zero)) (sym none) (no_message (accepted_at members a b theirs own Zero))
     case (d ∷ ds) some = pair_promise members air a b own theirs h (λ none. (let wrong : ⊥ = cc in wrong))
 
-other_promise : (members : List (Option MemberState)) (air : List Sent) (a b own theirs : ℕ) (flow : Flow) → IsSound members air → flow ≢ Zero
+other_promise : (members : List (Option MemberState)) (air : AirState) (a b own theirs : ℕ) (flow : Flow) → IsSound members air → flow ≢ Zero
     → IsPrefixOf (delivered_at members b a own theirs flow) (accepted_at members a b theirs own flow)
 other_promise members air a b own theirs flow h other =
     subst (λ ds. IsPrefixOf ds (accepted_at members a b theirs own flow)) (sym (h.one_flow b a own theirs flow other).1) (no_message (accepted_at members a b theirs own flow))
 
-promise : (members : List (Option MemberState)) (air : List Sent) (a b own theirs : ℕ) (flow : Flow) → IsSound members air
+promise : (members : List (Option MemberState)) (air : AirState) (a b own theirs : ℕ) (flow : Flow) → IsSound members air
     → IsPrefixOf (delivered_at members b a own theirs flow) (accepted_at members a b theirs own flow)
 promise members air a b own theirs Zero h = zero_promise members air a b own theirs h
 promise members air a b own theirs One h = other_promise members air a b own theirs One h (λ same. (let wrong : ⊥ = cc in wrong))
@@ -71,7 +71,8 @@ is_good gives w h all orderly shared = record {
   prefix = λ a b a_number b_number flow. promise w.state.members w.state.air a b b_number a_number flow h;
   entered = λ a b a_number b_number flow some. both_entered w.state.members w.state.air a b a_number b_number flow (λ n m there. (all n m there).lawful) (promise w.state.members w.state.air a b b_number a_number flow h) some;
   spelled = λ n m there k journal is i s at place peer numbers flow message by stands. ((((all n m there).lawful k journal is).steps_are i s at).entries place (entry.Delivered peer numbers flow message by) stands).1;
-  truth = frame_is_true w.state.members w.state.air h;
+  frames = frame_is_true w.state.members w.state.air h;
+  truth = truth_is w.state.members w.state.air h;
   lawful = λ n m there. (all n m there).lawful;
   tables = tables_agree w.state.members w.state.air h shared (λ a b own theirs. promise w.state.members w.state.air a b own theirs Zero h);
   orderly = orderly;

@@ -132,8 +132,8 @@ quiet_set old a before after was counted q = record {
     others n apart = get_or-set_other old a n (Some after) None apart
 
 -- a node comes to know another
-know_quiet : (m : MemberState) (peer : ℕ) → QuietAt m (known_member m peer)
-know_quiet m peer = record { journals = λ boot journal there. inl there; sent = λ stamp. refl; calls = λ h. h }
+know_quiet : (m : MemberState) (peer bearer : ℕ) → QuietAt m (known_member m peer bearer)
+know_quiet m peer bearer = record { journals = λ boot journal there. inl there; sent = λ stamp. refl; calls = λ h. h }
 
 -- a node is restarted
 restart_quiet : (m m' : MemberState) → IsRestarted m m' → QuietAt m m'
@@ -155,10 +155,10 @@ restart_quiet m m' r = record {
     by journal (inl old) = inl old
     by journal (inr last) = inr (sym last.1)
 
-pub know_orderly : {P : Type 0} (gives : P → ℕ → ℕ → ℕ → Type 0) (old : List (Option MemberState)) (recorded a peer : ℕ) (chooser : Choosing P) (before : MemberState) → slice_index_or old a None ≡ Some before
-    → AreOrderly gives old recorded chooser → AreOrderly gives (slice_set old a (Some (known_member before peer))) recorded chooser
-know_orderly gives old recorded a peer chooser before was h =
-    quiet_orderly gives old (slice_set old a (Some (known_member before peer))) recorded chooser h (quiet_set old a before (known_member before peer) was h.calls (know_quiet before peer))
+pub know_orderly : {P : Type 0} (gives : P → ℕ → ℕ → ℕ → Type 0) (old : List (Option MemberState)) (recorded a peer bearer : ℕ) (chooser : Choosing P) (before : MemberState) → slice_index_or old a None ≡ Some before
+    → AreOrderly gives old recorded chooser → AreOrderly gives (slice_set old a (Some (known_member before peer bearer))) recorded chooser
+know_orderly gives old recorded a peer bearer chooser before was h =
+    quiet_orderly gives old (slice_set old a (Some (known_member before peer bearer))) recorded chooser h (quiet_set old a before (known_member before peer bearer) was h.calls (know_quiet before peer bearer))
 
 pub restart_orderly : {P : Type 0} (gives : P → ℕ → ℕ → ℕ → Type 0) (old : List (Option MemberState)) (recorded a : ℕ) (chooser : Choosing P) (before after : MemberState) → slice_index_or old a None ≡ Some before
     → IsRestarted before after → AreOrderly gives old recorded chooser → AreOrderly gives (slice_set old a (Some after)) recorded chooser

@@ -1,6 +1,6 @@
 -- Each frame that a node sends is for another node.
-use Rattle.std.proofs.Common.{◌≡◌, ◌≢◌, ℕ, zero, suc, Bool, List, [], ◌∷◌, Option, Some, map, take, refl, sym, ap, ◌∙◌, subst, arith}
-use Rattle.std.specs.Prelude.{All}
+use Rattle.std.proofs.Common.{◌≡◌, ◌≢◌, ℕ, zero, suc, Bool, true, false, List, [], ◌∷◌, ◌++◌, Option, Some, filter, if◌then◌else◌, map, take, refl, sym, ap, ◌∙◌, subst, arith}
+use Rattle.std.specs.Prelude.{All, ◌==◌}
 use Rattle.std.proofs.lemmas.List.Elements.{All-head, All-tail}
 use Rattle.std.proofs.lemmas.Bool.Decides.{nat_tests}
 use Rattle.tipc_types.specs.Address.{node_word}
@@ -9,9 +9,9 @@ use Rattle.tipc_outside.specs.declared.outgoing.Outgoing.{Outgoing}
 use Rattle.tipc_link.proofs.LinkLaw.{Each, Each-append}
 use Rattle.tipc_node.specs.declared.neighbours.Neighbour.{Neighbour}
 use Rattle.tipc_node.specs.Nodes.{NodeState, neighbour_of}
-use Rattle.tipc_world.specs.declared.air.Sent.{Sent}
 use Rattle.tipc_node.specs.Turns.{IsRouted, is_to}
-use Rattle.tipc_world.specs.Air.{Leaves, airborne}
+use Rattle.tipc_world.specs.Air.{IsSized, Leaves, airborne, is_on, leaving_on}
+use Rattle.tipc_world.specs.Skies.{AirState, air_on}
 use Rattle.tipc_world.specs.Sound.{IsAirborne, IsNumber}
 use Rattle.tipc_world.specs.States.{MemberState}
 use Rattle.tipc_node.proofs.Addressing.{AreFor}
@@ -48,8 +48,8 @@ routed_all a n (o ∷ os) others all =
 
 -- ---- in the air
 
-flies : (members : List (Option MemberState)) (a : ℕ) (o : Outgoing) → IsNumber a → IsOut a o → IsAirborne (airborne members a o)
-flies members a o number r = record {
+flies : (met : ℕ → Option (ℕ × ℕ)) (members : List (Option MemberState)) (a : ℕ) (o : Outgoing) → IsNumber a → IsOut a o → IsSized o → IsAirborne (airborne met members a o)
+flies met members a o number r size = record {
   from = a;
   receiver = r.receiver;
   from_number = number;
@@ -57,15 +57,29 @@ flies members a o number r = record {
   apart = λ e. r.apart (sym e);
   from_is = refl;
   to_is = ap (is_to r.receiver) r.to_is ∙ grind (arith, nat_tests);
+  size = size;
 }
 
-all_fly : (members : List (Option MemberState)) (a : ℕ) (frames : List Outgoing) → IsNumber a → AreRouted a frames → Each IsAirborne (map (airborne members a) frames)
-all_fly members a [] number h k f is = absurd cc
-all_fly members a (o ∷ os) number h zero f is = let same : airborne members a o ≡ f = cc in subst IsAirborne same (flies members a o number h.0)
-all_fly members a (o ∷ os) number h (suc k) f is = all_fly members a os number h.1 k f is
+all_fly : (met : ℕ → Option (ℕ × ℕ)) (members : List (Option MemberState)) (a bearer : ℕ) (frames : List Outgoing) → IsNumber a → AreRouted a frames → All IsSized frames → Each IsAirborne (leaving_on bearer met members a frames)
+all_fly met members a bearer [] number h sized = λ k f is. absurd cc
+all_fly met members a bearer (o ∷ os) number h sized = one (is_on bearer o) (all_fly met members a bearer os number h.1 (All-tail IsSized o os sized)) (flies met members a o number h.0 (All-head IsSized o os sized))
+  where
+    one : (t : Bool) → Each IsAirborne (leaving_on bearer met members a os) → IsAirborne (airborne met members a o) → Each IsAirborne (map (airborne met members a) (if t then o ∷ filter (is_on bearer) os else filter (is_on bearer) os))
+    one true rest here zero f is = let same : airborne met members a o ≡ f = cc in subst IsAirborne same here
+    one true rest here (suc k) f is = rest k f is
+    one false rest here k f is = rest k f is
 
 -- the frames in the air after some came into it
-pub air_flies : (members : List (Option MemberState)) (old new : List Sent) (a : ℕ) (frames : List Outgoing) (lost : Bool) → Leaves old new members a frames lost → IsNumber a → AreRouted a frames
-    → Each IsAirborne old → Each IsAirborne new
-air_flies members old new a frames lost l number h before =
-    subst (λ air. Each IsAirborne air) (sym l.air) (Each-append IsAirborne old _ before (all_fly members a (take l.count frames) number (routed_front a l.count frames h)))
+pub air_flies : (met : ℕ → Option (ℕ × ℕ)) (members : List (Option MemberState)) (old new : AirState) (a : ℕ) (frames : List Outgoing) (lost : Bool) → Leaves old new met members a frames lost → IsNumber a → AreRouted a frames
+    → ((bearer : ℕ) → Each IsAirborne (air_on bearer old)) → (bearer : ℕ) → Each IsAirborne (air_on bearer new)
+air_flies met members old new a frames lost l number h before bearer =
+    subst (λ air. Each IsAirborne (air_on bearer air)) (sym l.air) (by (bearer == 0) (bearer == 1) refl refl)
+  where
+    more : (k : ℕ) → Each IsAirborne (leaving_on k met members a (take l.count frames))
+    more k = all_fly met members a k (take l.count frames) number (routed_front a l.count frames h) l.sized
+
+    by : (s t : Bool) → (bearer == 0) ≡ s → (bearer == 1) ≡ t
+        → Each IsAirborne (if s then old.first ++ leaving_on 0 met members a (take l.count frames) else (if t then old.second ++ leaving_on 1 met members a (take l.count frames) else []))
+    by true t is one = Each-append IsAirborne old.first (leaving_on 0 met members a (take l.count frames)) (before 0) (more 0)
+    by false true is one = Each-append IsAirborne old.second (leaving_on 1 met members a (take l.count frames)) (before 1) (more 1)
+    by false false is one = λ k f there. absurd cc

@@ -6,7 +6,7 @@ use Rattle.tipc_outside.specs.declared.outgoing.Outgoing.{Outgoing}
 use Rattle.tipc_journal.specs.declared.entries.Entry.{Entry}
 use Rattle.tipc_contact.specs.Sides.{boot_of}
 use Rattle.tipc_paired.specs.Paired.{IsNode}
-use Rattle.tipc_partners.specs.Sights.{AreSeen, Sight}
+use Rattle.tipc_twins.specs.Sights.{AreSeen, Sight}
 use Rattle.tipc_node.specs.declared.neighbours.Neighbour.{Neighbour}
 use Rattle.tipc_node.specs.Nodes.{neighbour_of}
 use Rattle.tipc_node.specs.Sharing.{IsUnused, SharesNames}
@@ -21,28 +21,28 @@ use Rattle.tipc_world.specs.Members.{IsNewcomer, IsRestarted}
 use Rattle.tipc_world.specs.Numbers.{own_in}
 use Rattle.tipc_world.specs.Shared.{AreShared, IsShared}
 use Rattle.tipc_world.specs.Sound.{IsSound}
-use Rattle.tipc_world.specs.States.{MemberState, boot_at, link_at}
+use Rattle.tipc_world.specs.States.{MemberState, boot_at, pair_at}
 use Rattle.tipc_world.specs.Steps.{Becomes, Happens, IsArrival, Stage}
 use Rattle.tipc_world.specs.Views.{sight_at}
 use Rattle.tipc_world.proofs.Journals.{get_more}
 use Rattle.tipc_world.proofs.LookUps.{boot_at-is, member_at-is, place_within}
 use Rattle.tipc_world.proofs.Outcomes.{some_is}
-use Rattle.tipc_world.proofs.Standing.{acquainted, link_is, neighbour_apart}
+use Rattle.tipc_world.proofs.Standing.{acquainted, neighbour_apart, pair_is}
 
 -- ---- contact numbers
 
 seen_node : (v w : Sight) → AreSeen v w → IsNode v.node
-seen_node v w h = subst IsNode h.seen_here.node h.partners.paired.here.node
+seen_node v w h = subst IsNode h.seen_here.node h.talking.twins.paired.here.node
 
 -- the contact number that a node has for another one is of its boot
-pub boot_is : (s : Stage) (a b : ℕ) (m : MemberState) (x : Neighbour) → IsSound s.members s.air → slice_index_or s.members a None ≡ Some m → neighbour_of m.node b ≡ Some x → boot_of x.pair.link.contact ≡ m.node.boot
+pub boot_is : (s : Stage) (a b : ℕ) (m : MemberState) (x : Neighbour) → IsSound s.members s.air → slice_index_or s.members a None ≡ Some m → neighbour_of m.node b ≡ Some x → boot_of x.pair.contact ≡ m.node.boot
 unfolding sight_at
 boot_is s a b m x sound was is =
     let there = member_at-is s.members a m was in
     let peer = neighbour_apart s a m (acquainted s.members s.air a m sound was) there b x is in
     let seen = sound.pairs a b (sound.numbered a m was).0 peer.0 (λ same. peer.1 (sym same)) in
     let node = seen_node (sight_at s.members s.air a b) (sight_at s.members s.air b a) seen in
-    let number : own_in (boot_at s.members a) (link_at s.members a b) ≡ x.pair.link.contact = ap (own_in (boot_at s.members a)) (link_is s a b m (Some x) there is) in
+    let number : own_in (boot_at s.members a) (pair_at s.members a b) ≡ x.pair.contact = ap (own_in (boot_at s.members a)) (pair_is s a b m (Some x) there is) in
     ap boot_of (sym number) ∙ node.contact ∙ boot_at-is s.members a m there
 
 -- ---- one node
@@ -87,7 +87,7 @@ restart_shared s a m m' sound was h r = record {
 
 does_shared : (s : Stage) (stamp : ℕ) (event : WorldEvent) (bytes : List ℕ) (m m' : MemberState) (frames : List Outgoing) (answered : Answer) → IsSound s.members s.air → slice_index_or s.members (node_of event) None ≡ Some m → IsShared m
     → Does stamp event bytes m m' frames answered → IsShared m'
-does_shared s stamp (Know a peer) bytes m m' frames answered sound was h d =
+does_shared s stamp (Know a peer bearer) bytes m m' frames answered sound was h d =
     same_boot m m' h (ap (λ (x : MemberState). x.past) d.0) (ap (λ (x : MemberState). x.node.boot) d.0) d.4 d.5
 does_shared s stamp (Restart a) bytes m m' frames answered sound was h d = restart_shared s a m m' sound was h d.0
 does_shared s stamp (Call a call) bytes m m' frames answered sound was h d =
@@ -120,7 +120,7 @@ arrival_shared old new stamp node bearer place answered lost sound all h = case 
 
 -- after one event
 pub becomes_shared : (old new : Stage) (stamp : ℕ) (event : WorldEvent) (answered : Answer) (lost : Bool) → IsSound old.members old.air → AreShared old.members → Becomes old stamp event new answered lost → AreShared new.members
-becomes_shared old new stamp (Know node peer) answered lost sound all h = happens_shared old new stamp (Know node peer) [] answered lost sound all h
+becomes_shared old new stamp (Know node peer bearer) answered lost sound all h = happens_shared old new stamp (Know node peer bearer) [] answered lost sound all h
 becomes_shared old new stamp (Restart node) answered lost sound all h = happens_shared old new stamp (Restart node) [] answered lost sound all h
 becomes_shared old new stamp (Call node call) answered lost sound all h = happens_shared old new stamp (Call node call) [] answered lost sound all h
 becomes_shared old new stamp (Arrive node bearer place) answered lost sound all h = arrival_shared old new stamp node bearer place answered lost sound all h

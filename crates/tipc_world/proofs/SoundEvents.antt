@@ -1,32 +1,38 @@
 -- Every event keeps a world sound.
-use Rattle.std.proofs.Common.{◌≡◌, ◌≢◌, ℕ, Bool, true, List, [], Option, Some, None, option_map, slice_index_or, refl, sym, ap, ◌∙◌, subst, inl, inr, get_or-set_same, get_or-set_other}
-use Rattle.std.specs.Prelude.{is_some}
+use Rattle.std.proofs.Common.{◌≡◌, ◌≢◌, ℕ, Bool, true, List, [], Option, Some, None, option_map, slice_index_or, refl, sym, ap, ◌∙◌, subst, inl, inr, get_or-set_same, get_or-set_other, ◌≤◌, ◌<◌, false, length, arith}
+use Rattle.std.specs.Prelude.{IfSome, is_some}
 use Rattle.std.proofs.lemmas.Bool.{cases_eq}
 use Rattle.tipc_types.specs.Address.{node_word}
 use Rattle.tipc_types.specs.declared.node_calls.Answer.{Answer}
 use Rattle.tipc_outside.specs.declared.outgoing.Outgoing.{Outgoing}
 use Rattle.tipc_journal.specs.Steps.{NodeStep}
 use Rattle.tipc_node.specs.declared.neighbours.Neighbour.{Neighbour}
-use Rattle.tipc_node.specs.Nodes.{known_frames}
-use Rattle.tipc_node.specs.Turns.{link_in}
-use Rattle.tipc_world.specs.declared.air.Sent.{Sent}
+use Rattle.tipc_link.specs.Links.{LinkEnd}
+use Rattle.tipc_pair.specs.Facing.{PairEnds, facing, other, with_made}
+use Rattle.tipc_node.specs.Nodes.{known_frames, neighbour_of}
+use Rattle.tipc_node.specs.Telling.{AreAbreast}
+use Rattle.tipc_node.specs.Turns.{PeerTurn, pair_in}
+use Rattle.tipc_node.proofs.PairEvents.{Any, On, OnBearer, closed_on}
+use Rattle.tipc_node.proofs.PairKept.{both_facing, turn_kept, turn_own}
+use Rattle.tipc_world.specs.Skies.{AirState}
 use Rattle.tipc_world.specs.declared.events.WorldEvent.{WorldEvent}
 use Rattle.tipc_world.specs.declared.events.WorldEvent.TheVariants.{Know, Restart, Call, Arrive}
 use Rattle.tipc_world.specs.Calls.{node_of}
 use Rattle.tipc_world.specs.Deeds.{Does}
 use Rattle.tipc_world.specs.Members.{IsRestarted, known_member}
-use Rattle.tipc_world.specs.Sound.{IsNumber, IsSound}
-use Rattle.tipc_world.specs.States.{MemberState, link_at, member_at}
+use Rattle.tipc_world.specs.Sound.{IsNumber, IsPairOf, IsSound}
+use Rattle.tipc_world.specs.States.{MemberState, contact_at, knows, member_at, pair_at}
 use Rattle.tipc_world.specs.Steps.{Happens, Stage, Turns}
 use Rattle.tipc_world.proofs.Bringing.{are_brought}
 use Rattle.tipc_world.proofs.Coming.{ComesOut, nothing_out}
 use Rattle.tipc_world.proofs.Histories.{history_restarted, history_same}
-use Rattle.tipc_world.proofs.LookUps.{link_at-is, link_at-same, place_within}
+use Rattle.tipc_world.proofs.Happening.{not_known}
+use Rattle.tipc_world.proofs.LookUps.{pair_at-is, pair_at-same, place_within}
 use Rattle.tipc_world.proofs.PairedEvents.{IsReady, happens_pairs, made_step, made_turn, met_step, met_turn, ready_out}
-use Rattle.tipc_world.proofs.PairedStarts.{known_for}
+use Rattle.tipc_world.proofs.PairedStarts.{known_for, known_is, known_of, known_pair}
 use Rattle.tipc_world.proofs.PairedTurns.{TakesTurn, turn_history}
 use Rattle.tipc_world.proofs.Routes.{AreRouted, air_flies, routed_all, routed_for}
-use Rattle.tipc_world.proofs.Standing.{acquainted, neighbour_apart}
+use Rattle.tipc_world.proofs.Standing.{acquainted, neighbour_apart, pair_between}
 use Rattle.tipc_world.proofs.StreamsKept.{StreamsSound, streams_of, streams_same, turn_streams}
 use Rattle.tipc_world.proofs.Turning.{is_there, others_stay, was_there}
 
@@ -34,50 +40,101 @@ use Rattle.tipc_world.proofs.Turning.{is_there, others_stay, was_there}
 
 -- the peer that a node comes to know in an event
 abbrev pub comes_to_know : WorldEvent → Option ℕ
-comes_to_know (Know node peer) = Some peer
+comes_to_know (Know node peer bearer) = Some peer
 comes_to_know other = None
 
--- a node keeps its address, comes to know no other node than that, and each frame that it sends is for another node
+-- a node keeps its address, comes to know no other node than that, and each frame that it sends is for another node; its pairs stay those of
+-- the two nodes
 pub record KeepsNode (a : ℕ) (known : Option ℕ) (before after : MemberState) (frames : List Outgoing) : Type 0 where
   pub own : after.node.own ≡ before.node.own
-  pub none : (b : ℕ) → (known ≡ Some b → ⊥) → link_in before.node b ≡ None → link_in after.node b ≡ None
+  pub none : (b : ℕ) → (known ≡ Some b → ⊥) → pair_in before.node b ≡ None → pair_in after.node b ≡ None
+  pub between : (b : ℕ) (x : PairEnds) → pair_in after.node b ≡ Some x → IsPairOf a b x
   pub routed : AreRouted a frames
 
--- a node without a neighbour has no link to it
-no_neighbour : (xs : List (Option Neighbour)) (b : ℕ) → option_map (λ (x : Neighbour). x.pair.link) (slice_index_or xs b None) ≡ None → slice_index_or xs b None ≡ None
+-- a node without a neighbour has no pair with it
+no_neighbour : (xs : List (Option Neighbour)) (b : ℕ) → option_map (λ (x : Neighbour). x.pair) (slice_index_or xs b None) ≡ None → slice_index_or xs b None ≡ None
 no_neighbour xs b none = case (slice_index_or xs b None) none
   where
-    case : (o : Option Neighbour) → option_map (λ (x : Neighbour). x.pair.link) o ≡ None → o ≡ None
+    case : (o : Option Neighbour) → option_map (λ (x : Neighbour). x.pair) o ≡ None → o ≡ None
     case None none = refl
     case (Some x) none = absurd cc
+
+-- and a pair is with a neighbour
+the_neighbour : (o : Option Neighbour) (x : PairEnds) → option_map (λ (y : Neighbour). y.pair) o ≡ Some x → (y : Neighbour) × (o ≡ Some y) × (y.pair ≡ x)
+the_neighbour None x is = absurd cc
+the_neighbour (Some y) x is = (y, refl, (let same : y.pair ≡ x = cc in same))
+
+-- ---- the pair after a turn
+
+on_bearers : (x : PairEnds) → AreAbreast x → On x
+on_bearers x h = record {
+  two = let first = h.first in omega (arith, first);
+  near = subst (λ k. IfSome x.near (λ (e : LinkEnd). e.bearer ≡ k)) (sym h.first) h.near_on;
+  far = subst (λ k. IfSome x.far (λ (e : LinkEnd). e.bearer ≡ other k)) (sym h.first) h.far_on;
+}
+
+made_on : (x : PairEnds) → On x → (bearer : ℕ) → On (with_made (facing bearer x))
+made_on x h bearer = let there = both_facing OnBearer bearer x h in record { two = there.two; near = refl; far = there.far }
+
+turn_between : (own : ℕ) (bytes : List ℕ) (s : NodeStep) (frames : List Outgoing) (a b : ℕ) (x x' : PairEnds) → AreAbreast x → IsPairOf a b x → PeerTurn own bytes s frames b x x' → IsPairOf a b x'
+turn_between own bytes s frames a b x x' abreast is p =
+    let on = on_bearers x abreast in
+    let kept = turn_kept OnBearer Any closed_on x x' p.opening _ p.reply p.own_frames (made_on x on) on p.turn in
+    record {
+      own = turn_own OnBearer Any closed_on x x' p.opening _ p.reply p.own_frames (made_on x on) on p.turn ∙ is.own;
+      peer = kept.2 ∙ is.peer;
+      first = kept.1 ∙ is.first;
+    }
 
 -- a node's turn
 keeps_turn : (s : Stage) (a : ℕ) (before after : MemberState) (bytes : List ℕ) (step : NodeStep) (frames : List Outgoing) → IsSound s.members s.air → slice_index_or s.members a None ≡ Some before → member_at s.members a ≡ Some before
     → TakesTurn before after bytes step frames → KeepsNode a None before after frames
 keeps_turn s a before after bytes step frames sound there was t = record {
   own = t.turn.own;
-  none = λ b _ none. ap (λ o. option_map (λ (x : Neighbour). x.pair.link) o) (t.turn.alone b (no_neighbour before.node.neighbours b none));
+  none = λ b _ none. ap (option_map (λ (x : Neighbour). x.pair)) (t.turn.alone b (no_neighbour before.node.neighbours b none));
+  between = λ b x is. between b x (the_neighbour (neighbour_of after.node b) x is) (neighbour_of before.node b) refl;
   routed = routed_all a before.node frames (λ b x is. neighbour_apart s a before (acquainted s.members s.air a before sound there) was b x is) t.turn.routed;
 }
+  where
+    between : (b : ℕ) (x : PairEnds) → (y : Neighbour) × (neighbour_of after.node b ≡ Some y) × (y.pair ≡ x) → (o : Option Neighbour) → neighbour_of before.node b ≡ o → IsPairOf a b x
+    between b x found None alone = absurd (let none = t.turn.alone b alone in let there = found.1 in let wrong : ⊥ = cc in wrong)
+    between b x found (Some z) is =
+        let n = t.turn.turns b z is in
+        let same : n.after ≡ found.0 = (let e : Some n.after ≡ Some found.0 = sym n.after_is ∙ found.1 in cc) in
+        let abreast = subst (λ o. IfSome o AreAbreast) (ap (option_map (λ (y : Neighbour). y.pair)) is) (t.told.links b).abreast in
+        subst (IsPairOf a b) (ap (λ (y : Neighbour). y.pair) same ∙ found.2) (turn_between before.node.own bytes step frames a b z.pair n.after.pair abreast (pair_between s a b before z sound was is) n.turn)
 
 keeps_restart : (a : ℕ) (before after : MemberState) (frames : List Outgoing) → IsRestarted before after → frames ≡ [] → KeepsNode a None before after frames
 keeps_restart a before after frames r none = record {
   own = r.node.own_is;
-  none = λ b _ was. ap (λ o. option_map (λ (y : Neighbour). y.pair.link) o) (r.node.alone b);
+  none = λ b _ was. ap (option_map (λ (y : Neighbour). y.pair)) (r.node.alone b);
+  between = λ b x is. absurd (let gone = ap (option_map (λ (y : Neighbour). y.pair)) (r.node.alone b) in let wrong : ⊥ = cc in wrong);
   routed = subst (AreRouted a) (sym none) tt;
 }
 
-keeps_know : (a peer : ℕ) (before after : MemberState) (frames : List Outgoing) → IsNumber peer → peer ≢ a → after ≡ known_member before peer → frames ≡ known_frames before.node peer → KeepsNode a (Some peer) before after frames
-keeps_know a peer before after frames number apart is frames_are = record {
+keeps_know : (s : Stage) (a peer bearer : ℕ) (before after : MemberState) (frames : List Outgoing) → IsSound s.members s.air → slice_index_or s.members a None ≡ Some before → member_at s.members a ≡ Some before
+    → IsNumber peer → peer ≢ a → bearer ≤ 1 → knows s.members a peer bearer ≡ false → after ≡ known_member before peer bearer → frames ≡ known_frames before.node peer bearer → peer < length before.node.neighbours → KeepsNode a (Some peer) before after frames
+keeps_know s a peer bearer before after frames sound there was number apart low unknown is frames_are within = record {
   own = ap (λ (m : MemberState). m.node.own) is;
   none = λ b other was.
       let b_apart : b ≢ peer = λ e. other (ap Some (sym e)) in
-      ap (λ (m : MemberState). link_in m.node b) is ∙ ap (λ o. option_map (λ (y : Neighbour). y.pair.link) o) (get_or-set_other before.node.neighbours peer b _ None b_apart) ∙ was;
-  routed = subst (AreRouted a) (sym frames_are) (routed_for a peer _ number apart (known_for before peer));
+      ap (λ (m : MemberState). pair_in m.node b) is ∙ ap (option_map (λ (y : Neighbour). y.pair)) (get_or-set_other before.node.neighbours peer b _ None b_apart) ∙ was;
+  between = λ b x has.
+      let now : pair_in (known_member before peer bearer).node b ≡ Some x = ap (λ (m : MemberState). pair_in m.node b) (sym is) ∙ has in
+      elim (cases_eq b peer) [
+        | inl same ↦
+            let none = not_known s.members a peer bearer before there low unknown in
+            let pair : known_pair before peer bearer ≡ x = (let e : Some (known_pair before peer bearer) ≡ Some x = sym (known_is before peer bearer within) ∙ ap (pair_in (known_member before peer bearer).node) (sym same) ∙ now in cc) in
+            subst (λ k. IsPairOf a k x) (sym same) (subst (IsPairOf a peer) pair (known_of a before peer bearer (sound.numbered a before there).1 (λ y at. pair_between s a peer before y sound was at) none))
+        | inr other ↦
+            let old : pair_in before.node b ≡ Some x = sym (ap (option_map (λ (y : Neighbour). y.pair)) (get_or-set_other before.node.neighbours peer b _ None other)) ∙ now in
+            sound.between a b x (pair_at-is s.members a b before was ∙ old)
+      ];
+  routed = subst (AreRouted a) (sym frames_are) (routed_for a peer _ number apart (known_for before peer bearer (λ y at. (pair_between s a peer before y sound was at).peer)));
 }
 
 -- a node that is there has a number
-there_number : (members : List (Option MemberState)) (air : List Sent) (n : ℕ) → IsSound members air → is_some (slice_index_or members n None) ≡ true → IsNumber n
+there_number : (members : List (Option MemberState)) (air : AirState) (n : ℕ) → IsSound members air → is_some (slice_index_or members n None) ≡ true → IsNumber n
 there_number members air n sound there = case (slice_index_or members n None) refl there
   where
     case : (o : Option MemberState) → slice_index_or members n None ≡ o → is_some o ≡ true → IsNumber n
@@ -86,7 +143,8 @@ there_number members air n sound there = case (slice_index_or members n None) re
 
 keeps : (s : Stage) (stamp : ℕ) (event : WorldEvent) (bytes : List ℕ) (before after : MemberState) (frames : List Outgoing) (answered : Answer) → IsSound s.members s.air → slice_index_or s.members (node_of event) None ≡ Some before
     → member_at s.members (node_of event) ≡ Some before → IsReady s.members s.air event bytes before → Does stamp event bytes before after frames answered → KeepsNode (node_of event) (comes_to_know event) before after frames
-keeps s stamp (Know a peer) bytes before after frames answered sound there was ready h = keeps_know a peer before after frames (there_number s.members s.air peer sound ready.1) ready.0 h.0 h.1
+keeps s stamp (Know a peer bearer) bytes before after frames answered sound there was ready h =
+    keeps_know s a peer bearer before after frames sound there was (there_number s.members s.air peer sound ready.1) ready.0 ready.2 ready.3 h.0 h.1 h.3
 keeps s stamp (Restart a) bytes before after frames answered sound there was ready h = keeps_restart a before after frames h.0 h.1
 keeps s stamp (Call a call) bytes before after frames answered sound there was ready h =
     keeps_turn s a before after [] (made_step stamp call before after frames answered h) frames sound there was (made_turn stamp call before after frames answered h)
@@ -96,9 +154,9 @@ keeps s stamp (Arrive a bearer place) bytes before after frames answered sound t
 -- ---- the world
 
 -- the peer that comes to be known is there
-known_there : (members : List (Option MemberState)) (air : List Sent) (event : WorldEvent) (bytes : List ℕ) (m : MemberState) (peer : ℕ) → IsReady members air event bytes m → comes_to_know event ≡ Some peer
+known_there : (members : List (Option MemberState)) (air : AirState) (event : WorldEvent) (bytes : List ℕ) (m : MemberState) (peer : ℕ) → IsReady members air event bytes m → comes_to_know event ≡ Some peer
     → (peer ≢ node_of event) × (is_some (slice_index_or members peer None) ≡ true)
-known_there members air (Know a k) bytes m peer ready is = let same : k ≡ peer = cc in (subst (λ n. n ≢ a) same ready.0, subst (λ n. is_some (slice_index_or members n None) ≡ true) same ready.1)
+known_there members air (Know a k b) bytes m peer ready is = let same : k ≡ peer = cc in (subst (λ n. n ≢ a) same ready.0, subst (λ n. is_some (slice_index_or members n None) ≡ true) same ready.1)
 known_there members air (Restart a) bytes m peer ready is = absurd cc
 known_there members air (Call a call) bytes m peer ready is = absurd cc
 known_there members air (Arrive a b place) bytes m peer ready is = absurd cc
@@ -109,14 +167,23 @@ table_other old new a before after frames lost t n apart = ap (λ ms. slice_inde
 table_here : (old new : Stage) (a : ℕ) (before after : MemberState) (frames : List Outgoing) (lost : Bool) → Turns old new a before after frames lost → slice_index_or new.members a None ≡ Some after
 table_here old new a before after frames lost t = ap (λ ms. slice_index_or ms a None) t.members ∙ get_or-set_same old.members a (Some after) None (place_within old.members a before t.was)
 
--- a link that isn't there doesn't come, but to the peer that comes to be known
-no_link : (old new : Stage) (a : ℕ) (known : Option ℕ) (before after : MemberState) (frames : List Outgoing) (lost : Bool) → Turns old new a before after frames lost → KeepsNode a known before after frames
-    → (c b : ℕ) → (c ≡ a → known ≡ Some b → ⊥) → link_at old.members c b ≡ None → link_at new.members c b ≡ None
-no_link old new a known before after frames lost t k c b other none = elim (cases_eq c a) [
+-- a pair that isn't there doesn't come, but with the peer that comes to be known
+no_pair : (old new : Stage) (a : ℕ) (known : Option ℕ) (before after : MemberState) (frames : List Outgoing) (lost : Bool) → Turns old new a before after frames lost → KeepsNode a known before after frames
+    → (c b : ℕ) → (c ≡ a → known ≡ Some b → ⊥) → pair_at old.members c b ≡ None → pair_at new.members c b ≡ None
+no_pair old new a known before after frames lost t k c b other none = elim (cases_eq c a) [
   | inl same ↦
-      let was : link_in before.node b ≡ None = sym (link_at-is old.members a b before (was_there old new a before after frames lost t)) ∙ ap (λ n. link_at old.members n b) (sym same) ∙ none in
-      ap (λ n. link_at new.members n b) same ∙ link_at-is new.members a b after (is_there old new a before after frames lost t) ∙ k.none b (other same) was
-  | inr apart ↦ link_at-same old.members new.members c b (others_stay old new a before after frames lost t c apart) ∙ none
+      let was : pair_in before.node b ≡ None = sym (pair_at-is old.members a b before (was_there old new a before after frames lost t)) ∙ ap (λ n. pair_at old.members n b) (sym same) ∙ none in
+      ap (λ n. pair_at new.members n b) same ∙ pair_at-is new.members a b after (is_there old new a before after frames lost t) ∙ k.none b (other same) was
+  | inr apart ↦ pair_at-same old.members new.members c b (others_stay old new a before after frames lost t c apart) ∙ none
+]
+
+-- each pair is still of the two nodes
+still_between : (old new : Stage) (a : ℕ) (known : Option ℕ) (before after : MemberState) (frames : List Outgoing) (lost : Bool) → IsSound old.members old.air → Turns old new a before after frames lost → KeepsNode a known before after frames
+    → (c b : ℕ) (x : PairEnds) → pair_at new.members c b ≡ Some x → IsPairOf c b x
+still_between old new a known before after frames lost sound t k c b x is = elim (cases_eq c a) [
+  | inl same ↦
+      subst (λ n. IsPairOf n b x) (sym same) (k.between b x (sym (pair_at-is new.members a b after (is_there old new a before after frames lost t)) ∙ ap (λ n. pair_at new.members n b) (sym same) ∙ is))
+  | inr apart ↦ sound.between c b x (sym (pair_at-same old.members new.members c b (others_stay old new a before after frames lost t c apart)) ∙ is)
 ]
 
 numbers_stay : (old new : Stage) (a : ℕ) (known : Option ℕ) (before after : MemberState) (frames : List Outgoing) (lost : Bool) → IsSound old.members old.air → Turns old new a before after frames lost → KeepsNode a known before after frames
@@ -141,20 +208,20 @@ was_absent old new a before after frames lost t b none = elim (cases_eq b a) [
 -- ---- what was accepted and delivered
 
 taken_streams : (old new : Stage) (a : ℕ) (before after : MemberState) (bytes : List ℕ) (step : NodeStep) (frames : List Outgoing) (lost : Bool) → IsSound old.members old.air → Turns old new a before after frames lost
-    → TakesTurn before after bytes step frames → ComesOut old a bytes → StreamsSound new.members
+    → TakesTurn before after bytes step frames → ComesOut old a step.event bytes → StreamsSound new.members
 taken_streams old new a before after bytes step frames lost sound t turn out =
     turn_streams old.members new.members old.air a before after bytes step frames sound t.was t.members (turn_history before after bytes step frames turn) turn.turn (are_brought old a before after bytes step frames sound t.was turn.turn out)
 
 streams_after : (old new : Stage) (stamp : ℕ) (event : WorldEvent) (bytes : List ℕ) (before after : MemberState) (frames : List Outgoing) (answered : Answer) (lost : Bool) → IsSound old.members old.air
     → Turns old new (node_of event) before after frames lost → IsReady old.members old.air event bytes before → Does stamp event bytes before after frames answered → StreamsSound new.members
-streams_after old new stamp (Know a peer) bytes before after frames answered lost sound t ready h =
+streams_after old new stamp (Know a peer bearer) bytes before after frames answered lost sound t ready h =
     streams_same old.members new.members a before after (streams_of old.members old.air sound) t.was t.members (history_same before after (ap (λ (m : MemberState). m.past) h.0) (ap (λ (m : MemberState). m.node.journal) h.0))
 streams_after old new stamp (Restart a) bytes before after frames answered lost sound t ready h =
     streams_same old.members new.members a before after (streams_of old.members old.air sound) t.was t.members (history_restarted before after h.0)
 streams_after old new stamp (Call a call) bytes before after frames answered lost sound t ready h =
-    taken_streams old new a before after [] (made_step stamp call before after frames answered h) frames lost sound t (made_turn stamp call before after frames answered h) (nothing_out old a)
+    taken_streams old new a before after [] (made_step stamp call before after frames answered h) frames lost sound t (made_turn stamp call before after frames answered h) (nothing_out old a call)
 streams_after old new stamp (Arrive a bearer place) bytes before after frames answered lost sound t ready h =
-    taken_streams old new a before after bytes (met_step stamp bearer place bytes before after frames answered h) frames lost sound t (met_turn stamp bearer place bytes before after frames answered h) (ready_out old a bearer place bytes before sound ready)
+    taken_streams old new a before after bytes (met_step stamp bearer place bytes before after frames answered h) frames lost sound t (met_turn stamp bearer place bytes before after frames answered h) (ready_out old a bearer place bytes before sound ready (length before.arrivals))
 
 -- after every event a sound world is sound
 pub happens_sound : (old new : Stage) (stamp : ℕ) (event : WorldEvent) (bytes : List ℕ) (answered : Answer) (lost : Bool) → IsSound old.members old.air → (h : Happens old new stamp event bytes answered lost)
@@ -164,7 +231,7 @@ happens_sound old new stamp event bytes answered lost sound h ready =
     let t = h.turns in
     let was = was_there old new a h.before h.after h.frames lost t in
     let k = keeps old stamp event bytes h.before h.after h.frames answered sound t.was was ready h.does in
-    let none = no_link old new a (comes_to_know event) h.before h.after h.frames lost t k in
+    let none = no_pair old new a (comes_to_know event) h.before h.after h.frames lost t k in
     let streams = streams_after old new stamp event bytes h.before h.after h.frames answered lost sound t ready h.does in
     let there = known_there old.members old.air event bytes h.before in
     record {
@@ -176,10 +243,11 @@ happens_sound old new stamp event bytes answered lost sound h ready =
           let here = (there b ready is).1 in
           let empty = gone (there_number old.members old.air b sound here) in
           (let wrong : ⊥ = cc in wrong)) (sound.known c b gone);
+      between = still_between old new a (comes_to_know event) h.before h.after h.frames lost sound t k;
       pairs = happens_pairs old new stamp event bytes answered lost sound h ready;
       one_flow = streams.one_flow;
       accepted = streams.accepted;
       delivered = streams.delivered;
       nothing = streams.nothing;
-      frames = air_flies new.members old.air new.air a h.frames lost t.leaves (sound.numbered a h.before t.was).0 k.routed sound.frames;
+      frames = air_flies (contact_at old.members a) new.members old.air new.air a h.frames lost t.leaves (sound.numbered a h.before t.was).0 k.routed sound.frames;
     }

@@ -16,6 +16,7 @@ use Rattle.tipc_world.specs.Calls.{node_of}
 use Rattle.tipc_world.specs.Due.{unarrived}
 use Rattle.tipc_world.specs.Growth.{Grows}
 use Rattle.tipc_world.specs.Limits.{IsAnswered, Stops}
+use Rattle.tipc_world.specs.Skies.{air_on}
 use Rattle.tipc_world.specs.States.{MemberState, WorldState, WorldView, history_at, is_there, member_at}
 use Rattle.tipc_world.specs.Steps.{stage, Becomes, Happens, IsArrival, IsJoined, IsStep, Stage}
 use Rattle.tipc_world.proofs.Growing.{step_grows}
@@ -44,7 +45,7 @@ arrival_there old new stamp node bearer place answered lost None e h n = let arr
 
 becomes_there : (old new : Stage) (stamp : ℕ) (event : WorldEvent) (answered : Answer) (lost : Bool) → Becomes old stamp event new answered lost → SameThere old.members new.members
 becomes_there old new stamp (Arrive node bearer place) answered lost h = arrival_there old new stamp node bearer place answered lost _ refl h
-becomes_there old new stamp (Know node peer) answered lost h = happens_there old new stamp (Know node peer) [] answered lost h
+becomes_there old new stamp (Know node peer bearer) answered lost h = happens_there old new stamp (Know node peer bearer) [] answered lost h
 becomes_there old new stamp (Restart node) answered lost h = happens_there old new stamp (Restart node) [] answered lost h
 becomes_there old new stamp (Call node call) answered lost h = happens_there old new stamp (Call node call) [] answered lost h
 
@@ -62,7 +63,7 @@ step_stays old new event answered h = record {
 same_stays : (old new : WorldState) → new ≡ old → Stays old new
 same_stays old new same = subst (λ w. Stays old w) (sym same) (record {
   nodes = λ n. refl;
-  grown = record { air = ([], sym (append-nil old.air)); histories = λ n. ([], sym (append-nil (history_at old.members n))) };
+  grown = record { air = λ bearer. ([], sym (append-nil (air_on bearer old.air))); histories = λ n. ([], sym (append-nil (history_at old.members n))) };
 })
 
 fault_stays : (old new : WorldState) (event : WorldEvent) (why : WorldFault) → Stops old event new why → Stays old new
@@ -91,7 +92,7 @@ none_there members n absent = by (slice_index_or members n None) absent
 
 joined_grows : (old new : WorldState) (n : ℕ) → is_there old n ≡ false → IsJoined old new n → Grows old new
 joined_grows old new n absent j = record {
-  air = ([], j.air ∙ sym (append-nil old.air));
+  air = λ bearer. ([], ap (air_on bearer) j.air ∙ sym (append-nil (air_on bearer old.air)));
   histories = λ k. elim (cases_eq k n) [
     | inl same ↦
         let none : history_at old.members k ≡ [] = ap (history_at old.members) same ∙ history_none old.members n (at_is old.members n ∙ none_there old.members n absent) in

@@ -13,7 +13,7 @@ use Rattle.tipc_node.specs.declared.neighbours.Neighbour.{Neighbour}
 use Rattle.tipc_node.specs.Nodes.{neighbour_of}
 use Rattle.tipc_node.specs.Messages.{IsSendable}
 use Rattle.tipc_node.specs.Turns.{NodeTurn}
-use Rattle.tipc_world.specs.declared.air.Sent.{Sent}
+use Rattle.tipc_world.specs.Skies.{AirState}
 use Rattle.tipc_world.specs.Sound.{IsNumber, IsSound}
 use Rattle.tipc_world.specs.States.{MemberState, accepted_at, delivered_at, history, history_at, stream_of}
 use Rattle.tipc_world.specs.Steps.{stage}
@@ -28,7 +28,7 @@ pub record StreamsSound (members : List (Option MemberState)) : Type 0 where
   pub delivered : (a b own theirs : ℕ) → Each (IsSendable (node_word b)) (delivered_at members a b own theirs Zero)
   pub nothing : (a b own theirs : ℕ) → delivered_at members a b own theirs Zero ≢ [] → IsNumber a × IsNumber b × (a ≢ b)
 
-pub streams_of : (members : List (Option MemberState)) (air : List Sent) → IsSound members air → StreamsSound members
+pub streams_of : (members : List (Option MemberState)) (air : AirState) → IsSound members air → StreamsSound members
 streams_of members air h = record { one_flow = h.one_flow; accepted = h.accepted; delivered = h.delivered; nothing = h.nothing }
 
 -- ---- the streams of the nodes
@@ -108,7 +108,7 @@ streams_same members members' a m m' h was is same =
 -- ---- a turn
 
 -- a neighbour of a node of a sound world is another node, and has a number
-neighbour_number : (members : List (Option MemberState)) (air : List Sent) (a b : ℕ) (m : MemberState) → IsSound members air → slice_index_or members a None ≡ Some m → is_some (neighbour_of m.node b) ≡ true → IsNumber b × (a ≢ b)
+neighbour_number : (members : List (Option MemberState)) (air : AirState) (a b : ℕ) (m : MemberState) → IsSound members air → slice_index_or members a None ≡ Some m → is_some (neighbour_of m.node b) ≡ true → IsNumber b × (a ≢ b)
 neighbour_number members air a b m sound was there = case (neighbour_of m.node b) refl
   where
     case : (o : Option Neighbour) → neighbour_of m.node b ≡ o → IsNumber b × (a ≢ b)
@@ -121,7 +121,7 @@ gained : {A : Type 0} (old new more : List A) → new ≡ old ++ more → old �
 gained old new more is none nothing = is ∙ ap (λ xs. xs ++ more) none ∙ nothing
 
 -- a stream of the node that took the turn
-turned_stream : (members members' : List (Option MemberState)) (air : List Sent) (a : ℕ) (m m' : MemberState) (bytes : List ℕ) (s : NodeStep) (frames : List Outgoing) (b own theirs : ℕ) → IsSound members air → slice_index_or members a None ≡ Some m
+turned_stream : (members members' : List (Option MemberState)) (air : AirState) (a : ℕ) (m m' : MemberState) (bytes : List ℕ) (s : NodeStep) (frames : List Outgoing) (b own theirs : ℕ) → IsSound members air → slice_index_or members a None ≡ Some m
     → Changed members members' a m m' → history m' ≡ history m ++ step_entries s → (t : NodeTurn m.node m'.node bytes s frames) → AreBrought m.node m'.node bytes s frames t → OneStream members' a b own theirs
 turned_stream members members' air a m m' bytes s frames b own theirs sound was c longer t brings =
     let h = streams_of members air sound in
@@ -152,7 +152,7 @@ turned_stream members members' air a m m' bytes s frames b own theirs sound was 
     by (inr there) some = let peer = neighbour_number members air a b m sound was there in ((sound.numbered a m was).0, peer.0, peer.1)
 
 -- node a took a turn, in which what it was given is messages
-pub turn_streams : (members members' : List (Option MemberState)) (air : List Sent) (a : ℕ) (m m' : MemberState) (bytes : List ℕ) (s : NodeStep) (frames : List Outgoing) → IsSound members air → slice_index_or members a None ≡ Some m
+pub turn_streams : (members members' : List (Option MemberState)) (air : AirState) (a : ℕ) (m m' : MemberState) (bytes : List ℕ) (s : NodeStep) (frames : List Outgoing) → IsSound members air → slice_index_or members a None ≡ Some m
     → members' ≡ slice_set members a (Some m') → history m' ≡ history m ++ step_entries s → (t : NodeTurn m.node m'.node bytes s frames) → AreBrought m.node m'.node bytes s frames t → StreamsSound members'
 turn_streams members members' air a m m' bytes s frames sound was is longer t brings =
     let c = changed members members' a m m' was is in

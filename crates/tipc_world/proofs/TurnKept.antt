@@ -1,220 +1,266 @@
 -- A node's journals stay lawful with a turn, and tell how long its links were silent.
-use Rattle.std.specs.Prelude.{◌⊎◌, All, is_some, option_map}
-use Rattle.std.specs.List.{filter, flat_map}
-use Rattle.std.proofs.Common.{◌≡◌, ◌<◌, ◌≤◌, ◌+◌, ◌==◌, ◌^◌, ℕ, zero, suc, true, false, List, [], ◌∷◌, ◌++◌, Option, Some, None, map, slice_get, refl, sym, ap, ◌∙◌, subst, inl, inr, arith}
-use Rattle.std.proofs.lemmas.List.Elements.{All-head, All-tail}
+use Rattle.std.specs.Prelude.{◌⊎◌, All, is_some, nat_le, option_map, if◌then◌else◌}
+use Rattle.std.specs.List.{filter}
+use Rattle.std.proofs.Common.{◌≡◌, ◌<◌, ◌≤◌, ◌==◌, ℕ, zero, suc, Bool, true, false, List, [], ◌∷◌, ◌++◌, Option, Some, None, map, slice_get, refl, sym, ap, ◌∙◌, subst, inl, inr, arith}
+use Rattle.std.proofs.lemmas.Bool.Decides.{nat_tests}
 use Rattle.std.proofs.lemmas.Option.{get_or_from_slice_get, slice_get_within}
 use Rattle.tipc_types.specs.Address.{node_word}
 use Rattle.tipc_types.specs.declared.identity.Addr.{Addr}
-use Rattle.tipc_types.specs.declared.link_words.LinkState.TheVariants.{ResetUnknown}
-use Rattle.tipc_types.specs.declared.message_forms.Message.{Message}
+use Rattle.tipc_types.specs.declared.link_words.Cause.{Cause}
+use Rattle.tipc_types.specs.declared.link_words.Cause.TheVariants as cause
+use Rattle.tipc_types.specs.declared.node_calls.EventNote.{EventNote}
 use Rattle.tipc_types.specs.declared.node_calls.EventNote.TheVariants as event
-use Rattle.tipc_types.specs.declared.packet_lists.Taken.{Taken}
 use Rattle.tipc_outside.specs.declared.outgoing.Outgoing.{Outgoing}
 use Rattle.tipc_journal.specs.declared.entries.Entry.{Entry}
 use Rattle.tipc_journal.specs.declared.entries.Entry.TheVariants as entry
-use Rattle.tipc_journal.specs.Contacts.{contact, up_epochs}
 use Rattle.tipc_journal.specs.Steps.{steps, step_entries, NodeStep, PlacedStep}
-use Rattle.tipc_fragments.specs.Joining.{Joining}
-use Rattle.tipc_header.specs.Frames.{frame_of}
-use Rattle.tipc_header.specs.Spelling.{Fields, spelling}
-use Rattle.tipc_reassembly.specs.declared.opening.Opened.{Opened}
-use Rattle.tipc_reassembly.specs.declared.opening.Opened.TheVariants.{Whole, Passed}
-use Rattle.tipc_reassembly.specs.Opening.{none as nothing_brought}
-use Rattle.tipc_recv_window.specs.declared.outcomes.LinkOutcome.{LinkOutcome}
-use Rattle.tipc_link.specs.Links.{LinkEnd, known}
-use Rattle.tipc_link_fsm.specs.Table.{Fsm, is_up}
-use Rattle.tipc_link.proofs.LinkLaw.{Each, Each-append}
-use Rattle.tipc_pair.specs.declared.changes.PairChange.{PairChange}
-use Rattle.tipc_pair.specs.declared.changes.PairChange.TheVariants.{Stay, Began, Ended}
-use Rattle.tipc_pair.specs.declared.changes.PairOutcome.{PairOutcome}
-use Rattle.tipc_pair.specs.Pairs.{contact_of}
-use Rattle.tipc_pair.specs.Partners.{OpensTo, PairState, deferred, ignored, opened_in, took}
-use Rattle.tipc_pair.specs.Turns.{Happened, Opening, Outset, PutsOnto}
-use Rattle.tipc_pair.specs.Turns.Opening.{cuts, hears, mends, rests, ticks}
+use Rattle.tipc_link.proofs.LinkLaw.{Each}
+use Rattle.tipc_pair.specs.declared.transitions.Transition.{Transition}
+use Rattle.tipc_pair.specs.declared.transitions.Transition.TheVariants.{ContactDown, ContactUp, LinkDown, LinkUp}
+use Rattle.tipc_pair.specs.Facing.{PairEnds, contact_between, facing, in_contact}
+use Rattle.tipc_pair.specs.PairTurns.{Happened, Opening, Outset}
+use Rattle.tipc_pair.specs.PairTurns.Opening.{cuts, hears, makes, mends, rests, ticks}
+use Rattle.tipc_pair.specs.Messages.{opened_in}
 use Rattle.tipc_node.specs.declared.neighbours.Neighbour.{Neighbour}
-use Rattle.tipc_node.specs.Messages.{bytes_of, message_in}
-use Rattle.tipc_node.specs.Nodes.{NodeState, accepted_entry, change_entries, neighbour_of, shown_contact}
-use Rattle.tipc_node.specs.Telling.{IsAbreast, IsTold, TellsOf, epochs_of, shown_contact as shown_number, silence_in, silence_of}
-use Rattle.tipc_node.specs.Turns.{IsBrought, IsFrom, IsPlaced, IsTakenBy, NodeTurn, PeerTurn, Suits, addr_of, delivered_message, delivered_of, is_accepted_for, is_change_of, is_delivered_from, link_in}
-use Rattle.tipc_node.proofs.ArrivalMoves.{IsAs, IsTakenDown, arrival_met}
-use Rattle.tipc_node.proofs.Moves.{IsCutOff, IsSilenced, Tells, down_epochs, up_contact, up_epochs_are}
+use Rattle.tipc_node.specs.Nodes.{NodeState, change_entry, neighbour_of}
+use Rattle.tipc_node.specs.Telling.{AreAbreast, IsTold, TellsOf, epochs_on, silence_in}
+use Rattle.tipc_node.specs.Turns.{IsBrought, IsPlaced, NodeTurn, PeerTurn, Suits, addr_of, is_accepted_for, is_change_of, is_delivered_from, pair_in}
+use Rattle.tipc_node.proofs.Moves.{epochs_at}
 use Rattle.tipc_node.proofs.Telling.{same_word}
-use Rattle.tipc_node.proofs.TurnMoves.{TurnMoves, answered_as, puts_as, turn_as, turn_moves}
-use Rattle.tipc_world.specs.declared.air.Sent.{Sent}
-use Rattle.tipc_world.specs.Causes.{tick_of, BringsUp, HasTicked, IsCaused, IsNumberOf, IsTakenFrom, Seen}
-use Rattle.tipc_world.specs.Lawful.{after, IsLawfulEntry}
-use Rattle.tipc_world.specs.Spelled.{IsSpelled}
-use Rattle.tipc_world.proofs.Kept.{IsKept, IsTimed, kept_step}
+use Rattle.tipc_node.proofs.TurnMoves.{MakesNone}
+use Rattle.tipc_world.specs.Causes.{HasTicked, IsCaused, arrived_frame, IsNumberOf, IsResetOf, IsTunnelOf, Seen}
+use Rattle.tipc_world.specs.Lawful.{IsLawfulEntry}
+use Rattle.tipc_world.specs.Numbers.{end_on}
+use Rattle.tipc_world.proofs.Kept.{IsKept, kept_step}
+use Rattle.tipc_world.proofs.Reasons.{CutsOff, HearsHigher, HearsReset, HearsTunnel, IsReason, IsTick, MayGoDown}
 use Rattle.tipc_world.proofs.Stepping.{Arrives, passed, passes}
+use Rattle.tipc_world.proofs.TunnelsTaken.{TakesTunnels}
+use Rattle.tipc_world.proofs.TurnContacts.{contact_ended}
+use Rattle.tipc_world.proofs.TurnMessages.{messages_lawful}
+use Rattle.tipc_world.proofs.TurnReasons.{BringsFit, first_reasons}
+use Rattle.tipc_world.proofs.TurnTimed.{turn_timed}
 use Rattle.tipc_world.proofs.TurnTraced.{AreCarried, AreGivenSpelled, IsGivenSpelled, sender_is}
 
 -- ---- lists of entries
 
-none_lawful : (P : Entry → Type 0) → Each P []
-none_lawful P k x e = absurd cc
-
-one_lawful : (P : Entry → Type 0) (a : Entry) → P a → Each P (a ∷ [])
-one_lawful P a ha zero x e = let same : a ≡ x = cc in subst P same ha
-one_lawful P a ha (suc k) x e = absurd cc
-
-two_lawful : (P : Entry → Type 0) (a b : Entry) → P a → P b → Each P (a ∷ b ∷ [])
-two_lawful P a b ha hb zero x e = let same : a ≡ x = cc in subst P same ha
-two_lawful P a b ha hb (suc zero) x e = let same : b ≡ x = cc in subst P same hb
-two_lawful P a b ha hb (suc (suc k)) x e = absurd cc
-
 all_at : {A : Type 0} (P : A → Type 0) (xs : List A) (k : ℕ) (x : A) → All P xs → slice_get xs k ≡ Some x → P x
 all_at P xs k x all there = subst P (get_or_from_slice_get xs k x x there) (all k x (slice_get_within xs k x there))
 
-same_in : {A : Type 0} {a b : A} → Some a ≡ Some b → a ≡ b
-same_in is = cc
+mapped_there : {A B : Type 0} (f : A → B) (xs : List A) (k : ℕ) (x : A) → slice_get xs k ≡ Some x → slice_get (map f xs) k ≡ Some (f x)
+mapped_there f [] k x there = absurd cc
+mapped_there f (y ∷ ys) zero x there = let same : y ≡ x = cc in ap (λ z. Some (f z)) same
+mapped_there f (y ∷ ys) (suc k) x there = mapped_there f ys k x there
+
+each_mapped : {A B : Type 0} (P : B → Type 0) (f : A → B) (xs : List A) → ((k : ℕ) (x : A) → slice_get xs k ≡ Some x → P (f x)) → Each P (map f xs)
+each_mapped P f [] h k y there = absurd cc
+each_mapped P f (x ∷ xs) h zero y there = let same : f x ≡ y = cc in subst P same (h zero x refl)
+each_mapped P f (x ∷ xs) h (suc k) y there = each_mapped P f xs (λ j z at. h (suc j) z at) k y there
 
 named : (peer : Addr) (b : ℕ) → peer ≡ addr_of b → (peer.word == node_word b) ≡ true
 named peer b is = ap (λ (a : Addr). a.word == node_word b) is ∙ same_word b
 
--- ---- the entries of a change
+-- ---- what happened first, and the event of the step
 
--- the cause of a change, for the step that records it
-abbrev IsReason : Seen → List PlacedStep → PlacedStep → ℕ → LinkEnd → PairChange → Type 0
-IsReason seen earlier s q e Stay = Unit {0}
-IsReason seen earlier s q e (Began own theirs numbers) = Unit {0}
-IsReason seen earlier s q e (Ended because shown numbers number) =
-    IsCaused seen earlier s (addr_of q) (known e.fsm.peer) because shown × ((number ≡ 0) ⊎ (IsNumberOf seen s.step (addr_of q) number × (numbers.1 < number)))
+makes_none : (note : EventNote) (opening : Opening) → Suits note opening → MakesNone opening
+makes_none note rests suits = tt
+makes_none note (makes bearer is_mended) suits = suits
+makes_none note (mends bearer) suits = tt
+makes_none note (cuts bearer) suits = tt
+makes_none note (ticks shown) suits = tt
+makes_none note (hears bearer es er p by shown) suits = tt
 
-change_lawful : (seen : Seen) (earlier : List PlacedStep) (s : PlacedStep) (q : ℕ) (e e' : LinkEnd) (c : PairChange)
-    → contact s.before (addr_of q) ≡ contact_of e → up_epochs s.before (addr_of q) 0 ≡ epochs_of e → up_epochs (after s) (addr_of q) 0 ≡ epochs_of e' → Tells e e' c → IsReason seen earlier s q e c
-    → Each (IsLawfulEntry seen earlier s) (change_entries q c)
-change_lawful seen earlier s q e e' Stay in_contact epochs later tells reason = none_lawful (IsLawfulEntry seen earlier s)
-change_lawful seen earlier s q e e' (Began own theirs numbers) in_contact epochs later tells reason =
-    two_lawful (IsLawfulEntry seen earlier s) (entry.LinkUp (addr_of q) 0 own theirs) (entry.ContactUp (addr_of q) numbers) refl tt
-change_lawful seen earlier s q e e' (Ended because shown numbers number) in_contact epochs later tells reason =
-    two_lawful (IsLawfulEntry seen earlier s) (entry.LinkDown (addr_of q) 0 because shown) (entry.ContactDown (addr_of q) numbers (Some ResetUnknown, None) number)
-    (refl, (e.fsm.own, known e.fsm.peer, epochs ∙ up_epochs_are e tells.0, reason.0))
-    (in_contact ∙ up_contact e tells.0 ∙ ap Some (sym tells.1), later ∙ down_epochs e' tells.2, reason.1)
+brings_fit : (b : ℕ) (bytes : List ℕ) (opening : Opening) → IsBrought b bytes opening → BringsFit opening
+brings_fit b bytes (hears bearer es er p by shown) brought = brought.fits
+brings_fit b bytes rests brought = tt
+brings_fit b bytes (makes bearer is_mended) brought = tt
+brings_fit b bytes (mends bearer) brought = tt
+brings_fit b bytes (cuts bearer) brought = tt
+brings_fit b bytes (ticks shown) brought = tt
 
-cut_reason : (seen : Seen) (earlier : List PlacedStep) (s : PlacedStep) (q : ℕ) (e : LinkEnd) (c : PairChange) → s.step.event ≡ event.Cut 0 → IsCutOff c → IsReason seen earlier s q e c
-cut_reason seen earlier s q e Stay is h = tt
-cut_reason seen earlier s q e (Began own theirs numbers) is h = tt
-cut_reason seen earlier s q e (Ended because shown numbers number) is h = subst (λ w. IsReason seen earlier s q e (Ended w shown numbers number)) (sym h.0) (is, inl h.1)
+cut_event : (note : EventNote) (opening : Opening) (bearer : ℕ) → Suits note opening → CutsOff opening bearer → note ≡ event.Cut bearer
+cut_event note (cuts b) bearer suits off = suits ∙ ap event.Cut off
+cut_event note rests bearer suits off = absurd off
+cut_event note (makes b is_mended) bearer suits off = absurd off
+cut_event note (mends b) bearer suits off = absurd off
+cut_event note (ticks shown) bearer suits off = absurd off
+cut_event note (hears b es er p by shown) bearer suits off = absurd off
 
-tick_reason : (seen : Seen) (earlier : List PlacedStep) (s : PlacedStep) (q : ℕ) (e : LinkEnd) (c : PairChange) → s.step.event ≡ event.Tick → HasTicked seen earlier (addr_of q) (silence_of e) → IsSilenced e c → IsReason seen earlier s q e c
-tick_reason seen earlier s q e Stay is ticked h = tt
-tick_reason seen earlier s q e (Began own theirs numbers) is ticked h = tt
-tick_reason seen earlier s q e (Ended because shown numbers number) is ticked h =
-    subst (λ w. IsReason seen earlier s q e (Ended w shown numbers number)) (sym h.0)
-    ((is, λ k t there heard. (let more = ticked k t there heard in let four = h.2 in omega (arith, more, four))), inl h.1)
+tick_event : (note : EventNote) (opening : Opening) → Suits note opening → IsTick opening → note ≡ event.Tick
+tick_event note (ticks shown) suits is = suits
+tick_event note rests suits is = absurd is
+tick_event note (makes b is_mended) suits is = absurd is
+tick_event note (mends b) suits is = absurd is
+tick_event note (cuts b) suits is = absurd is
+tick_event note (hears b es er p by shown) suits is = absurd is
+
+-- ---- the causes that arrive
 
 -- an arrival shows the number of the peer that its packet shows
-number_shown : (seen : Seen) (s : NodeStep) (bytes : List ℕ) (b es er by number : ℕ) (p : Fields) → s.event ≡ event.Arrive 0 by → AreCarried seen s bytes → IsFrom b bytes es er p → shown_number p.header ≡ Some number → IsNumberOf seen s (addr_of b) number
-number_shown seen s bytes b es er by number p call carried from shows =
-    let c = (carried 0 by call).1 in
+number_shown : (seen : Seen) (s : NodeStep) (bytes : List ℕ) (b : ℕ) (opening : Opening) (before number : ℕ) → Suits s.event opening → IsBrought b bytes opening → AreCarried seen s bytes → HearsHigher before opening number → IsNumberOf seen s (addr_of b) number
+number_shown seen s bytes b (hears bearer es er p by shown) before number suits from carried h =
+    let c = (carried bearer by suits).1 in
     record {
+      bearer = bearer;
       frame = c.frame;
-      arrives = record { number = by; event_is = call; frame_is = c.arrived; from = sender_is seen by bytes b es er p c from };
+      arrives = record { number = by; event_is = suits; frame_is = c.arrived; from = sender_is seen bearer by bytes b es er p c from };
       packet = p;
       epoch = es;
       other_epoch = er;
       fits = from.fits;
       bytes = c.bytes_are ∙ from.frame_is;
-      shows = shows;
+      shows = h.0;
     }
+number_shown seen s bytes b rests before number suits from carried h = absurd h
+number_shown seen s bytes b (makes bearer is_mended) before number suits from carried h = absurd h
+number_shown seen s bytes b (mends bearer) before number suits from carried h = absurd h
+number_shown seen s bytes b (cuts bearer) before number suits from carried h = absurd h
+number_shown seen s bytes b (ticks shown) before number suits from carried h = absurd h
 
-heard_reason : (seen : Seen) (earlier : List PlacedStep) (before : List Entry) (s : NodeStep) (bytes : List ℕ) (b es er by : ℕ) (p : Fields) (e e' : LinkEnd) (c : PairChange) → s.event ≡ event.Arrive 0 by → AreCarried seen s bytes → IsFrom b bytes es er p
-    → filter (is_change_of b) s.inside ≡ change_entries b c → IsTakenDown e es p.header c → Tells e e' c → IsReason seen earlier (record { before = before; step = s }) b e c
-heard_reason seen earlier before s bytes b es er by p e e' Stay call carried from inside h tells = tt
-heard_reason seen earlier before s bytes b es er by p e e' (Began own theirs numbers) call carried from inside h tells = tt
-heard_reason seen earlier before s bytes b es er by p e e' (Ended because shown numbers shows) call carried from inside (inl r) tells =
-    let a = (carried 0 by call).1 in
-    subst (λ w. IsReason seen earlier (record { before = before; step = s }) b e (Ended w shown numbers shows)) (sym r.0) (
+-- it is above the number that was seen
+number_above : (opening : Opening) (before number : ℕ) → HearsHigher before opening number → before < number
+number_above (hears bearer es er p by shown) before number h = h.1
+number_above rests before number h = absurd h
+number_above (makes bearer is_mended) before number h = absurd h
+number_above (mends bearer) before number h = absurd h
+number_above (cuts bearer) before number h = absurd h
+number_above (ticks shown) before number h = absurd h
+
+reset_shown : (seen : Seen) (s : NodeStep) (bytes : List ℕ) (b : ℕ) (opening : Opening) (bearer epoch : ℕ) → Suits s.event opening → IsBrought b bytes opening → AreCarried seen s bytes → HearsReset opening bearer epoch → IsResetOf seen s (addr_of b) bearer epoch
+reset_shown seen s bytes b (hears on es er p by shown) bearer epoch suits from carried h =
+    let c = (carried on by suits).1 in
+    subst (λ n. IsResetOf seen s (addr_of b) n epoch) h.0 (subst (IsResetOf seen s (addr_of b) on) h.1 (record {
+      frame = c.frame;
+      arrives = record { number = by; event_is = suits; frame_is = c.arrived; from = sender_is seen on by bytes b es er p c from };
+      packet = p;
+      other_epoch = er;
+      epoch_fits = from.es_fits;
+      fits = from.fits;
+      bytes = c.bytes_are ∙ from.frame_is;
+      reset = h.2;
+    }))
+reset_shown seen s bytes b rests bearer epoch suits from carried h = absurd h
+reset_shown seen s bytes b (makes on is_mended) bearer epoch suits from carried h = absurd h
+reset_shown seen s bytes b (mends on) bearer epoch suits from carried h = absurd h
+reset_shown seen s bytes b (cuts on) bearer epoch suits from carried h = absurd h
+reset_shown seen s bytes b (ticks shown) bearer epoch suits from carried h = absurd h
+
+tunnel_shown : (seen : Seen) (n : NodeState) (s : NodeStep) (bytes : List ℕ) (b : ℕ) (x : Neighbour) (opening : Opening) (o : Outset) (bearer epoch place : ℕ) (e : Entry) → neighbour_of n b ≡ Some x → Happened x.pair opening o → Suits s.event opening
+    → IsBrought b bytes opening → AreCarried seen s bytes → TakesTunnels n s bytes → slice_get s.inside place ≡ Some e → HearsTunnel opening o.given bearer epoch → IsTunnelOf seen s (addr_of b) bearer epoch
+tunnel_shown seen n s bytes b x (hears on es er p by shown) o bearer epoch place e there happened suits from carried answers inside h =
+    let c = (carried on by suits).1 in
+    let names = h.2 in
+    let answered = answers on by place e suits inside (record {
+      sender = b;
+      es = es;
+      er = er;
+      packet = p;
+      is_from = from;
+      tunnel = names.tunnel;
+      header_is = names.header_is;
+      neighbour = x;
+      there = there;
+      shown = shown;
+      outset = o;
+      happened = happened;
+      took = h.1;
+    }) in
+    record {
+      frame = c.frame;
+      arrives = record { number = by; event_is = suits ∙ ap (λ k. event.Arrive k by) h.0; frame_is = subst (λ k. arrived_frame seen k by ≡ Some c.frame) h.0 c.arrived; from = sender_is seen on by bytes b es er p c from };
+      messages = answered.0;
+      answer_is = answered.1;
+      packet = p;
+      first_epoch = es;
+      second_epoch = er;
+      fits = from.fits;
+      bytes = c.bytes_are ∙ from.frame_is;
+      tunnel = names.tunnel;
+      header_is = names.header_is;
+      original = names.original;
+      bearer_is = names.bearer_is;
+      epoch_is = names.epoch_is;
+    }
+tunnel_shown seen n s bytes b x rests o bearer epoch place e there happened suits from carried answers inside h = absurd h
+tunnel_shown seen n s bytes b x (makes on is_mended) o bearer epoch place e there happened suits from carried answers inside h = absurd h
+tunnel_shown seen n s bytes b x (mends on) o bearer epoch place e there happened suits from carried answers inside h = absurd h
+tunnel_shown seen n s bytes b x (cuts on) o bearer epoch place e there happened suits from carried answers inside h = absurd h
+tunnel_shown seen n s bytes b x (ticks shown) o bearer epoch place e there happened suits from carried answers inside h = absurd h
+
+-- ---- the entries of changes
+
+-- the end on one of the two bearers
+on_two : (x : PairEnds) (bearer : ℕ) → bearer ≤ 1 → end_on bearer (Some x) ≡ (facing bearer x).near
+on_two x bearer two = let is : nat_le bearer 1 ≡ true = grind (arith, nat_tests, two) in ap (λ t. if t then (facing bearer x).near else None) is
+
+epochs_two : (x : PairEnds) (bearer : ℕ) → bearer ≤ 1 → epochs_on bearer x ≡ epochs_at (facing bearer x).near
+epochs_two x bearer two = let is : nat_le bearer 1 ≡ true = grind (arith, nat_tests, two) in ap (λ t. if t then epochs_at (facing bearer x).near else None) is
+
+-- the numbers of a contact are those of the pair
+seen_number : (x : PairEnds) (numbers : ℕ × ℕ) → contact_between x ≡ Some numbers → x.seen ≡ numbers.1
+seen_number x numbers = case (in_contact x)
+  where
+    case : (t : Bool) → (if t then Some (x.contact, x.seen) else None) ≡ Some numbers → x.seen ≡ numbers.1
+    case true is = let same : (x.contact, x.seen) ≡ numbers = cc in ap (λ (k : ℕ × ℕ). k.1) same
+    case false is = absurd cc
+
+-- what is known of a turn at a neighbour, and of the step that tells of it
+record PeerKnown (seen : Seen) (n : NodeState) (s : NodeStep) (bytes : List ℕ) (b : ℕ) (x : Neighbour) : Type 0 where
+  there : neighbour_of n b ≡ Some x
+  before : TellsOf n.journal b (Some x.pair)
+  ticked : (bearer : ℕ) → HasTicked seen (steps n.journal) (addr_of b) bearer (silence_in (end_on bearer (Some x.pair)))
+  carried : AreCarried seen s bytes
+  answers : TakesTunnels n s bytes
+
+abbrev placed_in : NodeState → NodeStep → PlacedStep
+placed_in n s = record { before = n.journal; step = s }
+
+-- a link that goes down has a cause that can be seen
+down_caused : (seen : Seen) (n : NodeState) (bytes : List ℕ) (s : NodeStep) (frames : List Outgoing) (b : ℕ) (x : Neighbour) (x' : PairEnds) (t : PeerTurn n.own bytes s frames b x.pair x') → PeerKnown seen n s bytes b x
+    → (bearer theirs : ℕ) (because : Cause) (shown place : ℕ) (e : Entry) → bearer ≤ 1 → slice_get s.inside place ≡ Some e → MayGoDown x.pair t.opening t.turn.first.given t.turn.first.course.changes bearer theirs because shown
+    → IsCaused seen (steps n.journal) (placed_in n s) (addr_of b) bearer theirs because shown
+down_caused seen n bytes s frames b x x' t k bearer theirs cause.Cut shown place e two inside may = cut_event s.event t.opening bearer t.suits may
+down_caused seen n bytes s frames b x x' t k bearer theirs cause.Silent shown place e two inside may = (
+  tick_event s.event t.opening t.suits may.0,
+  λ i u at heard. (let more = k.ticked bearer i u at heard in let four = subst (λ o. 4 ≤ silence_in o) (sym (on_two x.pair bearer two)) may.1 in omega (arith, more, four)),
+)
+down_caused seen n bytes s frames b x x' t k bearer theirs cause.PeerReset shown place e two inside may = (reset_shown seen s bytes b t.opening bearer shown t.suits t.brought k.carried may.0, may.1)
+down_caused seen n bytes s frames b x x' t k bearer theirs cause.PeerTunnel shown place e two inside may = (
+  tunnel_shown seen n s bytes b x t.opening t.turn.first bearer shown place e k.there t.turn.happened t.suits t.brought k.carried k.answers inside may.0,
+  may.1,
+)
+down_caused seen n bytes s frames b x x' t k bearer theirs cause.ContactEnded shown place e two inside may =
+    let number = may.0 in
+    let ends = may.2 in
+    let numbers : ℕ × ℕ = (x.pair.contact, x.pair.seen) in
+    let told = entry.ContactDown (addr_of b) numbers ends.states number in
+    let found = passed (is_change_of b) s.inside ends.place told (ap (λ es. slice_get es ends.place) t.changes ∙ mapped_there (change_entry b) t.turn.first.course.changes ends.place (ContactDown numbers ends.states number) ends.there) in
+    (found.0, numbers, ends.states, number, found.1, number_shown seen s bytes b t.opening x.pair.seen number t.suits t.brought k.carried may.1, number_above t.opening x.pair.seen number may.1)
+
+-- each change is lawful by its reason
+change_lawful : (seen : Seen) (n : NodeState) (bytes : List ℕ) (s : NodeStep) (frames : List Outgoing) (b : ℕ) (x : Neighbour) (x' : PairEnds) (t : PeerTurn n.own bytes s frames b x.pair x') → PeerKnown seen n s bytes b x → AreAbreast x.pair
+    → TellsOf (n.journal ++ step_entries s) b (Some x') → (k : ℕ) (c : Transition) → slice_get t.turn.first.course.changes k ≡ Some c → IsReason x.pair t.opening t.turn.first.given t.turn.first.course.changes c
+    → IsLawfulEntry seen (steps n.journal) (placed_in n s) (change_entry b c)
+change_lawful seen n bytes s frames b x x' t known abreast told k (LinkUp bearer own theirs) at reason = reason
+change_lawful seen n bytes s frames b x x' t known abreast told k (LinkDown bearer because shown) at reason =
+    let e = change_entry b (LinkDown bearer because shown) in
+    let found = passed (is_change_of b) s.inside k e (ap (λ es. slice_get es k) t.changes ∙ mapped_there (change_entry b) t.turn.first.course.changes k (LinkDown bearer because shown) at) in (
+      reason.two,
       (
-        record {
-          frame = a.frame;
-          arrives = record { number = by; event_is = call; frame_is = a.arrived; from = sender_is seen by bytes b es er p a from };
-          packet = p;
-          other_epoch = er;
-          epoch_fits = subst (λ n. n < 2 ^ 64) (sym r.1) from.es_fits;
-          fits = from.fits;
-          bytes = a.bytes_are ∙ from.frame_is ∙ ap (λ n. frame_of n er (spelling p)) (sym r.1);
-          reset = r.2;
-        },
-        subst (λ n. known e.fsm.peer < n) (sym r.1) r.3,
+        reason.own,
+        reason.theirs,
+        known.before.epochs_are bearer ∙ epochs_two x.pair bearer reason.two ∙ reason.epochs,
+        down_caused seen n bytes s frames b x x' t known bearer reason.theirs because shown found.0 e reason.two found.1 reason.cause_is,
       ),
-      inl r.4,
     )
-heard_reason seen earlier before s bytes b es er by p e e' (Ended because shown numbers shows) call carried from inside (inr r) tells =
-    let numbered = number_shown seen s bytes b es er by shows p call carried from r.1 in
-    let higher : numbers.1 < shows = subst (λ (n : ℕ × ℕ). n.1 < shows) (sym tells.1) r.2 in
-    let ends = entry.ContactDown (addr_of b) numbers (Some ResetUnknown, None) shows in
-    let at = passed (is_change_of b) s.inside 1 ends (ap (λ es'. slice_get es' 1) inside) in
-    subst (λ w. IsReason seen earlier (record { before = before; step = s }) b e (Ended w shown numbers shows)) (sym r.0)
-    ((at.0, numbers, (Some ResetUnknown, None), shows, at.1, numbered, higher), inr (numbered, higher))
-
--- why the link to a neighbour changed, by what happened first
-turn_reason : (seen : Seen) (earlier : List PlacedStep) (before : List Entry) (s : NodeStep) (bytes : List ℕ) (b : ℕ) (e e' : LinkEnd) (opening : Opening) (o : Outset) → Suits s.event opening → IsBrought b bytes opening → AreCarried seen s bytes
-    → HasTicked seen earlier (addr_of b) (silence_of e) → filter (is_change_of b) s.inside ≡ change_entries b o.change → TurnMoves e e' opening o → IsReason seen earlier (record { before = before; step = s }) b e o.change
-turn_reason seen earlier before s bytes b e e' rests o suits brought carried ticked inside m = subst (IsReason seen earlier (record { before = before; step = s }) b e) (sym m.moved.0) tt
-turn_reason seen earlier before s bytes b e e' mends o suits brought carried ticked inside m = subst (IsReason seen earlier (record { before = before; step = s }) b e) (sym m.moved.0) tt
-turn_reason seen earlier before s bytes b e e' cuts o suits brought carried ticked inside m = cut_reason seen earlier (record { before = before; step = s }) b e o.change suits m.moved.0
-turn_reason seen earlier before s bytes b e e' (ticks shown) o suits brought carried ticked inside m = tick_reason seen earlier (record { before = before; step = s }) b e o.change suits ticked m.moved.0
-turn_reason seen earlier before s bytes b e e' (hears es er p by shown) o suits brought carried ticked inside m =
-    heard_reason seen earlier before s bytes b es er by p e e' o.change suits carried brought inside (subst (IsTakenDown e es p.header) (sym m.moved.change_is) m.moved.met.caused) m.tells
-
--- ---- the entries of messages
-
--- what gave something left the link up
-given_some : (begun last : Joining) (outcome : LinkOutcome) (out : PairOutcome) (o : Opened) (os : List Opened) → OpensTo begun outcome out last → opened_in out ≡ o ∷ os → (t : Taken) × (ts : List Taken) × (outcome ≡ LinkOutcome.Took (t ∷ ts))
-given_some begun last (LinkOutcome.Took []) out o os (took nothing_brought) is = absurd cc
-given_some begun last (LinkOutcome.Took (t ∷ ts)) out o os (took brings) is = (t, ts, refl)
-given_some begun last outcome out o os deferred is = absurd cc
-given_some begun last outcome out o os ignored is = absurd cc
-
-gave_up : (x : PairState) (opening : Opening) (first : Outset) (o : Opened) (os : List Opened) → IsAbreast x.link → Happened x opening first → opened_in first.given ≡ o ∷ os → is_up first.pair.link.fsm.state ≡ true
-gave_up x rests first o os abreast is some = absurd (let wrong : [] ≡ o ∷ os = subst (λ (p : Outset). opened_in p.given ≡ o ∷ os) is some in cc)
-gave_up x mends first o os abreast is some = absurd (let wrong : [] ≡ o ∷ os = subst (λ (p : Outset). opened_in p.given ≡ o ∷ os) is some in cc)
-gave_up x cuts first o os abreast is some = absurd (let wrong : [] ≡ o ∷ os = subst (λ (p : Outset). opened_in p.given ≡ o ∷ os) is some in cc)
-gave_up x (ticks shown) first o os abreast is some = absurd (let wrong : [] ≡ o ∷ os = subst (λ (p : Outset). opened_in p.given ≡ o ∷ os) is some in cc)
-gave_up x (hears es er p by shown) first o os abreast is some =
-    let met = arrival_met x.link es er p by shown abreast in
-    let taken = given_some _ is.1 _ is.0 o os is.2 (ap (λ (q : Outset). opened_in q.given) (sym is.3) ∙ some) in
-    ap (λ (q : Outset). is_up q.pair.link.fsm.state) is.3 ∙ met.brought taken.0 taken.1 taken.2
-
--- an end is in the contact that another was in, which is up
-contact_as : (e e' : LinkEnd) → IsAs e e' e.fsm → is_up e.fsm.state ≡ true → contact_of e' ≡ Some (shown_contact e)
-contact_as e e' a up = up_contact e' (ap (λ (f : Fsm). is_up f.state) a.fsm ∙ up) ∙ ap (λ n. Some (n, e'.peer_contact)) a.contact ∙ ap (λ n. Some (e.contact, n)) a.seen
-
-put_entries : (seen : Seen) (earlier : List PlacedStep) (s : PlacedStep) (b : ℕ) (e : LinkEnd) (ms : List Message) → contact (after s) (addr_of b) ≡ Some (shown_contact e) → Each (IsLawfulEntry seen earlier s) (map (accepted_entry b e) ms)
-put_entries seen earlier s b e [] is = none_lawful (IsLawfulEntry seen earlier s)
-put_entries seen earlier s b e (m ∷ ms) is =
-    Each-append (IsLawfulEntry seen earlier s) (accepted_entry b e m ∷ []) (map (accepted_entry b e) ms) (one_lawful (IsLawfulEntry seen earlier s) (accepted_entry b e m) is) (put_entries seen earlier s b e ms is)
-
--- messages that were put were accepted in the contact of the link
-put_lawful : (own : ℕ) (seen : Seen) (earlier : List PlacedStep) (s : PlacedStep) (b : ℕ) (first put last : LinkEnd) (frames : List Outgoing) (ms : List Message) → PutsOnto first (map (bytes_of own) ms) frames put → IsAs first put first.fsm → IsAs put last put.fsm
-    → contact (after s) (addr_of b) ≡ contact_of last → Each (IsLawfulEntry seen earlier s) (map (accepted_entry b put) ms)
-put_lawful own seen earlier s b first put last frames [] puts before then_ is = none_lawful (IsLawfulEntry seen earlier s)
-put_lawful own seen earlier s b first put last frames (m ∷ ms) puts before then_ is =
-    put_entries seen earlier s b put (m ∷ ms) (is ∙ contact_as put last then_ (ap (λ (f : Fsm). is_up f.state) before.fsm ∙ puts.up))
-
-message_lawful : (seen : Seen) (earlier : List PlacedStep) (s : PlacedStep) (b : ℕ) (c : ℕ × ℕ) → contact (after s) (addr_of b) ≡ Some c → (message : Option Message) (by : List ℕ)
-    → ((m : Message) → message ≡ Some m → IsSpelled seen s.step (addr_of b) m by) → Each (IsLawfulEntry seen earlier s) (delivered_message b c message by)
-message_lawful seen earlier s b c is (Some m) by h = one_lawful (IsLawfulEntry seen earlier s) (entry.Delivered (addr_of b) c _ m by) (is, h m refl)
-message_lawful seen earlier s b c is None by h = none_lawful (IsLawfulEntry seen earlier s)
-
-opened_lawful : (seen : Seen) (earlier : List PlacedStep) (s : PlacedStep) (b : ℕ) (c : ℕ × ℕ) (o : Opened) → contact (after s) (addr_of b) ≡ Some c → IsGivenSpelled seen s.step b o → Each (IsLawfulEntry seen earlier s) (delivered_of b c o)
-opened_lawful seen earlier s b c (Whole packet by) is h = message_lawful seen earlier s b c is (message_in packet) by h
-opened_lawful seen earlier s b c (Passed place) is h = none_lawful (IsLawfulEntry seen earlier s)
-
-all_opened : (seen : Seen) (earlier : List PlacedStep) (s : PlacedStep) (b : ℕ) (c : ℕ × ℕ) (opened : List Opened) → contact (after s) (addr_of b) ≡ Some c → All (IsGivenSpelled seen s.step b) opened
-    → Each (IsLawfulEntry seen earlier s) (flat_map (delivered_of b c) opened)
-all_opened seen earlier s b c [] is h = none_lawful (IsLawfulEntry seen earlier s)
-all_opened seen earlier s b c (o ∷ os) is h =
-    Each-append (IsLawfulEntry seen earlier s) (delivered_of b c o) (flat_map (delivered_of b c) os) (opened_lawful seen earlier s b c o is (All-head (IsGivenSpelled seen s.step b) o os h))
-    (all_opened seen earlier s b c os is (All-tail (IsGivenSpelled seen s.step b) o os h))
-
--- what was given was delivered in the contact of the link
-given_lawful : (seen : Seen) (earlier : List PlacedStep) (s : PlacedStep) (b : ℕ) (c : ℕ × ℕ) (opened : List Opened) → ((o : Opened) (os : List Opened) → opened ≡ o ∷ os → contact (after s) (addr_of b) ≡ Some c) → All (IsGivenSpelled seen s.step b) opened
-    → Each (IsLawfulEntry seen earlier s) (flat_map (delivered_of b c) opened)
-given_lawful seen earlier s b c [] is h = none_lawful (IsLawfulEntry seen earlier s)
-given_lawful seen earlier s b c (o ∷ os) is h = all_opened seen earlier s b c (o ∷ os) (is o os refl) h
+change_lawful seen n bytes s frames b x x' t known abreast told k (ContactUp numbers) at reason = tt
+change_lawful seen n bytes s frames b x x' t known abreast told k (ContactDown numbers states number) at reason =
+    let over = contact_ended n.journal n.own bytes s frames b x.pair x' t abreast known.before told k numbers states number at in
+    let seen_is : x.pair.seen ≡ numbers.1 = seen_number x.pair numbers (sym known.before.contact_is ∙ over.contact_is) in
+    (over.contact_is, over.none, by seen_is reason)
+  where
+    by : x.pair.seen ≡ numbers.1 → (number ≡ 0) ⊎ HearsHigher x.pair.seen t.opening number → (number ≡ 0) ⊎ (IsNumberOf seen s (addr_of b) number × (numbers.1 < number))
+    by seen_is (inl none) = inl none
+    by seen_is (inr h) = inr (number_shown seen s bytes b t.opening x.pair.seen number t.suits t.brought known.carried h, subst (λ m. m < number) seen_is (number_above t.opening x.pair.seen number h))
 
 -- ---- the turn at a peer
 
@@ -224,100 +270,44 @@ record PeerLawful (seen : Seen) (earlier : List PlacedStep) (s : PlacedStep) (b 
   accepted : Each (IsLawfulEntry seen earlier s) (filter (is_accepted_for b) s.step.inside)
   delivered : Each (IsLawfulEntry seen earlier s) (filter (is_delivered_from b) s.step.inside)
 
-peer_lawful : (seen : Seen) (earlier : List PlacedStep) (journal : List Entry) (own : ℕ) (bytes : List ℕ) (s : NodeStep) (frames : List Outgoing) (b : ℕ) (x x' : PairState) (t : PeerTurn own bytes s frames b x x')
-    → TellsOf journal b (Some x.link) → TellsOf (journal ++ step_entries s) b (Some x'.link) → HasTicked seen earlier (addr_of b) (silence_of x.link) → AreCarried seen s bytes → All (IsGivenSpelled seen s b) (opened_in t.turn.first.given)
-    → PeerLawful seen earlier (record { before = journal; step = s }) b
-peer_lawful seen earlier journal own bytes s frames b x x' t before then_ ticked carried spelled =
-    let placed : PlacedStep = record { before = journal; step = s } in
-    let abreast = before.abreast x.link refl in
+peer_lawful : (seen : Seen) (n : NodeState) (bytes : List ℕ) (s : NodeStep) (frames : List Outgoing) (b : ℕ) (x : Neighbour) (x' : PairEnds) (t : PeerTurn n.own bytes s frames b x.pair x') → PeerKnown seen n s bytes b x
+    → TellsOf (n.journal ++ step_entries s) b (Some x') → All (IsGivenSpelled seen s b) (opened_in t.turn.first.given) → PeerLawful seen (steps n.journal) (placed_in n s) b
+peer_lawful seen n bytes s frames b x x' t k told spelled =
     let first = t.turn.first in
-    let moves = turn_moves x x' t.opening (map (bytes_of own) t.messages) t.reply t.own_frames abreast t.turn in
-    let whole = turn_as x x' t.opening (map (bytes_of own) t.messages) t.reply t.own_frames t.turn in
-    let put = puts_as first.pair.link (map (bytes_of own) t.messages) t.turn.put_frames t.turn.put t.turn.puts in
-    let last : IsAs t.turn.put x'.link t.turn.put.fsm = subst (λ (y : PairState). IsAs t.turn.put y.link t.turn.put.fsm) (sym t.turn.after) (answered_as t.reply t.turn.put) in
+    let P = IsLawfulEntry seen (steps n.journal) (placed_in n s) in
+    let abreast : AreAbreast x.pair = k.before.abreast in
+    let reasons = first_reasons x.pair t.opening first abreast (makes_none s.event t.opening t.suits) t.on_one (brings_fit b bytes t.opening t.brought) t.turn.happened in
+    let messages = messages_lawful seen (steps n.journal) n.journal n.own bytes s frames b x.pair x' t abreast told spelled in
     record {
-      changes = subst (Each (IsLawfulEntry seen earlier placed)) (sym t.changes) (change_lawful seen earlier placed b x.link x'.link first.change before.contact_is before.epochs_are then_.epochs_are moves.tells
-          (turn_reason seen earlier journal s bytes b x.link x'.link t.opening first t.suits t.brought carried ticked t.changes moves));
-      accepted = subst (Each (IsLawfulEntry seen earlier placed)) (sym t.accepted) (put_lawful own seen earlier placed b first.pair.link t.turn.put x'.link t.turn.put_frames t.messages t.turn.puts put last then_.contact_is);
-      delivered = subst (Each (IsLawfulEntry seen earlier placed)) (sym t.delivered) (given_lawful seen earlier placed b (shown_contact first.pair.link) (opened_in first.given)
-          (λ o os some. then_.contact_is ∙ contact_as first.pair.link x'.link whole (gave_up x t.opening first o os abreast t.turn.happened some)) spelled);
+      changes = subst (Each P) (sym t.changes) (each_mapped P (change_entry b) first.course.changes
+          (λ i c at. change_lawful seen n bytes s frames b x x' t k abreast told i c at (all_at (IsReason x.pair t.opening first.given first.course.changes) first.course.changes i c reasons at)));
+      accepted = messages.accepted;
+      delivered = messages.delivered;
     }
-
--- a link that went up was heard
-ups_heard : (b : ℕ) (e e' : LinkEnd) (c : PairChange) (j own theirs : ℕ) → Tells e e' c → slice_get (change_entries b c) j ≡ Some (entry.LinkUp (addr_of b) 0 own theirs) → silence_of e' ≡ 0
-ups_heard b e e' Stay j own theirs h there = absurd cc
-ups_heard b e e' (Began own' theirs' numbers) j own theirs h there = h.2
-ups_heard b e e' (Ended because shown numbers number) zero own theirs h there = absurd cc
-ups_heard b e e' (Ended because shown numbers number) (suc zero) own theirs h there = absurd cc
-ups_heard b e e' (Ended because shown numbers number) (suc (suc j)) own theirs h there = absurd cc
-
--- so was one of which something was taken
-taken_heard : (e e' : LinkEnd) (opening : Opening) (o : Outset) → TurnMoves e e' opening o → IsTakenBy opening o.given → silence_of e' ≡ 0
-taken_heard e e' rests o m taken = absurd taken
-taken_heard e e' mends o m taken = absurd taken
-taken_heard e e' cuts o m taken = absurd taken
-taken_heard e e' (ticks shown) o m taken = absurd taken
-taken_heard e e' (hears es er p by shown) o m taken = m.moved.taken taken
-
--- a link isn't silent for longer than before, but for a tick
-silence_most : (s : NodeStep) (e e' : LinkEnd) (opening : Opening) (o : Outset) → Suits s.event opening → TurnMoves e e' opening o → silence_of e' ≤ silence_of e + tick_of s.event
-silence_most s e e' rests o suits m = let most = m.moved.1 in omega (arith, most)
-silence_most s e e' mends o suits m = let most = m.moved.1 in omega (arith, most)
-silence_most s e e' cuts o suits m = let most = m.moved.1 in omega (arith, most)
-silence_most s e e' (ticks shown) o suits m = let most = m.moved.1 in let one : tick_of s.event ≡ 1 = ap tick_of suits in omega (arith, most, one)
-silence_most s e e' (hears es er p by shown) o suits m = let most = m.moved.silence in omega (arith, most)
-
--- a step that took a frame of a peer took what it brought
-taken_of : (seen : Seen) (own : ℕ) (bytes : List ℕ) (s : NodeStep) (frames : List Outgoing) (b : ℕ) (x x' : PairState) (t : PeerTurn own bytes s frames b x x') → AreCarried seen s bytes → IsTakenFrom seen s (addr_of b) → IsTakenBy t.opening t.turn.first.given
-taken_of seen own bytes s frames b x x' t carried h =
-    let c = (carried 0 h.arrives.number h.arrives.event_is).1 in
-    let same : c.frame ≡ h.frame = same_in (sym c.arrived ∙ h.arrives.frame_is) in
-    let words : node_word c.sender ≡ node_word b = sym c.from ∙ ap (λ (f : Sent). f.from.word) same ∙ h.arrives.from in
-    let sender : c.sender ≡ b = omega (arith, words) in
-    t.taken h.answered c.es c.er c.packet h.answer_is h.taken (subst (λ k. IsFrom k bytes c.es c.er c.packet) sender c.is_from)
-
-peer_timed : (seen : Seen) (own : ℕ) (bytes : List ℕ) (s : NodeStep) (frames : List Outgoing) (b : ℕ) (x x' : PairState) (t : PeerTurn own bytes s frames b x x') → IsAbreast x.link → AreCarried seen s bytes
-    → IsTimed seen s b (Some x.link) (Some x'.link)
-peer_timed seen own bytes s frames b x x' t abreast carried =
-    let moves = turn_moves x x' t.opening (map (bytes_of own) t.messages) t.reply t.own_frames abreast t.turn in
-    record { heard = heard moves; most = silence_most s x.link x'.link t.opening t.turn.first t.suits moves }
-  where
-    heard : TurnMoves x.link x'.link t.opening t.turn.first → BringsUp s (addr_of b) ⊎ IsTakenFrom seen s (addr_of b) → silence_of x'.link ≡ 0
-    heard moves (inl up) =
-        let at = passes (is_change_of b) s.inside up.place (entry.LinkUp (addr_of b) 0 up.own up.theirs) up.entry_is (same_word b) in
-        ups_heard b x.link x'.link t.turn.first.change at.0 up.own up.theirs moves.tells (subst (λ es. slice_get es at.0 ≡ Some (entry.LinkUp (addr_of b) 0 up.own up.theirs)) t.changes at.1)
-    heard moves (inr taken) = taken_heard x.link x'.link t.opening t.turn.first moves (taken_of seen own bytes s frames b x x' t carried taken)
 
 -- ---- the turn
 
-link_of : (n : NodeState) (b : ℕ) (o : Option Neighbour) → neighbour_of n b ≡ o → link_in n b ≡ option_map (λ (x : Neighbour). x.pair.link) o
-link_of n b o is = ap (option_map (λ (x : Neighbour). x.pair.link)) is
-
--- each link is timed
-turn_timed : (seen : Seen) (n n' : NodeState) (bytes : List ℕ) (s : NodeStep) (frames : List Outgoing) → IsTold n → NodeTurn n n' bytes s frames → AreCarried seen s bytes → (p : ℕ) → IsTimed seen s p (link_in n p) (link_in n' p)
-turn_timed seen n n' bytes s frames told t carried p = case (neighbour_of n p) refl
-  where
-    case : (o : Option Neighbour) → neighbour_of n p ≡ o → IsTimed seen s p (link_in n p) (link_in n' p)
-    case None alone = subst (IsTimed seen s p (link_in n p)) (sym (link_of n' p None (t.alone p alone))) (record { heard = λ h. refl; most = omega arith })
-    case (Some x) there =
-        let turn = t.turns p x there in
-        let was = link_of n p (Some x) there in
-        subst (λ o. IsTimed seen s p o (link_in n' p)) (sym was) (subst (IsTimed seen s p (Some x.pair.link)) (sym (link_of n' p (Some turn.after) turn.after_is))
-        (peer_timed seen n.own bytes s frames p x.pair turn.after.pair turn.turn ((told.links p).abreast x.pair.link was) carried))
+pair_of : (n : NodeState) (b : ℕ) (o : Option Neighbour) → neighbour_of n b ≡ o → pair_in n b ≡ option_map (λ (x : Neighbour). x.pair) o
+pair_of n b o is = ap (option_map (λ (x : Neighbour). x.pair)) is
 
 -- what a step tells of each neighbour is lawful
-turn_lawful : (seen : Seen) (n n' : NodeState) (bytes : List ℕ) (s : NodeStep) (frames : List Outgoing) (t : NodeTurn n n' bytes s frames) → IsTold n → ((p : ℕ) → TellsOf (n.journal ++ step_entries s) p (link_in n' p))
-    → ((p : ℕ) → HasTicked seen (steps n.journal) (addr_of p) (silence_in (link_in n p))) → AreCarried seen s bytes → AreGivenSpelled seen n n' bytes s frames t
-    → (b : ℕ) → is_some (neighbour_of n b) ≡ true → PeerLawful seen (steps n.journal) (record { before = n.journal; step = s }) b
-turn_lawful seen n n' bytes s frames t told later ticked carried spelled b there = case (neighbour_of n b) refl
+turn_lawful : (seen : Seen) (n n' : NodeState) (bytes : List ℕ) (s : NodeStep) (frames : List Outgoing) (t : NodeTurn n n' bytes s frames) → IsTold n → ((p : ℕ) → TellsOf (n.journal ++ step_entries s) p (pair_in n' p))
+    → ((p bearer : ℕ) → HasTicked seen (steps n.journal) (addr_of p) bearer (silence_in (end_on bearer (pair_in n p)))) → AreCarried seen s bytes → TakesTunnels n s bytes → AreGivenSpelled seen n n' bytes s frames t
+    → (b : ℕ) → is_some (neighbour_of n b) ≡ true → PeerLawful seen (steps n.journal) (placed_in n s) b
+turn_lawful seen n n' bytes s frames t told later ticked carried answers spelled b there = case (neighbour_of n b) refl
   where
-    case : (o : Option Neighbour) → neighbour_of n b ≡ o → PeerLawful seen (steps n.journal) (record { before = n.journal; step = s }) b
+    case : (o : Option Neighbour) → neighbour_of n b ≡ o → PeerLawful seen (steps n.journal) (placed_in n s) b
     case None alone = absurd (let wrong : true ≡ false = sym there ∙ ap is_some alone in cc)
     case (Some x) is =
         let turn = t.turns b x is in
-        let was = link_of n b (Some x) is in
-        peer_lawful seen (steps n.journal) n.journal n.own bytes s frames b x.pair turn.after.pair turn.turn (subst (TellsOf n.journal b) was (told.links b))
-        (subst (TellsOf (n.journal ++ step_entries s) b) (link_of n' b (Some turn.after) turn.after_is) (later b)) (subst (λ o. HasTicked seen (steps n.journal) (addr_of b) (silence_in o)) was (ticked b)) carried (spelled b x is)
+        let was = pair_of n b (Some x) is in
+        peer_lawful seen n bytes s frames b x turn.after.pair turn.turn (record {
+          there = is;
+          before = subst (TellsOf n.journal b) was (told.links b);
+          ticked = λ bearer. subst (λ o. HasTicked seen (steps n.journal) (addr_of b) bearer (silence_in (end_on bearer o))) was (ticked b bearer);
+          carried = carried;
+          answers = answers;
+        }) (subst (TellsOf (n.journal ++ step_entries s) b) (pair_of n' b (Some turn.after) turn.after_is) (later b)) (spelled b x is)
 
 -- an entry that tells of a neighbour is lawful as those of the neighbour are
 entry_lawful : (seen : Seen) (earlier : List PlacedStep) (s : PlacedStep) (n : NodeState) (place : ℕ) (e : Entry) → ((b : ℕ) → is_some (neighbour_of n b) ≡ true → PeerLawful seen earlier s b) → slice_get s.step.inside place ≡ Some e → IsPlaced n e
@@ -332,16 +322,15 @@ entry_lawful seen earlier s n place (entry.Accepted peer numbers flow message) h
     let found = passes (is_accepted_for at.0) s.step.inside place (entry.Accepted peer numbers flow message) there (named peer at.0 at.2) in (h at.0 at.1).accepted found.0 (entry.Accepted peer numbers flow message) found.1
 entry_lawful seen earlier s n place (entry.Delivered peer numbers flow message by) h there at =
     let found = passes (is_delivered_from at.0) s.step.inside place (entry.Delivered peer numbers flow message by) there (named peer at.0 at.2) in (h at.0 at.1).delivered found.0 (entry.Delivered peer numbers flow message by) found.1
-entry_lawful seen earlier s n place other h there at = tt
+entry_lawful seen earlier s n place other_entry h there at = tt
 
 carried_arrives : (seen : Seen) (s : NodeStep) (bytes : List ℕ) → AreCarried seen s bytes → Arrives seen s
 carried_arrives seen s bytes carried bearer number is = let c = carried bearer number is in (c.1.frame, c.0, c.1.arrived)
 
-pub turn_kept : (seen : Seen) (past : List (List Entry)) (n n' : NodeState) (bytes : List ℕ) (s : NodeStep) (frames : List Outgoing) (t : NodeTurn n n' bytes s frames) → IsKept seen past n.journal (link_in n) → IsTold n → IsTold n'
-    → AreCarried seen s bytes → AreGivenSpelled seen n n' bytes s frames t → IsKept seen past n'.journal (link_in n')
-turn_kept seen past n n' bytes s frames t h told told' carried spelled =
-    let placed : PlacedStep = record { before = n.journal; step = s } in
-    let later : (p : ℕ) → TellsOf (n.journal ++ step_entries s) p (link_in n' p) = λ p. subst (λ j. TellsOf j p (link_in n' p)) t.journal (told'.links p) in
-    let each = turn_lawful seen n n' bytes s frames t told later h.ticked carried spelled in
-    subst (λ j. IsKept seen past j (link_in n')) (sym t.journal) (kept_step seen past n.journal (link_in n) (link_in n') s h t.inside (carried_arrives seen s bytes carried) later (turn_timed seen n n' bytes s frames told t carried)
-    (λ place e there. entry_lawful seen (steps n.journal) placed n place e each there (all_at (IsPlaced n) s.inside place e t.placed there)))
+pub turn_kept : (seen : Seen) (past : List (List Entry)) (n n' : NodeState) (bytes : List ℕ) (s : NodeStep) (frames : List Outgoing) (t : NodeTurn n n' bytes s frames) → IsKept seen past n.journal (pair_in n) → IsTold n → IsTold n'
+    → AreCarried seen s bytes → TakesTunnels n s bytes → AreGivenSpelled seen n n' bytes s frames t → IsKept seen past n'.journal (pair_in n')
+turn_kept seen past n n' bytes s frames t h told told' carried answers spelled =
+    let later : (p : ℕ) → TellsOf (n.journal ++ step_entries s) p (pair_in n' p) = λ p. subst (λ j. TellsOf j p (pair_in n' p)) t.journal (told'.links p) in
+    let each = turn_lawful seen n n' bytes s frames t told later h.ticked carried answers spelled in
+    subst (λ j. IsKept seen past j (pair_in n')) (sym t.journal) (kept_step seen past n.journal (pair_in n) (pair_in n') s h t.inside (carried_arrives seen s bytes carried) later (turn_timed seen n n' bytes s frames told t carried)
+    (λ place e there. entry_lawful seen (steps n.journal) (placed_in n s) n place e each there (all_at (IsPlaced n) s.inside place e t.placed there)))

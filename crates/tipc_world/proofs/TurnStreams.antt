@@ -24,19 +24,21 @@ use Rattle.tipc_journal.proofs.StreamLaws.{accepted_nil, delivered_nil, flow_eq_
 use Rattle.tipc_reassembly.specs.declared.opening.Opened.{Opened}
 use Rattle.tipc_reassembly.specs.declared.opening.Opened.TheVariants.{Whole, Passed}
 use Rattle.tipc_reassembly.specs.Slots.{IsWholePacket, packets_in}
-use Rattle.tipc_link.specs.Links.{LinkEnd}
 use Rattle.tipc_link.proofs.LinkLaw.{Each, Each-append, Each-none, Each-one}
-use Rattle.tipc_pair.specs.Partners.{PairState, opened_in}
+use Rattle.tipc_pair.specs.Facing.{PairEnds}
+use Rattle.tipc_pair.specs.PairTurns.{Outset}
+use Rattle.tipc_pair.specs.Messages.{opened_in}
+use Rattle.tipc_twins.specs.Sights.{StaysIn}
 use Rattle.tipc_node.specs.declared.neighbours.Neighbour.{Neighbour}
 use Rattle.tipc_node.specs.Nodes.{NodeState, accepted_entry, neighbour_of}
 use Rattle.tipc_node.specs.Messages.{IsSendable, bytes_of, message_in}
 use Rattle.tipc_node.specs.Turns.{IsOfNeighbour, IsPlaced, NodeTurn, PeerTurn, given_entries, is_accepted_for, is_delivered_from}
-use Rattle.tipc_node.proofs.ArrivalMoves.{IsAs}
 use Rattle.tipc_node.proofs.Filters.{filter-none}
-use Rattle.tipc_node.proofs.TurnMoves.{answered_as, turn_as}
+use Rattle.tipc_node.proofs.PairPuts.{MeetsAs, puts_meet, replied_meets}
 use Rattle.tipc_world.specs.States.{stream_of}
 use Rattle.tipc_world.specs.Views.{given_in, put_in}
 use Rattle.tipc_world.proofs.Histories.{accepted_grows, accepted_holds, come_to, delivered_grows, given_holds, messages_given}
+use Rattle.tipc_world.proofs.LookUps.{either_way}
 use Rattle.tipc_world.proofs.Messages.{bytes_are}
 
 -- ---- the messages of packets
@@ -54,14 +56,16 @@ put_message word ms k packet h there = case (slice_get ms k) refl
     case (Some m) some = let is : Some (bytes_of word m) ≡ Some packet = ap (option_map (bytes_of word)) (sym some) ∙ sym (slice_get-map (bytes_of word) ms k) ∙ there in
         (m, h k m some, cc)
 
--- what was given is whole packets of messages that the node of this address word can send
-pub record Brings (word : ℕ) (opened : List Opened) : Type 0 where
-  pub whole : All IsWholePacket opened
-  pub known : Each (IsOfMessage word) (packets_in opened)
+-- What was given is whole packets of messages that the node of this address word can send; it was given in the contact in which the pair was
+-- before, and is.
+pub record Brings (word : ℕ) (x : PairEnds) (o : Outset) : Type 0 where
+  pub whole : All IsWholePacket (opened_in o.given)
+  pub known : Each (IsOfMessage word) (packets_in (opened_in o.given))
+  pub contact : (opened_in o.given ≡ []) ⊎ StaysIn x o.course.pair
 
 -- and so is all that was given in a turn
 abbrev pub AreBrought : (n n' : NodeState) (bytes : List ℕ) (s : NodeStep) (frames : List Outgoing) → NodeTurn n n' bytes s frames → Type 0
-AreBrought n n' bytes s frames t = (b : ℕ) (x : Neighbour) (is : neighbour_of n b ≡ Some x) → Brings (node_word b) (opened_in (t.turns b x is).turn.turn.first.given)
+AreBrought n n' bytes s frames t = (b : ℕ) (x : Neighbour) (is : neighbour_of n b ≡ Some x) → Brings (node_word b) x.pair (t.turns b x is).turn.turn.first
 
 -- the messages of whole packets
 record AreGiven (word : ℕ) (opened : List Opened) : Type 0 where
@@ -111,38 +115,51 @@ never_delivered n b alone other h = refl
 
 -- ---- the packets
 
--- packets were put, by the node of this address word, and given in the contact that a link end shows
-pub record Recorded (word : ℕ) (old new : List Entry) (b : ℕ) (e : LinkEnd) (put given : List (List ℕ)) : Type 0 where
-  pub put_is : (own theirs : ℕ) → put_in word new b own theirs ≡ put_in word old b own theirs ++ (if (own == e.contact) && (theirs == e.peer_contact) then put else [])
-  pub given_is : (own theirs : ℕ) → given_in new b own theirs ≡ given_in old b own theirs ++ (if (own == e.contact) && (theirs == e.peer_contact) then given else [])
+-- packets were put, by the node of this address word, and given in the contact whose numbers a pair has
+pub record Recorded (word : ℕ) (old new : List Entry) (b : ℕ) (x : PairEnds) (put given : List (List ℕ)) : Type 0 where
+  pub put_is : (own theirs : ℕ) → put_in word new b own theirs ≡ put_in word old b own theirs ++ (if (own == x.contact) && (theirs == x.seen) then put else [])
+  pub given_is : (own theirs : ℕ) → given_in new b own theirs ≡ given_in old b own theirs ++ (if (own == x.contact) && (theirs == x.seen) then given else [])
 
 chosen_packets : (word : ℕ) (t : Bool) (ms : List Message) → map (bytes_of word) (if t then ms else []) ≡ (if t then map (bytes_of word) ms else [])
 chosen_packets word true ms = refl
 chosen_packets word false ms = refl
 
-more_packets : (word : ℕ) (old new ms : List Message) (c seen own theirs : ℕ) (e : LinkEnd) → e.contact ≡ c → e.peer_contact ≡ seen → new ≡ old ++ come_to c seen ms own theirs Zero
-    → map (bytes_of word) new ≡ map (bytes_of word) old ++ (if (own == e.contact) && (theirs == e.peer_contact) then map (bytes_of word) ms else [])
-more_packets word old new ms c seen own theirs e c_is seen_is grew =
+more_packets : (word : ℕ) (old new ms : List Message) (c seen own theirs : ℕ) (x : PairEnds) → x.contact ≡ c → x.seen ≡ seen → new ≡ old ++ come_to c seen ms own theirs Zero
+    → map (bytes_of word) new ≡ map (bytes_of word) old ++ (if (own == x.contact) && (theirs == x.seen) then map (bytes_of word) ms else [])
+more_packets word old new ms c seen own theirs x c_is seen_is grew =
     ap (map (bytes_of word)) grew ∙ map-append (bytes_of word) old (come_to c seen ms own theirs Zero)
     ∙ ap (λ ps. map (bytes_of word) old ++ ps) (chosen_packets word ((own == c) && (theirs == seen)) ms)
     ∙ ap (λ k. map (bytes_of word) old ++ (if (own == k) && (theirs == seen) then map (bytes_of word) ms else [])) (sym c_is)
-    ∙ ap (λ k. map (bytes_of word) old ++ (if (own == e.contact) && (theirs == k) then map (bytes_of word) ms else [])) (sym seen_is)
+    ∙ ap (λ k. map (bytes_of word) old ++ (if (own == x.contact) && (theirs == k) then map (bytes_of word) ms else [])) (sym seen_is)
+
+none_come : (own theirs own' theirs' : ℕ) → come_to own theirs [] own' theirs' Zero ≡ []
+none_come own theirs own' theirs' = either_way ((own' == own) && (theirs' == theirs)) []
 
 -- the turn at a neighbour: its messages were put, and what it was given is the packets of messages
-pub turn_records : (old new : List Entry) (own : ℕ) (bytes : List ℕ) (s : NodeStep) (frames : List Outgoing) (b : ℕ) (x x' : PairState) (t : PeerTurn own bytes s frames b x x') → new ≡ old ++ step_entries s
-    → Brings (node_word b) (opened_in t.turn.first.given) → Recorded own old new b x'.link (map (bytes_of own) t.messages) (packets_in (opened_in t.turn.first.given))
+pub turn_records : (old new : List Entry) (own : ℕ) (bytes : List ℕ) (s : NodeStep) (frames : List Outgoing) (b : ℕ) (x x' : PairEnds) (t : PeerTurn own bytes s frames b x x') → new ≡ old ++ step_entries s
+    → Brings (node_word b) x t.turn.first → Recorded own old new b x' (map (bytes_of own) t.messages) (packets_in (opened_in t.turn.first.given))
 turn_records old new own bytes s frames b x x' t is brings =
-    let whole = turn_as x x' t.opening (map (bytes_of own) t.messages) t.reply t.own_frames t.turn in
-    let last : IsAs t.turn.put x'.link t.turn.put.fsm = subst (λ (y : PairState). IsAs t.turn.put y.link t.turn.put.fsm) (sym t.turn.after) (answered_as t.reply t.turn.put) in
-    let e = t.turn.first.pair.link in
+    let y = t.turn.first.course.pair in
+    let last : MeetsAs t.turn.put x' = subst (MeetsAs t.turn.put) (sym t.turn.after) (replied_meets t.reply t.turn.put) in
+    let put = puts_meet y (map (bytes_of own) t.messages) t.turn.put_frames t.turn.put t.turn.puts in
     let opened = opened_in t.turn.first.given in
     let given = given_messages (node_word b) opened brings.whole brings.known in
+    let came : (c seen : ℕ) → delivered new (stream_of b c seen Zero) ≡ delivered old (stream_of b c seen Zero) ++ come_to x.contact x.seen (messages_given opened) c seen Zero =
+    λ c seen. delivered_grows old new s b (given_entries b x t.turn.first.given) c seen Zero is t.delivered ∙ ap (λ ms. delivered old (stream_of b c seen Zero) ++ ms) (given_holds b x t.turn.first.given c seen Zero) in
     record {
-      put_is = λ c seen. more_packets own (accepted old (stream_of b c seen Zero)) (accepted new (stream_of b c seen Zero)) t.messages t.turn.put.contact t.turn.put.peer_contact c seen x'.link last.contact last.seen
+      put_is = λ c seen. more_packets own (accepted old (stream_of b c seen Zero)) (accepted new (stream_of b c seen Zero)) t.messages t.turn.put.contact t.turn.put.seen c seen x' last.contact last.seen
           (accepted_grows old new s b (map (accepted_entry b t.turn.put) t.messages) c seen Zero is t.accepted ∙ ap (λ ms. accepted old (stream_of b c seen Zero) ++ ms) (accepted_holds b t.turn.put t.messages c seen Zero));
-      given_is = λ c seen. more_packets (node_word b) (delivered old (stream_of b c seen Zero)) (delivered new (stream_of b c seen Zero)) (messages_given opened) e.contact e.peer_contact c seen x'.link whole.contact whole.seen
-          (delivered_grows old new s b (given_entries b e t.turn.first.given) c seen Zero is t.delivered ∙ ap (λ ms. delivered old (stream_of b c seen Zero) ++ ms) (given_holds b e t.turn.first.given c seen Zero))
-          ∙ ap (λ ps. given_in old b c seen ++ (if (c == x'.link.contact) && (seen == x'.link.peer_contact) then ps else [])) given.packets;
+      given_is = λ c seen. elim brings.contact [
+        | inl none ↦
+            let nobody : messages_given opened ≡ [] = ap messages_given none in
+            ap (map (bytes_of (node_word b))) (came c seen ∙ ap (λ ms. delivered old (stream_of b c seen Zero) ++ come_to x.contact x.seen ms c seen Zero) nobody
+            ∙ ap (λ ms. delivered old (stream_of b c seen Zero) ++ ms) (none_come x.contact x.seen c seen) ∙ append-nil (delivered old (stream_of b c seen Zero)))
+            ∙ sym (ap (λ os. given_in old b c seen ++ (if (c == x'.contact) && (seen == x'.seen) then packets_in os else [])) none
+            ∙ ap (λ ps. given_in old b c seen ++ ps) (either_way ((c == x'.contact) && (seen == x'.seen)) []) ∙ append-nil (given_in old b c seen))
+        | inr stays ↦
+            more_packets (node_word b) (delivered old (stream_of b c seen Zero)) (delivered new (stream_of b c seen Zero)) (messages_given opened) x.contact x.seen c seen x' (last.contact ∙ (put.contact ∙ stays.contact)) (last.seen ∙ (put.seen ∙ stays.seen)) (came c seen)
+            ∙ ap (λ ps. given_in old b c seen ++ (if (c == x'.contact) && (seen == x'.seen) then ps else [])) given.packets
+      ];
     }
 
 -- to the streams of another node nothing is added
@@ -212,7 +229,7 @@ turn_accepts old new n n' bytes s frames b own theirs flow t is = case (neighbou
     case None alone = no_gain n b flow (IsSendable n.own) (accepted old (stream_of b own theirs flow)) (accepted new (stream_of b own theirs flow)) (accepted_none old new n s b own theirs flow alone t.placed is)
     case (Some x) there =
         let p = (t.turns b x there).turn in
-        gain n b x flow (IsSendable n.own) (accepted old (stream_of b own theirs flow)) (accepted new (stream_of b own theirs flow)) p.messages p.turn.put.contact p.turn.put.peer_contact own theirs there (each_sendable n.own p.messages p.sendable)
+        gain n b x flow (IsSendable n.own) (accepted old (stream_of b own theirs flow)) (accepted new (stream_of b own theirs flow)) p.messages p.turn.put.contact p.turn.put.seen own theirs there (each_sendable n.own p.messages p.sendable)
         (accepted_grows old new s b (map (accepted_entry b p.turn.put) p.messages) own theirs flow is p.accepted ∙ ap (λ ms. accepted old (stream_of b own theirs flow) ++ ms) (accepted_holds b p.turn.put p.messages own theirs flow))
 
 pub turn_delivers : (old new : List Entry) (n n' : NodeState) (bytes : List ℕ) (s : NodeStep) (frames : List Outgoing) (b own theirs : ℕ) (flow : Flow) (t : NodeTurn n n' bytes s frames) → AreBrought n n' bytes s frames t → new ≡ old ++ step_entries s
@@ -223,8 +240,7 @@ turn_delivers old new n n' bytes s frames b own theirs flow t brings is = case (
     case None alone = no_gain n b flow (IsSendable (node_word b)) (delivered old (stream_of b own theirs flow)) (delivered new (stream_of b own theirs flow)) (delivered_none old new n s b own theirs flow alone t.placed is)
     case (Some x) there =
         let p = (t.turns b x there).turn in
-        let e = p.turn.first.pair.link in
         let given = brings b x there in
-        gain n b x flow (IsSendable (node_word b)) (delivered old (stream_of b own theirs flow)) (delivered new (stream_of b own theirs flow)) (messages_given (opened_in p.turn.first.given)) e.contact e.peer_contact own theirs there
+        gain n b x flow (IsSendable (node_word b)) (delivered old (stream_of b own theirs flow)) (delivered new (stream_of b own theirs flow)) (messages_given (opened_in p.turn.first.given)) x.pair.contact x.pair.seen own theirs there
         (given_messages (node_word b) (opened_in p.turn.first.given) given.whole given.known).sendable
-        (delivered_grows old new s b (given_entries b e p.turn.first.given) own theirs flow is p.delivered ∙ ap (λ ms. delivered old (stream_of b own theirs flow) ++ ms) (given_holds b e p.turn.first.given own theirs flow))
+        (delivered_grows old new s b (given_entries b x.pair p.turn.first.given) own theirs flow is p.delivered ∙ ap (λ ms. delivered old (stream_of b own theirs flow) ++ ms) (given_holds b x.pair p.turn.first.given own theirs flow))

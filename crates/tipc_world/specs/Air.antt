@@ -1,15 +1,16 @@
 -- Frames that are sent, and the air that keeps them.
-use Rattle.std.specs.Prelude.{◌≡◌, ℕ, ◌-◌, ◌==◌, Bool, false, ◌&&◌, ◌++◌, List, Option, filter, map, take, length}
+use Rattle.std.specs.Prelude.{◌≡◌, ℕ, ◌-◌, ◌==◌, All, Bool, false, true, ◌&&◌, ◌++◌, List, None, Option, filter, map, slice_index_or, take, length, unwrap_or}
 use Rattle.tipc_types.specs.Address.{node_word}
 use Rattle.tipc_types.specs.declared.identity.To.{To}
 use Rattle.tipc_types.specs.declared.identity.To.TheVariants as to
 use Rattle.tipc_outside.specs.declared.outgoing.Outgoing.{Outgoing}
 use Rattle.tipc_outside.specs.Frames.{Out}
 use Rattle.tipc_paired.specs.Views.{Frame, er_of, es_of}
+use Rattle.tipc_node.specs.Nodes.{is_frame_size}
 use Rattle.tipc_node.specs.Turns.{is_to}
 use Rattle.tipc_world.specs.declared.air.Sent.{Sent}
-use Rattle.tipc_world.specs.Numbers.{own_in, seen_in}
-use Rattle.tipc_world.specs.States.{MemberState, boot_at, count_at, link_at}
+use Rattle.tipc_world.specs.Skies.{AirState, with_both}
+use Rattle.tipc_world.specs.States.{MemberState, count_at, numbers_at}
 
 -- the number of a node by its address word
 abbrev pub number_of_node : ℕ → ℕ
@@ -20,41 +21,77 @@ abbrev pub receiver_of : To → ℕ
 receiver_of (to.Node address) = number_of_node address.word
 receiver_of to.All = 0
 
--- a frame that leaves node a, with the contact numbers and the counts after the event that sends it
-abbrev pub airborne : List (Option MemberState) → ℕ → Outgoing → Sent
-airborne members a o = record {
+-- the contacts in which a node is, as a list by peer
+abbrev pub met_in : List (Option (ℕ × ℕ)) → ℕ → Option (ℕ × ℕ)
+met_in met b = slice_index_or met b None
+
+-- A frame that leaves node a in an event: before it the node was in these contacts, by peer, and these are the nodes after it. Beside the
+-- frame stands the contact with the receiver before the event, or else the contact numbers after it, and the counts after it.
+abbrev pub airborne : (ℕ → Option (ℕ × ℕ)) → List (Option MemberState) → ℕ → Outgoing → Sent
+airborne met members a o = record {
   from = record { word = node_word a };
   to = o.to;
   frame = o.frame;
-  contact = (own_in (boot_at members a) (link_at members a (receiver_of o.to)), seen_in (link_at members a (receiver_of o.to)));
-  numbered = count_at members a (receiver_of o.to) (es_of o.frame);
-  peer_numbered = count_at members (receiver_of o.to) a (er_of o.frame);
+  contact = unwrap_or (met (receiver_of o.to)) (numbers_at members a (receiver_of o.to));
+  numbered = count_at members a (receiver_of o.to) o.bearer (es_of o.frame);
+  peer_numbered = count_at members (receiver_of o.to) a o.bearer (er_of o.frame);
 }
 
+abbrev pub is_on : ℕ → Outgoing → Bool
+is_on bearer o = o.bearer == bearer
+
+-- those of these frames that leave on a bearer, as the air keeps them
+abbrev pub leaving_on : ℕ → (ℕ → Option (ℕ × ℕ)) → List (Option MemberState) → ℕ → List Outgoing → List Sent
+leaving_on bearer met members a frames = map (airborne met members a) (filter (is_on bearer) frames)
+
+-- the air after these frames left node a, each on its bearer, in order
+abbrev pub with_leaving : AirState → (ℕ → Option (ℕ × ℕ)) → List (Option MemberState) → ℕ → List Outgoing → AirState
+with_leaving air met members a frames = with_both air (leaving_on 0 met members a frames) (leaving_on 1 met members a frames)
+
+-- a frame that leaves has a frame's size
+abbrev pub IsSized : Outgoing → Type 0
+IsSized o = is_frame_size (length o.frame) ≡ true
+
 -- The frames that leave node a came into the air, in order: all of them, or, where a frame was lost for want of memory, the first of
--- them.
-pub record Leaves (old new : List Sent) (members : List (Option MemberState)) (a : ℕ) (frames : List Outgoing) (lost : Bool) : Type 0 where
+-- them. Each that came there has a frame's size.
+pub record Leaves (old new : AirState) (met : ℕ → Option (ℕ × ℕ)) (members : List (Option MemberState)) (a : ℕ)
+    (frames : List Outgoing) (lost : Bool) : Type 0 where
   pub count : ℕ
-  pub air : new ≡ old ++ map (airborne members a) (take count frames)
+  pub air : new ≡ with_leaving old met members a (take count frames)
+  pub sized : All IsSized (take count frames)
   pub whole : lost ≡ false → count ≡ length frames
 
 -- the frames that node a ever sent to node b
 abbrev pub goes : ℕ → ℕ → Sent → Bool
 goes a b f = (f.from.word == node_word a) && is_to b f.to
 
--- a frame in the air as the pair of its nodes has it, on bearer 0
-abbrev pub as_frame : Sent → Frame
-as_frame f = record { bearer = 0; bytes = f.frame; contact = f.contact.0; peer_contact = f.contact.1; numbered = f.numbered; peer_numbered = f.peer_numbered }
+-- a frame in the air of a bearer as the pair of its nodes has it
+abbrev pub as_frame : ℕ → Sent → Frame
+as_frame bearer f = record {
+  bearer = bearer;
+  bytes = f.frame;
+  contact = f.contact.0;
+  peer_contact = f.contact.1;
+  numbered = f.numbered;
+  peer_numbered = f.peer_numbered;
+}
 
-unfoldable pub sent_between : List Sent → ℕ → ℕ → List Frame
-sent_between air a b = map as_frame (filter (goes a b) air)
+abbrev pub sent_on : ℕ → List Sent → ℕ → ℕ → List Frame
+sent_on bearer sent a b = map (as_frame bearer) (filter (goes a b) sent)
+
+-- on both bearers
+unfoldable pub sent_between : AirState → ℕ → ℕ → List Frame
+sent_between air a b = sent_on 0 air.first a b ++ sent_on 1 air.second a b
 
 -- some of the frames that leave node a came into the air, the first of them
-pub record Releases (old new : List Sent) (members : List (Option MemberState)) (a : ℕ) (frames : List Outgoing) : Type 0 where
+pub record Releases (old new : AirState) (met : ℕ → Option (ℕ × ℕ)) (members : List (Option MemberState)) (a : ℕ)
+    (frames : List Outgoing) : Type 0 where
   pub count : ℕ
-  pub air : new ≡ old ++ map (airborne members a) (take count frames)
+  pub air : new ≡ with_leaving old met members a (take count frames)
+  pub sized : All IsSized (take count frames)
 
 -- what is in a box came into the air, or some of it did and a frame is lost
-pub record Emits (old new : List Sent) (members : List (Option MemberState)) (a : ℕ) (box : Out) (lost : Bool) : Type 0 where
-  pub some : Releases old new members a box.frames
-  pub all : lost ≡ false → (box.lost ≡ false) × (new ≡ old ++ map (airborne members a) box.frames)
+pub record Emits (old new : AirState) (met : ℕ → Option (ℕ × ℕ)) (members : List (Option MemberState)) (a : ℕ) (box : Out)
+    (lost : Bool) : Type 0 where
+  pub some : Releases old new met members a box.frames
+  pub all : lost ≡ false → (box.lost ≡ false) × (new ≡ with_leaving old met members a box.frames) × All IsSized box.frames

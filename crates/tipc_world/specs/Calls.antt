@@ -1,7 +1,7 @@
 -- What an event needs, and what it counts for.
 use Rattle.std.specs.Prelude.{◌≡◌, ◌≢◌, ◌≤◌, ℕ, Bool, true, false, ◌&&◌, List, Option, Some, None, is_none, is_some, slice_index_or}
 use Rattle.tipc_node.specs.Calls.{CanPerform}
-use Rattle.tipc_node.specs.Nodes.{NodeState, neighbour_of}
+use Rattle.tipc_node.specs.Nodes.{NodeState, end_with, neighbour_of}
 use Rattle.tipc_node.specs.declared.recording.NodeFault.{NodeFault}
 use Rattle.tipc_node.specs.declared.recording.NodeFault.TheVariants.{JournalFull, NoMemory}
 use Rattle.tipc_world.specs.declared.events.Limit.TheVariants as limit
@@ -9,23 +9,23 @@ use Rattle.tipc_world.specs.declared.events.WorldEvent.{WorldEvent}
 use Rattle.tipc_world.specs.declared.events.WorldEvent.TheVariants.{Know, Restart, Call, Arrive}
 use Rattle.tipc_world.specs.declared.events.WorldFault.{WorldFault}
 use Rattle.tipc_world.specs.declared.events.WorldFault.TheVariants as fault
-use Rattle.tipc_world.specs.declared.air.Sent.{Sent}
 use Rattle.tipc_world.specs.Due.{unarrived}
+use Rattle.tipc_world.specs.Skies.{AirState}
 use Rattle.tipc_world.specs.States.{MemberState, WorldState, knows}
 
 -- the node at which an event happens
 abbrev pub node_of : WorldEvent → ℕ
-node_of (Know node peer) = node
+node_of (Know node peer bearer) = node
 node_of (Restart node) = node
 node_of (Call node call) = node
 node_of (Arrive node bearer frame) = node
 
--- The node that a node comes to know is another one that is there and that it doesn't know yet. A call is one that nodes
--- perform.
+-- The node that a node comes to know on one of the two bearers is another one that is there and that it doesn't know there yet. A call is
+-- one that nodes perform.
 abbrev pub CanHappenAt : List (Option MemberState) → WorldEvent → Type 0
-CanHappenAt members (Know node peer) =
+CanHappenAt members (Know node peer bearer) =
     (is_some (slice_index_or members node None) ≡ true) × (is_some (slice_index_or members peer None) ≡ true)
-    × (peer ≢ node) × (knows members node peer ≡ false)
+    × (peer ≢ node) × (bearer ≤ 1) × (knows members node peer bearer ≡ false)
 CanHappenAt members (Restart node) = is_some (slice_index_or members node None) ≡ true
 CanHappenAt members (Call node call) =
     (is_some (slice_index_or members node None) ≡ true) × CanPerform call
@@ -36,7 +36,7 @@ CanHappen w event = CanHappenAt w.members event
 
 -- what an event needs of its node alone; an arrival is none of these
 abbrev pub CanDo : NodeState → WorldEvent → Type 0
-CanDo n (Know node peer) = (1 ≤ peer) × (peer ≤ 32) × (neighbour_of n peer ≡ None)
+CanDo n (Know node peer bearer) = (1 ≤ peer) × (peer ≤ 32) × (bearer ≤ 1) × (end_with bearer (neighbour_of n peer) ≡ None)
 CanDo n (Restart node) = Unit {0}
 CanDo n (Call node call) = CanPerform call
 CanDo n (Arrive node bearer frame) = ⊥
@@ -47,12 +47,12 @@ CanDoAt members event =
 
 -- whether a journal records the event as a call: coming to know a peer isn't one, and a restart isn't
 abbrev pub is_recorded : WorldEvent → Bool
-is_recorded (Know node peer) = false
+is_recorded (Know node peer bearer) = false
 is_recorded (Restart node) = false
 is_recorded event = true
 
 -- whether it counts as an event: an arrival of no frame, or of one that is too old, is none
-abbrev pub counts_at : List (Option MemberState) → List Sent → WorldEvent → Bool
+abbrev pub counts_at : List (Option MemberState) → AirState → WorldEvent → Bool
 counts_at members air (Arrive node bearer frame) = is_none (unarrived members air node bearer frame)
 counts_at members air event = true
 
@@ -60,7 +60,7 @@ abbrev pub counts : WorldState → WorldEvent → Bool
 counts w event = counts_at w.members w.air event
 
 -- whether it is a call that is recorded
-abbrev pub is_call_at : List (Option MemberState) → List Sent → WorldEvent → Bool
+abbrev pub is_call_at : List (Option MemberState) → AirState → WorldEvent → Bool
 is_call_at members air event = is_recorded event && counts_at members air event
 
 abbrev pub is_call : WorldState → WorldEvent → Bool

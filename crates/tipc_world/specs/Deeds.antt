@@ -38,8 +38,8 @@ pub record Meets (stamp bearer place : ℕ) (bytes : List ℕ) (m m' : MemberSta
 -- An event happens at a node, as the recorded call of that stamp where it is one; of an arrival, these are the bytes of
 -- the frame.
 abbrev pub Does : ℕ → WorldEvent → List ℕ → MemberState → MemberState → List Outgoing → Answer → Type 0
-Does stamp (Know node peer) bytes m m' frames answered = (m' ≡ known_member m peer)
-    × (frames ≡ known_frames m.node peer) × (answered ≡ answer.Done) × (peer < length m.node.neighbours) × IsTold m'.node × SharesNames m'.node
+Does stamp (Know node peer bearer) bytes m m' frames answered = (m' ≡ known_member m peer bearer)
+    × (frames ≡ known_frames m.node peer bearer) × (answered ≡ answer.Done) × (peer < length m.node.neighbours) × IsTold m'.node × SharesNames m'.node
 Does stamp (Restart node) bytes m m' frames answered = IsRestarted m m' × (frames ≡ []) × (answered ≡ answer.Done)
 Does stamp (Call node call) bytes m m' frames answered = Makes stamp call m m' frames answered
 Does stamp (Arrive node bearer place) bytes m m' frames answered = Meets stamp bearer place bytes m m' frames answered

@@ -13,6 +13,7 @@ use Rattle.tipc_paired.specs.Views.{er_of, es_of}
 use Rattle.tipc_node.specs.Nodes.{is_frame_size}
 use Rattle.tipc_world.specs.declared.air.Sent.{Sent}
 use Rattle.tipc_world.specs.Air.{number_of_node}
+use Rattle.tipc_world.specs.Skies.{AirState, air_on}
 use Rattle.tipc_world.specs.States.{MemberState, count_at}
 
 -- whether a frame is for node n
@@ -24,25 +25,27 @@ abbrev pub kept_for : Option Sent → ℕ → Option Sent
 kept_for None n = None
 kept_for (Some f) n = if is_for f.to n then Some f else None
 
--- the k-th frame of a bearer's air, where it is for node n; bearer 1 carries nothing yet
-unfoldable pub frame_for : List Sent → ℕ → ℕ → ℕ → Option Sent
-frame_for air n bearer k = if bearer == 0 then kept_for (slice_get air k) n else None
+-- the k-th frame of a bearer's air, where it is for node n
+unfoldable pub frame_for : AirState → ℕ → ℕ → ℕ → Option Sent
+frame_for air n bearer k = kept_for (slice_get (air_on bearer air) k) n
 
 -- ---- the age of a frame
 
--- how many packets were numbered since a frame was sent to node n, in the session of the two epochs of its envelope: the larger number
--- of its two directions
-abbrev pub session_age : List (Option MemberState) → Sent → ℕ → ℕ
-session_age members f n =
-    max (count_at members (number_of_node f.from.word) n (es_of f.frame) - f.numbered) (count_at members n (number_of_node f.from.word) (er_of f.frame) - f.peer_numbered)
+-- how many packets were numbered since a frame was sent to node n on a bearer, in that bearer's session of the two epochs of its
+-- envelope: the larger number of its two directions
+abbrev pub session_age : List (Option MemberState) → Sent → ℕ → ℕ → ℕ
+session_age members f n bearer =
+    max (count_at members (number_of_node f.from.word) n bearer (es_of f.frame) - f.numbered)
+    (count_at members n (number_of_node f.from.word) bearer (er_of f.frame) - f.peer_numbered)
 
-abbrev pub age_by_fault : List (Option MemberState) → Sent → ℕ → Option HeaderFault → ℕ
-age_by_fault members f n (Some fault) = 0
-age_by_fault members f n None = if is_traffic (fields_at (drop 16 f.frame)).header then session_age members f n else 0
+abbrev pub age_by_fault : List (Option MemberState) → Sent → ℕ → ℕ → Option HeaderFault → ℕ
+age_by_fault members f n bearer (Some fault) = 0
+age_by_fault members f n bearer None = if is_traffic (fields_at (drop 16 f.frame)).header then session_age members f n bearer else 0
 
--- the age of a frame: that of a STATE or a numbered packet alone grows
-unfoldable pub age_of : List (Option MemberState) → Sent → ℕ → ℕ
-age_of members f n = if is_frame_size (length f.frame) then age_by_fault members f n (fault_of (drop 16 f.frame)) else 0
+-- the age of a frame that was sent on a bearer: that of a STATE or a numbered packet alone grows
+unfoldable pub age_of : List (Option MemberState) → Sent → ℕ → ℕ → ℕ
+age_of members f n bearer =
+    if is_frame_size (length f.frame) then age_by_fault members f n bearer (fault_of (drop 16 f.frame)) else 0
 
 -- a frame is a STATE or a numbered packet, of the session of these two epochs
 pub record HasSession (bytes : List ℕ) (sender receiver : ℕ) : Type 0 where
@@ -59,10 +62,11 @@ HasNoSession bytes = (is_frame_size (length bytes) ≡ false)
 
 -- ---- an arrival that is none
 
-abbrev pub stopped_by_age : List (Option MemberState) → ℕ → Option Sent → Option Answer
-stopped_by_age members n None = Some answer.NoFrame
-stopped_by_age members n (Some f) = if nat_lt 30000 (age_of members f n) then Some (answer.TooOld (age_of members f n)) else None
+abbrev pub stopped_by_age : List (Option MemberState) → ℕ → ℕ → Option Sent → Option Answer
+stopped_by_age members n bearer None = Some answer.NoFrame
+stopped_by_age members n bearer (Some f) =
+    if nat_lt 30000 (age_of members f n bearer) then Some (answer.TooOld (age_of members f n bearer)) else None
 
 -- why a frame doesn't arrive: there is no such frame for that node, or it is too old
-unfoldable pub unarrived : List (Option MemberState) → List Sent → ℕ → ℕ → ℕ → Option Answer
-unarrived members air n bearer k = stopped_by_age members n (frame_for air n bearer k)
+unfoldable pub unarrived : List (Option MemberState) → AirState → ℕ → ℕ → ℕ → Option Answer
+unarrived members air n bearer k = stopped_by_age members n bearer (frame_for air n bearer k)

@@ -3,7 +3,7 @@ use Rattle.std.specs.Prelude.{◌≡◌, ◌≢◌, ◌≤◌, ◌<◌, ℕ, ◌
 use Rattle.tipc_types.specs.Address.{node_word}
 use Rattle.tipc_types.specs.declared.node_calls.Answer.{Answer}
 use Rattle.tipc_outside.specs.Frames.{Out}
-use Rattle.tipc_node.specs.Turns.{link_in}
+use Rattle.tipc_node.specs.Nodes.{neighbour_of}
 use Rattle.tipc_world.specs.declared.events.WorldEvent.{WorldEvent}
 use Rattle.tipc_world.specs.Calls.{node_of}
 use Rattle.tipc_world.specs.Deeds.{Did}
@@ -31,7 +31,7 @@ pub record IsSettledAt (m : MemberState) (n : ℕ) : Type 0 where
   pub from_one : 1 ≤ n
   pub to_32 : n ≤ 32
   pub own : m.node.own ≡ node_word n
-  pub known : (peer : ℕ) → 32 < peer → link_in m.node peer ≡ None
+  pub known : (peer : ℕ) → 32 < peer → neighbour_of m.node peer ≡ None
   pub boot : m.node.boot < 4294967295
 
 abbrev pub AreSettled : List (Option MemberState) → Type 0

@@ -1,41 +1,28 @@
 -- What is promised of every world.
-use Rattle.std.specs.Prelude.{◌≡◌, ◌≢◌, ◌≤◌, ℕ, true, List, [], Option, Some, None, length, map, slice_get, slice_index_or}
+use Rattle.std.specs.Prelude.{◌≡◌, ◌≢◌, ◌≤◌, ℕ, [], Some, None, length, slice_get, slice_index_or}
 use Rattle.tipc_types.specs.Address.{node_word}
 use Rattle.tipc_types.specs.declared.identity.To.TheVariants as to
 use Rattle.tipc_types.specs.declared.message_forms.Flow.{Flow}
-use Rattle.tipc_types.specs.declared.message_forms.Flow.TheVariants.{Zero}
 use Rattle.tipc_header.specs.Frames.{frame_of}
 use Rattle.tipc_header.specs.Grammar.{Fits}
 use Rattle.tipc_header.specs.Spelling.{Fields, spelling}
 use Rattle.tipc_journal.specs.Prefixes.{IsPrefixOf}
-use Rattle.tipc_link.specs.Links.{is_traffic}
-use Rattle.tipc_partners.specs.Truth.{IsTold}
+use Rattle.tipc_twins.specs.Truth.{AreTrue}
 use Rattle.tipc_world.specs.declared.air.Sent.{Sent}
 use Rattle.tipc_world.specs.Lawful.{AreLawful, HasBegun}
-use Rattle.tipc_node.specs.Messages.{bytes_of}
 use Rattle.tipc_world.specs.Answered.{AreOrderly}
+use Rattle.tipc_world.specs.Skies.{air_on}
+use Rattle.tipc_world.specs.Sound.{IsNumber}
 use Rattle.tipc_world.specs.Spelled.{AreSpelled}
 use Rattle.tipc_world.specs.Tables.{AreTables}
 use Rattle.tipc_world.specs.States.{MemberState, WorldView, accepted_at, delivered_at, history_at}
+use Rattle.tipc_world.specs.Views.{sight_at}
 
--- the packets, each as its sender sends it, of the messages that node a accepted for node b in a contact, a's number first, and of those
--- that were delivered at a
-abbrev pub accepted_packets : List (Option MemberState) → ℕ → ℕ → ℕ → ℕ → List (List ℕ)
-accepted_packets members a b own theirs = map (bytes_of (node_word a)) (accepted_at members a b own theirs Zero)
-
-abbrev pub delivered_packets : List (Option MemberState) → ℕ → ℕ → ℕ → ℕ → List (List ℕ)
-delivered_packets members a b own theirs = map (bytes_of (node_word b)) (delivered_at members a b own theirs Zero)
-
--- A STATE or a numbered packet from node a to node b speaks the truth of their contact, node a's number first: what it acknowledges was
--- taken at a, and gave what was delivered there; and what it carries was put into a packet by a for b, at the position of its number.
-abbrev pub SpeaksTruth : List (Option MemberState) → ℕ → ℕ → ℕ → ℕ → Fields → Type 0
-SpeaksTruth members a b own theirs p = IsTold (accepted_packets members a b own theirs) (accepted_packets members b a theirs own) (delivered_packets members a b own theirs) p
-
--- A frame is true: node a sent it to node b, it has at most 1,516 bytes, it is a packet of a under an envelope, and what it says of the
--- contact whose numbers stand beside it is so.
-pub record IsTrue (members : List (Option MemberState)) (f : Sent) : Type 0 where
+-- A frame is true: node a sent it to node b, it has at most 1,516 bytes, and it is a packet of a under an envelope.
+pub record IsTrue (f : Sent) : Type 0 where
   pub a : ℕ
   pub b : ℕ
+  pub apart : IsNumber a × IsNumber b × (a ≢ b)
   pub from_is : f.from.word ≡ node_word a
   pub to_is : f.to ≡ to.Node (record { word = node_word b })
   pub size : length f.frame ≤ 1516
@@ -45,7 +32,6 @@ pub record IsTrue (members : List (Option MemberState)) (f : Sent) : Type 0 wher
   pub fits : Fits packet
   pub frame_is : f.frame ≡ frame_of es er (spelling packet)
   pub previous : packet.previous ≡ node_word a
-  pub told : is_traffic packet.header ≡ true → SpeaksTruth members a b f.contact.0 f.contact.1 packet
 
 pub record IsGood {P : Type 0} (gives : P → ℕ → ℕ → ℕ → Type 0) (w : WorldView P) : Type 0 where
   -- For all nodes a and b, each contact and each flow: what was ever delivered at b from a is a prefix of what a ever accepted for b.
@@ -59,7 +45,12 @@ pub record IsGood {P : Type 0} (gives : P → ℕ → ℕ → ℕ → Type 0) (w
   -- that the peer sent.
   pub spelled : (n : ℕ) (m : MemberState) → slice_index_or w.state.members n None ≡ Some m → AreSpelled w.state.air m
   -- Every frame in the air is true.
-  pub truth : (k : ℕ) (f : Sent) → slice_get w.state.air k ≡ Some f → IsTrue w.state.members f
+  pub frames : (bearer k : ℕ) (f : Sent) → slice_get (air_on bearer w.state.air) k ≡ Some f → IsTrue f
+  -- What the STATEs and numbered packets between any two nodes say of the contact whose numbers stand beside them is so: there are packets
+  -- that the two numbered, by bearer and session; what such a packet acknowledges was taken by its sender, and gave what was delivered
+  -- there; and what it carries was numbered, and holds what its sender accepted, or is a tunnel packet.
+  pub truth : (a b : ℕ) → IsNumber a → IsNumber b → a ≢ b
+      → AreTrue (sight_at w.state.members w.state.air a b) (sight_at w.state.members w.state.air b a)
   -- For each node and each of its boots: each link that went down shows its cause, each contact that ended stands where no link is up, and
   -- messages are accepted and delivered in the contact in which the node is.
   pub lawful : (n : ℕ) (m : MemberState) → slice_index_or w.state.members n None ≡ Some m → AreLawful w.state.air m

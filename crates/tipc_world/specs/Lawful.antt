@@ -1,7 +1,6 @@
 -- What is promised of links and contacts, over the journals, the arrivals and the air alone: nothing of them happens without a cause that
 -- can be seen.
-use Rattle.std.specs.Prelude.{◌≡◌, ◌⊎◌, ◌<◌, ℕ, List, [], ◌∷◌, ◌++◌, Some, None, is_some, slice_get, take}
-use Rattle.tipc_types.specs.Address.{node_word}
+use Rattle.std.specs.Prelude.{◌≡◌, ◌⊎◌, ◌<◌, ◌≤◌, ◌||◌, ℕ, List, [], ◌∷◌, ◌++◌, Some, None, is_some, slice_get, take}
 use Rattle.tipc_types.specs.declared.identity.Addr.{Addr}
 use Rattle.tipc_types.specs.declared.node_calls.EventNote.TheVariants as event
 use Rattle.tipc_journal.specs.declared.entries.Entry.{Entry}
@@ -9,6 +8,8 @@ use Rattle.tipc_journal.specs.declared.entries.Entry.TheVariants as entry
 use Rattle.tipc_journal.specs.Contacts.{contact, up_epochs}
 use Rattle.tipc_journal.specs.Steps.{steps, step_entries, IsWhole, PlacedStep}
 use Rattle.tipc_world.specs.declared.air.Sent.{Sent}
+use Rattle.tipc_node.specs.Turns.{addr_of}
+use Rattle.tipc_world.specs.Skies.{AirState}
 use Rattle.tipc_world.specs.States.{MemberState}
 use Rattle.tipc_world.specs.Causes.{arrived_frame, IsCaused, IsNumberOf, Seen}
 use Rattle.tipc_world.specs.Spelled.{IsSpelled}
@@ -17,15 +18,15 @@ use Rattle.tipc_world.specs.Spelled.{IsSpelled}
 abbrev pub after : PlacedStep → List Entry
 after s = s.before ++ step_entries s.step
 
--- Bearer 0 is the only one. A link that goes down was up, and has a cause. A contact that ends was that contact, and no link is up then;
--- where it shows a number, the step is the arrival of a frame that shows it, and it is above the peer's number of the contact. A message
+-- There are two bearers. A link that goes down was up before the step, and has a cause. A contact that ends was that contact, and no link
+-- is up after the step; where it shows a number, the step is the arrival of a frame that shows it, and it is above the peer's number of the contact. A message
 -- is accepted or delivered in the contact in which the node is after the step, and one that is delivered is spelled by its arrivals.
 abbrev pub IsLawfulEntry : Seen → List PlacedStep → PlacedStep → Entry → Type 0
-IsLawfulEntry seen earlier s (entry.LinkUp peer bearer own theirs) = bearer ≡ 0
+IsLawfulEntry seen earlier s (entry.LinkUp peer bearer own theirs) = bearer ≤ 1
 IsLawfulEntry seen earlier s (entry.LinkDown peer bearer cause shown) =
-    (bearer ≡ 0) × ((own : ℕ) × (theirs : ℕ) × (up_epochs s.before peer 0 ≡ Some (own, theirs)) × IsCaused seen earlier s peer theirs cause shown)
+    (bearer ≤ 1) × ((own : ℕ) × (theirs : ℕ) × (up_epochs s.before peer bearer ≡ Some (own, theirs)) × IsCaused seen earlier s peer bearer theirs cause shown)
 IsLawfulEntry seen earlier s (entry.ContactDown peer numbers states number) =
-    (contact s.before peer ≡ Some numbers) × (up_epochs (after s) peer 0 ≡ None)
+    (contact s.before peer ≡ Some numbers) × ((bearer : ℕ) → up_epochs (after s) peer bearer ≡ None)
     × ((number ≡ 0) ⊎ (IsNumberOf seen s.step peer number × (numbers.1 < number)))
 IsLawfulEntry seen earlier s (entry.Accepted peer numbers flow message) = contact (after s) peer ≡ Some numbers
 IsLawfulEntry seen earlier s (entry.Delivered peer numbers flow message by) = (contact (after s) peer ≡ Some numbers)
@@ -34,12 +35,13 @@ IsLawfulEntry seen earlier s other = Unit {0}
 
 -- one step of a journal, after those earlier ones
 pub record IsLawfulStep (seen : Seen) (earlier : List PlacedStep) (s : PlacedStep) : Type 0 where
-  -- an arrival is of a frame in the air
+  -- an arrival is of a frame in the air of its bearer
   pub arrives : (bearer number : ℕ) → s.step.event ≡ event.Arrive bearer number
-      → (f : Sent) × (bearer ≡ 0) × (arrived_frame seen number ≡ Some f)
+      → (f : Sent) × (bearer ≤ 1) × (arrived_frame seen bearer number ≡ Some f)
   pub entries : (place : ℕ) (e : Entry) → slice_get s.step.inside place ≡ Some e → IsLawfulEntry seen earlier s e
-  -- the node is in contact with a node exactly where a link to it is up
-  pub contacts : (n : ℕ) → is_some (contact (after s) (record { word = node_word n })) ≡ is_some (up_epochs (after s) (record { word = node_word n }) 0)
+  -- the node is in contact with a node exactly where a link to it is up, on either bearer
+  pub contacts : (n : ℕ) → is_some (contact (after s) (addr_of n))
+      ≡ (is_some (up_epochs (after s) (addr_of n) 0) || is_some (up_epochs (after s) (addr_of n) 1))
 
 -- the entries have a contact with the peer that began
 pub record HasBegun (entries : List Entry) (peer : Addr) (numbers : ℕ × ℕ) : Type 0 where
@@ -60,6 +62,6 @@ pub record IsLawful (seen : Seen) (journal : List Entry) : Type 0 where
       → IsLawfulStep seen (take k (steps journal)) s
 
 -- the journals of all boots of a node are lawful
-abbrev pub AreLawful : List Sent → MemberState → Type 0
+abbrev pub AreLawful : AirState → MemberState → Type 0
 AreLawful air m = (k : ℕ) (journal : List Entry) → slice_get (m.past ++ m.node.journal ∷ []) k ≡ Some journal
     → IsLawful (record { air = air; arrivals = m.arrivals }) journal

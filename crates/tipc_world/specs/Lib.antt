@@ -1,5 +1,6 @@
-pub mod States
+pub mod Skies
 pub mod Numbers
+pub mod States
 pub mod Air
 pub mod Due
 pub mod Calls

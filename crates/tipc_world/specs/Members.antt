@@ -1,5 +1,5 @@
 -- What each event makes of the node at which it happens.
-use Rattle.std.specs.Prelude.{◌≡◌, ◌<◌, ◌≤◌, ℕ, ◌+◌, false, List, [], ◌∷◌, ◌++◌, Option, None, Some, length, nat_le, option_map, if◌then◌else◌}
+use Rattle.std.specs.Prelude.{◌≡◌, ◌<◌, ◌≤◌, ℕ, ◌+◌, false, List, [], ◌∷◌, ◌++◌, Option, None, Some, length, nat_le, option_and_then, option_map, if◌then◌else◌}
 use Rattle.indexmap.specs.IndexMap.{insert_entry}
 use Rattle.tipc_types.specs.Address.{node_word}
 use Rattle.tipc_types.specs.declared.node_calls.By.{By}
@@ -11,9 +11,8 @@ use Rattle.tipc_sockets.specs.SocketTables.{no_sockets}
 use Rattle.tipc_node.specs.Nodes.{NodeState, known_node, neighbour_of}
 use Rattle.tipc_node.specs.Sharing.{SharesNames}
 use Rattle.tipc_node.specs.Telling.{IsTold}
-use Rattle.tipc_node.specs.Turns.{link_in}
 use Rattle.tipc_world.specs.Readers.{node_number}
-use Rattle.tipc_world.specs.States.{MemberState, count_in, count_of, count_with, same_session}
+use Rattle.tipc_world.specs.States.{MemberState, count_in, count_of, count_with, link_in, same_session}
 
 -- the i-th recorded call of a world has the stamp i, the caller 0, and the number of the calls before it in that boot
 abbrev pub by_in : ℕ → MemberState → By
@@ -25,28 +24,39 @@ called m n = record { node = n; past = m.past; calls = m.calls + 1; arrivals = m
 
 -- ---- how many packets were numbered in sessions that are over
 
--- what is to be noted of a session with a peer: by the peer and its epoch, how many packets it has numbered
-abbrev pub tally : ℕ → SessionEnd → (ℕ × ℕ) × ℕ
-tally peer s = ((peer, s.epoch), s.sending.numbered)
+-- what is to be noted of a session with a peer on a bearer: by the peer, the bearer and its epoch, how many packets it has numbered
+abbrev pub Tally : Type 0
+Tally = (ℕ × ℕ × ℕ) × ℕ
+
+abbrev pub tally : ℕ → ℕ → SessionEnd → Tally
+tally peer bearer s = ((peer, bearer, s.epoch), s.sending.numbered)
 
 -- the last session of a link that is down is over
-abbrev pub over_in : ℕ → Option LinkEnd → Option ((ℕ × ℕ) × ℕ)
-over_in peer None = None
-over_in peer (Some e) = if is_up e.fsm.state then None else option_map (tally peer) e.session
+abbrev pub over_in : ℕ → ℕ → Option LinkEnd → Option Tally
+over_in peer bearer None = None
+over_in peer bearer (Some e) = if is_up e.fsm.state then None else option_map (tally peer bearer) e.session
 
-abbrev pub over_with : MemberState → Option ℕ → Option ((ℕ × ℕ) × ℕ)
-over_with m None = None
-over_with m (Some peer) = over_in peer (link_in m.node peer)
+abbrev pub over_with : MemberState → Option ℕ → ℕ → Option Tally
+over_with m None bearer = None
+over_with m (Some peer) bearer = over_in peer bearer (link_in m.node peer bearer)
 
-abbrev pub noted : List ((ℕ × ℕ) × ℕ) → Option ((ℕ × ℕ) × ℕ) → List ((ℕ × ℕ) × ℕ)
+abbrev pub noted : List Tally → Option Tally → List Tally
 noted counts None = counts
 noted counts (Some last) = insert_entry same_session counts last.0 last.1
 
+-- the last session of a link, up or down
+abbrev pub last_in : ℕ → ℕ → Option LinkEnd → Option Tally
+last_in peer bearer link = option_and_then (λ e. option_map (tally peer bearer) e.session) link
+
+-- those with a peer on both bearers are noted
+abbrev pub noted_both : List Tally → NodeState → ℕ → List Tally
+noted_both counts n peer = noted (noted counts (last_in peer 0 (link_in n peer 0))) (last_in peer 1 (link_in n peer 1))
+
 -- of the peers below that number every session is noted, and nothing else is
-pub record AreNoted (counts counts' : List ((ℕ × ℕ) × ℕ)) (n : NodeState) (below : ℕ) : Type 0 where
-  pub here : (peer epoch : ℕ) → peer < below
-      → count_in counts' peer epoch ≡ count_with counts (link_in n peer) peer epoch
-  pub else_ : (peer epoch : ℕ) → below ≤ peer → count_in counts' peer epoch ≡ count_in counts peer epoch
+pub record AreNoted (counts counts' : List Tally) (n : NodeState) (below : ℕ) : Type 0 where
+  pub here : (peer bearer epoch : ℕ) → peer < below
+      → count_in counts' peer bearer epoch ≡ count_with counts (link_in n peer bearer) peer bearer epoch
+  pub else_ : (peer bearer epoch : ℕ) → below ≤ peer → count_in counts' peer bearer epoch ≡ count_in counts peer bearer epoch
 
 -- ---- an arrival
 
@@ -55,28 +65,28 @@ pub record AreNoted (counts counts' : List ((ℕ × ℕ) × ℕ)) (n : NodeState
 abbrev pub sender_of : List ℕ → Option ℕ
 sender_of bytes = if nat_le 32 (length bytes) then node_number (word_at 7 bytes) else None
 
--- A frame arrived, which left the node so. The last session with its sender was noted before, since a new one may begin
--- in its place.
+-- A frame arrived on a bearer, which left the node so. The last session with its sender on that bearer was noted before, since a new one
+-- may begin in its place.
 abbrev pub arrived_member : MemberState → NodeState → Option ℕ → ℕ → ℕ → MemberState
 arrived_member m n sender bearer frame = record {
   node = n;
   past = m.past;
   calls = m.calls + 1;
   arrivals = m.arrivals ++ record { bearer = bearer; frame = frame } ∷ [];
-  counts = noted m.counts (over_with m sender);
+  counts = noted m.counts (over_with m sender bearer);
 }
 
 -- ---- a node comes to know a peer, is restarted, or comes in
 
-abbrev pub known_member : MemberState → ℕ → MemberState
-known_member m peer =
-    record { node = known_node m.node peer; past = m.past; calls = m.calls; arrivals = m.arrivals; counts = m.counts }
+abbrev pub known_member : MemberState → ℕ → ℕ → MemberState
+known_member m peer bearer =
+    record { node = known_node m.node peer bearer; past = m.past; calls = m.calls; arrivals = m.arrivals; counts = m.counts }
 
 -- a node at the beginning of a boot: it knows nobody, and has no sockets and no history, which is what its journal tells
 pub record IsFresh (n : NodeState) (own boot : ℕ) : Type 0 where
   pub own_is : n.own ≡ own
   pub boot_is : n.boot ≡ boot
-  pub cut : n.mended ≡ false
+  pub cut : n.mended ≡ (false, false)
   pub alone : (peer : ℕ) → neighbour_of n peer ≡ None
   pub sockets : n.sockets ≡ no_sockets own boot
   pub no_history : n.journal ≡ []
@@ -90,7 +100,7 @@ pub record IsRestarted (m m' : MemberState) : Type 0 where
   pub past : m'.past ≡ m.past ++ m.node.journal ∷ []
   pub calls : m'.calls ≡ 0
   pub arrivals : m'.arrivals ≡ m.arrivals
-  pub counts : (peer epoch : ℕ) → count_of m' peer epoch ≡ count_of m peer epoch
+  pub counts : (peer bearer epoch : ℕ) → count_of m' peer bearer epoch ≡ count_of m peer bearer epoch
 
 -- a node that has just come in
 pub record IsNewcomer (m : MemberState) (n : ℕ) : Type 0 where

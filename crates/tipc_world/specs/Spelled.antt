@@ -11,24 +11,33 @@ use Rattle.tipc_header.specs.Frames.{frame_of}
 use Rattle.tipc_header.specs.Grammar.{Fits}
 use Rattle.tipc_header.specs.Spelling.{Fields, spelling}
 use Rattle.tipc_link.specs.Sessions.{as_waiting}
+use Rattle.tipc_pair.specs.PairArrivals.{IsTunnelOf, restored}
 use Rattle.tipc_reassembly.specs.Tracing.{IsTraced}
+use Rattle.tipc_tunnel.specs.Tunnels.{Tunnelled}
 use Rattle.tipc_node.specs.Messages.{bytes_of}
 use Rattle.tipc_world.specs.declared.air.Sent.{Sent}
 use Rattle.tipc_world.specs.Causes.{arrived_frame, Seen}
+use Rattle.tipc_world.specs.Skies.{AirState}
 use Rattle.tipc_world.specs.States.{MemberState}
 
--- The arrival of that number at the node was of a frame that the peer sent, which brought this packet, as it waited before it was
--- numbered.
+-- What a packet brings: itself, as it waited before it was numbered; and, where it is a tunnel packet, the packet inside, as that waited
+-- on its own link.
+pub data Brings (packet : Fields) : List ℕ → Type 0 where
+  itself : Brings packet (spelling (as_waiting packet))
+  inside : (t : Tunnelled) → IsTunnelOf (spelling (as_waiting packet)) t → Brings packet (restored t.inner)
+
+-- The arrival of that number at the node was of a frame that the peer sent, which brought this packet.
 pub record HasBrought (seen : Seen) (peer : Addr) (by : ℕ) (bytes : List ℕ) : Type 0 where
+  pub bearer : ℕ
   pub frame : Sent
-  pub arrived : arrived_frame seen by ≡ Some frame
+  pub arrived : arrived_frame seen bearer by ≡ Some frame
   pub from : frame.from.word ≡ peer.word
   pub es : ℕ
   pub er : ℕ
   pub packet : Fields
   pub fits : Fits packet
   pub frame_is : frame.frame ≡ frame_of es er (spelling packet)
-  pub bytes_is : bytes ≡ spelling (as_waiting packet)
+  pub brings : Brings packet bytes
 
 -- the arrival of that number was in this step, or before it
 pub record IsBy (s : NodeStep) (by : ℕ) : Type 0 where
@@ -43,7 +52,7 @@ abbrev pub IsSpelled : Seen → NodeStep → Addr → Message → List ℕ → T
 IsSpelled seen s peer message by = IsTraced (λ number packet. HasBrought seen peer number packet × IsBy s number) (bytes_of peer.word message) by
 
 -- each message that was delivered at a node, in all its boots, is spelled by the arrivals that stand beside it
-abbrev pub AreSpelled : List Sent → MemberState → Type 0
+abbrev pub AreSpelled : AirState → MemberState → Type 0
 AreSpelled air m =
     (k : ℕ) (journal : List Entry) → slice_get (m.past ++ m.node.journal ∷ []) k ≡ Some journal
     → (i : ℕ) (s : PlacedStep) → slice_get (steps journal) i ≡ Some s

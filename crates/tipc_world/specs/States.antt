@@ -12,30 +12,29 @@ use Rattle.tipc_pick.specs.Choosing.{Choosing}
 use Rattle.tipc_journal.specs.declared.entries.Entry.{Entry}
 use Rattle.tipc_journal.specs.Room.{JournalState}
 use Rattle.tipc_journal.specs.Streams.{Stream, accepted, delivered}
-use Rattle.tipc_fragments.specs.Joining.{Joining, fresh}
 use Rattle.tipc_link.specs.Links.{LinkEnd, numbered_in}
-use Rattle.tipc_link_fsm.specs.Table.{is_up}
-use Rattle.tipc_pair.specs.Pairs.{contact_of}
-use Rattle.tipc_node.specs.Nodes.{NodeState, neighbour_of}
-use Rattle.tipc_node.specs.Turns.{link_in}
+use Rattle.tipc_pair.specs.Facing.{PairEnds, contact_between, is_up_at as is_up_in}
+use Rattle.tipc_node.specs.Nodes.{NodeState, is_mended_on}
+use Rattle.tipc_node.specs.Turns.{pair_in}
 use Rattle.tipc_world.specs.declared.air.Arrived.{Arrived}
-use Rattle.tipc_world.specs.declared.air.Sent.{Sent}
+use Rattle.tipc_world.specs.Numbers.{end_on, own_in, seen_in}
+use Rattle.tipc_world.specs.Skies.{AirState, empty_air}
 
 -- A node over all its boots: the present one, the journals of those before it, how many calls the present boot has
--- recorded, every frame that ever arrived, and how many packets were numbered in sessions that are over, by peer and own
--- epoch.
+-- recorded, every frame that ever arrived, and how many packets were numbered in sessions that are over, by peer, bearer and
+-- own epoch.
 pub record MemberState : Type 0 where
   pub node : NodeState
   pub past : List (List Entry)
   pub calls : ℕ
   pub arrivals : List Arrived
-  pub counts : List ((ℕ × ℕ) × ℕ)
+  pub counts : List ((ℕ × ℕ × ℕ) × ℕ)
 
--- a world: its nodes by number, every frame that was ever sent on bearer 0, how many events happened, how many calls were recorded,
+-- a world: its nodes by number, every frame that was ever sent, how many events happened, how many calls were recorded,
 -- and whether a frame was lost for want of memory
 pub record WorldState : Type 0 where
   pub members : List (Option MemberState)
-  pub air : List Sent
+  pub air : AirState
   pub events : ℕ
   pub stamps : ℕ
   pub lost : Bool
@@ -46,7 +45,7 @@ pub record WorldView (P : Type 0) : Type 0 where
   pub chooser : Choosing P
 
 abbrev pub no_nodes : WorldState
-no_nodes = record { members = []; air = []; events = 0; stamps = 0; lost = false }
+no_nodes = record { members = []; air = empty_air; events = 0; stamps = 0; lost = false }
 
 abbrev pub is_there : WorldState → ℕ → Bool
 is_there w n = is_some (slice_index_or w.members n None)
@@ -65,26 +64,26 @@ joined journals = flat_map (λ j. j.entries) journals
 abbrev pub stream_of : ℕ → ℕ → ℕ → Flow → Stream
 stream_of n own theirs flow = record { peer = record { word = node_word n }; contact = (own, theirs); flow = flow }
 
--- the message that is begun of the fragments of a peer
-abbrev pub begun_in : NodeState → ℕ → Joining
-begun_in n peer = unwrap_or (option_map (λ x. x.pair.begun) (neighbour_of n peer)) fresh
+-- the link end to a peer on a bearer
+abbrev pub link_in : NodeState → ℕ → ℕ → Option LinkEnd
+link_in n peer bearer = end_on bearer (pair_in n peer)
 
--- a session is named by the number of the peer and the node's own epoch
-abbrev pub same_session : ℕ × ℕ → ℕ × ℕ → Bool
-same_session s t = (s.0 == t.0) && (s.1 == t.1)
+-- a session is named by the number of the peer, the bearer, and the node's own epoch
+abbrev pub same_session : ℕ × ℕ × ℕ → ℕ × ℕ × ℕ → Bool
+same_session s t = (s.0 == t.0) && ((s.1 == t.1) && (s.2 == t.2))
 
--- how many packets are noted for a peer under an epoch
-unfoldable pub count_in : List ((ℕ × ℕ) × ℕ) → ℕ → ℕ → ℕ
-count_in counts peer epoch = unwrap_or (lookup (same_session (peer, epoch)) counts) 0
+-- how many packets are noted for a peer on a bearer under an epoch
+unfoldable pub count_in : List ((ℕ × ℕ × ℕ) × ℕ) → ℕ → ℕ → ℕ → ℕ
+count_in counts peer bearer epoch = unwrap_or (lookup (same_session (peer, bearer, epoch)) counts) 0
 
--- how many packets were numbered for a peer under an epoch: in the session of the link end to it, where that is its
--- epoch, or as it is noted
-abbrev pub count_with : List ((ℕ × ℕ) × ℕ) → Option LinkEnd → ℕ → ℕ → ℕ
-count_with counts link peer epoch =
-    unwrap_or (option_and_then (λ e. numbered_in e.session epoch) link) (count_in counts peer epoch)
+-- how many packets were numbered for a peer on a bearer under an epoch: in the session of the link end to it there, where that is
+-- its epoch, or as it is noted
+abbrev pub count_with : List ((ℕ × ℕ × ℕ) × ℕ) → Option LinkEnd → ℕ → ℕ → ℕ → ℕ
+count_with counts link peer bearer epoch =
+    unwrap_or (option_and_then (λ e. numbered_in e.session epoch) link) (count_in counts peer bearer epoch)
 
-unfoldable pub count_of : MemberState → ℕ → ℕ → ℕ
-count_of m peer epoch = count_with m.counts (link_in m.node peer) peer epoch
+unfoldable pub count_of : MemberState → ℕ → ℕ → ℕ → ℕ
+count_of m peer bearer epoch = count_with m.counts (link_in m.node peer bearer) peer bearer epoch
 
 -- ---- of a world
 
@@ -95,17 +94,23 @@ member_at members n = slice_index_or members n None
 unfoldable pub boot_at : List (Option MemberState) → ℕ → ℕ
 boot_at members n = unwrap_or (option_map (λ m. m.node.boot) (member_at members n)) 1
 
-unfoldable pub link_at : List (Option MemberState) → ℕ → ℕ → Option LinkEnd
-link_at members a b = option_and_then (λ m. link_in m.node b) (member_at members a)
+-- the pair of node a with node b, where it has one
+unfoldable pub pair_at : List (Option MemberState) → ℕ → ℕ → Option PairEnds
+pair_at members a b = option_and_then (λ m. pair_in m.node b) (member_at members a)
 
-unfoldable pub begun_at : List (Option MemberState) → ℕ → ℕ → Joining
-begun_at members a b = unwrap_or (option_map (λ m. begun_in m.node b) (member_at members a)) fresh
+-- the link end at node a to node b on a bearer
+abbrev pub link_at : List (Option MemberState) → ℕ → ℕ → ℕ → Option LinkEnd
+link_at members a b bearer = end_on bearer (pair_at members a b)
+
+-- the contact numbers that node a has for node b: its own, and the highest that b has shown
+abbrev pub numbers_at : List (Option MemberState) → ℕ → ℕ → ℕ × ℕ
+numbers_at members a b = (own_in (boot_at members a) (pair_at members a b), seen_in (pair_at members a b))
 
 unfoldable pub history_at : List (Option MemberState) → ℕ → List Entry
 history_at members n = unwrap_or (option_map history (member_at members n)) []
 
-unfoldable pub count_at : List (Option MemberState) → ℕ → ℕ → ℕ → ℕ
-count_at members a b epoch = unwrap_or (option_map (λ m. count_of m b epoch) (member_at members a)) 0
+unfoldable pub count_at : List (Option MemberState) → ℕ → ℕ → ℕ → ℕ → ℕ
+count_at members a b bearer epoch = unwrap_or (option_map (λ m. count_of m b bearer epoch) (member_at members a)) 0
 
 -- what node a accepted for node b in a contact, its own number first, and a flow
 unfoldable pub accepted_at : List (Option MemberState) → ℕ → ℕ → ℕ → ℕ → Flow → List Message
@@ -119,7 +124,7 @@ delivered_at members b a own theirs flow = delivered (history_at members b) (str
 
 -- the contact in which node a is with node b
 unfoldable pub contact_at : List (Option MemberState) → ℕ → ℕ → Option (ℕ × ℕ)
-contact_at members a b = option_and_then contact_of (link_at members a b)
+contact_at members a b = option_and_then contact_between (pair_at members a b)
 
 -- a count as it is told: it stops at the last number of 64 bits
 abbrev pub counted : ℕ → ℕ
@@ -134,17 +139,13 @@ flow_in members a b (Some contact) =
 unfoldable pub flow_of : List (Option MemberState) → ℕ → ℕ → Answer
 flow_of members a b = flow_in members a b (contact_at members a b)
 
--- whether the link end at node a to node b is there, and whether it is up
-abbrev pub knows : List (Option MemberState) → ℕ → ℕ → Bool
-knows members a b = is_some (link_at members a b)
+-- whether the link end at node a to node b on a bearer is there, and whether it is up
+abbrev pub knows : List (Option MemberState) → ℕ → ℕ → ℕ → Bool
+knows members a b bearer = is_some (link_at members a b bearer)
 
-abbrev pub is_up_in : Option LinkEnd → Bool
-is_up_in None = false
-is_up_in (Some e) = is_up e.fsm.state
+abbrev pub is_up_at : List (Option MemberState) → ℕ → ℕ → ℕ → Bool
+is_up_at members a b bearer = is_up_in (link_at members a b bearer)
 
-abbrev pub is_up_at : List (Option MemberState) → ℕ → ℕ → Bool
-is_up_at members a b = is_up_in (link_at members a b)
-
--- whether bearer 0 is mended at a node
-abbrev pub is_mended_at : List (Option MemberState) → ℕ → Bool
-is_mended_at members n = unwrap_or (option_map (λ m. m.node.mended) (member_at members n)) false
+-- whether a bearer is mended at a node
+abbrev pub is_mended_at : List (Option MemberState) → ℕ → ℕ → Bool
+is_mended_at members n bearer = unwrap_or (option_map (λ m. is_mended_on m.node.mended bearer) (member_at members n)) false

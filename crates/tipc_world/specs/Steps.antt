@@ -10,21 +10,22 @@ use Rattle.tipc_world.specs.Calls.{counts, is_call, node_of}
 use Rattle.tipc_world.specs.Deeds.{Does}
 use Rattle.tipc_world.specs.Due.{frame_for, unarrived}
 use Rattle.tipc_world.specs.Members.{IsNewcomer}
-use Rattle.tipc_world.specs.States.{MemberState, WorldState}
+use Rattle.tipc_world.specs.Skies.{AirState}
+use Rattle.tipc_world.specs.States.{MemberState, WorldState, contact_at}
 
 -- the nodes and the air, which events change
 pub record Stage : Type 0 where
   pub members : List (Option MemberState)
-  pub air : List Sent
+  pub air : AirState
 
-abbrev pub stage : List (Option MemberState) → List Sent → Stage
+abbrev pub stage : List (Option MemberState) → AirState → Stage
 stage members air = record { members = members; air = air }
 
 -- node a went from one state to the next, and these frames left it
 pub record Turns (old new : Stage) (a : ℕ) (before after : MemberState) (frames : List Outgoing) (lost : Bool) : Type 0 where
   pub was : slice_index_or old.members a None ≡ Some before
   pub members : new.members ≡ slice_set old.members a (Some after)
-  pub leaves : Leaves old.air new.air new.members a frames lost
+  pub leaves : Leaves old.air new.air (contact_at old.members a) new.members a frames lost
 
 -- an event happened at its node
 pub record Happens (old new : Stage) (stamp : ℕ) (event : WorldEvent) (bytes : List ℕ) (answered : Answer) (lost : Bool) : Type 0 where

@@ -10,12 +10,14 @@ use tipc_types::{EventNote, NoMemory};
 /// What may happen to a node of a world.
 #[derive(Clone, Debug, Drop, PartialEq)]
 pub enum WorldEvent {
-    /// A node comes to know another: it makes its link end to it.
+    /// A node comes to know another on a bearer: it makes its link end to it there.
     Know {
         /// The node's number.
         node: u8,
         /// The other's number.
         peer: u8,
+        /// The bearer, 0 or 1.
+        bearer: u8,
     },
     /// A node is restarted: it keeps nothing, its bearers are cut, and its boot number is the next one.
     Restart {
@@ -71,7 +73,7 @@ impl WorldEvent {
 pub enum Limit {
     /// 300,000 events.
     Events,
-    /// 100,000 frames in the air.
+    /// 100,000 frames in the air of both bearers together.
     Frames,
     /// 1,048,576 entries of a journal: it is reached where one has no room for a call.
     Journal,

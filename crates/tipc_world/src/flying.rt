@@ -1,46 +1,83 @@
 //! Frames that leave a node and come into the air, and those of the air that arrive.
 
-ghost use Rattle.std.specs.Prelude.{◌≡◌, ◌≤◌, ◌++◌, ◌⊎◌, [], ℕ, true, false, Some, None, length, map, drop, is_some, slice_get, IfOk, IfSome, IfNone, IfErr, OnOk};
+ghost use Rattle.std.specs.Prelude.{All, ◌≡◌, ◌≤◌, ◌∷◌, ◌⊎◌, [], ℕ, true, false, Some, None, length, drop, is_some, slice_get, slice_index_or, unwrap_or, IfOk, IfSome, IfNone, IfErr, OnOk};
 ghost use Rattle.tipc_types.specs.Address.{node_word};
-ghost use Rattle.tipc_world.specs.Air.{airborne, Emits, Releases};
+ghost use Rattle.tipc_world.specs.Air.{airborne, met_in, with_leaving, Emits, IsSized, Releases};
 ghost use Rattle.tipc_world.specs.Due.{age_of, frame_for, is_for, unarrived, HasNoSession, HasSession};
-ghost use Rattle.tipc_world.specs.Numbers.{own_in, seen_in};
-ghost use Rattle.tipc_world.specs.States.{boot_at, count_at, link_at};
+ghost use Rattle.tipc_world.specs.Skies.{air_on};
+ghost use Rattle.tipc_world.specs.States.{boot_at, contact_at, count_at, numbers_at, pair_at};
 
-use crate::air::Sent;
+use crate::air::{Air, Sent};
 use crate::members::Member;
+use std::alloc::Global;
 use std::collections::VecDeque;
 use tipc_header::{decode, open_frame};
 use tipc_link::is_traffic;
 use tipc_outside::{Outbox, Outgoing};
-use tipc_types::{Addr, Answer, To};
+use tipc_types::{Addr, Answer, NoMemory, To};
 
 /// A frame is too old once more packets than this were numbered since it was sent. (This project's profile.)
 const OLDEST: u64 = 30_000;
 
+/// The contacts in which a node is, by peer.
+type Contacts = Vec<Option<(u64, u64)>>;
+
 /// The first contact number of the first boot.
 const FIRST_CONTACT: u64 = 4_294_967_297;
 
-/// How many packets node `a` has numbered for node `b` under an epoch.
+/// How many packets node `a` has numbered for node `b` on a bearer under an epoch.
 #[tactic(auto, unfolding(crate::specs::States::count_at, crate::specs::States::member_at))]
-fn count_at(members: &[Option<Member>], a: u8, b: u8, epoch: u64) -> u64
-    ensures { result ≡ count_at members.now a b epoch }
+fn count_at(members: &[Option<Member>], a: u8, b: u8, bearer: u8, epoch: u64) -> u64
+    ensures { result ≡ count_at members.now a b bearer epoch }
 {
     match members.get(a as usize) {
-        Some(Some(member)) => member.count(b, epoch),
+        Some(Some(member)) => member.count(b, bearer, epoch),
         _ => 0,
     }
 }
 
 /// The contact number of node `a` for node `b`, and the highest that it was shown.
-#[tactic(auto, unfolding(crate::specs::States::boot_at, crate::specs::States::link_at, crate::specs::States::member_at))]
+#[tactic(auto, unfolding(crate::specs::States::boot_at, crate::specs::States::pair_at, crate::specs::States::member_at))]
 fn contact_numbers(members: &[Option<Member>], a: u8, b: u8) -> (u64, u64)
-    ensures own { result.0 ≡ own_in (boot_at members.now a) (link_at members.now a b) }
-    ensures seen { result.1 ≡ seen_in (link_at members.now a b) }
+    ensures { result ≡ numbers_at members.now a b }
 {
     match members.get(a as usize) {
         Some(Some(member)) => member.contact_numbers(b),
         _ => (FIRST_CONTACT, 0),
+    }
+}
+
+/// The contact in which node `a` is with node `b`.
+#[tactic(auto, unfolding(crate::specs::States::contact_at, crate::specs::States::pair_at, crate::specs::States::member_at))]
+pub fn contact_at(members: &[Option<Member>], a: u8, b: u8) -> Option<(u64, u64)>
+    ensures { result ≡ contact_at members.now a b }
+{
+    match members.get(a as usize) {
+        Some(Some(member)) => member.contact(b),
+        _ => None,
+    }
+}
+
+/// The contacts in which node `a` is, by peer.
+pub fn contacts_of(members: &[Option<Member>], alloc: Global, a: u8) -> Result<Contacts, NoMemory>
+    ensures each { IfOk result (λ met. (b : ℕ) → b ≤ 32 → slice_index_or met.items b None ≡ contact_at members.now a b) }
+    ensures few { IfOk result (λ met. length met.items ≡ 33) }
+{
+    let mut met = Vec::new(alloc);
+    met.reserve(33)?;
+    for b in 0..33_u8 {
+        met.push_reserved(contact_at(members, a, b));
+    }
+    Ok(met)
+}
+
+/// The contact in which a node was with a peer.
+fn met_with(met: &[Option<(u64, u64)>], b: u8) -> Option<(u64, u64)>
+    ensures { result ≡ slice_index_or met.now b None }
+{
+    match met.get(b as usize) {
+        Some(contact) => *contact,
+        None => None,
     }
 }
 
@@ -71,11 +108,11 @@ fn session_of(frame: &[u8]) -> Option<Epochs>
     })
 }
 
-/// How many packets were numbered in the session of a frame to node `n` since it was sent: the larger number of its two
+/// How many packets were numbered in the session of a frame to node `n` on a bearer since it was sent: the larger number of its two
 /// directions. The age of a STATE or a numbered packet alone grows.
-fn age_of(members: &[Option<Member>], sent: &Sent, n: u8) -> u64
+fn age_of(members: &[Option<Member>], sent: &Sent, n: u8, bearer: u8) -> u64
     requires { (n_from : ℕ) × (1 ≤ n_from) × (n_from ≤ 32) × (sent.now.from.word ≡ node_word n_from) }
-    ensures { result ≡ age_of members.now sent.now n }
+    ensures { result ≡ age_of members.now sent.now n bearer }
 {
     let Some(epochs) = session_of(sent.frame.as_slice()) else {
         return 0;
@@ -83,8 +120,10 @@ fn age_of(members: &[Option<Member>], sent: &Sent, n: u8) -> u64
     let Some(from) = sent.from.number() else {
         unreachable!()
     };
-    let own = count_at(members, from, n, epochs.sender).saturating_sub(sent.numbered);
-    let peer = count_at(members, n, from, epochs.receiver).saturating_sub(sent.peer_numbered);
+    let own = count_at(members, from, n, bearer, epochs.sender).saturating_sub(sent.numbered);
+    let peer = count_at(members, n, from, bearer, epochs.receiver).saturating_sub(
+        sent.peer_numbered,
+    );
     own.max(peer)
 }
 
@@ -103,15 +142,12 @@ fn is_for(to: To, node: u8) -> bool
 
 /// The frame of that place in a bearer's air, where it is for the node.
 #[tactic(auto, unfolding(crate::specs::Due::frame_for))]
-fn frame_for(air: &[Sent], node: u8, bearer: u8, place: u64) -> Option<&Sent>
+fn frame_for(air: &Air, node: u8, bearer: u8, place: u64) -> Option<&Sent>
     requires { (1 ≤ node) × (node ≤ 32) }
     ensures some { IfSome result (λ f. frame_for air.now node bearer place ≡ Some f.now) }
     ensures none { IfNone result (frame_for air.now node bearer place ≡ None) }
 {
-    if bearer != 0 {
-        return None;
-    }
-    let sent = air.get(place as usize)?;
+    let sent = air.frame(bearer, place)?;
     if !is_for(sent.to, node) {
         return None;
     }
@@ -123,13 +159,13 @@ fn frame_for(air: &[Sent], node: u8, bearer: u8, place: u64) -> Option<&Sent>
 #[tactic(auto, unfolding(crate::specs::Due::unarrived))]
 pub fn find<'a>(
     members: &[Option<Member>],
-    air: &'a [Sent],
+    air: &'a Air,
     node: u8,
     bearer: u8,
     place: u64,
 ) -> Result<&'a Sent, Answer>
     requires number { (1 ≤ node) × (node ≤ 32) }
-    requires senders { (k : ℕ) (f : Sent) → slice_get air.now k ≡ Some f →
+    requires senders { (k : ℕ) (f : Sent) → slice_get (air_on bearer air.now) k ≡ Some f →
         (n : ℕ) × (1 ≤ n) × (n ≤ 32) × (f.from.word ≡ node_word n) }
     ensures found { IfOk result (λ f. (frame_for air.now node bearer place ≡ Some f.now)
         × (unarrived members.now air.now node bearer place ≡ None)) }
@@ -138,7 +174,7 @@ pub fn find<'a>(
     let Some(sent) = frame_for(air, node, bearer, place) else {
         return Err(Answer::NoFrame);
     };
-    let age = age_of(members, sent, node);
+    let age = age_of(members, sent, node, bearer);
     if age > OLDEST {
         return Err(Answer::TooOld(age));
     }
@@ -147,10 +183,26 @@ pub fn find<'a>(
 
 // ---- frames that leave
 
+/// The contact that stands beside a frame from node `a` to a node: that in which it was before, or else its contact numbers.
+fn told_in(members: &[Option<Member>], met: &[Option<(u64, u64)>], a: u8, to: u8) -> (u64, u64)
+    ensures { result ≡ unwrap_or (slice_index_or met.now to None) (numbers_at members.now a to) }
+{
+    match met_with(met, to) {
+        Some(contact) => contact,
+        None => contact_numbers(members, a, to),
+    }
+}
+
 /// The frame that leaves node `a`, as the air keeps it: None where it has no frame's size, or isn't for one of the 32 nodes.
-fn airborne(members: &[Option<Member>], a: u8, outgoing: Outgoing) -> Option<Sent>
+fn airborne(
+    members: &[Option<Member>],
+    met: &[Option<(u64, u64)>],
+    a: u8,
+    outgoing: Outgoing,
+) -> Option<Sent>
     requires { (1 ≤ a) × (a ≤ 32) }
-    ensures { IfSome result (λ f. f ≡ airborne members.now a outgoing) }
+    ensures value { IfSome result (λ f. f ≡ airborne (met_in met.now) members.now a outgoing) }
+    ensures sized { IfSome result (λ f. IsSized outgoing) }
 {
     let To::Node(address) = outgoing.to else {
         return None;
@@ -161,38 +213,71 @@ fn airborne(members: &[Option<Member>], a: u8, outgoing: Outgoing) -> Option<Sen
     Some(Sent {
         from: Addr::node(a),
         to: outgoing.to,
-        contact: contact_numbers(members, a, to),
-        numbered: count_at(members, a, to, first),
-        peer_numbered: count_at(members, to, a, second),
+        contact: told_in(members, met, a, to),
+        numbered: count_at(members, a, to, outgoing.bearer, first),
+        peer_numbered: count_at(members, to, a, outgoing.bearer, second),
         frame: outgoing.frame,
     })
 }
 
-/// Brings frames that leave node `a` into the air, in order, up to one that finds no memory. It answers whether all came there.
-fn release(members: &[Option<Member>], air: &mut Vec<Sent>, a: u8, frames: Vec<Outgoing>) -> bool
+/// Brings a frame that leaves node `a` into the air of its bearer. It answers whether it came there.
+fn release_one(
+    members: &[Option<Member>],
+    met: &[Option<(u64, u64)>],
+    air: &mut Air,
+    a: u8,
+    outgoing: Outgoing,
+) -> bool
     requires { (1 ≤ a) × (a ≤ 32) }
-    ensures some { Releases air.old.items air.new.items members.now a frames.items }
-    ensures all { result ≡ true → air.new.items ≡ air.old.items ++ map (airborne members.now a) frames.items }
+    ensures all { result ≡ true → air.new ≡ with_leaving air.old (met_in met.now) members.now a (outgoing ∷ []) }
+    ensures sized { result ≡ true → IsSized outgoing }
+    ensures none { result ≡ false → air.new ≡ air.old }
+{
+    let bearer = outgoing.bearer;
+    if bearer > 1 {
+        return false;
+    }
+    let Some(sent) = airborne(members, met, a, outgoing) else {
+        return false;
+    };
+    air.push(bearer, sent).is_ok()
+}
+
+/// Brings frames that leave node `a` into the air, in order, up to one that finds no memory. It answers whether all came there.
+fn release(
+    members: &[Option<Member>],
+    met: &[Option<(u64, u64)>],
+    air: &mut Air,
+    a: u8,
+    frames: Vec<Outgoing>,
+) -> bool
+    requires { (1 ≤ a) × (a ≤ 32) }
+    ensures some { Releases air.old air.new (met_in met.now) members.now a frames.items }
+    ensures all { result ≡ true → (air.new ≡ with_leaving air.old (met_in met.now) members.now a frames.items)
+        × All IsSized frames.items }
 {
     let mut waiting = VecDeque::from_vec(frames);
     while let Some(outgoing) = waiting.pop_front() {
-        let Some(sent) = airborne(members, a, outgoing) else {
+        if !release_one(members, met, air, a, outgoing) {
             return false;
-        };
-        match air.push(sent) {
-            Ok(()) => {}
-            Err(_) => return false,
         }
     }
     true
 }
 
-/// Brings what left node `a` into the air. It answers whether a frame was lost for want of memory.
-pub fn emit(members: &[Option<Member>], air: &mut Vec<Sent>, a: u8, out: Outbox) -> bool
+/// Brings what left node `a` in an event into the air. Before it the node was in these contacts. It answers whether a frame was lost for want
+/// of memory.
+pub fn emit(
+    members: &[Option<Member>],
+    met: &[Option<(u64, u64)>],
+    air: &mut Air,
+    a: u8,
+    out: Outbox,
+) -> bool
     requires { (1 ≤ a) × (a ≤ 32) }
-    ensures { Emits air.old.items air.new.items members.now a out result }
+    ensures { Emits air.old air.new (met_in met.now) members.now a out result }
 {
     let lost = out.lost();
-    let all = release(members, air, a, out.into_frames());
+    let all = release(members, met, air, a, out.into_frames());
     lost || !all
 }

@@ -6,17 +6,18 @@ ghost use Rattle.tipc_header.specs.Reading.{word_at};
 ghost use Rattle.tipc_journal.specs.Matches.{names};
 ghost use Rattle.tipc_journal.specs.Streams.{accepted, delivered};
 ghost use Rattle.tipc_link.specs.Links.{numbered_in};
-ghost use Rattle.tipc_pair.specs.Pairs.{contact_of};
+ghost use Rattle.tipc_pair.specs.Facing.{contact_between, is_up_at, state_of, states_of};
+ghost use Rattle.tipc_pair.specs.PairCalls.{last_count_of};
 ghost use Rattle.tipc_node.specs.Calls.{CanPerform};
-ghost use Rattle.tipc_node.specs.Nodes.{has_room, load_of, neighbour_of};
-ghost use Rattle.tipc_node.specs.Turns.{link_in};
+ghost use Rattle.tipc_node.specs.Nodes.{contact_with, end_with, has_room, is_mended_on, load_of, neighbour_of};
+ghost use Rattle.tipc_node.specs.Turns.{pair_in};
 ghost use Rattle.tipc_world.specs.Choices.{Chooses};
 ghost use Rattle.tipc_world.specs.Calls.{is_recorded, CallStops, CanDo, RecordStops};
 ghost use Rattle.tipc_world.specs.Deeds.{Did};
 ghost use Rattle.tipc_world.specs.Events.{IsSettledAt};
-ghost use Rattle.tipc_world.specs.Members.{by_in, noted, over_in, over_with, sender_of, tally, AreNoted, IsNewcomer, IsRestarted};
+ghost use Rattle.tipc_world.specs.Members.{by_in, last_in, noted, noted_both, over_in, over_with, sender_of, AreNoted, IsNewcomer, IsRestarted};
 ghost use Rattle.tipc_world.specs.Numbers.{own_in, seen_in};
-ghost use Rattle.tipc_world.specs.States.{count_in, count_of, counted, history, joined, stream_of};
+ghost use Rattle.tipc_world.specs.States.{count_in, count_of, counted, history, joined, link_in, stream_of};
 
 use crate::air::Arrived;
 use crate::events::{Limit, WorldEvent, WorldFault};
@@ -30,8 +31,8 @@ use tipc_outside::Outbox;
 use tipc_pick::{Chooser, Pick};
 use tipc_types::{Addr, Answer, By, EventNote, Flow, LinkState, NoMemory, Publication};
 
-/// How many packets were numbered in sessions that are over, by the peer's number and the node's own epoch.
-type Counts = IndexMap<(u8, u64), u64>;
+/// How many packets were numbered in sessions that are over, by the peer's number, the bearer, and the node's own epoch.
+type Counts = IndexMap<(u8, u8, u64), u64>;
 
 /// A node over all its boots.
 #[derive(Drop)]
@@ -60,8 +61,8 @@ impl Model for Member {
     ghost invariant = { λ m. m.calls ≤ length m.node.journal };
 }
 
-/// What is noted of a session: the peer's number, the node's own epoch, and how many packets it has numbered.
-type Tally = ((u8, u64), u64);
+/// What is noted of a session: the peer's number, the bearer, the node's own epoch, and how many packets it has numbered.
+type Tally = ((u8, u8, u64), u64);
 
 /// Notes how many packets a session has numbered. There is room for one more number.
 fn note(counts: &mut Counts, last: Option<Tally>)
@@ -78,31 +79,72 @@ fn note(counts: &mut Counts, last: Option<Tally>)
     }
 }
 
-/// The session with a peer, or the last one: None exactly where there was none.
-fn last_session(node: &Node, peer: u8) -> Option<Tally>
-    ensures { result ≡ option_and_then (λ e. option_map (tally peer) e.session) (link_in node.now peer) }
+/// The own epoch of the session with a peer on a bearer, or of the last one, and how many packets were numbered in it: None exactly where
+/// there was none.
+fn last_count(node: &Node, peer: u8, bearer: u8) -> Option<(u64, u64)>
+    ensures { result ≡ last_count_of (link_in node.now peer bearer) }
 {
-    let (epoch, numbered) = node.neighbour(peer)?.pair.last_count()?;
-    Some(((peer, epoch), numbered))
-}
-
-/// The last session with a peer whose link is down.
-fn over_with(node: &Node, peer: u8) -> Option<Tally>
-    ensures { result ≡ over_in peer (link_in node.now peer) }
-{
-    if is_working(node.links(peer)?) {
+    if bearer > 1 {
         return None;
     }
-    last_session(node, peer)
+    node.neighbour(peer)?.pair.last_count(bearer)
+}
+
+/// The session with a peer on a bearer, or the last one: None exactly where there was none.
+fn last_session(node: &Node, peer: u8, bearer: u8) -> Option<Tally>
+    ensures { result ≡ last_in peer bearer (link_in node.now peer bearer) }
+{
+    let (epoch, numbered) = last_count(node, peer, bearer)?;
+    Some(((peer, bearer, epoch), numbered))
+}
+
+/// The last session with a peer on a bearer whose link is down.
+fn over_with(node: &Node, peer: u8, bearer: u8) -> Option<Tally>
+    ensures { result ≡ over_in peer bearer (link_in node.now peer bearer) }
+{
+    if is_working_at(node, peer, bearer) {
+        return None;
+    }
+    last_session(node, peer, bearer)
+}
+
+/// Whether the link to a peer on a bearer is up.
+fn is_working_at(node: &Node, peer: u8, bearer: u8) -> bool
+    ensures { result ≡ is_up_at (link_in node.now peer bearer) }
+{
+    match link_state(node, peer, bearer) {
+        Some(state) => is_working(state),
+        None => false,
+    }
+}
+
+/// The state of the link end to a peer on a bearer: None exactly where there is none.
+fn link_state(node: &Node, peer: u8, bearer: u8) -> Option<LinkState>
+    ensures { result ≡ state_of (link_in node.now peer bearer) }
+{
+    if bearer > 1 {
+        return None;
+    }
+    node.links(peer, bearer)
+}
+
+/// Notes how many packets the sessions with a peer have numbered, on both bearers. There is room for as many numbers.
+fn note_both(counts: &mut Counts, node: &Node, peer: u8)
+    requires room { 2 ≤ spare counts.old }
+    ensures noted { counts.new.entries ≡ noted_both counts.old.entries node.now peer }
+    ensures spare { spare counts.old ≤ spare counts.new + 2 }
+{
+    note(counts, last_session(node, peer, 0));
+    note(counts, last_session(node, peer, 1));
 }
 
 /// Notes how many packets the sessions with all peers have numbered. There is room for as many numbers.
 fn note_all(counts: &mut Counts, node: &Node)
-    requires room { 33 ≤ spare counts.old }
+    requires room { 66 ≤ spare counts.old }
     ensures { AreNoted counts.old.entries counts.new.entries node.now 33 }
 {
     for peer in 0..33_u8 {
-        note(counts, last_session(node, peer));
+        note_both(counts, node, peer);
     }
 }
 
@@ -185,39 +227,42 @@ impl Member {
         }
     }
 
-    /// How many packets are noted for a peer under an epoch.
+    /// How many packets are noted for a peer on a bearer under an epoch.
     #[tactic(auto, unfolding(crate::specs::States::count_in))]
-    fn noted(&self, peer: u8, epoch: u64) -> u64
-        ensures { result ≡ count_in self.now.counts peer epoch }
+    fn noted(&self, peer: u8, bearer: u8, epoch: u64) -> u64
+        ensures { result ≡ count_in self.now.counts peer bearer epoch }
     {
-        match self.counts.get(&(peer, epoch)) {
+        match self.counts.get(&(peer, bearer, epoch)) {
             Some(count) => *count,
             None => 0,
         }
     }
 
-    /// How many packets the session with a peer has numbered, where the epoch is its own.
-    fn numbered(&self, peer: u8, epoch: u64) -> Option<u64>
-        ensures { result ≡ option_and_then (λ e. numbered_in e.session epoch) (link_in self.now.node peer) }
+    /// How many packets the session with a peer on a bearer has numbered, where the epoch is its own.
+    fn numbered(&self, peer: u8, bearer: u8, epoch: u64) -> Option<u64>
+        ensures { result ≡ option_and_then (λ e. numbered_in e.session epoch) (link_in self.now.node peer bearer) }
     {
-        self.node.neighbour(peer)?.pair.session_count(epoch)
+        match last_count(&self.node, peer, bearer) {
+            Some((last, numbered)) if last == epoch => Some(numbered),
+            _ => None,
+        }
     }
 
-    /// How many packets were numbered for a peer under an epoch.
+    /// How many packets were numbered for a peer on a bearer under an epoch.
     #[tactic(auto, unfolding(crate::specs::States::count_of))]
-    pub fn count(&self, peer: u8, epoch: u64) -> u64
-        ensures { result ≡ count_of self.now peer epoch }
+    pub fn count(&self, peer: u8, bearer: u8, epoch: u64) -> u64
+        ensures { result ≡ count_of self.now peer bearer epoch }
     {
-        match self.numbered(peer, epoch) {
+        match self.numbered(peer, bearer, epoch) {
             Some(count) => count,
-            None => self.noted(peer, epoch),
+            None => self.noted(peer, bearer, epoch),
         }
     }
 
     /// The node's contact number for a peer, and the highest that the peer has shown.
     pub fn contact_numbers(&self, peer: u8) -> (u64, u64)
-        ensures own { result.0 ≡ own_in self.now.node.boot (link_in self.now.node peer) }
-        ensures seen { result.1 ≡ seen_in (link_in self.now.node peer) }
+        ensures own { result.0 ≡ own_in self.now.node.boot (pair_in self.now.node peer) }
+        ensures seen { result.1 ≡ seen_in (pair_in self.now.node peer) }
     {
         match self.node.neighbour(peer) {
             Some(neighbour) => (neighbour.pair.own_contact(), neighbour.pair.peer_contact()),
@@ -269,23 +314,31 @@ impl Member {
 
     /// The contact with the peer: None exactly where it isn't in contact with it.
     pub fn contact(&self, peer: u8) -> Option<(u64, u64)>
-        ensures { result ≡ option_and_then contact_of (link_in self.now.node peer) }
+        ensures { result ≡ option_and_then contact_between (pair_in self.now.node peer) }
     {
         self.node.contact(peer)
     }
 
-    /// The state of the link end to the peer: None exactly where there is none.
-    pub fn link(&self, peer: u8) -> Option<LinkState>
-        ensures { result ≡ option_map (λ e. e.fsm.state) (link_in self.now.node peer) }
+    /// The state of the link end to the peer on a bearer: None exactly where there is none.
+    pub fn link(&self, peer: u8, bearer: u8) -> Option<LinkState>
+        ensures { result ≡ state_of (link_in self.now.node peer bearer) }
     {
-        self.node.links(peer)
+        link_state(&self.node, peer, bearer)
     }
 
-    /// Whether bearer 0 is mended.
-    pub fn is_mended(&self) -> bool
-        ensures { result ≡ self.now.node.mended }
+    /// The states of the link ends to the peer on bearer 0 and on bearer 1: None exactly where it has none on either.
+    pub fn links(&self, peer: u8) -> Option<(Option<LinkState>, Option<LinkState>)>
+        ensures { result ≡ option_map states_of (pair_in self.now.node peer) }
     {
-        self.node.is_mended()
+        let pair = &self.node.neighbour(peer)?.pair;
+        Some((pair.state(0), pair.state(1)))
+    }
+
+    /// Whether a bearer is mended.
+    pub fn is_mended(&self, bearer: u8) -> bool
+        ensures { result ≡ is_mended_on self.now.node.mended bearer }
+    {
+        self.node.is_mended(bearer)
     }
 
     /// The numbers of packets unacknowledged and waiting on all its links that are up.
@@ -302,14 +355,15 @@ impl Member {
         self.node.names()
     }
 
-    /// Comes to know a peer.
-    pub fn know(&mut self, alloc: Global, peer: u8, out: &mut Outbox) -> Answer
+    /// Comes to know a peer on a bearer.
+    pub fn know(&mut self, alloc: Global, peer: u8, bearer: u8, out: &mut Outbox) -> Answer
         requires peer { (1 ≤ peer) × (peer ≤ 32) }
-        requires alone { neighbour_of self.old.node peer ≡ None }
+        requires bearer { bearer ≤ 1 }
+        requires alone { end_with bearer (neighbour_of self.old.node peer) ≡ None }
         ensures { (stamp node : ℕ) →
-            Did stamp (WorldEvent.Know node peer) [] self.old self.new out.old out.new result }
+            Did stamp (WorldEvent.Know node peer bearer) [] self.old self.new out.old out.new result }
     {
-        self.node.know(alloc, peer, out);
+        self.node.know(alloc, peer, bearer, out);
         Answer::Done
     }
 
@@ -347,7 +401,7 @@ impl Member {
     {
         let next = Node::new(alloc, self.node.own(), self.node.boot() + 1)?;
         self.past.reserve(1)?;
-        self.counts.reserve(33)?;
+        self.counts.reserve(66)?;
         note_all(&mut self.counts, &self.node);
         let last = std::mem::replace(&mut self.node, next);
         self.past.push_reserved(last.into_journal());
@@ -362,14 +416,14 @@ impl Member {
         self.arrivals.len() as u64
     }
 
-    /// The last session with the sender of a frame, where the link to it is down.
-    fn last_with(&self, frame: &[u8]) -> Option<Tally>
-        ensures { result ≡ over_with self.now (sender_of frame.now) }
+    /// The last session with the sender of a frame on a bearer, where the link to it there is down.
+    fn last_with(&self, frame: &[u8], bearer: u8) -> Option<Tally>
+        ensures { result ≡ over_with self.now (sender_of frame.now) bearer }
     {
-        over_with(&self.node, sender_of(frame)?)
+        over_with(&self.node, sender_of(frame)?, bearer)
     }
 
-    /// A frame arrives on a bearer, which is the one at that place of the bearer's air. The last session with its sender is
+    /// A frame arrives on a bearer, which is the one at that place of the bearer's air. The last session with its sender there is
     /// noted where the link is down, since a new one may begin in its place.
     pub fn arrive(
         &mut self,
@@ -389,7 +443,7 @@ impl Member {
         let calls = self.begin()?;
         let by = self.by(stamp);
         let number = self.arrived();
-        let last = self.last_with(frame);
+        let last = self.last_with(frame, bearer);
         self.arrivals.reserve(1)?;
         self.counts.reserve(1)?;
         let arrival = self.node.arrive(alloc, by, bearer, number, frame, out)?;
@@ -420,7 +474,11 @@ impl Member {
         ensures err { OnErr result ((self.new ≡ self.old) × (out.new ≡ out.old) × (chooser.new ≡ chooser.old)) }
     {
         match event {
-            WorldEvent::Know { node: _, peer } => Ok(self.know(alloc, peer, out)),
+            WorldEvent::Know {
+                node: _,
+                peer,
+                bearer,
+            } => Ok(self.know(alloc, peer, bearer, out)),
             WorldEvent::Restart { .. } => self.restart(alloc),
             WorldEvent::Call { node: _, call } => self.perform(alloc, stamp, call, chooser, out),
             WorldEvent::Arrive { .. } => unreachable!(),

@@ -3,11 +3,14 @@
 ghost use Rattle.std.specs.Prelude.{◌≡◌, ◌≤◌, ◌+◌, ◌++◌, [], ℕ, Some, None, length, is_some, slice_get, slice_index_or, option_map, IfOk, IfSome, OnErr, OnOk};
 ghost use Rattle.std.specs.Option.{option_copied};
 ghost use Rattle.tipc_link_fsm.specs.Table.{is_up};
+ghost use Rattle.tipc_pair.specs.Facing.{state_of, states_of};
 ghost use Rattle.tipc_types.specs.declared.message_forms.Flow.TheVariants.{Zero};
 ghost use Rattle.tipc_world.specs.Readers.{link_shown, links_of, load_of, node_number, receiver_at, receiver_number, sender_at, table_of, unacked_in, waiting_in};
-ghost use Rattle.tipc_world.specs.States.{contact_at, counted, accepted_at, delivered_at, flow_of, is_mended_at, link_at, is_there, is_up_at, knows};
+ghost use Rattle.tipc_world.specs.Skies.{air_on};
+ghost use Rattle.tipc_world.specs.States.{accepted_at, counted, delivered_at, flow_of, is_mended_at, is_there, is_up_at, knows, link_at, pair_at};
 
-use crate::air::{Arrived, Sent};
+use crate::air::{Air, Sent};
+use crate::flying::contact_at;
 use crate::members::Member;
 use crate::tables::told_of;
 use crate::worlds::World;
@@ -35,22 +38,22 @@ fn receiver_of(to: To) -> Option<u8>
     }
 }
 
-/// The number of the node that the frame at that place is for.
+/// The number of the node that the frame at that place of a bearer's air is for.
 #[tactic(auto, unfolding(crate::specs::Readers::receiver_at))]
-fn receiver_at(air: &[Sent], place: u64) -> Option<u8>
-    ensures value { result ≡ receiver_at air.now place }
+fn receiver_at(air: &Air, bearer: u8, place: u64) -> Option<u8>
+    ensures value { result ≡ receiver_at air.now bearer place }
     ensures range { IfSome result (λ n. (1 ≤ n) × (n ≤ 32)) }
 {
-    receiver_of(air.get(place as usize)?.to)
+    receiver_of(air.frame(bearer, place)?.to)
 }
 
-/// The number of the node that sent the frame at that place.
+/// The number of the node that sent the frame at that place of a bearer's air.
 #[tactic(auto, unfolding(crate::specs::Readers::sender_at))]
-fn sender_at(air: &[Sent], place: u64) -> Option<u8>
-    ensures value { result ≡ sender_at air.now place }
+fn sender_at(air: &Air, bearer: u8, place: u64) -> Option<u8>
+    ensures value { result ≡ sender_at air.now bearer place }
     ensures range { IfSome result (λ n. (1 ≤ n) × (n ≤ 32)) }
 {
-    number_of(air.get(place as usize)?.from)
+    number_of(air.frame(bearer, place)?.from)
 }
 
 /// The numbers of packets unacknowledged and waiting at a node, where it is there.
@@ -88,17 +91,6 @@ pub fn is_working(state: LinkState) -> bool
         LinkState::ResetUnknown => false,
         LinkState::ResetReset => false,
         LinkState::Held => false,
-    }
-}
-
-/// The contact in which node `a` is with node `b`.
-#[tactic(auto, unfolding(crate::specs::States::contact_at, crate::specs::States::link_at, crate::specs::States::member_at))]
-fn contact_at(members: &[Option<Member>], a: u8, b: u8) -> Option<(u64, u64)>
-    ensures { result ≡ contact_at members.now a b }
-{
-    match members.get(a as usize) {
-        Some(Some(member)) => member.contact(b),
-        _ => None,
     }
 }
 
@@ -141,29 +133,44 @@ fn flow_at(members: &[Option<Member>], a: u8, b: u8) -> Answer
     }
 }
 
-/// The state of the link end at node `a` to node `b`.
-#[tactic(auto, unfolding(crate::specs::States::link_at, crate::specs::States::member_at))]
-fn link_at(members: &[Option<Member>], a: u8, b: u8) -> Option<LinkState>
-    ensures { result ≡ option_map (λ e. e.fsm.state) (link_at members.now a b) }
+/// The state of the link end at node `a` to node `b` on a bearer.
+#[tactic(auto, unfolding(crate::specs::States::pair_at, crate::specs::States::member_at))]
+fn link_at(members: &[Option<Member>], a: u8, b: u8, bearer: u8) -> Option<LinkState>
+    ensures { result ≡ state_of (link_at members.now a b bearer) }
 {
     match members.get(a as usize) {
-        Some(Some(member)) => member.link(b),
+        Some(Some(member)) => member.link(b, bearer),
         _ => None,
     }
 }
 
-/// Whether bearer 0 is mended at a node.
+/// The states of the link ends at node `a` to node `b`, on bearer 0 and on bearer 1.
+#[tactic(auto, unfolding(crate::specs::States::pair_at, crate::specs::States::member_at))]
+fn states_at(
+    members: &[Option<Member>],
+    a: u8,
+    b: u8,
+) -> Option<(Option<LinkState>, Option<LinkState>)>
+    ensures { result ≡ option_map states_of (pair_at members.now a b) }
+{
+    match members.get(a as usize) {
+        Some(Some(member)) => member.links(b),
+        _ => None,
+    }
+}
+
+/// Whether a bearer is mended at a node.
 #[tactic(auto, unfolding(crate::specs::States::member_at))]
-fn is_mended_at(members: &[Option<Member>], n: u8) -> bool
-    ensures { result ≡ is_mended_at members.now n }
+fn is_mended_at(members: &[Option<Member>], n: u8, bearer: u8) -> bool
+    ensures { result ≡ is_mended_at members.now n bearer }
 {
     match members.get(n as usize) {
-        Some(Some(member)) => member.is_mended(),
+        Some(Some(member)) => member.is_mended(bearer),
         _ => false,
     }
 }
 
-/// Adds the link end of node `n` to a peer, where it has one.
+/// Adds the link ends of node `n` to a peer, where it has one.
 fn add_link(
     links: &mut Vec<PeerLinks>,
     members: &[Option<Member>],
@@ -171,13 +178,13 @@ fn add_link(
     peer: u8,
 ) -> Result<(), NoMemory>
     requires { (1 ≤ peer) × (peer ≤ 32) }
-    ensures { OnOk result (links.new.items ≡ links.old.items ++ link_shown peer (link_at members.now n peer)) }
+    ensures { OnOk result (links.new.items ≡ links.old.items ++ link_shown peer (pair_at members.now n peer)) }
 {
-    if let Some(state) = link_at(members, n, peer) {
+    if let Some((first, second)) = states_at(members, n, peer) {
         links.push(PeerLinks {
             peer: Addr::node(peer),
-            first: Some(state),
-            second: None,
+            first,
+            second,
         })?;
     }
     Ok(())
@@ -233,58 +240,58 @@ impl<P: Pick> World<P> {
         flow_at(&self.members, a, b)
     }
 
-    /// Whether node `a` has a link end to node `b`.
-    pub fn knows(&self, a: u8, b: u8) -> bool
-        ensures { result ≡ knows self.now.state.members a b }
+    /// Whether node `a` has a link end to node `b` on a bearer.
+    pub fn knows(&self, a: u8, b: u8, bearer: u8) -> bool
+        ensures { result ≡ knows self.now.state.members a b bearer }
     {
-        link_at(&self.members, a, b).is_some()
+        link_at(&self.members, a, b, bearer).is_some()
     }
 
-    /// Whether the link end at node `a` to node `b` is up.
-    pub fn is_up(&self, a: u8, b: u8) -> bool
-        ensures { result ≡ is_up_at self.now.state.members a b }
+    /// Whether the link end at node `a` to node `b` on a bearer is up.
+    pub fn is_up(&self, a: u8, b: u8, bearer: u8) -> bool
+        ensures { result ≡ is_up_at self.now.state.members a b bearer }
     {
-        match link_at(&self.members, a, b) {
+        match link_at(&self.members, a, b, bearer) {
             Some(state) => is_working(state),
             None => false,
         }
     }
 
-    /// Whether bearer 0 is mended at a node.
-    pub fn is_mended(&self, n: u8) -> bool
-        ensures { result ≡ is_mended_at self.now.state.members n }
+    /// Whether a bearer is mended at a node.
+    pub fn is_mended(&self, n: u8, bearer: u8) -> bool
+        ensures { result ≡ is_mended_at self.now.state.members n bearer }
     {
-        is_mended_at(&self.members, n)
+        is_mended_at(&self.members, n, bearer)
     }
 
-    /// How many frames were ever sent on bearer 0.
-    pub fn air_len(&self) -> u64
-        ensures len { result ≡ length self.now.state.air }
+    /// How many frames were ever sent on a bearer.
+    pub fn air_len(&self, bearer: u8) -> u64
+        ensures len { result ≡ length (air_on bearer self.now.state.air) }
     {
-        self.air.len() as u64
+        self.air.len(bearer)
     }
 
-    /// The node that the frame of that place on bearer 0 is for, from 0 on: None exactly where there is no such frame.
-    pub fn receiver(&self, place: u64) -> Option<u8>
-        ensures value { result ≡ receiver_at self.now.state.air place }
+    /// The node that the frame of that place in a bearer's air is for, from 0 on: None exactly where there is no such frame.
+    pub fn receiver(&self, bearer: u8, place: u64) -> Option<u8>
+        ensures value { result ≡ receiver_at self.now.state.air bearer place }
         ensures range { IfSome result (λ n. (1 ≤ n) × (n ≤ 32)) }
     {
-        receiver_at(&self.air, place)
+        receiver_at(&self.air, bearer, place)
     }
 
-    /// The node that sent the frame of that place on bearer 0: None exactly where there is no such frame.
-    pub fn sender(&self, place: u64) -> Option<u8>
-        ensures value { result ≡ sender_at self.now.state.air place }
+    /// The node that sent the frame of that place in a bearer's air: None exactly where there is no such frame.
+    pub fn sender(&self, bearer: u8, place: u64) -> Option<u8>
+        ensures value { result ≡ sender_at self.now.state.air bearer place }
         ensures range { IfSome result (λ n. (1 ≤ n) × (n ≤ 32)) }
     {
-        sender_at(&self.air, place)
+        sender_at(&self.air, bearer, place)
     }
 
-    /// The frame of that place on bearer 0, from 0 on: None exactly where there is no such frame.
-    pub fn frame(&self, place: u64) -> Option<&Sent>
-        ensures { option_copied result ≡ slice_get self.now.state.air place }
+    /// The frame of that place in a bearer's air, from 0 on: None exactly where there is no such frame.
+    pub fn frame(&self, bearer: u8, place: u64) -> Option<&Sent>
+        ensures { option_copied result ≡ slice_get (air_on bearer self.now.state.air) place }
     {
-        self.air.get(place as usize)
+        self.air.frame(bearer, place)
     }
 
     /// The numbers of packets unacknowledged and waiting at all nodes. Each stops at the last number of 64 bits.

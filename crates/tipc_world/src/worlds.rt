@@ -10,13 +10,14 @@ ghost use Rattle.tipc_world.specs.Events.{AreSettled, DidAt, IsSettledAt, IsStea
 ghost use Rattle.tipc_world.specs.Good.{IsGood};
 ghost use Rattle.tipc_world.specs.Growth.{Grows};
 ghost use Rattle.tipc_world.specs.Limits.{has_room_at, IsAnswered, IsFree, IsStopped, Stops, TurnStops};
+ghost use Rattle.tipc_world.specs.Skies.{air_size};
 ghost use Rattle.tipc_world.specs.Sound.{IsSound};
 ghost use Rattle.tipc_world.specs.States.{is_there, no_nodes, MemberState};
 ghost use Rattle.tipc_world.specs.Steps.{stage, Becomes, Happens, IsArrival, IsJoined, IsStep};
 
-use crate::air::Sent;
+use crate::air::Air;
 use crate::events::{Limit, WorldEvent, WorldFault};
-use crate::flying::{emit, find};
+use crate::flying::{contacts_of, emit, find};
 use crate::members::Member;
 use std::alloc::Global;
 use std::marker::Model;
@@ -27,7 +28,7 @@ use tipc_types::{Answer, NoMemory};
 /// The most events of a world. (This project's profile.)
 const MOST_EVENTS: u64 = 300_000;
 
-/// The most frames in the air. (This project's profile.)
+/// The most frames in the air of both bearers together. (This project's profile.)
 const MOST_FRAMES: usize = 100_000;
 
 /// The numbers of nodes are from 1 to 32.
@@ -38,7 +39,7 @@ const NUMBERS: usize = 33;
 #[derive(Drop)]
 pub struct World<P: Pick> {
     pub(crate) members: Vec<Option<Member>>,
-    pub(crate) air: Vec<Sent>,
+    pub(crate) air: Air,
     events: u64,
     stamps: u64,
     pub(crate) lost: bool,
@@ -58,7 +59,7 @@ impl<P: Pick> Model for World<P> {
     ghost view = { λ w. record {
       state = record {
         members = w.members.items;
-        air = w.air.items;
+        air = w.air;
         events = w.events;
         stamps = w.stamps;
         lost = w.lost;
@@ -66,8 +67,8 @@ impl<P: Pick> Model for World<P> {
       chooser = w.chooser;
     } };
 
-    ghost invariant = { λ w. IsSound w.members.items w.air.items × IsSteady w.members.items w.events w.stamps
-        × AreWatched w.members.items w.air.items × AreOrderly P.gives w.members.items w.stamps w.chooser
+    ghost invariant = { λ w. IsSound w.members.items w.air × IsSteady w.members.items w.events w.stamps
+        × AreWatched w.members.items w.air × AreOrderly P.gives w.members.items w.stamps w.chooser
         × AreShared w.members.items };
 }
 
@@ -137,11 +138,11 @@ fn is_call(recorded: bool, counted: bool) -> bool
 }
 
 /// Whether the air has more frames than it may have, after an event that counts.
-fn is_over(counted: bool, air: &[Sent]) -> bool
-    ensures over { result ≡ true → (counted ≡ true) × (100000 < length air.now) }
-    ensures within { result ≡ false → counted ≡ true → length air.now ≤ 100000 }
+fn is_over(counted: bool, air: &Air) -> bool
+    ensures over { result ≡ true → (counted ≡ true) × (100000 < air_size air.now) }
+    ensures within { result ≡ false → counted ≡ true → air_size air.now ≤ 100000 }
 {
-    counted && air.len() > MOST_FRAMES
+    counted && air.is_over(MOST_FRAMES)
 }
 
 /// Lets an event other than an arrival happen at its node, whose frames are put into the box.
@@ -196,7 +197,7 @@ fn arrive_at(
 /// Lets an event other than an arrival happen to the nodes, the air and the chooser.
 fn turn<P: Pick>(
     members: &mut Vec<Option<Member>>,
-    air: &mut Vec<Sent>,
+    air: &mut Air,
     chooser: &mut Chooser<P>,
     alloc: Global,
     events: u64,
@@ -206,21 +207,22 @@ fn turn<P: Pick>(
     requires can { CanDoAt members.old.items event }
     requires there { is_some (slice_index_or members.old.items (node_of event) None) ≡ true }
     requires settled { AreSettled members.old.items }
-    ensures happens { IfOk result (λ h. Happens (stage members.old.items air.old.items)
-        (stage members.new.items air.new.items) stamp event [] h.answer h.lost × (h.counted ≡ true)) }
+    ensures happens { IfOk result (λ h. Happens (stage members.old.items air.old)
+        (stage members.new.items air.new) stamp event [] h.answer h.lost × (h.counted ≡ true)) }
     ensures chose { IfOk result (λ h. ChoosesAt P.gives members.old.items event h.answer chooser.old chooser.new) }
     ensures free { OnOk result ((events < 300000)
         × (is_recorded event ≡ true → has_room_at members.old.items (node_of event) ≡ true)) }
     ensures stops { IfErr result
         (TurnStops events (is_recorded event) (has_room_at members.old.items (node_of event))) }
-    ensures err { OnErr result ((members.new.items ≡ members.old.items) × (air.new.items ≡ air.old.items)
+    ensures err { OnErr result ((members.new.items ≡ members.old.items) × (air.new ≡ air.old)
         × (chooser.new ≡ chooser.old)) }
 {
     begin(events)?;
     let node = event.node();
+    let met = contacts_of(members, alloc, node)?;
     let mut out = Outbox::new(alloc);
     let answer = happen_at(members, chooser, alloc, stamp, event, &mut out)?;
-    let lost = emit(members, air, node, out);
+    let lost = emit(members, met.as_slice(), air, node, out);
     Ok(Happened {
         answer,
         lost,
@@ -231,7 +233,7 @@ fn turn<P: Pick>(
 /// Lets the frame of that place in a bearer's air arrive at a node.
 fn arrive(
     members: &mut Vec<Option<Member>>,
-    air: &mut Vec<Sent>,
+    air: &mut Air,
     alloc: Global,
     events: u64,
     stamp: u64,
@@ -241,15 +243,15 @@ fn arrive(
 ) -> Result<Happened, WorldFault>
     requires there { is_some (slice_index_or members.old.items node None) ≡ true }
     requires settled { AreSettled members.old.items }
-    requires sound { IsSound members.old.items air.old.items }
-    ensures arrives { IfOk result (λ h. IsArrival (stage members.old.items air.old.items)
-        (stage members.new.items air.new.items) stamp node bearer place h.answer h.lost) }
+    requires sound { IsSound members.old.items air.old }
+    ensures arrives { IfOk result (λ h. IsArrival (stage members.old.items air.old)
+        (stage members.new.items air.new) stamp node bearer place h.answer h.lost) }
     ensures counted { IfOk result (λ h.
-        h.counted ≡ counts_at members.old.items air.old.items (WorldEvent.Arrive node bearer place)) }
-    ensures free { OnOk result (IsFree members.old.items air.old.items events (WorldEvent.Arrive node bearer place)) }
+        h.counted ≡ counts_at members.old.items air.old (WorldEvent.Arrive node bearer place)) }
+    ensures free { OnOk result (IsFree members.old.items air.old events (WorldEvent.Arrive node bearer place)) }
     ensures stops { IfErr result
-        (IsStopped members.old.items air.old.items events (WorldEvent.Arrive node bearer place)) }
-    ensures err { OnErr result ((members.new.items ≡ members.old.items) × (air.new.items ≡ air.old.items)) }
+        (IsStopped members.old.items air.old events (WorldEvent.Arrive node bearer place)) }
+    ensures err { OnErr result ((members.new.items ≡ members.old.items) × (air.new ≡ air.old)) }
 {
     let sent = match find(members, air, node, bearer, place) {
         Ok(sent) => sent,
@@ -262,10 +264,11 @@ fn arrive(
         }
     };
     begin(events)?;
+    let met = contacts_of(members, alloc, node)?;
     let mut out = Outbox::new(alloc);
     let frame = sent.frame.as_slice();
     let answer = arrive_at(members, alloc, stamp, node, bearer, place, frame, &mut out)?;
-    let lost = emit(members, air, node, out);
+    let lost = emit(members, met.as_slice(), air, node, out);
     Ok(Happened {
         answer,
         lost,
@@ -276,7 +279,7 @@ fn arrive(
 /// Lets an event happen to the nodes, the air and the chooser.
 fn happen<P: Pick>(
     members: &mut Vec<Option<Member>>,
-    air: &mut Vec<Sent>,
+    air: &mut Air,
     chooser: &mut Chooser<P>,
     alloc: Global,
     events: u64,
@@ -285,14 +288,14 @@ fn happen<P: Pick>(
 ) -> Result<Happened, WorldFault>
     requires can { CanHappenAt members.old.items event }
     requires settled { AreSettled members.old.items }
-    requires sound { IsSound members.old.items air.old.items }
-    ensures becomes { IfOk result (λ h. Becomes (stage members.old.items air.old.items) stamp event
-        (stage members.new.items air.new.items) h.answer h.lost) }
+    requires sound { IsSound members.old.items air.old }
+    ensures becomes { IfOk result (λ h. Becomes (stage members.old.items air.old) stamp event
+        (stage members.new.items air.new) h.answer h.lost) }
     ensures chose { IfOk result (λ h. ChoosesAt P.gives members.old.items event h.answer chooser.old chooser.new) }
-    ensures counted { IfOk result (λ h. h.counted ≡ counts_at members.old.items air.old.items event) }
-    ensures free { OnOk result (IsFree members.old.items air.old.items events event) }
-    ensures stops { IfErr result (IsStopped members.old.items air.old.items events event) }
-    ensures err { OnErr result ((members.new.items ≡ members.old.items) × (air.new.items ≡ air.old.items)
+    ensures counted { IfOk result (λ h. h.counted ≡ counts_at members.old.items air.old event) }
+    ensures free { OnOk result (IsFree members.old.items air.old events event) }
+    ensures stops { IfErr result (IsStopped members.old.items air.old events event) }
+    ensures err { OnErr result ((members.new.items ≡ members.old.items) × (air.new ≡ air.old)
         × (chooser.new ≡ chooser.old)) }
 {
     match event {
@@ -314,7 +317,7 @@ impl<P: Pick> World<P> {
     {
         World {
             members: Vec::new(alloc),
-            air: Vec::new(alloc),
+            air: Air::new(alloc),
             events: 0,
             stamps: 0,
             lost: false,
@@ -359,7 +362,7 @@ impl<P: Pick> World<P> {
     /// # Errors
     ///
     /// Limit exactly where a limit is reached: at 300,000 events; where the journal of the node has no room for the call; and after an
-    /// event that takes the air past 100,000 frames, which happened then. Else NoMemory. At all but the limit of frames nothing is
+    /// event that takes the air of both bearers past 100,000 frames, which happened then. Else NoMemory. At all but the limit of frames nothing is
     /// changed. The clause `stops` says so. To which match a message by name goes is a part of the clause `good`.
     pub fn step(&mut self, alloc: Global, event: WorldEvent) -> Result<Answer, WorldFault>
         requires { CanHappen self.old.state event }
@@ -395,7 +398,7 @@ impl<P: Pick> World<P> {
         self.lost |= happened.lost;
         self.events = after(self.events, happened.counted);
         self.stamps = after(self.stamps, is_call(recorded, happened.counted));
-        if is_over(happened.counted, self.air.as_slice()) {
+        if is_over(happened.counted, &self.air) {
             return Err(WorldFault::Limit(Limit::Frames));
         }
         Ok(happened.answer)

@@ -1,16 +1,18 @@
-use Rattle.std.proofs.Common.{◌<◌, Some, None, length, ap, sym, subst, ◌∙◌, arith}
+use Rattle.std.proofs.Common.{◌++◌, ◌<◌, Some, None, length, ap, sym, subst, ◌∙◌, arith}
 use Rattle.std.specs.Prelude.{List, fold, slice_index_or, slice_set}
 use Rattle.std.specs.List.{list_all}
 use Rattle.tipc_journal.specs.declared.entries.Entry.{Entry}
 use Rattle.tipc_sockets.specs.Telling.{after_entry}
 use Rattle.tipc_node.specs.declared.neighbours.Neighbour.{Neighbour}
 use Rattle.tipc_node.specs.Hearings.{HeardThere}
-use Rattle.tipc_node.specs.Nodes.{is_change}
+use Rattle.tipc_node.specs.Nodes.{change_entries, is_change}
 use Rattle.tipc_node.specs.Works.{work_of}
-use Rattle.tipc_node.proofs.Greeting.{heard_session, session_placed}
-use Rattle.tipc_node.proofs.Hearings.{same_neighbour}
+use Rattle.tipc_sockets.specs.SocketTables.{SocketTable}
+use Rattle.tipc_node.proofs.Changes.{same_folded}
+use Rattle.tipc_node.proofs.Greeting.{contact_placed}
+use Rattle.tipc_node.proofs.Hearings.{prepared_there, same_neighbour}
 use Rattle.tipc_node.proofs.Restoring.{kept_changed}
-use Rattle.tipc_node.proofs.Taking.{heard_plain, place_is, ready_there, some_number, told_changes, told_work}
+use Rattle.tipc_node.proofs.Taking.{heard_plain, place_is, told_changes, told_work}
 use Rattle.tipc_node.proofs.following.hear_there.Goals as goal
 
 pub hear-given-requires : goal.hear-given-requires
@@ -21,15 +23,15 @@ hear-given-requires c =
     let peer = c.requires.peer in
     let within : d.peer < length xs = omega (arith, wide, peer) in
     let here = place_is xs d.peer c.index_mut.result.now c.in-Some.neighbour within c.index_mut.ensures.value c.in-Some.is in
-    ready_there (slice_index_or xs d.peer None) c.in-Some.neighbour d c.args.heard here c.requires.ready
+    prepared_there (slice_index_or xs d.peer None) c.in-Some.neighbour d c.args.heard here c.requires.prepared
 
 pub purge_ended-requires : goal.purge_ended-requires
 purge_ended-requires c =
-    ap (λ (es : List Entry). list_all is_change es) c.as_slice-2.ensures.value
-    ∙ told_changes c.args.due.now.peer c.hear-given.result.change c.args.draft.now.inside.items c.reserve.new.self.items c.note_change.new.inside.items c.requires.empty c.in_ok-reserve.ensures.items c.note_change.ensures.entries
+    ap (λ (es : List Entry). list_all is_change es) c.as_slice-3.ensures.value
+    ∙ told_changes c.args.due.now.peer c.hear-given.result.changes c.args.draft.now.inside.items c.reserve.new.self.items c.note_changes.new.inside.items c.requires.empty c.in_ok-reserve.ensures.items (c.note_changes.ensures.entries ∙ ap (λ cs. c.reserve.new.self.items ++ change_entries c.args.due.now.peer cs) c.as_slice-2.ensures)
 
 pub returns-clause-heard : goal.returns-clause-heard
-returns-clause-heard c = λ x number was numbered.
+returns-clause-heard c = λ x was.
     let xs = c.args.neighbours.now.items in
     let s = c.args.sockets.now in
     let d = c.args.due.now in
@@ -40,36 +42,36 @@ returns-clause-heard c = λ x number was numbered.
     let z = c.hear-given.new.self in
     let given = c.hear-given.result in
     let here = place_is xs d.peer c.index_mut.result.now y within c.index_mut.ensures.value c.in-Some.is in
-    let inside = c.note_change.new.inside.items in
+    let inside = c.note_changes.new.inside.items in
     let last = work_of (slice_set xs d.peer (Some z)) c.purge_ended.new.sockets inside in
-    subst (λ (k : Neighbour). HeardThere xs s k d number given last c.args.draft.now.out c.hear-given.new.out) (same_neighbour y x (sym here ∙ was)) (record {
+    subst (λ (k : Neighbour). HeardThere xs s k d c.args.heard.number given last c.args.draft.now.out c.hear-given.new.out) (same_neighbour y x (sym here ∙ was)) (record {
       after = z;
-      heard = c.hear-given.ensures number numbered;
-      work = told_work xs s c.purge_ended.new.sockets d.peer z given.change c.args.draft.now.inside.items c.reserve.new.self.items inside (record {
+      heard = c.hear-given.ensures.heard;
+      work = told_work xs s c.purge_ended.new.sockets d.peer z given.changes c.args.draft.now.inside.items c.reserve.new.self.items inside (record {
         none = c.requires.empty;
         still = c.in_ok-reserve.ensures.items;
-        told = c.note_change.ensures.entries;
-        purged = c.purge_ended.ensures ∙ ap (λ (es : List Entry). fold after_entry s es) c.as_slice-2.ensures.value;
+        told = c.note_changes.ensures.entries ∙ ap (λ cs. c.reserve.new.self.items ++ change_entries d.peer cs) c.as_slice-2.ensures;
+        purged = c.purge_ended.ensures ∙ ap (λ (es : List Entry). fold after_entry s es) c.as_slice-3.ensures.value;
       });
     })
 
-pub returns-clause-session : goal.returns-clause-session
-returns-clause-session c =
+pub returns-clause-contact : goal.returns-clause-contact
+returns-clause-contact c =
     let xs = c.args.neighbours.now.items in
     let d = c.args.due.now in
     let wide = c.requires.tables.0 in
     let peer = c.requires.peer in
     let within : d.peer < length xs = omega (arith, wide, peer) in
-    let number = some_number c.args.heard in
-    session_placed xs d.peer c.hear-given.new.self c.hear-given.result.change within
-    (heard_session c.in-Some.neighbour d number.0 c.hear-given.new.self c.hear-given.result c.args.draft.now.out c.hear-given.new.out (c.hear-given.ensures number.0 number.1))
+    contact_placed xs d.peer c.hear-given.new.self c.hear-given.result.changes within c.hear-given.ensures.contact
 
 pub returns-clause-plain : goal.returns-clause-plain
 returns-clause-plain c =
-    let number = some_number c.args.heard in
-    heard_plain c.in-Some.neighbour c.args.due.now number.0 c.hear-given.new.self c.hear-given.result c.args.draft.now.out c.hear-given.new.out (c.hear-given.ensures number.0 number.1)
+    heard_plain c.in-Some.neighbour c.args.due.now c.args.heard.number c.hear-given.new.self c.hear-given.result c.args.draft.now.out c.hear-given.new.out c.hear-given.ensures.heard
 
 pub returns-clause-kept : goal.returns-clause-kept
 returns-clause-kept c =
     kept_changed c.args.draft.now.copies.items c.keep.new.copies.items c.as_slice.result.now c.args.neighbours.now.items c.args.due.now.peer (Some c.hear-given.new.self) c.as_slice.ensures.value
     c.in_ok-keep.ensures.kept c.keep.ensures.same
+
+pub returns-clause-own : goal.returns-clause-own
+returns-clause-own c = let same = same_folded c.args.sockets.now c.as_slice-3.result.now in ap (λ (s : SocketTable). s.own) c.purge_ended.ensures ∙ same.own

@@ -1,5 +1,5 @@
 use Rattle.std.proofs.Common.{ap, ◌∙◌, ◌++◌, ◌∷◌, [], arith}
-use Rattle.tipc_node.proofs.Sendings.{many_pieces, many_sendable, many_wait, one_piece, one_waits, sendable_by, spelled_most}
+use Rattle.tipc_node.proofs.Sendings.{many_listed, many_pieces, many_sendable, one_listed, one_piece, sendable_by, spelled_most}
 use Rattle.tipc_node.proofs.sending.pieces.Goals as goal
 
 pub cut-requires-clause-within : goal.cut-requires-clause-within
@@ -14,8 +14,8 @@ returns-then-len-ge-LEAST_CUT-clause-value c =
     let len = c.len.ensures in
     many_pieces c.args.own.word c.args.message.now c.in_ok-packet.packet c.as_slice.result.now c.cut.result c.in_ok-packet.ensures.spelled c.as_slice.ensures (omega (arith, long, len)) c.cut.ensures.packets
 
-pub returns-then-len-ge-LEAST_CUT-clause-waiting : goal.returns-then-len-ge-LEAST_CUT-clause-waiting
-returns-then-len-ge-LEAST_CUT-clause-waiting c = many_wait c.args.own.word c.args.message.now c.in_ok-packet.packet c.as_slice.result.now c.cut.result c.in_ok-packet.ensures.spelled c.as_slice.ensures c.cut.ensures.packets
+pub returns-then-len-ge-LEAST_CUT-clause-listed : goal.returns-then-len-ge-LEAST_CUT-clause-listed
+returns-then-len-ge-LEAST_CUT-clause-listed c = many_listed c.args.own.word c.args.message.now c.in_ok-packet.packet c.as_slice.result.now c.cut.result c.in_ok-packet.ensures.spelled c.as_slice.ensures c.cut.ensures.packets
 
 pub returns-clause-sendable : goal.returns-clause-sendable
 returns-clause-sendable c = sendable_by c.args.own.word c.args.message.now c.in_ok-packet.packet c.in_ok-packet.ensures.spelled
@@ -26,8 +26,8 @@ returns-clause-value c =
     let len = c.len.ensures in
     one_piece c.args.own.word c.args.message.now c.in_ok-packet.packet c.push.new.self c.in_ok-packet.ensures.spelled (omega (arith, short, len)) (c.in_ok-push.ensures.ok ∙ ap (λ ps. ps ++ c.in_ok-packet.packet ∷ []) c.new-pieces.ensures)
 
-pub returns-clause-waiting : goal.returns-clause-waiting
-returns-clause-waiting c =
+pub returns-clause-listed : goal.returns-clause-listed
+returns-clause-listed c =
     let short = c.if-len-ge-LEAST_CUT.false in
     let len = c.len.ensures in
-    one_waits c.args.own.word c.args.message.now c.in_ok-packet.packet c.push.new.self c.in_ok-packet.ensures.spelled (omega (arith, short, len)) (c.in_ok-push.ensures.ok ∙ ap (λ ps. ps ++ c.in_ok-packet.packet ∷ []) c.new-pieces.ensures)
+    one_listed c.args.own.word c.args.message.now c.in_ok-packet.packet c.push.new.self c.in_ok-packet.ensures.spelled (omega (arith, short, len)) (c.in_ok-push.ensures.ok ∙ ap (λ ps. ps ++ c.in_ok-packet.packet ∷ []) c.new-pieces.ensures)

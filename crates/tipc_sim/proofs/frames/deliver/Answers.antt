@@ -1,30 +1,16 @@
-use Rattle.std.proofs.Common.{arith}
+use Rattle.std.proofs.Common.{subst, sym, arith}
 use Rattle.std.proofs.lemmas.Result.{err_from_is_err_and}
-use Rattle.tipc_sim.specs.Courses.{begin, go_on}
-use Rattle.tipc_sim.proofs.CourseLaws.{delivery_halts}
-use Rattle.tipc_sim.proofs.WorldLaws.{continues_same, continues_more, longer}
+use Rattle.tipc_sim.specs.Ends.{ends_of, AreBefore}
+use Rattle.tipc_sim.proofs.CourseLaws.{delivers_halt}
+use Rattle.tipc_sim.proofs.WorldLaws.{before_longer}
 use Rattle.tipc_sim.proofs.frames.deliver.Goals as goal
 
-pub loop-place-init : goal.loop-place-init
-loop-place-init g c = record { goes = (0, begin); continues = continues_same c.args.world.now }
-
-pub returns-in_err-arrive-clause-comes : goal.returns-in_err-arrive-clause-comes
-returns-in_err-arrive-clause-comes g c =
-    let l = c.loop-place in
+pub returns-in_err-deliver_both-clause-comes : goal.returns-in_err-deliver_both-clause-comes
+returns-in_err-deliver_both-clause-comes g c =
     let p = err_from_is_err_and c.from_residual.result c.from_residual.ensures.1 in
-    rw (p.1, p.2) (delivery_halts c.args.first c.args.world.now.state l.place l.invariant.goes.0 l.world.state c.arrive.new.world.state c.in_err-arrive.field-0.0
-    (omega (arith, c.loop-place-test.true, c.air_len-end.ensures.len)) l.invariant.goes.1 c.in_err-arrive.ensures.comes)
-
-pub returns-in_err-arrive-clause-continues : goal.returns-in_err-arrive-clause-continues
-returns-in_err-arrive-clause-continues g c = continues_more c.args.world.now c.loop-place.world c.arrive.new.world c.loop-place.invariant.continues c.arrive.ensures.continues
-
-pub loop-place-preserved : goal.loop-place-preserved
-loop-place-preserved g c =
-    let l = c.loop-place in
-    record {
-      goes = (_, go_on l.place l.invariant.goes.0 l.world.state c.in_ok-arrive.field-0 c.arrive.new.world.state l.invariant.goes.1 c.in_ok-arrive.ensures.comes);
-      continues = continues_more c.args.world.now l.world c.arrive.new.world l.invariant.continues c.arrive.ensures.continues;
-    }
+    rw (p.1, p.2) (delivers_halt c.args.places c.ends_of-ends.result c.args.world.now.state c.deliver_both.new.world.state c.in_err-deliver_both.field-0.0 c.ends_of-ends.ensures c.in_err-deliver_both.ensures.comes)
 
 pub returns-clause-behind : goal.returns-clause-behind
-returns-clause-behind g c = omega (arith, c.air_len-end.ensures.len, longer c.args.world.now.state c.loop-place.world.state c.loop-place.invariant.continues.grown)
+returns-clause-behind g c =
+    before_longer c.ends_of-ends.result c.args.world.now.state c.deliver_both.new.world.state c.deliver_both.ensures.continues.grown
+    (subst (λ k. AreBefore k (ends_of c.args.world.now.state.air)) (sym c.ends_of-ends.ensures) (omega arith, omega arith))

@@ -15,7 +15,7 @@ pub returns-in_err-arrive-clause-comes : goal.returns-in_err-arrive-clause-comes
 returns-in_err-arrive-clause-comes g c =
     let l = c.loop-place in
     let p = err_from_is_err_and c.from_residual.result c.from_residual.ensures.1 in
-    rw (p.1, p.2) (halts_at (arrival_asked c.args.among) c.args.first c.args.world.now.state l.place l.count l.world.state c.arrive.new.world.state c.in_err-arrive.field-0.0
+    rw (p.1, p.2) (halts_at (arrival_asked c.args.among c.args.bearer) c.args.bearer c.args.first c.args.world.now.state l.place l.count l.world.state c.arrive.new.world.state c.in_err-arrive.field-0.0
     l.invariant.goes c.in_err-arrive.ensures.comes)
 
 pub returns-in_err-arrive-clause-continues : goal.returns-in_err-arrive-clause-continues
@@ -25,12 +25,12 @@ pub loop-place-preserved : goal.loop-place-preserved
 loop-place-preserved g c =
     let l = c.loop-place in
     let made = c.in_ok-arrive.field-0 in
-    let few = takes_few (arrival_asked c.args.among) l.place l.world.state made c.arrive.new.world.state c.in_ok-arrive.ensures.comes in
+    let few = takes_few c.args.bearer (arrival_asked c.args.among c.args.bearer) l.place l.world.state made c.arrive.new.world.state c.in_ok-arrive.ensures.comes in
     let counted : (if made then l.count + 1 else l.count) ≡ c.if-branch.count =
     elim c.if-branch.branch [ then-branch w ↦ let is : made ≡ true = w.if-branch.true in rw is (sym w.count-is) | else-branch w ↦ let is : made ≡ false = w.if-branch.false in rw is (sym w.count-is) ]
     in
     record {
-      goes = subst (λ k. Goes (arrival_asked c.args.among) c.args.first c.args.world.now.state (l.place + 1) k c.arrive.new.world.state) counted
+      goes = subst (λ k. Goes (arrival_asked c.args.among c.args.bearer) c.args.first c.args.world.now.state (l.place + 1) k c.arrive.new.world.state) counted
           (go_on l.place l.count l.world.state made c.arrive.new.world.state l.invariant.goes c.in_ok-arrive.ensures.comes);
       continues = continues_more c.args.world.now l.world c.arrive.new.world l.invariant.continues c.arrive.ensures.continues;
       fewer = elim c.if-branch.branch [ then-branch w ↦ omega (arith, w.count-is, l.invariant.fewer) | else-branch w ↦ omega (arith, w.count-is, l.invariant.fewer) ];

@@ -1,15 +1,16 @@
 use Rattle.std.proofs.Common.{◌-◌, ◌≤◌, max, length}
+use Rattle.tipc_world.specs.Skies.{air_on}
 use Rattle.tipc_sim.specs.Courses.{Continues, Goes}
 use Rattle.tipc_sim.specs.Meanings.{arrival_asked}
 use Rattle.tipc_sim.proofs.frames.drain.Given as goal
 
 abbrev pub decreases-loop-place : goal.decreases-loop-place
-decreases-loop-place g l = max 100000 (length l.fn.world.state.air) - l.place
+decreases-loop-place g l = max 100000 (length (air_on l.bearer l.fn.world.state.air)) - l.place
 
 abbrev pub invariant-loop-place : goal.invariant-loop-place
 invariant-loop-place g l = record {
-  goes : Goes (arrival_asked l.among) l.first l.fn.world.state l.place l.count l.world.state;
+  goes : Goes (arrival_asked l.among l.bearer) l.first l.fn.world.state l.place l.count l.world.state;
   continues : Continues g.P.Pick.gives l.fn.world l.world;
   fewer : l.count ≤ l.place;
-  few : length l.world.state.air ≤ max 100000 (length l.fn.world.state.air);
+  few : length (air_on l.bearer l.world.state.air) ≤ max 100000 (length (air_on l.bearer l.fn.world.state.air));
 }

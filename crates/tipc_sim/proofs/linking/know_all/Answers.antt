@@ -9,14 +9,14 @@ use Rattle.tipc_sim.proofs.linking.know_all.Goals as goal
 pub loop-peer-init : goal.loop-peer-init
 loop-peer-init g c = record { goes = (0, begin); continues = continues_same c.args.world.now }
 
-pub know-requires : goal.know-requires
-know-requires g c = c.loop-peer.invariant.continues.nodes c.args.node ∙ c.requires
+pub know-requires-clause-there : goal.know-requires-clause-there
+know-requires-clause-there g c = c.loop-peer.invariant.continues.nodes c.args.node ∙ c.requires.there
 
 pub returns-in_err-know-clause-comes : goal.returns-in_err-know-clause-comes
 returns-in_err-know-clause-comes g c =
     let l = c.loop-peer in
     let p = err_from_is_err_and c.from_residual.result c.from_residual.ensures.1 in
-    rw (p.1, p.2) (all_halts (know_asked c.args.notes.now.named c.args.node) 1 33 c.args.world.now.state l.peer l.invariant.goes.0 l.world.state c.know.new.world.state c.in_err-know.field-0.0
+    rw (p.1, p.2) (all_halts (know_asked c.args.notes.now.named c.args.node c.args.bearer) 1 33 c.args.world.now.state l.peer l.invariant.goes.0 l.world.state c.know.new.world.state c.in_err-know.field-0.0
     (omega (arith, c.loop-peer-test.true)) l.invariant.goes.1 c.in_err-know.ensures.comes)
 
 pub returns-in_err-know-clause-continues : goal.returns-in_err-know-clause-continues

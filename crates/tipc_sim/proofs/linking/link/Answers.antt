@@ -14,8 +14,8 @@ returns-in_err-drain-clause-comes g c =
     let now = c.drain.new.world.state in
     let place = c.air_len-place.result in
     let p = err_from_is_err_and c.from_residual-in_err-drain.result c.from_residual-in_err-drain.ensures.1 in
-    rw (p.1, p.2) (links_halt named c.args.first c.args.second place start now c.in_err-drain.field-0.0 c.air_len-place.ensures.len
-    (then_came (Joins named c.args.first c.args.second) (Drains (arrival_asked (Both c.args.first c.args.second)) place) start c.join.new.world.state now _ (Err c.in_err-drain.field-0.0)
+    rw (p.1, p.2) (links_halt named c.args.first c.args.second c.args.bearer place start now c.in_err-drain.field-0.0 c.air_len-place.ensures.len
+    (then_came (Joins named c.args.first c.args.second c.args.bearer) (Drains (arrival_asked (Both c.args.first c.args.second) c.args.bearer) c.args.bearer place) start c.join.new.world.state now _ (Err c.in_err-drain.field-0.0)
     c.in_ok-join.ensures.comes c.in_err-drain.ensures.comes))
 
 pub returns-in_err-drain-clause-continues : goal.returns-in_err-drain-clause-continues

@@ -8,7 +8,7 @@ use Rattle.tipc_sim.proofs.linking.mend.Goals as goal
 
 pub returns-clause-comes : goal.returns-clause-comes
 returns-clause-comes g c =
-    then_came (TakesAll (know_asked c.args.notes.now.named c.args.node) 1 33) (Once (event.Call c.args.node (call.Mend 0))) c.args.world.now.state c.know_all.new.world.state c.make.new.world.state _ c.make.result
+    then_came (TakesAll (know_asked c.args.notes.now.named c.args.node c.args.bearer) 1 33) (Once (event.Call c.args.node (call.Mend c.args.bearer))) c.args.world.now.state c.know_all.new.world.state c.make.new.world.state _ c.make.result
     c.in_ok-know_all.ensures.comes c.make.ensures.comes
 
 pub returns-clause-continues : goal.returns-clause-continues

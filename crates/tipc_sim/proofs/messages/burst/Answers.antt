@@ -20,7 +20,7 @@ pub returns-in_err-came-clause-comes : goal.returns-in_err-came-clause-comes
 returns-in_err-came-clause-comes g c =
     let l = c.loop in
     let p = err_from_is_err_and c.from_residual.result c.from_residual.ensures.1 in
-    rw (p.1, p.2) (turn_halts c.args.times c.args.message.now (event.Call c.args.at.node (call.Receive c.args.at.port)) c.args.first c.args.world.now.state l.counter l.place l.world.state c.turn.new.world.state c.in_err-came.field-0.0
+    rw (p.1, p.2) (turn_halts c.args.times c.args.message.now (event.Call c.args.at.node (call.Receive c.args.at.port)) c.args.first c.args.world.now.state l.counter l.places l.world.state c.turn.new.world.state c.in_err-came.field-0.0
     (omega (arith, c.loop-test.true)) l.invariant.made c.in_err-came.ensures.comes)
 
 pub returns-in_err-came-clause-continues : goal.returns-in_err-came-clause-continues
@@ -36,7 +36,7 @@ loop-preserved g c =
     let receive = event.Call c.args.at.node (call.Receive c.args.at.port) in
     record {
       counted = omega (arith, l.invariant.counted);
-      made = go_on l.counter l.place l.world.state c.in_ok-came.next now l.invariant.made
-          (subst (λ came. Turn c.args.message.now receive l.place l.world.state (Ok (came, c.in_ok-came.next)) now) c.if-not-came.false c.in_ok-came.ensures.comes);
+      made = go_on l.counter l.places l.world.state c.in_ok-came.next now l.invariant.made
+          (subst (λ came. Turn c.args.message.now receive l.places l.world.state (Ok (came, c.in_ok-came.next)) now) c.if-not-came.false c.in_ok-came.ensures.comes);
       continues = continues_more c.args.world.now l.world c.turn.new.world l.invariant.continues c.turn.ensures.continues;
     }

@@ -8,6 +8,6 @@ use Rattle.tipc_sim.proofs.messages.burst.Given as goal
 abbrev pub invariant-loop : goal.invariant-loop
 invariant-loop g l = record {
   counted : l.moved ≡ l.counter;
-  made : Turns l.message (event.Call l.at.node (call.Receive l.at.port)) l.first l.fn.world.state l.counter l.place l.world.state;
+  made : Turns l.message (event.Call l.at.node (call.Receive l.at.port)) l.fn.first l.fn.world.state l.counter l.places l.world.state;
   continues : Continues g.P.Pick.gives l.fn.world l.world;
 }

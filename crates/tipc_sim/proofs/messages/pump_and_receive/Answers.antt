@@ -8,11 +8,11 @@ use Rattle.tipc_sim.proofs.messages.pump_and_receive.Goals as goal
 pub returns-in_err-answer-clause-comes : goal.returns-in_err-answer-clause-comes
 returns-in_err-answer-clause-comes g c =
     let p = err_from_is_err_and c.from_residual-in_err-answer.result c.from_residual-in_err-answer.ensures.1 in
-    rw (p.1, p.2) (last_halts c.args.place (event.Call c.args.at.node (call.Receive c.args.at.port)) c.args.world.now.state c.pump.new.world.state c.receive.new.world.state c.in_ok-pump.field-0 c.in_err-answer.field-0.0
-    c.in_ok-pump.ensures.comes c.in_err-answer.ensures.comes)
+    rw (p.1, p.2) (last_halts c.args.places (event.Call c.args.at.node (call.Receive c.args.at.port)) c.args.world.now.state c.pump_both.new.world.state c.receive.new.world.state c.in_ok-ends.ends c.in_err-answer.field-0.0
+    c.in_ok-ends.ensures.comes c.in_err-answer.ensures.comes)
 
 pub returns-in_err-answer-clause-continues : goal.returns-in_err-answer-clause-continues
-returns-in_err-answer-clause-continues g c = continues_more c.args.world.now c.pump.new.world c.receive.new.world c.pump.ensures.continues c.receive.ensures.continues
+returns-in_err-answer-clause-continues g c = continues_more c.args.world.now c.pump_both.new.world c.receive.new.world c.pump_both.ensures.continues c.receive.ensures.continues
 
 pub returns-clause-continues : goal.returns-clause-continues
-returns-clause-continues g c = continues_more c.args.world.now c.pump.new.world c.receive.new.world c.pump.ensures.continues c.receive.ensures.continues
+returns-clause-continues g c = continues_more c.args.world.now c.pump_both.new.world c.receive.new.world c.pump_both.ensures.continues c.receive.ensures.continues

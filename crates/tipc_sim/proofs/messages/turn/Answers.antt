@@ -7,7 +7,7 @@ use Rattle.tipc_sim.proofs.messages.turn.Goals as goal
 
 pub returns-clause-comes : goal.returns-clause-comes
 returns-clause-comes g c =
-    turn_goes_on c.args.message.now (event.Call c.args.at.node (call.Receive c.args.at.port)) c.args.place c.args.world.now.state c.send.new.world.state c.pump_and_receive.new.world.state c.in_ok-answer.answer c.pump_and_receive.result
+    turn_goes_on c.args.message.now (event.Call c.args.at.node (call.Receive c.args.at.port)) c.args.places c.args.world.now.state c.send.new.world.state c.pump_and_receive.new.world.state c.in_ok-answer.answer c.pump_and_receive.result
     c.in_ok-answer.ensures.comes (sym c.is_sent.ensures ∙ c.if-not-is_sent.false) c.pump_and_receive.ensures.comes
 
 pub returns-clause-continues : goal.returns-clause-continues

@@ -1,11 +1,11 @@
-use Rattle.std.proofs.Common.{◌≤◌, length}
 use Rattle.tipc_sim.specs.Courses.{Continues}
+use Rattle.tipc_sim.specs.Ends.{ends_of, AreBefore}
 use Rattle.tipc_sim.specs.Meanings.{Rounds}
 use Rattle.tipc_sim.proofs.settling.settle.Given as goal
 
 abbrev pub invariant-loop : goal.invariant-loop
 invariant-loop g l = record {
-  made : Rounds l.fn.world.state l.counter l.place l.world.state;
+  made : Rounds l.fn.world.state l.counter l.places l.world.state;
   continues : Continues g.P.Pick.gives l.fn.world l.world;
-  within : l.place ≤ length l.world.state.air;
+  within : AreBefore l.places (ends_of l.world.state.air);
 }

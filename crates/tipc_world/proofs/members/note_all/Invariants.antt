@@ -1,4 +1,4 @@
-use Rattle.std.proofs.Common.{◌≤◌, ◌+◌}
+use Rattle.std.proofs.Common.{◌≤◌, ◌+◌, ◌*◌}
 use Rattle.indexmap.specs.IndexMap.{spare}
 use Rattle.tipc_world.specs.Members.{AreNoted}
 use Rattle.tipc_world.proofs.members.note_all.Given as goal
@@ -6,5 +6,5 @@ use Rattle.tipc_world.proofs.members.note_all.Given as goal
 abbrev pub invariant-loop-peer : goal.invariant-loop-peer
 invariant-loop-peer l = record {
   noted : AreNoted l.fn.counts.entries l.counts.entries l.node l.peer;
-  room : 33 ≤ spare l.counts + l.peer;
+  room : 66 ≤ spare l.counts + 2 * l.peer;
 }

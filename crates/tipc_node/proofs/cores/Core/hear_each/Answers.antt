@@ -6,10 +6,11 @@ use Rattle.tipc_sockets.specs.SocketTables.{SocketTable}
 use Rattle.tipc_node.specs.contracts.cores.Core.{the_view}
 use Rattle.tipc_node.specs.declared.neighbours.Neighbour.{Neighbour}
 use Rattle.tipc_node.specs.Arrivals.{IsDue}
-use Rattle.tipc_node.specs.Nodes.{NodeState, neighbour_of}
+use Rattle.tipc_node.specs.Nodes.{NodeState, end_with, neighbour_of}
 use Rattle.tipc_node.specs.Works.{work_of}
 use Rattle.tipc_node.proofs.Heard.{heard_worked, journal_heard}
 use Rattle.tipc_node.proofs.Restoring.{restored_none}
+use Rattle.tipc_node.proofs.Stops.{end_known}
 use Rattle.tipc_node.proofs.Taking.{same_parts, some_place, worked_same}
 use Rattle.tipc_node.proofs.cores.Core.hear_each.Goals as goal
 
@@ -37,8 +38,8 @@ invariant_of-self-2 c =
     let i = c.self.invariant in
     let d = c.args.due in
     let tables = c.hear_in.ensures.tables in
-    let x = some_place (slice_index_or c.self.inside.neighbours.items d.peer None) (ap (λ (n : NodeState). is_some (neighbour_of n d.peer)) c.self.view_is ∙ c.requires.due.3) in
-    let same = worked_same c.self.inside.own.word c.self.inside.neighbours.items c.self.inside.sockets x.0 d c.args.number c.in-Ok.answer _ _ _ (c.in-Ok.ensures.worked x.0 c.args.number x.1 c.requires.numbered) in (
+    let x = some_place (slice_index_or c.self.inside.neighbours.items d.peer None) (end_known d.bearer _ (ap (λ (n : NodeState). is_some (end_with d.bearer (neighbour_of n d.peer))) c.self.view_is ∙ c.requires.due.4)) in
+    let same = worked_same c.self.inside.own.word c.self.inside.neighbours.items c.self.inside.sockets x.0 d c.args.heard.number c.in-Ok.answer _ _ _ (c.in-Ok.ensures.worked x.0 x.1) in (
       tables.0,
       tables.2,
       i.2,
@@ -50,12 +51,12 @@ pub returns-clause-heard : goal.returns-clause-heard
 returns-clause-heard c = λ bytes due.
     let n = the_view c.self.inside in
     let d = c.args.due in
-    let number = c.args.number in
-    let due_here = subst (λ (k : NodeState). IsDue k bytes d.peer d.first d.second (view d.packet)) (sym c.self.view_is) due in
-    let x = some_place (neighbour_of n d.peer) due_here.there in
+    let number = c.args.heard.number in
+    let due_here = subst (λ (k : NodeState). IsDue k bytes d.bearer d.peer d.first d.second (view d.packet)) (sym c.self.view_is) due in
+    let x = some_place (neighbour_of n d.peer) (end_known d.bearer (neighbour_of n d.peer) due_here.there) in
     let w = work_of c.hear_in.new.neighbours.items c.hear_in.new.sockets c.hear_in.new.draft.inside.items in
     let box = c.in_ok-draft.draft.out in
-    let heard = heard_worked n c.args.by bytes x.0 d number c.in-Ok.answer w box c.hear_in.new.draft.out due_here x.1 (c.in-Ok.ensures.worked x.0 number x.1 c.requires.numbered) in
+    let heard = heard_worked n c.args.by bytes x.0 d number c.in-Ok.answer w box c.hear_in.new.draft.out due_here x.1 (c.in-Ok.ensures.worked x.0 x.1) in
     let left = c.leave.ensures box heard.0 c.in_ok-draft.ensures.frames.0 c.in_ok-draft.ensures.frames.1 heard.2 in
-    journal_heard n c.args.self.now c.args.by bytes number c.in-Ok.answer w c.record.new.journal.entries c.hear_in.new.journal.entries c.args.out.now c.leave.new.out (heard.0, heard.1, left)
+    journal_heard n c.args.self.now c.args.by bytes d.bearer number c.in-Ok.answer w c.record.new.journal.entries c.hear_in.new.journal.entries c.args.out.now c.leave.new.out (heard.0, heard.1, left)
     c.record.ensures c.hear_in.ensures.journal c.self.view_is

@@ -4,7 +4,7 @@ use Rattle.tipc_journal.specs.Dues.{comes_home}
 use Rattle.tipc_node.specs.Calls.{way_refusal}
 use Rattle.tipc_node.specs.Nodes.{NodeState}
 use Rattle.tipc_node.specs.Works.{addr_of_word}
-use Rattle.tipc_node.proofs.Wayfaring.{sent_home, way_refused}
+use Rattle.tipc_node.proofs.Wayfaring.{sent_away, sent_home, way_met, way_refused}
 use Rattle.tipc_node.proofs.cores.Core.send_to.Goals as goal
 
 pub returns-in-Some-clause-sends : goal.returns-in-Some-clause-sends
@@ -19,3 +19,20 @@ returns-then-comes_home-clause-sends c =
     sent_home n c.send_home.new.self c.args.by c.args.note c.args.m c.args.limit c.args.sent c.args.out.now
     (ap (λ (a : Addr). way_refusal n a c.args.limit) (sym c.destination-to.ensures) ∙ sym c.way_refusal.ensures ∙ c.in_default.is)
     (ap (λ (k : NodeState). comes_home (addr_of_word k.own) c.args.m) (sym c.self.view_is) ∙ sym c.comes_home.ensures ∙ c.if-comes_home.true) c.in_ok-send_home.ensures.sent
+
+pub send_away-requires-clause-contact : goal.send_away-requires-clause-contact
+send_away-requires-clause-contact c =
+    let n = c.args.self.now in
+    way_met n c.args.m c.args.limit c.in-Some-number.peer c.requires.payload
+    (ap (λ (k : NodeState). comes_home (addr_of_word k.own) c.args.m) (sym c.self.view_is) ∙ sym c.comes_home.ensures ∙ c.if-comes_home.false)
+    (ap (λ (a : Addr). way_refusal n a c.args.limit) (sym c.destination-to.ensures) ∙ sym c.way_refusal.ensures ∙ c.in_default.is)
+    (ap (λ (a : Addr). a.word) (sym c.destination-to.ensures) ∙ c.in-Some-number.ensures.some.2)
+
+pub returns-clause-sends : goal.returns-clause-sends
+returns-clause-sends c =
+    let n = c.args.self.now in
+    sent_away n c.send_away.new.self c.args.by c.args.note c.args.m c.args.limit c.in-Some-number.peer c.args.sent c.args.out.now c.send_away.new.out
+    (ap (λ (a : Addr). way_refusal n a c.args.limit) (sym c.destination-to.ensures) ∙ sym c.way_refusal.ensures ∙ c.in_default.is)
+    (ap (λ (k : NodeState). comes_home (addr_of_word k.own) c.args.m) (sym c.self.view_is) ∙ sym c.comes_home.ensures ∙ c.if-comes_home.false)
+    (ap (λ (a : Addr). a.word) (sym c.destination-to.ensures) ∙ c.in-Some-number.ensures.some.2)
+    c.in_ok-send_away.ensures.sent

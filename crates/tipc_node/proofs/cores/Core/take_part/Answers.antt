@@ -1,46 +1,62 @@
-use Rattle.std.proofs.Common.{◌∙◌, ap, sym, subst, length, None, sum_by, slice_index_or, ◌≤◌, arith}
+use Rattle.std.proofs.Common.{◌∙◌, ◌++◌, List, None, ap, fold, length, refl, slice_index_or}
 use Rattle.std.specs.List.{list_all}
-use Rattle.tipc_journal.specs.Room.{JournalState, entry_bytes}
+use Rattle.tipc_types.specs.declared.node_calls.Answer.TheVariants as answer
+use Rattle.tipc_types.specs.declared.node_calls.EventNote.{EventNote}
+use Rattle.tipc_outside.proofs.Adding.{adds_more}
+use Rattle.tipc_journal.specs.declared.entries.Entry.{Entry}
+use Rattle.tipc_journal.specs.Room.{JournalState}
+use Rattle.tipc_journal.specs.Steps.{step_entries}
 use Rattle.tipc_ports.specs.Numbers.{PortTable}
 use Rattle.tipc_sockets.specs.SocketTables.{SocketTable}
-use Rattle.tipc_node.specs.Nodes.{is_change}
+use Rattle.tipc_sockets.specs.Telling.{after_entry}
+use Rattle.tipc_node.specs.Calls.{deed_work}
+use Rattle.tipc_node.specs.Nodes.{NodeState, after_all, deed_note, entries_all, frames_all, is_change, mended_by, numbered_all, states_all, step_of, with_mended}
+use Rattle.tipc_node.specs.Works.{concluded}
 use Rattle.tipc_node.proofs.Changes.{all_changes, same_folded}
 use Rattle.tipc_node.proofs.Parts.{all_nobody, all_wide}
-use Rattle.tipc_node.proofs.Sizes.{all_few, all_size}
+use Rattle.tipc_node.proofs.Ticking.{takes_from}
 use Rattle.tipc_node.proofs.cores.Core.take_part.Goals as goal
 
-pub record-requires-clause-few : goal.record-requires-clause-few
-record-requires-clause-few c =
-    let i = c.self.invariant in
-    let few = all_few c.args.deed c.self.inside.neighbours.items i.1 i.0 in
-    subst (λ es. length es ≤ 65534) (sym c.take_part_all.ensures.entries) (omega (arith, few))
-
-pub record-requires-clause-spare : goal.record-requires-clause-spare
-record-requires-clause-spare c =
-    let i = c.self.invariant in
-    let few = all_few c.args.deed c.self.inside.neighbours.items i.1 i.0 in
-    let same = ap length c.take_part_all.ensures.entries in
-    let spare = ap (λ (j : JournalState). j.spare) c.in_ok-reserve.ensures.ok in
-    omega (arith, few, same, spare)
-
-pub record-requires-clause-bytes : goal.record-requires-clause-bytes
-record-requires-clause-bytes c =
-    let none = all_size c.args.deed 0 c.self.inside.neighbours.items in
-    subst (λ es. sum_by entry_bytes es ≤ 4194304) (sym c.take_part_all.ensures.entries) (omega (arith, none))
-
 pub purge_ended-requires : goal.purge_ended-requires
-purge_ended-requires c =
-    ap (list_all is_change) (c.as_slice.ensures.value ∙ c.take_part_all.ensures.entries) ∙ all_changes c.args.deed 0 c.self.inside.neighbours.items
+purge_ended-requires c = ap (list_all is_change) (c.as_slice-3.ensures.value ∙ c.in_ok-after.ensures.entries) ∙ all_changes c.args.deed 0 c.as_slice.result.now
 
 pub invariant_of-self-2 : goal.invariant_of-self-2
 invariant_of-self-2 c =
     let i = c.self.invariant in
-    let old = c.self.inside.neighbours.items in
-    let after = c.take_part_all.ensures.after in
-    let same = same_folded c.self.inside.sockets c.as_slice.result.now in (
-      ap length after ∙ all_wide c.args.deed old ∙ i.0,
-      ap (λ xs. slice_index_or xs 0 None) after ∙ all_nobody c.args.deed old i.1,
+    let old = c.as_slice.result.now in
+    let read = c.as_slice.ensures.value in
+    let after = c.in_ok-after.ensures.after in
+    let same = same_folded c.self.inside.sockets c.as_slice-3.result.now in (
+      ap length after ∙ all_wide c.args.deed old ∙ ap length read ∙ i.0,
+      ap (λ xs. slice_index_or xs 0 None) after ∙ all_nobody c.args.deed old (ap (λ xs. slice_index_or xs 0 None) read ∙ i.1),
       i.2,
       ap (λ (s : SocketTable). s.own) c.purge_ended.ensures ∙ same.own ∙ i.3,
       ap (λ (s : SocketTable). s.ports.boot) c.purge_ended.ensures ∙ ap (λ (p : PortTable). p.boot) same.ports ∙ i.4,
+    )
+
+pub returns-clause-ok : goal.returns-clause-ok
+returns-clause-ok c =
+    let w = c.self.inside in
+    let d = c.args.deed in
+    let n : NodeState = record { own = w.own.word; boot = w.boot; mended = w.mended; neighbours = w.neighbours.items; sockets = w.sockets; journal = w.journal.entries } in
+    let read = c.as_slice.ensures.value in
+    let entries = c.in_ok-after.ensures.entries ∙ ap (entries_all d 0) read in
+    let between = c.purge_ended.ensures ∙ ap (λ (es : List Entry). fold after_entry w.sockets es) (c.as_slice-3.ensures.value ∙ entries) in
+    let told =
+    c.record.ensures
+    ∙ ap (λ (es : List Entry). es ++ step_entries (step_of c.args.by c.deed_note.result c.part_of_all.new.event.inside.items answer.Done)) (ap (λ (j : JournalState). j.entries) c.in_ok-reserve.ensures.ok)
+    ∙ ap (λ (e : EventNote). w.journal.entries ++ step_entries (step_of c.args.by e c.part_of_all.new.event.inside.items answer.Done)) c.deed_note.ensures
+    ∙ ap (λ (es : List Entry). w.journal.entries ++ step_entries (step_of c.args.by (deed_note d) es answer.Done)) entries in
+    let fresh = c.new-event.ensures in
+    let box = c.new-event.result in
+    let first = c.leave.ensures box.states (states_all d c.as_slice.result.now) fresh.states.0 fresh.states.1 c.in_ok-after.ensures.states in
+    let then = c.leave-2.ensures box.numbered (numbered_all d c.as_slice.result.now) fresh.numbered.0 fresh.numbered.1 c.in_ok-after.ensures.numbered in (
+      frames_all d c.as_slice.result.now,
+      (
+        takes_from n c.args.by d c.mended_by-self-inside.result c.in_ok-after.after.items c.purge_ended.new.sockets c.record.new.journal.entries c.mended_by-self-inside.ensures (c.in_ok-after.ensures.after ∙ ap (after_all d) read) between told
+            ∙ ap (λ (m : NodeState). concluded (with_mended m (mended_by d m.mended)) c.args.by (deed_note d) (deed_work d m) answer.Done) c.self.view_is,
+        ap (frames_all d) read ∙ ap (λ (m : NodeState). frames_all d m.neighbours) c.self.view_is,
+        refl,
+      ),
+      adds_more c.args.out.now c.leave.new.out c.leave-2.new.out (states_all d c.as_slice.result.now) (numbered_all d c.as_slice.result.now) first then,
     )

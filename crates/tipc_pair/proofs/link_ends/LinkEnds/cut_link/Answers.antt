@@ -6,7 +6,7 @@ use Rattle.tipc_pair.specs.Facing.{PairEnds, with_near}
 use Rattle.tipc_pair.specs.PairCalls.{cut_at}
 use Rattle.tipc_pair.proofs.EndFacts.{near_changed}
 use Rattle.tipc_pair.proofs.EndSteps.{end_cut, has_changed}
-use Rattle.tipc_pair.proofs.Keeping.{on_cut_falls}
+use Rattle.tipc_pair.proofs.Falls.{on_cut_falls}
 use Rattle.tipc_pair.proofs.Steppings.{course_adds, course_after, cut_is}
 use Rattle.tipc_pair.proofs.link_ends.LinkEnds.cut_link.Goals as goal
 

@@ -8,7 +8,7 @@ use Rattle.tipc_pair.specs.Facing.{PairEnds, with_near}
 use Rattle.tipc_pair.proofs.Arrivings.{reset_does}
 use Rattle.tipc_pair.proofs.EndFacts.{near_changed}
 use Rattle.tipc_pair.proofs.EndSteps.{end_after, fsm_after, has_changed, some_after}
-use Rattle.tipc_pair.proofs.Keeping.{on_reset_falls}
+use Rattle.tipc_pair.proofs.Falls.{on_reset_falls}
 use Rattle.tipc_pair.proofs.link_ends.LinkEnds.give_reset.Goals as goal
 
 pub invariant_of-self-2 : goal.invariant_of-self-2

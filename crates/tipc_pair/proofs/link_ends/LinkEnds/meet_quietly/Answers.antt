@@ -14,8 +14,8 @@ invariant_of-self c =
     quietly_kept _ c.in-Some.link c.commit_apart.new.self q.0 q.1 (view c.args.packet.now) q.2 c.args.arriving c.args.reassembly c.self.invariant
     (subst (λ (v : PairEnds). IsQuiet v q.0 q.1 (view c.args.packet.now) q.2 c.args.arriving) (sym c.self.view_is) q.3) c.in-Some.is c.commit_apart.ensures.after
 
-pub returns : goal.returns
-returns c = λ es er by given quiet opened.
+pub returns-clause-told : goal.returns-clause-told
+returns-clause-told c = λ es er by given quiet opened.
     let x = c.args.self.now in
     let e = c.in-Some.link in
     let p = view c.args.packet.now in
@@ -26,3 +26,6 @@ returns c = λ es er by given quiet opened.
     (subst (λ (l : LeavingState). Adds l.states c.commit_apart.new.states (frames e a.states c.args.shown ++ repeats_at e a.states p)) c.event.view_is c.commit_apart.ensures.states)
     (subst (λ (l : LeavingState). Adds l.numbered c.commit_apart.new.numbered (numbers_at e a.states p a.hearing.by)) c.event.view_is c.commit_apart.ensures.numbered) opened
     (ap (λ (v : PairEnds). record (with_near v c.commit_apart.new.self) { begun = begun }) c.self.view_is)
+
+pub returns-clause-quiet : goal.returns-clause-quiet
+returns-clause-quiet c = ap (λ (l : LeavingState). l.changes) c.event.view_is

@@ -1,6 +1,6 @@
 use Rattle.std.proofs.Common.{◌∙◌, sym, subst, ap}
 use Rattle.tipc_pair.specs.Facing.{PairEnds}
-use Rattle.tipc_pair.specs.Partners.{OpensTo}
+use Rattle.tipc_pair.specs.Messages.{OpensTo}
 use Rattle.tipc_pair.proofs.Facings.{facing_begun}
 use Rattle.tipc_pair.proofs.Quietly.{facing_standing}
 use Rattle.tipc_pair.proofs.link_ends.LinkEnds.prepare_same.Goals as goal

@@ -8,8 +8,8 @@ use Rattle.tipc_pair.proofs.Quietly.{lower_arrives}
 use Rattle.tipc_pair.proofs.Sendings.{adds_alone, told_alone}
 use Rattle.tipc_pair.proofs.link_ends.LinkEnds.take.Goals as goal
 
-pub returns-in-Passes : goal.returns-in-Passes
-returns-in-Passes c = λ es er by given prepared.
+pub returns-in-Passes-clause-told : goal.returns-in-Passes-clause-told
+returns-in-Passes-clause-told c = λ es er by given prepared.
     let x = c.args.self.now in
     let p = view c.args.packet.now in
     let last = c.let_pass.new.self in

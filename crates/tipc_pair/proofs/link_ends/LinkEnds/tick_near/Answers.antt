@@ -8,7 +8,7 @@ use Rattle.tipc_pair.specs.Facing.{PairEnds, with_near}
 use Rattle.tipc_pair.specs.PairCalls.{tick_at}
 use Rattle.tipc_pair.proofs.EndFacts.{near_changed}
 use Rattle.tipc_pair.proofs.EndSteps.{end_after, fsm_after, has_changed, some_after}
-use Rattle.tipc_pair.proofs.Keeping.{on_tick_falls}
+use Rattle.tipc_pair.proofs.Falls.{on_tick_falls}
 use Rattle.tipc_pair.proofs.Steppings.{course_adds, course_after, stepped_adds, stepped_after, ticked_is}
 use Rattle.tipc_pair.proofs.link_ends.LinkEnds.tick_near.Goals as goal
 

@@ -1,7 +1,7 @@
 use Rattle.std.proofs.Common.{◌≡◌, ◌<◌, ◌+◌, ◌++◌, ◌∷◌, ◌∙◌, ℕ, [], None, map, ap, refl, sym, subst}
 use Rattle.std.proofs.lemmas.List.{map-append}
 use Rattle.tipc_sockets.specs.SocketTables.{no_sockets}
-use Rattle.tipc_node.specs.Turns.{link_in}
+use Rattle.tipc_node.specs.Nodes.{neighbour_of}
 use Rattle.tipc_world.specs.Members.{IsFresh, IsRestarted}
 use Rattle.tipc_world.specs.States.{MemberState}
 use Rattle.tipc_world.proofs.Outcomes.{restarted_as}
@@ -24,6 +24,6 @@ returns-clause-ok c =
     let past : map (λ j. j.entries) c.push_reserved.new.self.items ≡ m.past ++ m.node.journal ∷ [] =
     ap (map (λ j. j.entries)) (c.push_reserved.ensures.items ∙ ap (λ js. js ++ c.into_journal.result ∷ []) c.in_ok-reserve.ensures.items) ∙ map-append (λ j. j.entries) w.past.items (c.into_journal.result ∷ [])
     ∙ ap (λ es. m.past ++ es ∷ []) (c.into_journal.ensures ∙ ap (λ n. n.journal) c.replace-last.ensures.value) in
-    let few : (peer : ℕ) → 32 < peer → link_in m.node peer ≡ None = subst (λ (n : MemberState). (peer : ℕ) → 32 < peer → link_in n.node peer ≡ None) (sym c.self.view_is) c.requires.settled.1.known in
+    let few : (peer : ℕ) → 32 < peer → neighbour_of m.node peer ≡ None = subst (λ (n : MemberState). (peer : ℕ) → 32 < peer → neighbour_of n.node peer ≡ None) (sym c.self.view_is) c.requires.settled.1.known in
     let done = restarted_as m c.replace-last.new.dest _ _ c.note_all.new.counts.entries fresh past c.in_ok-reserve-2.ensures.entries c.note_all.ensures few in
     (subst (λ (n : MemberState). IsRestarted n (record { node = c.replace-last.new.dest; past = map (λ j. j.entries) c.push_reserved.new.self.items; calls = 0; arrivals = w.arrivals.items; counts = c.note_all.new.counts.entries })) c.self.view_is done, refl)

@@ -11,5 +11,5 @@ returns-clause-grows g c = joining_grows _ _ c.args.n c.join-joined.result c.req
 pub returns-clause-good : goal.returns-clause-good
 returns-clause-good g c =
     let w = c.self.inside in
-    let now : WorldView _ = record { state = record { members = w.members.items; air = w.air.items; events = w.events; stamps = w.stamps; lost = w.lost }; chooser = w.chooser } in
+    let now : WorldView _ = record { state = record { members = w.members.items; air = w.air; events = w.events; stamps = w.stamps; lost = w.lost }; chooser = w.chooser } in
     subst (IsGood g.P.Pick.gives) c.self.view_is (is_good g.P.Pick.gives now c.self.invariant.0 c.self.invariant.2 c.self.invariant.3 c.self.invariant.4)

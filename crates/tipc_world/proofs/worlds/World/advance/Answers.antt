@@ -1,5 +1,4 @@
-use Rattle.std.proofs.Common.{◌<◌, ◌≤◌, List, length, subst, sym}
-use Rattle.tipc_world.specs.declared.air.Sent.{Sent}
+use Rattle.std.proofs.Common.{subst, sym}
 use Rattle.tipc_world.specs.Answered.{AreOrderly}
 use Rattle.tipc_world.specs.Calls.{CanHappen}
 use Rattle.tipc_world.specs.Limits.{IsAnswered, PassesFrames}
@@ -22,7 +21,7 @@ happen-requires-clause-settled g c = settled_of _ _ _ _ c.self.invariant.0 c.sel
 pub invariant_of-self-then-is_over : goal.invariant_of-self-then-is_over
 invariant_of-self-then-is_over g c =
     let w = c.self.inside in
-    let old : WorldState = record { members = w.members.items; air = w.air.items; events = w.events; stamps = w.stamps; lost = w.lost } in
+    let old : WorldState = record { members = w.members.items; air = w.air; events = w.events; stamps = w.stamps; lost = w.lost } in
     let h = c.in_ok-happened.ensures in
     let counts : Counts old c.args.event c.in_ok-happened.happened.counted c.after-self-inside.result c.after-self-inside-2.result = record {
       counted_is = h.counted;
@@ -43,7 +42,7 @@ invariant_of-self-then-is_over g c =
 pub invariant_of-self-2 : goal.invariant_of-self-2
 invariant_of-self-2 g c =
     let w = c.self.inside in
-    let old : WorldState = record { members = w.members.items; air = w.air.items; events = w.events; stamps = w.stamps; lost = w.lost } in
+    let old : WorldState = record { members = w.members.items; air = w.air; events = w.events; stamps = w.stamps; lost = w.lost } in
     let h = c.in_ok-happened.ensures in
     let counts : Counts old c.args.event c.in_ok-happened.happened.counted c.after-self-inside.result c.after-self-inside-2.result = record {
       counted_is = h.counted;
@@ -64,7 +63,7 @@ invariant_of-self-2 g c =
 pub returns-then-is_over-clause-stops : goal.returns-then-is_over-clause-stops
 returns-then-is_over-clause-stops g c =
     let w = c.self.inside in
-    let old : WorldState = record { members = w.members.items; air = w.air.items; events = w.events; stamps = w.stamps; lost = w.lost } in
+    let old : WorldState = record { members = w.members.items; air = w.air; events = w.events; stamps = w.stamps; lost = w.lost } in
     let h = c.in_ok-happened.ensures in
     let counts : Counts old c.args.event c.in_ok-happened.happened.counted c.after-self-inside.result c.after-self-inside-2.result = record {
       counted_is = h.counted;
@@ -76,13 +75,13 @@ returns-then-is_over-clause-stops g c =
       stamps_are = c.after-self-inside-2.ensures;
     } in
     let over = c.is_over.ensures.over c.if-is_over.true in
-    subst (λ (o : WorldView _). PassesFrames o.state c.args.event (world_with old c.happen.new.members.items c.happen.new.air.items c.after-self-inside.result c.after-self-inside-2.result c.in_ok-happened.happened.lost)) c.self.view_is
-    (passes_of old _ _ _ _ _ _ _ _ h.becomes counts h.free over.0 (subst (λ (air : List Sent). 100000 < length air) c.as_slice.ensures.value over.1))
+    subst (λ (o : WorldView _). PassesFrames o.state c.args.event (world_with old c.happen.new.members.items c.happen.new.air c.after-self-inside.result c.after-self-inside-2.result c.in_ok-happened.happened.lost)) c.self.view_is
+    (passes_of old _ _ _ _ _ _ _ _ h.becomes counts h.free over.0 over.1)
 
 pub returns-clause-answered : goal.returns-clause-answered
 returns-clause-answered g c =
     let w = c.self.inside in
-    let old : WorldState = record { members = w.members.items; air = w.air.items; events = w.events; stamps = w.stamps; lost = w.lost } in
+    let old : WorldState = record { members = w.members.items; air = w.air; events = w.events; stamps = w.stamps; lost = w.lost } in
     let h = c.in_ok-happened.ensures in
     let counts : Counts old c.args.event c.in_ok-happened.happened.counted c.after-self-inside.result c.after-self-inside-2.result = record {
       counted_is = h.counted;
@@ -94,13 +93,13 @@ returns-clause-answered g c =
       stamps_are = c.after-self-inside-2.ensures;
     } in
     let within = c.is_over.ensures.within c.if-is_over.false in
-    subst (λ (o : WorldView _). IsAnswered o.state c.args.event (world_with old c.happen.new.members.items c.happen.new.air.items c.after-self-inside.result c.after-self-inside-2.result c.in_ok-happened.happened.lost) c.in_ok-happened.happened.answer) c.self.view_is
-    (answered_of old _ _ _ _ _ _ _ _ h.becomes counts h.free (λ is. subst (λ (air : List Sent). length air ≤ 100000) c.as_slice.ensures.value (within is)))
+    subst (λ (o : WorldView _). IsAnswered o.state c.args.event (world_with old c.happen.new.members.items c.happen.new.air c.after-self-inside.result c.after-self-inside-2.result c.in_ok-happened.happened.lost) c.in_ok-happened.happened.answer) c.self.view_is
+    (answered_of old _ _ _ _ _ _ _ _ h.becomes counts h.free within)
 
 pub invariant_of-self : goal.invariant_of-self
 invariant_of-self g c =
     let w = c.self.inside in
     let same = c.in_err-happened.ensures.err in
-    subst (λ ms. IsSound ms c.happen.new.air.items × IsSteady ms w.events w.stamps × AreWatched ms c.happen.new.air.items × AreOrderly g.P.Pick.gives ms w.stamps c.happen.new.chooser × AreShared ms) (sym same.0)
+    subst (λ ms. IsSound ms c.happen.new.air × IsSteady ms w.events w.stamps × AreWatched ms c.happen.new.air × AreOrderly g.P.Pick.gives ms w.stamps c.happen.new.chooser × AreShared ms) (sym same.0)
     (subst (λ air. IsSound w.members.items air × IsSteady w.members.items w.events w.stamps × AreWatched w.members.items air × AreOrderly g.P.Pick.gives w.members.items w.stamps c.happen.new.chooser × AreShared w.members.items) (sym same.1)
-    (subst (λ k. IsSound w.members.items w.air.items × IsSteady w.members.items w.events w.stamps × AreWatched w.members.items w.air.items × AreOrderly g.P.Pick.gives w.members.items w.stamps k × AreShared w.members.items) (sym same.2) c.self.invariant))
+    (subst (λ k. IsSound w.members.items w.air × IsSteady w.members.items w.events w.stamps × AreWatched w.members.items w.air × AreOrderly g.P.Pick.gives w.members.items w.stamps k × AreShared w.members.items) (sym same.2) c.self.invariant))

@@ -16,7 +16,7 @@ use Rattle.tipc_world.proofs.worlds.World.join.Goals as goal
 pub invariant_of-self-2 : goal.invariant_of-self-2
 invariant_of-self-2 g c =
     let w = c.self.inside in
-    let old : WorldState = record { members = w.members.items; air = w.air.items; events = w.events; stamps = w.stamps; lost = w.lost } in
+    let old : WorldState = record { members = w.members.items; air = w.air; events = w.events; stamps = w.stamps; lost = w.lost } in
     let joins = c.in_ok-add_at.ensures.joins in
     let absent = absent_at old c.args.n (subst (λ (o : WorldView _). is_there o.state c.args.n ≡ false) (sym c.self.view_is) c.requires.absent) in (
       joined_sound old _ c.args.n c.requires.range absent c.self.invariant.0 (joins_world old _ c.args.n joins),
@@ -29,4 +29,4 @@ invariant_of-self-2 g c =
 pub invariant_of-self : goal.invariant_of-self
 invariant_of-self g c =
     let w = c.self.inside in
-    subst (λ ms. IsSound ms w.air.items × IsSteady ms w.events w.stamps × AreWatched ms w.air.items × AreOrderly g.P.Pick.gives ms w.stamps w.chooser × AreShared ms) (sym {A = List (Option MemberState)} c.in_err-add_at.ensures.err) c.self.invariant
+    subst (λ ms. IsSound ms w.air × IsSteady ms w.events w.stamps × AreWatched ms w.air × AreOrderly g.P.Pick.gives ms w.stamps w.chooser × AreShared ms) (sym {A = List (Option MemberState)} c.in_err-add_at.ensures.err) c.self.invariant

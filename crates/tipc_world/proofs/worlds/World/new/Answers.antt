@@ -15,18 +15,18 @@ use Rattle.tipc_world.proofs.worlds.World.new.Goals as goal
 
 pub invariant_of-result : goal.invariant_of-result
 invariant_of-result g c = (
-  subst (λ ms. IsSound ms c.new-2.result.items) (sym c.new.ensures.items) (subst (IsSound []) (sym c.new-2.ensures.items) start_sound),
+  subst (λ ms. IsSound ms c.new-2.result) (sym c.new.ensures.items) (subst (IsSound []) (sym c.new-2.ensures) start_sound),
   subst (λ ms. IsSteady ms 0 0) (sym c.new.ensures.items) steady_start,
-  subst (λ ms. AreWatched ms c.new-2.result.items) (sym c.new.ensures.items) (subst (AreWatched []) (sym c.new-2.ensures.items) start_watched),
+  subst (λ ms. AreWatched ms c.new-2.result) (sym c.new.ensures.items) (subst (AreWatched []) (sym c.new-2.ensures) start_watched),
   subst (λ ms. AreOrderly g.P.Pick.gives ms 0 c.args.chooser) (sym c.new.ensures.items) (start_orderly g.P.Pick.gives c.args.chooser c.requires.start),
   subst AreShared (sym c.new.ensures.items) start_shared,
 )
 
 pub returns-clause-good : goal.returns-clause-good
 returns-clause-good g c =
-    let made : WorldView _ = record { state = record { members = c.new.result.items; air = c.new-2.result.items; events = 0; stamps = 0; lost = false }; chooser = c.args.chooser } in
+    let made : WorldView _ = record { state = record { members = c.new.result.items; air = c.new-2.result; events = 0; stamps = 0; lost = false }; chooser = c.args.chooser } in
     is_good g.P.Pick.gives made
-    (subst (λ ms. IsSound ms c.new-2.result.items) (sym c.new.ensures.items) (subst (IsSound []) (sym c.new-2.ensures.items) start_sound))
-    (subst (λ ms. AreWatched ms c.new-2.result.items) (sym c.new.ensures.items) (subst (AreWatched []) (sym c.new-2.ensures.items) start_watched))
+    (subst (λ ms. IsSound ms c.new-2.result) (sym c.new.ensures.items) (subst (IsSound []) (sym c.new-2.ensures) start_sound))
+    (subst (λ ms. AreWatched ms c.new-2.result) (sym c.new.ensures.items) (subst (AreWatched []) (sym c.new-2.ensures) start_watched))
     (subst (λ ms. AreOrderly g.P.Pick.gives ms 0 c.args.chooser) (sym c.new.ensures.items) (start_orderly g.P.Pick.gives c.args.chooser c.requires.start))
     (subst AreShared (sym c.new.ensures.items) start_shared)

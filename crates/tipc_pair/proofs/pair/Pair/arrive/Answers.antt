@@ -1,0 +1,38 @@
+use Rattle.std.proofs.Common.{◌∙◌, sym, subst, ap}
+use Rattle.tipc_header.specs.Spelling.{view}
+use Rattle.tipc_pair.specs.Facing.{facing}
+use Rattle.tipc_pair.specs.PairArrivals.{Arrives}
+use Rattle.tipc_pair.specs.PairFacts.{AreHeldRightly}
+use Rattle.tipc_pair.proofs.ArrivalLaws.{GoesFar, arrival_far, arrival_held, facing_far_from, far_facing}
+use Rattle.tipc_pair.proofs.HeldLaws.{held_facing, held_up, rightly_facing}
+use Rattle.tipc_pair.proofs.pair.Pair.arrive.Goals as goal
+
+pub returns-clause-ok : goal.returns-clause-ok
+returns-clause-ok c =
+    let h = c.commit-event.ensures.told c.args.es c.args.er c.args.by c.in_ok-way.outcome c.in_ok-way.ensures in
+    let course = h.0 in (
+      course,
+      subst (λ y. Arrives y c.args.es c.args.er (view c.args.packet.now) c.args.by c.args.shown course c.in_ok-way.outcome) (ap (facing c.args.bearer) c.self.view_is) h.1,
+      h.2 ∙ ap (λ n. facing n course.pair) c.self.invariant,
+      c.leave-changes.ensures.changes ∙ h.3.changes,
+      c.leave-changes.ensures.frames course.states course.numbered h.3.states h.3.numbered,
+    )
+
+pub returns-clause-held : goal.returns-clause-held
+returns-clause-held c = λ held.
+    let h = c.commit-event.ensures.told c.args.es c.args.er c.args.by c.in_ok-way.outcome c.in_ok-way.ensures in
+    let x = c.args.self.now in
+    let y = facing c.args.bearer x in
+    let arrives = subst (λ z. Arrives z c.args.es c.args.er (view c.args.packet.now) c.args.by c.args.shown h.0 c.in_ok-way.outcome) (ap (facing c.args.bearer) c.self.view_is) h.1 in
+    subst AreHeldRightly (sym (h.2 ∙ ap (λ n. facing n h.0.pair) c.self.invariant))
+    (rightly_facing 0 h.0.pair (arrival_held y c.args.es c.args.er (view c.args.packet.now) c.args.by c.args.shown h.0 c.in_ok-way.outcome arrives (held_facing c.args.bearer x (held_up x held))))
+
+pub returns-clause-goes_on : goal.returns-clause-goes_on
+returns-clause-goes_on c = λ was now same.
+    let h = c.commit-event.ensures.told c.args.es c.args.er c.args.by c.in_ok-way.outcome c.in_ok-way.ensures in
+    let x = c.args.self.now in
+    let y = facing c.args.bearer x in
+    let arrives = subst (λ z. Arrives z c.args.es c.args.er (view c.args.packet.now) c.args.by c.args.shown h.0 c.in_ok-way.outcome) (ap (facing c.args.bearer) c.self.view_is) h.1 in
+    let far : GoesFar x c.commit-event.new.self = subst (GoesFar x) (sym (h.2 ∙ ap (λ n. facing n h.0.pair) c.self.invariant))
+    (far_facing 0 x h.0.pair (facing_far_from c.args.bearer x h.0.pair (arrival_far y c.args.es c.args.er (view c.args.packet.now) c.args.by c.args.shown h.0 c.in_ok-way.outcome arrives))) in
+    far.contact same now

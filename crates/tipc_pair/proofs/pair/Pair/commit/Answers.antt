@@ -1,0 +1,36 @@
+use Rattle.std.proofs.Common.{◌∙◌, sym, subst, ap}
+use Rattle.tipc_header.specs.Spelling.{view}
+use Rattle.tipc_pair.specs.Facing.{facing}
+use Rattle.tipc_pair.specs.PairArrivals.{Arrives}
+use Rattle.tipc_pair.specs.PairFacts.{AreHeldRightly}
+use Rattle.tipc_pair.specs.Preparing.{IsPrepared, Prepared}
+use Rattle.tipc_pair.proofs.ArrivalLaws.{GoesFar, arrival_far, arrival_held, facing_far_from, far_facing}
+use Rattle.tipc_pair.proofs.HeldLaws.{held_facing, held_up, rightly_facing}
+use Rattle.tipc_pair.proofs.pair.Pair.commit.Goals as goal
+
+pub returns-clause-held : goal.returns-clause-held
+returns-clause-held c = λ held.
+    let q = c.requires in
+    let a = c.arriving.inside in
+    let x = c.args.self.now in
+    let p = view c.args.packet.now in
+    let told = subst (λ (v : Prepared). IsPrepared (facing v.bearer x) q.0 q.1 p q.2 c.args.shown v.way v.outcome) (sym c.arriving.view_is) q.3.told in
+    let prepared = subst (λ y. IsPrepared (facing a.bearer y) q.0 q.1 p q.2 c.args.shown a.way a.outcome) (sym c.self.view_is) told in
+    let h = c.commit-event.ensures.told q.0 q.1 q.2 a.outcome prepared in
+    let arrives = subst (λ y. Arrives (facing a.bearer y) q.0 q.1 p q.2 c.args.shown h.0 a.outcome) c.self.view_is h.1 in
+    subst AreHeldRightly (sym (h.2 ∙ ap (λ n. facing n h.0.pair) c.self.invariant))
+    (rightly_facing 0 h.0.pair (arrival_held (facing a.bearer x) q.0 q.1 p q.2 c.args.shown h.0 a.outcome arrives (held_facing a.bearer x (held_up x held))))
+
+pub returns-clause-goes_on : goal.returns-clause-goes_on
+returns-clause-goes_on c = λ was now same.
+    let q = c.requires in
+    let a = c.arriving.inside in
+    let x = c.args.self.now in
+    let p = view c.args.packet.now in
+    let told = subst (λ (v : Prepared). IsPrepared (facing v.bearer x) q.0 q.1 p q.2 c.args.shown v.way v.outcome) (sym c.arriving.view_is) q.3.told in
+    let prepared = subst (λ y. IsPrepared (facing a.bearer y) q.0 q.1 p q.2 c.args.shown a.way a.outcome) (sym c.self.view_is) told in
+    let h = c.commit-event.ensures.told q.0 q.1 q.2 a.outcome prepared in
+    let arrives = subst (λ y. Arrives (facing a.bearer y) q.0 q.1 p q.2 c.args.shown h.0 a.outcome) c.self.view_is h.1 in
+    let far : GoesFar x c.commit-event.new.self = subst (GoesFar x) (sym (h.2 ∙ ap (λ n. facing n h.0.pair) c.self.invariant))
+    (far_facing 0 x h.0.pair (facing_far_from a.bearer x h.0.pair (arrival_far (facing a.bearer x) q.0 q.1 p q.2 c.args.shown h.0 a.outcome arrives))) in
+    far.contact same now

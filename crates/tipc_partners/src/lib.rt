@@ -1,4 +1,0 @@
-//! Laws of the two nodes of a pair: whatever either does, and whatever arrives of all that they ever told each other.
-#![tactic(auto)]
-
-pub mod laws;
