@@ -6,7 +6,7 @@ use Rattle.tipc_outside.specs.Frames.{Adds, Out}
 use Rattle.tipc_outside.proofs.Adding.{adds_none}
 use Rattle.tipc_link_fsm.specs.Table.{is_up}
 use Rattle.tipc_link.specs.Sessions.{SessionEnd, answer_frames, answered, gap, is_due, state_fields, state_frame, with_broadcast}
-use Rattle.tipc_link.specs.Links.{LinkEnd, answered_end, answered_frames, answered_with, frames_with, session_answer}
+use Rattle.tipc_link.specs.Links.{LinkEnd, answered_end, answered_with}
 
 -- what is counted doesn't bear on what a STATE says
 pub state_counted : (e : SessionEnd) (taken : ℕ) (asks : Bool) (shown : BroadcastState) (probe : Bool) → state_frame (with_broadcast e taken asks) shown probe ≡ state_frame e shown probe
@@ -30,12 +30,5 @@ quiet_answered : (o : Option SessionEnd) → option_map (λ s. answered (with_br
 quiet_answered None = refl
 quiet_answered (Some s) = ap (λ u. Some (answered u)) (quiet_session s)
 
-quiet_mapped : (o : Option SessionEnd) → option_map (λ s. with_broadcast s 0 false) o ≡ o
-quiet_mapped None = refl
-quiet_mapped (Some s) = ap Some (quiet_session s)
-
 pub quiet_end : (e : LinkEnd) → answered_with e 0 false ≡ answered_end e
 quiet_end e = ap (λ o. if is_up e.fsm.state then record e { session = o } else e) (quiet_answered e.session)
-
-pub quiet_frames : (e : LinkEnd) (shown : BroadcastState) → frames_with e 0 false shown ≡ answered_frames e shown
-quiet_frames e shown = ap (λ o. if is_up e.fsm.state then session_answer o shown else []) (quiet_mapped e.session)

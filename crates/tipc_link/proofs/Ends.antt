@@ -1,13 +1,12 @@
 -- What a call makes of a link end: it stays as it was, takes an epoch, goes up, or goes down.
-use Rattle.std.specs.Prelude.{◌&&◌, ◌||◌, nat_lt}
 use Rattle.std.proofs.Common.{◌∙◌, ◌≡◌, None, Option, Some, ap, false, option_map, refl, subst, sym, true, ℕ}
 use Rattle.std.proofs.lemmas.Bool.{true≢false}
 use Rattle.tipc_types.specs.declared.link_words.Reply.TheVariants as reply
-use Rattle.tipc_link_fsm.specs.Table.{Fsm, Outcome, apart, contact_ended, forget_peer, forgotten, is_held, is_last, is_peer, is_up, on_reset}
+use Rattle.tipc_link_fsm.specs.Table.{Fsm, Outcome, apart, contact_ended, forget_peer, forgotten, is_last, is_up}
 use Rattle.tipc_link_fsm.specs.declared.changes.Change.{Change}
 use Rattle.tipc_link_fsm.specs.declared.changes.Change.TheVariants.{Answer, Up}
 use Rattle.tipc_link_fsm.proofs.Moves.{cases_on}
-use Rattle.tipc_link.specs.Links.{LinkEnd, after, followed, is_down, known, record_in, record_of, session_of, with_fsm}
+use Rattle.tipc_link.specs.Links.{LinkEnd, after, followed, known, record_in, record_of, session_of, with_fsm}
 use Rattle.tipc_link.specs.Records.{Early, kept_for}
 use Rattle.tipc_link.specs.Sessions.{SessionEnd, receiving_record, told}
 use Rattle.tipc_link.proofs.KeptRecords.{session_again}
@@ -183,14 +182,3 @@ ended-is f = cases_on (λ o. o.after ≡ apart f) (is_up f.state) _ _ (λ _. ref
 pub forgotten-is : (f : Fsm) → is_up f.state ≡ false → (forget_peer f).after ≡ forgotten f
 unfolding forget_peer
 forgotten-is f down = cases_on (λ o. o.after ≡ forgotten f) (is_up f.state) _ _ (λ up. absurd (true≢false (sym up ∙ down))) (λ _. refl)
-
--- a RESET leaves a link down that is
-abbrev pub IsDown : Outcome → Type 0
-IsDown o = (is_up o.after.state ≡ false) × (is_down o.change ≡ false)
-
-pub reset_leaves : (f : Fsm) (es : ℕ) → is_up f.state ≡ false → IsDown (on_reset f es false)
-unfolding on_reset
-reset_leaves f es down =
-    cases_on IsDown (is_held f.state) _ _ (λ _. (down, refl))
-    (λ _. cases_on IsDown (nat_lt es f.highest || (is_up f.state && is_peer f.peer es)) _ _ (λ _. (down, refl))
-    (λ _. cases_on IsDown (is_up f.state) _ _ (λ up. absurd (true≢false (sym up ∙ down))) (λ _. (refl, refl))))

@@ -9,13 +9,12 @@ use Rattle.tipc_header.specs.declared.packet.Header.TheVariants as header
 use Rattle.tipc_header.specs.Spelling.{Fields, spelling}
 use Rattle.tipc_header.specs.Grammar.{Fits}
 use Rattle.tipc_header.proofs.RoundTrip.{one_packet, spelling-least}
-use Rattle.tipc_bundle.specs.Bundles.{Carries as Waits, IsInner, bundle_of, joined, may_stand_inside as may_be_bundled}
+use Rattle.tipc_bundle.specs.Bundles.{Carries as Waits, IsInner, bundle_of, may_stand_inside as may_be_bundled}
 use Rattle.tipc_bundle.specs.Splitting.{IsBundle}
 use Rattle.tipc_bundle.proofs.Bundling.{carries_itself, length-bundle, one_or_several}
 use Rattle.tipc_bundle.proofs.InnerLaws.{inner-least}
-use Rattle.tipc_tunnel.specs.Tunnels.{IsInner as MayStandInside, IsTunnel, Tunnelled, may_stand_inside as may_be_tunnelled, tunnel_packet}
-use Rattle.tipc_tunnel.proofs.TunnelLaws.{tunnel_fits}
-use Rattle.tipc_link.specs.Sessions.{SessionEnd, IsPut, IsWaiting, MayChangeOver, MayJoin, inside, joins, last_of, put, tunnel, waits, with_last}
+use Rattle.tipc_tunnel.specs.Tunnels.{IsInner as MayStandInside, may_stand_inside as may_be_tunnelled}
+use Rattle.tipc_link.specs.Sessions.{SessionEnd, IsPut, IsWaiting, MayChangeOver, MayJoin, inside, joins, last_of, put, waits, with_last}
 use Rattle.tipc_link.specs.Hearings.{IsJoined}
 
 -- what waits for others is payload, name items or a bundle
@@ -49,17 +48,6 @@ joins_last e pieces packet last bundle packets alone there carried inner made fi
       };
       joined = made;
     }
-
-pub joins_none : (e : SessionEnd) (pieces : List (List ℕ)) (packet last : List ℕ)
-    → pieces ≡ packet ∷ [] → slice_get e.sending.waiting (length e.sending.waiting - 1) ≡ Some last
-    → ((packets : List (List ℕ)) → Waits last packets → 1452 < length (joined (packets ++ packet ∷ [])))
-    → (packets : List (List ℕ)) (other : List ℕ) → pieces ≡ other ∷ [] → MayJoin e packets other → ⊥
-joins_none e pieces packet last alone there full packets other is may =
-    let same : last_of e ≡ last = get_or_from_slice_get e.sending.waiting (length e.sending.waiting - 1) last [] there in
-    let one : packet ≡ other = cc in
-    let long = full packets (subst (λ q. Waits q packets) same may.last) in
-    let fits = subst (λ q. length (joined (packets ++ q ∷ [])) ≤ 1452) (sym one) may.fits in
-    omega (arith, long, fits)
 
 pub joined_is_put : (e : SessionEnd) (pieces : List (List ℕ)) (bundle : List ℕ) → IsJoined e pieces bundle → IsPut e pieces (with_last e bundle)
 joined_is_put e pieces bundle h =
@@ -139,7 +127,3 @@ pub fragment_waits : (p : Fields) (f : Fragment) → Fits p → p.header ≡ hea
 fragment_waits p f fits is short =
     other_waits p fits (λ b other. let no : header.Fragmenter f ≡ header.Bundler b = sym is ∙ other in absurd cc)
     (inside (record { packet = p; fits = fits; spelled = refl; inside = ap may_be_tunnelled is }) short)
-
--- a tunnel packet
-pub tunnel_waits : (t : Tunnelled) → IsTunnel t → IsWaiting (spelling (tunnel_packet t))
-tunnel_waits t h = other_waits (tunnel_packet t) (tunnel_fits t h) (λ b no. absurd cc) (tunnel t h refl)

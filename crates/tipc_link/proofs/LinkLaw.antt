@@ -8,7 +8,7 @@ use Rattle.std.proofs.Math.Seq.{take-add}
 use Rattle.tipc_types.specs.declared.packet_lists.Kept.{Kept}
 use Rattle.tipc_types.specs.declared.packet_lists.Taken.{Taken}
 use Rattle.tipc_send_window.specs.Sending.{Sending, acknowledged, fresh, kept_of}
-use Rattle.tipc_link.specs.Sessions.{SessionEnd, Unanswered, all_answered, Content, Shows, Carries, Nothing, IsPut, advanced, arrival_moving, arrived, brought, due_with, flushed, gap, is_due, joins, moving, noted, released, repeated, room, spoke, took, waits}
+use Rattle.tipc_link.specs.Sessions.{SessionEnd, Unanswered, all_answered, Content, Shows, Carries, Nothing, IsPut, arrival_moving, arrived, brought, due_with, flushed, gap, is_due, joins, moving, noted, released, repeated, room, spoke, took, waits}
 use Rattle.tipc_link.specs.Direction.{IsDirection, Flight, IsFresh, IsFlight, packet_flight, state_flight}
 use Rattle.tipc_link.specs.Laws.{Side, AreJoined, arrival_flights, flush_flights, kept_flight, packet_flights, taken_from, AnswersStayJoined, ArrivalsStayJoined, BeginJoined, JoinedGivePrefix, PutsStayJoined, StatesStayJoined, TurnJoined}
 use Rattle.tipc_link.proofs.Directions.{arrives, holds_none, moves_up, offers, releases, swaps, repeated_from, slice_get-from_take, Extends-append, Extends-same, IsCarried-kept-later, IsCarried-stays, IsFlight-carried, IsFlight-packet, IsFlight-state, IsFlight-stays, IsReceiver-stays, IsTaken}
@@ -51,10 +51,6 @@ packet_flights-at t n p before (x ∷ qs) zero f e =
 packet_flights-at t n p before (x ∷ qs) (suc k) f e =
     let h = packet_flights-at t n p (before + 1) qs k f e in
     (h.0, h.1, h.2 ∙ ap (λ i. packet_flight t n p i h.0) (omega arith))
-
-flushed-sending : (e : SessionEnd) → (flushed e).sending ≡ advanced (room e.sending) e.sending
-unfolding flushed
-flushed-sending e = refl
 
 -- the frames of the packets that move up
 pub flush_flights-fly : (e : SessionEnd) (peer : Sending) (peer_taken : ℕ) (line peer_line : List (List ℕ)) → IsDirection e.sending peer_taken line → IsDirection peer e.taken peer_line

@@ -11,7 +11,7 @@ use Rattle.tipc_recv_window.specs.Receiving.{Receiving, arrived_at, filled, held
 use Rattle.tipc_recv_window.proofs.ArrivalLaws.{arrives, place_at-wanted}
 use Rattle.tipc_recv_window.proofs.Holding.{filled-other, filled-same, length-filled}
 use Rattle.tipc_link.specs.Records.{standing}
-use Rattle.tipc_link.specs.Sessions.{SessionEnd, due_with, place_of, receiving, released, took, window_with}
+use Rattle.tipc_link.specs.Sessions.{SessionEnd, due_with, place_of, receiving, took, window_with}
 use Rattle.tipc_link.proofs.Standing.{arrived_early, standing_either}
 use Rattle.tipc_link.specs.Parts.{packets_in}
 
@@ -149,8 +149,3 @@ unfolding due_with
 due_none s t wants other =
     let r = receiving s in
     run_none (window_with s t).held (still_none r (standing r t) t wants (first_in_order r (standing r t) wants other))
-
--- what is released makes nothing else of it
-pub due_released : (s : SessionEnd) (acknowledgement : ℕ) (t : Taken) → due_with (released s acknowledgement) t ≡ due_with s t
-unfolding due_with
-due_released s acknowledgement t = refl

@@ -319,9 +319,5 @@ repeats_at e o p = if is_heard p.header o.change then sent_again (after e o).ses
 abbrev pub numbers_at : LinkEnd → Outcome → Fields → ℕ → List Outgoing
 numbers_at e o p by = if is_heard p.header o.change then newly_numbered (after e o).session by p.acknowledgement (content_of p) else []
 
--- the packets that move up at an arrival
-abbrev pub link_moving : LinkEnd → Outcome → Fields → ℕ → List (List ℕ)
-link_moving e o p by = if is_heard p.header o.change then moved_by (after e o).session by p.acknowledgement (content_of p) else []
-
 abbrev pub link_outcome : LinkEnd → Outcome → Fields → ℕ → LinkOutcome
 link_outcome e o p by = if is_heard p.header o.change then heard_outcome (after e o).session by (content_of p) else change_outcome o.change

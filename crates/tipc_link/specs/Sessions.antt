@@ -98,9 +98,6 @@ missing e = if nat_le (e.shown - (e.taken + 1)) 50 then e.shown - (e.taken + 1) 
 unfoldable pub gap : SessionEnd → ℕ
 gap e = if gap_of (receiving e) == 0 then missing e else gap_of (receiving e)
 
-abbrev pub is_of_session : SessionEnd → ℕ → ℕ → Bool
-is_of_session e es er = (es == e.peer_epoch) && (er == e.epoch)
-
 -- what a packet of the session brings: the peer's next number, how many packets it misses, and whether it asks for a STATE; a
 -- packet under a number; or nothing
 pub data Content : Type 0 where

@@ -19,7 +19,7 @@ use tipc_header::{Header, decode};
 use tipc_link_fsm::Change;
 use tipc_outside::Outbox;
 use tipc_recv_window::LinkOutcome;
-use tipc_types::{Bytes, Kept, KeptList, NoMemory, OldSession, Pieces, Taken};
+use tipc_types::{Addr, Bytes, Kept, KeptList, NoMemory, OldSession, Pieces, Taken};
 
 /// What a link that went down had in its lists.
 #[derive(Drop)]
@@ -30,6 +30,8 @@ pub struct HandedOver {
     pub waiting: Pieces,
     /// The session in which the unacknowledged ones were numbered.
     pub old: OldSession,
+    /// The node that sent them.
+    pub own: Addr,
 }
 
 impl Link {
@@ -42,7 +44,7 @@ impl Link {
         requires session { is_some self.old.session ≡ true }
         ensures handed { (s : SessionEnd) → self.old.session ≡ Some s →
             (result.unacked ≡ kept_of s.sending) × (result.waiting ≡ s.sending.waiting)
-            × (result.old.bearer ≡ s.bearer) × (result.old.epoch ≡ s.epoch) }
+            × (result.old.bearer ≡ s.bearer) × (result.old.epoch ≡ s.epoch) × (result.own.word ≡ s.own) }
         ensures after { self.new ≡ handed_over self.old }
         ensures bearer { result.old.bearer ≤ 1 }
         ensures few { length result.unacked ≤ 50 }

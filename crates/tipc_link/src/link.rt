@@ -4,8 +4,8 @@ ghost use Rattle.std.specs.Prelude.{◌≡◌, ℕ, ◌⊎◌, ◌<◌, ◌≤�
 ghost use Rattle.tipc_header.specs.Grammar.{Fits, ResetFits};
 ghost use Rattle.tipc_header.specs.Spelling.{view};
 ghost use Rattle.tipc_outside.specs.Frames.{Adds};
-ghost use Rattle.tipc_link_fsm.specs.Table.{is_up, on_activate, on_cut, on_reset, on_tick, contact_ended, forget_peer};
-ghost use Rattle.tipc_link.specs.Links.{change_outcome, is_down, is_heard, is_reset_unknown, known, numbered_in, outcome_of};
+ghost use Rattle.tipc_link_fsm.specs.Table.{is_up, on_cut, on_reset, on_tick, contact_ended, forget_peer};
+ghost use Rattle.tipc_link.specs.Links.{change_outcome, is_down, is_heard, is_reset_unknown, known, outcome_of};
 ghost use Rattle.tipc_link.specs.Records.{kept_for, unheard};
 ghost use Rattle.tipc_link.specs.Sessions.{SessionEnd, IsPut, IsWaiting, content_of, flush_frames, flushed};
 ghost use Rattle.tipc_link.specs.Hearings.{IsArriving, IsHearing};
@@ -537,29 +537,6 @@ impl Link {
         }
     }
 
-    /// Takes an ACTIVATE under an envelope of these two epochs: as [`Link::prepare`] and [`Link::commit`], but for
-    /// want of memory, since it needs none but for its frame.
-    pub fn activate(
-        &mut self,
-        alloc: Global,
-        es: u64,
-        er: u64,
-        shown: BroadcastState,
-        out: &mut Outbox,
-    ) -> LinkArrival
-        ensures change { result.change ≡ (on_activate self.old.fsm es er).change }
-        ensures outcome { result.outcome ≡ change_outcome (on_activate self.old.fsm es er).change }
-        ensures after { self.new ≡ after self.old (on_activate self.old.fsm es er) }
-        ensures frames { Adds out.old out.new (frames self.old (on_activate self.old.fsm es er) shown) }
-    {
-        let change = self.fsm.on_activate(es, er);
-        self.follow(alloc, change, shown, out);
-        LinkArrival {
-            change,
-            outcome: change_outcome(alloc, change),
-        }
-    }
-
     /// Sends the STATE that is due where the last arrival asks for one, or once 16 packets or 16 broadcast packets were taken since the
     /// last frame on this link. Nothing is sent where the link isn't up.
     ///
@@ -603,17 +580,6 @@ impl Link {
     {
         match &self.session {
             Some(session) => Some(session.load()),
-            None => None,
-        }
-    }
-
-    /// How many packets were numbered in the present session, or the last one, where this is the end's own epoch in it. None
-    /// exactly where it isn't.
-    pub fn numbered_in(&self, epoch: u64) -> Option<u64>
-        ensures { result ≡ numbered_in self.now.session epoch }
-    {
-        match &self.session {
-            Some(session) => session.numbered_in(epoch),
             None => None,
         }
     }

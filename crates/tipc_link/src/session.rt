@@ -174,17 +174,6 @@ impl Session {
         }
     }
 
-    /// How many packets were numbered, where this is the end's own epoch. None exactly where it isn't.
-    pub fn numbered_in(&self, epoch: u64) -> Option<u64>
-        ensures { result ≡ (if self.now.epoch == epoch then Some self.now.sending.numbered else None) }
-    {
-        if self.epoch == epoch {
-            Some(self.window.numbered())
-        } else {
-            None
-        }
-    }
-
     /// The numbers of unacknowledged and of waiting packets.
     pub fn load(&self) -> (u32, u32)
         ensures unacked { result.0 ≡ length self.now.sending.unacked }
@@ -531,7 +520,7 @@ impl Session {
     pub fn hand_over(&mut self) -> HandedOver
         ensures unacked { result.unacked ≡ kept_of self.old.sending }
         ensures waiting { result.waiting ≡ self.old.sending.waiting }
-        ensures session { (result.old.bearer ≡ self.old.bearer) × (result.old.epoch ≡ self.old.epoch) }
+        ensures session { (result.old.bearer ≡ self.old.bearer) × (result.old.epoch ≡ self.old.epoch) × (result.own.word ≡ self.old.own) }
         ensures after { self.new ≡ given_up self.old }
         ensures bearer { result.old.bearer ≤ 1 }
         ensures few { length result.unacked ≤ 50 }
@@ -547,6 +536,7 @@ impl Session {
                 bearer: self.bearer,
                 epoch: self.epoch,
             },
+            own: self.own,
         }
     }
 

@@ -19,14 +19,14 @@ use Rattle.tipc_link.specs.Links.{LinkEnd, arrival_end, is_down, named_end, outc
 use Rattle.tipc_pair.specs.declared.changes.PairOutcome.{PairOutcome}
 use Rattle.tipc_pair.specs.Changeovers.{contact_ends, following, forgetting, forgotten, released, risen}
 use Rattle.tipc_pair.specs.Courses.{Course, going_on, rests}
-use Rattle.tipc_pair.specs.Facing.{PairEnds, facing, in_contact, is_up_at, turned, with_far}
+use Rattle.tipc_pair.specs.Facing.{PairEnds, facing, in_contact, is_held_at, is_up_at, turned, with_far}
 use Rattle.tipc_pair.specs.PairArrivals.{Arrives, Heard, OpensInto, Unwraps, activates, activate_higher, as_it_is, behind, by_number, deferred, hears, ignored, inner_at, inner_taken, inside_of, linked, met_at, met_near, none_taken, opens, passing, reset_change, reset_given, reset_near, taken_down, tunnel, tunnelled_at}
 use Rattle.tipc_pair.specs.PairFacts.{AreHeldRightly}
 use Rattle.tipc_pair.proofs.CourseLaws.{then_pair}
 use Rattle.tipc_pair.proofs.EndSteps.{fsm_arrived, tunnel_quiet}
 use Rattle.tipc_link.proofs.Ends.{forgotten-is}
 use Rattle.tipc_pair.proofs.Followings.{far_down, near_down}
-use Rattle.tipc_pair.proofs.HeldLaws.{GoesOn, GoesQuietly, HeldUp, Shape, held_turned, is_held_at, near_goes, near_quietly, or_turns, outcome_holds, parted_held, quietly_same, quietly_then, quietly_turned, released_goes, released_held, reset_holds, reset_quiet, shape_contact, shape_held, stepped_goes, tunnel_holds}
+use Rattle.tipc_pair.proofs.HeldLaws.{GoesOn, GoesQuietly, HeldUp, Shape, held_turned, near_goes, near_quietly, or_turns, outcome_holds, parted_held, quietly_same, quietly_then, quietly_turned, released_goes, released_held, reset_holds, reset_quiet, shape_contact, shape_held, stepped_goes, tunnel_holds}
 
 -- While the peer shows no higher number, a contact that is there then is the one of before.
 pub record GoesFar (x y : PairEnds) : Type 0 where

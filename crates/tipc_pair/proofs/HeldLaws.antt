@@ -16,7 +16,7 @@ use Rattle.tipc_link.specs.Links.{LinkEnd, after, cut_end, is_down, outcome_of, 
 use Rattle.tipc_link.specs.Sessions.{SessionEnd}
 use Rattle.tipc_pair.specs.Changeovers.{contact_begins, contact_ends, fail_over, fail_over_to, failing, following, gone_down, gone_up, is_clear, let_go, let_go_frames, parted, parted_end, release_near, released, switch, switch_from, switching}
 use Rattle.tipc_pair.specs.Courses.{Course, going_on, rests}
-use Rattle.tipc_pair.specs.Facing.{PairEnds, facing, in_contact, is_up_at, turned, with_near}
+use Rattle.tipc_pair.specs.Facing.{PairEnds, facing, in_contact, is_held_at, is_up_at, turned, with_near}
 use Rattle.tipc_pair.specs.PairCalls.{at_bearer, cut_at, cut_near, stepped, tick_at, tick_near, ticked}
 use Rattle.tipc_pair.specs.PairFacts.{AreHeldRightly, HasCarrier}
 use Rattle.tipc_pair.proofs.CourseLaws.{then_pair}
@@ -119,10 +119,6 @@ unfolding on_tick
 tick_quiet f held = tick_in_quiet f.state f held
 
 -- ---- a pair
-
-abbrev pub is_held_at : Option LinkEnd → Bool
-is_held_at None = false
-is_held_at (Some e) = is_held e.fsm.state
 
 -- an end is held only where the other link is up
 pub record HeldUp (x : PairEnds) : Type 0 where

@@ -2,6 +2,7 @@ pub mod Falls
 pub mod Pieces
 pub mod Listed
 pub mod Restoring
+pub mod Shown
 pub mod EndFacts
 pub mod Sendings
 pub mod CourseLaws
@@ -9,6 +10,7 @@ pub mod Putting
 pub mod SessionFacts
 pub mod EndSteps
 pub mod Facings
+pub mod Unheld
 pub mod Followings
 pub mod Steppings
 pub mod RunFacts

@@ -1,5 +1,5 @@
 -- Packets that stand in the lists of a link: which of them are tunnel packets.
-use Rattle.std.proofs.Common.{◌≡◌, ◌≤◌, ℕ, Bool, inr, true, false, List, [], ◌∷◌, length, refl, sym, subst, ap, arith, is_none, ◌&&◌, ◌∙◌, ◌++◌, not, map, ◌<◌, get_or}
+use Rattle.std.proofs.Common.{◌≡◌, ◌≤◌, ℕ, Bool, true, false, List, [], ◌∷◌, length, refl, sym, subst, ap, arith, is_none, ◌&&◌, ◌∙◌, ◌++◌, not, map, ◌<◌, get_or}
 use Rattle.std.specs.Prelude.{All, filter, nat_lt}
 use Rattle.tipc_types.specs.declared.packet_lists.Taken.{Taken}
 use Rattle.tipc_pair.specs.PairArrivals.{with_bytes}
@@ -9,7 +9,7 @@ use Rattle.tipc_header.specs.Spelling.{Fields, spelling}
 use Rattle.tipc_header.specs.Grammar.{Fits}
 use Rattle.tipc_header.proofs.Again.{again, no_fault}
 use Rattle.tipc_link.specs.Records.{is_changeover, is_tunnel}
-use Rattle.tipc_tunnel.specs.Tunnels.{IsTunnel, MayBeWrapped, Tunnelled, tunnel_packet}
+use Rattle.tipc_tunnel.specs.Tunnels.{IsInner, IsTunnel, Tunnelled, tunnel_packet}
 use Rattle.tipc_tunnel.proofs.TunnelLaws.{tunnel_fits}
 use Rattle.tipc_types.specs.declared.link_words.OldSession.{OldSession}
 use Rattle.tipc_types.specs.declared.packet_lists.Kept.{Kept}
@@ -33,28 +33,28 @@ both_ways true h k = grind arith
 both_ways false h k = grind arith
 
 -- a packet that is no tunnel packet may stand in one
-pub listed_inner : (packet : List ℕ) → IsListed packet → is_tunnel packet ≡ false → MayBeWrapped packet
-listed_inner packet (plain waits inner size) other = inr inner
+pub listed_inner : (packet : List ℕ) → IsListed packet → is_tunnel packet ≡ false → IsInner packet
+listed_inner packet (plain waits inner size) other = inner
 listed_inner packet (tunnel made) other = both_ways (is_tunnel packet) (packet_tunnel packet made) other
 
 pub listed_size : (packet : List ℕ) → IsListed packet → is_tunnel packet ≡ false → length packet ≤ 1452
 listed_size packet (plain waits inner size) other = size
 listed_size packet (tunnel made) other = both_ways (is_tunnel packet) (packet_tunnel packet made) other
 
-pub run_of_none : (kind : ChangeoverType) (old : OldSession) (kept : List Kept) → length kept ≡ 0 → run_of kind old kept ≡ marker kind old ∷ []
+pub run_of_none : (kind : ChangeoverType) (old : OldSession) (own : ℕ) (kept : List Kept) → length kept ≡ 0 → run_of kind old own kept ≡ marker kind old ∷ []
 unfolding run_of
-run_of_none kind old [] none = refl
-run_of_none kind old (first ∷ others) none = grind arith
+run_of_none kind old own [] none = refl
+run_of_none kind old own (first ∷ others) none = grind arith
 
 -- the packets of a list that are no tunnel packets
 pub plain_append : (xs ys : List (List ℕ)) → filter (λ packet. not (is_tunnel packet)) (xs ++ ys)
     ≡ filter (λ packet. not (is_tunnel packet)) xs ++ filter (λ packet. not (is_tunnel packet)) ys
 plain_append xs ys = filter-append (λ packet. not (is_tunnel packet)) xs ys
 
-pub run_of_some : (kind : ChangeoverType) (old : OldSession) (kept : List Kept) → 0 < length kept → run_of kind old kept ≡ map (wrapped kind old (length kept)) kept
+pub run_of_some : (kind : ChangeoverType) (old : OldSession) (own : ℕ) (kept : List Kept) → 0 < length kept → run_of kind old own kept ≡ map (wrapped kind old own (length kept)) kept
 unfolding run_of
-run_of_some kind old [] some = grind arith
-run_of_some kind old (first ∷ others) some = refl
+run_of_some kind old own [] some = grind arith
+run_of_some kind old own (first ∷ others) some = refl
 
 -- the packet at a place of a list
 pub listed_at : (kept : List Kept) (i : ℕ) (k : Kept) → All (λ (q : Kept). IsListed q.packet) kept → i < length kept → k ≡ get_or kept i k → IsListed k.packet

@@ -46,10 +46,10 @@ pub kept_length : (before : ℕ) (packets : List (List ℕ)) → length (kept_af
 kept_length before [] = refl
 kept_length before (p ∷ ps) = ap suc (kept_length (before + 1) ps)
 
-pub run_some : (kind : ChangeoverType) (old : OldSession) (kept : List Kept) → 0 < length (run_of kind old kept)
+pub run_some : (kind : ChangeoverType) (old : OldSession) (own : ℕ) (kept : List Kept) → 0 < length (run_of kind old own kept)
 unfolding run_of
-run_some kind old [] = omega arith
-run_some kind old (first ∷ others) = omega arith
+run_some kind old own [] = omega arith
+run_some kind old own (first ∷ others) = omega arith
 
 pub begins_with_tunnel : (run others : List (List ℕ)) → All IsTunnelPacket run → 0 < length run → BeginsWithTunnel (run ++ others)
 begins_with_tunnel [] others h some = absurd (omega arith)

@@ -3,7 +3,7 @@
 use Rattle.std.specs.Prelude.{ℕ, Bool, false, ◌||◌, ◌-◌, ◌==◌, List, [], ◌∷◌, ◌++◌, Option, Some, None, option_map, if◌then◌else◌}
 use Rattle.tipc_types.specs.declared.link_words.LinkState.{LinkState}
 use Rattle.tipc_fragments.specs.Joining.{Joining, fresh}
-use Rattle.tipc_link_fsm.specs.Table.{is_up}
+use Rattle.tipc_link_fsm.specs.Table.{is_held, is_up}
 use Rattle.tipc_contact.specs.Sides.{first_number}
 use Rattle.tipc_link.specs.Links.{LinkEnd, made}
 
@@ -60,6 +60,10 @@ with_far x e = record x { far = Some e }
 abbrev pub is_up_at : Option LinkEnd → Bool
 is_up_at None = false
 is_up_at (Some e) = is_up e.fsm.state
+
+abbrev pub is_held_at : Option LinkEnd → Bool
+is_held_at None = false
+is_held_at (Some e) = is_held e.fsm.state
 
 -- the node is in contact with the peer while a link is up
 abbrev pub in_contact : PairEnds → Bool

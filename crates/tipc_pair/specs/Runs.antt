@@ -4,29 +4,47 @@ use Rattle.tipc_types.specs.declared.link_words.OldSession.{OldSession}
 use Rattle.tipc_types.specs.declared.packet_lists.Kept.{Kept}
 use Rattle.tipc_header.specs.declared.packet.ChangeoverType.{ChangeoverType}
 use Rattle.tipc_header.specs.declared.packet.ChangeoverType.TheVariants.{Duplicate, Original}
-use Rattle.tipc_header.specs.Spelling.{spelling}
+use Rattle.tipc_header.specs.declared.packet.Header.{Header}
+use Rattle.tipc_header.specs.declared.packet.Header.TheVariants as header
+use Rattle.tipc_header.specs.Frames.{sent_as}
+use Rattle.tipc_header.specs.Reading.{fields_at}
+use Rattle.tipc_header.specs.Spelling.{Fields, spelling}
 use Rattle.tipc_tunnel.specs.Tunnels.{IsInner, IsTunnel, Tunnelled, numbered, tunnel_packet}
 use Rattle.tipc_send_window.specs.Sending.{kept_of}
 use Rattle.tipc_link.specs.Records.{is_tunnel}
 use Rattle.tipc_link.specs.Sessions.{IsWaiting, SessionEnd}
 
--- The packet inside a tunnel packet is under its own number. A tunnel packet isn't wrapped again: a placeholder, which carries
--- nothing, stands for it.
-abbrev pub inner_of : Kept → List ℕ
-inner_of k = if is_tunnel k.packet then [] else numbered k.number k.packet
+-- the previous node that a packet shows once this node sent it: a bundle or a fragment names its node only then
+abbrev pub previous_sent : ℕ → Header → ℕ → ℕ
+previous_sent own (header.Bundler bundle) previous = own
+previous_sent own (header.Fragmenter fragment) previous = own
+previous_sent own _ previous = previous
 
--- the tunnel packet of an unacknowledged packet, in a run of so many
-abbrev pub wrapped : ChangeoverType → OldSession → ℕ → Kept → List ℕ
-wrapped kind old count k = spelling (tunnel_packet (record { kind = kind; old = old; count = count; number = k.number; inner = inner_of k }))
+abbrev pub as_sent : ℕ → Fields → Fields
+as_sent own p = sent_as p.acknowledgement p.sequence (previous_sent own p.header p.previous) p
+
+-- a packet that shows its sender
+unfoldable pub shown_by : ℕ → List ℕ → List ℕ
+shown_by own packet = spelling (as_sent own (fields_at packet))
+
+-- The packet inside a tunnel packet is under its own number, and shows its sender. A tunnel packet isn't wrapped again: a
+-- placeholder, which carries nothing, stands for it.
+abbrev pub inner_of : ℕ → Kept → List ℕ
+inner_of own k = if is_tunnel k.packet then [] else numbered k.number (shown_by own k.packet)
+
+-- the tunnel packet of an unacknowledged packet of this node, in a run of so many
+abbrev pub wrapped : ChangeoverType → OldSession → ℕ → ℕ → Kept → List ℕ
+wrapped kind old own count k =
+    spelling (tunnel_packet (record { kind = kind; old = old; count = count; number = k.number; inner = inner_of own k }))
 
 -- a run of none is one tunnel packet, which carries nothing
 abbrev pub marker : ChangeoverType → OldSession → List ℕ
 marker kind old = spelling (tunnel_packet (record { kind = kind; old = old; count = 0; number = 0; inner = [] }))
 
--- the run of a session's unacknowledged packets, in order
-unfoldable pub run_of : ChangeoverType → OldSession → List Kept → List (List ℕ)
-run_of kind old [] = marker kind old ∷ []
-run_of kind old (first ∷ others) = map (wrapped kind old (length (first ∷ others))) (first ∷ others)
+-- the run of a session's unacknowledged packets, in order, which this node sent
+unfoldable pub run_of : ChangeoverType → OldSession → ℕ → List Kept → List (List ℕ)
+run_of kind old own [] = marker kind old ∷ []
+run_of kind old own (first ∷ others) = map (wrapped kind old own (length (first ∷ others))) (first ∷ others)
 
 -- the session in which they have their numbers
 abbrev pub old_of : SessionEnd → OldSession
@@ -35,12 +53,12 @@ old_of s = record { bearer = s.bearer; epoch = s.epoch }
 -- What a link that went down leaves to the other link: originals of its unacknowledged packets, and behind them the packets that
 -- waited, as they are. Waiting tunnel packets are dropped, since the other link has their originals.
 abbrev pub left_by : SessionEnd → List (List ℕ)
-left_by s = run_of Original (old_of s) (kept_of s.sending) ++ filter (λ packet. not (is_tunnel packet)) s.sending.waiting
+left_by s = run_of Original (old_of s) s.own (kept_of s.sending) ++ filter (λ packet. not (is_tunnel packet)) s.sending.waiting
 
 -- What a link that takes the traffic over gets of the other one, which keeps its originals: duplicates of its unacknowledged packets, and
 -- behind them the packets that waited.
 abbrev pub taken_over : SessionEnd → List (List ℕ)
-taken_over s = run_of Duplicate (old_of s) (kept_of s.sending) ++ s.sending.waiting
+taken_over s = run_of Duplicate (old_of s) s.own (kept_of s.sending) ++ s.sending.waiting
 
 -- what begins so doesn't join the last packet that waits
 abbrev pub BeginsWithTunnel : List (List ℕ) → Type 0

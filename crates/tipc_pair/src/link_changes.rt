@@ -13,7 +13,7 @@ ghost use Rattle.tipc_pair.specs.Runs.{left_by, taken_over, BeginsWithTunnel, Is
 ghost use Rattle.tipc_send_window.specs.Sending.{kept_of};
 
 use crate::leaving::Leaving;
-use crate::link_ends::{LinkEnds, is_up, state_of};
+use crate::link_ends::{LinkEnds, is_held, is_up, state_of};
 use crate::runs::{add_all, add_plain, run_of};
 use crate::transitions::Transition;
 use std::alloc::Global;
@@ -279,6 +279,10 @@ impl LinkEnds {
         ensures adds { AddsCourse event.old event.new (released self.old) }
         ensures quiet { event.new.changes ≡ event.old.changes }
     {
+        // Each call ends here, and hardly ever is an end held: only then are the packets looked at.
+        if !is_held(&self.near) && !is_held(&self.far) {
+            return;
+        }
         self.release_near(alloc, event);
         self.turn();
         self.release_near(alloc, event);
@@ -404,6 +408,7 @@ fn left_by(alloc: Global, link: &mut Link) -> Result<Pieces, NoMemory>
         alloc,
         TunnelKind::Original,
         left.old,
+        left.own.word,
         left.unacked.as_slice(),
     )?;
     add_plain(&mut pieces, left.waiting)?;
@@ -427,6 +432,7 @@ fn taken_over(alloc: Global, link: &mut Link) -> Result<Pieces, NoMemory>
         alloc,
         TunnelKind::Duplicate,
         kept.old,
+        kept.own.word,
         kept.unacked.as_slice(),
     )?;
     add_all(&mut pieces, waiting)?;
@@ -439,7 +445,7 @@ fn kept_of(link: &Link) -> Result<HandedOver, NoMemory>
     requires up { is_up link.now.fsm.state ≡ true }
     requires session { is_some link.now.session ≡ true }
     ensures { (s : SessionEnd) → link.now.session ≡ Some s →
-        IfOk result (λ h. (h.unacked ≡ kept_of s.sending) × (h.old.bearer ≡ s.bearer) × (h.old.epoch ≡ s.epoch)) }
+        IfOk result (λ h. (h.unacked ≡ kept_of s.sending) × (h.old.bearer ≡ s.bearer) × (h.old.epoch ≡ s.epoch) × (h.own.word ≡ s.own)) }
 {
     let mut copy = link.copy()?;
     copy.cut(true);

@@ -5,7 +5,7 @@ ghost use Rattle.tipc_outside.specs.declared.outgoing.Outgoing.{Outgoing};
 ghost use Rattle.std.specs.Prelude.{All, ℕ, List, ◌<◌, Err, ◌≡◌, ◌≤◌, ◌||◌, ◌==◌, [], ◌++◌, true, false, if◌then◌else◌, nat_lt, Some, None, length, IfOk, IfNone, IfSome, OnErr, OnOk};
 ghost use Rattle.tipc_outside.specs.Frames.{Adds};
 ghost use Rattle.tipc_link.specs.Links.{LinkEnd};
-ghost use Rattle.tipc_pair.specs.Facing.{is_up_at, state_of};
+ghost use Rattle.tipc_pair.specs.Facing.{is_held_at, is_up_at, state_of};
 ghost use Rattle.tipc_pair.specs.PairCalls.{last_count_of, load_of, numbered_of};
 ghost use Rattle.tipc_link.specs.Sessions.{SessionEnd};
 ghost use Rattle.tipc_link_fsm.specs.Table.{is_last};
@@ -356,6 +356,16 @@ pub(crate) fn is_up(link: &Option<Link>) -> bool
 {
     match link {
         Some(link) => link.is_up(),
+        None => false,
+    }
+}
+
+/// Whether there is an end, and it is held.
+pub(crate) fn is_held(link: &Option<Link>) -> bool
+    ensures { result ≡ is_held_at link.now }
+{
+    match link {
+        Some(link) => matches!(link.state(), LinkState::Held),
         None => false,
     }
 }

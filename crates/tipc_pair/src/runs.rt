@@ -4,11 +4,11 @@ ghost use Rattle.std.specs.Prelude.{◌≡◌, ◌≤◌, ◌<◌, ◌^◌, ◌+
 ghost use Rattle.tipc_types.specs.declared.packet_lists.Kept.{Kept};
 ghost use Rattle.tipc_link.specs.Records.{is_tunnel};
 ghost use Rattle.tipc_header.specs.Spelling.{spelling};
-ghost use Rattle.tipc_tunnel.specs.Tunnels.{numbered, tunnel_packet, IsRun, MayBeWrapped};
-ghost use Rattle.tipc_pair.specs.Runs.{run_of, wrapped, IsListed, IsTunnelPacket};
+ghost use Rattle.tipc_tunnel.specs.Tunnels.{numbered, tunnel_packet, IsInner, IsRun, MayBeWrapped};
+ghost use Rattle.tipc_pair.specs.Runs.{previous_sent, run_of, shown_by, wrapped, IsListed, IsTunnelPacket};
 
-use std::alloc::Global;
-use tipc_header::{Header, decode};
+use std::alloc::{AllocError, Global};
+use tipc_header::{Header, Packet, decode, encode};
 use tipc_tunnel::{TunnelKind, wrap};
 use tipc_types::{Bytes, Kept, NoMemory, OldSession, Pieces};
 
@@ -21,6 +21,43 @@ pub(crate) fn is_tunnel(packet: &[u8]) -> bool
         Ok(packet) => matches!(packet.header, Header::Changeover(_)),
         Err(_) => false,
     }
+}
+
+/// The previous node that a packet shows once this node sent it: a bundle or a fragment names its node only then.
+fn previous_sent(own: u32, packet: &Packet<'_>) -> u32
+    ensures { result ≡ previous_sent own packet.now.header packet.now.previous }
+{
+    match packet.header {
+        Header::Bundler(_) => own,
+        Header::Fragmenter(_) => own,
+        Header::Payload(_) => packet.previous,
+        Header::State(_) => packet.previous,
+        Header::Reset(_) => packet.previous,
+        Header::Activate(_) => packet.previous,
+        Header::Changeover(_) => packet.previous,
+        Header::NameDistributor(_) => packet.previous,
+        Header::Discovery(_) => packet.previous,
+    }
+}
+
+/// A packet of this node as it was sent: it shows its sender.
+fn shown_by(alloc: Global, own: u32, packet: &[u8]) -> Result<Vec<u8>, AllocError>
+    requires { IsInner packet.now }
+    ensures { IfOk result (λ bytes. bytes.items ≡ shown_by own packet.now) }
+{
+    let mut bytes = Vec::new(alloc);
+    let Ok(packet) = decode(packet) else {
+        unreachable!()
+    };
+    let sent = Packet {
+        acknowledgement: packet.acknowledgement,
+        sequence: packet.sequence,
+        previous: previous_sent(own, &packet),
+        header: packet.header,
+        rest: packet.rest,
+    };
+    encode(&sent, &mut bytes)?;
+    Ok(bytes)
 }
 
 /// A tunnel packet in which the packet of this number stands, or nothing.
@@ -56,8 +93,8 @@ fn tunnel_of(
     )
 }
 
-/// The run of a session's unacknowledged packets: for each in order a tunnel packet, and for a tunnel packet a placeholder. A run of
-/// none is one tunnel packet, which carries nothing. (This project's profile.)
+/// The run of a session's unacknowledged packets, which this node sent: for each in order a tunnel packet, and for a tunnel packet a
+/// placeholder. A run of none is one tunnel packet, which carries nothing. (This project's profile.)
 ///
 /// # Errors
 ///
@@ -67,12 +104,13 @@ pub(crate) fn run_of(
     alloc: Global,
     kind: TunnelKind,
     old: OldSession,
+    own: u32,
     kept: &[Kept],
 ) -> Result<Pieces, NoMemory>
     requires bearer { old.bearer ≤ 1 }
     requires few { length kept.now < 2 ^ 16 }
     requires listed { All (λ (k : Kept). IsListed k.packet) kept.now }
-    ensures run { IfOk result (λ run. run ≡ run_of kind old kept.now) }
+    ensures run { IfOk result (λ run. run ≡ run_of kind old own kept.now) }
     ensures made { IfOk result (λ run. All IsTunnelPacket run) }
 {
     let mut run = Pieces::new(alloc);
@@ -82,29 +120,31 @@ pub(crate) fn run_of(
     }
     let count = kept.len() as u16;
     for packet in kept {
-        run.push(wrapped(alloc, kind, old, count, packet)?)?;
+        run.push(wrapped(alloc, kind, old, own, count, packet)?)?;
     }
     Ok(run)
 }
 
-/// The tunnel packet of an unacknowledged packet, in a run of so many.
+/// The tunnel packet of an unacknowledged packet of this node, in a run of so many.
 #[tactic(auto, unfolding(tipc_tunnel::specs::Tunnels::numbered))]
 fn wrapped(
     alloc: Global,
     kind: TunnelKind,
     old: OldSession,
+    own: u32,
     count: u16,
     kept: &Kept,
 ) -> Result<Bytes, NoMemory>
     requires bearer { old.bearer ≤ 1 }
     requires some { 0 < count }
     requires listed { IsListed kept.now.packet }
-    ensures bytes { IfOk result (λ bytes. bytes ≡ wrapped kind old count kept.now) }
+    ensures bytes { IfOk result (λ bytes. bytes ≡ wrapped kind old own count kept.now) }
     ensures made { IfOk result (λ bytes. IsTunnelPacket bytes) }
 {
     if is_tunnel(kept.packet.as_slice()) {
         return tunnel_of(alloc, kind, old.bearer, old.epoch, count, kept.number, &[]);
     }
+    let shown = shown_by(alloc, own, kept.packet.as_slice())?;
     tunnel_of(
         alloc,
         kind,
@@ -112,7 +152,7 @@ fn wrapped(
         old.epoch,
         count,
         kept.number,
-        kept.packet.as_slice(),
+        shown.as_slice(),
     )
 }
 

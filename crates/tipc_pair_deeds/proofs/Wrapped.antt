@@ -18,9 +18,9 @@ use Rattle.tipc_link.specs.Records.{is_tunnel}
 use Rattle.tipc_link.specs.Sessions.{Carries, SessionEnd, content_of}
 use Rattle.tipc_link.proofs.LinkLaw.{Each, Each-append, Each-none, Each-one}
 use Rattle.tipc_pair.specs.PairFacts.{IsSessionOn}
-use Rattle.tipc_pair.specs.Runs.{IsListed, IsTunnelPacket, inner_of, left_by, marker, old_of, run_of, taken_over, wrapped}
-use Rattle.tipc_pair.proofs.Listed.{listed_inner, listed_size}
+use Rattle.tipc_pair.specs.Runs.{IsListed, IsTunnelPacket, inner_of, left_by, marker, old_of, run_of, shown_by, taken_over, wrapped}
 use Rattle.tipc_pair.proofs.RunFacts.{kept_length, plain_listed, run_listed}
+use Rattle.tipc_pair.proofs.Shown.{shown_may}
 use Rattle.tipc_paired.specs.Paired.{IsPacket}
 
 -- ---- one tunnel packet
@@ -37,43 +37,43 @@ tunnel_put own t h = record {
   carried = λ acknowledgement number. tunnel_carries t own acknowledgement number;
 }
 
--- what is wrapped of a packet: nothing of a tunnel packet
-abbrev load_of : List ℕ → List ℕ
-load_of packet = if is_tunnel packet then [] else packet
+-- what is wrapped of a packet of this node: nothing of a tunnel packet
+abbrev load_of : ℕ → List ℕ → List ℕ
+load_of own packet = if is_tunnel packet then [] else shown_by own packet
 
-load_inner : (k : Kept) → inner_of k ≡ numbered k.number (load_of k.packet)
-load_inner k = elim (is_tunnel k.packet) as (λ t. (if t then [] else numbered k.number k.packet) ≡ numbered k.number (if t then [] else k.packet)) [
+load_inner : (own : ℕ) (k : Kept) → inner_of own k ≡ numbered k.number (load_of own k.packet)
+load_inner own k = elim (is_tunnel k.packet) as (λ t. (if t then [] else numbered k.number (shown_by own k.packet)) ≡ numbered k.number (if t then [] else shown_by own k.packet)) [
   | true ↦ sym (numbered-none k.number)
   | false ↦ refl
 ]
 
-load_may : (packet : List ℕ) → IsListed packet → MayBeWrapped (load_of packet) × (length (load_of packet) ≤ 1452)
-load_may packet listed = elim (is_tunnel packet) as (λ t. is_tunnel packet ≡ t → MayBeWrapped (if t then [] else packet) × (length (if t then [] else packet) ≤ 1452)) [
+load_may : (own : ℕ) (packet : List ℕ) → IsListed packet → MayBeWrapped (load_of own packet) × (length (load_of own packet) ≤ 1452)
+load_may own packet listed = elim (is_tunnel packet) as (λ t. is_tunnel packet ≡ t → MayBeWrapped (if t then [] else shown_by own packet) × (length (if t then [] else shown_by own packet) ≤ 1452)) [
   | true ↦ λ tunnel. (inl refl, omega arith)
-  | false ↦ λ other. (listed_inner packet listed other, listed_size packet listed other)
+  | false ↦ λ other. shown_may own packet listed other
 ] refl
 
-wrapped_is : (kind : ChangeoverType) (old : OldSession) (count : ℕ) (k : Kept) → IsListed k.packet → old.bearer ≤ 1 → old.epoch < 2 ^ 64 → count < 2 ^ 16 → k.number < 2 ^ 16 → 1 ≤ count → IsTunnelPacket (wrapped kind old count k)
-wrapped_is kind old count k listed two fits few number some =
-    let may = load_may k.packet listed in
-    let is = wrapped_tunnel kind old count k.number (load_of k.packet) two fits few number (λ none. absurd (let wrong : ⊥ = omega arith in wrong)) may.0 may.1 in
-    record { told = _; whole = subst (λ inner. IsTunnel (record { kind = kind; old = old; count = count; number = k.number; inner = inner })) (sym (load_inner k)) is; spelled = refl }
+wrapped_is : (kind : ChangeoverType) (old : OldSession) (own count : ℕ) (k : Kept) → IsListed k.packet → old.bearer ≤ 1 → old.epoch < 2 ^ 64 → count < 2 ^ 16 → k.number < 2 ^ 16 → 1 ≤ count → IsTunnelPacket (wrapped kind old own count k)
+wrapped_is kind old own count k listed two fits few number some =
+    let may = load_may own k.packet listed in
+    let is = wrapped_tunnel kind old count k.number (load_of own k.packet) two fits few number (λ none. absurd (let wrong : ⊥ = omega arith in wrong)) may.0 may.1 in
+    record { told = _; whole = subst (λ inner. IsTunnel (record { kind = kind; old = old; count = count; number = k.number; inner = inner })) (sym (load_inner own k)) is; spelled = refl }
 
 -- ---- a run
 
-each_wrapped : (kind : ChangeoverType) (old : OldSession) (count before : ℕ) (packets : List (List ℕ)) → All IsListed packets → old.bearer ≤ 1 → old.epoch < 2 ^ 64 → count < 2 ^ 16 → 1 ≤ count
-    → Each IsTunnelPacket (map (wrapped kind old count) (kept_after before packets))
-each_wrapped kind old count before [] listed two fits few some k bytes is = absurd (let none : ⊥ = cc in none)
-each_wrapped kind old count before (p ∷ ps) listed two fits few some zero bytes is =
+each_wrapped : (kind : ChangeoverType) (old : OldSession) (own count before : ℕ) (packets : List (List ℕ)) → All IsListed packets → old.bearer ≤ 1 → old.epoch < 2 ^ 64 → count < 2 ^ 16 → 1 ≤ count
+    → Each IsTunnelPacket (map (wrapped kind old own count) (kept_after before packets))
+each_wrapped kind old own count before [] listed two fits few some k bytes is = absurd (let none : ⊥ = cc in none)
+each_wrapped kind old own count before (p ∷ ps) listed two fits few some zero bytes is =
     let k : Kept = record { number = number_of (before + 1); packet = p } in
-    let same : wrapped kind old count k ≡ bytes = cc in
-    subst IsTunnelPacket same (wrapped_is kind old count k (All-head IsListed p ps listed) two fits few (number_of-below (before + 1)) some)
-each_wrapped kind old count before (p ∷ ps) listed two fits few some (suc i) bytes is =
-    each_wrapped kind old count (before + 1) ps (All-tail IsListed p ps listed) two fits few some i bytes is
+    let same : wrapped kind old own count k ≡ bytes = cc in
+    subst IsTunnelPacket same (wrapped_is kind old own count k (All-head IsListed p ps listed) two fits few (number_of-below (before + 1)) some)
+each_wrapped kind old own count before (p ∷ ps) listed two fits few some (suc i) bytes is =
+    each_wrapped kind old own count (before + 1) ps (All-tail IsListed p ps listed) two fits few some i bytes is
 
-run_is : (kind : ChangeoverType) (old : OldSession) (before : ℕ) (packets : List (List ℕ)) → All IsListed packets → old.bearer ≤ 1 → old.epoch < 2 ^ 64 → length packets ≤ 50 → Each IsTunnelPacket (run_of kind old (kept_after before packets))
+run_is : (kind : ChangeoverType) (old : OldSession) (own before : ℕ) (packets : List (List ℕ)) → All IsListed packets → old.bearer ≤ 1 → old.epoch < 2 ^ 64 → length packets ≤ 50 → Each IsTunnelPacket (run_of kind old own (kept_after before packets))
 unfolding run_of
-run_is kind old before [] listed two fits few = Each-one IsTunnelPacket (marker kind old) (record {
+run_is kind old own before [] listed two fits few = Each-one IsTunnelPacket (marker kind old) (record {
   told = _;
   whole = record {
     bearer = two;
@@ -86,12 +86,14 @@ run_is kind old before [] listed two fits few = Each-one IsTunnelPacket (marker 
   };
   spelled = refl;
 })
-run_is kind old before (p ∷ ps) listed two fits few =
+run_is kind old own before (p ∷ ps) listed two fits few =
     let long = kept_length before (p ∷ ps) in
-    each_wrapped kind old (length (kept_after before (p ∷ ps))) before (p ∷ ps) listed two fits (omega arith) (omega arith)
+    each_wrapped kind old own (length (kept_after before (p ∷ ps))) before (p ∷ ps) listed two fits (omega arith) (omega arith)
 
-run_put : (own : ℕ) (kind : ChangeoverType) (old : OldSession) (before : ℕ) (packets : List (List ℕ)) → All IsListed packets → old.bearer ≤ 1 → old.epoch < 2 ^ 64 → length packets ≤ 50 → Each (IsPacket own) (run_of kind old (kept_after before packets))
-run_put own kind old before packets listed two fits few k bytes is = (let t = run_is kind old before packets listed two fits few k bytes is in subst (IsPacket own) (sym t.spelled) (tunnel_put own t.told t.whole))
+run_put : (own : ℕ) (kind : ChangeoverType) (old : OldSession) (sender before : ℕ) (packets : List (List ℕ)) → All IsListed packets → old.bearer ≤ 1 → old.epoch < 2 ^ 64 → length packets ≤ 50
+    → Each (IsPacket own) (run_of kind old sender (kept_after before packets))
+run_put own kind old sender before packets listed two fits few k bytes is =
+    (let t = run_is kind old sender before packets listed two fits few k bytes is in subst (IsPacket own) (sym t.spelled) (tunnel_put own t.told t.whole))
 
 -- ---- what is handed over
 
@@ -111,10 +113,10 @@ pub record CanHandOver (own : ℕ) (s : SessionEnd) : Type 0 where
   pub waiting : Each (IsPacket own) s.sending.waiting
 
 pub left_put : (own : ℕ) (s : SessionEnd) → CanHandOver own s → Each (IsPacket own) (left_by s)
-left_put own s h = Each-append (IsPacket own) _ _ (run_put own Original (old_of s) (acked_of s.sending) s.sending.unacked h.unacked h.two h.fits h.few) (each_filter (IsPacket own) (λ packet. not (is_tunnel packet)) s.sending.waiting h.waiting)
+left_put own s h = Each-append (IsPacket own) _ _ (run_put own Original (old_of s) s.own (acked_of s.sending) s.sending.unacked h.unacked h.two h.fits h.few) (each_filter (IsPacket own) (λ packet. not (is_tunnel packet)) s.sending.waiting h.waiting)
 
 pub over_put : (own : ℕ) (s : SessionEnd) → CanHandOver own s → Each (IsPacket own) (taken_over s)
-over_put own s h = Each-append (IsPacket own) _ _ (run_put own Duplicate (old_of s) (acked_of s.sending) s.sending.unacked h.unacked h.two h.fits h.few) h.waiting
+over_put own s h = Each-append (IsPacket own) _ _ (run_put own Duplicate (old_of s) s.own (acked_of s.sending) s.sending.unacked h.unacked h.two h.fits h.few) h.waiting
 
 -- what holds of each holds of all
 pub all_of : (P : List ℕ → Type 0) (xs : List (List ℕ)) → Each P xs → All P xs
@@ -128,14 +130,14 @@ pub record CanTravel (s : SessionEnd) : Type 0 where
   pub on : IsSessionOn bearer s
   pub fits : s.epoch < 2 ^ 64
 
-run_all : (kind : ChangeoverType) (s : SessionEnd) → CanTravel s → All IsTunnelPacket (run_of kind (old_of s) (kept_of s.sending))
+run_all : (kind : ChangeoverType) (s : SessionEnd) → CanTravel s → All IsTunnelPacket (run_of kind (old_of s) s.own (kept_of s.sending))
 run_all kind s h =
     let two = h.two in
     let is = h.on.bearer_is in
-    all_of IsTunnelPacket _ (run_is kind (old_of s) (acked_of s.sending) s.sending.unacked h.on.unacked (omega arith) h.fits h.on.few)
+    all_of IsTunnelPacket _ (run_is kind (old_of s) s.own (acked_of s.sending) s.sending.unacked h.on.unacked (omega arith) h.fits h.on.few)
 
 pub left_listed : (s : SessionEnd) → CanTravel s → All IsListed (left_by s)
-left_listed s h = run_listed (run_of Original (old_of s) (kept_of s.sending)) _ (run_all Original s h) (plain_listed s.sending.waiting h.on.waiting)
+left_listed s h = run_listed (run_of Original (old_of s) s.own (kept_of s.sending)) _ (run_all Original s h) (plain_listed s.sending.waiting h.on.waiting)
 
 pub over_listed : (s : SessionEnd) → CanTravel s → All IsListed (taken_over s)
-over_listed s h = run_listed (run_of Duplicate (old_of s) (kept_of s.sending)) s.sending.waiting (run_all Duplicate s h) h.on.waiting
+over_listed s h = run_listed (run_of Duplicate (old_of s) s.own (kept_of s.sending)) s.sending.waiting (run_all Duplicate s h) h.on.waiting

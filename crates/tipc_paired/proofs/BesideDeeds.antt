@@ -1,5 +1,5 @@
 -- One of two links goes up or down beside the other, hands over, or counts what came through the other.
-use Rattle.std.proofs.Common.{◌≡◌, ◌≢◌, ◌≤◌, ℕ, true, false, List, [], ◌++◌, Option, Some, None, option_map, length, refl, sym, ap, ◌∙◌, subst, inl, inr, arith}
+use Rattle.std.proofs.Common.{◌≡◌, ◌≤◌, ℕ, true, false, List, ◌++◌, Option, Some, None, option_map, length, refl, sym, ap, ◌∙◌, subst, inl, inr, arith}
 use Rattle.std.proofs.lemmas.Bool.{cases_eq}
 use Rattle.tipc_types.specs.declared.link_words.Cause.{Cause}
 use Rattle.tipc_contact.specs.Sides.{boot_of}
@@ -17,13 +17,12 @@ use Rattle.tipc_paired.proofs.ContactDeeds.{fallen, fell, none_wire}
 use Rattle.tipc_paired.proofs.Ends.{still_end}
 use Rattle.tipc_paired.proofs.EpochsKept.{IsSteady, epochs_steady, reached_on, records_on}
 use Rattle.tipc_paired.proofs.Frames.{es_of-frame}
-use Rattle.tipc_paired.proofs.Growing.{Grows}
 use Rattle.tipc_paired.proofs.Sides.{peers_still}
 use Rattle.tipc_paired.proofs.WireDeeds.{wire_deed}
-use Rattle.tipc_paired.proofs.Wires.{epoch_of_end, is_up_of, none_some, on_put, on_put_else, prefix_append, prefix_same, put_other, put_same, same_some, session_of_down, session_of_up}
+use Rattle.tipc_paired.proofs.Wires.{epoch_of_end, is_up_of, none_some, on_put, prefix_append, prefix_same, put_other, put_same, same_some, session_of_down, session_of_up}
 use Rattle.tipc_paired.specs.Deeds.{Counts, MayCall, with_counted}
-use Rattle.tipc_paired.specs.Paired.{ArePaired, IsEnd, IsGoing, IsNoHigher, IsReached, IsRecordOf, IsRecords, IsWire, on_record}
-use Rattle.tipc_paired.specs.Views.{Begun, Frame, Node, View, Wire, er_of, es_of, fsm_in, session_on, with_end, with_wire}
+use Rattle.tipc_paired.specs.Paired.{ArePaired, IsEnd, IsGoing, IsNoHigher, IsRecordOf, IsRecords, IsWire, on_record}
+use Rattle.tipc_paired.specs.Views.{Begun, Node, View, Wire, es_of, fsm_in, session_on, with_end, with_wire}
 
 -- ---- a link goes down
 

@@ -1,8 +1,7 @@
 -- What follows for two nodes that are paired.
-use Rattle.std.proofs.Common.{◌≡◌, ◌==◌, ◌<◌, ◌≤◌, ◌+◌, ℕ, suc, true, false, if◌then◌else◌, nat_lt, List, [], ◌++◌, Option, Some, None, option_map, length, take, drop, refl, sym, ap, ◌∙◌, subst, append-nil, length-append, length-drop, length-take, arith}
+use Rattle.std.proofs.Common.{◌≡◌, ◌==◌, ◌<◌, ◌≤◌, ◌+◌, ℕ, true, false, if◌then◌else◌, nat_lt, List, [], ◌++◌, Option, Some, None, option_map, length, take, drop, refl, sym, ap, ◌∙◌, subst, append-nil, length-append, length-drop, length-take, arith}
 use Rattle.std.proofs.lemmas.Bool.{true≢false}
 use Rattle.std.proofs.lemmas.Bool.Decides.{nat_tests}
-use Rattle.tipc_types.specs.declared.packet_lists.Taken.{Taken}
 use Rattle.tipc_contact.specs.Sides.{boot_of}
 use Rattle.tipc_send_window.specs.Sending.{acked_of}
 use Rattle.tipc_link.specs.Direction.{IsReceiver}
@@ -12,18 +11,15 @@ use Rattle.tipc_link.specs.Records.{Early, Received, advanced_by, early_of, earl
 use Rattle.tipc_link.specs.Sessions.{SessionEnd, receiving_record, released, with_record}
 use Rattle.tipc_link.proofs.Directions.{holds_none, releases as direction_releases}
 use Rattle.tipc_link.proofs.Outliving.{frees}
-use Rattle.tipc_link_fsm.specs.declared.changes.Change.TheVariants.{Up}
 use Rattle.tipc_link_fsm.specs.Runs.{outcome}
-use Rattle.tipc_link_fsm.specs.Table.{is_held, is_up}
 use Rattle.tipc_paired.proofs.BesideDeeds.{begun_boot, named_began}
-use Rattle.tipc_paired.proofs.Mutual.{told_under}
 use Rattle.tipc_paired.proofs.RiseDeeds.{Went, peer_under, went}
 use Rattle.tipc_paired.proofs.SessionDeeds.{hears_session}
 use Rattle.tipc_paired.proofs.SessionPackets.{more_front}
 use Rattle.tipc_paired.proofs.Wires.{map_at, same_some, session_of_up}
 use Rattle.tipc_paired.specs.Deeds.{Counts}
 use Rattle.tipc_paired.specs.Facts.{BegunWasNamed, HeardWasTaken, IsOfPeer, Names, NamesCount, RisesAreOfPeer, SameRecordsStay, TunnelsCount, UpIsOnRecord}
-use Rattle.tipc_paired.specs.Paired.{ArePaired, IsReached, IsRecordOf, long_ago, on_record, untaken}
+use Rattle.tipc_paired.specs.Paired.{ArePaired, IsReached, long_ago, on_record, untaken}
 use Rattle.tipc_paired.specs.Views.{Begun, View, fsm_in, notice_of}
 
 -- ---- what an acknowledgement names

@@ -1,5 +1,5 @@
 -- What holds of a node stays when its peer goes on.
-use Rattle.std.proofs.Common.{◌≡◌, ◌⊎◌, ℕ, ◌≤◌, List, [], ◌++◌, Some, length, sym, subst, inl, inr, arith}
+use Rattle.std.proofs.Common.{◌≡◌, ◌⊎◌, ℕ, ◌≤◌, List, ◌++◌, Some, length, sym, subst, inl, inr, arith}
 use Rattle.tipc_link.specs.Direction.{IsDirection}
 use Rattle.tipc_link.specs.Laws.{IsPrefixOf}
 use Rattle.tipc_link.proofs.Directions.{IsCarried-stays, IsReceiver-stays, slice_get-append}

@@ -16,6 +16,6 @@ pub mod TellDeeds
 pub mod ContactDeeds
 pub mod BesideDeeds
 pub mod PairedLaw
-pub mod QuietDeeds
+pub mod RestartDeeds
 pub mod Facts
 pub mod SessionFrames

@@ -1,5 +1,5 @@
 -- What a node told lies behind it: with which session of a node the peer's session is that the present one is with.
-use Rattle.std.proofs.Common.{◌≡◌, ◌⊎◌, ◌≤◌, ℕ, List, [], Option, Some, None, length, refl, sym, ap, ◌∙◌, inl, inr, arith}
+use Rattle.std.proofs.Common.{◌≡◌, ◌⊎◌, ◌≤◌, ℕ, List, Option, Some, None, length, refl, sym, ap, ◌∙◌, inl, inr, arith}
 use Rattle.std.specs.Prelude.{slice_get}
 use Rattle.tipc_contact.specs.Sides.{IsTold, Notice, boot_of}
 use Rattle.tipc_link.specs.Links.{LinkEnd}

@@ -1,7 +1,7 @@
 -- A link goes up, and a session begins.
 use Rattle.std.proofs.Common.{◌≡◌, ◌==◌, ◌⊎◌, ◌<◌, ◌≤◌, ◌^◌, ℕ, if◌then◌else◌, true, false, List, [], Option, Some, None, length, refl, sym, ap, ◌∙◌, subst, inl, inr, arith}
 use Rattle.std.specs.Prelude.{slice_get}
-use Rattle.std.proofs.lemmas.Bool.{cases_lt, true≢false}
+use Rattle.std.proofs.lemmas.Bool.{true≢false}
 use Rattle.tipc_contact.specs.Peers.{ArePeers}
 use Rattle.tipc_contact.specs.Sides.{IsTold}
 use Rattle.tipc_send_window.specs.Sending.{fresh as none_sent}
@@ -50,16 +50,6 @@ fresh_epoch : (x y : View) (b : ℕ) (e e' : LinkEnd) (es : ℕ) → ArePaired x
 fresh_epoch x y b e e' es h m =
     let down : session_on (x.wires b) ≡ None = session_of_down (x.wires b) e m.end_is m.raised.was in
     (h.here.epochs b).unborn e.fsm.own ((let now = epoch_of_end x.node (x.wires b) e m.end_is in omega arith), λ s on. absurd (none_some s _ down on))
-
--- a session began before the present epoch
-pub begun_before : (x y : View) (b : ℕ) (e e' : LinkEnd) (es epoch : ℕ) (g : Begun) → ArePaired x y → Went x y b e e' es → (x.wires b).begun epoch ≡ Some g → epoch < e.fsm.own
-begun_before x y b e e' es epoch g h m is =
-    let down : session_on (x.wires b) ≡ None = session_of_down (x.wires b) e m.end_is m.raised.was in
-    let now = epoch_of_end x.node (x.wires b) e m.end_is in
-    elim (cases_lt epoch e.fsm.own) [
-      | inl before ↦ before
-      | inr least ↦ absurd (none_some g _ ((h.here.epochs b).unborn epoch ((let low : epoch_on x.node (x.wires b) ≤ epoch = omega arith in low), λ s on. absurd (none_some s _ down on))) is)
-    ]
 
 new_direction : (taken : ℕ) (line got : List (List ℕ)) → line ≡ [] → got ≡ [] → IsDirection none_sent (length got) line
 new_direction taken line got no_line no_got = subst (λ xs. IsDirection none_sent (length got) xs) (sym no_line)
@@ -376,19 +366,3 @@ pub record Goes (x : View) (b : ℕ) (e' : LinkEnd) (s : SessionEnd) : Type 0 wh
   pub none_waits : s.sending.waiting ≡ []
   pub none_taken : (x.wires b).got s.peer_epoch ≡ []
   pub peer_is : s.peer_epoch ≡ known e'.fsm.peer
-
--- nothing was numbered under its epoch, nothing waits, and nothing was taken of the peer's session
-pub went_goes : (x y : View) (b : ℕ) (e e' : LinkEnd) (es : ℕ) → ArePaired x y → Went x y b e e' es → IsApart x → (x.wires b).got es ≡ [] → Goes x b e' (session_of e')
-went_goes x y b e e' es h m apart none =
-    let w = x.wires b in
-    let own : e'.fsm.own ≡ e.fsm.own = m.raised.epoch in
-    let fresh : w.begun e'.fsm.own ≡ None = ap w.begun own ∙ fresh_epoch x y b e e' es h m in
-    record {
-      apart = apart;
-      session_is = session_of_up (with_begun x.node w e') e' (session_of e') (record { end_is = refl; up = m.raised.up; session_is = m.raised.session });
-      none_begun = fresh;
-      none_numbered = (h.here.wires b).unborn e'.fsm.own fresh;
-      none_waits = refl;
-      none_taken = ap w.got (known_is e'.fsm.peer es m.peer_is) ∙ none;
-      peer_is = refl;
-    }

@@ -1,5 +1,5 @@
 -- What happens to a session: it reads an acknowledgement, takes packets, and numbers those that wait.
-use Rattle.std.proofs.Common.{◌≡◌, ◌⊎◌, ℕ, ◌≤◌, ◌<◌, ◌^◌, true, List, [], Option, Some, length, refl, sym, ap, ◌∙◌, subst, inl, inr, arith}
+use Rattle.std.proofs.Common.{◌≡◌, ◌⊎◌, ℕ, ◌≤◌, ◌<◌, ◌^◌, true, List, Option, Some, length, refl, sym, ap, ◌∙◌, subst, inl, inr, arith}
 use Rattle.tipc_header.specs.Frames.{frame_of}
 use Rattle.tipc_header.specs.Spelling.{Fields, spelling}
 use Rattle.tipc_link.specs.Direction.{IsDirection, IsReceiver}

@@ -104,7 +104,3 @@ pub map_at : {A B : Type 0} (f : A → B) (xs : List A) (k : ℕ) (a : A) → sl
 map_at f [] k a is = absurd (let none : ⊥ = cc in none)
 map_at f (x ∷ xs) zero a is = (let same : x ≡ a = cc in ap (λ z. Some (f z)) same)
 map_at f (x ∷ xs) (suc k) a is = map_at f xs k a is
-
--- another wire, on which the same was numbered
-pub line_put : (ws : ℕ → Wire) (b : ℕ) (w' : Wire) → ((n : ℕ) → w'.line n ≡ (ws b).line n) → (c n : ℕ) → (put_at ws b w' c).line n ≡ (ws c).line n
-line_put ws b w' same c n = on_put ws b w' (λ c (w : Wire). w.line n ≡ (ws c).line n) (same n) (λ c. refl) c

@@ -18,15 +18,6 @@ use Rattle.tipc_sim.proofs.WorldLaws.{answered_few}
 pub takes_none : (asks : Asks) (number : ℕ) (now : WorldState) → asks now number ≡ None → Takes asks number now (Ok false) now
 takes_none asks number now e = let P : Option WorldEvent → Type 0 = λ o. Maybe o now (Ok false) now in subst P (sym e) (refl, refl)
 
--- a number asks for an event, and it happens
-pub takes_some : (asks : Asks) (number : ℕ) (before now : WorldState) (event : WorldEvent) (answer : Answer) → asks before number ≡ Some event → Once event before (Ok answer) now → Takes asks number before (Ok true) now
-takes_some asks number before now event answer e once = let P : Option WorldEvent → Type 0 = λ o. Maybe o before (Ok true) now in subst P (sym e) (refl, (answer, once))
-
--- or it doesn't
-pub takes_fault : (asks : Asks) (number : ℕ) (before now : WorldState) (event : WorldEvent) (f : WorldFault) → asks before number ≡ Some event → Comes (Once event before) (Err f) now → Comes (Takes asks number before) (Err f) now
-takes_fault asks number before now event (fault.Limit stop) e once = let P : Option WorldEvent → Type 0 = λ o. Maybe o before (Err stop) now in subst P (sym e) once
-takes_fault asks number before now event fault.NoMemory e once = tt
-
 maybe_few : (bearer : ℕ) (asked : Option WorldEvent) (before : WorldState) (made : Bool) (now : WorldState) → Maybe asked before (Ok made) now → length (air_on bearer now.air) ≤ max 100000 (length (air_on bearer before.air))
 maybe_few bearer None before made now h = omega (arith, ap (λ w. length (air_on bearer w.air)) h.1)
 maybe_few bearer (Some event) before made now h = answered_few bearer before event now h.1.0 h.1.1

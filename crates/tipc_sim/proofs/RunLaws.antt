@@ -273,16 +273,6 @@ sound_at_end script start now before after s ok reports =
     let all : take r.done (lines_of script) ≡ lines_of script = take_all r.done (lines_of script) (omega (arith, r.ends.0)) in
     subst AreSound all r.sound
 
--- a script whose run ends at a limit is too long, or reaches a limit of the world
-pub limit_reached : (script : List ℕ) (start now : WorldState) (before after : Option (List ℕ)) (s : Status) → s ≡ status.Limit → Reports script s start now before after
-    → (IsWithin script → ⊥) ⊎ ReachesLimit script start now
-limit_reached script start now before after s limit reports =
-    let r = subst (λ t. Reports script t start now before after) limit reports in
-    elim r.ends [
-      | inl over ↦ inl (λ within. elim over.0.1 [ inl bytes ↦ absurd (omega (arith, within.0, bytes.0)) | inr lines ↦ absurd (omega (arith, within.1, lines.1)) ])
-      | inr limited ↦ inr (record { done = r.done; left = r.left; report = r.report; runs = r.runs; closing = r.closing; ends = limited })
-    ]
-
 -- a closing line alone was written, or a front of it
 only_closing : (script closing : List ℕ) (start : WorldState) (before after : Option (List ℕ)) (s : Status) → Ends s script 0 (scene start no_notes) start closing → WritesReport s before after closing → Reports script s start start before after
 only_closing script closing start before after s ends written = record {

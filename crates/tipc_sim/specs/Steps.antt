@@ -99,14 +99,6 @@ IsBadStatus status.WriteFault = Unit {0}
 IsBadStatus status.NoMemory = Unit {0}
 IsBadStatus other = ⊥
 
--- what a line may end with
-abbrev pub IsLineStatus : Status → Type 0
-IsLineStatus status.BadLine = Unit {0}
-IsLineStatus status.Limit = Unit {0}
-IsLineStatus status.WriteFault = Unit {0}
-IsLineStatus status.NoMemory = Unit {0}
-IsLineStatus other = ⊥
-
 -- what the lines of a script may end with
 abbrev pub IsLinesStatus : Status → Type 0
 IsLinesStatus status.Ok = Unit {0}

@@ -38,9 +38,9 @@ unacked_for P l e x h up = subst (λ ps. AreFor P (drop x.acked (x.line x.sessio
 
 -- ---- a link goes down while the other is up
 
-lost_for : (b : Bearer) (x : SendingEnds) (t : Traffic) (s : State) → StandFor b x t s → Sound b s → x.near.state ≡ Up → CanTravel Original (near_session x) x.near.window.unacked
-    → AreFor (IsFor t.put x.bearer t.near) (lost_slots s.near) (left (near_session x) x.near.window)
-lost_for b x t s h sound up can =
+lost_for : (b : Bearer) (own : ℕ) (x : SendingEnds) (t : Traffic) (s : State) → StandFor b x t s → Sound b s → x.near.state ≡ Up → CanTravel Original (near_session x) x.near.window.unacked
+    → AreFor (IsFor t.put x.bearer t.near) (lost_slots s.near) (left (near_session x) own x.near.window)
+lost_for b own x t s h sound up can =
     let P = IsFor t.put (beside x.bearer) t.far in
     let w = x.near.window in
     let q = h.near.queue up in
@@ -49,15 +49,15 @@ lost_for b x t s h sound up can =
     let can' = subst (λ (o : OldSession). CanTravel Original o w.unacked) old can in
     let wraps = may_wrap P Original (record { bearer = x.bearer; epoch = epoch_of t.near.first s.near.session }) (length w.unacked) is_plain (drop s.near.acked (s.near.line s.near.session)) w.unacked
     (λ z p is. kind_of t.put (beside x.bearer) t.far z p is) (unacked_for P t.near x.near s.near h.near up) can'.each in
-    let run = run_stands t.put x.bearer t.near Original is_plain s.near.session s.near.acked (s.near.line s.near.session) w.unacked sound.near.ends.session_begun q.kept wraps can'.mark in
-    are_append (IsFor t.put x.bearer t.near) (originals s.near.session s.near.acked (s.near.line s.near.session)) (plain_slots s.near.waiting) (run_of Original (near_session x) (kept_of w)) (filter (λ packet. not (is_tunnel packet)) w.waiting)
-    (subst (λ (o : OldSession). AreFor (IsFor t.put x.bearer t.near) (originals s.near.session s.near.acked (s.near.line s.near.session)) (run_of Original o (kept_of w))) (sym old)
-    (subst (λ n. AreFor (IsFor t.put x.bearer t.near) (originals s.near.session s.near.acked (s.near.line s.near.session)) (run_of Original (record { bearer = x.bearer; epoch = epoch_of t.near.first s.near.session }) (kept_after n w.unacked))) (sym (queue_acked P (t.near.line s.near.session) w s.near q)) run))
+    let run = run_stands t.put x.bearer t.near Original own is_plain s.near.session s.near.acked (s.near.line s.near.session) w.unacked sound.near.ends.session_begun q.kept wraps can'.mark in
+    are_append (IsFor t.put x.bearer t.near) (originals s.near.session s.near.acked (s.near.line s.near.session)) (plain_slots s.near.waiting) (run_of Original (near_session x) own (kept_of w)) (filter (λ packet. not (is_tunnel packet)) w.waiting)
+    (subst (λ (o : OldSession). AreFor (IsFor t.put x.bearer t.near) (originals s.near.session s.near.acked (s.near.line s.near.session)) (run_of Original o own (kept_of w))) (sym old)
+    (subst (λ n. AreFor (IsFor t.put x.bearer t.near) (originals s.near.session s.near.acked (s.near.line s.near.session)) (run_of Original (record { bearer = x.bearer; epoch = epoch_of t.near.first s.near.session }) own (kept_after n w.unacked))) (sym (queue_acked P (t.near.line s.near.session) w s.near q)) run))
     (plain_left t.put (beside x.bearer) x.bearer t.far t.near s.near.waiting w.waiting q.waits)
 
-pub fails : (b : Bearer) (x : SendingEnds) (t : Traffic) (s : State) (last : Sending) → StandFor b x t s → Sound b s → x.near.state ≡ Up → x.far.state ≡ Up → CanTravel Original (near_session x) x.near.window.unacked
-    → Become b (failed x last) t s
-fails b x t s last h sound up far_up can =
+pub fails : (b : Bearer) (own : ℕ) (x : SendingEnds) (t : Traffic) (s : State) (last : Sending) → StandFor b x t s → Sound b s → x.near.state ≡ Up → x.far.state ≡ Up → CanTravel Original (near_session x) x.near.window.unacked
+    → Become b (failed own x last) t s
+fails b own x t s last h sound up far_up can =
     let k = h.far.queue far_up in
     let epoch = h.near.epoch in
     record {
@@ -80,7 +80,7 @@ fails b x t s last h sound up far_up can =
             numbered = k.numbered;
             acked = k.acked;
             kept = k.kept;
-            waits = are_append (IsFor t.put x.bearer t.near) s.far.waiting (lost_slots s.near) x.far.window.waiting (left (near_session x) x.near.window) k.waits (lost_for b x t s h sound up can);
+            waits = are_append (IsFor t.put x.bearer t.near) s.far.waiting (lost_slots s.near) x.far.window.waiting (left (near_session x) own x.near.window) k.waits (lost_for b own x t s h sound up can);
           };
         };
       };
@@ -105,9 +105,9 @@ none_waiting b s sound reset p f q full there =
     let acked = sound.far.carrier.none reset (length (y.line y.session) + p) f q full (at_back (y.line y.session) y.waiting p (Tunnel f q full) there) in
     omega arith
 
-over_for : (b : Bearer) (x : SendingEnds) (t : Traffic) (s : State) → StandFor b x t s → Sound b s → x.near.state ≡ Reset → x.far.state ≡ Up → CanTravel Duplicate (far_session x) x.far.window.unacked
-    → AreFor (IsFor t.put (beside x.bearer) t.far) (switched_slots s.far) (taken_from (far_session x) x.far.window)
-over_for b x t s h sound reset up can =
+over_for : (b : Bearer) (own : ℕ) (x : SendingEnds) (t : Traffic) (s : State) → StandFor b x t s → Sound b s → x.near.state ≡ Reset → x.far.state ≡ Up → CanTravel Duplicate (far_session x) x.far.window.unacked
+    → AreFor (IsFor t.put (beside x.bearer) t.far) (switched_slots s.far) (taken_from (far_session x) own x.far.window)
+over_for b own x t s h sound reset up can =
     let P = IsFor t.put (beside x.bearer) t.far in
     let Q = IsFor t.put x.bearer t.near in
     let w = x.far.window in
@@ -119,15 +119,15 @@ over_for b x t s h sound reset up can =
     let can' = subst (λ (o : OldSession). CanTravel Duplicate o w.unacked) old can in
     let wraps = plain_whole t.put x.bearer t.near Duplicate (record { bearer = beside x.bearer; epoch = epoch_of t.far.first y.session }) (length w.unacked) (drop y.acked (y.line y.session)) w.unacked
     (none_unacked b s sound is_reset) (unacked_for Q t.far x.far y h.far up) can'.each in
-    let run = run_stands t.put (beside x.bearer) t.far Duplicate (λ z. true) y.session y.acked (y.line y.session) w.unacked sound.far.ends.session_begun q.kept wraps can'.mark in
-    are_append P (duplicates y.session y.acked (y.line y.session)) y.waiting (run_of Duplicate (far_session x) (kept_of w)) w.waiting
-    (subst (λ (o : OldSession). AreFor P (duplicates y.session y.acked (y.line y.session)) (run_of Duplicate o (kept_of w))) (sym old)
-    (subst (λ n. AreFor P (duplicates y.session y.acked (y.line y.session)) (run_of Duplicate (record { bearer = beside x.bearer; epoch = epoch_of t.far.first y.session }) (kept_after n w.unacked))) (sym (queue_acked Q (t.far.line y.session) w y q)) run))
+    let run = run_stands t.put (beside x.bearer) t.far Duplicate own (λ z. true) y.session y.acked (y.line y.session) w.unacked sound.far.ends.session_begun q.kept wraps can'.mark in
+    are_append P (duplicates y.session y.acked (y.line y.session)) y.waiting (run_of Duplicate (far_session x) own (kept_of w)) w.waiting
+    (subst (λ (o : OldSession). AreFor P (duplicates y.session y.acked (y.line y.session)) (run_of Duplicate o own (kept_of w))) (sym old)
+    (subst (λ n. AreFor P (duplicates y.session y.acked (y.line y.session)) (run_of Duplicate (record { bearer = beside x.bearer; epoch = epoch_of t.far.first y.session }) own (kept_after n w.unacked))) (sym (queue_acked Q (t.far.line y.session) w y q)) run))
     (plain_over t.put x.bearer (beside x.bearer) t.near t.far y.waiting w.waiting (none_waiting b s sound is_reset) q.waits)
 
-pub switches : (b : Bearer) (x : SendingEnds) (t : Traffic) (s : State) → StandFor b x t s → Sound b s → b ≡ First → x.near.state ≡ Reset → x.far.state ≡ Up → CanTravel Duplicate (far_session x) x.far.window.unacked
-    → Become b (switched x) t s
-switches b x t s h sound first reset far_up can =
+pub switches : (b : Bearer) (own : ℕ) (x : SendingEnds) (t : Traffic) (s : State) → StandFor b x t s → Sound b s → b ≡ First → x.near.state ≡ Reset → x.far.state ≡ Up → CanTravel Duplicate (far_session x) x.far.window.unacked
+    → Become b (switched own x) t s
+switches b own x t s h sound first reset far_up can =
     let is_reset : s.near.state ≡ Reset = h.near.state ∙ reset in
     let down = reset_down s.near.state is_reset in
     let none = sound.near.ends.down down in
@@ -147,7 +147,7 @@ switches b x t s h sound first reset far_up can =
             numbered = ap length empty;
             acked = (let acked = none.2 in omega arith);
             kept = sym (ap (λ ps. drop s.near.acked ps) empty ∙ drop-nil s.near.acked);
-            waits = over_for b x t s h sound reset far_up can;
+            waits = over_for b own x t s h sound reset far_up can;
           };
         };
         far = record {

@@ -6,13 +6,13 @@ use Rattle.std.proofs.Math.Seq.{drop-append_seam}
 use Rattle.std.proofs.lemmas.List.Elements.{All-head, All-tail}
 use Rattle.tipc_link_fsm.specs.Table.{is_up}
 use Rattle.tipc_link.specs.Links.{LinkEnd}
-use Rattle.tipc_pair.specs.Facing.{PairEnds, in_contact, is_up_at}
+use Rattle.tipc_pair.specs.Facing.{PairEnds, in_contact, is_held_at, is_up_at}
 use Rattle.tipc_pair.specs.PairFacts.{AreHeldRightly, IsEndOf, IsPairOfEnds}
 use Rattle.tipc_pair.specs.PairArrivals.{restored}
 use Rattle.tipc_pair.specs.Runs.{IsListed}
 use Rattle.tipc_pair.proofs.EndSteps.{far_of, near_of, session_is}
 use Rattle.tipc_pair.proofs.Followings.{far_down, near_down, some_there}
-use Rattle.tipc_pair.proofs.HeldLaws.{held_up, is_held_at}
+use Rattle.tipc_pair.proofs.HeldLaws.{held_up}
 use Rattle.tipc_changeover.specs.Slots.{Slot}
 use Rattle.tipc_changeover.specs.Links.{Bearer, Reset, Up}
 use Rattle.tipc_changeover.specs.Reached.{begun, unused}

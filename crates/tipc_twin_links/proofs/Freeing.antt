@@ -8,10 +8,10 @@ use Rattle.tipc_link.specs.Links.{LinkEnd}
 use Rattle.tipc_link.specs.Sessions.{SessionEnd}
 use Rattle.tipc_pair.specs.Changeovers.{is_clear, let_go, let_go_frames, release_near, released}
 use Rattle.tipc_pair.specs.Courses.{going_on, rests}
-use Rattle.tipc_pair.specs.Facing.{PairEnds, is_up_at}
+use Rattle.tipc_pair.specs.Facing.{PairEnds, is_held_at, is_up_at}
 use Rattle.tipc_pair.specs.Facing.{turned as turned_pair}
 use Rattle.tipc_pair.specs.PairFacts.{AreHeldRightly}
-use Rattle.tipc_pair.proofs.HeldLaws.{HeldUp, held_up, is_held_at}
+use Rattle.tipc_pair.proofs.HeldLaws.{HeldUp, held_up}
 use Rattle.tipc_changeover.specs.Links.{other, turned, Bearer, First, Second, State}
 use Rattle.tipc_twin_links.specs.Traffic.{Traffic}
 use Rattle.tipc_twin_links.specs.Traffic.{turned as turned_traffic}

@@ -31,7 +31,7 @@ more_grows l session packets = record { first = refl; stays = λ f k packet ther
 speaks_on : (old : OldSession) (line line' : List (List ℕ)) (packet : List ℕ) (place : ℕ) (full : Bool) → ((k : ℕ) (inner : List ℕ) → slice_get line k ≡ Some inner → slice_get line' k ≡ Some inner)
     → SpeaksOf old line packet place full → SpeaksOf old line' packet place full
 speaks_on old line line' packet place full stays (marks kind made is) = marks kind made is
-speaks_on old line line' packet place full stays (wraps kind count q inner low there may is) = wraps kind count q inner low (stays (q - 1) inner there) may is
+speaks_on old line line' packet place full stays (wraps kind own count q inner low there may is) = wraps kind own count q inner low (stays (q - 1) inner there) may is
 
 pub for_grown : (put : List (List ℕ)) (bearer : ℕ) (l l' : Lines) (z : Slot) (packet : List ℕ) → Grows l l' → IsFor put bearer l z packet → IsFor put bearer l' z packet
 for_grown put bearer l l' (Plain i) packet grows h = h

@@ -11,11 +11,11 @@ use Rattle.tipc_link.specs.Links.{LinkEnd, after, arrival_end, heard_end, is_dow
 use Rattle.tipc_link.specs.Sessions.{content_of}
 use Rattle.tipc_pair.specs.Changeovers.{contact_ends, following, forgetting, forgotten, risen}
 use Rattle.tipc_pair.specs.Courses.{going_on, rests}
-use Rattle.tipc_pair.specs.Facing.{PairEnds, in_contact, is_up_at, with_near}
+use Rattle.tipc_pair.specs.Facing.{PairEnds, in_contact, is_held_at, is_up_at, with_near}
 use Rattle.tipc_pair.specs.PairArrivals.{Heard, activates, behind, by_number, hears, met, met_at, met_near, reset_change, reset_given, reset_near, reset_shown}
 use Rattle.tipc_link.proofs.Ends.{forgotten-is}
 use Rattle.tipc_pair.proofs.Followings.{far_down, near_down}
-use Rattle.tipc_pair.proofs.HeldLaws.{HeldUp, is_held_at, reset_quiet}
+use Rattle.tipc_pair.proofs.HeldLaws.{HeldUp, reset_quiet}
 use Rattle.tipc_changeover.specs.Links.{Bearer, State}
 use Rattle.tipc_changeover.specs.Sound.{Sound}
 use Rattle.tipc_twin_links.specs.Traffic.{Traffic}

@@ -17,7 +17,7 @@ use Rattle.tipc_link.specs.Records.{Received, is_changeover, is_tunnel, named, t
 use Rattle.tipc_pair.specs.Facing.{PairEnds}
 use Rattle.tipc_pair.specs.PairArrivals.{IsTunnelOf, SpeaksOfFar, Unwraps, as_it_is, freed_at, freed_by, inner_at, inner_taken, inside_of, none_taken, restored, taken_down, taken_in, tunnel, tunnelled_through}
 use Rattle.tipc_pair.specs.Courses.{Course, going_on}
-use Rattle.tipc_pair.specs.Runs.{inner_of}
+use Rattle.tipc_pair.specs.Runs.{inner_of, shown_by}
 use Rattle.tipc_pair.proofs.Listed.{spelled_tunnel}
 use Rattle.tipc_changeover.specs.Slots.{Plain, Slot, Tunnel}
 use Rattle.tipc_changeover.specs.Links.{Bearer, State}
@@ -113,16 +113,16 @@ not_none : (b : Bool) → not b ≡ false → b ≡ true
 not_none true is = refl
 not_none false is = cc
 
-inside_so : (kind : ChangeoverType) (old : OldSession) (count place : ℕ) (line : List (List ℕ)) (inner : List ℕ) (by : ℕ) → slice_get line (place - 1) ≡ Some inner → MayBeIn kind old count inner
-    → IsInside line place (not (is_tunnel inner)) (inside_of (told_of kind old count (record { number = number_of place; packet = inner })) by)
-inside_so kind old count place line inner by there may = record {
+inside_so : (kind : ChangeoverType) (old : OldSession) (own count place : ℕ) (line : List (List ℕ)) (inner : List ℕ) (by : ℕ) → slice_get line (place - 1) ≡ Some inner → MayBeIn kind old count inner
+    → IsInside line place (not (is_tunnel inner)) (inside_of (told_of kind old own count (record { number = number_of place; packet = inner })) by)
+inside_so kind old own count place line inner by there may = record {
   number = refl;
   whole = λ packet full at_place.
       (let plain = not_both (is_tunnel inner) full in
       let same : inner ≡ packet = cc in
-      let bytes : inner_of (record { number = number_of place; packet = inner }) ≡ numbered (number_of place) inner = ap (λ z. if z then [] else numbered (number_of place) inner) plain in
-      (ap restored bytes ∙ may.back place plain ∙ same, subst (λ (ps : List ℕ). 1 ≤ length ps) same (may.bytes plain)));
-  empty = λ none. ap (λ z. restored (if z then [] else numbered (number_of place) inner)) (not_none (is_tunnel inner) none) ∙ restored_none;
+      let bytes : inner_of own (record { number = number_of place; packet = inner }) ≡ numbered (number_of place) (shown_by own inner) = ap (λ z. if z then [] else numbered (number_of place) (shown_by own inner)) plain in
+      (ap restored bytes ∙ may.back own place plain ∙ same, subst (λ (ps : List ℕ). 1 ≤ length ps) same (may.bytes plain)));
+  empty = λ none. ap (λ z. restored (if z then [] else numbered (number_of place) (shown_by own inner))) (not_none (is_tunnel inner) none) ∙ restored_none;
 }
 
 -- ---- a tunnel packet, and what follows it
@@ -146,18 +146,18 @@ told_so b t s bearer f q full e first others two lines sound bounded h next slot
       is = record { made = made; spelled = is; old_is = refl };
       took = behind_tunnel b bearer t s first others [] _ (record_of (inner_taken (told_by_marker kind (record { bearer = beside bearer; epoch = epoch_of t.far.first f })) first.by e)) sound next T (recorded_for t.far e _ T.state.far_record T.far_is);
     }
-told_so b t s bearer f q full e first others two lines sound bounded h next slot low (wraps kind count place inner some there may is) =
+told_so b t s bearer f q full e first others two lines sound bounded h next slot low (wraps kind own count place inner some there may is) =
     let old : OldSession = record { bearer = beside bearer; epoch = epoch_of t.far.first f } in
-    let v = told_of kind old count (record { number = number_of place; packet = inner }) in
+    let v = told_of kind old own count (record { number = number_of place; packet = inner }) in
     let u = inside_of v first.by in
-    let T = takes_tunnel b bearer t s (record_of e) f place (not (is_tunnel inner)) u two lines sound bounded h slot low some (inside_so kind old count place (t.far.line f) inner first.by there may) in
+    let T = takes_tunnel b bearer t s (record_of e) f place (not (is_tunnel inner)) u two lines sound bounded h slot low some (inside_so kind old own count place (t.far.line f) inner first.by there may) in
     let test = some_count count may.some in
     let far_is : inner_taken v first.by e ≡ tunnelled_end e (epoch_of t.far.first f) u = ap (λ z. if z then named_end e (epoch_of t.far.first f) else tunnelled_end e (epoch_of t.far.first f) u) test in
     let freed_is : freed_by v first.by e ≡ taken_in (tunnelled_outcome (named (record_of e) (epoch_of t.far.first f)) (epoch_of t.far.first f) u) =
     ap (λ z. if z then [] else taken_in (tunnelled_outcome (named (record_of e) (epoch_of t.far.first f)) (epoch_of t.far.first f) u)) test in
     record {
       told = v;
-      is = record { made = may.made place; spelled = is; old_is = refl };
+      is = record { made = may.made own place; spelled = is; old_is = refl };
       took = subst (λ (d : LinkEnd). TookAll b bearer t s (suc (length others)) (record_of d) (freed_by v first.by e ++ others)) (sym far_is)
           (subst (λ (ts : List Taken). TookAll b bearer t s (suc (length others)) (record_of (tunnelled_end e (epoch_of t.far.first f) u)) (ts ++ others)) (sym freed_is)
           (behind_tunnel b bearer t s first others _ _ (record_of (tunnelled_end e (epoch_of t.far.first f) u)) sound next T (recorded_for t.far e _ T.state.far_record T.far_is)));
@@ -194,7 +194,7 @@ speaks_far y other f packet v h made = record {
 
 told_of_slot : (bearer f q : ℕ) (full : Bool) (other : Lines) (line : List (List ℕ)) (packet : List ℕ) → SpeaksOf (record { bearer = bearer; epoch = epoch_of other.first f }) line packet q full → (v : Tunnelled) × IsTold bearer other f packet v
 told_of_slot bearer f q full other line packet (marks kind made is) = (told_by_marker kind (record { bearer = bearer; epoch = epoch_of other.first f }), record { made = made; spelled = is; old_is = refl })
-told_of_slot bearer f q full other line packet (wraps kind count place inner some there may is) = (told_of kind (record { bearer = bearer; epoch = epoch_of other.first f }) count (record { number = number_of place; packet = inner }), record { made = may.made place; spelled = is; old_is = refl })
+told_of_slot bearer f q full other line packet (wraps kind own count place inner some there may is) = (told_of kind (record { bearer = bearer; epoch = epoch_of other.first f }) own count (record { number = number_of place; packet = inner }), record { made = may.made own place; spelled = is; old_is = refl })
 
 -- the far link's end
 an_end : (o : Option LinkEnd) → is_some o ≡ true → (e : LinkEnd) × (o ≡ Some e)

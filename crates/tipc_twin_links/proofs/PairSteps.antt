@@ -100,11 +100,11 @@ fails_over b x e e' f s u bearer' t z h k fall stand sound can =
     let E : SendingEnds = record { bearer = x.bearer; near = record { epoch = e.fsm.own; state = Up; window = s.sending }; far = record { epoch = f.fsm.own; state = Up; window = u.sending } } in
     let stand' = subst (λ y. StandFor b y t z) (both_seen x x.bearer bearer' e f s u h k) stand in
     let old = same_old x.bearer e.fsm.own s h.bearer_is h.epoch_is in
-    let down = fails b E t z (emptied s.sending) stand' sound refl refl (subst (λ (o : OldSession). CanTravel Original o s.sending.unacked) old can) in
-    let left_is : left (near_session E) s.sending ≡ left_by s = ap (λ (o : OldSession). left o s.sending) (sym old) in
-    let up = far_flushes b (failed E (emptied s.sending)) t z down refl k.few in
+    let down = fails b s.own E t z (emptied s.sending) stand' sound refl refl (subst (λ (o : OldSession). CanTravel Original o s.sending.unacked) old can) in
+    let left_is : left (near_session E) s.own s.sending ≡ left_by s = ap (λ (o : OldSession). left o s.own s.sending) (sym old) in
+    let up = far_flushes b (failed s.own E (emptied s.sending)) t z down refl k.few in
     subst (λ y. Become b y (far_more t (f.fsm.own + 1 - t.far.first) (gets u (left_by s))) z) (sym (fallen_seen x e e' f s u bearer' h k fall))
-    (subst (λ ps. Become b (far_window (failed E (emptied s.sending)) (advanced (room (offered u.sending ps)) (offered u.sending ps))) (far_more t (f.fsm.own + 1 - t.far.first) (take (room (offered u.sending ps)) (offered u.sending ps).waiting)) z) left_is up)
+    (subst (λ ps. Become b (far_window (failed s.own E (emptied s.sending)) (advanced (room (offered u.sending ps)) (offered u.sending ps))) (far_more t (f.fsm.own + 1 - t.far.first) (take (room (offered u.sending ps)) (offered u.sending ps).waiting)) z) left_is up)
 
 -- ---- a link goes up
 
@@ -136,8 +136,8 @@ switches_over b x e e' f s u t z first is h k stand sound can =
     let E : SendingEnds = record { bearer = x.bearer; near = record { epoch = e.fsm.own; state = Reset; window = window_in e.session }; far = record { epoch = f.fsm.own; state = Up; window = u.sending } } in
     let stand' = subst (λ y. StandFor b y t z) (beside_seen x (beside x.bearer) e f u is h.reset k) stand in
     let old = same_old (beside x.bearer) f.fsm.own u k.bearer_is k.epoch_is in
-    let up = switches b E t z stand' sound first refl refl (subst (λ (o : OldSession). CanTravel Duplicate o u.sending.unacked) old can) in
-    let taken_is : taken_from (far_session E) u.sending ≡ taken_over u = ap (λ (o : OldSession). taken_from o u.sending) (sym old) in
-    let moved = flushes b (switched E) t z up refl (omega arith) in
+    let up = switches b u.own E t z stand' sound first refl refl (subst (λ (o : OldSession). CanTravel Duplicate o u.sending.unacked) old can) in
+    let taken_is : taken_from (far_session E) u.own u.sending ≡ taken_over u = ap (λ (o : OldSession). taken_from o u.own u.sending) (sym old) in
+    let moved = flushes b (switched u.own E) t z up refl (omega arith) in
     subst (λ y. Become b y (near_more t (e.fsm.own + 1 - t.near.first) (take (room (offered fresh (taken_over u))) (taken_over u))) z) (sym (risen_seen x e e' f s u (beside x.bearer) h k))
     (subst (λ ps. Become b (record { bearer = x.bearer; near = record { epoch = e.fsm.own; state = Up; window = advanced (room (offered fresh ps)) (offered fresh ps) }; far = record { epoch = f.fsm.own; state = Up; window = without_waiting u.sending } }) (near_more t (e.fsm.own + 1 - t.near.first) (take (room (offered fresh ps)) ps)) z) taken_is moved)

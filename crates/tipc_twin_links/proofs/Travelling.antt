@@ -54,24 +54,24 @@ dropped_tunnel p ps tunnel = rw tunnel refl
 
 -- ---- a run
 
-run_from : (put : List (List ℕ)) (bearer : ℕ) (l : Lines) (kind : ChangeoverType) (count : ℕ) (fullness : Slot → Bool) (e k : ℕ) (zs : List Slot) (ps : List (List ℕ)) → 1 ≤ e
+run_from : (put : List (List ℕ)) (bearer : ℕ) (l : Lines) (kind : ChangeoverType) (own count : ℕ) (fullness : Slot → Bool) (e k : ℕ) (zs : List Slot) (ps : List (List ℕ)) → 1 ≤ e
     → AreFor (MayWrap kind (record { bearer = bearer; epoch = epoch_of l.first e }) count fullness) zs ps
     → ((j : ℕ) (inner : List ℕ) → slice_get ps j ≡ Some inner → slice_get (l.line e) (k + j) ≡ Some inner)
-    → AreFor (IsFor put bearer l) (tunnelled fullness e k zs) (map (wrapped kind (record { bearer = bearer; epoch = epoch_of l.first e }) count) (kept_after k ps))
+    → AreFor (IsFor put bearer l) (tunnelled fullness e k zs) (map (wrapped kind (record { bearer = bearer; epoch = epoch_of l.first e }) own count) (kept_after k ps))
 unfolding tunnelled
-run_from put bearer l kind count fullness e k [] [] low h stand = tt
-run_from put bearer l kind count fullness e k [] (p ∷ ps) low h stand = absurd h
-run_from put bearer l kind count fullness e k (z ∷ zs) [] low h stand = absurd h
-run_from put bearer l kind count fullness e k (z ∷ zs) (p ∷ ps) low h stand =
+run_from put bearer l kind own count fullness e k [] [] low h stand = tt
+run_from put bearer l kind own count fullness e k [] (p ∷ ps) low h stand = absurd h
+run_from put bearer l kind own count fullness e k (z ∷ zs) [] low h stand = absurd h
+run_from put bearer l kind own count fullness e k (z ∷ zs) (p ∷ ps) low h stand =
     let old : OldSession = record { bearer = bearer; epoch = epoch_of l.first e } in
-    let packet = wrapped kind old count (record { number = number_of (k + 1); packet = p }) in
+    let packet = wrapped kind old own count (record { number = number_of (k + 1); packet = p }) in
     let first : slice_get (l.line e) (k + 1 - 1) ≡ Some p = (let place : k + 1 - 1 ≡ k + 0 = omega arith in rw place (stand 0 p refl)) in (
       record {
         begun = low;
-        tunnel = made_tunnel (told_of kind old count (record { number = number_of (k + 1); packet = p })) (h.0.may.made (k + 1));
-        speaks = subst (λ full. SpeaksOf old (l.line e) packet (k + 1) full) (sym h.0.full) (wraps kind count (k + 1) p (omega arith) first h.0.may refl);
+        tunnel = made_tunnel (told_of kind old own count (record { number = number_of (k + 1); packet = p })) (h.0.may.made own (k + 1));
+        speaks = subst (λ full. SpeaksOf old (l.line e) packet (k + 1) full) (sym h.0.full) (wraps kind own count (k + 1) p (omega arith) first h.0.may refl);
       },
-      run_from put bearer l kind count fullness e (k + 1) zs ps low h.1 (λ j inner there. (let place : k + 1 + j ≡ k + suc j = omega arith in rw place (stand (suc j) inner there))),
+      run_from put bearer l kind own count fullness e (k + 1) zs ps low h.1 (λ j inner there. (let place : k + 1 + j ≡ k + suc j = omega arith in rw place (stand (suc j) inner there))),
     )
 
 kept_length : (k : ℕ) (ps : List (List ℕ)) → length (kept_after k ps) ≡ length ps
@@ -79,28 +79,28 @@ kept_length k [] = refl
 kept_length k (p ∷ ps) = ap suc (kept_length (k + 1) ps)
 
 -- the packets of a run are those of its slots
-run_for : (put : List (List ℕ)) (bearer : ℕ) (l : Lines) (kind : ChangeoverType) (fullness : Slot → Bool) (e k : ℕ) (zs : List Slot) (ps : List (List ℕ)) → 1 ≤ e
+run_for : (put : List (List ℕ)) (bearer : ℕ) (l : Lines) (kind : ChangeoverType) (own : ℕ) (fullness : Slot → Bool) (e k : ℕ) (zs : List Slot) (ps : List (List ℕ)) → 1 ≤ e
     → AreFor (MayWrap kind (record { bearer = bearer; epoch = epoch_of l.first e }) (length ps) fullness) zs ps
     → ((j : ℕ) (inner : List ℕ) → slice_get ps j ≡ Some inner → slice_get (l.line e) (k + j) ≡ Some inner)
     → IsTunnel (told_by_marker kind (record { bearer = bearer; epoch = epoch_of l.first e }))
-    → AreFor (IsFor put bearer l) (or_marker e (tunnelled fullness e k zs)) (run_of kind (record { bearer = bearer; epoch = epoch_of l.first e }) (kept_after k ps))
+    → AreFor (IsFor put bearer l) (or_marker e (tunnelled fullness e k zs)) (run_of kind (record { bearer = bearer; epoch = epoch_of l.first e }) own (kept_after k ps))
 unfolding tunnelled or_marker run_of
-run_for put bearer l kind fullness e k [] [] low h stand mark = (record { begun = low; tunnel = made_tunnel (told_by_marker kind (record { bearer = bearer; epoch = epoch_of l.first e })) mark; speaks = marks kind mark refl }, tt)
-run_for put bearer l kind fullness e k [] (p ∷ ps) low h stand mark = absurd h
-run_for put bearer l kind fullness e k (z ∷ zs) [] low h stand mark = absurd h
-run_for put bearer l kind fullness e k (z ∷ zs) (p ∷ ps) low h stand mark =
+run_for put bearer l kind own fullness e k [] [] low h stand mark = (record { begun = low; tunnel = made_tunnel (told_by_marker kind (record { bearer = bearer; epoch = epoch_of l.first e })) mark; speaks = marks kind mark refl }, tt)
+run_for put bearer l kind own fullness e k [] (p ∷ ps) low h stand mark = absurd h
+run_for put bearer l kind own fullness e k (z ∷ zs) [] low h stand mark = absurd h
+run_for put bearer l kind own fullness e k (z ∷ zs) (p ∷ ps) low h stand mark =
     let old : OldSession = record { bearer = bearer; epoch = epoch_of l.first e } in
     let count : length (kept_after k (p ∷ ps)) ≡ length (p ∷ ps) = kept_length k (p ∷ ps) in
-    subst (λ n. AreFor (IsFor put bearer l) (tunnelled fullness e k (z ∷ zs)) (map (wrapped kind old n) (kept_after k (p ∷ ps)))) (sym count)
-    (run_from put bearer l kind (length (p ∷ ps)) fullness e k (z ∷ zs) (p ∷ ps) low h stand)
+    subst (λ n. AreFor (IsFor put bearer l) (tunnelled fullness e k (z ∷ zs)) (map (wrapped kind old own n) (kept_after k (p ∷ ps)))) (sym count)
+    (run_from put bearer l kind own (length (p ∷ ps)) fullness e k (z ∷ zs) (p ∷ ps) low h stand)
 
 -- the run for what isn't acknowledged of a session's line
-pub run_stands : (put : List (List ℕ)) (bearer : ℕ) (l : Lines) (kind : ChangeoverType) (fullness : Slot → Bool) (e acked : ℕ) (line : List Slot) (ps : List (List ℕ)) → 1 ≤ e → ps ≡ drop acked (l.line e)
+pub run_stands : (put : List (List ℕ)) (bearer : ℕ) (l : Lines) (kind : ChangeoverType) (own : ℕ) (fullness : Slot → Bool) (e acked : ℕ) (line : List Slot) (ps : List (List ℕ)) → 1 ≤ e → ps ≡ drop acked (l.line e)
     → AreFor (MayWrap kind (record { bearer = bearer; epoch = epoch_of l.first e }) (length ps) fullness) (drop acked line) ps
     → IsTunnel (told_by_marker kind (record { bearer = bearer; epoch = epoch_of l.first e }))
-    → AreFor (IsFor put bearer l) (run fullness e acked line) (run_of kind (record { bearer = bearer; epoch = epoch_of l.first e }) (kept_after acked ps))
-run_stands put bearer l kind fullness e acked line ps low is h mark =
-    run_for put bearer l kind fullness e acked (drop acked line) ps low h (λ j inner there. dropped_get acked (l.line e) j inner (subst (λ qs. slice_get qs j ≡ Some inner) is there)) mark
+    → AreFor (IsFor put bearer l) (run fullness e acked line) (run_of kind (record { bearer = bearer; epoch = epoch_of l.first e }) own (kept_after acked ps))
+run_stands put bearer l kind own fullness e acked line ps low is h mark =
+    run_for put bearer l kind own fullness e acked (drop acked line) ps low h (λ j inner there. dropped_get acked (l.line e) j inner (subst (λ qs. slice_get qs j ≡ Some inner) is there)) mark
 
 -- ---- plain packets
 

@@ -8,9 +8,9 @@ use Rattle.tipc_tunnel.specs.Tunnels.{IsTunnel, numbered}
 use Rattle.tipc_tunnel.proofs.TunnelLaws.{wrapped_tunnel}
 use Rattle.tipc_link.specs.Records.{is_tunnel}
 use Rattle.tipc_pair.specs.PairArrivals.{restored}
-use Rattle.tipc_pair.specs.Runs.{IsListed, plain, tunnel}
-use Rattle.tipc_pair.proofs.Listed.{both_ways, listed_inner, listed_size, made_tunnel}
-use Rattle.tipc_pair.proofs.Restoring.{restored_numbered}
+use Rattle.tipc_pair.specs.Runs.{IsListed, plain, shown_by, tunnel}
+use Rattle.tipc_pair.proofs.Listed.{both_ways, listed_inner, made_tunnel}
+use Rattle.tipc_pair.proofs.Shown.{restored_inside, shown_may}
 use Rattle.tipc_twin_links.specs.Packets.{MayBeIn, told_by_marker, told_of}
 use Rattle.tipc_twin_links.specs.Ends.{AreListed, WaitsAsListed}
 use Rattle.tipc_twin_links.specs.Steps.{CanTravel, EachWraps}
@@ -35,18 +35,19 @@ placeholder_tunnel kind old count number bearer epoch c n some = record {
   size = omega arith;
 }
 
-told_tunnel : (kind : ChangeoverType) (old : OldSession) (count : ℕ) (packet : List ℕ) → IsListed packet → old.bearer ≤ 1 → old.epoch < 2 ^ 64 → count < 2 ^ 16 → 1 ≤ count → (n : ℕ)
-    → IsTunnel (told_of kind old count (record { number = number_of n; packet = packet }))
-told_tunnel kind old count packet listed bearer epoch few some n = elim (cases_Bool (is_tunnel packet)) [
-  | inl is ↦ subst (λ bytes. IsTunnel (record { kind = kind; old = old; count = count; number = number_of n; inner = bytes })) (sym (ap (λ t. if t then [] else numbered (number_of n) packet) is))
+told_tunnel : (kind : ChangeoverType) (old : OldSession) (count : ℕ) (packet : List ℕ) → IsListed packet → old.bearer ≤ 1 → old.epoch < 2 ^ 64 → count < 2 ^ 16 → 1 ≤ count → (own n : ℕ)
+    → IsTunnel (told_of kind old own count (record { number = number_of n; packet = packet }))
+told_tunnel kind old count packet listed bearer epoch few some own n = elim (cases_Bool (is_tunnel packet)) [
+  | inl is ↦ subst (λ bytes. IsTunnel (record { kind = kind; old = old; count = count; number = number_of n; inner = bytes })) (sym (ap (λ t. if t then [] else numbered (number_of n) (shown_by own packet)) is))
       (placeholder_tunnel kind old count (number_of n) bearer epoch few (short_number n) some)
-  | inr other ↦ subst (λ bytes. IsTunnel (record { kind = kind; old = old; count = count; number = number_of n; inner = bytes })) (sym (ap (λ t. if t then [] else numbered (number_of n) packet) other))
-      (wrapped_tunnel kind old count (number_of n) packet bearer epoch few (short_number n) (λ none. absurd (let wrong : ⊥ = omega arith in wrong)) (listed_inner packet listed other) (listed_size packet listed other))
+  | inr other ↦ subst (λ bytes. IsTunnel (record { kind = kind; old = old; count = count; number = number_of n; inner = bytes })) (sym (ap (λ t. if t then [] else numbered (number_of n) (shown_by own packet)) other))
+      (let may = shown_may own packet listed other in
+      wrapped_tunnel kind old count (number_of n) (shown_by own packet) bearer epoch few (short_number n) (λ none. absurd (let wrong : ⊥ = omega arith in wrong)) may.0 may.1)
 ]
 
 -- it is given back as it waits
-listed_back : (packet : List ℕ) → WaitsAsListed packet → (n : ℕ) → is_tunnel packet ≡ false → restored (numbered (number_of n) packet) ≡ packet
-listed_back packet h n other = restored_numbered packet (number_of n) (listed_inner packet h.listed other) (short_number n) ∙ h.as_waiting
+listed_back : (packet : List ℕ) → WaitsAsListed packet → (own n : ℕ) → is_tunnel packet ≡ false → restored (numbered (number_of n) (shown_by own packet)) ≡ packet
+listed_back packet h own n other = restored_inside own packet (number_of n) (listed_inner packet h.listed other) (short_number n) ∙ h.as_waiting
 
 listed_may : (kind : ChangeoverType) (old : OldSession) (count : ℕ) (packet : List ℕ) → WaitsAsListed packet → old.bearer ≤ 1 → old.epoch < 2 ^ 64 → count < 2 ^ 16 → 1 ≤ count → MayBeIn kind old count packet
 listed_may kind old count packet h bearer epoch few some = record {

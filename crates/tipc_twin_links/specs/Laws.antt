@@ -77,15 +77,15 @@ RisesFollow = (b : Bearer) (x : SendingEnds) (t : Traffic) (s : State) → Stand
     → (b ≡ First → x.far.state ≢ Up) → Become b (near_up x) t s
 
 abbrev pub SwitchesFollow : Type 0
-SwitchesFollow = (b : Bearer) (x : SendingEnds) (t : Traffic) (s : State) → StandFor b x t s → Sound b s → b ≡ First
+SwitchesFollow = (b : Bearer) (own : ℕ) (x : SendingEnds) (t : Traffic) (s : State) → StandFor b x t s → Sound b s → b ≡ First
     → x.near.state ≡ Reset → x.far.state ≡ Up → CanTravel Duplicate (far_session x) x.far.window.unacked
-    → Become b (switched x) t s
+    → Become b (switched own x) t s
 
 abbrev pub FailoversFollow : Type 0
-FailoversFollow = (b : Bearer) (x : SendingEnds) (t : Traffic) (s : State) (last : Sending) → StandFor b x t s
+FailoversFollow = (b : Bearer) (own : ℕ) (x : SendingEnds) (t : Traffic) (s : State) (last : Sending) → StandFor b x t s
     → Sound b s
     → x.near.state ≡ Up → x.far.state ≡ Up → CanTravel Original (near_session x) x.near.window.unacked
-    → Become b (failed x last) t s
+    → Become b (failed own x last) t s
 
 -- an end is held no longer, once the other link has no tunnel packet
 abbrev pub ReleasesFollow : Type 0

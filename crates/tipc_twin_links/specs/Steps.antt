@@ -77,24 +77,24 @@ pub record CanTravel (kind : ChangeoverType) (old : OldSession) (packets : List 
   pub mark : IsTunnel (told_by_marker kind old)
   pub each : EachWraps kind old (length packets) packets
 
--- It goes down while the far one is up, which gets what it leaves.
-abbrev pub left : OldSession → Sending → List (List ℕ)
-left old w = run_of Original old (kept_of w) ++ filter (λ packet. not (is_tunnel packet)) w.waiting
+-- It goes down while the far one is up, which gets what it leaves of the packets of this node.
+abbrev pub left : OldSession → ℕ → Sending → List (List ℕ)
+left old own w = run_of Original old own (kept_of w) ++ filter (λ packet. not (is_tunnel packet)) w.waiting
 
-abbrev pub failed : SendingEnds → Sending → SendingEnds
-failed x w = record {
+abbrev pub failed : ℕ → SendingEnds → Sending → SendingEnds
+failed own x w = record {
   bearer = x.bearer;
   near = with_down x.near w;
-  far = with_window x.far (offered x.far.window (left (near_session x) x.near.window));
+  far = with_window x.far (offered x.far.window (left (near_session x) own x.near.window));
 }
 
 -- it goes up in place of the far one, and takes over what that one has
-abbrev pub taken_from : OldSession → Sending → List (List ℕ)
-taken_from old w = run_of Duplicate old (kept_of w) ++ w.waiting
+abbrev pub taken_from : OldSession → ℕ → Sending → List (List ℕ)
+taken_from old own w = run_of Duplicate old own (kept_of w) ++ w.waiting
 
-abbrev pub switched : SendingEnds → SendingEnds
-switched x = record {
+abbrev pub switched : ℕ → SendingEnds → SendingEnds
+switched own x = record {
   bearer = x.bearer;
-  near = with_up x.near (offered fresh (taken_from (far_session x) x.far.window));
+  near = with_up x.near (offered fresh (taken_from (far_session x) own x.far.window));
   far = with_window x.far (without_waiting x.far.window);
 }

@@ -5,7 +5,7 @@ use Rattle.tipc_link.specs.Links.{LinkEnd, after}
 use Rattle.tipc_link.specs.Sessions.{SessionEnd, brought, flushed, released, took}
 use Rattle.tipc_paired.proofs.CallDeeds.{calls_on, turns_on}
 use Rattle.tipc_paired.proofs.PairedLaw.{all_paired}
-use Rattle.tipc_paired.proofs.QuietDeeds.{restarts_leaves}
+use Rattle.tipc_paired.proofs.RestartDeeds.{restarts_leaves}
 use Rattle.tipc_paired.proofs.Wires.{is_up_of, on_put, put_other, session_of_up}
 use Rattle.tipc_paired.specs.Deeds.{Besides, Changes, Does, DoesAll, IsBeside, Works, besides, calls, changes, counts, ended_with, falls, falls_beside, follows, forgot_with, hands_over, makes, notes, nothing, numbers, parted, parts, puts, releases, restarts, rises, rises_beside, risen, shows, takes, tells, turns, with_taken, works}
 use Rattle.tipc_paired.specs.Paired.{ArePaired}

@@ -35,7 +35,7 @@ tunnel_size t h = let size = length-spelling (tunnel_packet t) in let inner = h.
 
 speaks_size : (old : OldSession) (line : List (List ℕ)) (packet : List ℕ) (place : ℕ) (full : Bool) → SpeaksOf old line packet place full → length packet ≤ 1500
 speaks_size old line packet _ _ (marks kind h is) = subst (λ (bytes : List ℕ). length bytes ≤ 1500) (sym is) (tunnel_size _ h)
-speaks_size old line packet _ _ (wraps kind count place inner some there may is) = subst (λ (bytes : List ℕ). length bytes ≤ 1500) (sym is) (tunnel_size _ (may.made place))
+speaks_size old line packet _ _ (wraps kind own count place inner some there may is) = subst (λ (bytes : List ℕ). length bytes ≤ 1500) (sym is) (tunnel_size _ (may.made own place))
 
 -- a tunnel packet
 pub carrier_size : (bearer : ℕ) (other : Lines) (session place : ℕ) (full : Bool) (packet : List ℕ) → IsCarrier bearer other session place full packet → length packet ≤ 1500

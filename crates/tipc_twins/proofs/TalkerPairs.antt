@@ -14,14 +14,14 @@ use Rattle.tipc_link_fsm.specs.Runs.{BearerIsCut, TickPasses}
 use Rattle.tipc_link_fsm.specs.Table.{Fsm, is_held, is_up, on_cut}
 use Rattle.tipc_pair.specs.Changeovers.{following, released}
 use Rattle.tipc_pair.specs.Courses.{Course, going_on}
-use Rattle.tipc_pair.specs.Facing.{PairEnds, facing, is_up_at, with_made, with_near}
+use Rattle.tipc_pair.specs.Facing.{PairEnds, facing, is_held_at, is_up_at, with_made, with_near}
 use Rattle.tipc_pair.specs.PairCalls.{Puts, Sends, answered_at, at_bearer, cut_at, cut_near, mended_near, tick_at, tick_near, ticked}
 use Rattle.tipc_pair.specs.PairFacts.{AreHeldRightly, HasCarrier, IsPairOfEnds}
 use Rattle.tipc_pair.specs.Runs.{IsListed}
 use Rattle.tipc_pair.proofs.CourseLaws.{then_pair}
 use Rattle.tipc_pair.proofs.EndFacts.{answered_kept, mended_kept, near_changed, near_kept, session_kept}
 use Rattle.tipc_pair.proofs.EndSteps.{near_of, session_is}
-use Rattle.tipc_pair.proofs.HeldLaws.{GoesQuietly, Shape, facing_quietly, is_held_at, quietly_facing, quietly_same, rightly_facing, shape_contact, shape_held}
+use Rattle.tipc_pair.proofs.HeldLaws.{GoesQuietly, Shape, facing_quietly, quietly_facing, quietly_same, rightly_facing, shape_contact, shape_held}
 use Rattle.tipc_pair.proofs.SessionFacts.{flushed_on, put_on}
 use Rattle.tipc_twin_links.proofs.Posting.{carries_plain}
 use Rattle.tipc_paired.proofs.PairedLaw.{all_paired}

@@ -48,17 +48,6 @@ no_messages first second = record {
   opened = opened_none;
 }
 
--- where the same was put and taken, the messages are the same
-pub same_messages : (c c' : Carriage) (put given : List (List ℕ)) (begun : Joining) → c'.traffic.put ≡ c.traffic.put → c'.state.delivered ≡ c.state.delivered → AreMessages c put given begun → AreMessages c' put given begun
-same_messages c c' put given begun same_put same h = record {
-  messages = h.messages;
-  slots = h.slots;
-  sound = h.sound;
-  bytes = h.bytes ∙ sym same_put;
-  whole = h.whole;
-  opened = subst (λ (ds : List ℕ). HasOpened (flat_map slot_items (take (length ds) h.slots)) given begun) (sym same) h.opened;
-}
-
 -- what was opened is a front of what is sent
 items_front : (c : Carriage) (put given : List (List ℕ)) (begun : Joining) (n : ℕ) → (h : AreMessages c put given begun) → IsFrontOf (flat_map slot_items (take n h.slots)) (flat_map items_of put)
 items_front c put given begun n h = front_items n h.slots (flat_map items_of put) ([], sym (append-nil (flat_map slot_items h.slots) ∙ h.whole))

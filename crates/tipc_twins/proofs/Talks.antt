@@ -1,5 +1,5 @@
 -- The messages between two nodes, in every contact, whatever either does.
-use Rattle.std.proofs.Common.{◌≡◌, ◌<◌, ◌≤◌, ℕ, List, [], sym, ap, ◌∙◌, subst, arith}
+use Rattle.std.proofs.Common.{◌≡◌, ◌<◌, ℕ, List, sym, ap, ◌∙◌, subst, arith}
 use Rattle.tipc_fragments.specs.Joining.{Joining}
 use Rattle.tipc_fragments.specs.Laws.{IsFrontOf}
 use Rattle.tipc_paired.specs.Views.{Node, View}

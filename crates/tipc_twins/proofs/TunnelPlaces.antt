@@ -136,8 +136,8 @@ tells_of : (old : OldSession) (q : ℕ) (full : _) (line : List (List ℕ)) (pac
 tells_of old q full line packet v (marks kind made is) told =
     let same = told_once packet (told_by_marker kind old) v made is told in
     record { epoch_is = ap (λ (w : Tunnelled). w.old.epoch) same; carries = λ some. absurd (true≢false (sym (ap (λ (w : Tunnelled). w.count == 0) same) ∙ some)) }
-tells_of old q full line packet v (wraps kind count place inner some there may is) told =
-    let same = told_once packet (told_of kind old count (record { number = number_of place; packet = inner })) v (may.made place) is told in
+tells_of old q full line packet v (wraps kind own count place inner some there may is) told =
+    let same = told_once packet (told_of kind old own count (record { number = number_of place; packet = inner })) v (may.made own place) is told in
     record {
       epoch_is = ap (λ (w : Tunnelled). w.old.epoch) same;
       carries = λ _. (some, (let within = slice_get_within line (place - 1) inner there in omega arith), ap (λ (w : Tunnelled). w.number) same);

@@ -34,4 +34,4 @@ returns-clause-listed c =
 pub returns-clause-run : goal.returns-clause-run
 returns-clause-run c =
     subst BeginsWithTunnel (sym c.in_ok-add_plain.ensures) (begins_with_tunnel c.in_ok-pieces.pieces _ c.in_ok-pieces.ensures.made
-    (subst (λ xs. 0 < length xs) (sym c.in_ok-pieces.ensures.run) (run_some Original c.hand_over-left.result.old c.as_slice.result.now)))
+    (subst (λ xs. 0 < length xs) (sym c.in_ok-pieces.ensures.run) (run_some Original c.hand_over-left.result.old c.hand_over-left.result.own.word c.as_slice.result.now)))

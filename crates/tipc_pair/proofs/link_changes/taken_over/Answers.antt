@@ -40,8 +40,9 @@ returns-clause-pieces c = λ s is.
     let old = c.in_ok-kept.kept.old in
     let waiting = c.take_waiting-waiting.result in
     c.in_ok-add_all.ensures ∙ (ap (λ run. run ++ waiting) (c.in_ok-pieces.ensures.run
-    ∙ (ap (run_of Duplicate old) (c.as_slice.ensures ∙ kept.0) ∙ ap (λ o. run_of Duplicate o (kept_of s.sending)) (old_is old s.bearer s.epoch kept.1 kept.2)))
-    ∙ ap (λ others. run_of Duplicate (old_of s) (kept_of s.sending) ++ others) (c.take_waiting-waiting.ensures.given ∙ ap waiting_of is))
+    ∙ (ap (run_of Duplicate old c.in_ok-kept.kept.own.word) (c.as_slice.ensures ∙ kept.0) ∙ (ap (λ o. run_of Duplicate o c.in_ok-kept.kept.own.word (kept_of s.sending)) (old_is old s.bearer s.epoch kept.1 kept.2)
+    ∙ ap (λ own. run_of Duplicate (old_of s) own (kept_of s.sending)) kept.3)))
+    ∙ ap (λ others. run_of Duplicate (old_of s) s.own (kept_of s.sending) ++ others) (c.take_waiting-waiting.ensures.given ∙ ap waiting_of is))
 
 pub returns-clause-listed : goal.returns-clause-listed
 returns-clause-listed c =
@@ -53,4 +54,4 @@ returns-clause-listed c =
 pub returns-clause-run : goal.returns-clause-run
 returns-clause-run c =
     subst BeginsWithTunnel (sym c.in_ok-add_all.ensures) (begins_with_tunnel c.in_ok-pieces.pieces _ c.in_ok-pieces.ensures.made
-    (subst (λ xs. 0 < length xs) (sym c.in_ok-pieces.ensures.run) (run_some Duplicate c.in_ok-kept.kept.old c.as_slice.result.now)))
+    (subst (λ xs. 0 < length xs) (sym c.in_ok-pieces.ensures.run) (run_some Duplicate c.in_ok-kept.kept.old c.in_ok-kept.kept.own.word c.as_slice.result.now)))

@@ -14,5 +14,5 @@ returns-clause-run c =
     let kept = c.args.kept.now in
     let some : 0 < length kept = grind (arith, nat_tests) in
     let whole : take c.loop-packet.packet-index kept ≡ kept = take_all c.loop-packet.packet-index kept (omega (arith, c.loop-packet-test.false)) in
-    c.loop-packet.invariant.0 ∙ (ap (map (wrapped c.args.kind c.args.old _)) whole
-    ∙ (ap (λ n. map (wrapped c.args.kind c.args.old n) kept) c.loop-packet.invariant.1 ∙ sym (run_of_some c.args.kind c.args.old kept some)))
+    c.loop-packet.invariant.0 ∙ (ap (map (wrapped c.args.kind c.args.old c.args.own _)) whole
+    ∙ (ap (λ n. map (wrapped c.args.kind c.args.old c.args.own n) kept) c.loop-packet.invariant.1 ∙ sym (run_of_some c.args.kind c.args.old c.args.own kept some)))
