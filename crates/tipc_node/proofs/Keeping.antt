@@ -22,7 +22,7 @@ use Rattle.tipc_node.specs.Telling.{ArePacked, IsTold}
 use Rattle.tipc_node.specs.Turns.{AreNamed}
 use Rattle.tipc_node.specs.Works.{addr_of_word}
 use Rattle.tipc_node.proofs.Kept.{IsKept, arrives_kept, performs_kept, turn_kept}
-use Rattle.tipc_node.proofs.Refusing.{told_found}
+use Rattle.tipc_node.proofs.journal.Refusing.{told_found}
 
 -- the invariant of a node, as its fields
 abbrev pub Held : NodeState → Type 0

@@ -16,15 +16,15 @@ use Rattle.tipc_node.specs.Sharing.{SharesNames}
 use Rattle.tipc_node.specs.Sockets.{kept_answer}
 use Rattle.tipc_node.specs.Telling.{ArePacked, IsTold}
 use Rattle.tipc_node.specs.Turns.{AreNamed}
-use Rattle.tipc_node.proofs.ArrivalTold.{arrives_told}
-use Rattle.tipc_node.proofs.Arrivals.{arrives_turn}
-use Rattle.tipc_node.proofs.FirstTold.{known_told, new_told}
-use Rattle.tipc_node.proofs.Named.{known_named, turn_named}
-use Rattle.tipc_node.proofs.Packed.{known_packed, new_packed, turn_packed}
-use Rattle.tipc_node.proofs.Performing.{performs_turn}
-use Rattle.tipc_node.proofs.SharedNames.{known_shares, new_shares, performs_shares}
-use Rattle.tipc_node.proofs.SharingArrivals.{arrives_shares}
-use Rattle.tipc_node.proofs.Told.{performs_told}
+use Rattle.tipc_node.proofs.journal.ArrivalTold.{arrives_told}
+use Rattle.tipc_node.proofs.turns.Arrivals.{arrives_turn}
+use Rattle.tipc_node.proofs.journal.FirstTold.{known_told, new_told}
+use Rattle.tipc_node.proofs.turns.Named.{known_named, turn_named}
+use Rattle.tipc_node.proofs.pairs.Packed.{known_packed, new_packed, turn_packed}
+use Rattle.tipc_node.proofs.turns.Performing.{performs_turn}
+use Rattle.tipc_node.proofs.names.SharedNames.{known_shares, new_shares, performs_shares}
+use Rattle.tipc_node.proofs.names.SharingArrivals.{arrives_shares}
+use Rattle.tipc_node.proofs.journal.Told.{performs_told}
 
 pub record IsKept (n : NodeState) : Type 0 where
   pub told : IsTold n

@@ -166,7 +166,7 @@ impl Node {
     }
 
     /// All publications that it knows, in order of node, port and key.
-    #[tactic(auto, using(crate::proofs::Refusing::told_names))]
+    #[tactic(auto, using(crate::proofs::journal::Refusing::told_names))]
     pub fn names(&self) -> &[Publication]
         ensures held { result.now ≡ self.now.sockets.names }
         ensures told { result.now ≡ names self.now.journal }

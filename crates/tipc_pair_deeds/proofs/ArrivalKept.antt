@@ -32,7 +32,7 @@ use Rattle.tipc_paired.proofs.PairedLaw.{all_paired}
 use Rattle.tipc_paired.specs.Deeds.{MayCall}
 use Rattle.tipc_paired.specs.Paired.{ArePaired, IsShown}
 use Rattle.tipc_paired.specs.Views.{View, said_by}
-use Rattle.tipc_paired.proofs.Sides.{shown_told}
+use Rattle.tipc_paired.proofs.wires.Sides.{shown_told}
 use Rattle.tipc_pair_deeds.proofs.Arriving.{hears_takes, notice_shown, reached_begun, unheard}
 use Rattle.tipc_pair_deeds.proofs.Calls.{can_hand, nothing_shown}
 use Rattle.tipc_pair_deeds.proofs.EndsKept.{ends_turned, heard_kept, released_ends, stepped_kept}

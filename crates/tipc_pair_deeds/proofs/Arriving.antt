@@ -22,9 +22,9 @@ use Rattle.tipc_pair.specs.Changeovers.{released, risen}
 use Rattle.tipc_pair.specs.Courses.{going_on, rests}
 use Rattle.tipc_pair.specs.Facing.{PairEnds, in_contact, is_up_at, with_near}
 use Rattle.tipc_pair.specs.PairArrivals.{Heard, activate_higher, activates, behind, by_number, hears, met, met_at, met_near, passing, reset_near}
-use Rattle.tipc_paired.proofs.Frames.{er_of-frame, es_of-frame, same_packet}
-use Rattle.tipc_paired.proofs.SessionDeeds.{of_session}
-use Rattle.tipc_paired.proofs.Sides.{shown_told}
+use Rattle.tipc_paired.proofs.wires.Frames.{er_of-frame, es_of-frame, same_packet}
+use Rattle.tipc_paired.proofs.sessions.SessionDeeds.{of_session}
+use Rattle.tipc_paired.proofs.wires.Sides.{shown_told}
 use Rattle.tipc_paired.specs.Deeds.{IsOfBegun, MayCall}
 use Rattle.tipc_paired.specs.Paired.{ArePaired, IsFrame, IsShown, ShowsContact}
 use Rattle.tipc_paired.specs.Views.{View, er_of, es_of, said_by}

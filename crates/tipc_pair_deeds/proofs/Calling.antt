@@ -20,9 +20,9 @@ use Rattle.tipc_pair.specs.Changeovers.{at_far, is_clear, let_go, let_go_frames,
 use Rattle.tipc_pair.specs.Courses.{rests}
 use Rattle.tipc_pair.specs.Facing.{PairEnds, turned, with_made, with_near}
 use Rattle.tipc_pair.specs.PairCalls.{mended, mended_frames, mended_near}
-use Rattle.tipc_paired.proofs.CallDeeds.{may_later}
-use Rattle.tipc_paired.proofs.Turns.{notices_unheld, says_notice}
-use Rattle.tipc_paired.proofs.Wires.{put_same, session_of_up}
+use Rattle.tipc_paired.proofs.sessions.CallDeeds.{may_later}
+use Rattle.tipc_paired.proofs.wires.Turns.{notices_unheld, says_notice}
+use Rattle.tipc_paired.proofs.wires.Wires.{put_same, session_of_up}
 use Rattle.tipc_paired.specs.Deeds.{MayCall, MayTell, activates, calls, made_on, makes, resets, states, turns, works}
 use Rattle.tipc_paired.specs.Paired.{ArePaired}
 use Rattle.tipc_paired.specs.Views.{View, Wire, with_end, with_wire}

@@ -19,8 +19,8 @@ use Rattle.tipc_pair.specs.PairFacts.{IsEndOf, IsPairOfEnds, IsSessionOn}
 use Rattle.tipc_pair.specs.Runs.{left_by, taken_over}
 use Rattle.tipc_pair.proofs.EndSteps.{far_of, near_of, session_is}
 use Rattle.tipc_paired.proofs.PairedLaw.{all_paired}
-use Rattle.tipc_paired.proofs.SessionDeeds.{epochs_fit}
-use Rattle.tipc_paired.proofs.Wires.{same_some, session_of_up}
+use Rattle.tipc_paired.proofs.sessions.SessionDeeds.{epochs_fit}
+use Rattle.tipc_paired.proofs.wires.Wires.{same_some, session_of_up}
 use Rattle.tipc_paired.specs.Deeds.{Does, IsUp, MayTell, notes, states, with_going, works}
 use Rattle.tipc_paired.specs.Paired.{ArePaired, IsPacket}
 use Rattle.tipc_paired.specs.Views.{View, with_wire}

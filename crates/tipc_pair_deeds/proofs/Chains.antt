@@ -5,7 +5,7 @@ use Rattle.tipc_outside.specs.declared.outgoing.Outgoing.{Outgoing}
 use Rattle.tipc_link.proofs.Directions.{slice_get-append, slice_get-behind}
 use Rattle.tipc_link.proofs.LinkLaw.{Each, Each-append, Each-none}
 use Rattle.tipc_paired.proofs.PairedLaw.{all_then}
-use Rattle.tipc_paired.proofs.Wires.{map_at, on_put}
+use Rattle.tipc_paired.proofs.wires.Wires.{map_at, on_put}
 use Rattle.tipc_paired.specs.Deeds.{Besides, Changes, Does, DoesAll, MayTell, Works, besides, calls, changes, counts, falls, falls_beside, follows, framed, hands_over, makes, notes, nothing, numbers, parts, puts, releases, restarts, rises, rises_beside, shows, takes, tells, turns, works}
 use Rattle.tipc_paired.specs.Views.{Frame, View, Wire, with_told, with_wire}
 use Rattle.tipc_pair_deeds.specs.PairDeeds.{Did, IsToldSince, both_more, none_more}

@@ -8,7 +8,7 @@ use Rattle.tipc_pair.specs.Changeovers.{failing, loaded, switching}
 use Rattle.tipc_pair.specs.Facing.{PairEnds, other, with_near}
 use Rattle.tipc_pair.specs.Runs.{left_by, taken_over}
 use Rattle.tipc_paired.proofs.PairedLaw.{all_paired, does_paired}
-use Rattle.tipc_paired.proofs.Wires.{session_of_up}
+use Rattle.tipc_paired.proofs.wires.Wires.{session_of_up}
 use Rattle.tipc_paired.specs.Deeds.{Does, IsUp, besides, hands_over, puts, with_going}
 use Rattle.tipc_paired.specs.Paired.{ArePaired, IsPacket}
 use Rattle.tipc_paired.specs.Views.{View, with_end, with_wire}

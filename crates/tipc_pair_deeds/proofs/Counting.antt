@@ -12,7 +12,7 @@ use Rattle.tipc_pair.specs.Courses.{rests}
 use Rattle.tipc_pair.specs.Facing.{PairEnds, is_up_at, other, with_far}
 use Rattle.tipc_pair.specs.PairArrivals.{inner_at, inside_of}
 use Rattle.tipc_paired.proofs.Facts.{begun_named, names_count, same_records, tunnels_count, up_on_record}
-use Rattle.tipc_paired.proofs.Wires.{on_put, same_some}
+use Rattle.tipc_paired.proofs.wires.Wires.{on_put, same_some}
 use Rattle.tipc_paired.specs.Deeds.{Counts, Does, IsBeside, besides, counts, follows, nothing, with_counted}
 use Rattle.tipc_paired.specs.Facts.{Names}
 use Rattle.tipc_paired.specs.Paired.{ArePaired}

@@ -12,9 +12,9 @@ use Rattle.tipc_link_fsm.specs.Runs.{Call, outcome}
 use Rattle.tipc_link_fsm.specs.Table.{Fsm, is_held}
 use Rattle.tipc_pair.specs.Changeovers.{parted as parted_pair, parted_end}
 use Rattle.tipc_pair.specs.Facing.{PairEnds, ends_of, facing, made_of, other, with_near}
-use Rattle.tipc_paired.proofs.ContactDeeds.{mapped_end}
+use Rattle.tipc_paired.proofs.contacts.ContactDeeds.{mapped_end}
 use Rattle.tipc_paired.proofs.PairedLaw.{all_paired, does_paired}
-use Rattle.tipc_paired.proofs.Wires.{on_put}
+use Rattle.tipc_paired.proofs.wires.Wires.{on_put}
 use Rattle.tipc_paired.specs.Deeds.{Does, MayCall, MayTell, changes, ended_with, falls, parted}
 use Rattle.tipc_paired.specs.Paired.{ArePaired}
 use Rattle.tipc_paired.specs.Views.{View, Wire, with_end, with_wire}

@@ -26,9 +26,9 @@ use Rattle.tipc_pair.proofs.EndSteps.{both_kept, end_after, end_given, end_hande
 use Rattle.tipc_pair.proofs.Followings.{parted_kept}
 use Rattle.tipc_pair.proofs.Falls.{Falls}
 use Rattle.tipc_pair.proofs.SessionFacts.{flushed_on, put_listed}
-use Rattle.tipc_paired.proofs.CallDeeds.{call_named}
-use Rattle.tipc_paired.proofs.SessionDeeds.{epochs_fit}
-use Rattle.tipc_paired.proofs.Turns.{call_turns, shown_to}
+use Rattle.tipc_paired.proofs.sessions.CallDeeds.{call_named}
+use Rattle.tipc_paired.proofs.sessions.SessionDeeds.{epochs_fit}
+use Rattle.tipc_paired.proofs.wires.Turns.{call_turns, shown_to}
 use Rattle.tipc_paired.specs.Deeds.{MayCall}
 use Rattle.tipc_paired.specs.Paired.{ArePaired}
 use Rattle.tipc_paired.specs.Views.{View}

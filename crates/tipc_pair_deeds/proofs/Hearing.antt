@@ -11,8 +11,8 @@ use Rattle.tipc_link.proofs.LinkLaw.{Each, Each-map, Each-none}
 use Rattle.tipc_pair.specs.Courses.{rests}
 use Rattle.tipc_pair.specs.Facing.{PairEnds, with_near}
 use Rattle.tipc_paired.proofs.PairedLaw.{all_paired}
-use Rattle.tipc_paired.proofs.SessionFrames.{repeats_may}
-use Rattle.tipc_paired.proofs.Wires.{on_put, put_other, put_same, session_of_up}
+use Rattle.tipc_paired.proofs.sessions.SessionFrames.{repeats_may}
+use Rattle.tipc_paired.proofs.wires.Wires.{on_put, put_other, put_same, session_of_up}
 use Rattle.tipc_paired.specs.Deeds.{Does, Hears, IsUp, follows, notes, nothing, releases, takes, with_going, with_taken, works}
 use Rattle.tipc_paired.specs.Paired.{ArePaired}
 use Rattle.tipc_paired.specs.Views.{View, Wire, put_at, with_wire}

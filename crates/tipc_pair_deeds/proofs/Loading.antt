@@ -5,11 +5,11 @@ use Rattle.tipc_outside.specs.declared.outgoing.Outgoing.{Outgoing}
 use Rattle.tipc_link.specs.Links.{LinkEnd, with_session}
 use Rattle.tipc_link.specs.Sessions.{SessionEnd, flush_frames, flushed, moving}
 use Rattle.tipc_link.proofs.LinkLaw.{Each, Each-none}
-use Rattle.tipc_paired.proofs.EpochsKept.{session_is}
-use Rattle.tipc_paired.proofs.Frames.{packet_frames-at}
+use Rattle.tipc_paired.proofs.wires.EpochsKept.{session_is}
+use Rattle.tipc_paired.proofs.wires.Frames.{packet_frames-at}
 use Rattle.tipc_paired.proofs.PairedLaw.{does_paired}
-use Rattle.tipc_paired.proofs.SessionFrames.{flush_may}
-use Rattle.tipc_paired.proofs.Wires.{on_put, put_other, put_same, session_of_up}
+use Rattle.tipc_paired.proofs.sessions.SessionFrames.{flush_may}
+use Rattle.tipc_paired.proofs.wires.Wires.{on_put, put_other, put_same, session_of_up}
 use Rattle.tipc_paired.specs.Deeds.{Does, IsUp, follows, nothing, numbers, puts, with_going, works}
 use Rattle.tipc_paired.specs.Paired.{ArePaired, IsPacket}
 use Rattle.tipc_paired.specs.Views.{View, Wire, put_at, session_on, with_wire}

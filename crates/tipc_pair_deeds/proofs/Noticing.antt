@@ -18,7 +18,7 @@ use Rattle.tipc_pair.specs.Changeovers.{contact_ends, following, forgetting, for
 use Rattle.tipc_pair.specs.Courses.{Course, going_on, rests}
 use Rattle.tipc_pair.specs.Facing.{PairEnds, ends_of, in_contact, is_up_at, other, with_near}
 use Rattle.tipc_pair.specs.PairArrivals.{Heard, behind, reset_change, reset_given, reset_near}
-use Rattle.tipc_paired.proofs.ContactDeeds.{ended_down, mapped_end}
+use Rattle.tipc_paired.proofs.contacts.ContactDeeds.{ended_down, mapped_end}
 use Rattle.tipc_paired.proofs.PairedLaw.{does_paired}
 use Rattle.tipc_paired.specs.Deeds.{Does, changes, ended_with, forgot_with, parted, parts, risen as risen_view, shows, works}
 use Rattle.tipc_paired.specs.Paired.{ArePaired}

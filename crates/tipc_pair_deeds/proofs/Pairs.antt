@@ -10,7 +10,7 @@ use Rattle.tipc_pair.specs.Courses.{Course, going_on, rests, sent_in}
 use Rattle.tipc_pair.specs.Facing.{PairEnds, facing, is_up_at, other, turned, with_far, with_near}
 use Rattle.tipc_pair.specs.PairCalls.{at_bearer}
 use Rattle.tipc_paired.proofs.PairedLaw.{all_paired}
-use Rattle.tipc_paired.proofs.Wires.{put_other, put_same}
+use Rattle.tipc_paired.proofs.wires.Wires.{put_other, put_same}
 use Rattle.tipc_paired.specs.Deeds.{IsBeside}
 use Rattle.tipc_paired.specs.Paired.{ArePaired}
 use Rattle.tipc_paired.specs.Views.{IsApart, Node, View, Wire, with_wire}

@@ -23,9 +23,9 @@ use Rattle.tipc_pair.specs.Courses.{Course, going_on, rests, telling}
 use Rattle.tipc_pair.specs.Facing.{PairEnds, ends_of, is_up_at, other, with_near}
 use Rattle.tipc_pair.specs.PairCalls.{session_at, stepped}
 use Rattle.tipc_pair.specs.Runs.{left_by, taken_over}
-use Rattle.tipc_paired.proofs.CallDeeds.{call_named}
-use Rattle.tipc_paired.proofs.Turns.{call_turns, shown_to}
-use Rattle.tipc_paired.proofs.Wires.{put_same, session_of_up}
+use Rattle.tipc_paired.proofs.sessions.CallDeeds.{call_named}
+use Rattle.tipc_paired.proofs.wires.Turns.{call_turns, shown_to}
+use Rattle.tipc_paired.proofs.wires.Wires.{put_same, session_of_up}
 use Rattle.tipc_paired.specs.Deeds.{Does, IsUp, MayCall, MayTell, besides, changes, falls_beside, rises, rises_beside, states, with_begun}
 use Rattle.tipc_paired.specs.Paired.{ArePaired, IsPacket}
 use Rattle.tipc_paired.specs.Views.{View, Wire, with_end, with_wire}

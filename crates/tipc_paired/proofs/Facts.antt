@@ -12,11 +12,11 @@ use Rattle.tipc_link.specs.Sessions.{SessionEnd, receiving_record, released, wit
 use Rattle.tipc_link.proofs.Directions.{holds_none, releases as direction_releases}
 use Rattle.tipc_link.proofs.Outliving.{frees}
 use Rattle.tipc_link_fsm.specs.Runs.{outcome}
-use Rattle.tipc_paired.proofs.BesideDeeds.{begun_boot, named_began}
-use Rattle.tipc_paired.proofs.RiseDeeds.{Went, peer_under, went}
-use Rattle.tipc_paired.proofs.SessionDeeds.{hears_session}
-use Rattle.tipc_paired.proofs.SessionPackets.{more_front}
-use Rattle.tipc_paired.proofs.Wires.{map_at, same_some, session_of_up}
+use Rattle.tipc_paired.proofs.sessions.BesideDeeds.{begun_boot, named_began}
+use Rattle.tipc_paired.proofs.sessions.RiseDeeds.{Went, peer_under, went}
+use Rattle.tipc_paired.proofs.sessions.SessionDeeds.{hears_session}
+use Rattle.tipc_paired.proofs.sessions.SessionPackets.{more_front}
+use Rattle.tipc_paired.proofs.wires.Wires.{map_at, same_some, session_of_up}
 use Rattle.tipc_paired.specs.Deeds.{Counts}
 use Rattle.tipc_paired.specs.Facts.{BegunWasNamed, HeardWasTaken, IsOfPeer, Names, NamesCount, RisesAreOfPeer, SameRecordsStay, TunnelsCount, UpIsOnRecord}
 use Rattle.tipc_paired.specs.Paired.{ArePaired, IsReached, long_ago, on_record, untaken}

@@ -4,15 +4,15 @@ use Rattle.tipc_contact.specs.Peers.{ArePeers}
 use Rattle.tipc_contact.specs.Sides.{alone, boot_of, first_number}
 use Rattle.tipc_contact.proofs.Sessions.{start as start_peers, turned as turn_peers}
 use Rattle.tipc_link.specs.Laws.{IsPrefixOf}
-use Rattle.tipc_paired.proofs.Sides.{same_side}
-use Rattle.tipc_paired.proofs.BesideDeeds.{counts_paired, falls_beside_paired, hands_over_paired}
-use Rattle.tipc_paired.proofs.CallDeeds.{calls_paired, turns_paired}
-use Rattle.tipc_paired.proofs.ContactDeeds.{falls_paired, makes_paired, parts_paired, restarts_paired, shows_paired}
-use Rattle.tipc_paired.proofs.RiseDeeds.{rises_paired}
-use Rattle.tipc_paired.proofs.SessionDeeds.{notes_paired, puts_paired, releases_paired}
-use Rattle.tipc_paired.proofs.SessionPackets.{numbers_paired, takes_paired}
-use Rattle.tipc_paired.proofs.TellDeeds.{tells_paired}
-use Rattle.tipc_paired.proofs.Wires.{none_some, prefix_same, session_of_none}
+use Rattle.tipc_paired.proofs.wires.Sides.{same_side}
+use Rattle.tipc_paired.proofs.sessions.BesideDeeds.{counts_paired, falls_beside_paired, hands_over_paired}
+use Rattle.tipc_paired.proofs.sessions.CallDeeds.{calls_paired, turns_paired}
+use Rattle.tipc_paired.proofs.contacts.ContactDeeds.{falls_paired, makes_paired, parts_paired, restarts_paired, shows_paired}
+use Rattle.tipc_paired.proofs.sessions.RiseDeeds.{rises_paired}
+use Rattle.tipc_paired.proofs.sessions.SessionDeeds.{notes_paired, puts_paired, releases_paired}
+use Rattle.tipc_paired.proofs.sessions.SessionPackets.{numbers_paired, takes_paired}
+use Rattle.tipc_paired.proofs.contacts.TellDeeds.{tells_paired}
+use Rattle.tipc_paired.proofs.wires.Wires.{none_some, prefix_same, session_of_none}
 use Rattle.tipc_paired.specs.Deeds.{Besides, Changes, Does, DoesAll, Works, besides, calls, changes, counts, falls, falls_beside, follows, hands_over, makes, nothing, notes, numbers, parts, puts, releases, restarts, rises, rises_beside, shows, takes, tells, turns, works}
 use Rattle.tipc_paired.specs.Paired.{ArePaired, IsEpochs, IsHalf, IsNew, IsRecords, IsWire, untaken}
 use Rattle.tipc_paired.specs.Views.{Node, View, Wire, fsm_in, notice_of, said_by, side_of, unused}

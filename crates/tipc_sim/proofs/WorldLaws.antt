@@ -11,10 +11,10 @@ use Rattle.tipc_world.specs.Growth.{Grows}
 use Rattle.tipc_world.specs.Limits.{IsAnswered}
 use Rattle.tipc_world.specs.Skies.{AirState, air_on, air_size}
 use Rattle.tipc_world.specs.States.{WorldState, WorldView, history_at, no_nodes}
-use Rattle.tipc_world.proofs.KeptWorlds.{start_watched}
+use Rattle.tipc_world.proofs.journals.KeptWorlds.{start_watched}
 use Rattle.tipc_world.proofs.Promise.{is_good}
-use Rattle.tipc_world.proofs.Quiet.{start_orderly}
-use Rattle.tipc_world.proofs.Sharing.{start_shared}
+use Rattle.tipc_world.proofs.calls.Quiet.{start_orderly}
+use Rattle.tipc_world.proofs.names.Sharing.{start_shared}
 use Rattle.tipc_world.proofs.SoundWorlds.{start_sound}
 use Rattle.tipc_sim.specs.declared.places.Places.{Places}
 use Rattle.tipc_sim.specs.Courses.{Continues}

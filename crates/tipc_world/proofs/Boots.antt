@@ -19,7 +19,7 @@ use Rattle.tipc_node.specs.declared.neighbours.Neighbour.{Neighbour}
 use Rattle.tipc_node.specs.Nodes.{neighbour_of}
 use Rattle.tipc_world.proofs.Advancing.{Counts}
 use Rattle.tipc_world.proofs.LookUps.{pair_at-is, member_at-changed, member_at-is, member_at-other}
-use Rattle.tipc_world.proofs.Outcomes.{some_is}
+use Rattle.tipc_world.proofs.calls.Outcomes.{some_is}
 use Rattle.tipc_world.proofs.SoundWorlds.{HaveNextBoots}
 
 -- a node after an event is in the same boot, or in the next one

@@ -16,9 +16,9 @@ use Rattle.tipc_world.specs.Growth.{Grows}
 use Rattle.tipc_world.specs.States.{MemberState, WorldState, contact_at, history, history_at}
 use Rattle.tipc_world.specs.Steps.{Becomes, Happens, IsArrival, IsStep, Stage, stage}
 use Rattle.tipc_world.proofs.LookUps.{history_at-is, history_at-same, member_at-changed, member_at-is, member_at-other}
-use Rattle.tipc_world.proofs.Histories.{history_restarted, history_same}
-use Rattle.tipc_world.proofs.PairedEvents.{made_step, made_turn, met_step, met_turn}
-use Rattle.tipc_world.proofs.PairedTurns.{turn_history}
+use Rattle.tipc_world.proofs.streams.Histories.{history_restarted, history_same}
+use Rattle.tipc_world.proofs.pairs.PairedEvents.{made_step, made_turn, met_step, met_turn}
+use Rattle.tipc_world.proofs.pairs.PairedTurns.{turn_history}
 
 pub prefix_same : {A : Type 0} (xs ys : List A) → ys ≡ xs → IsPrefixOf xs ys
 prefix_same xs ys same = ([], same ∙ sym (append-nil xs))

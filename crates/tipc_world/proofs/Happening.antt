@@ -23,8 +23,8 @@ use Rattle.tipc_world.specs.Events.{AreSettled, DidAt}
 use Rattle.tipc_world.specs.Sound.{IsSound}
 use Rattle.tipc_world.specs.States.{MemberState, contact_at, knows}
 use Rattle.tipc_world.specs.Steps.{stage, Happens, IsArrival}
-use Rattle.tipc_world.proofs.Calls.{the_some}
-use Rattle.tipc_world.proofs.Contacts.{met_is}
+use Rattle.tipc_world.proofs.calls.Calls.{the_some}
+use Rattle.tipc_world.proofs.pairs.Contacts.{met_is}
 use Rattle.tipc_world.proofs.LookUps.{member_at-is, pair_at-is}
 
 -- a front of a front is a front

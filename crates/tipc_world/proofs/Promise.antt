@@ -7,7 +7,7 @@ use Rattle.tipc_types.specs.declared.message_forms.Message.{Message}
 use Rattle.tipc_journal.specs.declared.entries.Entry.TheVariants as entry
 use Rattle.tipc_journal.specs.Prefixes.{IsPrefixOf}
 use Rattle.tipc_link.proofs.LinkLaw.{Each}
-use Rattle.tipc_twins.proofs.Sights.{front}
+use Rattle.tipc_twins.proofs.sights.Sights.{front}
 use Rattle.tipc_world.specs.Skies.{AirState}
 use Rattle.tipc_world.specs.Answered.{AreOrderly}
 use Rattle.tipc_world.specs.Good.{IsGood}
@@ -17,10 +17,10 @@ use Rattle.tipc_world.specs.Sound.{IsSound}
 use Rattle.tipc_world.specs.States.{MemberState, WorldView, accepted_at, delivered_at}
 use Rattle.tipc_world.specs.Views.{sight_at}
 use Rattle.tipc_world.specs.Watched.{AreWatched}
-use Rattle.tipc_world.proofs.Agreed.{tables_agree}
-use Rattle.tipc_world.proofs.Entered.{both_entered}
-use Rattle.tipc_world.proofs.Messages.{same_bytes}
-use Rattle.tipc_world.proofs.Truth.{frame_is_true, truth_is}
+use Rattle.tipc_world.proofs.names.Agreed.{tables_agree}
+use Rattle.tipc_world.proofs.streams.Entered.{both_entered}
+use Rattle.tipc_world.proofs.frames.Messages.{same_bytes}
+use Rattle.tipc_world.proofs.frames.Truth.{frame_is_true, truth_is}
 
 pub no_message : (ys : List Message) → IsPrefixOf [] ys
 no_message ys = (ys, refl)

@@ -12,8 +12,8 @@ use Rattle.tipc_pair.specs.Facing.{PairEnds, facing, other, with_made}
 use Rattle.tipc_node.specs.Nodes.{known_frames, neighbour_of}
 use Rattle.tipc_node.specs.Telling.{AreAbreast}
 use Rattle.tipc_node.specs.Turns.{PeerTurn, pair_in}
-use Rattle.tipc_node.proofs.PairEvents.{Any, On, OnBearer, closed_on}
-use Rattle.tipc_node.proofs.PairKept.{both_facing, turn_kept, turn_own}
+use Rattle.tipc_node.proofs.pairs.PairEvents.{Any, On, OnBearer, closed_on}
+use Rattle.tipc_node.proofs.pairs.PairKept.{both_facing, turn_kept, turn_own}
 use Rattle.tipc_world.specs.Skies.{AirState}
 use Rattle.tipc_world.specs.declared.events.WorldEvent.{WorldEvent}
 use Rattle.tipc_world.specs.declared.events.WorldEvent.TheVariants.{Know, Restart, Call, Arrive}
@@ -23,18 +23,18 @@ use Rattle.tipc_world.specs.Members.{IsRestarted, known_member}
 use Rattle.tipc_world.specs.Sound.{IsNumber, IsPairOf, IsSound}
 use Rattle.tipc_world.specs.States.{MemberState, contact_at, knows, member_at, pair_at}
 use Rattle.tipc_world.specs.Steps.{Happens, Stage, Turns}
-use Rattle.tipc_world.proofs.Bringing.{are_brought}
-use Rattle.tipc_world.proofs.Coming.{ComesOut, nothing_out}
-use Rattle.tipc_world.proofs.Histories.{history_restarted, history_same}
+use Rattle.tipc_world.proofs.pairs.Bringing.{are_brought}
+use Rattle.tipc_world.proofs.frames.Coming.{ComesOut, nothing_out}
+use Rattle.tipc_world.proofs.streams.Histories.{history_restarted, history_same}
 use Rattle.tipc_world.proofs.Happening.{not_known}
 use Rattle.tipc_world.proofs.LookUps.{pair_at-is, pair_at-same, place_within}
-use Rattle.tipc_world.proofs.PairedEvents.{IsReady, happens_pairs, made_step, made_turn, met_step, met_turn, ready_out}
-use Rattle.tipc_world.proofs.PairedStarts.{known_for, known_is, known_of, known_pair}
-use Rattle.tipc_world.proofs.PairedTurns.{TakesTurn, turn_history}
-use Rattle.tipc_world.proofs.Routes.{AreRouted, air_flies, routed_all, routed_for}
-use Rattle.tipc_world.proofs.Standing.{acquainted, neighbour_apart, pair_between}
-use Rattle.tipc_world.proofs.StreamsKept.{StreamsSound, streams_of, streams_same, turn_streams}
-use Rattle.tipc_world.proofs.Turning.{is_there, others_stay, was_there}
+use Rattle.tipc_world.proofs.pairs.PairedEvents.{IsReady, happens_pairs, made_step, made_turn, met_step, met_turn, ready_out}
+use Rattle.tipc_world.proofs.pairs.PairedStarts.{known_for, known_is, known_of, known_pair}
+use Rattle.tipc_world.proofs.pairs.PairedTurns.{TakesTurn, turn_history}
+use Rattle.tipc_world.proofs.frames.Routes.{AreRouted, air_flies, routed_all, routed_for}
+use Rattle.tipc_world.proofs.pairs.Standing.{acquainted, neighbour_apart, pair_between}
+use Rattle.tipc_world.proofs.streams.StreamsKept.{StreamsSound, streams_of, streams_same, turn_streams}
+use Rattle.tipc_world.proofs.pairs.Turning.{is_there, others_stay, was_there}
 
 -- ---- the node
 

@@ -9,7 +9,7 @@ use Rattle.tipc_types.specs.declared.message_forms.Flow.TheVariants.{Zero}
 use Rattle.tipc_types.specs.declared.node_calls.Answer.{Answer}
 use Rattle.tipc_journal.proofs.StreamLaws.{accepted_nil, delivered_nil}
 use Rattle.tipc_twins.specs.Sights.{AreSeen, IsNew}
-use Rattle.tipc_twins.proofs.Sights.{starts}
+use Rattle.tipc_twins.proofs.sights.Sights.{starts}
 use Rattle.tipc_node.specs.declared.neighbours.Neighbour.{Neighbour}
 use Rattle.tipc_world.specs.declared.air.Sent.{Sent}
 use Rattle.tipc_world.specs.declared.events.WorldEvent.{WorldEvent}
@@ -26,11 +26,11 @@ use Rattle.tipc_world.specs.Sound.{IsAirborne, IsNumber, IsSound}
 use Rattle.tipc_world.specs.States.{MemberState, WorldState, boot_at, count_at, count_in, count_of, history, history_at, member_at, pair_at, same_session, stream_of}
 use Rattle.tipc_world.specs.Steps.{Becomes, IsArrival, IsJoined, Stage}
 use Rattle.tipc_world.specs.Views.{given_in, put_in, sight_at, sight_from}
-use Rattle.tipc_world.proofs.Counts.{count_alone}
+use Rattle.tipc_world.proofs.pairs.Counts.{count_alone}
 use Rattle.tipc_world.proofs.LookUps.{boot_at-is, boot_at-same, count_at-is, count_at-same, either_way, history_at-is, history_at-same, member_at-is, pair_at-is, pair_at-same}
 use Rattle.tipc_world.proofs.SoundEvents.{happens_sound}
-use Rattle.tipc_world.proofs.StreamsEvents.{joined_keeps_streams, streams_start}
-use Rattle.tipc_world.proofs.StreamsKept.{streams_of}
+use Rattle.tipc_world.proofs.streams.StreamsEvents.{joined_keeps_streams, streams_start}
+use Rattle.tipc_world.proofs.streams.StreamsKept.{streams_of}
 
 -- ---- after an event
 

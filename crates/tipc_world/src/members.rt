@@ -275,7 +275,7 @@ impl Member {
     /// # Errors
     ///
     /// The limit of the journal, exactly where it has no room for a call.
-    #[tactic(auto, using(crate::proofs::Calls::call_fits))]
+    #[tactic(auto, using(crate::proofs::calls::Calls::call_fits))]
     fn begin(&self) -> Result<u64, WorldFault>
         ensures ok { IfOk result (λ calls. (calls ≡ self.now.calls + 1) × (has_room self.now.node.journal ≡ true)) }
         ensures full { IfErr result (λ fault.

@@ -95,7 +95,7 @@ pub fn is_working(state: LinkState) -> bool
 }
 
 /// How many messages node `a` accepted for node `b` in a contact.
-#[tactic(auto, using(crate::proofs::Flows::accepted_none), unfolding(crate::specs::States::accepted_at, crate::specs::States::history_at, crate::specs::States::member_at))]
+#[tactic(auto, using(crate::proofs::streams::Flows::accepted_none), unfolding(crate::specs::States::accepted_at, crate::specs::States::history_at, crate::specs::States::member_at))]
 fn accepted_at(members: &[Option<Member>], a: u8, b: u8, contact: (u64, u64)) -> u64
     requires { (1 ≤ b) × (b ≤ 32) }
     ensures { result ≡ counted (length (accepted_at members.now a b contact.0 contact.1 Zero)) }
@@ -107,7 +107,7 @@ fn accepted_at(members: &[Option<Member>], a: u8, b: u8, contact: (u64, u64)) ->
 }
 
 /// How many messages were delivered at node `b` from node `a` in a contact.
-#[tactic(auto, using(crate::proofs::Flows::delivered_none), unfolding(crate::specs::States::delivered_at, crate::specs::States::history_at, crate::specs::States::member_at))]
+#[tactic(auto, using(crate::proofs::streams::Flows::delivered_none), unfolding(crate::specs::States::delivered_at, crate::specs::States::history_at, crate::specs::States::member_at))]
 fn delivered_at(members: &[Option<Member>], b: u8, a: u8, contact: (u64, u64)) -> u64
     requires { (1 ≤ a) × (a ≤ 32) }
     ensures { result ≡ counted (length (delivered_at members.now b a contact.0 contact.1 Zero)) }
@@ -191,7 +191,7 @@ fn add_link(
 }
 
 /// The link ends of node `n`, in order of the peers.
-#[tactic(auto, using(crate::proofs::Flows::links_more), unfolding(crate::specs::Readers::links_up_to))]
+#[tactic(auto, using(crate::proofs::streams::Flows::links_more), unfolding(crate::specs::Readers::links_up_to))]
 fn links_at(members: &[Option<Member>], alloc: Global, n: u8) -> Result<Vec<PeerLinks>, NoMemory>
     ensures { IfOk result (λ links. links.items ≡ links_of members.now n) }
 {
@@ -203,7 +203,7 @@ fn links_at(members: &[Option<Member>], alloc: Global, n: u8) -> Result<Vec<Peer
 }
 
 /// The publications that node `n` knows and that are seen in the cluster.
-#[tactic(auto, using(crate::proofs::Shown::none_known), unfolding(crate::specs::Readers::table_of, crate::specs::States::member_at, crate::specs::Tables::journal_now))]
+#[tactic(auto, using(crate::proofs::names::Shown::none_known), unfolding(crate::specs::Readers::table_of, crate::specs::States::member_at, crate::specs::Tables::journal_now))]
 fn table_at(members: &[Option<Member>], alloc: Global, n: u8) -> Result<Vec<Publication>, NoMemory>
     ensures { IfOk result (λ ps. ps.items ≡ table_of members.now n) }
 {

@@ -1,4 +1,4 @@
-use Rattle.tipc_node.proofs.Deliveries.{IsLeft}
+use Rattle.tipc_node.proofs.work.Deliveries.{IsLeft}
 use Rattle.tipc_node.proofs.arriving.fits.Given as goal
 
 abbrev pub invariant-loop-entry : goal.invariant-loop-entry

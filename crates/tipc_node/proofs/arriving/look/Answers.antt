@@ -1,7 +1,7 @@
 use Rattle.std.proofs.Common.{ap, sym, ◌∙◌, Some}
 use Rattle.tipc_types.specs.declared.link_words.Why.TheVariants as why
 use Rattle.tipc_header.specs.Spelling.{view}
-use Rattle.tipc_node.proofs.Stops.{by_sender, mended_two, opened_at, sender_known, sender_own, sender_unknown, stop_header}
+use Rattle.tipc_node.proofs.work.Stops.{by_sender, mended_two, opened_at, sender_known, sender_own, sender_unknown, stop_header}
 use Rattle.tipc_node.proofs.arriving.look.Goals as goal
 
 pub returns-in-Err-clause-stopped : goal.returns-in-Err-clause-stopped

@@ -1,4 +1,4 @@
-use Rattle.tipc_node.proofs.Deliveries.{IsCounted}
+use Rattle.tipc_node.proofs.work.Deliveries.{IsCounted}
 use Rattle.tipc_node.proofs.arriving.message_count.Given as goal
 
 abbrev pub invariant-loop-delivery : goal.invariant-loop-delivery

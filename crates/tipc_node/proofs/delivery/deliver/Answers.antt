@@ -3,7 +3,7 @@ use Rattle.std.specs.Prelude.{List}
 use Rattle.tipc_journal.specs.declared.entries.Entry.{Entry}
 use Rattle.tipc_node.specs.Hearings.{Delivered}
 use Rattle.tipc_node.specs.Works.{work_of}
-use Rattle.tipc_node.proofs.Delivering.{delivered_none}
+use Rattle.tipc_node.proofs.work.Delivering.{delivered_none}
 use Rattle.tipc_node.proofs.delivery.deliver.Goals as goal
 
 pub returns-in-None-clause-delivered : goal.returns-in-None-clause-delivered

@@ -4,10 +4,10 @@ use Rattle.tipc_node.specs.declared.arriving.Delivery.{Delivery}
 use Rattle.tipc_node.specs.Hearings.{is_plain}
 use Rattle.tipc_node.specs.Nodes.{entries_in}
 use Rattle.tipc_node.specs.Works.{work_of}
-use Rattle.tipc_node.proofs.Changes.{same_then}
-use Rattle.tipc_node.proofs.Delivering.{part_last, part_next}
-use Rattle.tipc_node.proofs.Stable.{delivered_same}
-use Rattle.tipc_node.proofs.Surely.{and_right}
+use Rattle.tipc_node.proofs.work.Changes.{same_then}
+use Rattle.tipc_node.proofs.work.Delivering.{part_last, part_next}
+use Rattle.tipc_node.proofs.work.Stable.{delivered_same}
+use Rattle.tipc_node.proofs.work.Surely.{and_right}
 use Rattle.tipc_node.proofs.delivery.deliver_all.Goals as goal
 
 pub deliver-requires-clause-own : goal.deliver-requires-clause-own

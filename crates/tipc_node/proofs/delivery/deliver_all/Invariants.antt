@@ -4,8 +4,8 @@ use Rattle.tipc_node.specs.Drafts.{taken_back, AreTables}
 use Rattle.tipc_node.specs.Hearings.{is_plain}
 use Rattle.tipc_node.specs.Nodes.{entries_in}
 use Rattle.tipc_node.specs.Works.{work_of}
-use Rattle.tipc_node.proofs.Changes.{IsSameNode}
-use Rattle.tipc_node.proofs.Delivering.{IsPartDelivered}
+use Rattle.tipc_node.proofs.work.Changes.{IsSameNode}
+use Rattle.tipc_node.proofs.work.Delivering.{IsPartDelivered}
 use Rattle.tipc_node.proofs.delivery.deliver_all.Given as goal
 
 -- with what is to come, all is delivered

@@ -1,6 +1,6 @@
 use Rattle.std.proofs.Common.{false, ◌∙◌, sym}
 use Rattle.tipc_node.specs.Works.{work_of}
-use Rattle.tipc_node.proofs.Returning.{HasMet, back_home, met_work}
+use Rattle.tipc_node.proofs.work.Returning.{HasMet, back_home, met_work}
 use Rattle.tipc_node.proofs.delivery.go_back.Goals as goal
 
 pub returns-clause-went : goal.returns-clause-went

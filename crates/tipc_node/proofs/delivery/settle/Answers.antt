@@ -1,6 +1,6 @@
 use Rattle.std.proofs.Common.{true, ◌∙◌}
 use Rattle.tipc_node.specs.Works.{work_of}
-use Rattle.tipc_node.proofs.Returning.{HasMet, contact_there, met_back, met_work, on_ok, return_payload, settled_back, settled_here}
+use Rattle.tipc_node.proofs.work.Returning.{HasMet, contact_there, met_back, met_work, on_ok, return_payload, settled_back, settled_here}
 use Rattle.tipc_node.proofs.delivery.settle.Goals as goal
 
 pub returns-in_default-clause-settled : goal.returns-in_default-clause-settled

@@ -1,5 +1,5 @@
 use Rattle.tipc_node.specs.Works.{work_of}
-use Rattle.tipc_node.proofs.Delivering.{took_items_ok}
+use Rattle.tipc_node.proofs.work.Delivering.{took_items_ok}
 use Rattle.tipc_node.proofs.delivery.take_in.Goals as goal
 
 pub returns-in-Items-clause-took : goal.returns-in-Items-clause-took

@@ -2,7 +2,7 @@ use Rattle.std.proofs.Common.{Some, None, Option, ap, ◌∙◌, sym}
 use Rattle.std.specs.Prelude.{is_some}
 use Rattle.std.proofs.lemmas.List.{get_or_default}
 use Rattle.tipc_node.specs.declared.neighbours.Neighbour.{Neighbour}
-use Rattle.tipc_node.proofs.Restoring.{keep_there, there_is}
+use Rattle.tipc_node.proofs.work.Restoring.{keep_there, there_is}
 use Rattle.tipc_node.proofs.drafts.keep.Goals as goal
 
 pub returns-clause-same : goal.returns-clause-same

@@ -3,7 +3,7 @@ use Rattle.std.specs.Prelude.{List}
 use Rattle.tipc_outside.specs.declared.outgoing.Outgoing.{Outgoing}
 use Rattle.tipc_outside.specs.Frames.{Adds}
 use Rattle.tipc_outside.proofs.Adding.{adds_more, adds_none}
-use Rattle.tipc_node.proofs.Leaving.{leave_lost, leave_whole}
+use Rattle.tipc_node.proofs.work.Leaving.{leave_lost, leave_whole}
 use Rattle.tipc_node.proofs.drafts.leave.Goals as goal
 
 pub loop-sent-preserved : goal.loop-sent-preserved

@@ -1,7 +1,7 @@
 use Rattle.std.proofs.Common.{◌≡◌, [], ◌+◌, sym, subst, rules}
 use Rattle.std.specs.Prelude.{List, Option}
 use Rattle.tipc_node.specs.declared.neighbours.Neighbour.{Neighbour}
-use Rattle.tipc_node.proofs.Restoring.{restore_last, restore_next, IsPartRestored}
+use Rattle.tipc_node.proofs.work.Restoring.{restore_last, restore_next, IsPartRestored}
 use Rattle.tipc_node.proofs.drafts.restore.Goals as goal
 
 pub loop-copy-preserved : goal.loop-copy-preserved

@@ -1,5 +1,5 @@
 use Rattle.std.proofs.Common.{length}
-use Rattle.tipc_node.proofs.Restoring.{IsPartRestored}
+use Rattle.tipc_node.proofs.work.Restoring.{IsPartRestored}
 use Rattle.tipc_node.proofs.drafts.restore.Given as goal
 
 -- those before the place are as they were

@@ -1,5 +1,5 @@
 use Rattle.std.proofs.Common.{Some}
-use Rattle.tipc_node.proofs.Restoring.{kept_changed}
+use Rattle.tipc_node.proofs.work.Restoring.{kept_changed}
 use Rattle.tipc_node.proofs.following.answer.Goals as goal
 
 pub returns-clause-kept : goal.returns-clause-kept

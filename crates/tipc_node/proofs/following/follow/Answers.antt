@@ -2,9 +2,9 @@ use Rattle.std.proofs.Common.{Some, ap, ◌∙◌}
 use Rattle.std.specs.Prelude.{slice_index_or, slice_set, None}
 use Rattle.tipc_node.specs.Neighbours.{answered_neighbour}
 use Rattle.tipc_node.specs.Works.{work_of}
-use Rattle.tipc_node.proofs.Returning.{on_ok}
-use Rattle.tipc_node.proofs.Stable.{still_there}
-use Rattle.tipc_node.proofs.Taking.{some_place}
+use Rattle.tipc_node.proofs.work.Returning.{on_ok}
+use Rattle.tipc_node.proofs.work.Stable.{still_there}
+use Rattle.tipc_node.proofs.work.Taking.{some_place}
 use Rattle.tipc_node.proofs.following.follow.Goals as goal
 
 pub answer-requires-clause-there : goal.answer-requires-clause-there

@@ -1,7 +1,7 @@
 use Rattle.std.proofs.Common.{[], refl, sym, subst, ◌∙◌}
 use Rattle.tipc_node.specs.Arrivals.{GreetsWhere}
 use Rattle.tipc_node.specs.Works.{work_of}
-use Rattle.tipc_node.proofs.Greeting.{nobody_greeted}
+use Rattle.tipc_node.proofs.work.Greeting.{nobody_greeted}
 use Rattle.tipc_node.proofs.following.greet.Goals as goal
 
 pub returns-then-not-begins-clause-greeted : goal.returns-then-not-begins-clause-greeted

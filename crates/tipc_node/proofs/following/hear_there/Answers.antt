@@ -8,11 +8,11 @@ use Rattle.tipc_node.specs.Hearings.{HeardThere}
 use Rattle.tipc_node.specs.Nodes.{change_entries, is_change}
 use Rattle.tipc_node.specs.Works.{work_of}
 use Rattle.tipc_sockets.specs.SocketTables.{SocketTable}
-use Rattle.tipc_node.proofs.Changes.{same_folded}
-use Rattle.tipc_node.proofs.Greeting.{contact_placed}
-use Rattle.tipc_node.proofs.Hearings.{prepared_there, same_neighbour}
-use Rattle.tipc_node.proofs.Restoring.{kept_changed}
-use Rattle.tipc_node.proofs.Taking.{heard_plain, place_is, told_changes, told_work}
+use Rattle.tipc_node.proofs.work.Changes.{same_folded}
+use Rattle.tipc_node.proofs.work.Greeting.{contact_placed}
+use Rattle.tipc_node.proofs.work.Hearings.{prepared_there, same_neighbour}
+use Rattle.tipc_node.proofs.work.Restoring.{kept_changed}
+use Rattle.tipc_node.proofs.work.Taking.{heard_plain, place_is, told_changes, told_work}
 use Rattle.tipc_node.proofs.following.hear_there.Goals as goal
 
 pub hear-given-requires : goal.hear-given-requires

@@ -1,8 +1,8 @@
 use Rattle.std.proofs.Common.{Some, sym, subst}
 use Rattle.std.specs.List.{All}
 use Rattle.tipc_message.specs.Wire.{IsCarried}
-use Rattle.tipc_node.proofs.Greeting.{bulk_carried}
-use Rattle.tipc_node.proofs.Restoring.{kept_changed}
+use Rattle.tipc_node.proofs.work.Greeting.{bulk_carried}
+use Rattle.tipc_node.proofs.work.Restoring.{kept_changed}
 use Rattle.tipc_node.proofs.following.tell_live.Goals as goal
 
 pub put_each-requires-clause-carried : goal.put_each-requires-clause-carried

@@ -1,4 +1,4 @@
-use Rattle.tipc_node.proofs.Loads.{IsSummed}
+use Rattle.tipc_node.proofs.work.Loads.{IsSummed}
 use Rattle.tipc_node.proofs.neighbours.load_all.Given as goal
 
 abbrev pub invariant-loop-place : goal.invariant-loop-place

@@ -1,5 +1,5 @@
 use Rattle.std.proofs.Common.{[], ◌∷◌, ◌++◌, ◌+◌, None, sym, subst, arith}
-use Rattle.tipc_node.proofs.Parts.{IsPartway, part_first, part_last, part_next}
+use Rattle.tipc_node.proofs.turns.Parts.{IsPartway, part_first, part_last, part_next}
 use Rattle.tipc_node.proofs.neighbours.part_of_all.Goals as goal
 
 pub loop-number-init : goal.loop-number-init

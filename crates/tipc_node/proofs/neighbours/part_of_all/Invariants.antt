@@ -1,4 +1,4 @@
-use Rattle.tipc_node.proofs.Parts.{IsPartway}
+use Rattle.tipc_node.proofs.turns.Parts.{IsPartway}
 use Rattle.tipc_node.proofs.neighbours.part_of_all.Given as goal
 
 abbrev pub invariant-loop-number : goal.invariant-loop-number

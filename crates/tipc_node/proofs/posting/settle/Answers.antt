@@ -1,6 +1,6 @@
 use Rattle.std.proofs.Common.{Some, sym, ◌∙◌}
-use Rattle.tipc_node.proofs.Homing.{met_size, met_stays, settles_twice}
-use Rattle.tipc_node.proofs.Refusals.{one_at_error}
+use Rattle.tipc_node.proofs.work.Homing.{met_size, met_stays, settles_twice}
+use Rattle.tipc_node.proofs.work.Refusals.{one_at_error}
 use Rattle.tipc_node.proofs.posting.settle.Goals as goal
 
 pub returns-in_err-meet-clause-err : goal.returns-in_err-meet-clause-err

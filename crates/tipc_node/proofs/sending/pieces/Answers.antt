@@ -1,5 +1,5 @@
 use Rattle.std.proofs.Common.{ap, ◌∙◌, ◌++◌, ◌∷◌, [], arith}
-use Rattle.tipc_node.proofs.Sendings.{many_listed, many_pieces, many_sendable, one_listed, one_piece, sendable_by, spelled_most}
+use Rattle.tipc_node.proofs.work.Sendings.{many_listed, many_pieces, many_sendable, one_listed, one_piece, sendable_by, spelled_most}
 use Rattle.tipc_node.proofs.sending.pieces.Goals as goal
 
 pub cut-requires-clause-within : goal.cut-requires-clause-within

@@ -3,7 +3,7 @@ use Rattle.std.proofs.lemmas.List.Sums.{fold_more}
 use Rattle.tipc_sockets.specs.SocketTables.{SocketTable}
 use Rattle.tipc_sockets.specs.Telling.{after_entry}
 use Rattle.tipc_node.specs.Nodes.{is_change}
-use Rattle.tipc_node.proofs.Changes.{change_at}
+use Rattle.tipc_node.proofs.work.Changes.{change_at}
 use Rattle.tipc_node.proofs.settling.purge_ended.Goals as goal
 
 pub purge_by-requires : goal.purge_by-requires

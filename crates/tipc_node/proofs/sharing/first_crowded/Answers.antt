@@ -1,5 +1,5 @@
 use Rattle.std.proofs.Common.{arith}
-use Rattle.tipc_node.proofs.Tellings.{clear_first, clear_next}
+use Rattle.tipc_node.proofs.work.Tellings.{clear_first, clear_next}
 use Rattle.tipc_node.proofs.sharing.first_crowded.Goals as goal
 
 pub loop-number-init : goal.loop-number-init

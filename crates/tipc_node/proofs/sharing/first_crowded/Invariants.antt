@@ -1,4 +1,4 @@
-use Rattle.tipc_node.proofs.Tellings.{IsClear}
+use Rattle.tipc_node.proofs.work.Tellings.{IsClear}
 use Rattle.tipc_node.proofs.sharing.first_crowded.Given as goal
 
 abbrev pub invariant-loop-number : goal.invariant-loop-number

@@ -1,7 +1,7 @@
 use Rattle.std.proofs.Common.{◌≡◌, subst, rules}
 use Rattle.tipc_types.specs.declared.message_forms.Message.{Message}
 use Rattle.tipc_node.specs.Works.{PutsOn}
-use Rattle.tipc_node.proofs.Tellings.{putting_first, putting_next}
+use Rattle.tipc_node.proofs.work.Tellings.{putting_first, putting_next}
 use Rattle.tipc_node.proofs.sharing.put_each.Goals as goal
 
 pub loop-m-init : goal.loop-m-init

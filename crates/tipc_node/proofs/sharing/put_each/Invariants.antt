@@ -1,4 +1,4 @@
-use Rattle.tipc_node.proofs.Tellings.{IsPutting}
+use Rattle.tipc_node.proofs.work.Tellings.{IsPutting}
 use Rattle.tipc_node.proofs.sharing.put_each.Given as goal
 
 abbrev pub invariant-loop-m : goal.invariant-loop-m

@@ -1,5 +1,5 @@
 use Rattle.std.proofs.Common.{◌∙◌}
-use Rattle.tipc_node.proofs.Restoring.{restored_none}
+use Rattle.tipc_node.proofs.work.Restoring.{restored_none}
 use Rattle.tipc_node.proofs.sharing.share.Goals as goal
 
 pub returns-in_default-clause-err : goal.returns-in_default-clause-err

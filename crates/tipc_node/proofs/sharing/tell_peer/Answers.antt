@@ -4,10 +4,10 @@ use Rattle.tipc_node.specs.declared.neighbours.Neighbour.{Neighbour}
 use Rattle.tipc_node.specs.Drafts.{drafted}
 use Rattle.tipc_node.specs.Nodes.{is_met}
 use Rattle.tipc_node.specs.Works.{is_in_contact}
-use Rattle.tipc_node.proofs.Restoring.{kept_changed}
-use Rattle.tipc_node.proofs.Returning.{on_ok}
-use Rattle.tipc_node.proofs.Tellings.{contact_kept, peer_told, peer_untold}
-use Rattle.tipc_node.proofs.Wayfaring.{read_at}
+use Rattle.tipc_node.proofs.work.Restoring.{kept_changed}
+use Rattle.tipc_node.proofs.work.Returning.{on_ok}
+use Rattle.tipc_node.proofs.work.Tellings.{contact_kept, peer_told, peer_untold}
+use Rattle.tipc_node.proofs.work.Wayfaring.{read_at}
 use Rattle.tipc_node.proofs.sharing.tell_peer.Goals as goal
 
 pub returns-then-not-is_in_contact-clause-told : goal.returns-then-not-is_in_contact-clause-told

@@ -1,7 +1,7 @@
 use Rattle.std.proofs.Common.{refl, sym, ◌∙◌}
 use Rattle.tipc_node.specs.Drafts.{drafted}
 use Rattle.tipc_node.specs.Works.{in_contact}
-use Rattle.tipc_node.proofs.Tellings.{no_messages, telling_first, telling_last, telling_next, told_nothing}
+use Rattle.tipc_node.proofs.work.Tellings.{no_messages, telling_first, telling_last, telling_next, told_nothing}
 use Rattle.tipc_node.proofs.sharing.tell_peers.Goals as goal
 
 pub returns-then-is_empty-clause-told : goal.returns-then-is_empty-clause-told

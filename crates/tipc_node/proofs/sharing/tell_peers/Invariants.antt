@@ -1,6 +1,6 @@
 use Rattle.std.proofs.Common.{◌≡◌}
 use Rattle.tipc_node.specs.Drafts.{AreTables, taken_back}
-use Rattle.tipc_node.proofs.Tellings.{IsTelling}
+use Rattle.tipc_node.proofs.work.Tellings.{IsTelling}
 use Rattle.tipc_node.proofs.sharing.tell_peers.Given as goal
 
 abbrev pub invariant-loop-peer : goal.invariant-loop-peer

@@ -5,7 +5,7 @@ use Rattle.tipc_message.specs.Wire.{IsCarried}
 use Rattle.tipc_journal.specs.Room.{counted_bytes}
 use Rattle.tipc_types.specs.declared.message_forms.Message.{Message}
 use Rattle.tipc_name_dist.specs.Items.{tellings}
-use Rattle.tipc_node.proofs.Tellings.{tellings_carried, tellings_few, tellings_light}
+use Rattle.tipc_node.proofs.work.Tellings.{tellings_carried, tellings_few, tellings_light}
 use Rattle.tipc_node.proofs.sharing.tellings.Goals as goal
 
 pub returns-clause-carried : goal.returns-clause-carried

@@ -1,6 +1,6 @@
-use Rattle.tipc_twin_links.proofs.LinkSteps.{arrived_window, hears, joins_on, lets_go, puts_on, rises}
-use Rattle.tipc_twin_links.proofs.PairSteps.{fails_over, switches_over}
-use Rattle.tipc_twin_links.proofs.Wrapping.{can_travel}
+use Rattle.tipc_twin_links.proofs.sender.LinkSteps.{arrived_window, hears, joins_on, lets_go, puts_on, rises}
+use Rattle.tipc_twin_links.proofs.sender.PairSteps.{fails_over, switches_over}
+use Rattle.tipc_twin_links.proofs.sender.Wrapping.{can_travel}
 use Rattle.tipc_twin_links.proofs.laws.a_pair_acts_by_events.Goals as goal
 
 pub returns-clause-arrives : goal.returns-clause-arrives

@@ -1,12 +1,12 @@
-use Rattle.tipc_twin_links.proofs.Acted.{acts_back}
-use Rattle.tipc_twin_links.proofs.Arrived.{arrivals_act}
-use Rattle.tipc_twin_links.proofs.Founding.{numbers_one, out_stands, pair_ends}
-use Rattle.tipc_twin_links.proofs.Freeing.{held_carried, released_follow}
-use Rattle.tipc_twin_links.proofs.Landing.{arrivals_receive}
-use Rattle.tipc_twin_links.proofs.Leaving.{answers_same, made_same, mends_same}
-use Rattle.tipc_twin_links.proofs.Posting.{sends_act}
-use Rattle.tipc_twin_links.proofs.Preserving.{answer_records, cut_records, made_records, mend_records, send_records, tick_records}
-use Rattle.tipc_twin_links.proofs.Ticking.{cuts_act, ticks_act}
+use Rattle.tipc_twin_links.proofs.calls.Acted.{acts_back}
+use Rattle.tipc_twin_links.proofs.calls.Arrived.{arrivals_act}
+use Rattle.tipc_twin_links.proofs.calls.Founding.{numbers_one, out_stands, pair_ends}
+use Rattle.tipc_twin_links.proofs.calls.Freeing.{held_carried, released_follow}
+use Rattle.tipc_twin_links.proofs.receiver.Landing.{arrivals_receive}
+use Rattle.tipc_twin_links.proofs.calls.Leaving.{answers_same, made_same, mends_same}
+use Rattle.tipc_twin_links.proofs.calls.Posting.{sends_act}
+use Rattle.tipc_twin_links.proofs.receiver.Preserving.{answer_records, cut_records, made_records, mend_records, send_records, tick_records}
+use Rattle.tipc_twin_links.proofs.calls.Ticking.{cuts_act, ticks_act}
 use Rattle.tipc_twin_links.proofs.laws.a_pair_calls_by_events.Goals as goal
 
 pub returns-clause-ends : goal.returns-clause-ends

@@ -1,10 +1,10 @@
-use Rattle.tipc_twin_links.proofs.Activating.{activates_receive}
-use Rattle.tipc_twin_links.proofs.Coming.{comes}
-use Rattle.tipc_twin_links.proofs.Hearing.{sessions_receive}
-use Rattle.tipc_twin_links.proofs.Received.{gives, receives}
-use Rattle.tipc_twin_links.proofs.Rising.{risings_receive}
-use Rattle.tipc_twin_links.proofs.Quiet.{others_receive, resets_receive}
-use Rattle.tipc_twin_links.proofs.Remaining.{following_records, released_records}
+use Rattle.tipc_twin_links.proofs.receiver.Activating.{activates_receive}
+use Rattle.tipc_twin_links.proofs.receiver.Coming.{comes}
+use Rattle.tipc_twin_links.proofs.receiver.Hearing.{sessions_receive}
+use Rattle.tipc_twin_links.proofs.receiver.Received.{gives, receives}
+use Rattle.tipc_twin_links.proofs.receiver.Rising.{risings_receive}
+use Rattle.tipc_twin_links.proofs.receiver.Quiet.{others_receive, resets_receive}
+use Rattle.tipc_twin_links.proofs.receiver.Remaining.{following_records, released_records}
 use Rattle.tipc_twin_links.proofs.laws.a_pair_takes_by_events.Goals as goal
 
 pub returns-clause-come : goal.returns-clause-come

@@ -1,6 +1,6 @@
-use Rattle.tipc_twin_links.proofs.Releasing.{releases_on}
-use Rattle.tipc_twin_links.proofs.FollowingOn.{steps_follow, ticks_follow, turns_follow}
-use Rattle.tipc_twin_links.proofs.States.{activate_turns, cut_turns, reset_turns, tick_turns, traffic_turns, tunnel_turns}
+use Rattle.tipc_twin_links.proofs.calls.Releasing.{releases_on}
+use Rattle.tipc_twin_links.proofs.calls.FollowingOn.{steps_follow, ticks_follow, turns_follow}
+use Rattle.tipc_twin_links.proofs.calls.States.{activate_turns, cut_turns, reset_turns, tick_turns, traffic_turns, tunnel_turns}
 use Rattle.tipc_twin_links.proofs.laws.a_pair_turns_by_events.Goals as goal
 
 pub returns-clause-cuts : goal.returns-clause-cuts

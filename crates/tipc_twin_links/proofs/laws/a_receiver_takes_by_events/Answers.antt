@@ -1,7 +1,7 @@
-use Rattle.tipc_twin_links.proofs.Opening.{unwraps}
-use Rattle.tipc_twin_links.proofs.Taking.{took_more}
-use Rattle.tipc_twin_links.proofs.Tunnelling.{keeps_record, takes_marker, takes_tunnel}
-use Rattle.tipc_twin_links.proofs.Unwrapping.{records_kept}
+use Rattle.tipc_twin_links.proofs.receiver.Opening.{unwraps}
+use Rattle.tipc_twin_links.proofs.receiver.Taking.{took_more}
+use Rattle.tipc_twin_links.proofs.receiver.Tunnelling.{keeps_record, takes_marker, takes_tunnel}
+use Rattle.tipc_twin_links.proofs.receiver.Unwrapping.{records_kept}
 use Rattle.tipc_twin_links.proofs.laws.a_receiver_takes_by_events.Goals as goal
 
 pub returns-clause-begins : goal.returns-clause-begins

@@ -1,7 +1,7 @@
-use Rattle.tipc_twin_links.proofs.Calls.{acknowledges, goes_up, puts}
-use Rattle.tipc_twin_links.proofs.Changing.{fails, releases, switches}
-use Rattle.tipc_twin_links.proofs.Joining.{joins}
-use Rattle.tipc_twin_links.proofs.Numbering.{numbers}
+use Rattle.tipc_twin_links.proofs.sender.Calls.{acknowledges, goes_up, puts}
+use Rattle.tipc_twin_links.proofs.sender.Changing.{fails, releases, switches}
+use Rattle.tipc_twin_links.proofs.sender.Joining.{joins}
+use Rattle.tipc_twin_links.proofs.sender.Numbering.{numbers}
 use Rattle.tipc_twin_links.proofs.laws.a_sender_acts_by_events.Goals as goal
 
 pub returns-clause-numbers : goal.returns-clause-numbers

@@ -1,4 +1,4 @@
-use Rattle.tipc_twin_links.proofs.Happening.{follows_none, follows_reached, follows_sound}
+use Rattle.tipc_twin_links.proofs.sender.Happening.{follows_none, follows_reached, follows_sound}
 use Rattle.tipc_twin_links.proofs.laws.events_keep_what_holds.Goals as goal
 
 pub returns-clause-sound : goal.returns-clause-sound

@@ -1,7 +1,7 @@
-use Rattle.tipc_twins.proofs.Activating.{activates_rise}
-use Rattle.tipc_twins.proofs.NoticeArrivals.{notices_arrive}
-use Rattle.tipc_twins.proofs.Noticing.{notices_keep}
-use Rattle.tipc_twins.proofs.RiseKeeps.{rises_keep}
+use Rattle.tipc_twins.proofs.arrivals.Activating.{activates_rise}
+use Rattle.tipc_twins.proofs.arrivals.NoticeArrivals.{notices_arrive}
+use Rattle.tipc_twins.proofs.arrivals.Noticing.{notices_keep}
+use Rattle.tipc_twins.proofs.arrivals.RiseKeeps.{rises_keep}
 use Rattle.tipc_twins.proofs.laws.a_link_goes_up_between_twins.Goals as goal
 
 pub returns-clause-rises : goal.returns-clause-rises

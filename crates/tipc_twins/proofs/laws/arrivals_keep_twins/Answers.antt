@@ -1,4 +1,4 @@
-use Rattle.tipc_twins.proofs.WholeArrivals.{arrivals_keep}
+use Rattle.tipc_twins.proofs.arrivals.WholeArrivals.{arrivals_keep}
 use Rattle.tipc_twins.proofs.laws.arrivals_keep_twins.Goals as goal
 
 pub returns : goal.returns

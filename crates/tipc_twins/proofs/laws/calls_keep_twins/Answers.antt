@@ -1,6 +1,6 @@
-use Rattle.tipc_twins.proofs.CallCourses.{cuts_keep, ticks_keep}
-use Rattle.tipc_twins.proofs.QuietCourses.{answers_keep, makes_keep, mends_keep}
-use Rattle.tipc_twins.proofs.SendTwins.{sends_keep}
+use Rattle.tipc_twins.proofs.calls.CallCourses.{cuts_keep, ticks_keep}
+use Rattle.tipc_twins.proofs.calls.QuietCourses.{answers_keep, makes_keep, mends_keep}
+use Rattle.tipc_twins.proofs.calls.SendTwins.{sends_keep}
 use Rattle.tipc_twins.proofs.laws.calls_keep_twins.Goals as goal
 
 pub returns-clause-makes : goal.returns-clause-makes

@@ -1,5 +1,5 @@
-use Rattle.tipc_twins.proofs.Deeds.{does_numbers, does_recorded}
-use Rattle.tipc_twins.proofs.EndingTwins.{falls_twins, parts_twins, restarts_twins, shows_twins}
+use Rattle.tipc_twins.proofs.deeds.Deeds.{does_numbers, does_recorded}
+use Rattle.tipc_twins.proofs.calls.EndingTwins.{falls_twins, parts_twins, restarts_twins, shows_twins}
 use Rattle.tipc_twins.proofs.laws.deeds_keep_twins.Goals as goal
 
 pub returns-clause-parts : goal.returns-clause-parts

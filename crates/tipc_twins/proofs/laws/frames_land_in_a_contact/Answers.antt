@@ -1,6 +1,6 @@
-use Rattle.tipc_twins.proofs.Landing.{first_acknowledges, first_lands, pairs_stand, second_acknowledges, second_lands, taken_counted, turned_pairs_stand}
-use Rattle.tipc_twins.proofs.Making.{far_made, near_made}
-use Rattle.tipc_twins.proofs.OwnEnds.{are_ends}
+use Rattle.tipc_twins.proofs.arrivals.Landing.{first_acknowledges, first_lands, pairs_stand, second_acknowledges, second_lands, taken_counted, turned_pairs_stand}
+use Rattle.tipc_twins.proofs.arrivals.Making.{far_made, near_made}
+use Rattle.tipc_twins.proofs.arrivals.OwnEnds.{are_ends}
 use Rattle.tipc_twins.proofs.laws.frames_land_in_a_contact.Goals as goal
 
 pub returns-clause-sends : goal.returns-clause-sends

@@ -1,7 +1,7 @@
-use Rattle.tipc_twins.proofs.Fronts.{taken_front}
-use Rattle.tipc_twins.proofs.Posted.{sent_messages}
-use Rattle.tipc_twins.proofs.Talking.{gives_more, joins_last, puts_behind}
-use Rattle.tipc_twins.proofs.Talks.{talks_front}
+use Rattle.tipc_twins.proofs.contacts.Fronts.{taken_front}
+use Rattle.tipc_twins.proofs.messages.Posted.{sent_messages}
+use Rattle.tipc_twins.proofs.messages.Talking.{gives_more, joins_last, puts_behind}
+use Rattle.tipc_twins.proofs.messages.Talks.{talks_front}
 use Rattle.tipc_twins.proofs.laws.messages_cross_in_order.Goals as goal
 
 pub returns-clause-taken : goal.returns-clause-taken

@@ -1,4 +1,4 @@
-use Rattle.tipc_twins.proofs.TwinSteps.{enters_twins, goes_on_twins, learns_twins, leaves_twins, start_twins}
+use Rattle.tipc_twins.proofs.deeds.TwinSteps.{enters_twins, goes_on_twins, learns_twins, leaves_twins, start_twins}
 use Rattle.tipc_twins.proofs.laws.nodes_stay_twins.Goals as goal
 
 pub returns-clause-new : goal.returns-clause-new

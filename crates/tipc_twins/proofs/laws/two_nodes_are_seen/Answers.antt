@@ -1,5 +1,5 @@
-use Rattle.tipc_twins.proofs.Sights.{ends, frames, front, gives, restarted, starts, turned, turns}
-use Rattle.tipc_twins.proofs.Truth.{frames_fit, truths}
+use Rattle.tipc_twins.proofs.sights.Sights.{ends, frames, front, gives, restarted, starts, turned, turns}
+use Rattle.tipc_twins.proofs.sights.Truth.{frames_fit, truths}
 use Rattle.tipc_twins.proofs.laws.two_nodes_are_seen.Goals as goal
 
 pub returns-clause-starts : goal.returns-clause-starts

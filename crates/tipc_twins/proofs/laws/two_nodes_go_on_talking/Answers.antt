@@ -1,6 +1,6 @@
-use Rattle.tipc_twins.proofs.TalkerArrivals.{arrivals_talk}
-use Rattle.tipc_twins.proofs.TalkerTurns.{new_are_talking, notices_talk, opening_talks, restarts_talk, sends_talk}
-use Rattle.tipc_twins.proofs.Talkers.{answers_talk, cuts_talk, given_is_front, makes_talk, mends_talk, ticks_talk, turned_talk}
+use Rattle.tipc_twins.proofs.arrivals.TalkerArrivals.{arrivals_talk}
+use Rattle.tipc_twins.proofs.calls.TalkerTurns.{new_are_talking, notices_talk, opening_talks, restarts_talk, sends_talk}
+use Rattle.tipc_twins.proofs.calls.Talkers.{answers_talk, cuts_talk, given_is_front, makes_talk, mends_talk, ticks_talk, turned_talk}
 use Rattle.tipc_twins.proofs.laws.two_nodes_go_on_talking.Goals as goal
 
 pub returns-clause-given : goal.returns-clause-given

@@ -1,4 +1,4 @@
-use Rattle.tipc_twins.proofs.Reaching.{reached, reached_fronts}
+use Rattle.tipc_twins.proofs.sights.Reaching.{reached, reached_fronts}
 use Rattle.tipc_twins.proofs.laws.what_is_given_is_a_front.Goals as goal
 
 pub returns-clause-seen : goal.returns-clause-seen

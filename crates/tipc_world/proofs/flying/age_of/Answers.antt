@@ -1,6 +1,6 @@
 use Rattle.std.proofs.Common.{subst, rules}
 use Rattle.tipc_world.specs.Due.{HasNoSession, HasSession}
-use Rattle.tipc_world.proofs.Ages.{no_age, session_age_is}
+use Rattle.tipc_world.proofs.frames.Ages.{no_age, session_age_is}
 use Rattle.tipc_world.proofs.flying.age_of.Goals as goal
 
 pub returns-in_default : goal.returns-in_default

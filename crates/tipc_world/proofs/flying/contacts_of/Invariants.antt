@@ -1,6 +1,6 @@
 -- The loop that gathers the contacts of a node.
 use Rattle.std.proofs.Common.{◌≤◌, vec_capacity}
-use Rattle.tipc_world.proofs.Contacts.{AreGathered}
+use Rattle.tipc_world.proofs.pairs.Contacts.{AreGathered}
 use Rattle.tipc_world.proofs.flying.contacts_of.Given as goal
 
 abbrev pub invariant-loop-b : goal.invariant-loop-b

@@ -1,4 +1,4 @@
-use Rattle.tipc_world.proofs.Ages.{frame_is_there}
+use Rattle.tipc_world.proofs.frames.Ages.{frame_is_there}
 use Rattle.tipc_world.proofs.flying.find.Goals as goal
 
 pub age_of-age-requires : goal.age_of-age-requires

@@ -1,7 +1,7 @@
 -- The loop that brings frames into the air.
 use Rattle.std.proofs.Common.{rules, subst, sym}
 use Rattle.tipc_world.specs.Air.{met_in, Releases}
-use Rattle.tipc_world.proofs.Released.{all_released, releases, releasing-start, releasing-step}
+use Rattle.tipc_world.proofs.frames.Released.{all_released, releases, releasing-start, releasing-step}
 use Rattle.tipc_world.proofs.flying.release.Goals as goal
 
 pub loop-outgoing-init : goal.loop-outgoing-init

@@ -1,6 +1,6 @@
 use Rattle.std.specs.VecDeque.{deque_len}
 use Rattle.tipc_world.specs.Air.{met_in}
-use Rattle.tipc_world.proofs.Released.{IsReleasing}
+use Rattle.tipc_world.proofs.frames.Released.{IsReleasing}
 use Rattle.tipc_world.proofs.flying.release.Given as goal
 
 abbrev pub invariant-loop-outgoing : goal.invariant-loop-outgoing

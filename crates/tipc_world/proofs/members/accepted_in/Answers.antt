@@ -1,7 +1,7 @@
 use Rattle.std.proofs.Common.{length, ap, sym}
 use Rattle.tipc_journal.proofs.StreamLaws.{accepted_nil}
 use Rattle.tipc_world.specs.States.{counted}
-use Rattle.tipc_world.proofs.Flows.{accepted_next}
+use Rattle.tipc_world.proofs.streams.Flows.{accepted_next}
 use Rattle.tipc_world.proofs.members.accepted_in.Goals as goal
 
 pub loop-journal-init : goal.loop-journal-init

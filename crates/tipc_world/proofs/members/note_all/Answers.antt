@@ -1,5 +1,5 @@
 use Rattle.std.proofs.Common.{arith}
-use Rattle.tipc_world.proofs.Counts.{noted_next}
+use Rattle.tipc_world.proofs.pairs.Counts.{noted_next}
 use Rattle.tipc_world.proofs.members.note_all.Goals as goal
 
 pub loop-peer-preserved : goal.loop-peer-preserved

@@ -1,4 +1,4 @@
-use Rattle.tipc_node.proofs.Reaching.{heard_met, stopped_met}
+use Rattle.tipc_node.proofs.work.Reaching.{heard_met, stopped_met}
 use Rattle.tipc_node.proofs.cores.Core.arrive.Goals as goal
 
 pub returns-in-Ok-clause-ok : goal.returns-in-Ok-clause-ok

@@ -1,4 +1,4 @@
-use Rattle.tipc_node.proofs.Posted.{call_alone}
+use Rattle.tipc_node.proofs.work.Posted.{call_alone}
 use Rattle.tipc_node.proofs.cores.Core.call.Goals as goal
 
 pub returns-in-Receive-clause-ok : goal.returns-in-Receive-clause-ok

@@ -14,9 +14,9 @@ use Rattle.tipc_node.specs.contracts.cores.Core.{the_view}
 use Rattle.tipc_node.specs.Drafts.{nothing_out}
 use Rattle.tipc_node.specs.Nodes.{NodeState, step_of}
 use Rattle.tipc_node.specs.Sockets.{closed_work, crowd_refusal, port_refusal, told_closing}
-use Rattle.tipc_node.proofs.Announcing.{IsAnnounced, announced, announced_crowded, announced_refused, crowd_same}
-use Rattle.tipc_node.proofs.Answering.{at_few, port_gone, port_there, withdrawals_light}
-use Rattle.tipc_node.proofs.Making.{node_of}
+use Rattle.tipc_node.proofs.work.Announcing.{IsAnnounced, announced, announced_crowded, announced_refused, crowd_same}
+use Rattle.tipc_node.proofs.work.Answering.{at_few, port_gone, port_there, withdrawals_light}
+use Rattle.tipc_node.proofs.work.Making.{node_of}
 use Rattle.tipc_node.proofs.cores.Core.close.Goals as goal
 
 pub returns-then-not-has-clause-ok : goal.returns-then-not-has-clause-ok

@@ -8,10 +8,10 @@ use Rattle.tipc_node.specs.declared.neighbours.Neighbour.{Neighbour}
 use Rattle.tipc_node.specs.Arrivals.{IsDue}
 use Rattle.tipc_node.specs.Nodes.{NodeState, end_with, neighbour_of}
 use Rattle.tipc_node.specs.Works.{work_of}
-use Rattle.tipc_node.proofs.Heard.{heard_worked, journal_heard}
-use Rattle.tipc_node.proofs.Restoring.{restored_none}
-use Rattle.tipc_node.proofs.Stops.{end_known}
-use Rattle.tipc_node.proofs.Taking.{same_parts, some_place, worked_same}
+use Rattle.tipc_node.proofs.work.Heard.{heard_worked, journal_heard}
+use Rattle.tipc_node.proofs.work.Restoring.{restored_none}
+use Rattle.tipc_node.proofs.work.Stops.{end_known}
+use Rattle.tipc_node.proofs.work.Taking.{same_parts, some_place, worked_same}
 use Rattle.tipc_node.proofs.cores.Core.hear_each.Goals as goal
 
 pub invariant_of-self : goal.invariant_of-self

@@ -4,7 +4,7 @@ use Rattle.tipc_pair.specs.Facing.{facing}
 use Rattle.tipc_node.specs.declared.neighbours.Neighbour.{Neighbour}
 use Rattle.tipc_node.specs.contracts.cores.Core.{the_view}
 use Rattle.tipc_node.specs.Nodes.{NodeState, end_with, known_node, neighbour_of, with_neighbours}
-use Rattle.tipc_node.proofs.Acquainting.{made_of_it, made_there, none_there, taken_from}
+use Rattle.tipc_node.proofs.pairs.Acquainting.{made_of_it, made_there, none_there, taken_from}
 use Rattle.tipc_node.proofs.cores.Core.know.Goals as goal
 
 pub make-requires-clause-none : goal.make-requires-clause-none

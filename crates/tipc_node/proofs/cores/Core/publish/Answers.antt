@@ -9,8 +9,8 @@ use Rattle.tipc_node.specs.contracts.cores.Core.{the_view}
 use Rattle.tipc_node.specs.Drafts.{nothing_out}
 use Rattle.tipc_node.specs.Nodes.{NodeState, step_of}
 use Rattle.tipc_node.specs.Sockets.{crowd_refusal, publication_refusal, published_work}
-use Rattle.tipc_node.proofs.Announcing.{IsAnnounced, announced, announced_crowded, announced_refused, crowd_same}
-use Rattle.tipc_node.proofs.Making.{node_of}
+use Rattle.tipc_node.proofs.work.Announcing.{IsAnnounced, announced, announced_crowded, announced_refused, crowd_same}
+use Rattle.tipc_node.proofs.work.Making.{node_of}
 use Rattle.tipc_node.proofs.cores.Core.publish.Goals as goal
 
 pub returns-in-Some-clause-ok : goal.returns-in-Some-clause-ok

@@ -3,7 +3,7 @@ use Rattle.tipc_journal.specs.Room.{JournalState}
 use Rattle.tipc_journal.specs.Steps.{step_entries}
 use Rattle.tipc_node.specs.contracts.cores.Core.{the_view}
 use Rattle.tipc_node.specs.Nodes.{step_of}
-use Rattle.tipc_node.proofs.Wayfaring.{away_sent, read_at}
+use Rattle.tipc_node.proofs.work.Wayfaring.{away_sent, read_at}
 use Rattle.tipc_node.proofs.cores.Core.send_away.Goals as goal
 
 pub returns-clause-sent : goal.returns-clause-sent

@@ -5,8 +5,8 @@ use Rattle.tipc_ports.specs.Numbers.{PortTable}
 use Rattle.tipc_node.specs.contracts.cores.Core.{the_view}
 use Rattle.tipc_node.specs.Nodes.{step_of}
 use Rattle.tipc_node.specs.Works.{work_of}
-use Rattle.tipc_node.proofs.Homing.{settles_node}
-use Rattle.tipc_node.proofs.Wayfaring.{home_sent}
+use Rattle.tipc_node.proofs.work.Homing.{settles_node}
+use Rattle.tipc_node.proofs.work.Wayfaring.{home_sent}
 use Rattle.tipc_node.proofs.cores.Core.send_home.Goals as goal
 
 pub invariant_of-self-2 : goal.invariant_of-self-2

@@ -7,7 +7,7 @@ use Rattle.tipc_node.specs.contracts.cores.Core.{the_view}
 use Rattle.tipc_node.specs.Messages.{named}
 use Rattle.tipc_node.specs.Nodes.{NodeState}
 use Rattle.tipc_node.specs.Sockets.{found_at}
-use Rattle.tipc_node.proofs.Posted.{found_is, name_answered, name_refused_by, name_unfound_by, nothing, picked_at, refused_unpicked, something}
+use Rattle.tipc_node.proofs.work.Posted.{found_is, name_answered, name_refused_by, name_unfound_by, nothing, picked_at, refused_unpicked, something}
 use Rattle.tipc_node.proofs.cores.Core.send_name.Goals as goal
 
 pub returns-in-Some-clause-ok : goal.returns-in-Some-clause-ok

@@ -1,5 +1,5 @@
 use Rattle.std.proofs.Common.{sym, ◌∙◌}
-use Rattle.tipc_node.proofs.Posted.{port_refused}
+use Rattle.tipc_node.proofs.work.Posted.{port_refused}
 use Rattle.tipc_node.proofs.cores.Core.send_port.Goals as goal
 
 pub returns-in-Some-clause-ok : goal.returns-in-Some-clause-ok

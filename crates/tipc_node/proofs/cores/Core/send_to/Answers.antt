@@ -4,7 +4,7 @@ use Rattle.tipc_journal.specs.Dues.{comes_home}
 use Rattle.tipc_node.specs.Calls.{way_refusal}
 use Rattle.tipc_node.specs.Nodes.{NodeState}
 use Rattle.tipc_node.specs.Works.{addr_of_word}
-use Rattle.tipc_node.proofs.Wayfaring.{sent_away, sent_home, way_met, way_refused}
+use Rattle.tipc_node.proofs.work.Wayfaring.{sent_away, sent_home, way_met, way_refused}
 use Rattle.tipc_node.proofs.cores.Core.send_to.Goals as goal
 
 pub returns-in-Some-clause-sends : goal.returns-in-Some-clause-sends

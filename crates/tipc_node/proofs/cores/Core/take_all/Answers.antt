@@ -9,10 +9,10 @@ use Rattle.tipc_node.specs.Hearings.{IsPrepared}
 use Rattle.tipc_node.specs.Nodes.{NodeState, message_count, neighbour_of}
 use Rattle.tipc_node.specs.Sure.{all_wait, are_sure}
 use Rattle.tipc_node.specs.Works.{work_of}
-use Rattle.tipc_node.proofs.Heard.{journal_heard}
-use Rattle.tipc_node.proofs.Hearings.{prepared_there, taken_heard, told_there}
-use Rattle.tipc_node.proofs.Surely.{each_sure}
-use Rattle.tipc_node.proofs.Taking.{core_kept, place_is, same_put, taken_all}
+use Rattle.tipc_node.proofs.work.Heard.{journal_heard}
+use Rattle.tipc_node.proofs.work.Hearings.{prepared_there, taken_heard, told_there}
+use Rattle.tipc_node.proofs.work.Surely.{each_sure}
+use Rattle.tipc_node.proofs.work.Taking.{core_kept, place_is, same_put, taken_all}
 use Rattle.tipc_node.proofs.cores.Core.take_all.Goals as goal
 
 pub take-requires : goal.take-requires

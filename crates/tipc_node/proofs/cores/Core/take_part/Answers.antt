@@ -12,9 +12,9 @@ use Rattle.tipc_sockets.specs.Telling.{after_entry}
 use Rattle.tipc_node.specs.Calls.{deed_work}
 use Rattle.tipc_node.specs.Nodes.{NodeState, after_all, deed_note, entries_all, frames_all, is_change, mended_by, numbered_all, states_all, step_of, with_mended}
 use Rattle.tipc_node.specs.Works.{concluded}
-use Rattle.tipc_node.proofs.Changes.{all_changes, same_folded}
-use Rattle.tipc_node.proofs.Parts.{all_nobody, all_wide}
-use Rattle.tipc_node.proofs.Ticking.{takes_from}
+use Rattle.tipc_node.proofs.work.Changes.{all_changes, same_folded}
+use Rattle.tipc_node.proofs.turns.Parts.{all_nobody, all_wide}
+use Rattle.tipc_node.proofs.journal.Ticking.{takes_from}
 use Rattle.tipc_node.proofs.cores.Core.take_part.Goals as goal
 
 pub purge_ended-requires : goal.purge_ended-requires

@@ -14,9 +14,9 @@ use Rattle.tipc_node.specs.declared.neighbours.Deed.TheVariants as deed
 use Rattle.tipc_node.specs.Calls.{tick_work}
 use Rattle.tipc_node.specs.Nodes.{NodeState, after_all, entries_all, frames_all, is_change, numbered_all, states_all, step_of}
 use Rattle.tipc_node.specs.Works.{concluded}
-use Rattle.tipc_node.proofs.Changes.{all_changes, same_folded}
-use Rattle.tipc_node.proofs.Parts.{all_nobody, all_wide}
-use Rattle.tipc_node.proofs.Ticking.{front_of, ticks_from}
+use Rattle.tipc_node.proofs.work.Changes.{all_changes, same_folded}
+use Rattle.tipc_node.proofs.turns.Parts.{all_nobody, all_wide}
+use Rattle.tipc_node.proofs.journal.Ticking.{front_of, ticks_from}
 use Rattle.tipc_node.proofs.cores.Core.tick.Goals as goal
 
 pub purge_ended-requires : goal.purge_ended-requires

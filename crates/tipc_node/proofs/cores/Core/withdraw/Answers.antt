@@ -7,9 +7,9 @@ use Rattle.tipc_node.specs.contracts.cores.Core.{the_view}
 use Rattle.tipc_node.specs.Drafts.{nothing_out}
 use Rattle.tipc_node.specs.Nodes.{NodeState, step_of}
 use Rattle.tipc_node.specs.Sockets.{crowd_refusal, told_withdrawal, withdrawal_refusal, withdrawn_work}
-use Rattle.tipc_node.proofs.Announcing.{IsAnnounced, announced, announced_crowded, announced_refused, crowd_same, telling_alone}
-use Rattle.tipc_node.proofs.Answering.{withdrawal_free, withdrawal_gone, withdrawal_unknown, withdrawn_inside, withdrawn_sockets, withdrawn_told}
-use Rattle.tipc_node.proofs.Making.{node_of}
+use Rattle.tipc_node.proofs.work.Announcing.{IsAnnounced, announced, announced_crowded, announced_refused, crowd_same, telling_alone}
+use Rattle.tipc_node.proofs.work.Answering.{withdrawal_free, withdrawal_gone, withdrawal_unknown, withdrawn_inside, withdrawn_sockets, withdrawn_told}
+use Rattle.tipc_node.proofs.work.Making.{node_of}
 use Rattle.tipc_node.proofs.cores.Core.withdraw.Goals as goal
 
 pub returns-then-not-has-clause-ok : goal.returns-then-not-has-clause-ok

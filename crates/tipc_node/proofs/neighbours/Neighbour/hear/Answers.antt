@@ -1,5 +1,5 @@
 use Rattle.std.proofs.Common.{Some, refl}
-use Rattle.tipc_node.proofs.Hearings.{taken_heard, told_there}
+use Rattle.tipc_node.proofs.work.Hearings.{taken_heard, told_there}
 use Rattle.tipc_node.proofs.neighbours.Neighbour.hear.Goals as goal
 
 pub take-requires : goal.take-requires

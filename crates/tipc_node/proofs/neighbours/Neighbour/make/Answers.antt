@@ -1,7 +1,7 @@
 use Rattle.std.proofs.Common.{◌≡◌, ap, subst, sym}
 use Rattle.tipc_outside.specs.Frames.{Adds}
 use Rattle.tipc_node.specs.Neighbours.{making, neighbour}
-use Rattle.tipc_node.proofs.Neighbouring.{made_mended, made_sent}
+use Rattle.tipc_node.proofs.work.Neighbouring.{made_mended, made_sent}
 use Rattle.tipc_node.proofs.neighbours.Neighbour.make.Goals as goal
 
 pub returns-then-mended-clause-after : goal.returns-then-mended-clause-after

@@ -2,7 +2,7 @@ use Rattle.std.proofs.Common.{◌||◌, ◌&&◌, ap, sym, subst, ◌∙◌}
 use Rattle.tipc_header.specs.Spelling.{view}
 use Rattle.tipc_pair.specs.Preparing.{Prepares}
 use Rattle.tipc_node.specs.Neighbours.{is_given, is_state, neighbour, stays_in_step}
-use Rattle.tipc_node.proofs.Neighbouring.{taken_contact, taken_once, takes}
+use Rattle.tipc_node.proofs.work.Neighbouring.{taken_contact, taken_once, takes}
 use Rattle.tipc_node.proofs.neighbours.Neighbour.take.Goals as goal
 
 pub returns-clause-takes : goal.returns-clause-takes

@@ -2,10 +2,10 @@ use Rattle.std.proofs.Common.{◌∙◌, ap, sym, subst}
 use Rattle.tipc_node.specs.Nodes.{NodeState, end_with, neighbour_of}
 use Rattle.tipc_node.specs.Sharing.{SharesNames}
 use Rattle.tipc_node.specs.Telling.{IsTold}
-use Rattle.tipc_node.proofs.FirstTold.{known_told}
+use Rattle.tipc_node.proofs.journal.FirstTold.{known_told}
 use Rattle.tipc_node.proofs.Keeping.{Held, held_of, kept_of}
 use Rattle.tipc_node.proofs.Kept.{known_kept}
-use Rattle.tipc_node.proofs.SharedNames.{known_shares}
+use Rattle.tipc_node.proofs.names.SharedNames.{known_shares}
 use Rattle.tipc_node.proofs.nodes.Node.know.Goals as goal
 
 pub invariant_of-self : goal.invariant_of-self

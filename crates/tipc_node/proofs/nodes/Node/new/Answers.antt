@@ -1,9 +1,9 @@
 use Rattle.std.proofs.Common.{◌∙◌, ap, sym}
 use Rattle.tipc_sockets.specs.SocketTables.{no_sockets}
-use Rattle.tipc_node.proofs.FirstTold.{new_told}
+use Rattle.tipc_node.proofs.journal.FirstTold.{new_told}
 use Rattle.tipc_node.proofs.Keeping.{held_of}
 use Rattle.tipc_node.proofs.Kept.{new_kept}
-use Rattle.tipc_node.proofs.SharedNames.{new_shares}
+use Rattle.tipc_node.proofs.names.SharedNames.{new_shares}
 use Rattle.tipc_node.proofs.nodes.Node.new.Goals as goal
 
 pub invariant_of-result : goal.invariant_of-result

@@ -3,7 +3,7 @@ use Rattle.tipc_journal.specs.Room.{JournalState}
 use Rattle.tipc_journal.specs.Streams.{accepted}
 use Rattle.tipc_types.specs.declared.message_forms.Flow.TheVariants.{Zero}
 use Rattle.tipc_world.specs.States.{MemberState, counted, history, joined, stream_of}
-use Rattle.tipc_world.proofs.Flows.{accepted_whole}
+use Rattle.tipc_world.proofs.streams.Flows.{accepted_whole}
 use Rattle.tipc_world.proofs.members.Member.accepted_count.Goals as goal
 
 pub returns : goal.returns

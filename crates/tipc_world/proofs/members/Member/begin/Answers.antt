@@ -1,5 +1,5 @@
 use Rattle.std.proofs.Common.{◌∙◌, rules, sym}
-use Rattle.tipc_world.proofs.Calls.{call_fits}
+use Rattle.tipc_world.proofs.calls.Calls.{call_fits}
 use Rattle.tipc_world.proofs.members.Member.begin.Goals as goal
 
 pub overflow_add-result : goal.overflow_add-result

@@ -4,7 +4,7 @@ use Rattle.tipc_sockets.specs.SocketTables.{no_sockets}
 use Rattle.tipc_node.specs.Nodes.{neighbour_of}
 use Rattle.tipc_world.specs.Members.{IsFresh, IsRestarted}
 use Rattle.tipc_world.specs.States.{MemberState}
-use Rattle.tipc_world.proofs.Outcomes.{restarted_as}
+use Rattle.tipc_world.proofs.calls.Outcomes.{restarted_as}
 use Rattle.tipc_world.proofs.members.Member.restart.Goals as goal
 
 pub returns-clause-ok : goal.returns-clause-ok

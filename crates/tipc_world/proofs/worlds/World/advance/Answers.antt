@@ -9,9 +9,9 @@ use Rattle.tipc_world.specs.Watched.{AreWatched}
 use Rattle.tipc_world.specs.States.{WorldState, WorldView}
 use Rattle.tipc_world.proofs.Advancing.{answered_of, passes_of, world_with, Counts}
 use Rattle.tipc_world.proofs.Boots.{next_boots, settled_of, steady_after}
-use Rattle.tipc_world.proofs.KeptWorlds.{becomes_watched}
-use Rattle.tipc_world.proofs.Orderly.{orderly_after}
-use Rattle.tipc_world.proofs.Sharing.{becomes_shared}
+use Rattle.tipc_world.proofs.journals.KeptWorlds.{becomes_watched}
+use Rattle.tipc_world.proofs.calls.Orderly.{orderly_after}
+use Rattle.tipc_world.proofs.names.Sharing.{becomes_shared}
 use Rattle.tipc_world.proofs.SoundWorlds.{becomes_sound}
 use Rattle.tipc_world.proofs.worlds.World.advance.Goals as goal
 

@@ -6,9 +6,9 @@ use Rattle.tipc_world.specs.Sound.{IsSound}
 use Rattle.tipc_world.specs.Watched.{AreWatched}
 use Rattle.tipc_world.specs.States.{MemberState, WorldState, WorldView, is_there}
 use Rattle.tipc_world.proofs.Boots.{steady_joined}
-use Rattle.tipc_world.proofs.KeptWorlds.{joined_watched}
-use Rattle.tipc_world.proofs.Quiet.{joined_orderly}
-use Rattle.tipc_world.proofs.Sharing.{joined_shared}
+use Rattle.tipc_world.proofs.journals.KeptWorlds.{joined_watched}
+use Rattle.tipc_world.proofs.calls.Quiet.{joined_orderly}
+use Rattle.tipc_world.proofs.names.Sharing.{joined_shared}
 use Rattle.tipc_world.proofs.SoundWorlds.{joined_sound}
 use Rattle.tipc_world.proofs.Staying.{absent_at, joins_world}
 use Rattle.tipc_world.proofs.worlds.World.join.Goals as goal

@@ -6,10 +6,10 @@ use Rattle.tipc_world.specs.Sound.{IsSound}
 use Rattle.tipc_world.specs.States.{WorldView}
 use Rattle.tipc_world.specs.Watched.{AreWatched}
 use Rattle.tipc_world.proofs.Boots.{steady_start}
-use Rattle.tipc_world.proofs.KeptWorlds.{start_watched}
+use Rattle.tipc_world.proofs.journals.KeptWorlds.{start_watched}
 use Rattle.tipc_world.proofs.Promise.{is_good}
-use Rattle.tipc_world.proofs.Quiet.{start_orderly}
-use Rattle.tipc_world.proofs.Sharing.{start_shared}
+use Rattle.tipc_world.proofs.calls.Quiet.{start_orderly}
+use Rattle.tipc_world.proofs.names.Sharing.{start_shared}
 use Rattle.tipc_world.proofs.SoundWorlds.{start_sound}
 use Rattle.tipc_world.proofs.worlds.World.new.Goals as goal
 

@@ -1,0 +1,22 @@
+-- The journal tells of the node after each call and each arrival.
+pub mod ArrivalTold
+pub mod Calling
+pub mod Concluding
+pub mod Fating
+pub mod FirstTold
+pub mod Happening
+pub mod LearntTold
+pub mod NameCalls
+pub mod Naming
+pub mod Noting
+pub mod PeersTold
+pub mod PortCalls
+pub mod Putting
+pub mod Refusing
+pub mod SendsTold
+pub mod Subscribing
+pub mod Telling
+pub mod TellsTold
+pub mod Ticking
+pub mod Told
+pub mod Turned

@@ -1,0 +1,213 @@
+-- The journal tells of the node after an arrival.
+use Rattle.std.proofs.Common.{◌≡◌, ◌≤◌, ◌<◌, ◌==◌, ◌-◌, ℕ, false, List, [], ◌∷◌, ◌++◌, Option, Some, None, fold, is_some, inl, inr, refl, sym, ap, ◌∙◌, subst, arith}
+use Rattle.std.specs.Prelude.{◌⊎◌, IfSome, if◌then◌else◌, map, option_and_then, option_map, slice_index_or, slice_set}
+use Rattle.std.proofs.lemmas.Bool.{cases_eq, cases_lt}
+use Rattle.std.proofs.lemmas.Bool.Decides.{nat_tests}
+use Rattle.std.proofs.lemmas.List.{get_or-set_other}
+use Rattle.tipc_types.specs.Address.{node_word}
+use Rattle.tipc_types.specs.declared.identity.Addr.{Addr}
+use Rattle.tipc_types.specs.declared.link_words.Why.{Why}
+use Rattle.tipc_types.specs.declared.node_calls.Answer.TheVariants as answer
+use Rattle.tipc_types.specs.declared.node_calls.Arrival.{Arrival}
+use Rattle.tipc_types.specs.declared.node_calls.Arrival.TheVariants as arrival
+use Rattle.tipc_types.specs.declared.node_calls.By.{By}
+use Rattle.tipc_types.specs.declared.node_calls.EventNote.TheVariants as event
+use Rattle.tipc_outside.specs.declared.outgoing.Outgoing.{Outgoing}
+use Rattle.tipc_header.specs.Spelling.{Fields}
+use Rattle.tipc_journal.specs.declared.entries.Entry.{Entry}
+use Rattle.tipc_journal.specs.Contacts.{contact, contact_after}
+use Rattle.tipc_journal.specs.Dues.{NothingDue}
+use Rattle.tipc_journal.specs.Steps.{IsInside}
+use Rattle.tipc_journal.proofs.ContactLaws.{contact_append}
+use Rattle.tipc_pair.specs.declared.transitions.Transition.{Transition}
+use Rattle.tipc_pair.specs.declared.transitions.Transition.TheVariants.{ContactDown, ContactUp, LinkDown, LinkUp}
+use Rattle.tipc_pair.specs.Facing.{contact_between}
+use Rattle.tipc_pair.specs.PairTurns.{Outset}
+use Rattle.tipc_pair.specs.PairTurns.Opening.{hears}
+use Rattle.tipc_pair.specs.Messages.{opened_in}
+use Rattle.tipc_sockets.specs.SocketTables.{AreSockets}
+use Rattle.tipc_node.specs.declared.neighbours.Neighbour.{Neighbour}
+use Rattle.tipc_node.specs.Arrivals.{Arrives, Hears, answered_work, heard_work}
+use Rattle.tipc_node.specs.Neighbours.{HearsAt, heard_neighbour, no_broadcast}
+use Rattle.tipc_node.specs.Nodes.{NodeState, arrival_deliveries, change_entries, delivery_of, neighbour_of, shown_contact, step_of, stop_of}
+use Rattle.tipc_node.specs.Telling.{AreAbreast, IsTold}
+use Rattle.tipc_node.specs.Turns.{NodeTurn, addr_of}
+use Rattle.tipc_node.specs.Works.{Work, addr_of_word, begun}
+use Rattle.tipc_node.proofs.journal.Calling.{done_answered}
+use Rattle.tipc_node.proofs.journal.Concluding.{IsCall, call_told, others_kept}
+use Rattle.tipc_node.proofs.journal.Fating.{IsDone, IsLinked, contact_at}
+use Rattle.tipc_node.proofs.work.Greeting.{greets_items}
+use Rattle.tipc_node.proofs.journal.Happening.{changes_quiet}
+use Rattle.tipc_node.proofs.pairs.Knowing.{contact_is_some}
+use Rattle.tipc_node.proofs.pairs.Moves.{contact_by}
+use Rattle.tipc_node.proofs.journal.Noting.{IsWorked, all_noted, begun_worked, worked_beside}
+use Rattle.tipc_node.proofs.pairs.PairEvents.{HappenedSo, happened_so}
+use Rattle.tipc_node.proofs.pairs.PairTells.{Tells}
+use Rattle.tipc_node.proofs.journal.PeersTold.{puts_each_linked, puts_each_worked}
+use Rattle.tipc_node.proofs.Places.{set_either, set_there}
+use Rattle.tipc_node.proofs.journal.Putting.{IsInContact, all_delivered, all_given, not_nobody, still_in_contact}
+use Rattle.tipc_node.proofs.work.Senders.{sender_other}
+use Rattle.tipc_node.proofs.journal.SendsTold.{begun_linked}
+use Rattle.tipc_node.proofs.names.SharingEnds.{contact_by_story, on_bearers, told_by_story}
+use Rattle.tipc_node.proofs.journal.Telling.{contact_goes}
+
+-- ---- what was heard, before anything is delivered
+
+-- what is told of one peer leaves the contacts with others
+other_contact : (peer : ℕ) (a : Addr) (z : Option (ℕ × ℕ)) (cs : List Transition) → (node_word peer == a.word) ≡ false → fold (contact_after a) z (change_entries peer cs) ≡ z
+other_contact peer a z [] other = refl
+other_contact peer a z (LinkUp bearer mine theirs ∷ cs) other = other_contact peer a z cs other
+other_contact peer a z (LinkDown bearer because shown ∷ cs) other = other_contact peer a z cs other
+other_contact peer a z (ContactUp numbers ∷ cs) other = ap (λ b. fold (contact_after a) (if b then Some numbers else z) (change_entries peer cs)) other ∙ other_contact peer a z cs other
+other_contact peer a z (ContactDown numbers states shown ∷ cs) other = ap (λ b. fold (contact_after a) (if b then None else z) (change_entries peer cs)) other ∙ other_contact peer a z cs other
+
+apart_words : (peer k : ℕ) → (k ≡ peer → ⊥) → (node_word peer == node_word k) ≡ false
+apart_words peer k other = grind (arith, nat_tests, other)
+
+low_words : (peer low : ℕ) → low < node_word 0 → (node_word peer == low) ≡ false
+low_words peer low below = grind (arith, nat_tests, below)
+
+-- what the packet did to the pair is as its changes tell
+abbrev HeardSo : Neighbour → (bearer first second number : ℕ) → Fields → Outset → Type 0
+HeardSo x bearer first second number p o = HappenedSo x.pair (hears bearer first second p number (no_broadcast x.in_step)) o
+
+heard_so : (n : NodeState) (bearer peer first second number : ℕ) (x : Neighbour) (p : Fields) (o : Outset) → IsTold n → neighbour_of n peer ≡ Some x → HearsAt x bearer first second p number o → HeardSo x bearer first second number p o
+heard_so n bearer peer first second number x p o h was heard =
+    let abreast = subst (λ a. IfSome a AreAbreast) (ap (option_map (λ (y : Neighbour). y.pair)) was) (h.links peer).abreast in
+    happened_so x.pair (hears bearer first second p number (no_broadcast x.in_step)) o (on_bearers x.pair abreast) refl heard
+
+heard_linked : (n : NodeState) (peer : ℕ) (x : Neighbour) (p : Fields) (o : Outset) → IsTold n → neighbour_of n peer ≡ Some x → Tells x.pair o.course → IsLinked n (heard_work n peer x p o)
+heard_linked n peer x p o h was tells = record { contacts = λ a. contacts a (cases_lt a.word (node_word 0)); two = λ b z there. two_at b z there (cases_eq b peer); nobody = nobody }
+  where
+    y : Neighbour
+    y = heard_neighbour x p o
+
+    xs : List (Option Neighbour)
+    xs = slice_set n.neighbours peer (Some y)
+
+    cs : List Transition
+    cs = o.course.changes
+
+    es : List Entry
+    es = change_entries peer cs
+
+    of : Option Neighbour → Option (ℕ × ℕ)
+    of a = option_and_then (λ (z : Neighbour). contact_between z.pair) a
+
+    before : IsLinked n (begun n)
+    before = begun_linked n h
+
+    -- the contact with node k before
+    was_in : (k : ℕ) → contact n.journal (addr_of k) ≡ option_and_then contact_between (option_map (λ (z : Neighbour). z.pair) (neighbour_of n k))
+    was_in k = (h.links k).contact_is
+
+    linked : (a : Option Neighbour) → option_and_then contact_between (option_map (λ (z : Neighbour). z.pair) a) ≡ of a
+    linked None = refl
+    linked (Some z) = refl
+
+    -- and then
+    now : fold contact_by (contact_between x.pair) cs ≡ contact_between o.course.pair
+    now = contact_by_story (contact_between x.pair) cs tells.story tells.story_is ∙ told_by_story x.pair o.course.pair tells.story tells.means
+
+    at : (k : ℕ) → (k ≡ peer) ⊎ (k ≡ peer → ⊥) → contact (n.journal ++ es) (addr_of k) ≡ of (slice_index_or xs k None)
+    at k (inl here) =
+        ap (λ j. contact (n.journal ++ es) (addr_of j)) here ∙ contact_append n.journal es (addr_of peer) ∙ contact_goes peer (contact n.journal (addr_of peer)) cs
+        ∙ ap (λ z. fold contact_by z cs) (was_in peer ∙ linked (neighbour_of n peer) ∙ ap of was) ∙ now
+        ∙ sym (ap of (set_there n.neighbours peer x y was)) ∙ ap (λ j. of (slice_index_or xs j None)) (sym here)
+    at k (inr other) =
+        contact_append n.journal es (addr_of k) ∙ other_contact peer (addr_of k) (contact n.journal (addr_of k)) cs (apart_words peer k other) ∙ was_in k ∙ linked (neighbour_of n k)
+        ∙ ap of (sym (get_or-set_other n.neighbours peer k (Some y) None other))
+
+    nobody : slice_index_or xs 0 None ≡ None
+    nobody = get_or-set_other n.neighbours peer 0 (Some y) None (not_nobody n.neighbours peer x h.nobody was) ∙ h.nobody
+
+    contacts : (a : Addr) → (a.word < node_word 0) ⊎ (node_word 0 ≤ a.word) → contact (n.journal ++ es) a ≡ contact_at xs a
+    contacts a (inl low) =
+        let none : a.word - node_word 0 ≡ 0 = omega (arith, low) in
+        contact_append n.journal es a ∙ other_contact peer a (contact n.journal a) cs (low_words peer a.word low) ∙ h.below a low
+        ∙ sym (ap (λ k. of (slice_index_or xs k None)) none ∙ ap of nobody)
+    contacts a (inr high) =
+        let is : a.word ≡ node_word (a.word - node_word 0) = omega (arith, high) in
+        ap (λ k. contact (n.journal ++ es) (addr_of_word k)) is ∙ at (a.word - node_word 0) (cases_eq (a.word - node_word 0) peer)
+
+    two_at : (b : ℕ) (z : Neighbour) → slice_index_or xs b None ≡ Some z → (b ≡ peer) ⊎ (b ≡ peer → ⊥) → z.pair.bearer ≤ 1
+    two_at b z there (inl here) =
+        let same : y ≡ z = set_either n.neighbours peer z y (ap (λ k. slice_index_or xs k None) (sym here) ∙ there) in
+        let bearer = tells.bearer in
+        let most = tells.two in
+        subst (λ (v : Neighbour). v.pair.bearer ≤ 1) same (omega (arith, bearer, most))
+    two_at b z there (inr other) = before.two b z (sym (get_or-set_other n.neighbours peer b (Some y) None other) ∙ there)
+
+heard_worked : (n : NodeState) (peer : ℕ) (x : Neighbour) (p : Fields) (o : Outset) → IsTold n → neighbour_of n peer ≡ Some x → (node_word peer == n.own) ≡ false → Tells x.pair o.course → IsDone n NothingDue [] [] (heard_work n peer x p o)
+heard_worked n peer x p o h was other tells =
+    let xs = slice_set n.neighbours peer (Some (heard_neighbour x p o)) in
+    let beside = worked_beside n NothingDue NothingDue [] [] (begun n) xs (begun_worked n NothingDue h) in (
+      all_noted n NothingDue [] [] (record { neighbours = xs; sockets = n.sockets; inside = [] }) (change_entries peer o.course.changes) beside (changes_quiet n.own peer o.course.changes other),
+      heard_linked n peer x p o h was tells,
+    )
+
+-- ---- where something is delivered there is contact
+
+mapped_some : {A B : Type 0} (f : A → B) (xs : List A) (y : B) (ys : List B) → map f xs ≡ y ∷ ys → (x : A) × (rest : List A) × (xs ≡ x ∷ rest)
+mapped_some f [] y ys is = absurd cc
+mapped_some f (x ∷ xs) y ys is = (x, xs, refl)
+
+peer_place : (xs : List (Option Neighbour)) (peer : ℕ) (x y : Neighbour) → slice_index_or xs peer None ≡ Some x → contact_at (slice_set xs peer (Some y)) (addr_of_word (node_word peer)) ≡ contact_between y.pair
+peer_place xs peer x y was =
+    let here : node_word peer - node_word 0 ≡ peer = omega arith in
+    ap (λ k. option_and_then (λ (z : Neighbour). contact_between z.pair) (slice_index_or (slice_set xs peer (Some y)) k None)) here
+    ∙ ap (option_and_then (λ (z : Neighbour). contact_between z.pair)) (set_there xs peer x y was)
+
+heard_in_contact : (n n' : NodeState) (by : By) (bearer number : ℕ) (bytes : List ℕ) (frames : List Outgoing) (answered : Arrival) (heard : Hears n n' by bearer number bytes frames answered)
+    → HeardSo heard.neighbour bearer heard.first heard.second number heard.packet heard.out
+    → IsInContact heard.peer (heard_work n heard.peer heard.neighbour heard.packet heard.out) (arrival_deliveries heard.peer heard.neighbour.pair heard.out.given)
+heard_in_contact n n' by bearer number bytes frames answered heard so d ds some =
+    let y = heard_neighbour heard.neighbour heard.packet heard.out in
+    let opened = mapped_some (delivery_of heard.peer (shown_contact heard.neighbour.pair)) (opened_in heard.out.given) d ds some in
+    let lasts = so.lasts opened.0 opened.1 opened.2 in
+    ap is_some (peer_place n.neighbours heard.peer heard.neighbour y heard.was) ∙ contact_is_some y.pair ∙ lasts.0
+
+-- ---- an arrival
+
+-- an arrival is answered, whatever it was
+arrived_call : (n : NodeState) (by : By) (bearer number : ℕ) (answered : Arrival) (w : Work) → IsTold n → IsWorked n NothingDue NothingDue [] [] w → IsInside w.inside
+    → IsCall n by (event.Arrive bearer number) (answer.Arrived answered) w w.sockets
+arrived_call n by bearer number answered w h worked inner = record {
+  answered = done_answered (addr_of_word n.own) n.journal by (event.Arrive bearer number) w.inside (answer.Arrived answered) refl (answered, refl);
+  worked = worked;
+  kept = others_kept n by (event.Arrive bearer number) (answer.Arrived answered) NothingDue [] [] w h inner worked (record { stays = λ ports. refl; none = refl; quiet = λ q. refl; still = refl; nothing = λ number. refl });
+  full = tt;
+}
+
+heard_told : (n n' : NodeState) (by : By) (bearer number : ℕ) (bytes : List ℕ) (frames : List Outgoing) (answered : Arrival) (inside : List Entry) → IsTold n → stop_of n bearer bytes ≡ None → Hears n n' by bearer number bytes frames answered
+    → NodeTurn n n' bytes (step_of by (event.Arrive bearer number) inside (answer.Arrived answered)) frames → AreSockets n'.sockets → IsTold n'
+heard_told n n' by bearer number bytes frames answered inside h passes heard t sound =
+    let x = heard.neighbour in
+    let other = sender_other n bearer bytes heard.peer heard.first heard.second heard.packet heard.due passes in
+    let so = heard_so n bearer heard.peer heard.first heard.second number x heard.packet heard.out h heard.was heard.hears in
+    let first = heard_worked n heard.peer x heard.packet heard.out h heard.was other so.tells in
+    let given = all_given heard.peer (shown_contact x.pair) (opened_in heard.out.given) in
+    let ds = arrival_deliveries heard.peer x.pair heard.out.given in
+    let start = heard_work n heard.peer x heard.packet heard.out in
+    let told : IsDone n NothingDue [] [] heard.greeted = (
+      puts_each_worked n NothingDue [] [] start heard.peer heard.greeting heard.greeted heard.greeting_frames first.0 (greets_items n.sockets.live heard.out.course.changes heard.greeting heard.greets) heard.greeting_put,
+      puts_each_linked n heard.peer start heard.greeting heard.greeted heard.greeting_frames first.1 heard.greeting_put,
+    ) in
+    let up = still_in_contact n.own heard.peer start heard.greeting heard.greeted heard.greeting_frames ds heard.greeting_put (heard_in_contact n n' by bearer number bytes frames answered heard so) in
+    let done = all_delivered n NothingDue [] [] heard.peer heard.greeted ds heard.work heard.returned other told given up heard.delivers in
+    let w = answered_work heard.work heard.peer bearer heard.then in
+    let worked = worked_beside n NothingDue NothingDue [] [] heard.work w.neighbours done.0 in
+    call_told n n' bytes by (event.Arrive bearer number) inside (answer.Arrived answered) (answer.Arrived answered) frames w w.sockets h t (ap (λ (k : NodeState). k.journal) heard.after) (ap (λ (k : NodeState). k.sockets) heard.after) sound
+    (arrived_call n by bearer number answered w h worked)
+
+pub arrives_told : (n n' : NodeState) (by : By) (bearer number : ℕ) (bytes : List ℕ) (frames : List Outgoing) (answered : Arrival) → IsTold n → Arrives n n' by bearer number bytes frames answered → (inside : List Entry)
+    → NodeTurn n n' bytes (step_of by (event.Arrive bearer number) inside (answer.Arrived answered)) frames → AreSockets n'.sockets → IsTold n'
+arrives_told n n' by bearer number bytes frames answered h arrives inside t sound = of (stop_of n bearer bytes) refl
+  where
+    of : (o : Option Why) → stop_of n bearer bytes ≡ o → IsTold n'
+    of (Some reason) is =
+        let step = arrives.stopped reason is in
+        let ignored = arrival.Ignored reason in
+        call_told n n' bytes by (event.Arrive bearer number) inside (answer.Arrived answered) (answer.Arrived ignored) frames (begun n) n.sockets h t (ap (λ (x : NodeState). x.journal) step.0) (ap (λ (x : NodeState). x.sockets) step.0) sound
+        (arrived_call n by bearer number ignored (begun n) h (begun_worked n NothingDue h))
+    of None is = heard_told n n' by bearer number bytes frames answered inside h is (arrives.heard is) t sound

@@ -1,0 +1,136 @@
+-- What happens to all neighbours alike: the journal tells of the node after it.
+use Rattle.std.proofs.Common.{◌≡◌, ◌+◌, ◌==◌, ℕ, suc, Bool, true, false, List, [], ◌∷◌, ◌++◌, Option, Some, None, refl, sym, ap, ◌∙◌, subst, eqb-true, arith}
+use Rattle.std.specs.Prelude.{IfSome, option_and_then, option_map, slice_index_or}
+use Rattle.tipc_types.specs.Address.{node_word}
+use Rattle.tipc_types.specs.declared.node_calls.Answer.{Answer}
+use Rattle.tipc_types.specs.declared.node_calls.Answer.TheVariants as answer
+use Rattle.tipc_types.specs.declared.node_calls.By.{By}
+use Rattle.tipc_outside.specs.declared.outgoing.Outgoing.{Outgoing}
+use Rattle.tipc_journal.specs.declared.entries.Entry.{Entry}
+use Rattle.tipc_journal.specs.Contacts.{contact}
+use Rattle.tipc_journal.specs.Dues.{NothingDue}
+use Rattle.tipc_journal.specs.Steps.{IsInside}
+use Rattle.tipc_pair.specs.declared.transitions.Transition.{Transition}
+use Rattle.tipc_pair.specs.declared.transitions.Transition.TheVariants.{ContactDown, ContactUp, LinkDown, LinkUp}
+use Rattle.tipc_pair.specs.Facing.{contact_between}
+use Rattle.tipc_pair.specs.PairTurns.{quietly}
+use Rattle.tipc_sockets.specs.SocketTables.{AreSockets}
+use Rattle.tipc_node.specs.declared.neighbours.Neighbour.{Neighbour}
+use Rattle.tipc_node.specs.declared.neighbours.Deed.{Deed}
+use Rattle.tipc_node.specs.declared.neighbours.Deed.TheVariants as deed
+use Rattle.tipc_node.specs.Calls.{TakesPart, deed_work}
+use Rattle.tipc_node.specs.Neighbours.{begins, course_of, done}
+use Rattle.tipc_node.specs.Nodes.{NodeState, after_all, change_entries, deed_note, entries_all, entries_one, neighbour_of, step_of}
+use Rattle.tipc_node.specs.Sockets.{kept_answer}
+use Rattle.tipc_node.specs.Telling.{AreAbreast, IsTold}
+use Rattle.tipc_node.specs.Turns.{NodeTurn}
+use Rattle.tipc_node.specs.Works.{addr_of_word}
+use Rattle.tipc_node.proofs.journal.Calling.{done_answered}
+use Rattle.tipc_node.proofs.journal.Concluding.{IsCall, call_told, others_kept}
+use Rattle.tipc_node.proofs.pairs.Calm.{deed_happens, opening_of, own_calm}
+use Rattle.tipc_node.proofs.pairs.Moves.{AreSo, Goes, abreast_apt}
+use Rattle.tipc_node.proofs.pairs.TurnMoves.{first_runs}
+use Rattle.tipc_node.proofs.journal.Noting.{AreQuiet, IsWorked, all_noted, begun_worked, worked_beside}
+
+-- ---- the entries of a change are quiet
+
+pub changes_quiet : (own peer : ℕ) (cs : List Transition) → (node_word peer == own) ≡ false → AreQuiet own (change_entries peer cs)
+changes_quiet own peer [] other = tt
+changes_quiet own peer (LinkUp bearer mine theirs ∷ cs) other = (tt, changes_quiet own peer cs other)
+changes_quiet own peer (LinkDown bearer because shown ∷ cs) other = (tt, changes_quiet own peer cs other)
+changes_quiet own peer (ContactUp numbers ∷ cs) other = (other, changes_quiet own peer cs other)
+changes_quiet own peer (ContactDown numbers states shown ∷ cs) other = (other, changes_quiet own peer cs other)
+
+quiet_both : (own : ℕ) (xs ys : List Entry) → AreQuiet own xs → AreQuiet own ys → AreQuiet own (xs ++ ys)
+quiet_both own [] ys all rest = rest
+quiet_both own (x ∷ xs) ys all rest = (all.0, quiet_both own xs ys all.1 rest)
+
+-- there is no contact with the node itself
+self_apart : (n : NodeState) (b : ℕ) (x : Neighbour) → IsTold n → neighbour_of n b ≡ Some x → (node_word b == n.own) ≡ true → contact_between x.pair ≡ None
+self_apart n b x h there mine =
+    let same : node_word b ≡ n.own = eqb-true (node_word b) n.own mine in
+    sym (sym h.alone ∙ ap (λ k. contact n.journal (addr_of_word k)) (sym same) ∙ (h.links b).contact_is ∙ ap (option_and_then contact_between) (ap (option_map (λ (y : Neighbour). y.pair)) there))
+
+-- what is so without contact, and begins none, tells of none
+apart_quiet : (own peer : ℕ) (cs : List Transition) → AreSo None cs → begins cs ≡ false → AreQuiet own (change_entries peer cs)
+apart_quiet own peer [] so calm = tt
+apart_quiet own peer (LinkUp bearer mine theirs ∷ cs) so calm = (tt, apart_quiet own peer cs so.1 calm)
+apart_quiet own peer (LinkDown bearer because shown ∷ cs) so calm = (tt, apart_quiet own peer cs so.1 calm)
+apart_quiet own peer (ContactUp numbers ∷ cs) so calm = absurd cc
+apart_quiet own peer (ContactDown numbers states shown ∷ cs) so calm = absurd (let wrong : None ≡ Some numbers = so.0 in cc)
+
+-- so its entries are quiet, also those of the node itself
+deed_quiet : (n : NodeState) (b : ℕ) (d : Deed) (x : Neighbour) → IsTold n → neighbour_of n b ≡ Some x → AreAbreast x.pair → AreQuiet n.own (change_entries b (done d x).changes)
+deed_quiet n b d x h there abreast = by (node_word b == n.own) refl
+  where
+    cs : List Transition
+    cs = (done d x).changes
+
+    goes : Goes x.pair (course_of d x).pair cs
+    goes = first_runs x.pair (opening_of d x) (quietly (course_of d x)) (abreast_apt x.pair abreast) (deed_happens d x).2 (deed_happens d x).0
+
+    by : (mine : Bool) → (node_word b == n.own) ≡ mine → AreQuiet n.own (change_entries b cs)
+    by false other = changes_quiet n.own b cs other
+    by true same = apart_quiet n.own b cs (subst (λ z. AreSo z cs) (self_apart n b x h there same) goes.so) (own_calm x.pair (opening_of d x) (quietly (course_of d x)) (deed_happens d x).1 (deed_happens d x).0).0
+
+-- the neighbours from a number on are those of the node
+abbrev AreOf : NodeState → ℕ → List (Option Neighbour) → Type 0
+AreOf n first xs = (k : ℕ) (x : Neighbour) → slice_index_or xs k None ≡ Some x → neighbour_of n (first + k) ≡ Some x
+
+first_quiet : (n : NodeState) (d : Deed) (first : ℕ) (x : Option Neighbour) (xs : List (Option Neighbour)) → IsTold n → AreOf n first (x ∷ xs) → AreQuiet n.own (entries_one d first x)
+first_quiet n d first None xs h all = tt
+first_quiet n d first (Some x) xs h all =
+    let there : neighbour_of n first ≡ Some x = subst (λ k. neighbour_of n k ≡ Some x) (omega arith) (all 0 x refl) in
+    let abreast = subst (λ o. IfSome o AreAbreast) (ap (option_map (λ (y : Neighbour). y.pair)) there) (h.links first).abreast in
+    deed_quiet n first d x h there abreast
+
+all_quiet : (n : NodeState) (d : Deed) (first : ℕ) (xs : List (Option Neighbour)) → IsTold n → AreOf n first xs → AreQuiet n.own (entries_all d first xs)
+unfolding entries_all
+all_quiet n d first [] h all = tt
+all_quiet n d first (x ∷ xs) h all =
+    quiet_both n.own (entries_one d first x) (entries_all d (first + 1) xs) (first_quiet n d first x xs h all)
+    (all_quiet n d (first + 1) xs h (λ k y there. subst (λ j. neighbour_of n j ≡ Some y) (omega arith) (all (suc k) y there)))
+
+-- ---- the call
+
+-- the work on what happens to all neighbours, whose entries are quiet
+pub deed_worked : (n : NodeState) (d : Deed) → IsTold n → IsWorked n NothingDue NothingDue [] [] (deed_work d n) × AreQuiet n.own (entries_all d 0 n.neighbours)
+deed_worked n d h =
+    let es = entries_all d 0 n.neighbours in
+    let quiet : AreQuiet n.own es = all_quiet n d 0 n.neighbours h (λ k x there. subst (λ j. neighbour_of n j ≡ Some x) (omega arith) there) in (
+      all_noted n NothingDue [] [] (record { neighbours = after_all d n.neighbours; sockets = n.sockets; inside = [] }) es
+          (worked_beside n NothingDue NothingDue [] [] _ (after_all d n.neighbours) (begun_worked n NothingDue h)) quiet,
+      quiet,
+    )
+
+-- a tick is another call
+abbrev pub IsNoTick : Deed → Type 0
+IsNoTick deed.Tick = ⊥
+IsNoTick d = Unit {0}
+
+deed_call : (n : NodeState) (by : By) (d : Deed) → IsTold n → IsNoTick d → IsInside (deed_work d n).inside → IsCall n by (deed_note d) answer.Done (deed_work d n) (deed_work d n).sockets
+deed_call n by d h other inner = of d refl
+  where
+    worked : IsWorked n NothingDue NothingDue [] [] (deed_work d n)
+    worked = (deed_worked n d h).0
+
+    of : (kind : Deed) → d ≡ kind → IsCall n by (deed_note d) answer.Done (deed_work d n) (deed_work d n).sockets
+    of (deed.Mend bearer) is = subst (λ k. IsCall n by (deed_note k) answer.Done (deed_work d n) (deed_work d n).sockets) (sym is) (record {
+      answered = done_answered (addr_of_word n.own) n.journal by (deed_note (deed.Mend bearer)) (deed_work d n).inside answer.Done refl refl;
+      worked = worked;
+      kept = others_kept n by (deed_note (deed.Mend bearer)) answer.Done NothingDue [] [] (deed_work d n) h inner worked (record { stays = λ ports. refl; none = refl; quiet = λ q. refl; still = refl; nothing = λ number. refl });
+      full = tt;
+    })
+    of (deed.Cut bearer) is = subst (λ k. IsCall n by (deed_note k) answer.Done (deed_work d n) (deed_work d n).sockets) (sym is) (record {
+      answered = done_answered (addr_of_word n.own) n.journal by (deed_note (deed.Cut bearer)) (deed_work d n).inside answer.Done refl refl;
+      worked = worked;
+      kept = others_kept n by (deed_note (deed.Cut bearer)) answer.Done NothingDue [] [] (deed_work d n) h inner worked (record { stays = λ ports. refl; none = refl; quiet = λ q. refl; still = refl; nothing = λ number. refl });
+      full = tt;
+    })
+    of deed.Tick is = absurd (subst IsNoTick is other)
+
+pub deed_told : (n n' : NodeState) (by : By) (d : Deed) (inside : List Entry) (frames : List Outgoing) (answered : Answer) → IsTold n → IsNoTick d → NodeTurn n n' [] (step_of by (deed_note d) inside (kept_answer answered)) frames
+    → AreSockets n'.sockets → TakesPart n by d n' frames answered → IsTold n'
+deed_told n n' by d inside frames answered h other t sound takes =
+    call_told n n' [] by (deed_note d) inside (kept_answer answered) answer.Done frames (deed_work d n) (deed_work d n).sockets h t (ap (λ (x : NodeState). x.journal) takes.0) (ap (λ (x : NodeState). x.sockets) takes.0) sound
+    (deed_call n by d h other)

@@ -1,0 +1,193 @@
+-- Sessions stay packed: where packets wait, the window is full. Whatever happens, waiting packets move up while it has room.
+use Rattle.std.proofs.Common.{◌≡◌, ◌≤◌, ◌+◌, ◌-◌, ◌∙◌, ℕ, Bool, true, false, List, [], ◌∷◌, ◌++◌, Option, Some, None, option_map, take, drop, length, inl, inr, refl, sym, ap, subst, length-append, length-drop, arith}
+use Rattle.std.specs.Prelude.{All, IfSome, if◌then◌else◌, min}
+use Rattle.std.proofs.lemmas.Bool.{cases_lt}
+use Rattle.std.proofs.lemmas.List.{drop_all, length-take}
+use Rattle.tipc_types.specs.declared.link_words.Reply.TheVariants as reply
+use Rattle.tipc_outside.specs.declared.outgoing.Outgoing.{Outgoing}
+use Rattle.tipc_send_window.specs.Sending.{release_count}
+use Rattle.tipc_journal.specs.Steps.{NodeStep}
+use Rattle.tipc_link_fsm.specs.declared.changes.Change.{Change}
+use Rattle.tipc_link_fsm.specs.declared.changes.Change.TheVariants.{Answer, Up}
+use Rattle.tipc_link_fsm.specs.Table.{Fsm, is_up}
+use Rattle.tipc_link.specs.Links.{LinkEnd, answered_with, followed, recorded, with_fsm}
+use Rattle.tipc_link.specs.Records.{Received}
+use Rattle.tipc_link.specs.Sessions.{Carries, Content, IsPut, Nothing, SessionEnd, Shows, answered, arrived, flushed, given_up, heard, joins, put, released, repeated, room, spoke, told, waiting_given, waits, with_broadcast, with_record}
+use Rattle.tipc_pair.specs.Facing.{PairEnds, facing, with_made}
+use Rattle.tipc_pair.specs.PairTurns.{made_near, quietly}
+use Rattle.tipc_pair.specs.PairTurns.Opening.{makes}
+use Rattle.tipc_pair.specs.PairCalls.{at_bearer}
+use Rattle.tipc_node.specs.declared.neighbours.Neighbour.{Neighbour}
+use Rattle.tipc_node.specs.Nodes.{NodeState, acquaintance, is_mended_on, known_neighbour, known_node, neighbour_of}
+use Rattle.tipc_node.specs.Telling.{AreAbreast, ArePacked, IsPacked, IsPackedEnd, IsPackedPair, IsTold}
+use Rattle.tipc_node.specs.Turns.{NodeTurn}
+use Rattle.tipc_node.proofs.pairs.PairKept.{Both, Closed, both_facing, happened_kept, turn_kept}
+use Rattle.tipc_node.proofs.Places.{set_cases}
+
+-- ---- a session
+
+-- the window isn't over-full
+abbrev IsWithin : SessionEnd → Type 0
+IsWithin s = length s.sending.unacked ≤ 50
+
+flushed_packed : (s : SessionEnd) → IsWithin s → IsPacked (flushed s)
+unfolding flushed
+flushed_packed s within =
+    let unacked = s.sending.unacked in
+    let waiting = s.sending.waiting in
+    let n = room s.sending in
+    let long : length (unacked ++ take n waiting) ≡ length unacked + min n (length waiting) = length-append unacked (take n waiting) ∙ ap (λ k. length unacked + k) (length-take n waiting) in (
+      omega (arith, within, long),
+      elim (cases_lt (50 - length unacked) (length waiting)) [
+        | inl more ↦ inr (omega (arith, within, long, more))
+        | inr all ↦ inl (drop_all n waiting (omega (arith, all)))
+      ],
+    )
+
+released_within : (s : SessionEnd) (acknowledgement : ℕ) → IsWithin s → IsWithin (released s acknowledgement)
+released_within s acknowledgement within =
+    let left : length (drop (release_count s.sending acknowledgement) s.sending.unacked) ≡ length s.sending.unacked - release_count s.sending acknowledgement = length-drop (release_count s.sending acknowledgement) s.sending.unacked in
+    omega (arith, left, within)
+
+spoke_within : {A : Type 0} (s : SessionEnd) (xs : List A) → IsWithin s → IsWithin (spoke s xs)
+spoke_within s [] within = within
+spoke_within s (x ∷ xs) within = within
+
+arrived_packed : (s : SessionEnd) (by acknowledgement : ℕ) (c : Content) → IsPacked s → IsPacked (arrived s by acknowledgement c)
+arrived_packed s by acknowledgement (Shows next gap probe) h =
+    let clear = released s acknowledgement in
+    flushed_packed (heard s by acknowledgement (Shows next gap probe)) (spoke_within clear (repeated clear acknowledgement gap) (released_within s acknowledgement h.0))
+arrived_packed s by acknowledgement (Carries number packet) h = flushed_packed (heard s by acknowledgement (Carries number packet)) (released_within s acknowledgement h.0)
+arrived_packed s by acknowledgement Nothing h = h
+
+put_within : (s : SessionEnd) (pieces : List (List ℕ)) (s' : SessionEnd) → IsPut s pieces s' → IsWithin s → IsWithin s'
+put_within s _ _ (joins packets packet may) within = within
+put_within s _ _ (waits pieces apart) within = within
+
+mapped : (f : SessionEnd → SessionEnd) (session : Option SessionEnd) → ((s : SessionEnd) → IsPacked s → IsPacked (f s)) → IfSome session IsPacked → IfSome (option_map f session) IsPacked
+mapped f None keeps h = h
+mapped f (Some s) keeps h = keeps s h
+
+-- ---- a link end
+
+-- so is its session, on whatever bearer
+abbrev Packed : ℕ → LinkEnd → Type 0
+Packed bearer e = IsPackedEnd e
+
+-- nothing is said of frames
+abbrev Any : Outgoing → Type 0
+Any o = Unit {0}
+
+any_frames : (fs : List Outgoing) → All Any fs
+any_frames fs = λ k d within. tt
+
+followed_packed : (e : LinkEnd) (f : Fsm) (c : Change) → IsPackedEnd e → IsPackedEnd (followed (with_fsm e f) c)
+followed_packed e f Up h = (omega arith, inl refl)
+followed_packed e f (Answer (reply.State probe)) h = mapped told e.session (λ s p. p) h
+followed_packed e f other h = h
+
+recorded_packed : (e : LinkEnd) (r : Received) → IsPackedEnd e → IsPackedEnd (recorded e r)
+recorded_packed e r h = mapped (λ s. with_record s r) e.session (λ s p. p) h
+
+with_session_packed : (e : LinkEnd) (s p : SessionEnd) → e.session ≡ Some s → (IsWithin s → IsWithin p) → IsPackedEnd e → IsPackedEnd (record e { session = Some (flushed p) })
+with_session_packed e s p is within h = flushed_packed p (within (let was : IsPacked s = subst (λ o. IfSome o IsPacked) is h in was.0))
+
+answered_packed : (e : LinkEnd) (taken : ℕ) (asks : Bool) → IsPackedEnd e → IsPackedEnd (answered_with e taken asks)
+answered_packed e taken asks h = by (is_up e.fsm.state)
+  where
+    read : SessionEnd → SessionEnd
+    read s = answered (with_broadcast s taken asks)
+
+    by : (b : Bool) → IsPackedEnd (if b then record e { session = option_map read e.session } else e)
+    by true = mapped read e.session (λ s p. p) h
+    by false = h
+
+-- each step of an end leaves it so
+packed_closed : Closed Packed Any
+packed_closed = record {
+  steps = λ b e o made h. followed_packed e o.after o.change h;
+  step_frames = λ b e o shown made h. any_frames _;
+  hears = λ b e by acknowledgement c h. mapped (λ s. arrived s by acknowledgement c) e.session (λ s. arrived_packed s by acknowledgement c) h;
+  again = λ b e acknowledgement c h. any_frames _;
+  newly = λ b e by acknowledgement c h. any_frames _;
+  mends = λ b e h. h;
+  mend_frames = λ b e h. any_frames _;
+  cuts = λ b e held h. h;
+  tunnels = λ b e epoch h. h;
+  parts = λ b e contact seen h. h;
+  resets = λ b e h. any_frames _;
+  forgets = λ b e seen h. h;
+  hands = λ b e h. mapped given_up e.session (λ s p. (omega arith, inl refl)) h;
+  loads = λ b e s packets is h. with_session_packed e s (put s packets) is (λ within. within) h;
+  load_frames = λ b e s packets is h. any_frames _;
+  empties = λ b e h. mapped waiting_given e.session (λ s p. (p.0, inl refl)) h;
+  lets_go = λ b e h. h;
+  go_frames = λ b e h. any_frames _;
+  records = λ b e r h. recorded_packed e r h;
+  puts = λ b e s pieces p is put h. with_session_packed e s p is (put_within s pieces p put) h;
+  put_frames = λ b e s pieces p is put h. any_frames _;
+  answers = λ b e taken asks h. answered_packed e taken asks h;
+  answer_frames = λ b e taken asks shown h. any_frames _;
+}
+
+-- ---- a pair
+
+both_packed : (x : PairEnds) → x.bearer ≤ 1 → IsPackedPair x → Both Packed x
+both_packed x two h = record { two = two; near = h.near; far = h.far }
+
+pair_packed : (x : PairEnds) → Both Packed x → IsPackedPair x
+pair_packed x h = record { near = h.near; far = h.far }
+
+-- an end that is made has no session
+made_packed : (x : PairEnds) → x.bearer ≤ 1 → IsPackedPair x → (bearer : ℕ) → Both Packed (with_made (facing bearer x))
+made_packed x two h bearer =
+    let there = both_facing Packed bearer x (both_packed x two h) in
+    record { two = there.two; near = tt; far = there.far }
+
+-- ---- a node
+
+-- each pair of the node is seen from bearer 0's link
+pub first_bearer : (n : NodeState) (b : ℕ) (x : Neighbour) → IsTold n → neighbour_of n b ≡ Some x → x.pair.bearer ≡ 0
+first_bearer n b x is_told there =
+    let abreast = subst (λ o. IfSome o AreAbreast) (ap (option_map (λ (y : Neighbour). y.pair)) there) ((is_told.links b).abreast) in
+    abreast.first
+
+pub turn_packed : (n n' : NodeState) (bytes : List ℕ) (s : NodeStep) (frames : List Outgoing) → IsTold n → ArePacked n → NodeTurn n n' bytes s frames → ArePacked n'
+turn_packed n n' bytes s frames is_told packed t b x' there = by (neighbour_of n b) refl
+  where
+    by : (o : Option Neighbour) → neighbour_of n b ≡ o → IsPackedPair x'.pair
+    by None is = absurd (let none = t.alone b is in let wrong : None ≡ Some x' = sym none ∙ there in cc)
+    by (Some x) is =
+        let at = t.turns b x is in
+        let same : at.after ≡ x' = (let e : Some at.after ≡ Some x' = sym at.after_is ∙ there in cc) in
+        let first = first_bearer n b x is_told is in
+        let two : x.pair.bearer ≤ 1 = omega (arith, first) in
+        let before = packed b x is in
+        let after = turn_kept Packed Any packed_closed x.pair at.after.pair at.turn.opening _ at.turn.reply at.turn.own_frames (made_packed x.pair two before) (both_packed x.pair two before) at.turn.turn in
+        subst (λ (y : Neighbour). IsPackedPair y.pair) same (pair_packed at.after.pair after.0)
+
+-- a link end that is made has no session
+pub known_packed : (n : NodeState) (peer bearer : ℕ) → IsTold n → ArePacked n → ArePacked (known_node n peer bearer)
+known_packed n peer bearer is_told packed b x there =
+    elim (set_cases n.neighbours peer b x (known_neighbour n peer bearer) there) [
+      | inl h ↦ subst (λ (y : Neighbour). IsPackedPair y.pair) h.1 (new (neighbour_of n peer) refl)
+      | inr before ↦ packed b x before
+    ]
+  where
+    -- the course of the end that is made at what was kept of the peer
+    made_at : (y : Neighbour) → y.pair.bearer ≡ 0 → IsPackedPair y.pair → IsPackedPair (at_bearer bearer y.pair (made_near (is_mended_on n.mended bearer))).pair
+    made_at y first before =
+        let two : y.pair.bearer ≤ 1 = omega (arith, first) in
+        let k = happened_kept Packed Any packed_closed y.pair (makes bearer (is_mended_on n.mended bearer)) (quietly (at_bearer bearer y.pair (made_near (is_mended_on n.mended bearer)))) (made_packed y.pair two before) (both_packed y.pair two before) refl in
+        pair_packed (at_bearer bearer y.pair (made_near (is_mended_on n.mended bearer))).pair k.both
+
+    new : (o : Option Neighbour) → neighbour_of n peer ≡ o → IsPackedPair (known_neighbour n peer bearer).pair
+    new o is = subst (λ p. IsPackedPair (at_bearer bearer (acquaintance n peer p).pair (made_near (is_mended_on n.mended bearer))).pair) (sym is) (at o is)
+      where
+        at : (o : Option Neighbour) → neighbour_of n peer ≡ o → IsPackedPair (at_bearer bearer (acquaintance n peer o).pair (made_near (is_mended_on n.mended bearer))).pair
+        at None is = made_at (acquaintance n peer None) refl (record { near = tt; far = tt })
+        at (Some y) is = made_at y (first_bearer n peer y is_told is) (packed peer y is)
+
+-- a node that knows nobody has none
+pub new_packed : (n : NodeState) → ((b : ℕ) → neighbour_of n b ≡ None) → ArePacked n
+new_packed n alone b x there = absurd (let wrong : None ≡ Some x = sym (alone b) ∙ there in cc)

@@ -1,0 +1,13 @@
+-- Each call and each arrival is a turn of the node: one recorded step, and what happens at each pair.
+pub mod Addressing
+pub mod Arrivals
+pub mod Entries
+pub mod MessageRuns
+pub mod Named
+pub mod Parts
+pub mod Performing
+pub mod Plain
+pub mod Runs
+pub mod Shares
+pub mod Sizes
+pub mod Turning

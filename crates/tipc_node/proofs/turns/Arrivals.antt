@@ -1,0 +1,249 @@
+-- Each arrival is a turn of the node.
+use Rattle.std.proofs.Common.{◌≡◌, ◌≢◌, ℕ, Bool, true, List, [], ◌++◌, Option, Some, None, drop, filter, is_some, inl, inr, refl, sym, ap, ◌∙◌, subst, append-nil, append_assoc, arith}
+use Rattle.std.specs.Prelude.{slice_index_or, slice_set}
+use Rattle.std.specs.List.{All}
+use Rattle.std.proofs.lemmas.Bool.{cases_eq}
+use Rattle.std.proofs.lemmas.List.{drop_at, get_or-set_other}
+use Rattle.std.proofs.lemmas.List.Elements.{All-append, filter-append}
+use Rattle.tipc_types.specs.Address.{node_word}
+use Rattle.tipc_types.specs.declared.link_words.Why.{Why}
+use Rattle.tipc_types.specs.declared.node_calls.Answer.TheVariants as answer
+use Rattle.tipc_types.specs.declared.node_calls.Arrival.{Arrival}
+use Rattle.tipc_types.specs.declared.node_calls.Arrival.TheVariants as arrival
+use Rattle.tipc_types.specs.declared.node_calls.By.{By}
+use Rattle.tipc_types.specs.declared.node_calls.EventNote.TheVariants as event
+use Rattle.tipc_outside.specs.declared.outgoing.Outgoing.{Outgoing}
+use Rattle.tipc_header.specs.Frames.{envelope}
+use Rattle.tipc_header.specs.Spelling.{Fields, spelling}
+use Rattle.tipc_header.proofs.FrameWords.{length-envelope}
+use Rattle.tipc_header.proofs.RoundTrip.{one_packet}
+use Rattle.tipc_journal.specs.declared.entries.Entry.{Entry}
+use Rattle.tipc_journal.specs.Steps.{IsInside}
+use Rattle.tipc_pair.specs.declared.changes.PairOutcome.{PairOutcome}
+use Rattle.tipc_pair.specs.declared.transitions.Transition.{Transition}
+use Rattle.tipc_pair.specs.Courses.{sent_in}
+use Rattle.tipc_pair.specs.Messages.{opened_in}
+use Rattle.tipc_pair.specs.PairTurns.Opening.{hears}
+use Rattle.tipc_node.specs.declared.arriving.Delivery.{Delivery}
+use Rattle.tipc_node.specs.declared.neighbours.Neighbour.{Neighbour}
+use Rattle.tipc_node.specs.Arrivals.{Arrives, Hears, heard_work}
+use Rattle.tipc_node.specs.Neighbours.{answered_neighbour, answering, heard_neighbour, no_broadcast}
+use Rattle.tipc_node.specs.Nodes.{NodeState, arrival_answer, arrival_deliveries, change_entries, entries_in, neighbour_of, shown_contact, step_of, stop_of, stopped_node}
+use Rattle.tipc_node.specs.Turns.{AreNamed, IsFrom, IsPlaced, IsRouted, IsTakenBy, IsTakenIn, Names, NeighbourTurn, NodeTurn, PeerTurn, frames_to, is_accepted_for, is_change_of, is_delivered_from, is_out_to}
+use Rattle.tipc_node.specs.Works.{Work, begun}
+use Rattle.tipc_node.proofs.turns.Addressing.{AreFor}
+use Rattle.tipc_node.proofs.turns.Entries.{changes_accept, changes_deliver, changes_inside, changes_other, changes_own, changes_placed, given_in, given_other, given_own, inside_both, routed_to}
+use Rattle.tipc_node.proofs.turns.MessageRuns.{delivers_all_run, idle_run}
+use Rattle.tipc_node.proofs.turns.Named.{IsNamed, first_named, replied_named}
+use Rattle.tipc_node.proofs.Places.{set_none, set_there}
+use Rattle.tipc_node.proofs.journal.PeersTold.{puts_each_run}
+use Rattle.tipc_node.proofs.turns.Runs.{IsRun, RunAt, Runs, accepted_now, both_parts, run_then, stand_set}
+use Rattle.tipc_node.proofs.turns.Shares.{frames_to-other, frames_to-own}
+use Rattle.tipc_node.proofs.turns.Turning.{IsTurn, named_stand, rests_turn, run_turn, shows_none, turn_as}
+
+-- ---- what a frame brings
+
+-- a frame brings one packet, and so names one sender
+one_sender : (b peer es er es' er' : ℕ) (bytes : List ℕ) (p q : Fields) → IsFrom b bytes es er p → IsFrom peer bytes es' er' q → peer ≡ b
+one_sender b peer es er es' er' bytes p q from due =
+    let same = sym from.frame_is ∙ due.frame_is in
+    let packets : p ≡ q = one_packet p q from.fits due.fits (sym (drop_at (envelope es er) (spelling p) 16 (length-envelope es er)) ∙ ap (drop 16) same ∙ drop_at (envelope es' er') (spelling q) 16 (length-envelope es' er')) in
+    let words : node_word peer ≡ node_word b = sym due.previous ∙ ap (λ (f : Fields). f.previous) (sym packets) ∙ from.previous in
+    omega (arith, words)
+
+-- what was given was taken
+given_taken : (bearer es er : ℕ) (p : Fields) (by : ℕ) (in_step : Bool) (out : PairOutcome) (ds : List Delivery) → IsTakenIn (arrival_answer out ds) → IsTakenBy (hears bearer es er p by (no_broadcast in_step)) out
+given_taken bearer es er p by in_step (PairOutcome.Took opened) ds taken = tt
+given_taken bearer es er p by in_step PairOutcome.Deferred ds taken = tt
+given_taken bearer es er p by in_step (PairOutcome.Ignored reason) ds taken = taken
+
+-- ---- what a step tells, and which frames are for a node
+
+-- behind the changes of the links a step tells of a node what a run of work noted
+record TellsBehind (peer b : ℕ) (cs : List Transition) (es inside : List Entry) : Type 0 where
+  pub changes : filter (is_change_of b) inside ≡ filter (is_change_of b) (change_entries peer cs) ++ filter (is_change_of b) es
+  pub accepted : filter (is_accepted_for b) inside ≡ filter (is_accepted_for b) es
+  pub delivered : filter (is_delivered_from b) inside ≡ filter (is_delivered_from b) es
+
+tells_behind : (peer b : ℕ) (cs : List Transition) (es inside : List Entry) → inside ≡ change_entries peer cs ++ es → TellsBehind peer b cs es inside
+tells_behind peer b cs es inside is = record {
+  changes = ap (filter (is_change_of b)) is ∙ filter-append (is_change_of b) (change_entries peer cs) es;
+  accepted = ap (filter (is_accepted_for b)) is ∙ both_parts (is_accepted_for b) (change_entries peer cs) es [] (filter (is_accepted_for b) es) (changes_accept b peer cs) refl;
+  delivered = ap (filter (is_delivered_from b)) is ∙ both_parts (is_delivered_from b) (change_entries peer cs) es [] (filter (is_delivered_from b) es) (changes_deliver b peer cs) refl;
+}
+
+-- the frames for the sender are the first ones, those in the middle that are for it, and the last ones
+sender_frames : (peer : ℕ) (first middle last : List Outgoing) → AreFor (node_word peer) first → AreFor (node_word peer) last → frames_to peer (first ++ (middle ++ last)) ≡ first ++ (frames_to peer middle ++ last)
+sender_frames peer first middle last hf hl =
+    filter-append (is_out_to peer) first (middle ++ last) ∙ ap (λ fs. fs ++ frames_to peer (middle ++ last)) (frames_to-own peer first hf)
+    ∙ ap (λ fs. first ++ fs) (filter-append (is_out_to peer) middle last ∙ ap (λ fs. frames_to peer middle ++ fs) (frames_to-own peer last hl))
+
+-- those for another node are in the middle
+other_frames : (b peer : ℕ) (first middle last : List Outgoing) → peer ≢ b → AreFor (node_word peer) first → AreFor (node_word peer) last → frames_to b (first ++ (middle ++ last)) ≡ frames_to b middle
+other_frames b peer first middle last apart hf hl =
+    filter-append (is_out_to b) first (middle ++ last) ∙ ap (λ fs. fs ++ frames_to b (middle ++ last)) (frames_to-other b peer first apart hf)
+    ∙ filter-append (is_out_to b) middle last ∙ ap (λ fs. frames_to b middle ++ fs) (frames_to-other b peer last apart hl) ∙ append-nil (frames_to b middle)
+
+-- ---- a packet that was heard
+
+-- the frames between those of the packet itself and the STATE that was due: of the greeting, and of the returns
+abbrev between : (n n' : NodeState) (by : By) (bearer number : ℕ) (bytes : List ℕ) (frames : List Outgoing) (answered : Arrival) → Hears n n' by bearer number bytes frames answered → List Outgoing
+between n n' by bearer number bytes frames answered h = h.greeting_frames ++ h.returned
+
+frames_between : (n n' : NodeState) (by : By) (bearer number : ℕ) (bytes : List ℕ) (frames : List Outgoing) (answered : Arrival) (h : Hears n n' by bearer number bytes frames answered)
+    → frames ≡ (sent_in h.out.course) ++ (between n n' by bearer number bytes frames answered h ++ (answering bearer h.then).states)
+frames_between n n' by bearer number bytes frames answered h =
+    h.frames_are ∙ ap (λ fs. (sent_in h.out.course) ++ fs) (sym (append_assoc h.greeting_frames h.returned ((answering bearer h.then).states)))
+
+heard_from : (n n' : NodeState) (by : By) (bearer number : ℕ) (bytes : List ℕ) (frames : List Outgoing) (answered : Arrival) (h : Hears n n' by bearer number bytes frames answered) → IsFrom h.peer bytes h.first h.second h.packet
+heard_from n n' by bearer number bytes frames answered h = record { es_fits = h.due.first_fits; er_fits = h.due.second_fits; fits = h.due.fits; frame_is = h.due.opened; previous = h.due.previous }
+
+-- the run of work behind it, in which such entries were noted
+abbrev RunsBehind : (n n' : NodeState) (by : By) (bearer number : ℕ) (bytes : List ℕ) (frames : List Outgoing) (answered : Arrival) → Hears n n' by bearer number bytes frames answered → List Entry → Type 0
+RunsBehind n n' by bearer number bytes frames answered h told =
+    Runs n (heard_work n h.peer h.neighbour h.packet h.out) told (entries_in (arrival_deliveries h.peer h.neighbour.pair h.out.given)) (between n n' by bearer number bytes frames answered h) h.work
+
+heard_names : (n n' : NodeState) (by : By) (bearer number : ℕ) (bytes : List ℕ) (frames : List Outgoing) (answered : Arrival) → AreNamed n → (h : Hears n n' by bearer number bytes frames answered)
+    → IsNamed (node_word h.peer) h.out.course.pair (sent_in h.out.course)
+heard_names n n' by bearer number bytes frames answered named h =
+    first_named (node_word h.peer) h.neighbour.pair (hears bearer h.first h.second h.packet number (no_broadcast h.neighbour.in_step)) h.out (named h.peer h.neighbour h.was) h.hears
+
+-- the STATE that is due is for the sender
+answer_names : (n n' : NodeState) (by : By) (bearer number : ℕ) (bytes : List ℕ) (frames : List Outgoing) (answered : Arrival) (h : Hears n n' by bearer number bytes frames answered) → Names (node_word h.peer) h.then.pair
+    → AreFor (node_word h.peer) (answering bearer h.then).states
+answer_names n n' by bearer number bytes frames answered h named =
+    (replied_named (node_word h.peer) (Some (record { bearer = bearer; shown = no_broadcast h.then.in_step })) h.then.pair named).frames_are
+
+heard_run : (n n' : NodeState) (by : By) (bearer number : ℕ) (bytes : List ℕ) (frames : List Outgoing) (answered : Arrival) → AreNamed n → (h : Hears n n' by bearer number bytes frames answered)
+    → IsRun n (heard_work n h.peer h.neighbour h.packet h.out) (entries_in (arrival_deliveries h.peer h.neighbour.pair h.out.given)) (between n n' by bearer number bytes frames answered h) h.work
+heard_run n n' by bearer number bytes frames answered named h =
+    let there : is_some (neighbour_of n h.peer) ≡ true = ap is_some h.was in
+    let y = heard_neighbour h.neighbour h.packet h.out in
+    let heard = heard_work n h.peer h.neighbour h.packet h.out in
+    let stand = stand_set n n.neighbours h.peer y (named_stand n named) (heard_names n n' by bearer number bytes frames answered named h).pair_is there in
+    let greets = puts_each_run n h.peer heard h.greeting h.greeted h.greeting_frames stand h.greeting_put in
+    run_then n heard h.greeted h.work [] (entries_in (arrival_deliveries h.peer h.neighbour.pair h.out.given)) h.greeting_frames h.returned greets
+    (delivers_all_run n h.greeted h.work h.peer (shown_contact h.neighbour.pair) (opened_in h.out.given) h.returned there greets.runs.stand h.delivers)
+
+-- ---- the turn at the sender
+
+sender_turn : (n n' : NodeState) (by : By) (bearer number : ℕ) (bytes : List ℕ) (frames : List Outgoing) (answered : Arrival) (h : Hears n n' by bearer number bytes frames answered) (told inside : List Entry)
+    → RunAt n.own h.peer told (between n n' by bearer number bytes frames answered h) (heard_neighbour h.neighbour h.packet h.out) h.then → TellsBehind h.peer h.peer h.out.course.changes told inside
+    → filter (is_delivered_from h.peer) told ≡ filter (is_delivered_from h.peer) (given_in h.peer (shown_contact h.neighbour.pair) (opened_in h.out.given))
+    → frames_to h.peer frames ≡ (sent_in h.out.course) ++ (frames_to h.peer (between n n' by bearer number bytes frames answered h) ++ (answering bearer h.then).states)
+    → PeerTurn n.own bytes (step_of by (event.Arrive bearer number) inside (answer.Arrived answered)) frames h.peer h.neighbour.pair (answered_neighbour bearer h.then).pair
+sender_turn n n' by bearer number bytes frames answered h told inside run tells delivered out = record {
+  opening = hears bearer h.first h.second h.packet number (no_broadcast h.neighbour.in_step);
+  suits = refl;
+  on_one = h.due.on_one;
+  brought = heard_from n n' by bearer number bytes frames answered h;
+  shows = shows_none h.neighbour.in_step;
+  messages = run.messages;
+  sendable = run.sendable;
+  reply = Some (record { bearer = bearer; shown = no_broadcast h.then.in_step });
+  shows_last = shows_none h.then.in_step;
+  own_frames = h.out.course.states ++ (h.out.course.numbered ++ (frames_to h.peer (between n n' by bearer number bytes frames answered h) ++ (answering bearer h.then).states));
+  turn = record {
+    first = h.out;
+    happened = h.hears;
+    put_frames = frames_to h.peer (between n n' by bearer number bytes frames answered h);
+    put = h.then.pair;
+    puts = run.puts;
+    after = refl;
+    frames_are = refl;
+  };
+  frames_are = out ∙ append_assoc h.out.course.states h.out.course.numbered _;
+  changes =
+      tells.changes ∙ ap (λ zs. filter (is_change_of h.peer) (change_entries h.peer h.out.course.changes) ++ zs) run.changes
+      ∙ append-nil (filter (is_change_of h.peer) (change_entries h.peer h.out.course.changes)) ∙ changes_own h.peer h.out.course.changes;
+  accepted = tells.accepted ∙ accepted_now n.own h.peer told (between n n' by bearer number bytes frames answered h) (heard_neighbour h.neighbour h.packet h.out) h.then run;
+  delivered = tells.delivered ∙ delivered ∙ given_own h.peer (shown_contact h.neighbour.pair) (opened_in h.out.given);
+  taken = λ a es er p is taken from.
+      given_taken bearer h.first h.second h.packet number h.neighbour.in_step h.out.given (arrival_deliveries h.peer h.neighbour.pair h.out.given)
+      (subst IsTakenIn (let same : a ≡ answered = cc in same ∙ h.answer_is) taken);
+}
+
+-- ---- the turns at all neighbours
+
+-- what stands at the sender's number when the answer has left
+abbrev answered_at : Work → ℕ → ℕ → Neighbour → List (Option Neighbour)
+answered_at w peer bearer y = slice_set w.neighbours peer (Some (answered_neighbour bearer y))
+
+hears_turns : (n n' : NodeState) (by : By) (bearer number : ℕ) (bytes : List ℕ) (frames : List Outgoing) (answered : Arrival) → AreNamed n → (h : Hears n n' by bearer number bytes frames answered) (told : List Entry)
+    → RunsBehind n n' by bearer number bytes frames answered h told
+    → (b : ℕ) (x : Neighbour) → neighbour_of n b ≡ Some x → NeighbourTurn n n' bytes (step_of by (event.Arrive bearer number) h.work.inside (answer.Arrived answered)) frames b x
+hears_turns n n' by bearer number bytes frames answered named h told r b x there =
+    let first = (heard_names n n' by bearer number bytes frames answered named h).frames_are in
+    let last = answer_names n n' by bearer number bytes frames answered h (r.stand.named h.peer h.then h.then_is) in
+    let y = heard_neighbour h.neighbour h.packet h.out in
+    let step = step_of by (event.Arrive bearer number) h.work.inside (answer.Arrived answered) in
+    let others : n'.neighbours ≡ answered_at h.work h.peer bearer h.then = ap (λ (k : NodeState). k.neighbours) h.after in
+    let answer_frames = (answering bearer h.then).states in
+    elim (cases_eq b h.peer) [
+      | inl here ↦
+          let same : h.neighbour ≡ x = (let both : Some h.neighbour ≡ Some x = sym h.was ∙ subst (λ k. neighbour_of n k ≡ Some x) here there in cc) in
+          let at = r.at h.peer y (set_there n.neighbours h.peer h.neighbour y h.was) in
+          let still : at.now ≡ h.then = (let both : Some at.now ≡ Some h.then = sym at.now_is ∙ h.then_is in cc) in
+          subst (λ k. NeighbourTurn n n' bytes step frames k x) (sym here) (subst (λ z. NeighbourTurn n n' bytes step frames h.peer z) same (record {
+            after = answered_neighbour bearer h.then;
+            after_is = ap (λ xs. slice_index_or xs h.peer None) others ∙ set_there h.work.neighbours h.peer h.then (answered_neighbour bearer h.then) h.then_is;
+            turn = sender_turn n n' by bearer number bytes frames answered h told h.work.inside (subst (RunAt n.own h.peer told (between n n' by bearer number bytes frames answered h) y) still at.run)
+                (tells_behind h.peer h.peer h.out.course.changes told h.work.inside r.inside_is) (r.delivered h.peer)
+                (ap (frames_to h.peer) (frames_between n n' by bearer number bytes frames answered h) ∙ sender_frames h.peer (sent_in h.out.course) (between n n' by bearer number bytes frames answered h) answer_frames first last);
+          }))
+      | inr other ↦
+          let apart : h.peer ≢ b = λ e. other (sym e) in
+          let at = r.at b x (get_or-set_other n.neighbours h.peer b (Some y) None other ∙ there) in
+          let tells = tells_behind h.peer b h.out.course.changes told h.work.inside r.inside_is in record {
+            after = at.now;
+            after_is = ap (λ xs. slice_index_or xs b None) others ∙ get_or-set_other h.work.neighbours h.peer b (Some (answered_neighbour bearer h.then)) None other ∙ at.now_is;
+            turn = rests_turn n.own bytes step frames b told (between n n' by bearer number bytes frames answered h) x at.now (record {
+              frames_are = ap (frames_to b) (frames_between n n' by bearer number bytes frames answered h) ∙ other_frames b h.peer (sent_in h.out.course) (between n n' by bearer number bytes frames answered h) answer_frames apart first last;
+              changes = tells.changes ∙ ap (λ zs. zs ++ filter (is_change_of b) told) (changes_other b h.peer h.out.course.changes apart);
+              accepted = tells.accepted;
+              delivered = tells.delivered ∙ r.delivered b ∙ given_other b h.peer (shown_contact h.neighbour.pair) (opened_in h.out.given) apart;
+              taken = λ a es er q is taken from. apart (one_sender b h.peer es er h.first h.second bytes q h.packet from (heard_from n n' by bearer number bytes frames answered h));
+            }) at.run;
+          }
+    ]
+
+-- ---- the turn of the node
+
+hears_turn : (n n' : NodeState) (by : By) (bearer number : ℕ) (bytes : List ℕ) (frames : List Outgoing) (answered : Arrival) → AreNamed n → (h : Hears n n' by bearer number bytes frames answered) (told : List Entry)
+    → RunsBehind n n' by bearer number bytes frames answered h told
+    → NodeTurn n n' bytes (step_of by (event.Arrive bearer number) h.work.inside (answer.Arrived answered)) frames
+hears_turn n n' by bearer number bytes frames answered named h told r =
+    let there : is_some (neighbour_of n h.peer) ≡ true = ap is_some h.was in
+    let first = (heard_names n n' by bearer number bytes frames answered named h).frames_are in
+    let last = answer_names n n' by bearer number bytes frames answered h (r.stand.named h.peer h.then h.then_is) in
+    let y = heard_neighbour h.neighbour h.packet h.out in
+    let answer_frames = (answering bearer h.then).states in
+    record {
+      own = ap (λ (k : NodeState). k.own) h.after;
+      boot = ap (λ (k : NodeState). k.boot) h.after;
+      journal = ap (λ (k : NodeState). k.journal) h.after;
+      inside = subst IsInside (sym r.inside_is) (inside_both (change_entries h.peer h.out.course.changes) told (changes_inside h.peer h.out.course.changes) r.inside);
+      turns = hears_turns n n' by bearer number bytes frames answered named h told r;
+      alone = λ b none.
+          ap (λ (k : NodeState). neighbour_of k b) h.after
+          ∙ set_none h.work.neighbours h.peer b h.then (answered_neighbour bearer h.then) h.then_is (r.alone b (set_none n.neighbours h.peer b h.neighbour y h.was none));
+      routed = subst (All (IsRouted n)) (sym (frames_between n n' by bearer number bytes frames answered h))
+          (All-append (IsRouted n) (sent_in h.out.course) ((between n n' by bearer number bytes frames answered h) ++ answer_frames) (routed_to n h.peer (sent_in h.out.course) there first)
+          (All-append (IsRouted n) (between n n' by bearer number bytes frames answered h) answer_frames r.routed (routed_to n h.peer answer_frames there last)));
+      placed = subst (All (IsPlaced n)) (sym r.inside_is) (All-append (IsPlaced n) (change_entries h.peer h.out.course.changes) told (changes_placed n h.peer h.out.course.changes there) r.placed);
+    }
+
+pub arrives_turn : (n n' : NodeState) (by : By) (bearer number : ℕ) (bytes : List ℕ) (frames : List Outgoing) (answered : Arrival) → AreNamed n → Arrives n n' by bearer number bytes frames answered
+    → (inside : List Entry) × NodeTurn n n' bytes (step_of by (event.Arrive bearer number) inside (answer.Arrived answered)) frames
+arrives_turn n n' by bearer number bytes frames answered named h = case (stop_of n bearer bytes) refl
+  where
+    case : (o : Option Why) → stop_of n bearer bytes ≡ o → IsTurn n n' by (event.Arrive bearer number) bytes frames (answer.Arrived answered)
+    case (Some reason) is =
+        let r = h.stopped reason is in
+        let note = event.Arrive bearer number in
+        turn_as n n' (stopped_node n by bearer number reason) by note bytes frames [] (answer.Arrived answered) (answer.Arrived (arrival.Ignored reason)) r.0 r.1 (ap answer.Arrived r.2)
+        (run_turn n by note bytes (answer.Arrived (arrival.Ignored reason)) (begun n) [] (λ taken. taken) (idle_run n (begun n) (begun n) (named_stand n named) refl refl))
+    case None is =
+        let heard_it = h.heard is in
+        let run = heard_run n n' by bearer number bytes frames answered named heard_it in
+        (heard_it.work.inside, hears_turn n n' by bearer number bytes frames answered named heard_it run.noted run.runs)

@@ -1,0 +1,257 @@
+-- The entries of a step by the peers of which they tell: of changes, of what was given, and of what happens to all neighbours.
+use Rattle.std.proofs.Common.{◌≡◌, ◌≢◌, ◌+◌, ◌<◌, ◌==◌, ◌&&◌, ℕ, zero, suc, Bool, true, false, List, [], ◌∷◌, ◌++◌, Option, Some, None, filter, is_some, map, slice_index_or, if◌then◌else◌, refl, sym, ap, ◌∙◌, subst, append-nil, arith}
+use Rattle.std.specs.Prelude.{All}
+use Rattle.std.specs.List.{flat_map, list_all}
+use Rattle.std.proofs.lemmas.Bool.Decides.{nat_tests}
+use Rattle.std.proofs.lemmas.List.Elements.{All-append, All-cons, All-nil, filter-append}
+use Rattle.std.proofs.lemmas.List.Folds.{list_all-append}
+use Rattle.tipc_types.specs.Address.{node_word}
+use Rattle.tipc_outside.specs.declared.outgoing.Outgoing.{Outgoing}
+use Rattle.tipc_journal.specs.declared.entries.Entry.{Entry}
+use Rattle.tipc_journal.specs.Steps.{IsInside, is_inner}
+use Rattle.tipc_reassembly.specs.declared.opening.Opened.{Opened}
+use Rattle.tipc_reassembly.specs.declared.opening.Opened.TheVariants.{Passed, Whole}
+use Rattle.tipc_pair.specs.declared.transitions.Transition.{Transition}
+use Rattle.tipc_pair.specs.declared.transitions.Transition.TheVariants.{ContactDown, ContactUp, LinkDown, LinkUp}
+use Rattle.tipc_node.specs.declared.neighbours.Deed.{Deed}
+use Rattle.tipc_node.specs.declared.neighbours.Neighbour.{Neighbour}
+use Rattle.tipc_node.specs.Neighbours.{done}
+use Rattle.tipc_node.specs.Messages.{message_in}
+use Rattle.tipc_node.specs.Nodes.{NodeState, change_entries, change_entry, delivered_by, deliveries_of, entries_all, entries_in, entries_one, frames_all, neighbour_of, numbered_all, numbered_one, states_all, states_one}
+use Rattle.tipc_node.specs.Turns.{IsOfNeighbour, IsPlaced, IsRouted, addr_of, delivered_message, delivered_of, is_accepted_for, is_change_of, is_delivered_from}
+use Rattle.tipc_node.proofs.turns.Addressing.{AreFor}
+
+flat_map_same : {A B : Type 0} (f g : A → List B) (xs : List A) → ((x : A) → f x ≡ g x) → flat_map f xs ≡ flat_map g xs
+flat_map_same f g [] same = refl
+flat_map_same f g (x ∷ xs) same = ap (λ ys. ys ++ flat_map f xs) (same x) ∙ ap (λ ys. g x ++ ys) (flat_map_same f g xs same)
+
+pub own_word : (b : ℕ) → (node_word b == node_word b) ≡ true
+own_word b = grind (arith, nat_tests)
+
+pub other_word : (b c : ℕ) → c ≢ b → (node_word c == node_word b) ≡ false
+other_word b c apart = grind (arith, nat_tests, apart)
+
+-- ---- the entries of changes
+
+-- what each of several becomes passes a test, or none does
+each_passes : {A B : Type 0} (test : B → Bool) (f : A → B) → ((x : A) → test (f x) ≡ true) → (xs : List A) → filter test (map f xs) ≡ map f xs
+each_passes test f passes [] = refl
+each_passes test f passes (x ∷ xs) = ap (λ b. if b then f x ∷ filter test (map f xs) else filter test (map f xs)) (passes x) ∙ ap (λ ys. f x ∷ ys) (each_passes test f passes xs)
+
+none_passes : {A B : Type 0} (test : B → Bool) (f : A → B) → ((x : A) → test (f x) ≡ false) → (xs : List A) → filter test (map f xs) ≡ []
+none_passes test f fails [] = refl
+none_passes test f fails (x ∷ xs) = ap (λ b. if b then f x ∷ filter test (map f xs) else filter test (map f xs)) (fails x) ∙ none_passes test f fails xs
+
+one_is_own : (b : ℕ) (t : Transition) → is_change_of b (change_entry b t) ≡ true
+one_is_own b (LinkUp bearer own theirs) = own_word b
+one_is_own b (LinkDown bearer because shown) = own_word b
+one_is_own b (ContactUp numbers) = own_word b
+one_is_own b (ContactDown numbers states shown) = own_word b
+
+one_is_other : (b peer : ℕ) → peer ≢ b → (t : Transition) → is_change_of b (change_entry peer t) ≡ false
+one_is_other b peer apart (LinkUp bearer own theirs) = other_word b peer apart
+one_is_other b peer apart (LinkDown bearer because shown) = other_word b peer apart
+one_is_other b peer apart (ContactUp numbers) = other_word b peer apart
+one_is_other b peer apart (ContactDown numbers states shown) = other_word b peer apart
+
+one_accepts : (b peer : ℕ) (t : Transition) → is_accepted_for b (change_entry peer t) ≡ false
+one_accepts b peer (LinkUp bearer own theirs) = refl
+one_accepts b peer (LinkDown bearer because shown) = refl
+one_accepts b peer (ContactUp numbers) = refl
+one_accepts b peer (ContactDown numbers states shown) = refl
+
+one_delivers : (b peer : ℕ) (t : Transition) → is_delivered_from b (change_entry peer t) ≡ false
+one_delivers b peer (LinkUp bearer own theirs) = refl
+one_delivers b peer (LinkDown bearer because shown) = refl
+one_delivers b peer (ContactUp numbers) = refl
+one_delivers b peer (ContactDown numbers states shown) = refl
+
+one_is_inner : (peer : ℕ) (t : Transition) → is_inner (change_entry peer t) ≡ true
+one_is_inner peer (LinkUp bearer own theirs) = refl
+one_is_inner peer (LinkDown bearer because shown) = refl
+one_is_inner peer (ContactUp numbers) = refl
+one_is_inner peer (ContactDown numbers states shown) = refl
+
+change_placed : (n : NodeState) (peer : ℕ) (t : Transition) → IsOfNeighbour n (addr_of peer) → IsPlaced n (change_entry peer t)
+change_placed n peer (LinkUp bearer own theirs) of = of
+change_placed n peer (LinkDown bearer because shown) of = of
+change_placed n peer (ContactUp numbers) of = of
+change_placed n peer (ContactDown numbers states shown) of = of
+
+pub changes_own : (b : ℕ) (cs : List Transition) → filter (is_change_of b) (change_entries b cs) ≡ change_entries b cs
+changes_own b cs = each_passes (is_change_of b) (change_entry b) (one_is_own b) cs
+
+pub changes_other : (b peer : ℕ) (cs : List Transition) → peer ≢ b → filter (is_change_of b) (change_entries peer cs) ≡ []
+changes_other b peer cs apart = none_passes (is_change_of b) (change_entry peer) (one_is_other b peer apart) cs
+
+pub changes_accept : (b peer : ℕ) (cs : List Transition) → filter (is_accepted_for b) (change_entries peer cs) ≡ []
+changes_accept b peer cs = none_passes (is_accepted_for b) (change_entry peer) (one_accepts b peer) cs
+
+pub changes_deliver : (b peer : ℕ) (cs : List Transition) → filter (is_delivered_from b) (change_entries peer cs) ≡ []
+changes_deliver b peer cs = none_passes (is_delivered_from b) (change_entry peer) (one_delivers b peer) cs
+
+pub changes_inside : (peer : ℕ) (cs : List Transition) → IsInside (change_entries peer cs)
+changes_inside peer [] = refl
+changes_inside peer (t ∷ cs) = ap (λ b. b && list_all is_inner (change_entries peer cs)) (one_is_inner peer t) ∙ changes_inside peer cs
+
+pub inside_both : (xs ys : List Entry) → IsInside xs → IsInside ys → IsInside (xs ++ ys)
+inside_both xs ys hx hy = list_all-append is_inner xs ys ∙ ap (λ b. b && list_all is_inner ys) hx ∙ hy
+
+pub changes_placed : (n : NodeState) (peer : ℕ) (cs : List Transition) → is_some (neighbour_of n peer) ≡ true → All (IsPlaced n) (change_entries peer cs)
+changes_placed n peer [] there = All-nil (IsPlaced n)
+changes_placed n peer (t ∷ cs) there = All-cons (IsPlaced n) (change_entry peer t) (change_entries peer cs) (change_placed n peer t (peer, there, refl)) (changes_placed n peer cs there)
+
+-- ---- the entries of what was given
+
+abbrev pub given_in : ℕ → ℕ × ℕ → List Opened → List Entry
+given_in peer contact opened = entries_in (deliveries_of peer contact opened)
+
+pub given_own : (b : ℕ) (contact : ℕ × ℕ) (opened : List Opened) → filter (is_delivered_from b) (given_in b contact opened) ≡ flat_map (delivered_of b contact) opened
+given_own b contact [] = refl
+given_own b contact (Passed place ∷ opened) = given_own b contact opened
+given_own b contact (Whole packet by ∷ opened) =
+    elim (message_in packet) as (λ m. filter (is_delivered_from b) (delivered_by b contact m by ∷ given_in b contact opened) ≡ delivered_message b contact m by ++ flat_map (delivered_of b contact) opened) [
+      | None ↦ given_own b contact opened
+      | Some m ↦ rw (own_word b) (ap (λ es. delivered_by b contact (Some m) by ∷ es) (given_own b contact opened))
+    ]
+
+pub given_other : (b peer : ℕ) (contact : ℕ × ℕ) (opened : List Opened) → peer ≢ b → filter (is_delivered_from b) (given_in peer contact opened) ≡ []
+given_other b peer contact [] apart = refl
+given_other b peer contact (Passed place ∷ opened) apart = given_other b peer contact opened apart
+given_other b peer contact (Whole packet by ∷ opened) apart = elim (message_in packet) as (λ m. filter (is_delivered_from b) (delivered_by peer contact m by ∷ given_in peer contact opened) ≡ []) [
+  | None ↦ given_other b peer contact opened apart
+  | Some m ↦ rw (other_word b peer apart) (given_other b peer contact opened apart)
+]
+
+-- ---- the entries of what happens to all neighbours; the first of them has that number
+
+one_own : (d : Deed) (b : ℕ) (x : Option Neighbour) → filter (is_change_of b) (entries_one d b x) ≡ entries_one d b x
+one_own d b None = refl
+one_own d b (Some x) = changes_own b (done d x).changes
+
+one_other : (d : Deed) (b c : ℕ) (x : Option Neighbour) → c ≢ b → filter (is_change_of b) (entries_one d c x) ≡ []
+one_other d b c None apart = refl
+one_other d b c (Some x) apart = changes_other b c (done d x).changes apart
+
+none_below : (d : Deed) (first : ℕ) (xs : List (Option Neighbour)) (b : ℕ) → b < first → filter (is_change_of b) (entries_all d first xs) ≡ []
+unfolding entries_all
+none_below d first [] b below = refl
+none_below d first (x ∷ xs) b below =
+    filter-append (is_change_of b) (entries_one d first x) (entries_all d (first + 1) xs)
+    ∙ ap (λ es. es ++ filter (is_change_of b) (entries_all d (first + 1) xs)) (one_other d b first x (λ e. omega (arith, below, e)))
+    ∙ none_below d (first + 1) xs b (omega (arith, below))
+
+one_of : (d : Deed) (first k : ℕ) (xs : List (Option Neighbour)) (b : ℕ) → first + k ≡ b → filter (is_change_of b) (entries_all d first xs) ≡ entries_one d b (slice_index_or xs k None)
+unfolding entries_all
+one_of d first k [] b is = refl
+one_of d first zero (x ∷ xs) b is =
+    let here : first ≡ b = omega (arith, is) in
+    filter-append (is_change_of b) (entries_one d first x) (entries_all d (first + 1) xs)
+    ∙ ap (λ es. filter (is_change_of b) (entries_one d first x) ++ es) (none_below d (first + 1) xs b (omega (arith, here))) ∙ append-nil _
+    ∙ ap (λ c. filter (is_change_of b) (entries_one d c x)) here ∙ one_own d b x
+one_of d first (suc k) (x ∷ xs) b is =
+    filter-append (is_change_of b) (entries_one d first x) (entries_all d (first + 1) xs)
+    ∙ ap (λ es. es ++ filter (is_change_of b) (entries_all d (first + 1) xs)) (one_other d b first x (λ e. omega (arith, is, e)))
+    ∙ one_of d (first + 1) k xs b (omega (arith, is))
+
+pub all_changes : (d : Deed) (xs : List (Option Neighbour)) (b : ℕ) → filter (is_change_of b) (entries_all d 0 xs) ≡ entries_one d b (slice_index_or xs b None)
+all_changes d xs b = one_of d 0 b xs b (omega arith)
+
+one_accept : (d : Deed) (b c : ℕ) (x : Option Neighbour) → filter (is_accepted_for b) (entries_one d c x) ≡ []
+one_accept d b c None = refl
+one_accept d b c (Some x) = changes_accept b c (done d x).changes
+
+pub all_accept : (d : Deed) (b first : ℕ) (xs : List (Option Neighbour)) → filter (is_accepted_for b) (entries_all d first xs) ≡ []
+unfolding entries_all
+all_accept d b first [] = refl
+all_accept d b first (x ∷ xs) =
+    filter-append (is_accepted_for b) (entries_one d first x) (entries_all d (first + 1) xs)
+    ∙ ap (λ es. es ++ filter (is_accepted_for b) (entries_all d (first + 1) xs)) (one_accept d b first x) ∙ all_accept d b (first + 1) xs
+
+one_deliver : (d : Deed) (b c : ℕ) (x : Option Neighbour) → filter (is_delivered_from b) (entries_one d c x) ≡ []
+one_deliver d b c None = refl
+one_deliver d b c (Some x) = changes_deliver b c (done d x).changes
+
+pub all_deliver : (d : Deed) (b first : ℕ) (xs : List (Option Neighbour)) → filter (is_delivered_from b) (entries_all d first xs) ≡ []
+unfolding entries_all
+all_deliver d b first [] = refl
+all_deliver d b first (x ∷ xs) =
+    filter-append (is_delivered_from b) (entries_one d first x) (entries_all d (first + 1) xs)
+    ∙ ap (λ es. es ++ filter (is_delivered_from b) (entries_all d (first + 1) xs)) (one_deliver d b first x) ∙ all_deliver d b (first + 1) xs
+
+one_inside : (d : Deed) (c : ℕ) (x : Option Neighbour) → IsInside (entries_one d c x)
+one_inside d c None = refl
+one_inside d c (Some x) = changes_inside c (done d x).changes
+
+pub all_inside : (d : Deed) (first : ℕ) (xs : List (Option Neighbour)) → IsInside (entries_all d first xs)
+unfolding entries_all
+all_inside d first [] = refl
+all_inside d first (x ∷ xs) = inside_both (entries_one d first x) (entries_all d (first + 1) xs) (one_inside d first x) (all_inside d (first + 1) xs)
+
+-- the neighbours from a number on are those of the node
+abbrev AreOf : NodeState → ℕ → List (Option Neighbour) → Type 0
+AreOf n first xs = (k : ℕ) (x : Neighbour) → slice_index_or xs k None ≡ Some x → is_some (neighbour_of n (first + k)) ≡ true
+
+first_of : (n : NodeState) (first : ℕ) (x : Neighbour) (xs : List (Option Neighbour)) → AreOf n first (Some x ∷ xs) → is_some (neighbour_of n first) ≡ true
+first_of n first x xs all = subst (λ k. is_some (neighbour_of n k) ≡ true) (omega arith) (all 0 x refl)
+
+later_of : (n : NodeState) (first : ℕ) (x : Option Neighbour) (xs : List (Option Neighbour)) → AreOf n first (x ∷ xs) → AreOf n (first + 1) xs
+later_of n first x xs all k y is = subst (λ j. is_some (neighbour_of n j) ≡ true) (omega arith) (all (suc k) y is)
+
+one_placed : (n : NodeState) (d : Deed) (first : ℕ) (x : Option Neighbour) (xs : List (Option Neighbour)) → AreOf n first (x ∷ xs) → All (IsPlaced n) (entries_one d first x)
+one_placed n d first None xs all = All-nil (IsPlaced n)
+one_placed n d first (Some x) xs all = changes_placed n first (done d x).changes (first_of n first x xs all)
+
+placed_from : (n : NodeState) (d : Deed) (first : ℕ) (xs : List (Option Neighbour)) → AreOf n first xs → All (IsPlaced n) (entries_all d first xs)
+unfolding entries_all
+placed_from n d first [] all = All-nil (IsPlaced n)
+placed_from n d first (x ∷ xs) all =
+    All-append (IsPlaced n) (entries_one d first x) (entries_all d (first + 1) xs) (one_placed n d first x xs all) (placed_from n d (first + 1) xs (later_of n first x xs all))
+
+all_of : (n : NodeState) → AreOf n 0 n.neighbours
+all_of n k x is = subst (λ j. is_some (neighbour_of n j) ≡ true) (omega arith) (ap is_some is)
+
+pub all_placed : (n : NodeState) (d : Deed) → All (IsPlaced n) (entries_all d 0 n.neighbours)
+all_placed n d = placed_from n d 0 n.neighbours (all_of n)
+
+-- ---- frames are for neighbours
+
+pub routed_to : (n : NodeState) (b : ℕ) (frames : List Outgoing) → is_some (neighbour_of n b) ≡ true → AreFor (node_word b) frames → All (IsRouted n) frames
+routed_to n b [] there all = All-nil (IsRouted n)
+routed_to n b (o ∷ os) there all = All-cons (IsRouted n) o os (record { peer = b; there = there; to_is = all.0 }) (routed_to n b os there all.1)
+
+-- each neighbour's frames are for it: those of one part of what it sends
+abbrev AreEach : (Neighbour → List Outgoing) → ℕ → List (Option Neighbour) → Type 0
+AreEach part first xs = (k : ℕ) (x : Neighbour) → slice_index_or xs k None ≡ Some x → AreFor (node_word (first + k)) (part x)
+
+-- that part of the frames, where there is a neighbour
+abbrev pub part_of : (Neighbour → List Outgoing) → Option Neighbour → List Outgoing
+part_of part None = []
+part_of part (Some x) = part x
+
+one_routed : (n : NodeState) (part : Neighbour → List Outgoing) (first : ℕ) (x : Option Neighbour) (xs : List (Option Neighbour)) → AreOf n first (x ∷ xs) → AreEach part first (x ∷ xs) → All (IsRouted n) (part_of part x)
+one_routed n part first None xs all each = All-nil (IsRouted n)
+one_routed n part first (Some x) xs all each = routed_to n first (part x) (first_of n first x xs all) (subst (λ k. AreFor (node_word k) (part x)) (omega arith) (each 0 x refl))
+
+routed_from : (n : NodeState) (part : Neighbour → List Outgoing) (first : ℕ) (xs : List (Option Neighbour)) → AreOf n first xs → AreEach part first xs → All (IsRouted n) (flat_map (part_of part) xs)
+routed_from n part first [] all each = All-nil (IsRouted n)
+routed_from n part first (x ∷ xs) all each =
+    All-append (IsRouted n) (part_of part x) (flat_map (part_of part) xs) (one_routed n part first x xs all each)
+    (routed_from n part (first + 1) xs (later_of n first x xs all) (λ k y is. subst (λ j. AreFor (node_word j) (part y)) (omega arith) (each (suc k) y is)))
+
+part_routed : (n : NodeState) (part : Neighbour → List Outgoing) → ((b : ℕ) (x : Neighbour) → neighbour_of n b ≡ Some x → AreFor (node_word b) (part x)) → All (IsRouted n) (flat_map (part_of part) n.neighbours)
+part_routed n part each = routed_from n part 0 n.neighbours (all_of n) (λ k x is. subst (λ j. AreFor (node_word j) (part x)) (omega arith) (each k x is))
+
+pub states_are : (d : Deed) (xs : List (Option Neighbour)) → states_all d xs ≡ flat_map (part_of (λ x. (done d x).states)) xs
+unfolding states_all
+states_are d xs = flat_map_same (states_one d) (part_of (λ x. (done d x).states)) xs (λ o. elim o as (λ (p : Option Neighbour). states_one d p ≡ part_of (λ x. (done d x).states) p) [ None ↦ refl | Some x ↦ refl ])
+
+pub numbered_are : (d : Deed) (xs : List (Option Neighbour)) → numbered_all d xs ≡ flat_map (part_of (λ x. (done d x).numbered)) xs
+unfolding numbered_all
+numbered_are d xs = flat_map_same (numbered_one d) (part_of (λ x. (done d x).numbered)) xs (λ o. elim o as (λ (p : Option Neighbour). numbered_one d p ≡ part_of (λ x. (done d x).numbered) p) [ None ↦ refl | Some x ↦ refl ])
+
+pub all_routed : (n : NodeState) (d : Deed) → ((b : ℕ) (x : Neighbour) → neighbour_of n b ≡ Some x → AreFor (node_word b) (done d x).states × AreFor (node_word b) (done d x).numbered) → All (IsRouted n) (frames_all d n.neighbours)
+all_routed n d each =
+    All-append (IsRouted n) (states_all d n.neighbours) (numbered_all d n.neighbours)
+    (subst (All (IsRouted n)) (sym (states_are d n.neighbours)) (part_routed n (λ x. (done d x).states) (λ b x is. (each b x is).0)))
+    (subst (All (IsRouted n)) (sym (numbered_are d n.neighbours)) (part_routed n (λ x. (done d x).numbered) (λ b x is. (each b x is).1)))

@@ -1,0 +1,93 @@
+-- Of the frames of a deed those to one node are those of that neighbour.
+use Rattle.std.proofs.Common.{◌≡◌, ◌≢◌, ℕ, zero, suc, ◌+◌, ◌<◌, true, false, List, [], ◌∷◌, ◌++◌, Option, Some, None, map, slice_index_or, refl, ap, ◌∙◌, subst, append-nil, arith}
+use Rattle.std.specs.List.{flat_map}
+use Rattle.std.proofs.lemmas.Bool.Decides.{nat_tests}
+use Rattle.std.proofs.lemmas.List.Elements.{filter-append}
+use Rattle.tipc_types.specs.Address.{node_word}
+use Rattle.tipc_types.specs.declared.identity.To.{To}
+use Rattle.tipc_types.specs.declared.identity.To.TheVariants as to
+use Rattle.tipc_outside.specs.declared.outgoing.Outgoing.{Outgoing}
+use Rattle.tipc_node.specs.declared.neighbours.Deed.{Deed}
+use Rattle.tipc_node.specs.declared.neighbours.Neighbour.{Neighbour}
+use Rattle.tipc_node.specs.Neighbours.{done}
+use Rattle.tipc_node.specs.Nodes.{after_all, after_one, frames_all, numbered_all, numbered_one, states_all, states_one}
+use Rattle.tipc_node.specs.Turns.{frames_to, is_out_to, is_to}
+use Rattle.tipc_node.proofs.turns.Addressing.{AreFor}
+use Rattle.tipc_node.proofs.turns.Entries.{numbered_are, part_of, states_are}
+
+-- ---- frames that are all for one node
+
+for_it : (b : ℕ) (t : To) → t ≡ to.Node (record { word = node_word b }) → is_to b t ≡ true
+for_it b t is = ap (is_to b) is ∙ grind (arith, nat_tests)
+
+for_another : (b c : ℕ) (t : To) → c ≢ b → t ≡ to.Node (record { word = node_word c }) → is_to b t ≡ false
+for_another b c t apart is = ap (is_to b) is ∙ grind (arith, nat_tests, apart)
+
+pub frames_to-own : (b : ℕ) (frames : List Outgoing) → AreFor (node_word b) frames → frames_to b frames ≡ frames
+frames_to-own b [] all = refl
+frames_to-own b (o ∷ os) all = rw (for_it b o.to all.0) (ap (λ zs. o ∷ zs) (frames_to-own b os all.1))
+
+pub frames_to-other : (b c : ℕ) (frames : List Outgoing) → c ≢ b → AreFor (node_word c) frames → frames_to b frames ≡ []
+frames_to-other b c [] apart all = refl
+frames_to-other b c (o ∷ os) apart all = rw (for_another b c o.to apart all.0) (frames_to-other b c os apart all.1)
+
+-- ---- the frames of all neighbours
+
+-- each neighbour's frames are for it, those of one part of what it sends; the first of them has that number
+abbrev AreShares : (Neighbour → List Outgoing) → ℕ → List (Option Neighbour) → Type 0
+AreShares part first xs = (k : ℕ) (x : Neighbour) → slice_index_or xs k None ≡ Some x → AreFor (node_word (first + k)) (part x)
+
+one_for : (part : Neighbour → List Outgoing) (first : ℕ) (x : Option Neighbour) (xs : List (Option Neighbour)) → AreShares part first (x ∷ xs) → AreFor (node_word first) (part_of part x)
+one_for part first None xs all = tt
+one_for part first (Some x) xs all = subst (λ k. AreFor (node_word k) (part x)) (omega arith) (all 0 x refl)
+
+later_shares : (part : Neighbour → List Outgoing) (first : ℕ) (x : Option Neighbour) (xs : List (Option Neighbour)) → AreShares part first (x ∷ xs) → AreShares part (first + 1) xs
+later_shares part first x xs all k y is = subst (λ j. AreFor (node_word j) (part y)) (omega arith) (all (suc k) y is)
+
+none_to : (part : Neighbour → List Outgoing) (first : ℕ) (xs : List (Option Neighbour)) (b : ℕ) → b < first → AreShares part first xs → frames_to b (flat_map (part_of part) xs) ≡ []
+none_to part first [] b below all = refl
+none_to part first (x ∷ xs) b below all =
+    filter-append (is_out_to b) (part_of part x) (flat_map (part_of part) xs)
+    ∙ ap (λ zs. zs ++ frames_to b (flat_map (part_of part) xs)) (frames_to-other b first (part_of part x) (λ e. omega arith) (one_for part first x xs all))
+    ∙ none_to part (first + 1) xs b (omega arith) (later_shares part first x xs all)
+
+one_to : (part : Neighbour → List Outgoing) (first : ℕ) (xs : List (Option Neighbour)) (k : ℕ) → AreShares part first xs → frames_to (first + k) (flat_map (part_of part) xs) ≡ part_of part (slice_index_or xs k None)
+one_to part first [] k all = refl
+one_to part first (x ∷ xs) zero all =
+    filter-append (is_out_to (first + 0)) (part_of part x) (flat_map (part_of part) xs)
+    ∙ ap (λ zs. zs ++ frames_to (first + 0) (flat_map (part_of part) xs)) (frames_to-own (first + 0) (part_of part x) (subst (λ j. AreFor (node_word j) (part_of part x)) (omega arith) (one_for part first x xs all)))
+    ∙ ap (λ zs. part_of part x ++ zs) (none_to part (first + 1) xs (first + 0) (omega arith) (later_shares part first x xs all)) ∙ append-nil _
+one_to part first (x ∷ xs) (suc k) all =
+    filter-append (is_out_to (first + suc k)) (part_of part x) (flat_map (part_of part) xs)
+    ∙ ap (λ zs. zs ++ frames_to (first + suc k) (flat_map (part_of part) xs)) (frames_to-other (first + suc k) first (part_of part x) (λ e. omega arith) (one_for part first x xs all))
+    ∙ ap (λ j. frames_to j (flat_map (part_of part) xs)) (omega arith) ∙ one_to part (first + 1) xs k (later_shares part first x xs all)
+
+part_shares : (part : Neighbour → List Outgoing) (xs : List (Option Neighbour)) (b : ℕ) → ((k : ℕ) (x : Neighbour) → slice_index_or xs k None ≡ Some x → AreFor (node_word k) (part x)) → frames_to b (flat_map (part_of part) xs) ≡ part_of part (slice_index_or xs b None)
+part_shares part xs b all = ap (λ j. frames_to j (flat_map (part_of part) xs)) (omega arith) ∙ one_to part 0 xs b (λ k x is. subst (λ j. AreFor (node_word j) (part x)) (omega arith) (all k x is))
+
+part_states : (d : Deed) (o : Option Neighbour) → part_of (λ x. (done d x).states) o ≡ states_one d o
+part_states d None = refl
+part_states d (Some x) = refl
+
+part_numbered : (d : Deed) (o : Option Neighbour) → part_of (λ x. (done d x).numbered) o ≡ numbered_one d o
+part_numbered d None = refl
+part_numbered d (Some x) = refl
+
+pub shares : (d : Deed) (xs : List (Option Neighbour)) (b : ℕ)
+    → ((k : ℕ) (x : Neighbour) → slice_index_or xs k None ≡ Some x → AreFor (node_word k) (done d x).states × AreFor (node_word k) (done d x).numbered)
+    → frames_to b (frames_all d xs) ≡ states_one d (slice_index_or xs b None) ++ numbered_one d (slice_index_or xs b None)
+shares d xs b all =
+    let one = ap (frames_to b) (states_are d xs) ∙ part_shares (λ x. (done d x).states) xs b (λ k x is. (all k x is).0) ∙ part_states d (slice_index_or xs b None) in
+    let two = ap (frames_to b) (numbered_are d xs) ∙ part_shares (λ x. (done d x).numbered) xs b (λ k x is. (all k x is).1) ∙ part_numbered d (slice_index_or xs b None) in
+    filter-append (is_out_to b) (states_all d xs) (numbered_all d xs) ∙ ap (λ zs. zs ++ frames_to b (numbered_all d xs)) one ∙ ap (λ zs. states_one d (slice_index_or xs b None) ++ zs) two
+
+-- ---- the neighbours after a deed
+
+pub mapped_at : (d : Deed) (xs : List (Option Neighbour)) (b : ℕ) → slice_index_or (map (after_one d) xs) b None ≡ after_one d (slice_index_or xs b None)
+mapped_at d [] b = refl
+mapped_at d (x ∷ xs) zero = refl
+mapped_at d (x ∷ xs) (suc b) = mapped_at d xs b
+
+pub after_at : (d : Deed) (xs : List (Option Neighbour)) (b : ℕ) → slice_index_or (after_all d xs) b None ≡ after_one d (slice_index_or xs b None)
+unfolding after_all
+after_at d xs b = mapped_at d xs b

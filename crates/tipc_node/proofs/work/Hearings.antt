@@ -1,0 +1,46 @@
+-- What a neighbour makes of a packet that was prepared for it.
+use Rattle.std.proofs.Common.{◌≡◌, true, false, Option, Some, sym, ap, subst, ◌∙◌}
+use Rattle.std.specs.Prelude.{unwrap_or}
+use Rattle.tipc_outside.specs.Frames.{Out}
+use Rattle.tipc_header.specs.Spelling.{view}
+use Rattle.tipc_pair.specs.declared.changes.PairOutcome.{PairOutcome}
+use Rattle.tipc_pair.specs.Preparing.{Prepares}
+use Rattle.tipc_node.specs.declared.arriving.Due.{Due}
+use Rattle.tipc_node.specs.declared.arriving.Hearing.{Hearing}
+use Rattle.tipc_node.specs.declared.listening.HeardPacket.{HeardPacket}
+use Rattle.tipc_node.specs.declared.neighbours.Neighbour.{Neighbour}
+use Rattle.tipc_node.specs.Hearings.{HasHeard, IsPrepared}
+use Rattle.tipc_node.specs.Neighbours.{HearsAt, begins, ends, no_broadcast}
+use Rattle.tipc_node.specs.Nodes.{arrival_answer, arrival_deliveries}
+use Rattle.tipc_node.proofs.work.Neighbouring.{HasTaken}
+
+pub same_neighbour : (x y : Neighbour) → Some x ≡ Some y → x ≡ y
+same_neighbour x y is = ap (λ (o : Option Neighbour). unwrap_or o x) is
+
+-- it was prepared for the neighbour that is there
+pub prepared_there : (place : Option Neighbour) (x : Neighbour) (d : Due) (h : Hearing) → place ≡ Some x → IsPrepared place d h → IsPrepared (Some x) d h
+prepared_there place x d h was prepared = subst (λ o. IsPrepared o d h) was prepared
+
+pub told_there : (place : Option Neighbour) (x : Neighbour) (d : Due) (h : Hearing) → place ≡ Some x → IsPrepared place d h
+    → Prepares x.pair d.first d.second (view d.packet) h.number (no_broadcast x.in_step) h.arriving
+told_there place x d h was prepared =
+    subst (λ (z : Neighbour). Prepares z.pair d.first d.second (view d.packet) h.number (no_broadcast z.in_step) h.arriving) (same_neighbour prepared.neighbour x (sym prepared.was ∙ was)) prepared.arriving
+
+-- what was taken gives what was prepared
+pub taken_heard : (x : Neighbour) (d : Due) (h : Hearing) (y : Neighbour) (given : HeardPacket) (box box' : Out) → IsPrepared (Some x) d h
+    → HasTaken x h.arriving.bearer d.first d.second (view d.packet) h.number h.arriving.outcome given.changes y box box' → given.deliveries.items ≡ h.deliveries.items → given.answer ≡ h.answer
+    → (begins given.changes ≡ true → ends given.changes ≡ false) → HasHeard x d h.number y given box box'
+taken_heard x d h y given box box' prepared took deliveries answer once =
+    let o = took.0 in
+    let same = same_neighbour prepared.neighbour x (sym prepared.was) in
+    let there : h.deliveries.items ≡ arrival_deliveries d.peer x.pair h.arriving.outcome = prepared.deliveries ∙ ap (λ (z : Neighbour). arrival_deliveries d.peer z.pair h.arriving.outcome) same in
+    record {
+      out = o;
+      hears = subst (λ b. HearsAt x b d.first d.second (view d.packet) h.number o) prepared.bearer took.1;
+      after = took.4;
+      changes = sym took.3;
+      once = once;
+      deliveries = deliveries ∙ (there ∙ ap (arrival_deliveries d.peer x.pair) (sym took.2));
+      answer = answer ∙ (prepared.answer ∙ (ap (λ (g : PairOutcome). arrival_answer g h.deliveries.items) (sym took.2) ∙ ap (arrival_answer o.given) (sym deliveries)));
+      adds = took.5;
+    }

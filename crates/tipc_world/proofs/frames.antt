@@ -1,0 +1,10 @@
+-- The frames in the air: their senders, their age, and what they tell.
+pub mod Ages
+pub mod Released
+pub mod Emissions
+pub mod Senders
+pub mod Reaching
+pub mod Truth
+pub mod Coming
+pub mod Messages
+pub mod Routes
