@@ -54,13 +54,13 @@ def measure_two_links(messages: int) -> None:
 
 def measure_failover(waiting: int) -> None:
     """Prints what a failover costs that moves 50 unacknowledged packets and so many that wait, of one message of 47 packets at a time."""
-    times = 200
+    times = 60
     nodes = NODES + "link 1 2 1\n"
     load = "repeat 50 send 1 1 port 2 1 low *1440\n" + "send 1 1 port 2 1 critical *66000\n" * (waiting // 47)
     rest = "pump 0\npump 1\ndrain 2 1\n"
     calm = nodes + (load + rest + "cut 1 0\npump 1\nmend 1 0\nsettle 5\n") * times
     moved = nodes + (load + "cut 1 0\npump 1\n" + rest + "mend 1 0\nsettle 5\n") * times
-    took = (seconds_of(moved) - seconds_of(calm)) / times
+    took = max(0.0, min(seconds_of(moved) for _ in range(3)) - min(seconds_of(calm) for _ in range(3))) / times
     packets = 50 + waiting // 47 * 47
     print(f"a failover of 50 unacknowledged packets and {packets - 50} that wait: {took * 1e6:.0f} microseconds more, {took / packets * 1e6:.2f} a packet")
 
