@@ -50,13 +50,21 @@ impl Node {
         }
     }
 
-    /// A frame arrives, and the STATE that is due then is sent.
-    fn take(&mut self, alloc: Global, frame: &Outgoing) -> Result<PairArrival, Fail> {
+    /// A frame arrives, a message with this byte is sent, where there is one, and then the STATE that is due.
+    fn take(
+        &mut self,
+        alloc: Global,
+        frame: &Outgoing,
+        reply: Option<u8>,
+    ) -> Result<PairArrival, Fail> {
         let arrival = if frame.bearer == 0 {
             self.prepare_and_commit(alloc, frame)?
         } else {
             self.arrive(alloc, frame)?
         };
+        if let Some(byte) = reply {
+            self.send(alloc, byte)?;
+        }
         let bearer = place(frame.bearer);
         self.pair
             .answer(alloc, bearer, 0, false, NO_BROADCAST, &mut self.sent);
@@ -188,6 +196,8 @@ enum Step {
     CutRight(u8),
     /// A tick passes at both nodes.
     Tick,
+    /// The next frame of the left node arrives, and the right node sends a message with this byte before the STATE that is due.
+    Reply(u8),
     /// So many frames of the left node arrive, or are lost; and so many of the right node arrive.
     ToRight(usize),
     Lost(usize),
@@ -209,8 +219,9 @@ enum Step {
     Told(Option<Transition>),
     /// Why the last arrival was ignored.
     Ignored(Why),
-    /// The right node was given the messages with the bytes from 1 to this one, in order, and no others.
+    /// The right node was given the messages with the bytes from 1 to this one, in order, and no others; or the left one was.
     Given(u8),
+    GivenLeft(u8),
     /// The left node's own contact number.
     Contact(u64),
 }
@@ -224,8 +235,9 @@ struct Nodes {
     mark: usize,
     told: Option<Transition>,
     ignored: Option<Why>,
-    /// The bytes of the messages that the right node was given, in order.
+    /// The bytes of the messages that the right node was given, in order, and those that the left one was.
     given: Vec<u8>,
+    given_left: Vec<u8>,
 }
 
 impl Nodes {
@@ -237,16 +249,17 @@ impl Nodes {
             told: None,
             ignored: None,
             given: Vec::new(alloc),
+            given_left: Vec::new(alloc),
         }
     }
 
-    /// The next frame of the left node arrives at the right node. Tells whether there was one.
-    fn one_to_right(&mut self, alloc: Global) -> Result<bool, Fail> {
+    /// The next frame of the left node arrives at the right node, which may reply. Tells whether there was one.
+    fn one_to_right(&mut self, alloc: Global, reply: Option<u8>) -> Result<bool, Fail> {
         let Some(frame) = self.left.sent.frames().get(self.left.gone) else {
             return Ok(false);
         };
         self.left.gone = self.left.gone.saturating_add(1);
-        let arrival = self.right.take(alloc, frame)?;
+        let arrival = self.right.take(alloc, frame, reply)?;
         self.told = arrival.changes.as_slice().first().copied();
         self.ignored = why(&arrival.outcome);
         add_bytes(&mut self.given, &arrival.outcome)?;
@@ -259,15 +272,16 @@ impl Nodes {
             return Ok(false);
         };
         self.right.gone = self.right.gone.saturating_add(1);
-        let arrival = self.left.take(alloc, frame)?;
+        let arrival = self.left.take(alloc, frame, None)?;
         self.told = arrival.changes.as_slice().first().copied();
         self.ignored = why(&arrival.outcome);
+        add_bytes(&mut self.given_left, &arrival.outcome)?;
         Ok(true)
     }
 
     fn to_right(&mut self, alloc: Global, count: usize) -> Result<(), Fail> {
         for _ in 0..count {
-            self.one_to_right(alloc)?;
+            self.one_to_right(alloc, None)?;
         }
         Ok(())
     }
@@ -282,7 +296,7 @@ impl Nodes {
     /// Frames arrive until there are none on their way.
     fn pump(&mut self, alloc: Global) -> Result<(), Fail> {
         for _ in 0..200 {
-            let right = self.one_to_right(alloc)?;
+            let right = self.one_to_right(alloc, None)?;
             let left = self.one_to_left(alloc)?;
             if !right && !left {
                 return Ok(());
@@ -300,6 +314,9 @@ impl Nodes {
             Step::CutLeft(bearer) => self.told = self.left.lose(alloc, place(bearer))?,
             Step::CutRight(bearer) => self.told = self.right.lose_apart(alloc, place(bearer))?,
             Step::Tick => self.tick(alloc)?,
+            Step::Reply(byte) => {
+                self.one_to_right(alloc, Some(byte))?;
+            }
             Step::ToRight(count) => self.to_right(alloc, count)?,
             Step::Lost(count) => self.left.gone = self.left.gone.saturating_add(count),
             Step::ToLeft(count) => self.to_left(alloc, count)?,
@@ -346,6 +363,7 @@ impl Nodes {
             Step::Told(change) => self.told == change,
             Step::Ignored(why) => self.ignored == Some(why),
             Step::Given(last) => counts_to(&self.given, last),
+            Step::GivenLeft(last) => counts_to(&self.given_left, last),
             Step::Contact(own) => left.own_contact() == own,
             _ => true,
         }
@@ -539,6 +557,36 @@ fn old_frames_are_passed_over(rt: HostRuntime) -> Result<(), Fail> {
         Step::ToRight(1),
         Step::Ignored(Why::Old),
         Step::Given(1),
+    ];
+    plays(&rt, rt.alloc(), &steps)
+}
+
+#[test]
+fn a_reply_leaves_before_the_state_that_is_due(rt: HostRuntime) -> Result<(), Fail> {
+    let steps = [
+        Step::BothUp,
+        Step::Send(1),
+        Step::Reply(1),
+        Step::Given(1),
+        Step::Pump,
+        Step::GivenLeft(1),
+        Step::LoadLeft(0, 0),
+    ];
+    plays(&rt, rt.alloc(), &steps)
+}
+
+#[test]
+fn a_message_is_sent_as_the_contact_begins(rt: HostRuntime) -> Result<(), Fail> {
+    let steps = [
+        Step::Mend(0),
+        // the right node hears RESET, the left one RESET, and the right one ACTIVATE
+        Step::ToRight(1),
+        Step::ToLeft(1),
+        Step::Reply(1),
+        Step::Right(UP, RESET),
+        Step::Pump,
+        Step::Left(UP, RESET),
+        Step::GivenLeft(1),
     ];
     plays(&rt, rt.alloc(), &steps)
 }
