@@ -5,7 +5,7 @@ beside one link; what a failover costs by the number of packets that it moves. W
 by port; what a publication costs that every peer is told of; what a contact costs that begins with publications, and what
 a change costs that subscribers are told of.
 
-It runs the program that `rt ci` left in crates/tipc_sim/out, and is no part of the gate.
+It runs the program that `rt ci` left in crates/tipc_sim/out, a failover under valgrind, and is no part of the gate.
 """
 
 import os
@@ -52,17 +52,21 @@ def measure_two_links(messages: int) -> None:
     print(f"{messages} messages: {took[1]:.3f} s over one link, {took[2]:.3f} s where two stand, {took[2] / took[1]:.2f} times")
 
 
-def measure_failover(waiting: int) -> None:
-    """Prints what a failover costs that moves 50 unacknowledged packets and so many that wait, of one message of 47 packets at a time."""
-    times = 60
-    nodes = NODES + "link 1 2 1\n"
-    load = "repeat 50 send 1 1 port 2 1 low *1440\n" + "send 1 1 port 2 1 critical *66000\n" * (waiting // 47)
-    rest = "pump 0\npump 1\ndrain 2 1\n"
-    calm = nodes + (load + rest + "cut 1 0\npump 1\nmend 1 0\nsettle 5\n") * times
-    moved = nodes + (load + "cut 1 0\npump 1\n" + rest + "mend 1 0\nsettle 5\n") * times
-    took = max(0.0, min(seconds_of(moved) for _ in range(3)) - min(seconds_of(calm) for _ in range(3))) / times
-    packets = 50 + waiting // 47 * 47
-    print(f"a failover of 50 unacknowledged packets and {packets - 50} that wait: {took * 1e6:.0f} microseconds more, {took / packets * 1e6:.2f} a packet")
+def instructions(script: str) -> int:
+    """How many instructions a script takes, as valgrind's callgrind counts them: the same in each run, whatever else the machine does."""
+    words = ["valgrind", "--tool=callgrind", "--callgrind-out-file=/dev/null", PROGRAM, "run"]
+    told = subprocess.run(words, input=script.encode(), capture_output=True, check=True).stderr
+    return int(told.split(b"Collected : ")[1].split()[0])
+
+
+def measure_failover(messages: int) -> None:
+    """Prints what a failover costs, from the cut to the last arrival, beside the same packets where no link is cut: 50 are
+    unacknowledged, and those of so many messages wait, which have 47 packets each. A link lets at most five wait."""
+    load = NODES + "link 1 2 1\n" + "repeat 50 send 1 1 port 2 1 low *1400\n" + "send 1 1 port 2 1 critical *66000\n" * messages
+    cut = instructions(load + "cut 1 0\n") - instructions(load)
+    more = instructions(load + "cut 1 0\npump 1\npump 0\n") - instructions(load + "pump 0\n")
+    packets = 50 + 47 * messages
+    print(f"a failover of 50 unacknowledged packets and {packets - 50} that wait: {cut:,} instructions for the cut, {more:,} more in all, {more / packets:,.0f} a packet")
 
 
 def measure_names(messages: int) -> None:
@@ -111,8 +115,8 @@ def main() -> None:
     for turns in (100, 400, 1_200):
         measure(f"{50 * turns} messages of 1,000 bytes, pumped in fifties", pumped * turns, 50 * turns, 1_000)
     measure_two_links(30_000)
-    for waiting in (0, 47, 94, 188, 235):
-        measure_failover(waiting)
+    for messages in range(6):
+        measure_failover(messages)
     measure_names(30_000)
     for publications in (256, 512, 1_024):
         measure_publications(31, publications)
