@@ -224,7 +224,8 @@ impl Broadcast {
         requires waiting { 0 < length self.old.sending.waiting }
         requires window { length self.old.sending.unacked < 50 }
         ensures after { self.new ≡ sent 1 self.old }
-        ensures frames { (q : List ℕ) → slice_get self.old.sending.waiting 0 ≡ Some q → Adds out.old out.new (cast self.old.mended (number_of (self.old.sending.numbered + 1)) q) }
+        ensures frames { (q : List ℕ) → slice_get self.old.sending.waiting 0 ≡ Some q →
+            Adds out.old out.new (cast self.old.mended (number_of (self.old.sending.numbered + 1)) q) }
     {
         let number = sequence_number(self.window.numbered() + 1);
         match self.window.first() {
@@ -267,11 +268,13 @@ impl Broadcast {
         requires packets { All (λ piece. 16 ≤ length piece) pieces.now }
         requires limit { limit ≤ 200 }
         requires message { length pieces.now ≤ 47 }
-        ensures ok { OnOk result ((length self.old.sending.waiting < limit) × (self.new ≡ with_message self.old pieces.now)) }
+        ensures ok { OnOk result ((length self.old.sending.waiting < limit) ×
+            (self.new ≡ with_message self.old pieces.now)) }
         ensures congested { limit ≤ length self.old.sending.waiting →
             result ≡ Err (OfferFault.Congested (length self.old.sending.unacked) (length self.old.sending.waiting)) }
         ensures congested_only { (in_flight waiting : ℕ) → result ≡ Err (OfferFault.Congested in_flight waiting) →
-            (limit ≤ length self.old.sending.waiting) × (in_flight ≡ length self.old.sending.unacked) × (waiting ≡ length self.old.sending.waiting) }
+            (limit ≤ length self.old.sending.waiting) × (in_flight ≡ length self.old.sending.unacked) ×
+            (waiting ≡ length self.old.sending.waiting) }
         ensures err { OnErr result (self.new ≡ self.old) }
     {
         let (in_flight, waiting) = self.load();
@@ -319,11 +322,13 @@ impl Broadcast {
         requires packets { All (λ piece. 16 ≤ length piece) pieces }
         requires limit { limit ≤ 200 }
         requires message { length pieces ≤ 47 }
-        ensures ok { OnOk result ((length self.old.sending.waiting < limit) × (self.new ≡ accepting self.old pieces) × Adds out.old out.new (accepting_frames self.old pieces)) }
+        ensures ok { OnOk result ((length self.old.sending.waiting < limit) ×
+            (self.new ≡ accepting self.old pieces) × Adds out.old out.new (accepting_frames self.old pieces)) }
         ensures congested { limit ≤ length self.old.sending.waiting →
             result ≡ Err (OfferFault.Congested (length self.old.sending.unacked) (length self.old.sending.waiting)) }
         ensures congested_only { (in_flight waiting : ℕ) → result ≡ Err (OfferFault.Congested in_flight waiting) →
-            (limit ≤ length self.old.sending.waiting) × (in_flight ≡ length self.old.sending.unacked) × (waiting ≡ length self.old.sending.waiting) }
+            (limit ≤ length self.old.sending.waiting) × (in_flight ≡ length self.old.sending.unacked) ×
+            (waiting ≡ length self.old.sending.waiting) }
         ensures err { OnErr result ((self.new ≡ self.old) × (out.new ≡ out.old)) }
     {
         self.accept(alloc, &pieces, limit)?;

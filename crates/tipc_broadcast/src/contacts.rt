@@ -187,8 +187,10 @@ impl Contact {
     ) -> Result<LinkOutcome, NoMemory>
         requires own { IsNodeWord own.word }
         requires fits { Fits (view packet.now) }
-        ensures outcome { IfOk result (λ o. o ≡ heard_outcome (brought (view packet.now) by) self.old (refusal own.word boot members self.old)) }
-        ensures after { OnOk result (self.new ≡ heard (brought (view packet.now) by) self.old (refusal own.word boot members self.old)) }
+        ensures outcome { IfOk result (λ o. o ≡ heard_outcome (brought (view packet.now) by) self.old
+            (refusal own.word boot members self.old)) }
+        ensures after { OnOk result (self.new ≡ heard (brought (view packet.now) by) self.old
+            (refusal own.word boot members self.old)) }
         ensures err { OnErr result (self.new ≡ self.old) }
     {
         match self.refusal(own, boot, members) {

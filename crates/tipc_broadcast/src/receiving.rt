@@ -144,7 +144,9 @@ pub(crate) fn receive(
 ) -> Result<(RecvWindow, LinkOutcome), NoMemory>
     requires { Fits (view packet.now) }
     ensures window { IfOk result (λ after. after.0 ≡ drained (window_with window.now (brought (view packet.now) by))) }
-    ensures outcome { IfOk result (λ after. after.1 ≡ outcome_at (place_at window.now (past_wanted window.now packet.now.sequence)) (run_of (window_with window.now (brought (view packet.now) by)).held)) }
+    ensures outcome { IfOk result (λ after. after.1 ≡ outcome_at
+        (place_at window.now (past_wanted window.now packet.now.sequence))
+        (run_of (window_with window.now (brought (view packet.now) by)).held)) }
 {
     let mut window = window.copy()?;
     let place = window.arrive(packet.sequence, accepted_bytes(alloc, packet)?, by)?;

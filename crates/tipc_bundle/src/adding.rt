@@ -77,7 +77,8 @@ fn bundle_with_packet(
     packet: &[u8],
 ) -> Result<Bytes, AllocError>
     requires { Fits (bundle_with (count + 1) (padded waiting.now ++ padded packet.now)) }
-    ensures { IfOk result (λ bytes. bytes ≡ spelling (bundle_with (count + 1) (padded waiting.now ++ padded packet.now))) }
+    ensures { IfOk result (λ bytes. bytes ≡ spelling (bundle_with (count + 1) (padded waiting.now ++
+        padded packet.now))) }
 {
     let mut rest = Vec::new(alloc);
     put_padded(&mut rest, waiting)?;
@@ -98,7 +99,8 @@ fn bundle_with_packet(
 pub fn with_added(alloc: Global, last: &[u8], packet: &[u8]) -> Result<Bytes, BundleFault>
     requires last { (packets : List (List ℕ)) × Carries last.now packets }
     requires packet { IsInner packet.now }
-    ensures ok { (packets : List (List ℕ)) → Carries last.now packets → IfOk result (λ bundle. Carries bundle (packets ++ packet.now ∷ [])) }
+    ensures ok { (packets : List (List ℕ)) → Carries last.now packets →
+        IfOk result (λ bundle. Carries bundle (packets ++ packet.now ∷ [])) }
     ensures within { IfOk result (λ bundle. length bundle ≤ 1452) }
     ensures full { (packets : List (List ℕ)) → Carries last.now packets →
         (result ≡ Err BundleFault.Full) ↔ (1452 < length (joined (packets ++ packet.now ∷ []))) }
@@ -120,7 +122,8 @@ pub fn with_added(alloc: Global, last: &[u8], packet: &[u8]) -> Result<Bytes, Bu
 pub fn try_add(alloc: Global, last: &mut Bytes, packet: &[u8]) -> Result<(), BundleFault>
     requires last { (packets : List (List ℕ)) × Carries last.old packets }
     requires packet { IsInner packet.now }
-    ensures ok { (packets : List (List ℕ)) → Carries last.old packets → OnOk result (Carries last.new (packets ++ packet.now ∷ [])) }
+    ensures ok { (packets : List (List ℕ)) → Carries last.old packets →
+        OnOk result (Carries last.new (packets ++ packet.now ∷ [])) }
     ensures within { OnOk result (length last.new ≤ 1452) }
     ensures full { (packets : List (List ℕ)) → Carries last.old packets →
         (result ≡ Err BundleFault.Full) ↔ (1452 < length (joined (packets ++ packet.now ∷ []))) }

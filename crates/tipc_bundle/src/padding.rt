@@ -28,7 +28,8 @@ pub(crate) fn put_padded(into: &mut Vec<u8>, packet: &[u8]) -> Result<(), AllocE
 
 /// The place of the first byte that isn't zero.
 pub(crate) fn first_nonzero(bytes: &[u8]) -> Option<usize>
-    ensures some { IfSome result (λ place. (place < length bytes.now) × (get_or bytes.now place 0 ≢ 0) × ((k : ℕ) → k < place → get_or bytes.now k 0 ≡ 0)) }
+    ensures some { IfSome result (λ place. (place < length bytes.now) × (get_or bytes.now place 0 ≢ 0) ×
+        ((k : ℕ) → k < place → get_or bytes.now k 0 ≡ 0)) }
     ensures none { IfNone result (All (λ byte. byte ≡ 0) bytes.now) }
 {
     bytes.iter().position(|byte| *byte != 0)

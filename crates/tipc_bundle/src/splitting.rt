@@ -98,7 +98,8 @@ pub fn split(alloc: Global, bundle: &[u8]) -> Result<Inner, SplitFault>
     // What is given stands in the bundle.
     ensures ok { IfOk result (λ inner. AreInside inner bundle.now) }
     // What stands in it is given, unless memory runs out.
-    ensures only { (packets : List (List ℕ)) → AreInside packets bundle.now → MatchResult result (λ inner. inner ≡ packets) (λ fault. fault ≡ SplitFault.NoMemory) }
+    ensures only { (packets : List (List ℕ)) → AreInside packets bundle.now →
+        MatchResult result (λ inner. inner ≡ packets) (λ fault. fault ≡ SplitFault.NoMemory) }
     // Which place is bad, if any.
     ensures bad { (place : ℕ) → (result ≡ Err (SplitFault.BadInner place)) ↔ IsFirstBad bundle.now place }
 {

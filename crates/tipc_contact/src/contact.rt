@@ -37,8 +37,10 @@ impl Contact {
 
     /// The peer shows a number.
     pub fn show(&mut self, number: u64) -> Standing
-        ensures standing { result ≡ (if nat_lt number self.old.seen then Standing.Lower else (if number == self.old.seen then Standing.Same else Standing.Higher)) }
-        ensures after { (self.new.own ≡ self.old.own) × (self.new.seen ≡ (if nat_lt number self.old.seen then self.old.seen else number)) }
+        ensures standing { result ≡ (if nat_lt number self.old.seen then Standing.Lower else
+            (if number == self.old.seen then Standing.Same else Standing.Higher)) }
+        ensures after { (self.new.own ≡ self.old.own) × (self.new.seen ≡
+            (if nat_lt number self.old.seen then self.old.seen else number)) }
     {
         if number < self.seen {
             return Standing::Lower;

@@ -138,9 +138,11 @@ impl Neighbours {
     /// `NoMemory` where memory runs out for a neighbour that is new. It changes nothing.
     pub fn heard(&mut self, packet: &Packet<'_>, bearer: u8) -> Result<Found, NoMemory>
         requires { bearer ≤ 1 }
-        ensures found { IfOk result (λ f. f ≡ found_of self.old.own packet.now.previous packet.now.header (heard_on bearer self.old)) }
+        ensures found { IfOk result (λ f. f ≡ found_of self.old.own packet.now.previous packet.now.header
+            (heard_on bearer self.old)) }
         ensures own { self.new.own ≡ self.old.own }
-        ensures here { IfOk result (λ f. heard_on bearer self.new ≡ after_hearing f packet.now.previous (heard_on bearer self.old)) }
+        ensures here { IfOk result (λ f. heard_on bearer self.new ≡
+            after_hearing f packet.now.previous (heard_on bearer self.old)) }
         ensures there { heard_on (1 - bearer) self.new ≡ heard_on (1 - bearer) self.old }
         ensures err { OnErr result (self.new ≡ self.old) }
         ensures new_only { OnErr result

@@ -14,10 +14,6 @@ use Rattle.tipc_header.proofs.Again.{length-spelling}
 use Rattle.tipc_fragments.specs.Cutting.{count_of, packet_of, packets_of, Piece, piece_after, pieces_of}
 use Rattle.tipc_fragments.specs.Laws.{IsPiece}
 
--- every fragment has some of the message
-pub starts_within : (m : List ℕ) (before : ℕ) → before < count_of m → 1412 * before < length m
-starts_within m before h = omega arith
-
 -- what is cut out of a message from a start to an end within it
 pub take_within : (m : List ℕ) (start : ℕ) → start ≤ length m
     → take (min (length m) (start + 1412) - start) (drop start m) ≡ take 1412 (drop start m)

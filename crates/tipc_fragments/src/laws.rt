@@ -23,7 +23,8 @@ pub fn fragments_are_the_message()
     ensures bytes { (message : List ℕ) → flat_map (λ p. p.bytes) (pieces_of message) ≡ message }
     ensures count { (message : List ℕ) → length (pieces_of message) ≡ count_of message }
     ensures each { (message : List ℕ) (before : ℕ) → before < count_of message →
-        (slice_get (pieces_of message) before ≡ Some (piece_after message before)) × IsPiece (count_of message) before (piece_after message before) }
+        (slice_get (pieces_of message) before ≡ Some (piece_after message before)) ×
+        IsPiece (count_of message) before (piece_after message before) }
 {}
 
 /// The packets of a message's fragments fit the grammar, under whatever numbers and by whatever node they are sent,
@@ -41,7 +42,8 @@ pub fn fragments_fit()
 pub fn one_message_is_joined()
     ensures more { (message : List ℕ) (came : List Came) → IsLong message →
         IsFrontOf (pieces_in came) (pieces_of message) → length came < count_of message → IsBegun message came }
-    ensures whole { (message : List ℕ) (came : List Came) → IsLong message → pieces_in came ≡ pieces_of message → IsWhole message came }
+    ensures whole { (message : List ℕ) (came : List Came) → IsLong message → pieces_in came ≡ pieces_of message →
+        IsWhole message came }
 {}
 
 /// A front of the fragments of several messages, joined one after the other by one joiner, gives a front of the

@@ -193,7 +193,8 @@ fn put_state(into: &mut Vec<u8>, state: &State)
 fn put_reset(into: &mut Vec<u8>, reset: &Reset)
     requires fits { ResetFits reset.now }
     requires room { vec_len into.old + 40 ≤ vec_capacity into.old }
-    ensures items { into.new.items ≡ into.old.items ++ words (reset_words reset.now ++ (two_words reset.now.contact ++ two_words reset.now.peer_contact)) }
+    ensures items { into.new.items ≡ into.old.items ++ words (reset_words reset.now ++
+        (two_words reset.now.contact ++ two_words reset.now.peer_contact)) }
     ensures len { vec_len into.new ≡ vec_len into.old + 40 }
     ensures room { vec_capacity into.old ≤ vec_capacity into.new }
 {
@@ -215,7 +216,8 @@ fn put_reset(into: &mut Vec<u8>, reset: &Reset)
 fn put_changeover(into: &mut Vec<u8>, changeover: &Changeover)
     requires fits { ChangeoverFits changeover.now }
     requires room { vec_len into.old + 32 ≤ vec_capacity into.old }
-    ensures items { into.new.items ≡ into.old.items ++ words (changeover_words changeover.now ++ two_words changeover.now.old_epoch) }
+    ensures items { into.new.items ≡ into.old.items ++ words (changeover_words changeover.now ++
+        two_words changeover.now.old_epoch) }
     ensures len { vec_len into.new ≡ vec_len into.old + 32 }
     ensures room { vec_capacity into.old ≤ vec_capacity into.new }
 {
@@ -230,7 +232,8 @@ fn put_changeover(into: &mut Vec<u8>, changeover: &Changeover)
 /// Appends the words from word 4 on, and the numbers behind them.
 fn put_header(into: &mut Vec<u8>, header: &Header)
     requires fits { HeaderFits header.now }
-    requires room { vec_len into.old + 4 * length (user_words header.now ++ number_words header.now) ≤ vec_capacity into.old }
+    requires room { vec_len into.old + 4 * length (user_words header.now ++
+        number_words header.now) ≤ vec_capacity into.old }
     ensures items { into.new.items ≡ into.old.items ++ words (user_words header.now ++ number_words header.now) }
     ensures len { vec_len into.new ≡ vec_len into.old + 4 * length (user_words header.now ++ number_words header.now) }
     ensures room { vec_capacity into.old ≤ vec_capacity into.new }

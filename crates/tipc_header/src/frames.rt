@@ -30,7 +30,8 @@ pub struct Frame<'a> {
 pub fn open_frame(bytes: &[u8]) -> Option<Frame<'_>>
     ensures none { IsNone result ↔ ((length bytes.now < 16) ⊎ (1516 < length bytes.now)) }
     ensures some { IfSome result (λ f. bytes.now ≡ frame_of f.first f.second f.packet.now) }
-    ensures places { IfSome result (λ f. (f.first ≡ long_at 0 bytes.now) × (f.second ≡ long_at 2 bytes.now) × (f.packet.now ≡ drop 16 bytes.now)) }
+    ensures places { IfSome result (λ f. (f.first ≡ long_at 0 bytes.now) × (f.second ≡ long_at 2 bytes.now) ×
+        (f.packet.now ≡ drop 16 bytes.now)) }
 {
     if bytes.len() < 16 || bytes.len() > MOST_FRAME_BYTES {
         return None;
@@ -65,7 +66,8 @@ fn put_envelope(into: &mut Vec<u8>, first: u64, second: u64)
 fn put_stamped(into: &mut Vec<u8>, packet: &[u8], numbers: u32, previous: u32)
     requires words { 16 ≤ length packet.now }
     requires room { vec_len into.old + length packet.now ≤ vec_capacity into.old }
-    ensures { into.new.items ≡ into.old.items ++ (take 8 packet.now ++ (words (numbers ∷ previous ∷ []) ++ drop 16 packet.now)) }
+    ensures { into.new.items ≡ into.old.items ++ (take 8 packet.now ++
+        (words (numbers ∷ previous ∷ []) ++ drop 16 packet.now)) }
 {
     put_bytes(into, &packet[..8]);
     put_words(into, &[numbers, previous]);
@@ -100,7 +102,8 @@ pub fn stamp_frame(
     previous: u32,
 ) -> Result<Vec<u8>, AllocError>
     requires { 16 ≤ length packet.now }
-    ensures { IfOk result (λ frame. frame.items ≡ frame_of first second (stamped acknowledgement sequence previous packet.now)) }
+    ensures { IfOk result (λ frame. frame.items ≡ frame_of first second
+        (stamped acknowledgement sequence previous packet.now)) }
 {
     let mut frame = Vec::with_capacity(alloc, 16)?;
     put_envelope(&mut frame, first, second);

@@ -21,7 +21,8 @@ pub fn one_packet_a_spelling()
 /// A spelling has the bytes of its header words, of the numbers behind them and of the rest, which
 /// are at least 24 and fit the size field.
 pub fn length_of_spelling()
-    ensures exact { (p : Fields) → length (spelling p) ≡ 4 * header_size p.header + numbers_size p.header + length p.rest }
+    ensures exact { (p : Fields) →
+        length (spelling p) ≡ 4 * header_size p.header + numbers_size p.header + length p.rest }
     ensures least { (p : Fields) → 24 ≤ length (spelling p) }
     ensures most { (p : Fields) → Fits p → length (spelling p) < 2 ^ 17 }
 {}
@@ -34,6 +35,10 @@ pub fn size_field_of_spelling()
 /// A packet under other numbers differs in word 2 alone, its bytes 8 to 11. Where its user is
 /// sequenced it may have any numbers.
 pub fn word_2_stands_alone()
-    ensures bytes { (p : Fields) → (acknowledgement : ℕ) → (sequence : ℕ) → spelling (renumbered p acknowledgement sequence) ≡ take 8 (spelling p) ++ word (from_bit 16 acknowledgement + sequence) ++ drop 12 (spelling p) }
-    ensures fits { (p : Fields) → (acknowledgement : ℕ) → (sequence : ℕ) → Fits p → is_non_sequenced p.header ≡ false → acknowledgement < 2 ^ 16 → sequence < 2 ^ 16 → Fits (renumbered p acknowledgement sequence) }
+    ensures bytes { (p : Fields) → (acknowledgement : ℕ) → (sequence : ℕ) →
+        spelling (renumbered p acknowledgement sequence) ≡ take 8 (spelling p) ++
+        word (from_bit 16 acknowledgement + sequence) ++ drop 12 (spelling p) }
+    ensures fits { (p : Fields) → (acknowledgement : ℕ) → (sequence : ℕ) → Fits p →
+        is_non_sequenced p.header ≡ false → acknowledgement < 2 ^ 16 → sequence < 2 ^ 16 →
+        Fits (renumbered p acknowledgement sequence) }
 {}

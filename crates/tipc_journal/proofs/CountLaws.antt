@@ -35,11 +35,6 @@ read_step : {Y : Type 0} (h : PlacedStep → Option Y) (J : List Entry) (s : Nod
     → filter_map h (steps (J ++ step_entries s)) ≡ list_with (filter_map h (steps J)) (h (record { before = J; step = s }))
 read_step h J s whole clean = ap (filter_map h) (steps_more J s whole clean) ∙ filter_map_more h (steps J) (record { before = J; step = s })
 
--- an empty journal has no sends by name
-pub names_sent_nil : names_sent [] ≡ 0
-unfolding names_sent
-names_sent_nil = ap (count_by (λ p. is_sent_by_name p.step.event p.step.answer)) steps_nil
-
 -- one more whole step counts where it sent a message by name
 pub names_sent_step : (J : List Entry) (s : NodeStep) → IsWhole J → IsInside s.inside
     → names_sent (J ++ step_entries s) ≡ names_sent J + cond (is_sent_by_name s.event s.answer) 1 0

@@ -274,11 +274,6 @@ filter_true : (ps : List Publication) → filter (λ p. true) ps ≡ ps
 filter_true [] = refl
 filter_true (p ∷ ps) = ap (λ (w : List Publication). p ∷ w) (filter_true ps)
 
--- nothing is filtered out where a test holds of all that the filter lets through
-filter_keeps : (f test : Publication → Bool) (ps : List Publication) → list_all test ps ≡ true
-    → ((p : Publication) → test p ≡ true → f p ≡ true) → filter f ps ≡ ps
-filter_keeps f test ps h kept = filter_agrees f (λ p. true) test ps h kept ∙ filter_true ps
-
 not_true : (b : Bool) → not b ≡ true → b ≡ false
 not_true true e = absurd (true≢false (sym e))
 not_true false e = refl
@@ -377,10 +372,6 @@ names_more own J e home here = names_of _ _ _ (live_more J e) (learned_more J e)
 -- one more entry of this node
 pub AreAtHome_more : (own : Addr) (J : List Entry) (e : Entry) → AreAtHome own J → is_at_home own e ≡ true → AreAtHome own (J ++ e ∷ [])
 AreAtHome_more own J e home here = list_all-append (is_at_home own) J (e ∷ []) ∙ ap (λ b. b && (is_at_home own e && true)) home ∙ ap (λ b. b && true) here
-
--- later entries of this node
-pub AreAtHome_append : (own : Addr) (J es : List Entry) → AreAtHome own J → AreAtHome own es → AreAtHome own (J ++ es)
-AreAtHome_append own J es home here = list_all-append (is_at_home own) J es ∙ ap (λ b. b && list_all (is_at_home own) es) home ∙ here
 
 -- the table in order behind later entries of this node
 pub names_append : (own : Addr) (J es : List Entry) → AreAtHome own J → AreAtHome own es → names (J ++ es) ≡ fold names_after (names J) es

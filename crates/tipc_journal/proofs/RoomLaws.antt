@@ -9,11 +9,6 @@ pub message_bytes_nil : message_bytes [] ≡ 0
 unfolding message_bytes
 message_bytes_nil = refl
 
--- the message bytes of two journals, one behind the other
-pub message_bytes_append : (xs ys : List Entry) → message_bytes (xs ++ ys) ≡ message_bytes xs + message_bytes ys
-unfolding message_bytes
-message_bytes_append xs ys = sum_by-append entry_bytes xs ys
-
 -- one more entry adds its message bytes
 pub message_bytes_more : (xs : List Entry) (e : Entry) → message_bytes (xs ++ e ∷ []) ≡ message_bytes xs + entry_bytes e
 unfolding message_bytes

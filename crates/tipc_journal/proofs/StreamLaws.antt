@@ -10,7 +10,7 @@ use Rattle.tipc_types.specs.declared.message_forms.Flow.{Flow}
 use Rattle.tipc_types.specs.declared.message_forms.Flow.TheVariants.{Zero, One, Broadcast}
 use Rattle.tipc_types.specs.declared.message_forms.Message.{Message}
 use Rattle.tipc_journal.specs.declared.entries.Entry.{Entry}
-use Rattle.tipc_journal.specs.declared.entries.Entry.TheVariants.{Accepted, Answered, Delivered}
+use Rattle.tipc_journal.specs.declared.entries.Entry.TheVariants.{Answered, Delivered}
 use Rattle.tipc_journal.specs.Prefixes.{list_with}
 use Rattle.tipc_journal.specs.Steps.{NodeStep, step_entries}
 use Rattle.tipc_journal.specs.Streams.{Stream, flow_eq, stream_eq, accepted_message, accepted, delivered_message, delivered}
@@ -97,20 +97,6 @@ pub accepted_more : (xs : List Entry) (e : Entry) (s : Stream) → accepted (xs 
 unfolding accepted
 accepted_more xs e s = filter_map_more (accepted_message s) xs e
 
--- a message that is accepted in the stream stands last
-pub accepted_same : (xs : List Entry) (s : Stream) (m : Message)
-    → accepted (xs ++ Accepted s.peer s.contact s.flow m ∷ []) s ≡ accepted xs s ++ m ∷ []
-accepted_same xs s m =
-    accepted_more xs (Accepted s.peer s.contact s.flow m) s
-    ∙ ap (λ b. list_with (accepted xs s) (cond b (Some m) None)) (stream_eq_refl s)
-
--- a message that is accepted in another stream changes nothing
-pub accepted_other : (xs : List Entry) (s t : Stream) (m : Message)
-    → stream_eq t s ≡ false → accepted (xs ++ Accepted t.peer t.contact t.flow m ∷ []) s ≡ accepted xs s
-accepted_other xs s t m other =
-    accepted_more xs (Accepted t.peer t.contact t.flow m) s
-    ∙ ap (λ b. list_with (accepted xs s) (cond b (Some m) None)) other
-
 -- as many messages were accepted as there are Accepted entries of the stream
 pub length_accepted : (entries : List Entry) (s : Stream) → length (accepted entries s) ≡ count_by (λ e. is_some (accepted_message s e)) entries
 unfolding accepted
@@ -138,27 +124,10 @@ delivered_same xs s m by =
     delivered_more xs (Delivered s.peer s.contact s.flow m by) s
     ∙ ap (λ b. list_with (delivered xs s) (cond b (Some m) None)) (stream_eq_refl s)
 
--- a message that is delivered in another stream changes nothing
-pub delivered_other : (xs : List Entry) (s t : Stream) (m : Message) (by : List ℕ)
-    → stream_eq t s ≡ false → delivered (xs ++ Delivered t.peer t.contact t.flow m by ∷ []) s ≡ delivered xs s
-delivered_other xs s t m by other =
-    delivered_more xs (Delivered t.peer t.contact t.flow m by) s
-    ∙ ap (λ b. list_with (delivered xs s) (cond b (Some m) None)) other
-
 -- as many messages were delivered as there are Delivered entries of the stream
 pub length_delivered : (entries : List Entry) (s : Stream) → length (delivered entries s) ≡ count_by (λ e. is_some (delivered_message s e)) entries
 unfolding delivered
 length_delivered entries s = length_filter_map (delivered_message s) entries
-
--- the messages accepted in later entries stand behind the earlier ones
-pub accepted_adds : (xs ys : List Entry) (s : Stream) → accepted (xs ++ ys) s ≡ accepted xs s ++ filter_map (accepted_message s) ys
-unfolding accepted
-accepted_adds xs ys s = filter_map-append (accepted_message s) xs ys
-
--- the messages delivered in later entries stand behind the earlier ones
-pub delivered_adds : (xs ys : List Entry) (s : Stream) → delivered (xs ++ ys) s ≡ delivered xs s ++ filter_map (delivered_message s) ys
-unfolding delivered
-delivered_adds xs ys s = filter_map-append (delivered_message s) xs ys
 
 -- a step adds the messages accepted in the entries that it made
 pub accepted_step : (J : List Entry) (n : NodeStep) (s : Stream) → accepted (J ++ step_entries n) s ≡ accepted J s ++ accepted n.inside s

@@ -22,7 +22,8 @@ impl Journal {
         contact: (u64, u64),
         flow: Flow,
     ) -> Result<MessageList, NoMemory>
-        ensures { IfOk result (λ messages. messages ≡ accepted self.now.entries (record { peer = peer; contact = contact; flow = flow })) }
+        ensures { IfOk result (λ messages. messages ≡ accepted self.now.entries
+            (record { peer = peer; contact = contact; flow = flow })) }
     {
         let mut found = Vec::new(alloc);
         for entry in self.entries() {
@@ -41,7 +42,8 @@ impl Journal {
         contact: (u64, u64),
         flow: Flow,
     ) -> Result<MessageList, NoMemory>
-        ensures { IfOk result (λ messages. messages ≡ delivered self.now.entries (record { peer = peer; contact = contact; flow = flow })) }
+        ensures { IfOk result (λ messages. messages ≡ delivered self.now.entries
+            (record { peer = peer; contact = contact; flow = flow })) }
     {
         let mut found = Vec::new(alloc);
         for entry in self.entries() {
@@ -66,7 +68,8 @@ impl Journal {
     /// a flow. It takes no memory. (This project's profile.)
     #[tactic(auto, using(crate::proofs::StreamLaws::length_delivered))]
     pub fn delivered_count(&self, peer: Addr, contact: (u64, u64), flow: Flow) -> u64
-        ensures { result ≡ length (delivered self.now.entries (record { peer = peer; contact = contact; flow = flow })) }
+        ensures { result ≡ length (delivered self.now.entries
+            (record { peer = peer; contact = contact; flow = flow })) }
     {
         let entries = self.entries().iter();
         entries
@@ -113,7 +116,8 @@ impl Journal {
 /// Whether two streams, each a peer, a contact and a flow, are the same.
 #[tactic(auto, unfolding(crate::specs::Streams::stream_eq))]
 fn is_same_stream(left: (Addr, (u64, u64), Flow), right: (Addr, (u64, u64), Flow)) -> bool
-    ensures { result ≡ stream_eq (record { peer = left.0; contact = left.1; flow = left.2 }) (record { peer = right.0; contact = right.1; flow = right.2 }) }
+    ensures { result ≡ stream_eq (record { peer = left.0; contact = left.1; flow = left.2 })
+        (record { peer = right.0; contact = right.1; flow = right.2 }) }
 {
     let is_same_contact = left.1.0 == right.1.0 && left.1.1 == right.1.1;
     left.0.word == right.0.word && is_same_contact && is_same_flow(left.2, right.2)
@@ -132,7 +136,8 @@ fn is_same_flow(left: Flow, right: Flow) -> bool
 
 /// The message of an Accepted entry of the stream.
 fn accepted_message(entry: &Entry, peer: Addr, contact: (u64, u64), flow: Flow) -> Option<&Message>
-    ensures { option_copied result ≡ accepted_message (record { peer = peer; contact = contact; flow = flow }) entry.now }
+    ensures { option_copied result ≡
+        accepted_message (record { peer = peer; contact = contact; flow = flow }) entry.now }
 {
     match entry {
         Entry::Accepted {
@@ -153,7 +158,8 @@ fn accepted_message(entry: &Entry, peer: Addr, contact: (u64, u64), flow: Flow) 
 
 /// The message of a Delivered entry of the stream.
 fn delivered_message(entry: &Entry, peer: Addr, contact: (u64, u64), flow: Flow) -> Option<&Message>
-    ensures { option_copied result ≡ delivered_message (record { peer = peer; contact = contact; flow = flow }) entry.now }
+    ensures { option_copied result ≡
+        delivered_message (record { peer = peer; contact = contact; flow = flow }) entry.now }
 {
     match entry {
         Entry::Delivered {

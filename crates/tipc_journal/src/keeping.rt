@@ -82,7 +82,8 @@ impl Journal {
         ensures full { (result ≡ Err JournalFault.Full) ↔ HasNoRoom self.old.entries entry }
         ensures no_memory { result ≡ Err JournalFault.NoMemory → self.old.spare ≡ 0 }
         ensures succeeds { 0 < self.old.spare → HasRoom self.old.entries entry → IsOk result }
-        ensures bytes { OnOk result (message_bytes self.new.entries ≡ message_bytes self.old.entries + entry_bytes entry) }
+        ensures bytes { OnOk result (message_bytes self.new.entries ≡
+            message_bytes self.old.entries + entry_bytes entry) }
         ensures err { OnErr result (self.new ≡ self.old) }
     {
         let size = entry_bytes(&entry);

@@ -203,9 +203,11 @@ pub fn what_is_due_stands_next()
         p.step.inside ≡ front ++ Delivered peer numbers flow m by ∷ rest →
         (e : Entry) × (more : List Entry) × (rest ≡ e ∷ more)
         × IsFate (scene_in own p (front ++ Delivered peer numbers flow m by ∷ [])) m true e }
-    ensures fates { (own : Addr) (p : PlacedStep) (front : List Entry) (e : Entry) (rest : List Entry) → HasFates own p →
+    ensures fates { (own : Addr) (p : PlacedStep) (front : List Entry) (e : Entry) (rest : List Entry) →
+        HasFates own p →
         is_fate e ≡ true → p.step.inside ≡ front ++ e ∷ rest →
-        (m : Message) × (arrived : Bool) × (due_in own p front ≡ FateDue m arrived) × IsFate (scene_in own p front) m arrived e }
+        (m : Message) × (arrived : Bool) × (due_in own p front ≡ FateDue m arrived) ×
+        IsFate (scene_in own p front) m arrived e }
 {}
 
 /// One more whole step adds what it counts for: a send by name, an event that was given, a socket or subscriptions

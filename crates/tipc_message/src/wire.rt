@@ -9,7 +9,7 @@ use crate::distribution::{distribution_bytes, distribution_message};
 use crate::encoding::encoded;
 use std::alloc::Global;
 use tipc_header::{Addressing, Header, Packet, Payload};
-use tipc_types::{Addr, Bytes, Form, Importance, Message, NoMemory, PortId};
+use tipc_types::{Addr, Body, Bytes, Form, Importance, Message, NoMemory, PortId};
 
 /// The number of an importance, which is also the user of its packets.
 fn importance_number(importance: Importance) -> u8
@@ -164,7 +164,7 @@ fn port_at(node: u32, port: u32) -> PortId
 fn payload_message(alloc: Global, payload: &Payload, body: &[u8]) -> Result<Message, NoMemory>
     ensures { IfOk result (λ m. m ≡ message_by payload.now payload.now.addressing body.now) }
 {
-    let body = Bytes::from_slice(alloc, body)?;
+    let body = Body::from_slice(alloc, body)?;
     let (form, origin, destination, name_kind, lower, upper) = match payload.addressing {
         Addressing::Connected => (Form::Connected, 0, 0, 0, 0, 0),
         Addressing::Multicast {

@@ -49,9 +49,6 @@ told_by messages items = flat_map-append items_in messages (Items false items �
 
 -- ---- the loop
 
-pub gathering_none : IsGathering [] [] []
-gathering_none = record { whole = refl; full = λ k m is. absurd (let wrong : ⊥ = cc in wrong); few = omega arith }
-
 at_most : (p : Publication) → length (items_for p) ≤ 1
 at_most p = one (is_clusterwide p.scope)
   where

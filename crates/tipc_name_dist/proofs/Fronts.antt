@@ -140,15 +140,6 @@ payloads_behind from table ms rest none =
     let first = applied_each from table ms in
     applied_append from table ms rest ∙ ap (after_first first) (payloads_applied from first.table rest none) ∙ nothing_behind first
 
-pub payloads_held : (from : ℕ) (table : List Publication) (ms rest : List Message) → flat_map items_in rest ≡ [] → held_after from table (ms ++ rest) ≡ held_after from table ms
-payloads_held from table ms rest none = held_append from table ms rest ∙ kept (held_after from table ms) rest none
-  where
-    kept : (now : List Publication) (those : List Message) → flat_map items_in those ≡ [] → held_after from now those ≡ now
-    kept now [] none = refl
-    kept now (m ∷ those) none =
-        let h = none_in m those none in
-        ap (λ (a : Applied). held_after from a.table those) (payload_applied from now m h.0) ∙ kept now those h.1
-
 -- ---- a table is kept one
 
 put_kept : (table : List Publication) (p : Publication) → IsTable table → can_be_put table p ≡ true → IsTable (put p table)

@@ -10,9 +10,11 @@ ghost use Rattle.tipc_name_table.specs.Tables.{is_of, put, without, without_node
 pub fn one_more_is_published()
     ensures looked_up { (test : Publication → Bool) → (p : Publication) → (ps : List Publication) → IsInOrder ps →
         filter test (put p ps) ≡ (if test p then put p (filter test ps) else filter test ps) }
-    ensures held { (p : Publication) → (q : Publication) → (ps : List Publication) → Contains (put p ps) q → (q ≡ p) ⊎ Contains ps q }
+    ensures held { (p : Publication) → (q : Publication) → (ps : List Publication) → Contains (put p ps) q →
+        (q ≡ p) ⊎ Contains ps q }
     ensures itself { (p : Publication) → (ps : List Publication) → Contains (put p ps) p }
-    ensures others { (p : Publication) → (q : Publication) → (ps : List Publication) → Contains ps q → Contains (put p ps) q }
+    ensures others { (p : Publication) → (q : Publication) → (ps : List Publication) → Contains ps q →
+        Contains (put p ps) q }
 {}
 
 /// Where one is withdrawn, or those of a node are purged, so they are in each look-up, and nothing else changes there.
@@ -25,7 +27,8 @@ pub fn some_are_taken_out()
 
 /// What is looked up stands in order of node, port and key, and so do the closest of it.
 pub fn look_ups_are_in_order()
-    ensures looked_up { (test : Publication → Bool) → (ps : List Publication) → IsInOrder ps → IsInOrder (filter test ps) }
+    ensures looked_up { (test : Publication → Bool) → (ps : List Publication) → IsInOrder ps →
+        IsInOrder (filter test ps) }
     ensures closest { (own : ℕ) → (ps : List Publication) → IsInOrder ps → IsInOrder (closest own ps) }
 {}
 
@@ -33,7 +36,9 @@ pub fn look_ups_are_in_order()
 /// all that is closest is of it.
 pub fn the_closest_are_some()
     ensures some { (own : ℕ) → (ps : List Publication) → closest own ps ≡ [] → ps ≡ [] }
-    ensures found { (own : ℕ) → (p : Publication) → (ps : List Publication) → Contains (closest own ps) p → Contains ps p }
-    ensures own { (own : ℕ) → (p : Publication) → (q : Publication) → (ps : List Publication) → Contains ps p → is_of own p ≡ true →
+    ensures found { (own : ℕ) → (p : Publication) → (ps : List Publication) → Contains (closest own ps) p →
+        Contains ps p }
+    ensures own { (own : ℕ) → (p : Publication) → (q : Publication) → (ps : List Publication) → Contains ps p →
+        is_of own p ≡ true →
         Contains (closest own ps) q → is_of own q ≡ true }
 {}

@@ -43,9 +43,11 @@ pub trait Names {
     fn publish(&mut self, p: Publication) -> Result<(), NameFault>
         requires { IsNodeWord p.at.node.word }
         ensures ok { OnOk result (table self.new ≡ put p (table self.old)) }
-        ensures duplicate { (result ≡ Err NameFault.Duplicate) ↔ (list_any (is_named p.at.node.word p.key) (table self.old) ≡ true) }
+        ensures duplicate { (result ≡ Err NameFault.Duplicate) ↔
+            (list_any (is_named p.at.node.word p.key) (table self.old) ≡ true) }
         ensures full { (result ≡ Err NameFault.Full) ↔
-            ((list_any (is_named p.at.node.word p.key) (table self.old) ≡ false) × (1024 ≤ count_by (is_of p.at.node.word) (table self.old))) }
+            ((list_any (is_named p.at.node.word p.key) (table self.old) ≡ false) ×
+            (1024 ≤ count_by (is_of p.at.node.word) (table self.old))) }
         ensures err { OnErr result (table self.new ≡ table self.old) }
         ensures sound { IsTable (table self.new) };
 

@@ -89,7 +89,8 @@ impl<W: io::Write + Drop> Sink for StdSink<W> {
         ensures stall { IfOk result (λ n. n ≡ 0 → 0 < length piece.now → Rose self.old.stalls self.new.stalls) }
         ensures fault { OnErr result (self.new.faults ≡ counted self.old.faults) }
         ensures no_fault { OnOk result (self.new.faults ≡ self.old.faults) }
-        ensures stalled { IfOk result (λ n. self.new.stalls ≡ (if (n == 0) && nat_lt 0 (length piece.now) then counted self.old.stalls else self.old.stalls)) }
+        ensures stalled { IfOk result (λ n. self.new.stalls ≡
+            (if (n == 0) && nat_lt 0 (length piece.now) then counted self.old.stalls else self.old.stalls)) }
         ensures err { OnErr result ((result ≡ Err SinkFault.Failed) × (self.new.stalls ≡ self.old.stalls)) }
     {
         match self.writer.write(piece) {

@@ -108,8 +108,10 @@ impl Source for MemorySource {
         ensures bytes { ReadConsumes (Some self.old.left) (Some self.new.left) result into.new }
         ensures cause { HasCause self.old.faults self.new.faults result }
         ensures count { IfOk result (λ n. n ≡ min (length into.new) (length self.old.left)) }
-        ensures failing { OnErr result ((is_failing self.old.failing self.old.calls ≡ true) × (self.new.faults ≡ counted self.old.faults)) }
-        ensures passing { OnOk result ((is_failing self.old.failing self.old.calls ≡ false) × (self.new.faults ≡ self.old.faults)) }
+        ensures failing { OnErr result ((is_failing self.old.failing self.old.calls ≡ true) ×
+            (self.new.faults ≡ counted self.old.faults)) }
+        ensures passing { OnOk result ((is_failing self.old.failing self.old.calls ≡ false) ×
+            (self.new.faults ≡ self.old.faults)) }
         ensures call { (self.new.calls ≡ counted self.old.calls) × (self.new.failing ≡ self.old.failing) }
     {
         self.calls = self.calls.saturating_add(1);
@@ -187,8 +189,10 @@ impl Sink for MemorySink {
         ensures later { self.old.faults ≤ self.new.faults }
         ensures cause { IsErrOf result SinkFault.Failed → Rose self.old.faults self.new.faults }
         ensures count { IfOk result (λ n. n ≡ length piece.now) }
-        ensures failing { IsErrOf result SinkFault.Failed → (is_failing self.old.failing self.old.calls ≡ true) × (self.new.faults ≡ counted self.old.faults) }
-        ensures passing { (IsErrOf result SinkFault.Failed → ⊥) → (is_failing self.old.failing self.old.calls ≡ false) × (self.new.faults ≡ self.old.faults) }
+        ensures failing { IsErrOf result SinkFault.Failed → (is_failing self.old.failing self.old.calls ≡ true) ×
+            (self.new.faults ≡ counted self.old.faults) }
+        ensures passing { (IsErrOf result SinkFault.Failed → ⊥) →
+            (is_failing self.old.failing self.old.calls ≡ false) × (self.new.faults ≡ self.old.faults) }
         ensures call { (self.new.calls ≡ counted self.old.calls) × (self.new.failing ≡ self.old.failing) }
     {
         self.calls = self.calls.saturating_add(1);

@@ -8,7 +8,7 @@ use std::process::Abort;
 use std::test::Fail;
 use tipc_header::{Discovery, DiscoveryType, Header, Packet, decode};
 use tipc_message::{message_from, packet_bytes};
-use tipc_types::{Addr, Bytes, Form, Importance, Item, ItemList, Message, PortId};
+use tipc_types::{Addr, Body, Form, Importance, Item, ItemList, Message, PortId};
 
 /// The port of this number at the node of this address word.
 fn port(word: u32, port: u32) -> PortId
@@ -73,7 +73,7 @@ fn a_direct_message(rt: HostRuntime) -> Result<(), Fail> {
         upper: 0,
         code: 0,
         droppable: false,
-        body: Bytes::from_slice(rt.alloc(), b"hello")?,
+        body: Body::from_slice(rt.alloc(), b"hello")?,
     };
     let words = [
         0x4100_0025,
@@ -100,7 +100,7 @@ fn a_named_message_that_was_returned(rt: HostRuntime) -> Result<(), Fail> {
         upper: 4,
         code: 4,
         droppable: false,
-        body: Bytes::from_slice(rt.alloc(), b"hi")?,
+        body: Body::from_slice(rt.alloc(), b"hi")?,
     };
     let words = [
         0x4540_002a,
@@ -129,7 +129,7 @@ fn a_multicast_message(rt: HostRuntime) -> Result<(), Fail> {
         upper: 9,
         code: 0,
         droppable: true,
-        body: Bytes::new(rt.alloc()),
+        body: Body::from_slice(rt.alloc(), b"")?,
     };
     let words = [
         0x4768_002c,
@@ -159,7 +159,7 @@ fn a_message_between_connected_ports(rt: HostRuntime) -> Result<(), Fail> {
         upper: 0,
         code: 5,
         droppable: false,
-        body: Bytes::from_slice(rt.alloc(), b"x")?,
+        body: Body::from_slice(rt.alloc(), b"x")?,
     };
     let words = [0x42c0_0019, 0x0a00_0000, 0, 0x0100_1001, 7, 8];
     is_spelled(&rt, rt.alloc(), &message, &words, b"x")

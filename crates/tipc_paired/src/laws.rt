@@ -24,7 +24,8 @@ pub fn two_nodes_stay_paired()
 /// What a node took of a session of its peer is a prefix of what the peer numbered in it: no packet is lost between two that
 /// were taken, none is taken twice, and none out of order.
 pub fn what_is_taken_was_numbered()
-    ensures { (x y : View) → ArePaired x y → (bearer epoch : ℕ) → IsPrefixOf ((x.wires bearer).got epoch) ((y.wires bearer).line epoch) }
+    ensures { (x y : View) → ArePaired x y → (bearer epoch : ℕ) →
+        IsPrefixOf ((x.wires bearer).got epoch) ((y.wires bearer).line epoch) }
 {}
 
 /// What a node learns from its peer is so: an acknowledgement that is heard names no more than what the peer took; a link goes up under an epoch

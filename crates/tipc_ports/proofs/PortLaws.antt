@@ -1,5 +1,5 @@
 -- The ports that are there, as a list of numbers without two that are the same.
-use Rattle.std.proofs.Common.{◌≡◌, ℕ, ◌+◌, ◌<◌, ◌≤◌, Bool, true, false, not, cond, List, [], ◌∷◌, ◌++◌, Contains, if◌then◌else◌, inl, inr, refl, sym, ap, subst, ◌∙◌, eqb-true, true≢false, arith}
+use Rattle.std.proofs.Common.{◌≡◌, ℕ, ◌+◌, ◌<◌, ◌≤◌, Bool, true, false, not, cond, List, [], ◌∷◌, ◌++◌, Contains, if◌then◌else◌, inl, inr, refl, sym, ap, subst, eqb-true, arith}
 use Rattle.std.specs.Prelude.{nat_eq}
 use Rattle.std.specs.Cmp.{nat_eq_equiv}
 use Rattle.std.proofs.lemmas.Bool.Decides.{Decides-eqb, eqb_tells}
@@ -67,9 +67,6 @@ found_there n ports found = Contains-from_any (λ x y e. eqb-true x y e) n ports
 
 pub there_found : (n : ℕ) (ports : List ℕ) → Contains ports n → list_any (nat_eq n) ports ≡ true
 there_found n ports there = list_any-from_Contains nat_eq_equiv n ports there
-
-pub not_there : (n : ℕ) (ports : List ℕ) → list_any (nat_eq n) ports ≡ false → Contains ports n → ⊥
-not_there n ports found there = true≢false (sym (there_found n ports there) ∙ found)
 
 abbrev pub table : ℕ → ℕ → List ℕ → PortTable
 table boot made ports = record { boot = boot; made = made; present = ports }

@@ -90,7 +90,8 @@ impl Ports {
     /// `Full` exactly where 256 ports are there or 1,048,575 were made in this boot; else `NoMemory` where memory runs out.
     pub fn make(&mut self) -> Result<u32, PortFault>
         ensures number { IfOk result (λ port. port ≡ port_number self.old.boot (self.old.made + 1)) }
-        ensures ok { IfOk result (λ port. self.new ≡ record { boot = self.old.boot; made = self.old.made + 1; present = self.old.present ++ port ∷ [] }) }
+        ensures ok { IfOk result (λ port. self.new ≡
+            record { boot = self.old.boot; made = self.old.made + 1; present = self.old.present ++ port ∷ [] }) }
         ensures full { (result ≡ Err PortFault.Full) ↔ ((256 ≤ length self.old.present) ⊎ (1048575 ≤ self.old.made)) }
         ensures err { OnErr result (self.new ≡ self.old) }
     {
@@ -109,7 +110,8 @@ impl Ports {
     ///
     /// `Unknown` exactly where it isn't there.
     pub fn close(&mut self, port: u32) -> Result<(), Unknown>
-        ensures ok { OnOk result (self.new ≡ record { boot = self.old.boot; made = self.old.made; present = without port self.old.present }) }
+        ensures ok { OnOk result (self.new ≡
+            record { boot = self.old.boot; made = self.old.made; present = without port self.old.present }) }
         ensures there { OnOk result (Contains self.old.present port) }
         ensures unknown { OnErr result (Contains self.old.present port → ⊥) }
         ensures err { OnErr result (self.new ≡ self.old) }

@@ -121,11 +121,6 @@ pub always_brings : {E : Type 0} (bytes : List ℕ) (by : ℕ) (answer : Result 
 always_brings bytes by (Ok opened) expected is same = λ s. subst (λ (x : List Opened). Brings s bytes by x s) (sym same) (is s)
 always_brings bytes by (Err fault) expected is same = tt
 
-pub brings_here : {E : Type 0} (s : Joining) (bytes : List ℕ) (by : ℕ) (answer : Result (List Opened) E)
-    → IfOk answer (λ opened. (s : Joining) → Brings s bytes by opened s) → IfOk answer (λ opened. Brings s bytes by opened s)
-brings_here s bytes by (Ok opened) is = is s
-brings_here s bytes by (Err fault) is = tt
-
 -- what a fragment makes
 pub fragment_brings : {E : Type 0} (s new : Joining) (bytes : List ℕ) (by : ℕ) (piece : Piece) (answer : Result (List Opened) E) → IsFragment bytes piece
     → IfOk answer (λ opened. (opened ≡ joined_members (answer_of s piece by)) × (new ≡ after s piece by)) → IfOk answer (λ opened. Brings s bytes by opened new)

@@ -48,14 +48,6 @@ begun_weaker P Q more s is = record {
   bytes = is.bytes;
 }
 
-one_weaker : (P Q : ℕ → List ℕ → Type 0) → ((by : ℕ) (bytes : List ℕ) → P by bytes → Q by bytes) → (opened : Opened) → IsOpenedBy P opened → IsOpenedBy Q opened
-one_weaker P Q more (Whole packet by) is = traced_weaker P Q more packet by is
-one_weaker P Q more (Passed place) is = tt
-
-pub opened_weaker : (P Q : ℕ → List ℕ → Type 0) → ((by : ℕ) (bytes : List ℕ) → P by bytes → Q by bytes)
-    → (opened : List Opened) → All (IsOpenedBy P) opened → All (IsOpenedBy Q) opened
-opened_weaker P Q more opened are = All-weaker (IsOpenedBy P) (IsOpenedBy Q) (one_weaker P Q more) opened are
-
 -- ---- one fragment more
 
 pieces_push : (P : ℕ → List ℕ → Type 0) (pieces : List Piece) (arrivals : List ℕ) (piece : Piece) (by : ℕ)

@@ -14,9 +14,11 @@ ghost use Rattle.tipc_reassembly.specs.Tracing.{IsAmong, IsBegunBy, IsOpenedBy};
 
 /// One thing comes of a packet, and of packets that are taken one after the other.
 pub fn one_thing_comes_of_packets()
-    ensures one { (s : Joining) (bytes : List ℕ) (by : ℕ) (opened : List Opened) (more : List Opened) (last : Joining) (after : Joining) →
+    ensures one { (s : Joining) (bytes : List ℕ) (by : ℕ) (opened : List Opened) (more : List Opened)
+        (last : Joining) (after : Joining) →
         Brings s bytes by opened last → Brings s bytes by more after → (opened ≡ more) × (last ≡ after) }
-    ensures all { (s : Joining) (taken : List Taken) (opened : List Opened) (more : List Opened) (last : Joining) (after : Joining) →
+    ensures all { (s : Joining) (taken : List Taken) (opened : List Opened) (more : List Opened) (last : Joining)
+        (after : Joining) →
         BringsAll s taken opened last → BringsAll s taken more after → (opened ≡ more) × (last ≡ after) }
 {}
 
@@ -25,15 +27,18 @@ pub fn one_thing_comes_of_packets()
 pub fn a_slot_brings_its_items()
     ensures one { (slot : Slot) (s : Joining) (by : ℕ) (opened : List Opened) (last : Joining) → IsSlot slot →
         Brings s (slot_bytes slot) by opened last → BringsItems s (came_by by slot) opened last }
-    ensures all { (slots : List Slot) (s : Joining) (taken : List Taken) (opened : List Opened) (last : Joining) → All IsSlot slots →
-        map (λ t. t.packet) taken ≡ map slot_bytes slots → BringsAll s taken opened last → BringsItems s (came_of slots taken) opened last }
+    ensures all { (slots : List Slot) (s : Joining) (taken : List Taken) (opened : List Opened) (last : Joining) →
+        All IsSlot slots →
+        map (λ t. t.packet) taken ≡ map slot_bytes slots → BringsAll s taken opened last →
+        BringsItems s (came_of slots taken) opened last }
 {}
 
 /// Messages of payload or name items are sent, each in a packet of its own, in a bundle, or in fragments. Where a front
 /// of what is sent of them is taken, only whole packets come out, and these are a front of the messages, in order.
 /// Where everything is taken they are the messages, and none is begun.
 pub fn slots_of_messages_give_a_front()
-    ensures { (messages : List (List ℕ)) (slots : List Slot) (taken : List Taken) (opened : List Opened) (last : Joining) →
+    ensures { (messages : List (List ℕ)) (slots : List Slot) (taken : List Taken) (opened : List Opened)
+        (last : Joining) →
         All IsInner messages → All IsSlot slots → IsFrontOf (flat_map slot_items slots) (flat_map items_of messages) →
         map (λ t. t.packet) taken ≡ map slot_bytes slots → BringsAll fresh taken opened last →
         OpensFront messages (flat_map slot_items slots) opened last }
@@ -42,13 +47,17 @@ pub fn slots_of_messages_give_a_front()
 /// The same, step by step: what came so far is kept as the items that were taken and the messages that they gave.
 pub fn messages_are_given_step_by_step()
     ensures none { HasOpened [] [] fresh }
-    ensures more { (messages : List (List ℕ)) (items : List Item) (given : List (List ℕ)) (begun : Joining) (slots : List Slot) (taken : List Taken) (opened : List Opened) (last : Joining) →
-        HasOpened items given begun → All IsInner messages → IsFrontOf (items ++ flat_map slot_items slots) (flat_map items_of messages) → All IsSlot slots →
+    ensures more { (messages : List (List ℕ)) (items : List Item) (given : List (List ℕ)) (begun : Joining)
+        (slots : List Slot) (taken : List Taken) (opened : List Opened) (last : Joining) →
+        HasOpened items given begun → All IsInner messages →
+        IsFrontOf (items ++ flat_map slot_items slots) (flat_map items_of messages) → All IsSlot slots →
         map (λ t. t.packet) taken ≡ map slot_bytes slots → BringsAll begun taken opened last →
         HasOpened (items ++ flat_map slot_items slots) (given ++ packets_in opened) last × All IsWholePacket opened }
-    ensures front { (messages : List (List ℕ)) (items : List Item) (given : List (List ℕ)) (begun : Joining) → HasOpened items given begun →
+    ensures front { (messages : List (List ℕ)) (items : List Item) (given : List (List ℕ)) (begun : Joining) →
+        HasOpened items given begun →
         All IsInner messages → IsFrontOf items (flat_map items_of messages) → IsFrontOf given messages }
-    ensures every { (messages : List (List ℕ)) (items : List Item) (given : List (List ℕ)) (begun : Joining) → HasOpened items given begun →
+    ensures every { (messages : List (List ℕ)) (items : List Item) (given : List (List ℕ)) (begun : Joining) →
+        HasOpened items given begun →
         All IsInner messages → items ≡ flat_map items_of messages → (given ≡ messages) × (begun ≡ fresh) }
 {}
 
@@ -59,5 +68,6 @@ pub fn what_is_opened_is_traced()
     ensures begun { (before : List Taken) (taken : List Taken) (s : Joining) (opened : List Opened) (last : Joining) →
         IsBegunBy (IsAmong before) s → BringsAll s taken opened last → IsBegunBy (IsAmong (before ++ taken)) last }
     ensures opened { (before : List Taken) (taken : List Taken) (s : Joining) (opened : List Opened) (last : Joining) →
-        IsBegunBy (IsAmong before) s → BringsAll s taken opened last → All (IsOpenedBy (IsAmong (before ++ taken))) opened }
+        IsBegunBy (IsAmong before) s → BringsAll s taken opened last →
+        All (IsOpenedBy (IsAmong (before ++ taken))) opened }
 {}

@@ -161,7 +161,8 @@ impl Reassembly {
         by: u64,
     ) -> Result<OpenedList, NoMemory>
         ensures ok { let it = piece_of fragment.fragment_type fragment.number bytes.now in
-            IfOk result (λ opened. (opened ≡ joined_members (answer_of self.old it by)) × (self.new ≡ after self.old it by)) }
+            IfOk result (λ opened. (opened ≡ joined_members (answer_of self.old it by)) ×
+            (self.new ≡ after self.old it by)) }
         ensures err { OnErr result (self.new ≡ self.old) }
     {
         let mut opened = Vec::new(alloc);

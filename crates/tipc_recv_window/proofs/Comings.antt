@@ -1,9 +1,9 @@
 -- What a packet makes of a window in which the wanted one isn't held.
-use Rattle.std.proofs.Common.{◌≡◌, ◌≢◌, ℕ, ◌+◌, ◌-◌, ◌<◌, ◌≤◌, ◌^◌, ◌==◌, if◌then◌else◌, Bool, true, false, List, [], ◌∷◌, ◌++◌, length, drop, Option, Some, None, refl, sym, ap, ◌∙◌, arith, append-nil, append_assoc}
+use Rattle.std.proofs.Common.{◌≡◌, ◌≢◌, ℕ, ◌+◌, ◌-◌, ◌<◌, ◌≤◌, ◌^◌, ◌==◌, if◌then◌else◌, Bool, true, false, List, [], ◌∷◌, ◌++◌, length, drop, Option, Some, None, refl, sym, ap, ◌∙◌, arith, append-nil}
 use Rattle.std.specs.Prelude.{replicate, slice_index_or, slice_set}
 use Rattle.std.proofs.lemmas.Bool.{eqb-true}
 use Rattle.std.proofs.lemmas.Bool.Decides.{nat_tests}
-use Rattle.std.proofs.lemmas.List.{drop-drop, get_or-drop, length-drop, replicate_more}
+use Rattle.std.proofs.lemmas.List.{drop-drop, get_or-drop, length-drop}
 use Rattle.tipc_types.specs.Position.{number_of}
 use Rattle.tipc_types.specs.declared.packet_lists.Taken.{Taken}
 use Rattle.tipc_recv_window.specs.declared.outcomes.Place.{Place}
@@ -134,11 +134,6 @@ IsReceiving-passed r count held is few counted h =
           h.numbers (count + d) packet there ∙ ap number_of (let sum : r.wanted + (count + d) ≡ r.wanted + count + d = omega arith in sum);
     }
 
--- one more empty place
-pub widened : (held before : List (Option Taken)) (n m : ℕ) → held ≡ before ++ replicate n None → n + 1 ≡ m → held ++ None ∷ [] ≡ before ++ replicate m None
-widened held before n m is more =
-    ap (λ (xs : List (Option Taken)). xs ++ None ∷ []) is ∙ append_assoc before (replicate n None) (None ∷ []) ∙ ap (λ (xs : List (Option Taken)). before ++ xs) (replicate_more n None ∙ ap (λ k. replicate k None) more)
-
 -- a window keeps its facts where a packet is held at its distance
 pub IsReceiving-held : (r : Receiving) (d : ℕ) (packet : Taken) (held : List (Option Taken)) → held ≡ filled r.held d packet → d ≡ past_wanted r packet.number → packet.number < 2 ^ 16
     → d < 50 → r.wanted + 50 ≤ 2 ^ 62 → IsReceiving r → IsReceiving (record { wanted = r.wanted; held = held })
@@ -175,13 +170,6 @@ held_near r packet held a free is some =
     let told : deferred_at (place_at r (past_wanted r packet.number)) packet ≡ Some held = sym (ap (λ (x : Coming). x.held) is) ∙ some in
     let h = holds r (past_wanted r packet.number) packet held free told in
     rw (h.same) (h.near)
-
--- where none is told to be held, the packets that are taken leave the window
-pub passes_commits : (r : Receiving) (packet : Taken) (a : Coming) (after : Receiving) → next_of r ≡ None → a ≡ coming r packet → a.held ≡ None
-    → after ≡ record { wanted = r.wanted + a.count; held = drop a.count r.held } → after ≡ drained (with_packet r packet)
-passes_commits r packet a after free is none made =
-    let told : deferred_at (place_at r (past_wanted r packet.number)) packet ≡ None = sym (ap (λ (x : Coming). x.held) is) ∙ none in
-    made ∙ ap (λ (x : Coming). let s : Receiving = record { wanted = r.wanted + x.count; held = drop x.count r.held } in s) is ∙ passes r (past_wanted r packet.number) packet free told
 
 -- so the packets that are due with the wanted one are few
 pub due_few : (r : Receiving) (d : ℕ) (packet : Taken) → next_of r ≡ None → InOrder ≡ place_at r d → IsReceiving r → length (packet ∷ run_of (drop 1 r.held)) ≤ 50

@@ -145,7 +145,8 @@ impl RecvWindow {
     /// past 2^62 count as want of memory. (TIPC 2.0 draft, with a window of 50.)
     pub fn arrive(&mut self, number: u16, packet: Bytes, by: u64) -> Result<Place, NoMemory>
         ensures ok { IfOk result (λ place. (place ≡ place_at self.old (past_wanted self.old number))
-            × (self.new ≡ arrived_at self.old (past_wanted self.old number) (record { number = number; packet = packet; by = by }))) }
+            × (self.new ≡ arrived_at self.old (past_wanted self.old number)
+            (record { number = number; packet = packet; by = by }))) }
         ensures err { OnErr result (self.new ≡ self.old) }
         ensures not_old { OnErr result (place_at self.old (past_wanted self.old number) ≡ Place.Old → ⊥) }
         ensures window { IsReceiving self.new }
@@ -214,7 +215,8 @@ impl RecvWindow {
     pub fn commit(&mut self, arrival: WindowArrival)
         requires free { next_of self.old ≡ None }
         requires arrival { (packet : Taken) × (arrival ≡ coming self.old packet) }
-        ensures after { (packet : Taken) → arrival ≡ coming self.old packet → self.new ≡ drained (with_packet self.old packet) }
+        ensures after { (packet : Taken) → arrival ≡ coming self.old packet →
+            self.new ≡ drained (with_packet self.old packet) }
     {
         let WindowArrival {
             held,
@@ -246,7 +248,8 @@ impl RecvWindow {
     /// An arrival after which the packet is held.
     fn holding(&self, alloc: Global, packet: Taken) -> Result<WindowArrival, NoMemory>
         requires { self.now.wanted + 50 ≤ 2 ^ 62 }
-        ensures { IfOk result (λ arrival. arrival ≡ record { wanted = self.now.wanted; place = Place.Deferred; held = Some packet; count = 0 }) }
+        ensures { IfOk result (λ arrival. arrival ≡
+            record { wanted = self.now.wanted; place = Place.Deferred; held = Some packet; count = 0 }) }
     {
         Ok(WindowArrival {
             wanted: self.wanted,
@@ -289,7 +292,11 @@ impl RecvWindow {
         requires near { past_wanted self.old packet.number < 50 }
         requires number { packet.number < 2 ^ 16 }
         requires counted { self.old.wanted + 50 ≤ 2 ^ 62 }
-        ensures { self.new ≡ record { wanted = self.old.wanted; held = filled self.old.held (past_wanted self.old packet.number) packet } }
+        ensures { self.new ≡ record {
+          wanted = self.old.wanted;
+          held = filled self.old.held
+              (past_wanted self.old packet.number) packet;
+        } }
     {
         let distance = self.distance(packet.number);
         let mut held = room;

@@ -8,7 +8,7 @@ ghost use Rattle.tipc_report.specs.Answering.{is_shown, is_visible, body_text, p
 
 use crate::words::word;
 use std::alloc::Global;
-use tipc_types::{Bytes, Message, NoMemory, PortId};
+use tipc_types::{Body, Message, NoMemory, PortId};
 
 /// The most bytes of a body that is shown.
 const LONGEST_SHOWN: usize = 64;
@@ -37,7 +37,8 @@ fn shown(body: &[u8]) -> &[u8]
 
 /// What comes before the body of a message.
 fn message_head(alloc: Global, from: PortId, code: u8, len: usize) -> Result<Vec<u8>, NoMemory>
-    ensures { IfOk result (λ text. text.items ≡ spaced (codes "got" ∷ port_text from.node.word from.port ∷ decimal code ∷ decimal len ∷ [])) }
+    ensures { IfOk result (λ text. text.items ≡ spaced (codes "got" ∷ port_text from.node.word from.port ∷
+        decimal code ∷ decimal len ∷ [])) }
 {
     let node = from.node.word % 4096;
     let port = from.port;
@@ -46,8 +47,9 @@ fn message_head(alloc: Global, from: PortId, code: u8, len: usize) -> Result<Vec
 
 /// The text of a user's message that was taken.
 #[tactic(auto, using(crate::proofs::Spacing::spaced_more))]
-fn payload_text(alloc: Global, from: PortId, code: u8, body: &Bytes) -> Result<Vec<u8>, NoMemory>
-    ensures { IfOk result (λ text. text.items ≡ spaced (codes "got" ∷ port_text from.node.word from.port ∷ decimal code ∷ decimal (length body.now) ∷ body_text body.now ∷ [])) }
+fn payload_text(alloc: Global, from: PortId, code: u8, body: &Body) -> Result<Vec<u8>, NoMemory>
+    ensures { IfOk result (λ text. text.items ≡ spaced (codes "got" ∷ port_text from.node.word from.port ∷
+        decimal code ∷ decimal (length body.now) ∷ body_text body.now ∷ [])) }
 {
     let mut text = message_head(alloc, from, code, body.len())?;
     text.push(b' ')?;

@@ -101,7 +101,8 @@ fn nodes_text(alloc: Global, from: Addr, to: To) -> Result<Vec<u8>, NoMemory>
 /// The text of a frame.
 #[tactic(auto, using(crate::proofs::Spacing::two_and_one))]
 fn frame_text(alloc: Global, from: Addr, to: To, bytes: &[u8]) -> Result<Vec<u8>, NoMemory>
-    ensures { IfOk result (λ text. text.items ≡ spaced (decimal (from.word % 4096) ∷ to_text to ∷ hex_text bytes.now ∷ [])) }
+    ensures { IfOk result (λ text. text.items ≡ spaced (decimal (from.word % 4096) ∷ to_text to ∷
+        hex_text bytes.now ∷ [])) }
 {
     let mut text = nodes_text(alloc, from, to)?;
     let digits = hex_text(alloc, bytes)?;

@@ -50,7 +50,8 @@ pub fn event(
     bounds: (u32, u32),
     port: (u32, u32),
 ) -> Result<Vec<u8>, NoMemory>
-    ensures { IfOk result (λ text. text.items ≡ spaced (word.now ∷ decimal bounds.0 ∷ decimal bounds.1 ∷ port_text port.0 port.1 ∷ [])) }
+    ensures { IfOk result (λ text. text.items ≡ spaced (word.now ∷ decimal bounds.0 ∷ decimal bounds.1 ∷
+        port_text port.0 port.1 ∷ [])) }
 {
     let (lower, upper) = bounds;
     let (address, port) = port;
@@ -60,7 +61,8 @@ pub fn event(
 
 /// The words of a flow.
 pub fn flow(alloc: Global, accepted: u64, delivered: u64) -> Result<Vec<u8>, NoMemory>
-    ensures { IfOk result (λ text. text.items ≡ spaced (codes "accepted" ∷ decimal accepted ∷ codes "delivered" ∷ decimal delivered ∷ [])) }
+    ensures { IfOk result (λ text. text.items ≡ spaced (codes "accepted" ∷ decimal accepted ∷ codes "delivered" ∷
+        decimal delivered ∷ [])) }
 {
     Ok(format!(in alloc; "accepted {accepted} delivered {delivered}")?.into_bytes())
 }

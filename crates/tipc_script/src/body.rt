@@ -7,7 +7,7 @@ ghost use Rattle.tipc_script.specs.Kinds.{is_text, is_count, is_body, is_visible
 
 use crate::numbers::number_in;
 use std::alloc::Global;
-use tipc_types::{Bytes, NoMemory};
+use tipc_types::{Body, Bytes, NoMemory};
 
 /// The most characters of a body that is written out.
 const LONGEST_TEXT: usize = 64;
@@ -60,14 +60,15 @@ fn pattern(alloc: Global, count: u32) -> Result<Bytes, NoMemory>
 
 /// The bytes that a token stands for as a body; None where it is no body.
 #[tactic(auto, unfolding(crate::specs::Kinds::body_of))]
-pub fn body_in(alloc: Global, token: &[u8]) -> Result<Option<Bytes>, NoMemory>
+pub fn body_in(alloc: Global, token: &[u8]) -> Result<Option<Body>, NoMemory>
     ensures { IfOk result (λ body. body ≡ (if is_body token.now then Some (body_of token.now) else None)) }
 {
     if let Some(count) = count_in(token) {
-        return Ok(Some(pattern(alloc, count)?));
+        let bytes = pattern(alloc, count)?;
+        return Ok(Some(Body::from_vec(bytes.into_vec())?));
     }
     if let Some(text) = text_in(token) {
-        return Ok(Some(Bytes::from_slice(alloc, text)?));
+        return Ok(Some(Body::from_slice(alloc, text)?));
     }
     Ok(None)
 }

@@ -4,7 +4,7 @@ ghost use Rattle.std.specs.Prelude.{◌≡◌, IfErr, IfOk};
 
 use crate::faults::LineFault;
 use std::alloc::Global;
-use tipc_types::{Bytes, Importance, PortId, Scope, Sequence};
+use tipc_types::{Body, Importance, PortId, Scope, Sequence};
 
 /// Whom a message is for.
 #[derive(Clone, Copy, Debug, PartialEq, Eq)]
@@ -153,7 +153,7 @@ pub enum Line {
         /// How important it is.
         importance: Importance,
         /// The user's bytes.
-        body: Bytes,
+        body: Body,
     },
     /// A message to a port or by name, again and again until one isn't sent.
     Repeat {
@@ -168,7 +168,7 @@ pub enum Line {
         /// How important it is.
         importance: Importance,
         /// The user's bytes.
-        body: Bytes,
+        body: Body,
     },
     /// A frame arrives.
     Arrive {
@@ -211,7 +211,7 @@ pub enum Line {
         /// How many times at most, from 1 to 1,000,000.
         times: u32,
         /// The user's bytes.
-        body: Bytes,
+        body: Body,
     },
     /// The nodes go on until no packet is under way, for so many rounds at most.
     Settle {

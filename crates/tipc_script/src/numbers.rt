@@ -23,7 +23,8 @@ fn has_plain_front(token: &[u8]) -> bool
 /// The number that a token's digits stand for; None where not each byte is a digit.
 fn digits_in(token: &[u8]) -> Option<u64>
     requires { length token.now ≤ 10 }
-    ensures { MatchOption result (AllDigits 10 token.now → ⊥) (λ number. AllDigits 10 token.now × (number ≡ number_of token.now)) }
+    ensures { MatchOption result (AllDigits 10 token.now → ⊥) (λ number. AllDigits 10 token.now ×
+        (number ≡ number_of token.now)) }
 {
     let mut number: u64 = 0;
     for byte in token {
@@ -38,7 +39,8 @@ fn digits_in(token: &[u8]) -> Option<u64>
 /// The number that a token spells without sign or leading zero; None where it spells none below
 /// 10,000,000,000.
 fn number_spelled(token: &[u8]) -> Option<u64>
-    ensures { MatchOption result ((n : ℕ) → n < 10 ^ 10 → token.now ≡ decimal n → ⊥) (λ n. (n ≡ number_of token.now) × (token.now ≡ decimal n)) }
+    ensures { MatchOption result ((n : ℕ) → n < 10 ^ 10 → token.now ≡ decimal n →
+        ⊥) (λ n. (n ≡ number_of token.now) × (token.now ≡ decimal n)) }
 {
     if token.len() > MOST_DIGITS || !has_plain_front(token) {
         return None;

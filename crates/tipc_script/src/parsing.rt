@@ -85,7 +85,8 @@ fn first_word(token: &[u8]) -> Option<FirstWord>
 
 /// The first word of a line about sockets, services, subscriptions, messages, frames and links, if the token is one.
 fn service_word(token: &[u8]) -> Option<FirstWord>
-    ensures { MatchOption result (row_among service_rows token.now ≡ None) (λ word. row_among service_rows token.now ≡ Some (row_for word)) }
+    ensures { MatchOption result (row_among service_rows token.now ≡ None)
+        (λ word. row_among service_rows token.now ≡ Some (row_for word)) }
 {
     if is_word(token, b"socket") {
         return Some(FirstWord::Socket);
@@ -104,7 +105,8 @@ fn service_word(token: &[u8]) -> Option<FirstWord>
 
 /// The first word of a line about subscriptions, messages, frames and links, if the token is one.
 fn subscription_word(token: &[u8]) -> Option<FirstWord>
-    ensures { MatchOption result (row_among subscription_rows token.now ≡ None) (λ word. row_among subscription_rows token.now ≡ Some (row_for word)) }
+    ensures { MatchOption result (row_among subscription_rows token.now ≡ None)
+        (λ word. row_among subscription_rows token.now ≡ Some (row_for word)) }
 {
     if is_word(token, b"subscribe") {
         return Some(FirstWord::Subscribe);
@@ -120,7 +122,8 @@ fn subscription_word(token: &[u8]) -> Option<FirstWord>
 
 /// The first word of a line about messages, frames and links, if the token is one.
 fn traffic_word(token: &[u8]) -> Option<FirstWord>
-    ensures { MatchOption result (row_among traffic_rows token.now ≡ None) (λ word. row_among traffic_rows token.now ≡ Some (row_for word)) }
+    ensures { MatchOption result (row_among traffic_rows token.now ≡ None)
+        (λ word. row_among traffic_rows token.now ≡ Some (row_for word)) }
 {
     if is_word(token, b"send") {
         return Some(FirstWord::Send);
@@ -142,7 +145,8 @@ fn traffic_word(token: &[u8]) -> Option<FirstWord>
 
 /// The first word of a line about frames and links, if the token is one.
 fn frame_word(token: &[u8]) -> Option<FirstWord>
-    ensures { MatchOption result (row_among frame_rows token.now ≡ None) (λ word. row_among frame_rows token.now ≡ Some (row_for word)) }
+    ensures { MatchOption result (row_among frame_rows token.now ≡ None) (λ word. row_among frame_rows token.now ≡
+        Some (row_for word)) }
 {
     if is_word(token, b"arrive") {
         return Some(FirstWord::Arrive);
@@ -225,8 +229,10 @@ fn is_remark(line: &[u8]) -> bool
 fn line_of_words(alloc: Global, line: &[u8]) -> Result<Command, LineFault>
     requires { length line.now < 2 ^ 31 }
     ensures fault { Tells result (fault_by (row_of (first_token (whole line.now))) (behind (whole line.now))) }
-    ensures line { IfOk result (λ c. c.line ≡ asked_by (row_of (first_token (whole line.now))) (behind (whole line.now))) }
-    ensures nodes { IfOk result (λ c. c.nodes ≡ nodes_by (row_of (first_token (whole line.now))) (behind (whole line.now))) }
+    ensures line { IfOk result (λ c. c.line ≡ asked_by (row_of (first_token (whole line.now)))
+        (behind (whole line.now))) }
+    ensures nodes { IfOk result (λ c. c.nodes ≡ nodes_by (row_of (first_token (whole line.now)))
+        (behind (whole line.now))) }
 {
     let mut tokens = Tokens::new(line);
     let Some(token) = tokens.next() else {

@@ -13,7 +13,7 @@ use crate::lines::{Filter, NodeToken};
 use crate::numbers::number_in;
 use std::alloc::Global;
 use std::marker::Model;
-use tipc_types::{Bytes, Importance, Scope};
+use tipc_types::{Body, Importance, Scope};
 
 /// The highest number of a port, a service type, an instance, a key, a timeout or a subscription.
 pub const HIGHEST_NUMBER: u32 = u32::MAX;
@@ -61,17 +61,11 @@ impl<'a> Tokens<'a> {
         }
     }
 
-    /// Where a missing token would be: the line's length plus 1.
-    pub fn end(&self) -> u32
-        ensures { result ≡ self.now.end }
-    {
-        self.end
-    }
-
     /// The next token, which is taken; None where none is left.
     pub fn next(&mut self) -> Option<&'a [u8]>
         ensures none { IfNone result ((self.old.tokens ≡ []) × (self.new ≡ self.old)) }
-        ensures some { IfSome result (λ token. (self.old.tokens ≡ token.now ∷ drop 1 self.old.tokens) × (self.new ≡ behind self.old)) }
+        ensures some { IfSome result (λ token. (self.old.tokens ≡ token.now ∷ drop 1 self.old.tokens) ×
+            (self.new ≡ behind self.old)) }
     {
         let bytes = self.rest?;
         let (token, rest) = token_at_front(bytes);
@@ -82,7 +76,8 @@ impl<'a> Tokens<'a> {
     /// The next token, which passes a test or not: a fault exactly where none is left.
     #[tactic(auto, unfolding(crate::specs::Faults::missing_fault))]
     fn token(&mut self) -> Result<&'a [u8], LineFault>
-        ensures ok { IfOk result (λ token. (self.old.tokens ≡ token.now ∷ drop 1 self.old.tokens) × (self.new ≡ behind self.old)) }
+        ensures ok { IfOk result (λ token. (self.old.tokens ≡ token.now ∷ drop 1 self.old.tokens) ×
+            (self.new ≡ behind self.old)) }
         ensures fault { Tells result (missing_fault self.old) }
     {
         let Some(token) = self.next() else {
@@ -97,7 +92,8 @@ impl<'a> Tokens<'a> {
     /// The next token as a number from `low` to `high`.
     #[tactic(auto, unfolding(crate::specs::Faults::first_fault, crate::specs::Faults::missing_fault))]
     pub fn number(&mut self, low: u32, high: u32) -> Result<u32, LineFault>
-        ensures ok { IfOk result (λ number. (self.new ≡ behind self.old) × (number ≡ number_of (first_token self.old)) × (low ≤ number) × (number ≤ high)) }
+        ensures ok { IfOk result (λ number. (self.new ≡ behind self.old) ×
+            (number ≡ number_of (first_token self.old)) × (low ≤ number) × (number ≤ high)) }
         ensures fault { Tells result (first_fault (is_number low high) LineWhy.Number self.old) }
     {
         let place = self.place();
@@ -113,7 +109,8 @@ impl<'a> Tokens<'a> {
 
     /// The next token as the number of a node.
     pub fn node_number(&mut self) -> Result<u8, LineFault>
-        ensures ok { IfOk result (λ node. (self.new ≡ behind self.old) × (node ≡ number_of (first_token self.old)) × (1 ≤ node) × (node ≤ 32)) }
+        ensures ok { IfOk result (λ node. (self.new ≡ behind self.old) × (node ≡ number_of (first_token self.old)) ×
+            (1 ≤ node) × (node ≤ 32)) }
         ensures fault { Tells result (first_fault (is_number 1 32) LineWhy.Number self.old) }
     {
         Ok(self.number(1, 32)? as u8)
@@ -121,7 +118,9 @@ impl<'a> Tokens<'a> {
 
     /// The next token as the number of a node of which it is asked whether it is there.
     pub fn node(&mut self, there: bool) -> Result<NodeToken, LineFault>
-        ensures ok { IfOk result (λ token. (self.new ≡ behind self.old) × (token ≡ record { place = self.old.place; node = number_of (first_token self.old); there = there }) × (1 ≤ token.node) × (token.node ≤ 32)) }
+        ensures ok { IfOk result (λ token. (self.new ≡ behind self.old) ×
+            (token ≡ record { place = self.old.place; node = number_of (first_token self.old); there = there }) ×
+            (1 ≤ token.node) × (token.node ≤ 32)) }
         ensures fault { Tells result (first_fault (is_number 1 32) LineWhy.Number self.old) }
     {
         let place = self.place();
@@ -183,7 +182,8 @@ impl<'a> Tokens<'a> {
     /// The next token as a filter.
     #[tactic(auto, unfolding(crate::specs::Faults::first_fault, crate::specs::Faults::missing_fault))]
     pub fn filter(&mut self) -> Result<Filter, LineFault>
-        ensures ok { IfOk result (λ filter. (self.new ≡ behind self.old) × (filter ≡ filter_of (first_token self.old))) }
+        ensures ok { IfOk result (λ filter. (self.new ≡ behind self.old) ×
+            (filter ≡ filter_of (first_token self.old))) }
         ensures fault { Tells result (first_fault is_filter LineWhy.Word self.old) }
     {
         let place = self.place();
@@ -200,7 +200,8 @@ impl<'a> Tokens<'a> {
     /// The next token as an importance.
     #[tactic(auto, unfolding(crate::specs::Faults::first_fault, crate::specs::Faults::missing_fault))]
     pub fn importance(&mut self) -> Result<Importance, LineFault>
-        ensures ok { IfOk result (λ importance. (self.new ≡ behind self.old) × (importance ≡ importance_of (first_token self.old))) }
+        ensures ok { IfOk result (λ importance. (self.new ≡ behind self.old) ×
+            (importance ≡ importance_of (first_token self.old))) }
         ensures fault { Tells result (first_fault is_importance LineWhy.Word self.old) }
     {
         let place = self.place();
@@ -216,7 +217,7 @@ impl<'a> Tokens<'a> {
 
     /// The bytes that the next token stands for as a body.
     #[tactic(auto, unfolding(crate::specs::Faults::first_fault, crate::specs::Faults::missing_fault))]
-    pub fn body(&mut self, alloc: Global) -> Result<Bytes, LineFault>
+    pub fn body(&mut self, alloc: Global) -> Result<Body, LineFault>
         ensures ok { IfOk result (λ body. (self.new ≡ behind self.old) × (body ≡ body_of (first_token self.old))) }
         ensures fault { Tells result (first_fault is_body LineWhy.Body self.old) }
     {
@@ -315,7 +316,8 @@ fn space_in(bytes: &[u8]) -> Option<usize>
 /// The token at the front of some bytes, and what stands behind the space after it, if there is one.
 fn token_at_front(bytes: &[u8]) -> (&[u8], Option<&[u8]>)
     ensures tokens { tokens_of bytes.now ≡ result.0.now ∷ pieces (option_copied result.1) }
-    ensures lengths { MatchOption result.1 (length bytes.now ≡ length result.0.now) (λ rest. length bytes.now ≡ length result.0.now + length rest.now + 1) }
+    ensures lengths { MatchOption result.1 (length bytes.now ≡ length result.0.now) (λ rest. length bytes.now ≡
+        length result.0.now + length rest.now + 1) }
 {
     let Some(len) = space_in(bytes) else {
         return (bytes, None);

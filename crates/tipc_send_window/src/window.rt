@@ -157,7 +157,8 @@ impl SendWindow {
 
     /// The last packet that waits: None exactly where none does.
     pub fn last(&self) -> Option<&[u8]>
-        ensures some { IfSome result (λ packet. slice_get self.now.waiting (length self.now.waiting - 1) ≡ Some packet.now) }
+        ensures some { IfSome result (λ packet. slice_get self.now.waiting (length self.now.waiting - 1) ≡
+            Some packet.now) }
         ensures none { IfNone result (self.now.waiting ≡ []) }
     {
         match self.waiting.back() {
@@ -182,7 +183,8 @@ impl SendWindow {
         ensures congested { limit ≤ length self.old.waiting →
             result ≡ Err (OfferFault.Congested (length self.old.unacked) (length self.old.waiting)) }
         ensures congested_only { (in_flight waiting : ℕ) → result ≡ Err (OfferFault.Congested in_flight waiting) →
-            (limit ≤ length self.old.waiting) × (in_flight ≡ length self.old.unacked) × (waiting ≡ length self.old.waiting) }
+            (limit ≤ length self.old.waiting) × (in_flight ≡ length self.old.unacked) ×
+            (waiting ≡ length self.old.waiting) }
         ensures err { OnErr result (self.new ≡ self.old) }
         ensures window { IsSending self.new }
     {
@@ -211,7 +213,8 @@ impl SendWindow {
         ensures some { IfSome result (λ number.
             (number ≡ number_of (self.old.numbered + 1)) × (self.new ≡ moved self.old)
             × (0 < length self.old.waiting) × (length self.old.unacked < 50)) }
-        ensures none { IfNone result ((self.new ≡ self.old) × ((self.old.waiting ≡ []) ⊎ (length self.old.unacked ≡ 50))) }
+        ensures none { IfNone result ((self.new ≡ self.old) ×
+            ((self.old.waiting ≡ []) ⊎ (length self.old.unacked ≡ 50))) }
         ensures window { IsSending self.new }
     {
         if self.in_flight() >= WINDOW {

@@ -5,7 +5,7 @@ use std::alloc::Global;
 use std::process::Abort;
 use std::test::Fail;
 use tipc_journal::{Arrivals, Entry, Journal};
-use tipc_types::{Answer, Bytes, Flow, Form, Importance, Message, PortId, Publication, Scope};
+use tipc_types::{Answer, Body, Flow, Form, Importance, Message, PortId, Publication, Scope};
 
 /// The contact of which the entries tell.
 const CONTACT: (u64, u64) = (4_294_967_297, 4_294_967_298);
@@ -33,7 +33,7 @@ fn hello(alloc: Global) -> Result<Message, Fail> {
         upper: 0,
         code: 0,
         droppable: false,
-        body: Bytes::from_slice(alloc, b"hello")?,
+        body: Body::from_slice(alloc, b"hello")?,
     })
 }
 

@@ -6,7 +6,7 @@ use std::process::Abort;
 use std::test::Fail;
 use tipc_name_table::Names;
 use tipc_sockets::*;
-use tipc_types::{Bytes, Form, Importance, Message, NoMemory, PortId, Publication, Scope};
+use tipc_types::{Body, Form, Importance, Message, NoMemory, PortId, Publication, Scope};
 
 /// A call at sockets, and what it answers.
 enum Call {
@@ -100,8 +100,8 @@ fn lived(alloc: Global, sockets: &Sockets, port: u32) -> Result<usize, NoMemory>
 }
 
 /// A multicast of port 7 of node 2 to the instances 6 and 7 of service type 100.
-fn multicast(alloc: Global) -> Message {
-    Message::Payload {
+fn multicast(alloc: Global) -> Result<Message, NoMemory> {
+    Ok(Message::Payload {
         importance: Importance::High,
         form: Form::Multicast,
         from: PortId {
@@ -117,8 +117,8 @@ fn multicast(alloc: Global) -> Message {
         upper: 7,
         code: 0,
         droppable: false,
-        body: Bytes::new(alloc),
-    }
+        body: Body::from_slice(alloc, b"")?,
+    })
 }
 
 /// What becomes of a message that arrived.
@@ -141,7 +141,7 @@ fn spreads(
     sockets: &mut Sockets,
     ports: &[u32],
 ) -> Result<(), Fail> {
-    let fate = fate_of(alloc, sockets, multicast(alloc))?;
+    let fate = fate_of(alloc, sockets, multicast(alloc)?)?;
     waits_at(rt, &fate, ports);
     Ok(())
 }

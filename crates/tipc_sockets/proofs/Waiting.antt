@@ -84,15 +84,3 @@ sure_fate s count waiting (Payload importance Named from to kind lower upper cod
 sure_fate s count waiting (Payload importance Direct from to kind lower upper code droppable body) some h =
     ap (λ why. one_port_fate s.own waiting to.port why (Payload importance Direct from to kind lower upper code droppable body)) (room_in count (queue_at s to.port) some h)
 sure_fate s count waiting (Items withdrawal items) some h = absurd cc
-
--- its port has room
-pub sure_room : (s : SocketTable) (m : Message) → surely_waits s 1 m ≡ true → has_room (queue_at s (port_of m)) ≡ true
-sure_room s (Payload importance Connected from to kind lower upper code droppable body) h = absurd cc
-sure_room s (Payload importance Multicast from to kind lower upper code droppable body) h = absurd cc
-sure_room s (Payload importance Named from to kind lower upper code droppable body) h = right (is_offered s.live to.port kind lower) (queue_at s to.port) h
-  where
-    right : (a : Bool) (found : Option (List Message)) → (a && has_places 1 found) ≡ true → has_room found ≡ true
-    right true found g = room_there found g
-    right false found g = absurd cc
-sure_room s (Payload importance Direct from to kind lower upper code droppable body) h = room_there (queue_at s to.port) h
-sure_room s (Items withdrawal items) h = absurd cc

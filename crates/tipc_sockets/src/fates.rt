@@ -5,7 +5,7 @@ ghost use Rattle.tipc_journal.specs.Dues.{returned_message};
 ghost use Rattle.tipc_sockets.specs.Fates.{port_of, unqueued_fate};
 
 use tipc_journal::PortList;
-use tipc_types::{Addr, Bytes, Form, Message};
+use tipc_types::{Addr, Form, Message};
 
 /// The most bytes of a message that go back to its sender. (This project's profile.)
 const MOST_RETURNED_BYTES: usize = 1_024;
@@ -39,8 +39,8 @@ pub(crate) fn returned(m: Message, why: u8) -> Message
             body,
             ..
         } => {
-            let mut bytes = body.into_vec();
-            bytes.truncate(MOST_RETURNED_BYTES);
+            let mut first = body;
+            first.truncate(MOST_RETURNED_BYTES);
             Message::Payload {
                 importance,
                 form: Form::Direct,
@@ -51,7 +51,7 @@ pub(crate) fn returned(m: Message, why: u8) -> Message
                 upper: 0,
                 code: why,
                 droppable: false,
-                body: Bytes::from_vec(bytes),
+                body: first,
             }
         }
         Message::Items { withdrawal, items } => Message::Items { withdrawal, items },

@@ -43,11 +43,14 @@ pub fn entries_tell_of_sockets()
 pub fn fates_tell_of_sockets()
     ensures may { (own : Addr) (J : List Entry) (d : Due) (front : List Entry) (s : SocketTable) (m : Message) →
         (arrived : Bool) → (waiting : Option ℕ) → AreTold own J d front s → AreSockets s → is_payload m ≡ true →
-        is_some waiting ≡ is_some (contact (J ++ front) (origin_of m)) → (arrived ≡ false → is_for_one_there s m ≡ true) →
+        is_some waiting ≡ is_some (contact (J ++ front) (origin_of m)) →
+        (arrived ≡ false → is_for_one_there s m ≡ true) →
         IsFate (scene_at own J d front) m arrived (fate_entry (fate s arrived waiting m)) }
     ensures told { (own : Addr) (J : List Entry) (d : Due) (front : List Entry) (s : SocketTable) (m : Message) →
-        (arrived : Bool) → (waiting : Option ℕ) → AreTold own J d front s → AreSockets s → due_behind own d front ≡ FateDue m arrived →
-        AreTold own J d (front ++ fate_entry (fate s arrived waiting m) ∷ []) (after_fate s m (fate s arrived waiting m)) }
+        (arrived : Bool) → (waiting : Option ℕ) → AreTold own J d front s → AreSockets s →
+        due_behind own d front ≡ FateDue m arrived →
+        AreTold own J d (front ++ fate_entry (fate s arrived waiting m) ∷ [])
+        (after_fate s m (fate s arrived waiting m)) }
 {}
 
 /// Where the publications at a port are withdrawn one after the other, in the order of publishing, nothing is
@@ -82,9 +85,11 @@ pub fn steps_tell_of_sockets()
         ((ports : List ℕ) → sockets_after ports st.event st.answer ≡ ports) → made_by st.event st.answer ≡ None →
         ((port : ℕ) → is_taking port st.event st.answer ≡ false) → is_tick st.event ≡ false →
         ((n : ℕ) → event_given n st.event st.answer ≡ None) → AreTold own (J ++ step_entries st) later [] s }
-    ensures given { (own : Addr) (J : List Entry) (st : NodeStep) (s : SocketTable) (later : Due) (number : ℕ) (e : Event) →
+    ensures given { (own : Addr) (J : List Entry) (st : NodeStep) (s : SocketTable) (later : Due) (number : ℕ)
+        (e : Event) →
         IsWhole J → IsInside st.inside → AreTold own J (first_due own st.event st.answer) st.inside s →
-        st.event ≡ NextEvent number → st.answer ≡ Next e → slice_get (events_left (of_number s.watchers number)) 0 ≡ Some e →
+        st.event ≡ NextEvent number → st.answer ≡ Next e →
+        slice_get (events_left (of_number s.watchers number)) 0 ≡ Some e →
         AreTold own (J ++ step_entries st) later []
         (with_watchers s (with_kept s.watchers (taken_one number s.watchers.kept))) }
     ensures passed { (own : Addr) (J : List Entry) (st : NodeStep) (s : SocketTable) (later : Due) →

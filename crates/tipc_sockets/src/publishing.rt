@@ -173,7 +173,8 @@ pub(crate) fn those_of(
 
 /// Withdraws those of a node that have the key of one that is live at a port. It takes no memory.
 pub(crate) fn withdraw_those_at<N: Names>(names: &mut N, live: &[Publication], own: Addr, port: u32)
-    ensures { N.table names.new ≡ filter (λ p. not (is_of own.word p && is_key_at port live.now p)) (N.table names.old) }
+    ensures { N.table names.new ≡ filter (λ p. not (is_of own.word p && is_key_at port live.now p))
+        (N.table names.old) }
 {
     for p in live {
         if p.at.port == port {
@@ -214,7 +215,8 @@ pub(crate) fn note_added(
     p: &Publication,
     count: usize,
 ) -> Result<(), NoMemory>
-    ensures live { OnOk result (live.new.items ≡ (if is_of own.word p.now then live.old.items ++ p.now ∷ [] else live.old.items)) }
+    ensures live { OnOk result (live.new.items ≡ (if is_of own.word p.now then live.old.items ++ p.now ∷ [] else
+        live.old.items)) }
     ensures told { OnOk result (topology.new ≡ changed (TableChange.Added p.now) topology.old) }
     ensures places { OnOk result (count ≤ leaving.new) }
     ensures kept { leaving.old ≤ leaving.new }

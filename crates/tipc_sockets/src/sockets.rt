@@ -345,7 +345,8 @@ impl Sockets {
     /// The ports of these publications that have room, rising.
     fn hearers(&self, alloc: Global, aimed: &[Publication]) -> Result<PortList, NoMemory>
         ensures { IfOk result (λ ports. ports ≡
-            filter (λ port. list_any (is_at port) aimed.now && has_room (queue_at self.now port)) self.now.ports.present) }
+            filter (λ port. list_any (is_at port) aimed.now && has_room
+            (queue_at self.now port)) self.now.ports.present) }
     {
         let ports = self
             .ports
@@ -565,7 +566,8 @@ impl Sockets {
         ensures ticked { self.new ≡
             with_watchers self.old (with_kept self.old.watchers (map ticked self.old.watchers.kept)) }
         ensures parts { self.new ≡
-            with_watchers self.old (passed (fold (λ t n. ended_at n t) self.old.watchers (due self.old.watchers.kept))) }
+            with_watchers self.old (passed (fold (λ t n. ended_at n t) self.old.watchers
+            (due self.old.watchers.kept))) }
     {
         self.topology.pass();
     }

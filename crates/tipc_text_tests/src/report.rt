@@ -4,8 +4,8 @@ use std::test::Fail;
 use tipc_report::{Told, Which, print, print_bad, print_limit};
 use tipc_script::LineWhy;
 use tipc_types::{
-    Addr, Answer, Arrival, Bytes, Event, Form, Importance, LinkState, Message, NoMemory, PeerLinks,
-    PortId, Sequence, Subscription, To, Why,
+    Addr, Answer, Arrival, Body, Bytes, Event, Form, Importance, LinkState, Message, NoMemory,
+    PeerLinks, PortId, Sequence, Subscription, To, Why,
 };
 
 /// Appends the line of an answer.
@@ -14,7 +14,7 @@ fn tell(line: u32, answer: Answer, report: &mut Vec<u8>) -> Result<(), NoMemory>
 }
 
 /// A message from port 1 of node 1.
-fn message(code: u8, body: Bytes) -> Answer {
+fn message(code: u8, body: Body) -> Answer {
     Answer::Received(Message::Payload {
         importance: Importance::Low,
         form: Form::Direct,
@@ -74,15 +74,19 @@ fn messages_show_short_visible_bodies(rt: HostRuntime) -> Result<(), Fail> {
     let mut report = Vec::new(rt.alloc());
     tell(
         1,
-        message(0, Bytes::from_slice(rt.alloc(), b"hello")?),
+        message(0, Body::from_slice(rt.alloc(), b"hello")?),
         &mut report,
     )?;
     tell(
         2,
-        message(2, Bytes::from_slice(rt.alloc(), b"a b")?),
+        message(2, Body::from_slice(rt.alloc(), b"a b")?),
         &mut report,
     )?;
-    tell(3, message(0, Bytes::new(rt.alloc())), &mut report)?;
+    tell(
+        3,
+        message(0, Body::from_slice(rt.alloc(), b"")?),
+        &mut report,
+    )?;
     let expected = b"1 got 1:1 0 5 hello\n2 got 1:1 2 3 -\n3 got 1:1 0 0 -\n";
     assert_eq!(rt; report.as_slice(), expected.as_slice());
     Ok(())

@@ -6,7 +6,7 @@ use std::alloc::Global;
 use std::process::Abort;
 use std::test::Fail;
 use tipc_script::{Command, Destination, Filter, Line, LineFault, LineWhy, NodeToken, parse_line};
-use tipc_types::{Addr, Bytes, Importance, PortId, Scope};
+use tipc_types::{Addr, Body, Importance, PortId, Scope};
 
 /// A line that is refused for each reason, with its place. (More stand in rows/bad_lines.table.)
 const BAD_LINES: [(&[u8], u32, LineWhy); 7] = [
@@ -166,7 +166,7 @@ fn lines_of_many_messages_are_read(rt: HostRuntime) -> Result<(), Fail> {
         to_node: 2,
         to_port: 9,
         times: 1_000_000,
-        body: Bytes::from_slice(rt.alloc(), b"a")?,
+        body: Body::from_slice(rt.alloc(), b"a")?,
     };
     let nodes = [old_node(7, 1), old_node(11, 2)];
     let text = b"burst 1 7 2 9 1000000 =a";
@@ -203,7 +203,7 @@ fn sends_that_are_repeated_are_read(rt: HostRuntime) -> Result<(), Fail> {
             port: 7,
             to,
             importance: Importance::High,
-            body: Bytes::from_slice(rt.alloc(), b"a")?,
+            body: Body::from_slice(rt.alloc(), b"a")?,
         };
         is_read_as(&rt, rt.alloc(), text, repeat, &[old_node(15, 1)])?;
     }
@@ -230,7 +230,7 @@ fn sends_are_read_with_their_bodies(rt: HostRuntime) -> Result<(), Fail> {
             port: u32::MAX,
             to,
             importance: Importance::Low,
-            body: Bytes::from_slice(rt.alloc(), b"hello")?,
+            body: Body::from_slice(rt.alloc(), b"hello")?,
         };
         is_read_as(&rt, rt.alloc(), text, send, &[old_node(6, 1)])?;
     }

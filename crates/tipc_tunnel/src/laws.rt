@@ -11,28 +11,34 @@ ghost use Rattle.tipc_tunnel.specs.Tunnels.{may_stand_inside, numbered, tunnel_p
 pub fn tunnels_are_packets()
     ensures fits { (t : Tunnelled) → IsTunnel t → Fits (tunnel_packet t) }
     ensures sent { (t : Tunnelled) → (acknowledgement : ℕ) → (sequence : ℕ) → (previous : ℕ) → IsTunnel t →
-        acknowledgement < 2 ^ 16 → sequence < 2 ^ 16 → previous < 2 ^ 32 → Fits (sent_as acknowledgement sequence previous (tunnel_packet t)) }
+        acknowledgement < 2 ^ 16 → sequence < 2 ^ 16 → previous < 2 ^ 32 →
+        Fits (sent_as acknowledgement sequence previous (tunnel_packet t)) }
     ensures size { (t : Tunnelled) → length (spelling (tunnel_packet t)) ≡ 48 + length t.inner }
 {}
 
 /// A tunnel packet that was sent, under whatever numbers and by whatever node, carries what was put into it, and nothing else.
 pub fn wrapped_packets_are_unwrapped()
-    ensures carried { (t : Tunnelled) → (packet : Fields) → (acknowledgement : ℕ) → (sequence : ℕ) → (previous : ℕ) → IsTunnel t →
+    ensures carried { (t : Tunnelled) → (packet : Fields) → (acknowledgement : ℕ) → (sequence : ℕ) → (previous : ℕ) →
+        IsTunnel t →
         acknowledgement < 2 ^ 16 → sequence < 2 ^ 16 → previous < 2 ^ 32 → Fits packet →
         stamped acknowledgement sequence previous (spelling (tunnel_packet t)) ≡ spelling packet → Carries packet t }
-    ensures alone { (packet : Fields) → (t : Tunnelled) → (u : Tunnelled) → Carries packet t → Carries packet u → t ≡ u }
+    ensures alone { (packet : Fields) → (t : Tunnelled) → (u : Tunnelled) → Carries packet t → Carries packet u →
+        t ≡ u }
 {}
 
 /// Two tunnel packets that are spelled alike are the same.
 pub fn one_tunnel_a_packet()
-    ensures { (t : Tunnelled) → (u : Tunnelled) → IsTunnel t → IsTunnel u → spelling (tunnel_packet t) ≡ spelling (tunnel_packet u) → t ≡ u }
+    ensures { (t : Tunnelled) → (u : Tunnelled) → IsTunnel t → IsTunnel u →
+        spelling (tunnel_packet t) ≡ spelling (tunnel_packet u) → t ≡ u }
 {}
 
 /// An inner packet under another number is the same packet but for that number, and may stand inside a tunnel packet. A packet
 /// that has its number is as it was.
 pub fn inner_packets_keep_all_but_the_number()
-    ensures packet { (p : Fields) → (number : ℕ) → Fits p → numbered number (spelling p) ≡ spelling (renumbered p p.acknowledgement number) }
-    ensures inside { (bytes : List ℕ) → (number : ℕ) → IsInner bytes → number < 2 ^ 16 → IsNumbered number (numbered number bytes) }
+    ensures packet { (p : Fields) → (number : ℕ) → Fits p →
+        numbered number (spelling p) ≡ spelling (renumbered p p.acknowledgement number) }
+    ensures inside { (bytes : List ℕ) → (number : ℕ) → IsInner bytes → number < 2 ^ 16 →
+        IsNumbered number (numbered number bytes) }
     ensures same { (bytes : List ℕ) → (number : ℕ) → IsNumbered number bytes → numbered number bytes ≡ bytes }
     ensures size { (bytes : List ℕ) → (number : ℕ) → IsInner bytes → length (numbered number bytes) ≡ length bytes }
 {}

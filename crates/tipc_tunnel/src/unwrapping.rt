@@ -47,8 +47,10 @@ fn may_carry(number: u16, inner: &[u8]) -> bool
 
 /// What a tunnel packet with this header carries.
 fn carried<'a>(changeover: Changeover, inner: &'a [u8]) -> Result<Tunnel<'a>, TunnelFault>
-    ensures ok { IfOk result (λ t. (tunnelled t ≡ told_of changeover inner.now) × ((inner.now ≡ []) ⊎ IsNumbered changeover.inner_number inner.now)) }
-    ensures err { IfErr result (λ e. (e ≡ TunnelFault.BadInner) × (((inner.now ≡ []) ⊎ IsNumbered changeover.inner_number inner.now) → ⊥)) }
+    ensures ok { IfOk result (λ t. (tunnelled t ≡ told_of changeover inner.now) ×
+        ((inner.now ≡ []) ⊎ IsNumbered changeover.inner_number inner.now)) }
+    ensures err { IfErr result (λ e. (e ≡ TunnelFault.BadInner) ×
+        (((inner.now ≡ []) ⊎ IsNumbered changeover.inner_number inner.now) → ⊥)) }
 {
     if !may_carry(changeover.inner_number, inner) {
         return Err(TunnelFault::BadInner);

@@ -16,10 +16,6 @@ pub distance_of-reaches : (p number : ℕ) → number < 2 ^ 16 → number_of (p 
 unfolding distance_of number_of
 distance_of-reaches p number within = omega arith
 
-pub distance_of-below : (from to : ℕ) → distance_of from to < 65536
-unfolding distance_of
-distance_of-below from to = omega arith
-
 pub number_of-below : (p : ℕ) → number_of p < 65536
 unfolding number_of
 number_of-below p = omega arith

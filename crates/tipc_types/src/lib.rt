@@ -2,6 +2,7 @@
 //! messages, what a call of a node is and answers, and lists of these that contracts see as lists.
 #![tactic(auto)]
 
+mod bodies;
 mod identity;
 mod link_words;
 mod memory;
@@ -12,6 +13,7 @@ mod positions;
 mod sequences;
 mod services;
 
+pub use bodies::Body;
 pub use identity::{Addr, PortId, To};
 pub use link_words::{BroadcastState, Cause, LinkState, OldSession, Reply, Why};
 pub use memory::NoMemory;

@@ -1,7 +1,8 @@
 //! Messages: importance, flow, form, and the items of name distribution.
 
+use crate::bodies::Body;
 use crate::identity::PortId;
-use crate::sequences::{Bytes, Sequence};
+use crate::sequences::Sequence;
 
 /// How important a message is: the more, the longer it is still accepted on a loaded link. (TIPC 2.0 draft.)
 #[derive(Clone, Copy, Debug, PartialEq, Eq, PartialOrd, Ord)]
@@ -83,7 +84,7 @@ pub enum Message {
         /// Whether it is dropped where it can't be delivered.
         droppable: bool,
         /// The user's bytes, at most 66,000.
-        body: Bytes,
+        body: Body,
     },
     /// Publications or withdrawals.
     Items {

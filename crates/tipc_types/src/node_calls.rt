@@ -2,11 +2,12 @@
 
 ghost use Rattle.std.specs.Prelude.{◌≡◌, IfOk};
 
+use crate::bodies::Body;
 use crate::identity::{Addr, PortId};
 use crate::link_words::{LinkState, Why};
 use crate::memory::NoMemory;
 use crate::message_forms::{Importance, Message};
-use crate::sequences::{Bytes, Sequence};
+use crate::sequences::Sequence;
 use crate::services::{Scope, ServiceRange};
 use std::alloc::AllocError;
 
@@ -94,7 +95,7 @@ pub enum EventNote {
         /// How important it is.
         importance: Importance,
         /// The user's bytes.
-        body: Bytes,
+        body: Body,
     },
     /// Send a message to a port.
     SendPort {
@@ -105,7 +106,7 @@ pub enum EventNote {
         /// How important it is.
         importance: Importance,
         /// The user's bytes.
-        body: Bytes,
+        body: Body,
     },
     /// Send a message to every port with an overlapping publication.
     Multicast {
@@ -120,7 +121,7 @@ pub enum EventNote {
         /// How important it is.
         importance: Importance,
         /// The user's bytes.
-        body: Bytes,
+        body: Body,
     },
     /// Take a message from a socket's inbox.
     Receive {
