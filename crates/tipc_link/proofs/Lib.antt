@@ -12,3 +12,4 @@ pub mod Answering
 pub mod Receivings
 pub mod EndsTurns
 pub mod Ends
+pub mod TunnelUsers

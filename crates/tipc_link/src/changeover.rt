@@ -1,7 +1,8 @@
 //! What a pair of links asks of a link end when traffic changes over from one of them to the other.
 
-ghost use Rattle.std.specs.Prelude.{◌≡◌, ◌≤◌, false, true, is_some, length, option_map, Some, None, All, IfOk, IfSome, OnErr, OnOk};
+ghost use Rattle.std.specs.Prelude.{◌≡◌, ◌≤◌, ◌==◌, false, true, is_some, length, option_map, Some, None, All, IfOk, IfSome, OnErr, OnOk};
 ghost use Rattle.tipc_outside.specs.Frames.{Adds};
+ghost use Rattle.tipc_header.specs.Reading.{user_at, word_at};
 ghost use Rattle.tipc_types.specs.declared.packet_lists.Kept.{Kept};
 ghost use Rattle.tipc_types.specs.declared.packet_lists.Taken.{Taken};
 ghost use Rattle.tipc_types.specs.declared.link_words.OldSession.{OldSession};
@@ -157,7 +158,8 @@ impl Link {
         by: u64,
     ) -> Result<LinkOutcome, NoMemory>
         ensures outcome { IfOk result (λ o.
-            o ≡ tunnelled_outcome (named (record_of self.old) epoch) epoch (record { number = number; packet = bytes_of inner; by = by })) }
+            o ≡ tunnelled_outcome (named (record_of self.old) epoch) epoch
+            (record { number = number; packet = bytes_of inner; by = by })) }
         ensures after { OnOk result
             (self.new ≡ tunnelled_end self.old epoch (record { number = number; packet = bytes_of inner; by = by })) }
         ensures err { OnErr result (self.new ≡ self.old) }
@@ -236,15 +238,46 @@ fn take_early(
     Ok(outcome)
 }
 
-/// Whether the bytes are a tunnel packet.
+/// The user number of tunnel packets. (TIPC 2.0 draft, changeover protocol.)
+const CHANGEOVER: u32 = 10;
+
+/// The first word of a packet.
+#[tactic(auto, unfolding(tipc_header::specs::Reading::word_at))]
+fn first_word(packet: &[u8]) -> u32
+    requires { 4 ≤ length packet.now }
+    ensures { result ≡ word_at 0 packet.now }
+{
+    u32::from_be_bytes([packet[0], packet[1], packet[2], packet[3]])
+}
+
+/// Whether a packet names the user of tunnel packets.
+fn has_tunnel_user(packet: &[u8]) -> bool
+    requires { 4 ≤ length packet.now }
+    ensures { result ≡ (user_at packet.now == 10) }
+{
+    first_word(packet) >> 25 & 15 == CHANGEOVER
+}
+
+/// Whether the bytes are a tunnel packet, as they are decoded.
 #[tactic(auto, unfolding(crate::specs::Records::is_tunnel))]
-pub fn is_tunnel(packet: &[u8]) -> bool
+fn is_decoded_tunnel(packet: &[u8]) -> bool
     ensures { result ≡ is_tunnel packet.now }
 {
     match decode(packet) {
         Ok(packet) => is_changeover(&packet.header),
         Err(_) => false,
     }
+}
+
+/// Whether the bytes are a tunnel packet. Those that name another user aren't decoded.
+#[tactic(auto, using(crate::proofs::TunnelUsers::no_tunnel))]
+pub fn is_tunnel(packet: &[u8]) -> bool
+    ensures { result ≡ is_tunnel packet.now }
+{
+    if packet.len() >= 4 && !has_tunnel_user(packet) {
+        return false;
+    }
+    is_decoded_tunnel(packet)
 }
 
 /// Whether a packet is a tunnel packet.

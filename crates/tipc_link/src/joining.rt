@@ -38,8 +38,10 @@ pub(crate) fn joined_with(
     requires last { (packets : List (List ℕ)) × Carries last.now packets }
     requires packet { IsInner packet.now }
     ensures some { IfOk result (λ given. IfSome given (λ bundle.
-        (length bundle ≤ 1452) × ((packets : List (List ℕ)) → Carries last.now packets → Carries bundle (packets ++ packet.now ∷ [])))) }
-    ensures none { IfOk result (λ given. IfNone given ((packets : List (List ℕ)) → Carries last.now packets → 1452 < length (joined (packets ++ packet.now ∷ [])))) }
+        (length bundle ≤ 1452) × ((packets : List (List ℕ)) → Carries last.now packets →
+        Carries bundle (packets ++ packet.now ∷ [])))) }
+    ensures none { IfOk result (λ given. IfNone given ((packets : List (List ℕ)) → Carries last.now packets →
+        1452 < length (joined (packets ++ packet.now ∷ [])))) }
 {
     match with_added(alloc, last, packet) {
         Ok(bundle) => Ok(Some(bundle)),

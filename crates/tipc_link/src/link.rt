@@ -304,10 +304,13 @@ impl Link {
         requires session { is_some self.old.session ≡ true }
         requires pieces { All IsWaiting pieces }
         ensures ok { (s : SessionEnd) → self.old.session ≡ Some s →
-            OnOk result ((length s.sending.waiting < limit) × ((put : SessionEnd) × IsPut s pieces put × (self.new ≡ with_session self.old (flushed put)) × Adds out.old out.new (flush_frames put))) }
+            OnOk result ((length s.sending.waiting < limit) ×
+            ((put : SessionEnd) × IsPut s pieces put × (self.new ≡ with_session self.old (flushed put)) ×
+            Adds out.old out.new (flush_frames put))) }
         ensures congested { (s : SessionEnd) → self.old.session ≡ Some s → limit ≤ length s.sending.waiting →
             result ≡ Err (OfferFault.Congested (length s.sending.unacked) (length s.sending.waiting)) }
-        ensures congested_only { (s : SessionEnd) (in_flight waiting : ℕ) → self.old.session ≡ Some s → result ≡ Err (OfferFault.Congested in_flight waiting) → limit ≤ length s.sending.waiting }
+        ensures congested_only { (s : SessionEnd) (in_flight waiting : ℕ) → self.old.session ≡ Some s →
+            result ≡ Err (OfferFault.Congested in_flight waiting) → limit ≤ length s.sending.waiting }
         ensures err { OnErr result ((self.new ≡ self.old) × (out.new ≡ out.old)) }
     {
         match &mut self.session {
@@ -362,7 +365,8 @@ impl Link {
     ) -> Result<Hearing, NoMemory>
         requires { Fits (view packet.now) }
         ensures by { IfOk result (λ h. h.by ≡ by) }
-        ensures arriving { IfOk result (λ h. IsArriving self.now (view packet.now) (record { states = record { after = fsm.now; change = change }; hearing = h })) }
+        ensures arriving { IfOk result (λ h. IsArriving self.now (view packet.now)
+            (record { states = record { after = fsm.now; change = change }; hearing = h })) }
         ensures heard_only { OnErr result (is_heard packet.now.header change ≡ true) }
     {
         if !is_heard(&packet.header, change) {
@@ -429,8 +433,10 @@ impl Link {
     fn prepare_more(&self, alloc: Global, packet: &Packet<'_>, by: u64) -> Result<Hearing, NoMemory>
         requires { Fits (view packet.now) }
         ensures by { IfOk result (λ h. h.by ≡ by) }
-        ensures hearing { (s : SessionEnd) → self.now.session ≡ Some s → IfOk result (λ h. IsHearing s (view packet.now) h) }
-        ensures outcome { IfOk result (λ h. h.outcome ≡ heard_outcome self.now.session by (content_of (view packet.now))) }
+        ensures hearing { (s : SessionEnd) → self.now.session ≡ Some s →
+            IfOk result (λ h. IsHearing s (view packet.now) h) }
+        ensures outcome { IfOk result (λ h. h.outcome ≡ heard_outcome self.now.session by
+            (content_of (view packet.now))) }
     {
         match &self.session {
             Some(session) => session.prepare(alloc, packet, by),
@@ -455,7 +461,8 @@ impl Link {
         ensures change { result.change ≡ arriving.states.change }
         ensures outcome { result.outcome ≡ link_outcome self.old arriving.states (view packet.now) arriving.hearing.by }
         ensures after { self.new ≡ arrival_end self.old arriving.states (view packet.now) arriving.hearing.by }
-        ensures frames { Adds out.old out.new (link_frames self.old arriving.states (view packet.now) arriving.hearing.by shown) }
+        ensures frames { Adds out.old out.new (link_frames self.old arriving.states
+            (view packet.now) arriving.hearing.by shown) }
     {
         let change = arriving.change;
         self.fsm = arriving.fsm;
@@ -486,9 +493,12 @@ impl Link {
     ) -> Result<LinkArrival, NoMemory>
         requires { Fits (view packet.now) }
         ensures change { IfOk result (λ a. a.change ≡ (outcome_of self.old.fsm packet.now.header es er held).change) }
-        ensures outcome { IfOk result (λ a. a.outcome ≡ link_outcome self.old (outcome_of self.old.fsm packet.now.header es er held) (view packet.now) by) }
-        ensures after { OnOk result (self.new ≡ arrival_end self.old (outcome_of self.old.fsm packet.now.header es er held) (view packet.now) by) }
-        ensures frames { OnOk result (Adds out.old out.new (link_frames self.old (outcome_of self.old.fsm packet.now.header es er held) (view packet.now) by shown)) }
+        ensures outcome { IfOk result (λ a. a.outcome ≡ link_outcome self.old
+            (outcome_of self.old.fsm packet.now.header es er held) (view packet.now) by) }
+        ensures after { OnOk result (self.new ≡ arrival_end self.old
+            (outcome_of self.old.fsm packet.now.header es er held) (view packet.now) by) }
+        ensures frames { OnOk result (Adds out.old out.new
+            (link_frames self.old (outcome_of self.old.fsm packet.now.header es er held) (view packet.now) by shown)) }
         ensures err { OnErr result ((self.new ≡ self.old) × (out.new ≡ out.old)) }
     {
         let arriving = self.prepare(alloc, es, er, packet, held, by)?;
@@ -505,8 +515,10 @@ impl Link {
     ) -> LinkOutcome
         requires { (s : SessionEnd) → self.old.session ≡ Some s → IsHearing s (view packet.now) hearing }
         ensures outcome { result ≡ hearing.outcome }
-        ensures after { self.new ≡ heard_end self.old hearing.by packet.now.acknowledgement (content_of (view packet.now)) }
-        ensures frames { Adds out.old out.new (heard_by self.old.session hearing.by packet.now.acknowledgement (content_of (view packet.now))) }
+        ensures after { self.new ≡ heard_end self.old hearing.by packet.now.acknowledgement
+            (content_of (view packet.now)) }
+        ensures frames { Adds out.old out.new (heard_by self.old.session hearing.by packet.now.acknowledgement
+            (content_of (view packet.now))) }
     {
         match &mut self.session {
             Some(session) => session.hear(alloc, hearing, packet, out),

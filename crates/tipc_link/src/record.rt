@@ -137,7 +137,8 @@ impl Record {
         by: u64,
     ) -> Result<Hearing, NoMemory>
         requires { Fits (view packet.now) }
-        ensures { IfOk result (λ h. h ≡ numbered_hearing (window_of self.now) (brought packet.now.sequence (spelling (as_waiting (view packet.now))) by)) }
+        ensures { IfOk result (λ h. h ≡ numbered_hearing (window_of self.now)
+            (brought packet.now.sequence (spelling (as_waiting (view packet.now))) by)) }
     {
         if self.is_early_tunnel(packet, by) {
             return Ok(Hearing::without_window(by, LinkOutcome::Ignored(Why::Old)));
@@ -148,7 +149,8 @@ impl Record {
     /// Whether a packet is a tunnel packet, and not the wanted one.
     fn is_early_tunnel(&self, packet: &Packet<'_>, by: u64) -> bool
         requires { Fits (view packet.now) }
-        ensures { result ≡ is_early_tunnel (window_of self.now) (brought packet.now.sequence (spelling (as_waiting (view packet.now))) by) }
+        ensures { result ≡ is_early_tunnel (window_of self.now)
+            (brought packet.now.sequence (spelling (as_waiting (view packet.now))) by) }
     {
         is_changeover(&packet.header) && packet.sequence != self.window().wanted()
     }
@@ -161,8 +163,10 @@ impl Record {
         by: u64,
     ) -> Result<Hearing, NoMemory>
         requires fits { Fits (view packet.now) }
-        requires waits { is_early_tunnel (window_of self.now) (brought packet.now.sequence (spelling (as_waiting (view packet.now))) by) ≡ false }
-        ensures { IfOk result (λ h. h ≡ numbered_hearing (window_of self.now) (brought packet.now.sequence (spelling (as_waiting (view packet.now))) by)) }
+        requires waits { is_early_tunnel (window_of self.now)
+            (brought packet.now.sequence (spelling (as_waiting (view packet.now))) by) ≡ false }
+        ensures { IfOk result (λ h. h ≡ numbered_hearing (window_of self.now)
+            (brought packet.now.sequence (spelling (as_waiting (view packet.now))) by)) }
     {
         let number = packet.sequence;
         let taken = Taken {

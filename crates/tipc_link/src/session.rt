@@ -198,11 +198,14 @@ impl Session {
         out: &mut Outbox,
     ) -> Result<(), OfferFault>
         requires { All IsWaiting pieces }
-        ensures ok { OnOk result ((length self.old.sending.waiting < limit) × ((put : SessionEnd) × IsPut self.old pieces put × (self.new ≡ flushed put) × Adds out.old out.new (flush_frames put))) }
+        ensures ok { OnOk result ((length self.old.sending.waiting < limit) ×
+            ((put : SessionEnd) × IsPut self.old pieces put × (self.new ≡ flushed put) ×
+            Adds out.old out.new (flush_frames put))) }
         ensures congested { limit ≤ length self.old.sending.waiting →
             result ≡ Err (OfferFault.Congested (length self.old.sending.unacked) (length self.old.sending.waiting)) }
         ensures congested_only { (in_flight waiting : ℕ) → result ≡ Err (OfferFault.Congested in_flight waiting) →
-            (limit ≤ length self.old.sending.waiting) × (in_flight ≡ length self.old.sending.unacked) × (waiting ≡ length self.old.sending.waiting) }
+            (limit ≤ length self.old.sending.waiting) × (in_flight ≡ length self.old.sending.unacked) ×
+            (waiting ≡ length self.old.sending.waiting) }
         ensures err { OnErr result ((self.new ≡ self.old) × (out.new ≡ out.old)) }
     {
         self.put(alloc, pieces, limit)?;
@@ -217,7 +220,8 @@ impl Session {
         ensures congested { limit ≤ length self.old.sending.waiting →
             result ≡ Err (OfferFault.Congested (length self.old.sending.unacked) (length self.old.sending.waiting)) }
         ensures congested_only { (in_flight waiting : ℕ) → result ≡ Err (OfferFault.Congested in_flight waiting) →
-            (limit ≤ length self.old.sending.waiting) × (in_flight ≡ length self.old.sending.unacked) × (waiting ≡ length self.old.sending.waiting) }
+            (limit ≤ length self.old.sending.waiting) × (in_flight ≡ length self.old.sending.unacked) ×
+            (waiting ≡ length self.old.sending.waiting) }
         ensures err { OnErr result (self.new ≡ self.old) }
     {
         if self.load().1 < limit {
@@ -236,7 +240,8 @@ impl Session {
         ensures congested { limit ≤ length self.old.sending.waiting →
             result ≡ Err (OfferFault.Congested (length self.old.sending.unacked) (length self.old.sending.waiting)) }
         ensures congested_only { (in_flight waiting : ℕ) → result ≡ Err (OfferFault.Congested in_flight waiting) →
-            (limit ≤ length self.old.sending.waiting) × (in_flight ≡ length self.old.sending.unacked) × (waiting ≡ length self.old.sending.waiting) }
+            (limit ≤ length self.old.sending.waiting) × (in_flight ≡ length self.old.sending.unacked) ×
+            (waiting ≡ length self.old.sending.waiting) }
         ensures err { OnErr result (self.new ≡ self.old) }
     {
         self.window.offer(pieces, limit)
@@ -245,7 +250,8 @@ impl Session {
     /// The bundle of the last packet that waits and the only one of these. None exactly where they may not be joined.
     fn bundle_with(&self, alloc: Global, pieces: &Pieces) -> Result<Option<Bytes>, NoMemory>
         ensures some { IfOk result (λ given. IfSome given (λ bundle. IsJoined self.now pieces.now bundle)) }
-        ensures none { IfOk result (λ given. IfNone given ((packets : List (List ℕ)) (packet : List ℕ) → pieces.now ≡ packet ∷ [] → MayJoin self.now packets packet → ⊥)) }
+        ensures none { IfOk result (λ given. IfNone given ((packets : List (List ℕ)) (packet : List ℕ) →
+            pieces.now ≡ packet ∷ [] → MayJoin self.now packets packet → ⊥)) }
     {
         let (Some(packet), Some(last)) = (only_piece(pieces), self.window.last()) else {
             return Ok(None);
@@ -299,7 +305,8 @@ impl Session {
         requires waiting { 0 < length self.old.sending.waiting }
         requires window { length self.old.sending.unacked < 50 }
         ensures after { self.new ≡ sent 1 self.old }
-        ensures frame { (q : List ℕ) → slice_get self.old.sending.waiting 0 ≡ Some q → Adds out.old out.new (packet_frame self.old (number_of (self.old.sending.numbered + 1)) q ∷ []) }
+        ensures frame { (q : List ℕ) → slice_get self.old.sending.waiting 0 ≡ Some q →
+            Adds out.old out.new (packet_frame self.old (number_of (self.old.sending.numbered + 1)) q ∷ []) }
     {
         let number = sequence_number(self.window.numbered() + 1);
         match self.window.first() {
@@ -404,7 +411,8 @@ impl Session {
 
     /// Sends those packets again, and says whether there is one.
     fn send_missing(&self, alloc: Global, acknowledgement: u16, gap: u16, out: &mut Outbox) -> bool
-        ensures after { (if result then record self.now { unanswered = all_answered } else self.now) ≡ spoke self.now (repeated self.now acknowledgement gap) }
+        ensures after { (if result then record self.now { unanswered = all_answered } else self.now) ≡
+            spoke self.now (repeated self.now acknowledgement gap) }
         ensures frames { Adds out.old out.new (repeat_frames self.now acknowledgement gap) }
     {
         let mut any = false;
@@ -441,8 +449,10 @@ impl Session {
 
     /// Lets the receive window do what a packet with a number makes of it. The only packet that is deferred asks for a STATE.
     fn take(&mut self, arrival: WindowArrival)
-        requires { (t : Taken) × (is_early_tunnel (receiving self.old) t ≡ false) × (arrival ≡ coming (receiving self.old) t) }
-        ensures { (t : Taken) → is_early_tunnel (receiving self.old) t ≡ false → arrival ≡ coming (receiving self.old) t → self.new ≡ took self.old t }
+        requires { (t : Taken) × (is_early_tunnel (receiving self.old) t ≡ false) ×
+            (arrival ≡ coming (receiving self.old) t) }
+        ensures { (t : Taken) → is_early_tunnel (receiving self.old) t ≡ false →
+            arrival ≡ coming (receiving self.old) t → self.new ≡ took self.old t }
     {
         let place = arrival.place();
         let before = self.received.taken();
@@ -483,8 +493,10 @@ impl Session {
         epoch: u64,
         packet: Taken,
     ) -> Result<LinkOutcome, NoMemory>
-        ensures outcome { IfOk result (λ o. o ≡ tunnelled_outcome (named (Some (receiving_record self.old)) epoch) epoch packet) }
-        ensures after { OnOk result (self.new ≡ with_record self.old (tunnelled (named (Some (receiving_record self.old)) epoch) epoch packet)) }
+        ensures outcome { IfOk result (λ o. o ≡ tunnelled_outcome
+            (named (Some (receiving_record self.old)) epoch) epoch packet) }
+        ensures after { OnOk result (self.new ≡ with_record self.old
+            (tunnelled (named (Some (receiving_record self.old)) epoch) epoch packet)) }
         ensures err { OnErr result (self.new ≡ self.old) }
     {
         if self.received.epoch() >= epoch {
@@ -500,7 +512,8 @@ impl Session {
     #[tactic(auto, using(crate::proofs::Takings::with_same, crate::proofs::Takings::with_itself, crate::proofs::Takings::tunnelled_epoch))]
     fn receive(&mut self, alloc: Global, epoch: u64, packet: Taken) -> Result<LinkOutcome, NoMemory>
         ensures outcome { IfOk result (λ o. o ≡ tunnelled_outcome (receiving_record self.old) epoch packet) }
-        ensures after { OnOk result (self.new ≡ with_record self.old (tunnelled (receiving_record self.old) epoch packet)) }
+        ensures after { OnOk result (self.new ≡ with_record self.old
+            (tunnelled (receiving_record self.old) epoch packet)) }
         ensures err { OnErr result (self.new ≡ self.old) }
     {
         self.received.receive(alloc, epoch, packet)
@@ -520,7 +533,8 @@ impl Session {
     pub fn hand_over(&mut self) -> HandedOver
         ensures unacked { result.unacked ≡ kept_of self.old.sending }
         ensures waiting { result.waiting ≡ self.old.sending.waiting }
-        ensures session { (result.old.bearer ≡ self.old.bearer) × (result.old.epoch ≡ self.old.epoch) × (result.own.word ≡ self.old.own) }
+        ensures session { (result.old.bearer ≡ self.old.bearer) × (result.old.epoch ≡ self.old.epoch) ×
+            (result.own.word ≡ self.old.own) }
         ensures after { self.new ≡ given_up self.old }
         ensures bearer { result.old.bearer ≤ 1 }
         ensures few { length result.unacked ≤ 50 }

@@ -34,8 +34,10 @@ impl Session {
     ) -> LinkOutcome
         requires { IsHearing self.old (view packet.now) hearing }
         ensures answer { result ≡ outcome self.old hearing.by (content_of (view packet.now)) }
-        ensures after { self.new ≡ arrived self.old hearing.by packet.now.acknowledgement (content_of (view packet.now)) }
-        ensures frames { Adds out.old out.new (arrival_frames self.old hearing.by packet.now.acknowledgement (content_of (view packet.now))) }
+        ensures after { self.new ≡ arrived self.old hearing.by packet.now.acknowledgement
+            (content_of (view packet.now)) }
+        ensures frames { Adds out.old out.new (arrival_frames self.old hearing.by packet.now.acknowledgement
+            (content_of (view packet.now))) }
     {
         let outcome = self.take_in(alloc, hearing, packet, out);
         self.move_up(alloc, packet, out);
@@ -53,8 +55,10 @@ impl Session {
     ) -> LinkOutcome
         requires { IsHearing self.old (view packet.now) hearing }
         ensures answer { result ≡ outcome self.old hearing.by (content_of (view packet.now)) }
-        ensures after { self.new ≡ arrived self.old hearing.by packet.now.acknowledgement (content_of (view packet.now)) }
-        ensures states { Adds states.old states.new (again_frames self.old packet.now.acknowledgement (content_of (view packet.now))) }
+        ensures after { self.new ≡ arrived self.old hearing.by packet.now.acknowledgement
+            (content_of (view packet.now)) }
+        ensures states { Adds states.old states.new (again_frames self.old packet.now.acknowledgement
+            (content_of (view packet.now))) }
         ensures numbered { Adds numbered.old numbered.new (moved_frames (content_of (view packet.now))
             (heard self.old hearing.by packet.now.acknowledgement (content_of (view packet.now)))) }
     {
@@ -92,7 +96,8 @@ impl Session {
         requires { IsHearing self.old (view packet.now) hearing }
         ensures answer { result ≡ outcome self.old hearing.by (content_of (view packet.now)) }
         ensures after { self.new ≡ heard self.old hearing.by packet.now.acknowledgement (content_of (view packet.now)) }
-        ensures frames { Adds out.old out.new (again_frames self.old packet.now.acknowledgement (content_of (view packet.now))) }
+        ensures frames { Adds out.old out.new (again_frames self.old packet.now.acknowledgement
+            (content_of (view packet.now))) }
     {
         match packet.header {
             Header::Reset(_) | Header::Activate(_) | Header::Discovery(_) => hearing.outcome,
@@ -110,8 +115,10 @@ impl Session {
 
     /// Takes a STATE.
     fn hear_state(&mut self, alloc: Global, acknowledgement: u16, state: &State, out: &mut Outbox)
-        ensures after { self.new ≡ heard self.old 0 acknowledgement (Content.Shows state.now.next state.now.gap state.now.probe) }
-        ensures frames { Adds out.old out.new (again_frames self.old acknowledgement (Content.Shows state.now.next state.now.gap state.now.probe)) }
+        ensures after { self.new ≡ heard self.old 0 acknowledgement
+            (Content.Shows state.now.next state.now.gap state.now.probe) }
+        ensures frames { Adds out.old out.new (again_frames self.old acknowledgement
+            (Content.Shows state.now.next state.now.gap state.now.probe)) }
     {
         self.acknowledge(acknowledgement);
         self.repeat(alloc, acknowledgement, state.gap, out);
@@ -122,7 +129,8 @@ impl Session {
     fn hear_numbered(&mut self, acknowledgement: u16, hearing: Hearing) -> LinkOutcome
         requires { (t : Taken) × (hearing.window ≡ coming_of (receiving self.old) t) }
         ensures answer { result ≡ hearing.outcome }
-        ensures after { (t : Taken) → hearing.window ≡ coming_of (receiving self.old) t → self.new ≡ took (released self.old acknowledgement) t }
+        ensures after { (t : Taken) → hearing.window ≡ coming_of (receiving self.old) t →
+            self.new ≡ took (released self.old acknowledgement) t }
     {
         let Hearing {
             window,
@@ -153,8 +161,10 @@ impl Link {
         ensures change { result.change ≡ arriving.states.change }
         ensures outcome { result.outcome ≡ link_outcome self.old arriving.states (view packet.now) arriving.hearing.by }
         ensures after { self.new ≡ arrival_end self.old arriving.states (view packet.now) arriving.hearing.by }
-        ensures states { Adds states.old states.new (frames self.old arriving.states shown ++ repeats_at self.old arriving.states (view packet.now)) }
-        ensures numbered { Adds numbered.old numbered.new (numbers_at self.old arriving.states (view packet.now) arriving.hearing.by) }
+        ensures states { Adds states.old states.new (frames self.old arriving.states shown ++
+            repeats_at self.old arriving.states (view packet.now)) }
+        ensures numbered { Adds numbered.old numbered.new (numbers_at self.old arriving.states
+            (view packet.now) arriving.hearing.by) }
     {
         let change = arriving.change;
         self.fsm = arriving.fsm;
@@ -187,11 +197,15 @@ impl Link {
     ) -> Result<LinkArrival, NoMemory>
         requires { Fits (view packet.now) }
         ensures change { IfOk result (λ a. a.change ≡ (outcome_of self.old.fsm packet.now.header es er held).change) }
-        ensures outcome { IfOk result (λ a. a.outcome ≡ link_outcome self.old (outcome_of self.old.fsm packet.now.header es er held) (view packet.now) by) }
-        ensures after { OnOk result (self.new ≡ arrival_end self.old (outcome_of self.old.fsm packet.now.header es er held) (view packet.now) by) }
-        ensures states { OnOk result (Adds states.old states.new (frames self.old (outcome_of self.old.fsm packet.now.header es er held) shown
+        ensures outcome { IfOk result (λ a. a.outcome ≡ link_outcome self.old
+            (outcome_of self.old.fsm packet.now.header es er held) (view packet.now) by) }
+        ensures after { OnOk result (self.new ≡ arrival_end self.old
+            (outcome_of self.old.fsm packet.now.header es er held) (view packet.now) by) }
+        ensures states { OnOk result (Adds states.old states.new
+            (frames self.old (outcome_of self.old.fsm packet.now.header es er held) shown
             ++ repeats_at self.old (outcome_of self.old.fsm packet.now.header es er held) (view packet.now))) }
-        ensures numbered { OnOk result (Adds numbered.old numbered.new (numbers_at self.old (outcome_of self.old.fsm packet.now.header es er held) (view packet.now) by)) }
+        ensures numbered { OnOk result (Adds numbered.old numbered.new
+            (numbers_at self.old (outcome_of self.old.fsm packet.now.header es er held) (view packet.now) by)) }
         ensures err { OnErr result ((self.new ≡ self.old) × (states.new ≡ states.old) × (numbered.new ≡ numbered.old)) }
     {
         let arriving = self.prepare(alloc, es, er, packet, held, by)?;
@@ -209,8 +223,10 @@ impl Link {
     ) -> LinkOutcome
         requires { (s : SessionEnd) → self.old.session ≡ Some s → IsHearing s (view packet.now) hearing }
         ensures outcome { result ≡ hearing.outcome }
-        ensures after { self.new ≡ heard_end self.old hearing.by packet.now.acknowledgement (content_of (view packet.now)) }
-        ensures states { Adds states.old states.new (sent_again self.old.session packet.now.acknowledgement (content_of (view packet.now))) }
+        ensures after { self.new ≡ heard_end self.old hearing.by packet.now.acknowledgement
+            (content_of (view packet.now)) }
+        ensures states { Adds states.old states.new (sent_again self.old.session packet.now.acknowledgement
+            (content_of (view packet.now))) }
         ensures numbered { Adds numbered.old numbered.new
             (newly_numbered self.old.session hearing.by packet.now.acknowledgement (content_of (view packet.now))) }
     {

@@ -20,7 +20,7 @@ use std::alloc::Global;
 use tipc_header::{Packet, decode, open_frame};
 use tipc_journal::{Arrivals, Entry};
 use tipc_message::message_from;
-use tipc_pair::{PairArriving, PairOutcome};
+use tipc_pair::{Incoming, PairArriving, PairOutcome};
 use tipc_reassembly::Opened;
 use tipc_types::{Addr, Arrival, Flow, Message, NoMemory, Why};
 
@@ -156,8 +156,8 @@ fn whole_delivery(
     let Ok(packet) = decode(packet) else {
         unreachable!()
     };
-    let recorded = message_from(alloc, &packet)?;
     let message = message_from(alloc, &packet)?;
+    let recorded = message.clone()?;
     Ok(Delivery {
         entry: delivered_entry(peer, contact, recorded, by.clone()?),
         message,
@@ -326,10 +326,14 @@ pub fn prepare(
     ensures prepared { IfOk result (λ h. IsPrepared (Some neighbour.now) due.now h) }
 {
     let shown = no_broadcast(neighbour.in_step);
-    let packet = &due.packet;
-    let arriving = neighbour.pair.prepare(
-        alloc, due.bearer, due.first, due.second, packet, number, shown,
-    )?;
+    let incoming = Incoming {
+        sender_epoch: due.first,
+        receiver_epoch: due.second,
+        packet: due.packet,
+        by: number,
+        shown,
+    };
+    let arriving = neighbour.pair.prepare(alloc, due.bearer, &incoming)?;
     let contact = neighbour.contact_numbers();
     let deliveries = prepare_deliveries(alloc, due.peer, contact, arriving.outcome())?;
     if deliveries.len() > MOST_TOLD {

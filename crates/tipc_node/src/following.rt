@@ -89,7 +89,8 @@ fn greet(
     requires tables { AreTables neighbours.old.items draft.old }
     requires peer { (1 ≤ peer) × (peer ≤ 32) }
     requires contact { HasContact changes.now (slice_index_or neighbours.old.items peer None) }
-    ensures greeted { OnOk result (Greeted own.word peer changes.now (drafted neighbours.old.items sockets.now draft.old)
+    ensures greeted { OnOk result (Greeted own.word peer changes.now
+        (drafted neighbours.old.items sockets.now draft.old)
         (drafted neighbours.new.items sockets.now draft.new) draft.old.out draft.new.out) }
     ensures tables { AreTables neighbours.new.items draft.new }
     ensures kept { taken_back neighbours.new.items draft.new ≡ taken_back neighbours.old.items draft.old }

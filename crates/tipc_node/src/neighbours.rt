@@ -315,7 +315,8 @@ fn part_of(
     requires deed { IsOnBearer deed }
     requires number { (1 ≤ number) × (number ≤ 32) }
     ensures after { IfOk result (λ after. after ≡ after_one deed place.now) }
-    ensures entries { OnOk result (event.new.inside.items ≡ event.old.inside.items ++ entries_one deed number place.now) }
+    ensures entries { OnOk result (event.new.inside.items ≡ event.old.inside.items ++
+        entries_one deed number place.now) }
     ensures states { OnOk result (Adds event.old.states event.new.states (states_one deed place.now)) }
     ensures numbered { OnOk result (Adds event.old.numbered event.new.numbered (numbered_one deed place.now)) }
 {

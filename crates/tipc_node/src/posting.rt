@@ -26,7 +26,7 @@ use tipc_journal::Entry;
 use tipc_outside::Outbox;
 use tipc_pick::{Chooser, Pick};
 use tipc_sockets::Sockets;
-use tipc_types::{Addr, Answer, By, Bytes, EventNote, Importance, Message, NoMemory, PortId};
+use tipc_types::{Addr, Answer, Body, By, EventNote, Importance, Message, NoMemory, PortId};
 
 /// A message that the node sent to itself has its fate, and a return has its own: nothing leaves.
 fn settle(
@@ -53,7 +53,7 @@ fn settle(
 
 impl Core {
     /// Why the sender of a message is refused: its port isn't there, or the body is too long.
-    fn sender_refusal(&self, port: u32, body: &Bytes) -> Option<Answer>
+    fn sender_refusal(&self, port: u32, body: &Body) -> Option<Answer>
         ensures { result ≡ sender_refusal self.now port body.now }
     {
         if !self.sockets.has(port) {
@@ -188,7 +188,7 @@ impl Core {
         port: u32,
         to: PortId,
         importance: Importance,
-        body: Bytes,
+        body: Body,
         out: &mut Outbox,
     ) -> Result<Answer, NoMemory>
         requires room { has_room self.old.journal ≡ true }
@@ -218,7 +218,7 @@ impl Core {
         kind: u32,
         instance: u32,
         importance: Importance,
-        body: Bytes,
+        body: Body,
         chooser: &mut Chooser<P>,
         out: &mut Outbox,
     ) -> Result<Answer, NoMemory>

@@ -11,13 +11,13 @@ ghost use Rattle.tipc_node.specs.Messages.{IsSendable, bytes_of, direct, limit_o
 use std::alloc::Global;
 use tipc_fragments::{LEAST_CUT, cut};
 use tipc_message::packet_bytes;
-use tipc_types::{Addr, Bytes, EventNote, Form, Importance, Message, NoMemory, Pieces, PortId};
+use tipc_types::{Addr, Body, EventNote, Form, Importance, Message, NoMemory, Pieces, PortId};
 
 /// The most bytes of a body. (This project's profile.)
 pub const MOST_BODY_BYTES: usize = 66_000;
 
 /// A user's message to a port.
-pub fn direct(own: Addr, port: u32, to: PortId, importance: Importance, body: Bytes) -> Message
+pub fn direct(own: Addr, port: u32, to: PortId, importance: Importance, body: Body) -> Message
     requires { length body ≤ longest_body }
     ensures value { result ≡ direct own.word port to importance body }
     ensures payload { IsPayload result }
@@ -45,7 +45,7 @@ pub fn named(
     kind: u32,
     instance: u32,
     importance: Importance,
-    body: Bytes,
+    body: Body,
 ) -> Message
     requires { length body ≤ longest_body }
     ensures value { result ≡ named own.word port to kind instance importance body }
@@ -67,7 +67,7 @@ pub fn named(
 }
 
 /// What the journal keeps of a call that sends a message to a port.
-pub fn port_note(port: u32, to: PortId, importance: Importance, body: Bytes) -> EventNote
+pub fn port_note(port: u32, to: PortId, importance: Importance, body: Body) -> EventNote
     ensures { result ≡ EventNote.SendPort port to importance body }
 {
     EventNote::SendPort {
@@ -84,7 +84,7 @@ pub fn name_note(
     kind: u32,
     instance: u32,
     importance: Importance,
-    body: Bytes,
+    body: Body,
 ) -> EventNote
     ensures { result ≡ EventNote.SendName port kind instance importance body }
 {

@@ -11,6 +11,7 @@ pub mod SessionFacts
 pub mod EndSteps
 pub mod Facings
 pub mod Unheld
+pub mod Untold
 pub mod Followings
 pub mod Steppings
 pub mod RunFacts

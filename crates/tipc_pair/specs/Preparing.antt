@@ -22,7 +22,7 @@ IsPrepared x es er p by shown way.Passes given =
 IsPrepared x es er p by shown (way.Quiet arriving begun) given =
     IsQuiet x es er p by arriving × (standing_with x p.header ≡ Same) × OpensTo x.begun arriving.hearing.outcome given begun
 IsPrepared x es er p by shown (way.Whole ends told) given =
-    (c : Course) × Arrives x es er p by shown c given × (ends ≡ c.pair) × IsToldOf c told
+    (c : Course) × Arrives x es er p by shown c given × (ends.value ≡ c.pair) × IsToldOf c told
 
 -- what will be told of links and contact
 abbrev pub changes_of : Way → List Transition

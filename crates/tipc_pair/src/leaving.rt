@@ -56,7 +56,8 @@ impl Leaving {
     pub(crate) fn leave_apart(self, states: &mut Outbox, numbered: &mut Outbox) -> TransitionList
         ensures changes { result ≡ self.changes }
         ensures states { (made : List Outgoing) → Adds no_frames self.states made → Adds states.old states.new made }
-        ensures numbered { (made : List Outgoing) → Adds no_frames self.numbered made → Adds numbered.old numbered.new made }
+        ensures numbered { (made : List Outgoing) → Adds no_frames self.numbered made →
+            Adds numbered.old numbered.new made }
     {
         send_all(self.states, states);
         send_all(self.numbered, numbered);

@@ -11,6 +11,6 @@ mod preparing;
 mod runs;
 mod transitions;
 
-pub use changes::{PairArrival, PairOutcome};
+pub use changes::{Incoming, PairArrival, PairOutcome};
 pub use pair::{Pair, PairArriving};
 pub use transitions::{Transition, TransitionList};

@@ -8,7 +8,7 @@ ghost use Rattle.tipc_tunnel.specs.Unwrapped.{tunnelled};
 ghost use Rattle.tipc_pair.specs.PairArrivals.{freed_by, inner_taken, restored, taken_in, with_bytes};
 ghost use Rattle.tipc_pair.specs.PairOpenings.{told_by};
 
-use crate::changes::PairOutcome;
+use crate::changes::{Incoming, PairOutcome};
 use crate::leaving::Leaving;
 use crate::link_ends::LinkEnds;
 use std::alloc::Global;
@@ -40,8 +40,7 @@ impl LinkEnds {
     ghost use Rattle.tipc_pair.specs.PairArrivals.{activate_higher, activate_shown, behind, hears, met_near, reset_change, reset_given, reset_near, reset_shown, taken_down, tunnelled_at, Arrives, Does};
     ghost use Rattle.tipc_pair.specs.PairOpenings.{Frees, IsCarriedIn, NoneCarriedIn, Opens, Unwrapped};
 
-    /// Takes a packet that arrived on the near link under an envelope of these two epochs: `es` is the sender's, `er` this end's as the
-    /// sender knows it, and `by` is the arrival's number at this node. `shown` fills the broadcast fields of a STATE that is sent.
+    /// Takes a packet that arrived on the near link.
     ///
     /// # Errors
     ///
@@ -49,19 +48,16 @@ impl LinkEnds {
     pub(crate) fn take_any(
         &mut self,
         alloc: Global,
-        es: u64,
-        er: u64,
-        packet: &Packet<'_>,
-        by: u64,
-        shown: BroadcastState,
+        incoming: &Incoming<'_>,
         event: &mut Leaving,
     ) -> Result<PairOutcome, NoMemory>
-        requires fits { Fits (view packet.now) }
+        requires fits { Fits (view incoming.now.packet) }
         ensures { IfOk result (λ given. (c : Course) ×
-            Arrives self.old es er (view packet.now) by shown c given × (self.new ≡ c.pair) ×
+            Arrives self.old incoming.now.sender_epoch incoming.now.receiver_epoch
+            (view incoming.now.packet) incoming.now.by incoming.now.shown c given × (self.new ≡ c.pair) ×
             AddsCourse event.old event.new c) }
     {
-        let outcome = self.hear(alloc, es, er, packet, by, shown, event)?;
+        let outcome = self.hear(alloc, incoming, event)?;
         let given = self.open(alloc, outcome, event)?;
         self.release(alloc, event);
         Ok(given)
@@ -71,29 +67,30 @@ impl LinkEnds {
     fn hear(
         &mut self,
         alloc: Global,
-        es: u64,
-        er: u64,
-        packet: &Packet<'_>,
-        by: u64,
-        shown: BroadcastState,
+        incoming: &Incoming<'_>,
         event: &mut Leaving,
     ) -> Result<LinkOutcome, NoMemory>
-        requires fits { Fits (view packet.now) }
+        requires fits { Fits (view incoming.now.packet) }
         ensures { IfOk result (λ outcome.
-            Does (hears packet.now.header es er (view packet.now) by shown self.old) self.new event.old event.new outcome) }
+            Does (hears incoming.now.packet.header incoming.now.sender_epoch incoming.now.receiver_epoch
+            (view incoming.now.packet) incoming.now.by incoming.now.shown self.old) self.new event.old event.new outcome) }
     {
-        match packet.header {
-            Header::Reset(said) => self.hear_reset(alloc, es, said.contact, shown, event),
-            Header::Activate(said) => {
-                self.hear_activate(alloc, es, er, said.contact, packet, by, shown, event)
-            }
-            Header::Discovery(_) => self.meet(alloc, es, er, packet, by, shown, event),
-            Header::State(_) => self.meet(alloc, es, er, packet, by, shown, event),
-            Header::Payload(_) => self.meet(alloc, es, er, packet, by, shown, event),
-            Header::Bundler(_) => self.meet(alloc, es, er, packet, by, shown, event),
-            Header::Changeover(_) => self.meet(alloc, es, er, packet, by, shown, event),
-            Header::NameDistributor(_) => self.meet(alloc, es, er, packet, by, shown, event),
-            Header::Fragmenter(_) => self.meet(alloc, es, er, packet, by, shown, event),
+        match incoming.packet.header {
+            Header::Reset(said) => self.hear_reset(
+                alloc,
+                incoming.sender_epoch,
+                said.contact,
+                incoming.shown,
+                event,
+            ),
+            Header::Activate(said) => { self.hear_activate(alloc, said.contact, incoming, event) }
+            Header::Discovery(_) => self.meet(alloc, incoming, event),
+            Header::State(_) => self.meet(alloc, incoming, event),
+            Header::Payload(_) => self.meet(alloc, incoming, event),
+            Header::Bundler(_) => self.meet(alloc, incoming, event),
+            Header::Changeover(_) => self.meet(alloc, incoming, event),
+            Header::NameDistributor(_) => self.meet(alloc, incoming, event),
+            Header::Fragmenter(_) => self.meet(alloc, incoming, event),
         }
     }
 
@@ -101,16 +98,13 @@ impl LinkEnds {
     fn meet(
         &mut self,
         alloc: Global,
-        es: u64,
-        er: u64,
-        packet: &Packet<'_>,
-        by: u64,
-        shown: BroadcastState,
+        incoming: &Incoming<'_>,
         event: &mut Leaving,
     ) -> Result<LinkOutcome, NoMemory>
-        requires fits { Fits (view packet.now) }
+        requires fits { Fits (view incoming.now.packet) }
         ensures { IfOk result (λ outcome.
-            Does (met_near es er (view packet.now) by shown self.old) self.new event.old event.new outcome) }
+            Does (met_near incoming.now.sender_epoch incoming.now.receiver_epoch
+            (view incoming.now.packet) incoming.now.by incoming.now.shown self.old) self.new event.old event.new outcome) }
     {
         let held = self.far_is_up();
         let Some(link) = &mut self.near else {
@@ -118,16 +112,16 @@ impl LinkEnds {
         };
         let arrival = link.arrive_apart(
             alloc,
-            es,
-            er,
-            packet,
+            incoming.sender_epoch,
+            incoming.receiver_epoch,
+            &incoming.packet,
             held,
-            by,
-            shown,
+            incoming.by,
+            incoming.shown,
             &mut event.states,
             &mut event.numbered,
         )?;
-        self.follow(alloc, arrival.change, es, event)?;
+        self.follow(alloc, arrival.change, incoming.sender_epoch, event)?;
         Ok(arrival.outcome)
     }
 
@@ -135,24 +129,20 @@ impl LinkEnds {
     fn hear_activate(
         &mut self,
         alloc: Global,
-        es: u64,
-        er: u64,
         number: u64,
-        packet: &Packet<'_>,
-        by: u64,
-        shown: BroadcastState,
+        incoming: &Incoming<'_>,
         event: &mut Leaving,
     ) -> Result<LinkOutcome, NoMemory>
-        requires fits { Fits (view packet.now) }
+        requires fits { Fits (view incoming.now.packet) }
         ensures { IfOk result (λ outcome.
-            Does (activate_shown number (met_near es er (view packet.now) by shown) self.old) self.new event.old event.new outcome) }
+            Does (activate_shown number
+            (met_near incoming.now.sender_epoch incoming.now.receiver_epoch
+            (view incoming.now.packet) incoming.now.by incoming.now.shown) self.old) self.new event.old event.new outcome) }
     {
         match self.standing(number) {
             Standing::Lower => Ok(LinkOutcome::Ignored(Why::Contact)),
-            Standing::Same => self.meet(alloc, es, er, packet, by, shown, event),
-            Standing::Higher => {
-                self.rise_and_meet(alloc, es, er, number, packet, by, shown, event)
-            }
+            Standing::Same => self.meet(alloc, incoming, event),
+            Standing::Higher => { self.rise_and_meet(alloc, number, incoming, event) }
         }
     }
 
@@ -160,24 +150,22 @@ impl LinkEnds {
     fn rise_and_meet(
         &mut self,
         alloc: Global,
-        es: u64,
-        er: u64,
         number: u64,
-        packet: &Packet<'_>,
-        by: u64,
-        shown: BroadcastState,
+        incoming: &Incoming<'_>,
         event: &mut Leaving,
     ) -> Result<LinkOutcome, NoMemory>
-        requires fits { Fits (view packet.now) }
+        requires fits { Fits (view incoming.now.packet) }
         ensures { IfOk result (λ outcome.
-            Does (activate_higher number (met_near es er (view packet.now) by shown) self.old) self.new event.old event.new outcome) }
+            Does (activate_higher number
+            (met_near incoming.now.sender_epoch incoming.now.receiver_epoch
+            (view incoming.now.packet) incoming.now.by incoming.now.shown) self.old) self.new event.old event.new outcome) }
     {
         let ended = self.in_contact();
         self.rise(alloc, number, event)?;
         if ended {
             return Ok(LinkOutcome::Took(TakenList::new(alloc)));
         }
-        self.meet(alloc, es, er, packet, by, shown, event)
+        self.meet(alloc, incoming, event)
     }
 
     /// A RESET under this epoch, which shows this contact number.
@@ -189,7 +177,8 @@ impl LinkEnds {
         shown: BroadcastState,
         event: &mut Leaving,
     ) -> Result<LinkOutcome, NoMemory>
-        ensures { IfOk result (λ outcome. Does (reset_shown number es shown self.old) self.new event.old event.new outcome) }
+        ensures { IfOk result
+            (λ outcome. Does (reset_shown number es shown self.old) self.new event.old event.new outcome) }
     {
         match self.standing(number) {
             Standing::Lower => Ok(LinkOutcome::Ignored(Why::Contact)),
@@ -308,7 +297,8 @@ impl LinkEnds {
     /// What the first of these packets carries for the far link. None exactly where there is no such packet, it is no tunnel packet that
     /// unwraps, or it speaks of another bearer than the far link's, or of one that has no end.
     fn carried_in(&self, alloc: Global, taken: &TakenList) -> Result<Option<Carried>, NoMemory>
-        ensures some { IfOk result (λ found. (carried : Carried) → found ≡ Some carried → IsCarriedIn self.now taken.now carried) }
+        ensures some { IfOk result (λ found. (carried : Carried) → found ≡ Some carried →
+            IsCarriedIn self.now taken.now carried) }
         ensures none { IfOk result (λ found. found ≡ None → NoneCarriedIn self.now taken.now) }
     {
         let [first, ..] = taken.as_slice() else {
@@ -340,7 +330,8 @@ impl LinkEnds {
         carried: Carried,
         event: &mut Leaving,
     ) -> Result<TakenList, NoMemory>
-        ensures { IfOk result (λ freed. Frees self.old (told_by (other self.old.bearer) carried) carried.by freed self.new event.old event.new) }
+        ensures { IfOk result (λ freed. Frees self.old (told_by
+            (other self.old.bearer) carried) carried.by freed self.new event.old event.new) }
     {
         self.take_far_down(alloc, carried.kind, carried.epoch, event)?;
         let Some(link) = &mut self.far else {
@@ -376,7 +367,8 @@ impl LinkEnds {
         event: &mut Leaving,
     ) -> Result<(), NoMemory>
         ensures after { OnOk result (self.new ≡ (taken_down ChangeoverType.Original epoch self.old).pair) }
-        ensures adds { OnOk result (AddsCourse event.old event.new (taken_down ChangeoverType.Original epoch self.old)) }
+        ensures adds { OnOk result (AddsCourse event.old event.new
+            (taken_down ChangeoverType.Original epoch self.old)) }
     {
         self.turn();
         self.take_down(alloc, epoch, event)?;
@@ -415,7 +407,8 @@ fn carried_by(alloc: Global, tunnel: &Tunnel<'_>, by: u64) -> Result<Carried, No
 
 /// Gives the packet inside a tunnel packet to the record of its link, as it waited to be sent there. An empty run only names an epoch.
 fn take_inner(alloc: Global, link: &mut Link, carried: Carried) -> Result<TakenList, NoMemory>
-    ensures freed { (bearer : ℕ) → IfOk result (λ freed. freed ≡ freed_by (told_by bearer carried) carried.by link.old) }
+    ensures freed { (bearer : ℕ) → IfOk result (λ freed. freed ≡
+        freed_by (told_by bearer carried) carried.by link.old) }
     ensures after { (bearer : ℕ) → OnOk result (link.new ≡ inner_taken (told_by bearer carried) carried.by link.old) }
     ensures err { OnErr result (link.new ≡ link.old) }
 {

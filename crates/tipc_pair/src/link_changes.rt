@@ -152,7 +152,8 @@ impl LinkEnds {
         event: &mut Leaving,
     ) -> Result<(), NoMemory>
         requires { is_last self.old.contact ≡ false }
-        ensures after { OnOk result (self.new ≡ (contact_ends (record self.old { seen = seen }) (self.old.contact, self.old.seen) shown).pair) }
+        ensures after { OnOk result (self.new ≡ (contact_ends (record self.old { seen = seen })
+            (self.old.contact, self.old.seen) shown).pair) }
         ensures adds { OnOk result (AddsCourse event.old event.new
             (contact_ends (record self.old { seen = seen }) (self.old.contact, self.old.seen) shown)) }
     {
@@ -186,7 +187,8 @@ impl LinkEnds {
         requires { is_last self.old.contact ≡ false }
         ensures after { self.new ≡ parted (record self.old { seen = seen }) }
         ensures changes { event.new.changes ≡ event.old.changes }
-        ensures states { Adds event.old.states event.new.states (flat_map reset_frames (made_of self.new.near ++ made_of self.new.far)) }
+        ensures states { Adds event.old.states event.new.states
+            (flat_map reset_frames (made_of self.new.near ++ made_of self.new.far)) }
         ensures numbered { event.new.numbered ≡ event.old.numbered }
     {
         let own = next_number(self.numbers.own);
@@ -350,7 +352,10 @@ fn next_number(number: u64) -> u64
 /// Tells that a link goes down with the contact, where it is up.
 fn tell_end(link: &Option<Link>, bearer: u8, event: &mut Leaving) -> Result<(), NoMemory>
     requires { IfSome link.now (λ (e : LinkEnd). e.bearer ≡ bearer) }
-    ensures { OnOk result (event.new ≡ record event.old { changes = event.old.changes ++ flat_map ended_with (made_of link.now) }) }
+    ensures { OnOk result (event.new ≡ record event.old {
+      changes = event.old.changes ++
+          flat_map ended_with (made_of link.now);
+    }) }
 {
     if !is_up(link) {
         return Ok(());
@@ -445,7 +450,8 @@ fn kept_of(link: &Link) -> Result<HandedOver, NoMemory>
     requires up { is_up link.now.fsm.state ≡ true }
     requires session { is_some link.now.session ≡ true }
     ensures { (s : SessionEnd) → link.now.session ≡ Some s →
-        IfOk result (λ h. (h.unacked ≡ kept_of s.sending) × (h.old.bearer ≡ s.bearer) × (h.old.epoch ≡ s.epoch) × (h.own.word ≡ s.own)) }
+        IfOk result (λ h. (h.unacked ≡ kept_of s.sending) × (h.old.bearer ≡ s.bearer) × (h.old.epoch ≡ s.epoch) ×
+        (h.own.word ≡ s.own)) }
 {
     let mut copy = link.copy()?;
     copy.cut(true);

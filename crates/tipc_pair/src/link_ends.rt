@@ -171,7 +171,8 @@ impl LinkEnds {
 
     /// How a contact number that the peer shows stands to the highest seen.
     pub(crate) fn standing(&self, number: u64) -> Standing
-        ensures { result ≡ (if nat_lt number self.now.seen then Standing.Lower else (if number == self.now.seen then Standing.Same else Standing.Higher)) }
+        ensures { result ≡ (if nat_lt number self.now.seen then Standing.Lower else
+            (if number == self.now.seen then Standing.Same else Standing.Higher)) }
     {
         let mut numbers = self.numbers;
         numbers.show(number)

@@ -8,7 +8,7 @@ ghost use Rattle.tipc_outside.specs.declared.outgoing.Outgoing.{Outgoing};
 ghost use Rattle.tipc_link.specs.Sessions.{SessionEnd};
 ghost use Rattle.tipc_pair.specs.Courses.{Course, sent_in};
 
-use crate::changes::{PairArrival, PairOutcome};
+use crate::changes::{Incoming, PairArrival, PairOutcome};
 use crate::leaving::Leaving;
 use crate::link_ends::{LinkEnds, last_count_of, load_of, numbered_of, state_of};
 use crate::preparing::Way;
@@ -298,9 +298,7 @@ impl Pair {
         answer
     }
 
-    /// Takes a packet that arrived on a bearer, 0 or 1, that has a link end, under an envelope of these two epochs: `es` is the sender's,
-    /// `er` this end's as the sender knows it, and `by` is the arrival's number at this node. `shown` fills the broadcast fields of a STATE
-    /// that is sent.
+    /// Takes a packet that arrived on a bearer, 0 or 1, that has a link end.
     ///
     /// A tunnel packet is opened as it is taken: an original of the other link's present session takes that link down, and then the packet
     /// inside is given to the record of the other link.
@@ -312,17 +310,14 @@ impl Pair {
         &mut self,
         alloc: Global,
         bearer: u8,
-        es: u64,
-        er: u64,
-        packet: &Packet<'_>,
-        by: u64,
-        shown: BroadcastState,
+        incoming: &Incoming<'_>,
         out: &mut Outbox,
     ) -> Result<PairArrival, NoMemory>
         requires bearer { bearer ≤ 1 }
-        requires fits { Fits (view packet.now) }
+        requires fits { Fits (view incoming.now.packet) }
         ensures ok { IfOk result (λ a. (c : Course) ×
-            Arrives (facing bearer self.old) es er (view packet.now) by shown c a.outcome ×
+            Arrives (facing bearer self.old) incoming.now.sender_epoch incoming.now.receiver_epoch
+            (view incoming.now.packet) incoming.now.by incoming.now.shown c a.outcome ×
             (self.new ≡ facing 0 c.pair) × (a.changes ≡ c.changes) × Adds out.old out.new (sent_in c)) }
         // An end is held only where the other link has a tunnel packet. The contact ends only where no link is up, or the peer showed a higher
         // contact number.
@@ -332,8 +327,10 @@ impl Pair {
             self.new.contact ≡ self.old.contact) }
         ensures err { OnErr result ((self.new ≡ self.old) × (out.new ≡ out.old)) }
     {
-        let (way, outcome) = self.ends.prepare(alloc, bearer, es, er, packet, by, shown)?;
-        let event = self.ends.commit(alloc, bearer, way, packet, shown);
+        let (way, outcome) = self.ends.prepare(alloc, bearer, incoming)?;
+        let event = self
+            .ends
+            .commit(alloc, bearer, way, &incoming.packet, incoming.shown);
         let changes = event.leave(out);
         Ok(PairArrival { changes, outcome })
     }
@@ -348,18 +345,15 @@ impl Pair {
         &self,
         alloc: Global,
         bearer: u8,
-        es: u64,
-        er: u64,
-        packet: &Packet<'_>,
-        by: u64,
-        shown: BroadcastState,
+        incoming: &Incoming<'_>,
     ) -> Result<PairArriving, NoMemory>
         requires bearer { bearer ≤ 1 }
-        requires fits { Fits (view packet.now) }
+        requires fits { Fits (view incoming.now.packet) }
         ensures bearer { IfOk result (λ a. a.bearer ≡ bearer) }
-        ensures prepares { IfOk result (λ a. Prepares self.now es er (view packet.now) by shown a) }
+        ensures prepares { IfOk result (λ a. Prepares self.now incoming.now.sender_epoch incoming.now.receiver_epoch
+            (view incoming.now.packet) incoming.now.by incoming.now.shown a) }
     {
-        let (way, outcome) = self.ends.prepare(alloc, bearer, es, er, packet, by, shown)?;
+        let (way, outcome) = self.ends.prepare(alloc, bearer, incoming)?;
         Ok(PairArriving {
             bearer,
             way,
@@ -411,7 +405,8 @@ impl Pair {
     )
         requires { bearer ≤ 1 }
         ensures after { self.new ≡ (at_bearer bearer self.old (answered_near broadcast due shown)).pair }
-        ensures frames { Adds out.old out.new (sent_in (at_bearer bearer self.old (answered_near broadcast due shown))) }
+        ensures frames { Adds out.old out.new (sent_in (at_bearer bearer self.old
+            (answered_near broadcast due shown))) }
     {
         self.ends.face(bearer);
         self.ends.answer(alloc, broadcast, due, shown, out);

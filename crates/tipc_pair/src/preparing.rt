@@ -10,15 +10,14 @@ ghost use Rattle.tipc_pair.specs.PairOpenings.{are_plain, is_plain};
 ghost use Rattle.tipc_pair.specs.Messages.{OpensTo};
 ghost use Rattle.tipc_pair.specs.declared.changes.PairOutcome.{PairOutcome};
 
-use crate::changes::PairOutcome;
+use crate::changes::{Incoming, PairOutcome};
 use crate::leaving::Leaving;
 use crate::link_ends::{LinkEnds, is_up};
-use crate::runs::is_tunnel;
 use crate::transitions::Transition;
 use std::alloc::Global;
 use tipc_contact::Standing;
 use tipc_header::{Header, Packet};
-use tipc_link::Arriving;
+use tipc_link::{Arriving, is_tunnel};
 use tipc_link_fsm::Change;
 use tipc_reassembly::Reassembly;
 use tipc_recv_window::LinkOutcome;
@@ -33,7 +32,7 @@ pub(crate) enum Way {
     /// Nothing else of the pair is copied.
     Quiet(Arriving, Reassembly),
     /// Any other packet: the pair after it, seen from the link that it arrives on, and what is told of it.
-    Whole(LinkEnds, Leaving),
+    Whole(Box<LinkEnds>, Leaving),
 }
 
 impl Way {
@@ -59,9 +58,7 @@ impl LinkEnds {
     ghost use Rattle.tipc_pair.specs.PairOpenings.{standing_with, HearsAndOpens, IsQuiet};
     ghost use Rattle.tipc_pair.specs.Preparing.{changes_of, IsPrepared};
 
-    /// How a packet that arrives on a bearer will change the pair, and what it will give. It came under an envelope of these two epochs: `es`
-    /// is the sender's, `er` this end's as the sender knows it, and `by` is the arrival's number at this node. `shown` fills the broadcast
-    /// fields of a STATE that is sent.
+    /// How a packet that arrives on a bearer will change the pair, and what it will give.
     ///
     /// # Errors
     ///
@@ -70,20 +67,17 @@ impl LinkEnds {
         &self,
         alloc: Global,
         bearer: u8,
-        es: u64,
-        er: u64,
-        packet: &Packet<'_>,
-        by: u64,
-        shown: BroadcastState,
+        incoming: &Incoming<'_>,
     ) -> Result<(Way, PairOutcome), NoMemory>
         requires bearer { bearer ≤ 1 }
-        requires fits { Fits (view packet.now) }
-        ensures { IfOk result (λ told. IsPrepared (facing bearer self.now) es er (view packet.now) by shown told.0 told.1) }
+        requires fits { Fits (view incoming.now.packet) }
+        ensures { IfOk result (λ told. IsPrepared (facing bearer self.now) incoming.now.sender_epoch incoming.now.receiver_epoch
+            (view incoming.now.packet) incoming.now.by incoming.now.shown told.0 told.1) }
     {
-        match self.standing_with(&packet.header) {
+        match self.standing_with(&incoming.packet.header) {
             Standing::Lower => Ok((Way::Passes, PairOutcome::Ignored(Why::Contact))),
-            Standing::Higher => self.prepare_in_copy(alloc, bearer, es, er, packet, by, shown),
-            Standing::Same => self.prepare_same(alloc, bearer, es, er, packet, by, shown),
+            Standing::Higher => self.prepare_in_copy(alloc, bearer, incoming),
+            Standing::Same => self.prepare_same(alloc, bearer, incoming),
         }
     }
 
@@ -92,19 +86,16 @@ impl LinkEnds {
         &self,
         alloc: Global,
         bearer: u8,
-        es: u64,
-        er: u64,
-        packet: &Packet<'_>,
-        by: u64,
-        shown: BroadcastState,
+        incoming: &Incoming<'_>,
     ) -> Result<(Way, PairOutcome), NoMemory>
         requires bearer { bearer ≤ 1 }
-        requires fits { Fits (view packet.now) }
-        requires same { standing_with self.now packet.now.header ≡ Standing.Same }
-        ensures { IfOk result (λ told. IsPrepared (facing bearer self.now) es er (view packet.now) by shown told.0 told.1) }
+        requires fits { Fits (view incoming.now.packet) }
+        requires same { standing_with self.now incoming.now.packet.header ≡ Standing.Same }
+        ensures { IfOk result (λ told. IsPrepared (facing bearer self.now) incoming.now.sender_epoch incoming.now.receiver_epoch
+            (view incoming.now.packet) incoming.now.by incoming.now.shown told.0 told.1) }
     {
-        let Some(arriving) = self.prepare_quietly(alloc, bearer, es, er, packet, by)? else {
-            return self.prepare_in_copy(alloc, bearer, es, er, packet, by, shown);
+        let Some(arriving) = self.prepare_quietly(alloc, bearer, incoming)? else {
+            return self.prepare_in_copy(alloc, bearer, incoming);
         };
         let mut reassembly = self.reassembly.copy()?;
         let given = opened(alloc, &mut reassembly, arriving.outcome())?;
@@ -116,21 +107,18 @@ impl LinkEnds {
         &self,
         alloc: Global,
         bearer: u8,
-        es: u64,
-        er: u64,
-        packet: &Packet<'_>,
-        by: u64,
-        shown: BroadcastState,
+        incoming: &Incoming<'_>,
     ) -> Result<(Way, PairOutcome), NoMemory>
         requires bearer { bearer ≤ 1 }
-        requires fits { Fits (view packet.now) }
-        ensures { IfOk result (λ told. IsPrepared (facing bearer self.now) es er (view packet.now) by shown told.0 told.1) }
+        requires fits { Fits (view incoming.now.packet) }
+        ensures { IfOk result (λ told. IsPrepared (facing bearer self.now) incoming.now.sender_epoch incoming.now.receiver_epoch
+            (view incoming.now.packet) incoming.now.by incoming.now.shown told.0 told.1) }
     {
         let mut event = Leaving::new(alloc);
         let mut next = self.copy()?;
         next.face(bearer);
-        let given = next.take_any(alloc, es, er, packet, by, shown, &mut event)?;
-        Ok((Way::Whole(next, event), given))
+        let given = next.take_any(alloc, incoming, &mut event)?;
+        Ok((Way::Whole(Box::new(alloc, next)?, event), given))
     }
 
     /// What a packet will make of the link of a bearer, where it takes no link up or down and brings nothing through a tunnel. None for any
@@ -139,20 +127,25 @@ impl LinkEnds {
         &self,
         alloc: Global,
         bearer: u8,
-        es: u64,
-        er: u64,
-        packet: &Packet<'_>,
-        by: u64,
+        incoming: &Incoming<'_>,
     ) -> Result<Option<Arriving>, NoMemory>
         requires bearer { bearer ≤ 1 }
-        requires fits { Fits (view packet.now) }
+        requires fits { Fits (view incoming.now.packet) }
         ensures { IfOk result (λ found. (a : ArrivingState) → found ≡ Some a →
-            IsQuiet (facing bearer self.now) es er (view packet.now) by a) }
+            IsQuiet (facing bearer self.now) incoming.now.sender_epoch incoming.now.receiver_epoch
+            (view incoming.now.packet) incoming.now.by a) }
     {
         let Some(link) = self.end_on(bearer) else {
             return Ok(None);
         };
-        let arriving = link.prepare(alloc, es, er, packet, self.is_up_beside(bearer), by)?;
+        let arriving = link.prepare(
+            alloc,
+            incoming.sender_epoch,
+            incoming.receiver_epoch,
+            &incoming.packet,
+            self.is_up_beside(bearer),
+            incoming.by,
+        )?;
         if !is_quiet(arriving.change()) {
             return Ok(None);
         }
@@ -211,7 +204,8 @@ impl LinkEnds {
     ) -> Leaving
         requires prepared { (es : ℕ) × (er : ℕ) × (by : ℕ) × (given : PairOutcome) ×
             IsPrepared self.old es er (view packet.now) by shown way given }
-        ensures told { (es er by : ℕ) (given : PairOutcome) → IsPrepared self.old es er (view packet.now) by shown way given →
+        ensures told { (es er by : ℕ) (given : PairOutcome) →
+            IsPrepared self.old es er (view packet.now) by shown way given →
             (c : Course) × Arrives self.old es er (view packet.now) by shown c given × (self.new ≡ c.pair) ×
             IsToldOf c result }
         ensures changes { result.changes ≡ changes_of way }
@@ -222,7 +216,7 @@ impl LinkEnds {
                 self.take_quietly(alloc, arriving, reassembly, packet, shown)
             }
             Way::Whole(ends, told) => {
-                *self = ends;
+                *self = Box::into_inner(ends);
                 told
             }
         }

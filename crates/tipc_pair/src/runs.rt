@@ -9,19 +9,9 @@ ghost use Rattle.tipc_pair.specs.Runs.{previous_sent, run_of, shown_by, wrapped,
 
 use std::alloc::{AllocError, Global};
 use tipc_header::{Header, Packet, decode, encode};
+use tipc_link::is_tunnel;
 use tipc_tunnel::{TunnelKind, wrap};
 use tipc_types::{Bytes, Kept, NoMemory, OldSession, Pieces};
-
-/// Whether the bytes are a tunnel packet.
-#[tactic(auto, unfolding(tipc_link::specs::Records::is_tunnel))]
-pub(crate) fn is_tunnel(packet: &[u8]) -> bool
-    ensures { result ≡ is_tunnel packet.now }
-{
-    match decode(packet) {
-        Ok(packet) => matches!(packet.header, Header::Changeover(_)),
-        Err(_) => false,
-    }
-}
 
 /// The previous node that a packet shows once this node sent it: a bundle or a fragment names its node only then.
 fn previous_sent(own: u32, packet: &Packet<'_>) -> u32

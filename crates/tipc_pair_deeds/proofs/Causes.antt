@@ -27,22 +27,11 @@ use Rattle.tipc_pair.specs.Facing.{PairEnds, ends_of, facing, is_up_at, made_of,
 use Rattle.tipc_pair.specs.PairArrivals.{met_at, reset_given, tunnelled_at}
 use Rattle.tipc_pair.specs.PairCalls.{cut_at, stepped, tick_at}
 use Rattle.tipc_pair.specs.PairFacts.{IsEndOf, IsPairOfEnds}
+use Rattle.tipc_pair.proofs.Untold.{fail_over_none, switch_none}
 use Rattle.tipc_pair_deeds.specs.Causes.{CutsTell, DuplicatesTell, MayFall, MayRise, MeetsTell, NumbersAreNoted, NumbersTell, ReleasesTell, ResetsTell, TellsFall, TicksTell, TunnelsTell, begins, ended_on, ends, falls, goes_on, rises, stays}
 use Rattle.tipc_pair_deeds.specs.Causes.{rests as nothing}
 
 -- ---- the near link is down
-
-failing_none : (x : PairEnds) (near far : LinkEnd) (lost s : Option SessionEnd) → (failing x near far lost s).changes ≡ []
-failing_none x near far (Some lost) (Some s) = refl
-failing_none x near far (Some lost) None = refl
-failing_none x near far None (Some s) = refl
-failing_none x near far None None = refl
-
-fail_over_none : (x : PairEnds) (near far : Option LinkEnd) → (fail_over_to x near far).changes ≡ []
-fail_over_none x (Some near) (Some far) = failing_none x near far near.session far.session
-fail_over_none x (Some near) None = refl
-fail_over_none x None (Some far) = refl
-fail_over_none x None None = refl
 
 not_ended : (o : Option LinkEnd) → is_up_at o ≡ false → flat_map ended_with (made_of o) ≡ []
 not_ended None down = refl
@@ -295,18 +284,6 @@ meeting_stays s (header.Bundler said) es er held other_kind = traffic_stays s es
 meeting_stays s (header.Changeover said) es er held other_kind = traffic_stays s es er
 meeting_stays s (header.NameDistributor said) es er held other_kind = traffic_stays s es er
 meeting_stays s (header.Fragmenter said) es er held other_kind = traffic_stays s es er
-
-switching_none : (x : PairEnds) (near far : LinkEnd) (s old : Option SessionEnd) → (switching x near far s old).changes ≡ []
-switching_none x near far (Some s) (Some old) = refl
-switching_none x near far (Some s) None = refl
-switching_none x near far None (Some old) = refl
-switching_none x near far None None = refl
-
-switch_none : (x : PairEnds) (near far : Option LinkEnd) → (switch_from x near far).changes ≡ []
-switch_none x (Some near) (Some far) = switching_none x near far near.session far.session
-switch_none x (Some near) None = refl
-switch_none x None (Some far) = refl
-switch_none x None None = refl
 
 rise_tells : (y : PairEnds) (e : LinkEnd) → y.near ≡ Some e → (epoch : ℕ) → MayRise y (following y Up epoch).changes
 rise_tells y e is epoch =

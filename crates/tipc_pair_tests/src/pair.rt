@@ -7,13 +7,14 @@ ghost use Rattle.tipc_pair.specs.Runs.{IsListed};
 use std::alloc::Global;
 use std::process::Abort;
 use std::test::Fail;
-use tipc_header::{decode, open_frame};
+use tipc_header::{Frame, Packet, decode, open_frame};
 use tipc_message::packet_bytes;
 use tipc_outside::{Outbox, Outgoing};
-use tipc_pair::{Pair, PairArrival, PairOutcome, Transition};
+use tipc_pair::{Incoming, Pair, PairArrival, PairOutcome, Transition};
 use tipc_reassembly::Opened;
 use tipc_types::{
-    Addr, BroadcastState, Bytes, Cause, Form, Importance, LinkState, Message, Pieces, PortId, Why,
+    Addr, Body, BroadcastState, Bytes, Cause, Form, Importance, LinkState, Message, Pieces, PortId,
+    Why,
 };
 
 /// The first contact number of boot 1, which is the first epoch too.
@@ -34,6 +35,19 @@ struct Node {
     sent: Outbox,
     /// How many of them have arrived at the other node or were lost.
     gone: usize,
+}
+
+/// A packet of an opened frame as it arrives, by the arrival of number 7.
+fn incoming<'a>(opened: &Frame<'_>, packet: Packet<'a>) -> Incoming<'a>
+    ensures { result.packet ≡ packet.entry }
+{
+    Incoming {
+        sender_epoch: opened.first,
+        receiver_epoch: opened.second,
+        packet,
+        by: 7,
+        shown: NO_BROADCAST,
+    }
 }
 
 impl Node {
@@ -75,10 +89,8 @@ impl Node {
     fn arrive(&mut self, alloc: Global, frame: &Outgoing) -> Result<PairArrival, Fail> {
         let opened = open_frame(frame.frame.as_slice()).ok_or("no frame")?;
         let packet = decode(opened.packet).ok().ok_or("no packet")?;
-        let (es, er) = (opened.first, opened.second);
-        let arrival = self
-            .pair
-            .arrive(alloc, 1, es, er, &packet, 7, NO_BROADCAST, &mut self.sent)?;
+        let incoming = incoming(&opened, packet);
+        let arrival = self.pair.arrive(alloc, 1, &incoming, &mut self.sent)?;
         Ok(arrival)
     }
 
@@ -86,14 +98,16 @@ impl Node {
     fn prepare_and_commit(&mut self, alloc: Global, frame: &Outgoing) -> Result<PairArrival, Fail> {
         let opened = open_frame(frame.frame.as_slice()).ok_or("no frame")?;
         let packet = decode(opened.packet).ok().ok_or("no packet")?;
-        let (es, er) = (opened.first, opened.second);
-        let arriving = self
-            .pair
-            .prepare(alloc, 0, es, er, &packet, 7, NO_BROADCAST)?;
+        let incoming = incoming(&opened, packet);
+        let arriving = self.pair.prepare(alloc, 0, &incoming)?;
         let told = arriving.outcome().clone()?;
-        let arrival = self
-            .pair
-            .commit(alloc, arriving, &packet, NO_BROADCAST, &mut self.sent);
+        let arrival = self.pair.commit(
+            alloc,
+            arriving,
+            &incoming.packet,
+            incoming.shown,
+            &mut self.sent,
+        );
         if arrival.outcome != told {
             return Err("another outcome than was told".into());
         }
@@ -173,7 +187,7 @@ fn message(alloc: Global, byte: u8) -> Result<Bytes, Fail>
         upper: 0,
         code: 0,
         droppable: false,
-        body: Bytes::from_slice(alloc, &[byte])?,
+        body: Body::from_slice(alloc, &[byte])?,
     };
     let bytes = packet_bytes(alloc, Addr::node(1), &message)?;
     if bytes.as_slice().len() > 1452 {

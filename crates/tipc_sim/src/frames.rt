@@ -123,7 +123,8 @@ fn deliver_on<P: Pick>(
 ) -> Result<(), WorldFault>
     requires bearer { bearer ≤ 1 }
     requires ordered { first ≤ end }
-    ensures comes { Comes (TakesAll (arrival_asked Receivers.Any bearer) first end world.old.state) result world.new.state }
+    ensures comes { Comes
+        (TakesAll (arrival_asked Receivers.Any bearer) first end world.old.state) result world.new.state }
     ensures continues { Continues P.gives world.old world.new }
 {
     for place in first..end {

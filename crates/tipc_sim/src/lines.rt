@@ -30,7 +30,7 @@ use tipc_pick::Pick;
 use tipc_report::{Told, print};
 use tipc_script::{Destination, Filter, Line, LineFault, LineWhy, NodeToken, parse_line};
 use tipc_types::{
-    Addr, Answer, Bytes, EventNote, Importance, NoMemory, PortId, ServiceRange, Subscription,
+    Addr, Answer, Body, EventNote, Importance, NoMemory, PortId, ServiceRange, Subscription,
 };
 use tipc_world::{World, WorldEvent, WorldFault};
 
@@ -80,7 +80,7 @@ fn call(node: u8, call: EventNote) -> WorldEvent
 }
 
 /// A message is sent from a port of a node.
-fn send(node: u8, port: u32, to: Destination, importance: Importance, body: Bytes) -> WorldEvent
+fn send(node: u8, port: u32, to: Destination, importance: Importance, body: Body) -> WorldEvent
     ensures { result ≡ WorldEvent.Call node (sending port to importance body) }
 {
     let sending = match to {
@@ -242,7 +242,8 @@ fn link_named<P: Pick>(
     requires first { is_there world.old.state first ≡ true }
     requires second { is_there world.old.state second ≡ true }
     requires bearer { bearer ≤ 1 }
-    ensures comes { Comes (Links (naming notes.old.named first second) first second bearer world.old.state) result world.new.state }
+    ensures comes { Comes
+        (Links (naming notes.old.named first second) first second bearer world.old.state) result world.new.state }
     ensures noted { OnOk result (notes.new ≡ with_named notes.old (naming notes.old.named first second)) }
     ensures continues { Continues P.gives world.old world.new }
 {
@@ -279,7 +280,9 @@ fn burst_on<P: Pick>(
     requires can { CanHappen world.old.state message.now }
     requires sends { is_call message.now ≡ true }
     requires there { is_there world.old.state at.node ≡ true }
-    ensures comes { Comes (Moves (Bursts times message.now (WorldEvent.Call at.node (EventNote.Receive at.port)) notes.old.places) notes.old world.old.state) (beside result notes.new) world.new.state }
+    ensures comes { Comes (Moves (Bursts times message.now
+        (WorldEvent.Call at.node (EventNote.Receive at.port)) notes.old.places) notes.old world.old.state)
+        (beside result notes.new) world.new.state }
     ensures continues { Continues P.gives world.old world.new }
 {
     let (moved, places) = burst(alloc, times, message, at, notes.places(), world)?;
@@ -297,7 +300,8 @@ fn repeat_on<P: Pick>(
     requires some { 1 ≤ times }
     requires can { CanHappen world.old.state message.now }
     requires sends { is_call message.now ≡ true }
-    ensures comes { (notes : NotesState) → Comes (Repeated (SendsAgain times message.now) notes world.old.state) (beside result notes) world.new.state }
+    ensures comes { (notes : NotesState) → Comes (Repeated (SendsAgain times message.now) notes world.old.state)
+        (beside result notes) world.new.state }
     ensures continues { Continues P.gives world.old world.new }
 {
     let (count, last) = repeat(alloc, times, message, world)?;
@@ -305,7 +309,7 @@ fn repeat_on<P: Pick>(
 }
 
 /// A message of low importance from a port of a node to a socket.
-fn low_message(node: u8, port: u32, at: Socket, body: Bytes) -> WorldEvent
+fn low_message(node: u8, port: u32, at: Socket, body: Body) -> WorldEvent
     requires { (1 ≤ at.node) × (at.node ≤ 32) }
     ensures { result ≡ low_message node port at.node at.port body }
 {
@@ -318,7 +322,8 @@ fn low_message(node: u8, port: u32, at: Socket, body: Bytes) -> WorldEvent
 
 /// The frame of a bearer of that number since the last mark, where there is one.
 fn shown<P: Pick>(bearer: u8, frame: u64, world: &World<P>, notes: &Notes) -> Result<Told, NoMemory>
-    ensures { IfOk result (λ told. told ≡ shown (slice_get (air_on bearer world.now.state.air) (counted (place_on bearer notes.now.bases + frame)))) }
+    ensures { IfOk result (λ told. told ≡ shown (slice_get (air_on bearer world.now.state.air)
+        (counted (place_on bearer notes.now.bases + frame)))) }
 {
     let Some(sent) = world.frame(bearer, notes.base(bearer).saturating_add(frame)) else {
         return Ok(Told::Answer(Answer::NoFrame));
@@ -474,8 +479,10 @@ pub fn do_line<P: Pick>(
     requires good { IsGood P.gives world.old }
     ensures good { IsGood P.gives world.new }
     ensures grows { Grows world.old.state world.new.state }
-    ensures answered { IfOk result (λ text. IsAnswered number line (scene world.old.state notes.old) (scene world.new.state notes.new) text.items) }
-    ensures limited { IfErr result (λ fault. (stop : Limit) → fault ≡ WorldFault.Limit stop → IsLimited line (scene world.old.state notes.old) stop world.new.state) }
+    ensures answered { IfOk result (λ text. IsAnswered number line (scene world.old.state notes.old)
+        (scene world.new.state notes.new) text.items) }
+    ensures limited { IfErr result (λ fault. (stop : Limit) → fault ≡ WorldFault.Limit stop →
+        IsLimited line (scene world.old.state notes.old) stop world.new.state) }
 {
     let came = answer_of(alloc, line, world, notes);
     if world.lost() {

@@ -47,7 +47,8 @@ fn know_all<P: Pick>(
 ) -> Result<(), WorldFault>
     requires there { is_there world.old.state node ≡ true }
     requires bearer { bearer ≤ 1 }
-    ensures comes { Comes (TakesAll (know_asked notes.now.named node bearer) 1 33 world.old.state) result world.new.state }
+    ensures comes { Comes
+        (TakesAll (know_asked notes.now.named node bearer) 1 33 world.old.state) result world.new.state }
     ensures continues { Continues P.gives world.old world.new }
 {
     for peer in 1..NUMBERS {

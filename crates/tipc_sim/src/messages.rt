@@ -68,7 +68,8 @@ fn send<P: Pick>(
 /// Lets a message be received.
 fn receive<P: Pick>(alloc: Global, at: Socket, world: &mut World<P>) -> Result<Answer, WorldFault>
     requires { is_there world.old.state at.node ≡ true }
-    ensures comes { Comes (Once (WorldEvent.Call at.node (EventNote.Receive at.port)) world.old.state) result world.new.state }
+    ensures comes { Comes
+        (Once (WorldEvent.Call at.node (EventNote.Receive at.port)) world.old.state) result world.new.state }
     ensures continues { Continues P.gives world.old world.new }
 {
     let event = WorldEvent::Call {
@@ -162,7 +163,8 @@ fn pump_and_receive<P: Pick>(
     world: &mut World<P>,
 ) -> Result<(bool, Places), WorldFault>
     requires { is_there world.old.state at.node ≡ true }
-    ensures comes { Comes (PumpsAndReceives places (WorldEvent.Call at.node (EventNote.Receive at.port)) world.old.state) result world.new.state }
+    ensures comes { Comes (PumpsAndReceives places (WorldEvent.Call at.node
+        (EventNote.Receive at.port)) world.old.state) result world.new.state }
     ensures continues { Continues P.gives world.old world.new }
 {
     let ends = pump_both(alloc, places, world)?;
@@ -181,7 +183,8 @@ fn turn<P: Pick>(
 ) -> Result<(bool, Places), WorldFault>
     requires can { CanHappen world.old.state message.now }
     requires there { is_there world.old.state at.node ≡ true }
-    ensures comes { Comes (Turn message.now (WorldEvent.Call at.node (EventNote.Receive at.port)) places world.old.state) result world.new.state }
+    ensures comes { Comes (Turn message.now (WorldEvent.Call at.node
+        (EventNote.Receive at.port)) places world.old.state) result world.new.state }
     ensures continues { Continues P.gives world.old world.new }
 {
     let answer = send(alloc, message, world)?;
@@ -204,7 +207,8 @@ pub fn burst<P: Pick>(
     requires can { CanHappen world.old.state message.now }
     requires sends { is_call message.now ≡ true }
     requires there { is_there world.old.state at.node ≡ true }
-    ensures comes { Comes (Bursts times message.now (WorldEvent.Call at.node (EventNote.Receive at.port)) first world.old.state) result world.new.state }
+    ensures comes { Comes (Bursts times message.now (WorldEvent.Call at.node
+        (EventNote.Receive at.port)) first world.old.state) result world.new.state }
     ensures continues { Continues P.gives world.old world.new }
 {
     let mut places = first;

@@ -39,7 +39,8 @@ fn write_text<K: Sink>(sink: &mut K, text: &[u8]) -> Result<(), Status>
     ensures ok { OnOk result (Appends (K.contents sink.old) (K.contents sink.new) text.now) }
     ensures front { AppendsFront (K.contents sink.old) (K.contents sink.new) text.now }
     ensures status { IfErr result IsWriteStatus }
-    ensures failed { IsErrOf result Status.WriteFault → Rose (K.faults sink.old) (K.faults sink.new) ⊎ Rose (K.stalls sink.old) (K.stalls sink.new) }
+    ensures failed { IsErrOf result Status.WriteFault → Rose (K.faults sink.old) (K.faults sink.new) ⊎
+        Rose (K.stalls sink.old) (K.stalls sink.new) }
     ensures later { K.faults sink.old ≤ K.faults sink.new }
     ensures no_fewer { K.stalls sink.old ≤ K.stalls sink.new }
 {
@@ -61,10 +62,12 @@ fn bad_text(alloc: Global, number: u32, place: u32, why: LineWhy) -> Result<Vec<
 
 /// Tells a bad line, and answers the status of that.
 fn refuse<K: Sink>(alloc: Global, number: u32, place: u32, why: LineWhy, sink: &mut K) -> Status
-    ensures bad { result ≡ Status.BadLine → Appends (K.contents sink.old) (K.contents sink.new) (bad_line number place why) }
+    ensures bad { result ≡ Status.BadLine → Appends (K.contents sink.old) (K.contents sink.new)
+        (bad_line number place why) }
     ensures front { AppendsFront (K.contents sink.old) (K.contents sink.new) (bad_line number place why) }
     ensures status { IsBadStatus result }
-    ensures failed { result ≡ Status.WriteFault → Rose (K.faults sink.old) (K.faults sink.new) ⊎ Rose (K.stalls sink.old) (K.stalls sink.new) }
+    ensures failed { result ≡ Status.WriteFault → Rose (K.faults sink.old) (K.faults sink.new) ⊎
+        Rose (K.stalls sink.old) (K.stalls sink.new) }
     ensures later { K.faults sink.old ≤ K.faults sink.new }
     ensures no_fewer { K.stalls sink.old ≤ K.stalls sink.new }
 {
@@ -88,10 +91,12 @@ fn limit_text(alloc: Global, number: u32, which: Which) -> Result<Vec<u8>, NoMem
 
 /// Tells that a limit is reached, and answers the status of that.
 fn tell_limit<K: Sink>(alloc: Global, number: u32, which: Which, sink: &mut K) -> Status
-    ensures limit { result ≡ Status.Limit → Appends (K.contents sink.old) (K.contents sink.new) (limit_line number which) }
+    ensures limit { result ≡ Status.Limit → Appends (K.contents sink.old) (K.contents sink.new)
+        (limit_line number which) }
     ensures front { AppendsFront (K.contents sink.old) (K.contents sink.new) (limit_line number which) }
     ensures status { IsLimitStatus result }
-    ensures failed { result ≡ Status.WriteFault → Rose (K.faults sink.old) (K.faults sink.new) ⊎ Rose (K.stalls sink.old) (K.stalls sink.new) }
+    ensures failed { result ≡ Status.WriteFault → Rose (K.faults sink.old) (K.faults sink.new) ⊎
+        Rose (K.stalls sink.old) (K.stalls sink.new) }
     ensures later { K.faults sink.old ≤ K.faults sink.new }
     ensures no_fewer { K.stalls sink.old ≤ K.stalls sink.new }
 {
@@ -130,8 +135,10 @@ fn run_line<K: Sink, P: Pick>(
     ensures good { IsGood P.gives world.new }
     ensures grows { Grows world.old.state world.new.state }
     ensures kept { (result ≡ Err Status.NoMemory → ⊥) → world.new.state.lost ≡ false }
-    ensures run { LineRuns result number text.now (scene world.old.state notes.old) (scene world.new.state notes.new) (K.contents sink.old) (K.contents sink.new) }
-    ensures failed { IsErrOf result Status.WriteFault → Rose (K.faults sink.old) (K.faults sink.new) ⊎ Rose (K.stalls sink.old) (K.stalls sink.new) }
+    ensures run { LineRuns result number text.now (scene world.old.state notes.old) (scene world.new.state notes.new)
+        (K.contents sink.old) (K.contents sink.new) }
+    ensures failed { IsErrOf result Status.WriteFault → Rose (K.faults sink.old) (K.faults sink.new) ⊎
+        Rose (K.stalls sink.old) (K.stalls sink.new) }
     ensures later { K.faults sink.old ≤ K.faults sink.new }
     ensures no_fewer { K.stalls sink.old ≤ K.stalls sink.new }
 {
@@ -165,10 +172,12 @@ fn run_lines<K: Sink, P: Pick>(
     requires good { IsGood P.gives world.old }
     ensures good { IsGood P.gives world.new }
     ensures kept { (result ≡ Status.NoMemory → ⊥) → world.new.state.lost ≡ false }
-    ensures report { Reports script.now result world.old.state world.new.state (K.contents sink.old) (K.contents sink.new) }
+    ensures report { Reports script.now result world.old.state world.new.state (K.contents sink.old)
+        (K.contents sink.new) }
     ensures sound { result ≡ Status.Ok → AreSound (lines_of script.now) }
     ensures status { IsLinesStatus result }
-    ensures failed { result ≡ Status.WriteFault → Rose (K.faults sink.old) (K.faults sink.new) ⊎ Rose (K.stalls sink.old) (K.stalls sink.new) }
+    ensures failed { result ≡ Status.WriteFault → Rose (K.faults sink.old) (K.faults sink.new) ⊎
+        Rose (K.stalls sink.old) (K.stalls sink.new) }
 {
     let mut notes = Notes::new(alloc);
     let mut rest = script;
@@ -226,16 +235,22 @@ pub fn run<S: Source, K: Sink, P: Pick>(
     ensures good { IsGood P.gives world.new }
 
     // What is written: a front of the script's report, and the whole of it at Ok, BadLine and Limit.
-    ensures report { IfSome (S.left source.old) (λ script. Reports script result world.old.state world.new.state (K.contents sink.old) (K.contents sink.new)) }
+    ensures report { IfSome (S.left source.old) (λ script. Reports script result world.old.state world.new.state
+        (K.contents sink.old) (K.contents sink.new)) }
 
     // Where each status comes.
     ensures usage { (result ≡ Status.Usage) ↔ (is_run (map string_bytes words.now) ≡ false) }
-    ensures untouched { result ≡ Status.Usage → (source.new ≡ source.old) × (sink.new ≡ sink.old) × (world.new ≡ world.old) }
-    ensures read { result ≡ Status.ReadFault → Rose (S.faults source.old) (S.faults source.new) × (sink.new ≡ sink.old) × (world.new ≡ world.old) }
-    ensures write { result ≡ Status.WriteFault → Rose (K.faults sink.old) (K.faults sink.new) ⊎ Rose (K.stalls sink.old) (K.stalls sink.new) }
-    ensures limit { result ≡ Status.Limit → IfSome (S.left source.old) (λ script. (IsWithin script → ⊥) ⊎ ReachesLimit script world.old.state world.new.state) }
+    ensures untouched { result ≡ Status.Usage → (source.new ≡ source.old) × (sink.new ≡ sink.old) ×
+        (world.new ≡ world.old) }
+    ensures read { result ≡ Status.ReadFault → Rose (S.faults source.old) (S.faults source.new) ×
+        (sink.new ≡ sink.old) × (world.new ≡ world.old) }
+    ensures write { result ≡ Status.WriteFault → Rose (K.faults sink.old) (K.faults sink.new) ⊎
+        Rose (K.stalls sink.old) (K.stalls sink.new) }
+    ensures limit { result ≡ Status.Limit → IfSome (S.left source.old) (λ script. (IsWithin script → ⊥) ⊎
+        ReachesLimit script world.old.state world.new.state) }
     ensures within { (result ≡ Status.Ok) ⊎ (result ≡ Status.BadLine) → IfSome (S.left source.old) IsWithin }
-    ensures bad { result ≡ Status.BadLine → IfSome (S.left source.old) (λ script. (i : ℕ) × (fault : Fault) × IsFirstBad (lines_of script) i fault) }
+    ensures bad { result ≡ Status.BadLine → IfSome (S.left source.old) (λ script. (i : ℕ) × (fault : Fault) ×
+        IsFirstBad (lines_of script) i fault) }
     ensures sound { result ≡ Status.Ok → IfSome (S.left source.old) (λ script. AreSound (lines_of script)) }
     ensures end { result ≡ Status.Ok → IfSome (S.left source.old) (λ script. S.left source.new ≡ Some []) }
 
@@ -244,9 +259,12 @@ pub fn run<S: Source, K: Sink, P: Pick>(
 
     // A script without fault, within the limits of a script and with no failure outside, is run to its end, unless it
     // reaches a limit of the world or memory runs out.
-    ensures complete { IfSome (S.left source.old) (λ script. is_run (map string_bytes words.now) ≡ true → IsWithin script → AreSound (lines_of script)
-        → (Rose (S.faults source.old) (S.faults source.new) → ⊥) → (Rose (K.faults sink.old) (K.faults sink.new) → ⊥) → (Rose (K.stalls sink.old) (K.stalls sink.new) → ⊥)
-        → (result ≡ Status.Ok) ⊎ ((result ≡ Status.NoMemory) ⊎ ((result ≡ Status.Limit) × ReachesLimit script world.old.state world.new.state))) }
+    ensures complete { IfSome (S.left source.old) (λ script. is_run (map string_bytes words.now) ≡ true →
+        IsWithin script → AreSound (lines_of script)
+        → (Rose (S.faults source.old) (S.faults source.new) → ⊥) →
+        (Rose (K.faults sink.old) (K.faults sink.new) → ⊥) → (Rose (K.stalls sink.old) (K.stalls sink.new) → ⊥)
+        → (result ≡ Status.Ok) ⊎ ((result ≡ Status.NoMemory) ⊎
+        ((result ≡ Status.Limit) × ReachesLimit script world.old.state world.new.state))) }
 {
     if !is_form(words) {
         return Status::Usage;

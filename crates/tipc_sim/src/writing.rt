@@ -12,7 +12,8 @@ use tipc_outside::{Sink, SinkFault};
 pub fn write_all<K: Sink>(sink: &mut K, text: &[u8]) -> Result<(), SinkFault>
     ensures ok { OnOk result (Appends (K.contents sink.old) (K.contents sink.new) text.now) }
     ensures front { AppendsFront (K.contents sink.old) (K.contents sink.new) text.now }
-    ensures failed { IsErrOf result SinkFault.Failed → Rose (K.faults sink.old) (K.faults sink.new) ⊎ Rose (K.stalls sink.old) (K.stalls sink.new) }
+    ensures failed { IsErrOf result SinkFault.Failed → Rose (K.faults sink.old) (K.faults sink.new) ⊎
+        Rose (K.stalls sink.old) (K.stalls sink.new) }
     ensures later { K.faults sink.old ≤ K.faults sink.new }
     ensures no_fewer { K.stalls sink.old ≤ K.stalls sink.new }
 {

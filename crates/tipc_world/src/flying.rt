@@ -2,8 +2,9 @@
 
 ghost use Rattle.std.specs.Prelude.{All, ◌≡◌, ◌≤◌, ◌∷◌, ◌⊎◌, [], ℕ, true, false, Some, None, length, drop, is_some, slice_get, slice_index_or, unwrap_or, IfOk, IfSome, IfNone, IfErr, OnOk};
 ghost use Rattle.tipc_types.specs.Address.{node_word};
+ghost use Rattle.tipc_paired.specs.Views.{er_of, es_of};
 ghost use Rattle.tipc_world.specs.Air.{airborne, met_in, with_leaving, Emits, IsSized, Releases};
-ghost use Rattle.tipc_world.specs.Due.{age_of, frame_for, is_for, unarrived, HasNoSession, HasSession};
+ghost use Rattle.tipc_world.specs.Due.{age_of, frame_for, is_for, session_age, unarrived, HasNoSession, HasSession};
 ghost use Rattle.tipc_world.specs.Skies.{air_on};
 ghost use Rattle.tipc_world.specs.States.{boot_at, contact_at, count_at, numbers_at, pair_at};
 
@@ -60,7 +61,8 @@ pub fn contact_at(members: &[Option<Member>], a: u8, b: u8) -> Option<(u64, u64)
 
 /// The contacts in which node `a` is, by peer.
 pub fn contacts_of(members: &[Option<Member>], alloc: Global, a: u8) -> Result<Contacts, NoMemory>
-    ensures each { IfOk result (λ met. (b : ℕ) → b ≤ 32 → slice_index_or met.items b None ≡ contact_at members.now a b) }
+    ensures each { IfOk result (λ met. (b : ℕ) → b ≤ 32 → slice_index_or met.items b None ≡
+        contact_at members.now a b) }
     ensures few { IfOk result (λ met. length met.items ≡ 33) }
 {
     let mut met = Vec::new(alloc);
@@ -108,15 +110,13 @@ fn session_of(frame: &[u8]) -> Option<Epochs>
     })
 }
 
-/// How many packets were numbered in the session of a frame to node `n` on a bearer since it was sent: the larger number of its two
-/// directions. The age of a STATE or a numbered packet alone grows.
-fn age_of(members: &[Option<Member>], sent: &Sent, n: u8, bearer: u8) -> u64
-    requires { (n_from : ℕ) × (1 ≤ n_from) × (n_from ≤ 32) × (sent.now.from.word ≡ node_word n_from) }
-    ensures { result ≡ age_of members.now sent.now n bearer }
+/// How many packets were numbered since a frame was sent to node `n` on a bearer, in that bearer's session of the two epochs of its envelope:
+/// the larger number of its two directions.
+fn session_age(members: &[Option<Member>], sent: &Sent, n: u8, bearer: u8, epochs: Epochs) -> u64
+    requires sender { (n_from : ℕ) × (1 ≤ n_from) × (n_from ≤ 32) × (sent.now.from.word ≡ node_word n_from) }
+    requires epochs { (epochs.sender ≡ es_of sent.now.frame) × (epochs.receiver ≡ er_of sent.now.frame) }
+    ensures { result ≡ session_age members.now sent.now n bearer }
 {
-    let Some(epochs) = session_of(sent.frame.as_slice()) else {
-        return 0;
-    };
     let Some(from) = sent.from.number() else {
         unreachable!()
     };
@@ -125,6 +125,32 @@ fn age_of(members: &[Option<Member>], sent: &Sent, n: u8, bearer: u8) -> u64
         sent.peer_numbered,
     );
     own.max(peer)
+}
+
+/// Whether a frame that was sent to node `n` on a bearer would be too old if it were a STATE or a numbered packet. Its packet isn't read.
+fn may_be_too_old(members: &[Option<Member>], sent: &Sent, n: u8, bearer: u8) -> bool
+    requires { (n_from : ℕ) × (1 ≤ n_from) × (n_from ≤ 32) × (sent.now.from.word ≡ node_word n_from) }
+    ensures { result ≡ false → age_of members.now sent.now n bearer ≤ 30000 }
+{
+    let Some(opened) = open_frame(sent.frame.as_slice()) else {
+        return false;
+    };
+    let epochs = Epochs {
+        sender: opened.first,
+        receiver: opened.second,
+    };
+    session_age(members, sent, n, bearer, epochs) > OLDEST
+}
+
+/// The age of a frame that was sent to node `n` on a bearer. The age of a STATE or a numbered packet alone grows.
+fn age_of(members: &[Option<Member>], sent: &Sent, n: u8, bearer: u8) -> u64
+    requires { (n_from : ℕ) × (1 ≤ n_from) × (n_from ≤ 32) × (sent.now.from.word ≡ node_word n_from) }
+    ensures { result ≡ age_of members.now sent.now n bearer }
+{
+    match session_of(sent.frame.as_slice()) {
+        Some(epochs) => session_age(members, sent, n, bearer, epochs),
+        None => 0,
+    }
 }
 
 // ---- the frame that arrives
@@ -174,6 +200,9 @@ pub fn find<'a>(
     let Some(sent) = frame_for(air, node, bearer, place) else {
         return Err(Answer::NoFrame);
     };
+    if !may_be_too_old(members, sent, node, bearer) {
+        return Ok(sent);
+    }
     let age = age_of(members, sent, node, bearer);
     if age > OLDEST {
         return Err(Answer::TooOld(age));

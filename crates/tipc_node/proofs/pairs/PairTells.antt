@@ -24,6 +24,7 @@ use Rattle.tipc_pair.specs.Runs.{left_by, taken_over}
 use Rattle.tipc_pair.specs.PairCalls.{at_bearer}
 use Rattle.tipc_pair.proofs.HeldLaws.{or_turns}
 use Rattle.tipc_pair.proofs.Facings.{facing_far, facing_near}
+use Rattle.tipc_pair.proofs.Untold.{fail_over_none, switch_none}
 use Rattle.tipc_node.specs.Neighbours.{is_of_contact}
 use Rattle.tipc_node.specs.Telling.{epochs_of}
 use Rattle.tipc_node.proofs.pairs.LinkSteps.{StaysUp, StepOf, ended_unknown, release_stays}
@@ -358,30 +359,20 @@ failing_still x n f (Some lost) (Some s) near far = still_with x n f (handed_ove
 failing_still x n f (Some lost) None near far = still_itself x
 failing_still x n f None b near far = still_itself x
 
-failing_quiet : (x : PairEnds) (n f : LinkEnd) (a b : Option SessionEnd) → (failing x n f a b).changes ≡ []
-failing_quiet x n f (Some lost) (Some s) = refl
-failing_quiet x n f (Some lost) None = refl
-failing_quiet x n f None b = refl
-
-fail_over_still : (x : PairEnds) (o p : Option LinkEnd) → x.near ≡ o → x.far ≡ p → Still x (fail_over_to x o p).pair × ((fail_over_to x o p).changes ≡ [])
-fail_over_still x (Some n) (Some f) near far = (failing_still x n f n.session f.session near far, failing_quiet x n f n.session f.session)
-fail_over_still x (Some n) None near far = (still_itself x, refl)
-fail_over_still x None p near far = (still_itself x, refl)
+fail_over_still : (x : PairEnds) (o p : Option LinkEnd) → x.near ≡ o → x.far ≡ p → Still x (fail_over_to x o p).pair
+fail_over_still x (Some n) (Some f) near far = failing_still x n f n.session f.session near far
+fail_over_still x (Some n) None near far = still_itself x
+fail_over_still x None p near far = still_itself x
 
 switching_still : (x : PairEnds) (n f : LinkEnd) (a b : Option SessionEnd) → x.near ≡ Some n → x.far ≡ Some f → Still x (switching x n f a b).pair
 switching_still x n f (Some s) (Some old) near far = still_with x n f (loaded n s (taken_over old)) (without_waiting f) near far refl refl
 switching_still x n f (Some s) None near far = still_itself x
 switching_still x n f None b near far = still_itself x
 
-switching_quiet : (x : PairEnds) (n f : LinkEnd) (a b : Option SessionEnd) → (switching x n f a b).changes ≡ []
-switching_quiet x n f (Some s) (Some old) = refl
-switching_quiet x n f (Some s) None = refl
-switching_quiet x n f None b = refl
-
-switch_still : (x : PairEnds) (o p : Option LinkEnd) → x.near ≡ o → x.far ≡ p → Still x (switch_from x o p).pair × ((switch_from x o p).changes ≡ [])
-switch_still x (Some n) (Some f) near far = (switching_still x n f n.session f.session near far, switching_quiet x n f n.session f.session)
-switch_still x (Some n) None near far = (still_itself x, refl)
-switch_still x None p near far = (still_itself x, refl)
+switch_still : (x : PairEnds) (o p : Option LinkEnd) → x.near ≡ o → x.far ≡ p → Still x (switch_from x o p).pair
+switch_still x (Some n) (Some f) near far = switching_still x n f n.session f.session near far
+switch_still x (Some n) None near far = still_itself x
+switch_still x None p near far = still_itself x
 
 -- ---- the end of a contact
 
@@ -590,7 +581,7 @@ rises_tells x e new epoch two near low up = by (is_up_at x.far) refl
     upward far first = telling (LinkUp x.bearer new.fsm.own (known new.fsm.peer)) (if far then (if first then switch w else rests w) else contact_begins w)
 
     first_by : (b : Bool) → is_up_at x.far ≡ true → Follows x Up (upward true b)
-    first_by true far_up = let s = switch_still w w.near w.far refl refl in up_told_is x e new (switch w) two near low up s.1 s.0 far_up
+    first_by true far_up = up_told_is x e new (switch w) two near low up (switch_none w w.near w.far) (switch_still w w.near w.far refl refl) far_up
     first_by false far_up = up_told_is x e new (rests w) two near low up refl (still_itself w) far_up
 
     by : (b : Bool) → is_up_at x.far ≡ b → Follows x Up (following (with_near x new) Up epoch)
@@ -670,8 +661,9 @@ falls_tells x e new reason epoch h near same up low = by (is_up_at x.far) refl
 
     by : (b : Bool) → is_up_at x.far ≡ b → Follows x (Down reason) (following w (Down reason) epoch)
     by true is =
-        let s = fail_over_still w w.near w.far refl refl in
-        subst (λ b. Follows x (Down reason) (downward b)) (sym is) (beside (down_beside x e new t (fail_over w) h.two near low s.1 s.0 is own apart refl))
+        let still = fail_over_still w w.near w.far refl refl in
+        let none = fail_over_none w w.near w.far in
+        subst (λ b. Follows x (Down reason) (downward b)) (sym is) (beside (down_beside x e new t (fail_over w) h.two near low none still is own apart refl))
     by false is = subst (λ b. Follows x (Down reason) (downward b)) (sym is) (alone is (down_alone x e new reason (shown_with reason epoch) h near same up low is))
 
 -- the near end changed by an outcome of its link states, and what follows is done

@@ -1,6 +1,6 @@
 -- Each packet that a link end holds came by its arrival, also after what is done to the end; and so did those that an arrival takes.
 use Rattle.std.specs.Prelude.{All, nat_lt, replicate}
-use Rattle.std.proofs.Common.{◌≡◌, ℕ, eqb-true, ◌+◌, ◌-◌, ◌==◌, ◌&&◌, Bool, true, false, List, [], ◌∷◌, ◌++◌, Option, Some, None, option_map, length, drop, if◌then◌else◌, refl, sym, ap, subst}
+use Rattle.std.proofs.Common.{◌≡◌, ℕ, eqb-true, ◌+◌, ◌-◌, ◌==◌, Bool, true, false, List, [], ◌∷◌, ◌++◌, Option, Some, None, option_map, length, drop, if◌then◌else◌, refl, sym, ap, subst}
 use Rattle.std.proofs.lemmas.List.Elements.{All-append, All-cons, All-drop, All-nil, All-replicate, All-set, All-head, All-tail}
 use Rattle.tipc_types.specs.declared.link_words.Reply.TheVariants as reply
 use Rattle.tipc_types.specs.declared.packet_lists.Taken.{Taken}

@@ -1,6 +1,6 @@
 -- What a pair has of the peer and hasn't given yet came by its arrivals, also after a turn; and so did what the turn gives.
 use Rattle.std.specs.Prelude.{All, IfSome, nat_lt, not}
-use Rattle.std.proofs.Common.{◌≡◌, ℕ, ◌==◌, ◌&&◌, Bool, true, false, List, [], ◌∷◌, ◌++◌, Option, Some, None, option_map, length, if◌then◌else◌, refl, sym, ◌∙◌, subst}
+use Rattle.std.proofs.Common.{◌≡◌, ℕ, ◌==◌, ◌&&◌, Bool, true, false, List, [], Option, Some, None, option_map, length, if◌then◌else◌, refl, sym, subst}
 use Rattle.std.proofs.lemmas.List.Elements.{All-append, All-filter, All-nil, All-tail}
 use Rattle.tipc_types.specs.declared.link_words.BroadcastState.{BroadcastState}
 use Rattle.tipc_types.specs.declared.link_words.Why.TheVariants as why

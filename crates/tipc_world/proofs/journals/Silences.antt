@@ -22,11 +22,11 @@ use Rattle.tipc_link_fsm.specs.declared.changes.Change.TheVariants.{Answer, Down
 use Rattle.tipc_link_fsm.specs.Table.{Fsm, Outcome, gives, is_held, is_in_reset, is_last, is_peer, is_reset_reset, is_session, is_up, lowered, on_activate, on_cut, on_peer_tunnel, on_reset, on_tick, on_traffic, tick_in, unheard, up_tick}
 use Rattle.tipc_link_fsm.proofs.Moves.{cases_on, is_going_up}
 use Rattle.tipc_link.specs.Links.{LinkEnd, after, arrival_end, change_outcome, cut_end, is_down, is_heard, is_taken, is_traffic, link_outcome, outcome_of, tunnelled_down}
-use Rattle.tipc_link.specs.Sessions.{SessionEnd}
 use Rattle.tipc_pair.specs.declared.changes.PairOutcome.{PairOutcome}
 use Rattle.tipc_pair.specs.declared.transitions.Transition.{Transition}
 use Rattle.tipc_pair.specs.declared.transitions.Transition.TheVariants.{ContactDown, ContactUp, LinkDown, LinkUp}
-use Rattle.tipc_pair.specs.Changeovers.{contact_begins, contact_ends, ended_with, fail_over, fail_over_to, failing, following, forgotten, gone_down, gone_up, is_clear, parted, release_near, released, risen, switch, switch_from, switching, up_told}
+use Rattle.tipc_pair.proofs.Untold.{fail_over_none, switch_none}
+use Rattle.tipc_pair.specs.Changeovers.{contact_begins, contact_ends, ended_with, fail_over, following, forgotten, gone_down, gone_up, is_clear, parted, release_near, released, risen, switch, up_told}
 use Rattle.tipc_pair.specs.Courses.{Course, going_on, rests as nothing}
 use Rattle.tipc_pair.specs.Facing.{PairEnds, ends_of, facing, in_contact, is_up_at, states_of, turned, with_near}
 use Rattle.tipc_pair.specs.PairArrivals.{Arrives, Heard, OpensInto, Unwraps, activates, activate_higher, behind, by_number, hears as heard_by, inner_at, met, met_at, met_near, passing, reset_change, reset_given, reset_near, taken_down, tunnelled_at}
@@ -196,36 +196,15 @@ ended_ups P (e ∷ es) = tested (λ xs. Ups P (xs ++ flat_map ended_with es)) (i
 ends_ups : (P : ℕ → Type 0) (x : PairEnds) (contact : ℕ × ℕ) (shown : ℕ) → Ups P (contact_ends x contact shown).changes
 ends_ups P x contact shown = ups_more P (flat_map ended_with (ends_of x)) (ContactDown contact (states_of (parted x)) shown ∷ []) (ended_ups P (ends_of x)) (tt, tt)
 
-failing_ups : (P : ℕ → Type 0) (x : PairEnds) (near far : Option LinkEnd) → Ups P (fail_over_to x near far).changes
-failing_ups P x (Some near) (Some far) = by near.session far.session
-  where
-    by : (lost s : Option SessionEnd) → Ups P (failing x near far lost s).changes
-    by (Some lost) (Some s) = tt
-    by (Some lost) None = tt
-    by None (Some s) = tt
-    by None None = tt
-failing_ups P x (Some near) None = tt
-failing_ups P x None (Some far) = tt
-failing_ups P x None None = tt
-
-switching_ups : (P : ℕ → Type 0) (x : PairEnds) (near far : Option LinkEnd) → Ups P (switch_from x near far).changes
-switching_ups P x (Some near) (Some far) = by near.session far.session
-  where
-    by : (s old : Option SessionEnd) → Ups P (switching x near far s old).changes
-    by (Some s) (Some old) = tt
-    by (Some s) None = tt
-    by None (Some old) = tt
-    by None None = tt
-switching_ups P x (Some near) None = tt
-switching_ups P x None (Some far) = tt
-switching_ups P x None None = tt
+none_ups : (P : ℕ → Type 0) (changes : List Transition) → changes ≡ [] → Ups P changes
+none_ups P changes none = subst (Ups P) (sym none) tt
 
 gone_up_ups : (P : ℕ → Type 0) (x : PairEnds) → Ups P (gone_up x).changes
 gone_up_ups P x = tested (λ (c : Course). Ups P c.changes) (is_up_at x.far) (if x.bearer == 0 then switch x else nothing x) (contact_begins x)
-    (λ _. tested (λ (c : Course). Ups P c.changes) (x.bearer == 0) (switch x) (nothing x) (λ _. switching_ups P x x.near x.far) (λ _. tt)) (λ _. (tt, tt))
+    (λ _. tested (λ (c : Course). Ups P c.changes) (x.bearer == 0) (switch x) (nothing x) (λ _. none_ups P _ (switch_none x x.near x.far)) (λ _. tt)) (λ _. (tt, tt))
 
 gone_down_ups : (P : ℕ → Type 0) (x : PairEnds) → Ups P (gone_down x).changes
-gone_down_ups P x = tested (λ (c : Course). Ups P c.changes) (is_up_at x.far) (fail_over x) (contact_ends x (x.contact, x.seen) 0) (λ _. failing_ups P x x.near x.far) (λ _. ends_ups P x (x.contact, x.seen) 0)
+gone_down_ups P x = tested (λ (c : Course). Ups P c.changes) (is_up_at x.far) (fail_over x) (contact_ends x (x.contact, x.seen) 0) (λ _. none_ups P _ (fail_over_none x x.near x.far)) (λ _. ends_ups P x (x.contact, x.seen) 0)
 
 told_ups : (P : ℕ → Type 0) (b : ℕ) (o : Option LinkEnd) → P b → IsUpBy P (up_told b o)
 told_ups P b None h = h

@@ -1,6 +1,6 @@
 -- A link that is up after a step of a pair has the link states that it had before it, where nothing but the pair was the cause: no such step makes
 -- a link go up, or lets it be silent for longer.
-use Rattle.std.specs.Prelude.{◌==◌, ◌&&◌, not, if◌then◌else◌}
+use Rattle.std.specs.Prelude.{◌==◌, ◌&&◌, if◌then◌else◌}
 use Rattle.std.proofs.Common.{◌≡◌, ◌≤◌, ◌∙◌, ◌+◌, ℕ, Bool, true, false, List, Option, Some, None, option_map, refl, sym, ap, subst, arith}
 use Rattle.std.proofs.lemmas.Bool.Decides.{nat_tests}
 use Rattle.tipc_types.specs.declared.link_words.BroadcastState.{BroadcastState}

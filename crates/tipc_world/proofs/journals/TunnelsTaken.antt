@@ -1,5 +1,5 @@
 -- An arrival of which a pair took a tunnel packet is answered so.
-use Rattle.std.proofs.Common.{◌≡◌, ◌<◌, ◌^◌, ◌+◌, ◌++◌, ◌∙◌, length-append, ℕ, List, [], ◌∷◌, Option, Some, None, length, slice_get, refl, sym, ap, subst, arith}
+use Rattle.std.proofs.Common.{◌≡◌, ◌<◌, ◌^◌, ◌++◌, ◌∙◌, length-append, ℕ, List, [], ◌∷◌, Option, Some, None, length, slice_get, refl, sym, ap, subst, arith}
 use Rattle.tipc_types.specs.declared.link_words.BroadcastState.{BroadcastState}
 use Rattle.tipc_types.specs.declared.link_words.Why.{Why}
 use Rattle.tipc_types.specs.declared.node_calls.Answer.TheVariants as answer

@@ -1,6 +1,6 @@
 -- A turn that tells of the end of a contact tells of the contact in which the node was, and no link to the peer is up then.
 use Rattle.std.specs.Prelude.{nat_le, option_and_then, if◌then◌else◌}
-use Rattle.std.proofs.Common.{◌≡◌, ◌==◌, ℕ, zero, suc, true, false, List, [], ◌∷◌, ◌++◌, Option, Some, None, map, slice_get, refl, sym, ap, ◌∙◌, subst}
+use Rattle.std.proofs.Common.{◌≡◌, ◌==◌, ℕ, zero, suc, true, false, List, ◌++◌, Option, Some, None, map, slice_get, refl, sym, ap, ◌∙◌, subst}
 use Rattle.tipc_types.specs.declared.link_words.LinkState.{LinkState}
 use Rattle.tipc_outside.specs.declared.outgoing.Outgoing.{Outgoing}
 use Rattle.tipc_journal.specs.declared.entries.Entry.{Entry}

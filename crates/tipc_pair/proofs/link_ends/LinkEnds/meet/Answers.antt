@@ -13,34 +13,34 @@ use Rattle.tipc_pair.proofs.link_ends.LinkEnds.meet.Goals as goal
 pub invariant_of-self-2 : goal.invariant_of-self-2
 invariant_of-self-2 c =
     let e = c.in-Some.link in
-    let p = view c.args.packet.now in
+    let p = view c.args.incoming.now.packet in
     let held = c.far_is_up-held.result in
-    near_changed _ e c.arrive_apart.new.self (arrival_end e (outcome_of e.fsm p.header c.args.es c.args.er held) p c.args.by) c.self.invariant c.in-Some.is c.in_ok-arrival.ensures.after
-    (λ own peer contact seen bearer h. end_arrived own peer contact seen bearer e p c.args.es c.args.er held c.args.by h)
+    near_changed _ e c.arrive_apart.new.self (arrival_end e (outcome_of e.fsm p.header c.args.incoming.now.sender_epoch c.args.incoming.now.receiver_epoch held) p c.args.incoming.now.by) c.self.invariant c.in-Some.is c.in_ok-arrival.ensures.after
+    (λ own peer contact seen bearer h. end_arrived own peer contact seen bearer e p c.args.incoming.now.sender_epoch c.args.incoming.now.receiver_epoch held c.args.incoming.now.by h)
 
 pub follow-requires : goal.follow-requires
 follow-requires c =
     let e = c.in-Some.link in
-    let p = view c.args.packet.now in
+    let p = view c.args.incoming.now.packet in
     let held = c.far_is_up-held.result in
-    let o = outcome_of e.fsm p.header c.args.es c.args.er held in
-    has_changed _ e c.arrive_apart.new.self (Some (c.args.es, c.args.er)) o c.in_ok-arrival.arrival.change c.self.invariant c.in-Some.is (outcome_moves e.fsm p.header c.args.es c.args.er held)
-    (outcome_falls e.fsm p.header c.args.es c.args.er held) c.in_ok-arrival.ensures.change (ap (λ (d : LinkEnd). d.fsm) c.in_ok-arrival.ensures.after ∙ fsm_arrived e o p c.args.by)
-    (λ some. subst (λ (d : LinkEnd). is_some d.session ≡ true) (sym c.in_ok-arrival.ensures.after) (some_arrived e o p c.args.by some))
+    let o = outcome_of e.fsm p.header c.args.incoming.now.sender_epoch c.args.incoming.now.receiver_epoch held in
+    has_changed _ e c.arrive_apart.new.self (Some (c.args.incoming.now.sender_epoch, c.args.incoming.now.receiver_epoch)) o c.in_ok-arrival.arrival.change c.self.invariant c.in-Some.is (outcome_moves e.fsm p.header c.args.incoming.now.sender_epoch c.args.incoming.now.receiver_epoch held)
+    (outcome_falls e.fsm p.header c.args.incoming.now.sender_epoch c.args.incoming.now.receiver_epoch held) c.in_ok-arrival.ensures.change (ap (λ (d : LinkEnd). d.fsm) c.in_ok-arrival.ensures.after ∙ fsm_arrived e o p c.args.incoming.now.by)
+    (λ some. subst (λ (d : LinkEnd). is_some d.session ≡ true) (sym c.in_ok-arrival.ensures.after) (some_arrived e o p c.args.incoming.now.by some))
 
 pub returns : goal.returns
 returns c =
     let x = c.args.self.now in
     let e = c.in-Some.link in
-    let p = view c.args.packet.now in
+    let p = view c.args.incoming.now.packet in
     let held = c.far_is_up-held.result in
-    let by = c.args.by in
-    let o = outcome_of e.fsm p.header c.args.es c.args.er held in
+    let by = c.args.incoming.now.by in
+    let o = outcome_of e.fsm p.header c.args.incoming.now.sender_epoch c.args.incoming.now.receiver_epoch held in
     let arrival = c.in_ok-arrival.arrival in
-    let states = frames e o c.args.shown ++ repeats_at e o p in
+    let states = frames e o c.args.incoming.now.shown ++ repeats_at e o p in
     subst (λ (h : Heard). Does h c.follow.new.self c.args.event.now c.follow.new.event arrival.outcome)
-    (met_near_is c.args.es c.args.er p by c.args.shown x e held (sym (ap (λ (v : PairEnds). v.near) c.self.view_is) ∙ c.in-Some.is) c.far_is_up-held.ensures)
-    (met_does x _ c.follow.new.self e c.arrive_apart.new.self o p c.args.es by c.args.shown arrival.change arrival.outcome c.args.event.now _ c.follow.new.event
+    (met_near_is c.args.incoming.now.sender_epoch c.args.incoming.now.receiver_epoch p by c.args.incoming.now.shown x e held (sym (ap (λ (v : PairEnds). v.near) c.self.view_is) ∙ c.in-Some.is) c.far_is_up-held.ensures)
+    (met_does x _ c.follow.new.self e c.arrive_apart.new.self o p c.args.incoming.now.sender_epoch by c.args.incoming.now.shown arrival.change arrival.outcome c.args.event.now _ c.follow.new.event
     (ap (λ (v : PairEnds). with_near v c.arrive_apart.new.self) c.self.view_is) c.in_ok-arrival.ensures.after c.in_ok-arrival.ensures.change c.in_ok-arrival.ensures.outcome (ap (λ (l : LeavingState). l.changes) c.event.view_is)
     (subst (λ (l : LeavingState). Adds l.states c.arrive_apart.new.states states) c.event.view_is c.in_ok-arrival.ensures.states)
     (subst (λ (l : LeavingState). Adds l.numbered c.arrive_apart.new.numbered (numbers_at e o p by)) c.event.view_is c.in_ok-arrival.ensures.numbered)

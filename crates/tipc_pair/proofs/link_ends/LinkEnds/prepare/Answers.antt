@@ -3,4 +3,4 @@ use Rattle.tipc_pair.proofs.Quietly.{facing_standing}
 use Rattle.tipc_pair.proofs.link_ends.LinkEnds.prepare.Goals as goal
 
 pub returns-in-Lower : goal.returns-in-Lower
-returns-in-Lower c = (facing_standing c.args.bearer c.args.self.now c.args.packet.now.header ∙ (sym c.standing_with.ensures ∙ c.in-Lower.is), refl)
+returns-in-Lower c = (facing_standing c.args.bearer c.args.self.now c.args.incoming.now.packet.header ∙ (sym c.standing_with.ensures ∙ c.in-Lower.is), refl)

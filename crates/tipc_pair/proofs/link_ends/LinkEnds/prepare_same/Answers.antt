@@ -11,7 +11,7 @@ returns c =
     let given = c.in_ok-given.given in
     let begun = c.opened.new.reassembly in (
       c.in_ok-arriving.ensures c.in-Some.arriving c.in-Some.is,
-      facing_standing c.args.bearer x c.args.packet.now.header ∙ c.requires.same,
+      facing_standing c.args.bearer x c.args.incoming.now.packet.header ∙ c.requires.same,
       subst (λ b. OpensTo b c.in-Some.arriving.hearing.outcome given begun) (c.in_ok-reassembly.ensures ∙ (ap (λ (v : PairEnds). v.begun) c.self.view_is ∙ sym (facing_begun c.args.bearer x)))
           (subst (λ o. OpensTo c.in_ok-reassembly.reassembly o given begun) c.outcome.ensures c.in_ok-given.ensures.ok),
     )

@@ -9,7 +9,7 @@ use Rattle.tipc_pair.proofs.link_ends.LinkEnds.rise_and_meet.Goals as goal
 pub returns : goal.returns
 returns c =
     let x = c.args.self.now in
-    let hear = met_near c.args.es c.args.er (view c.args.packet.now) c.args.by c.args.shown in
+    let hear = met_near c.args.incoming.now.sender_epoch c.args.incoming.now.receiver_epoch (view c.args.incoming.now.packet) c.args.incoming.now.by c.args.incoming.now.shown in
     let first = risen x c.args.number in
     let none : in_contact x ≡ false = sym c.in_contact-ended.ensures.value ∙ c.if-ended.false in
     ok_weaker c.meet.result (λ o. Does (hear c.rise.new.self) c.meet.new.self c.rise.new.event c.meet.new.event o) (λ o. Does (activate_higher c.args.number hear x) c.meet.new.self c.args.event.now c.meet.new.event o)
