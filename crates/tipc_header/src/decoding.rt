@@ -55,6 +55,17 @@ fn has_whole_header(bytes: &[u8]) -> bool
     (size == 6 || size == 8 || size == 10 || size == 11) && 4 * size <= bytes.len()
 }
 
+/// The user number of tunnel packets. (TIPC 2.0 draft, changeover protocol.)
+pub const CHANGEOVER_USER: u32 = 10;
+
+/// The user number that the first word tells, whether or not the bytes are a packet.
+pub fn user_number(bytes: &[u8]) -> u32
+    requires { 4 ≤ length bytes.now }
+    ensures { result ≡ user_at bytes.now }
+{
+    field_of(bytes, 0, 28, 25)
+}
+
 /// The message size in bytes that the first word tells, whatever follows the packet.
 pub fn message_size(bytes: &[u8]) -> usize
     requires { 4 ≤ length bytes.now }
@@ -70,8 +81,7 @@ fn has_right_size(bytes: &[u8]) -> bool
     ensures { result ≡ has_size bytes.now }
 {
     let header = 4 * field_of(bytes, 0, 24, 21) as usize;
-    message_size(bytes) == bytes.len()
-        && (field_of(bytes, 0, 28, 25) > 3 || bytes.len() - header <= 66_000)
+    message_size(bytes) == bytes.len() && (user_number(bytes) > 3 || bytes.len() - header <= 66_000)
 }
 
 /// Whether the user has the type, and the type the header size.
@@ -79,7 +89,7 @@ fn has_type_of_user(bytes: &[u8]) -> bool
     requires { 24 ≤ length bytes.now }
     ensures { result ≡ has_type bytes.now }
 {
-    let user = field_of(bytes, 0, 28, 25);
+    let user = user_number(bytes);
     let message_type = field_of(bytes, 1, 31, 29);
     message_type < types(user)
         && field_of(bytes, 0, 24, 21) as usize == type_size(user, message_type)
@@ -91,7 +101,7 @@ fn has_allowed_fields(bytes: &[u8]) -> bool
     requires long { 4 ≤ user_at bytes.now → 40 ≤ length bytes.now }
     ensures { result ≡ is_clean bytes.now }
 {
-    let user = field_of(bytes, 0, 28, 25);
+    let user = user_number(bytes);
     let message_type = field_of(bytes, 1, 31, 29);
     is_first_word_clean(user, bytes) && is_user_clean(user, message_type, bytes)
 }
@@ -113,7 +123,7 @@ fn first_fault(bytes: &[u8]) -> Option<HeaderFault>
     if !has_right_size(bytes) {
         return Some(HeaderFault::Size);
     }
-    if !is_user(field_of(bytes, 0, 28, 25)) {
+    if !is_user(user_number(bytes)) {
         return Some(HeaderFault::User);
     }
     if !has_type_of_user(bytes) {

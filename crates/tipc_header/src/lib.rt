@@ -11,7 +11,7 @@ mod packet;
 mod reading;
 mod reserved;
 
-pub use decoding::{decode, message_size};
+pub use decoding::{CHANGEOVER_USER, decode, message_size, user_number};
 pub use encoding::encode;
 pub use fault::HeaderFault;
 pub use frames::{Frame, MOST_FRAME_BYTES, encode_frame, open_frame, stamp_frame};

@@ -1,8 +1,7 @@
 //! What a pair of links asks of a link end when traffic changes over from one of them to the other.
 
-ghost use Rattle.std.specs.Prelude.{◌≡◌, ◌≤◌, ◌==◌, false, true, is_some, length, option_map, Some, None, All, IfOk, IfSome, OnErr, OnOk};
+ghost use Rattle.std.specs.Prelude.{◌≡◌, ◌≤◌, false, true, is_some, length, option_map, Some, None, All, IfOk, IfSome, OnErr, OnOk};
 ghost use Rattle.tipc_outside.specs.Frames.{Adds};
-ghost use Rattle.tipc_header.specs.Reading.{user_at, word_at};
 ghost use Rattle.tipc_types.specs.declared.packet_lists.Kept.{Kept};
 ghost use Rattle.tipc_types.specs.declared.packet_lists.Taken.{Taken};
 ghost use Rattle.tipc_types.specs.declared.link_words.OldSession.{OldSession};
@@ -16,7 +15,7 @@ ghost use Rattle.tipc_link.specs.Hearings.{HoldsNone};
 use crate::link::Link;
 use crate::record::Record;
 use std::alloc::Global;
-use tipc_header::{Header, decode};
+use tipc_header::{CHANGEOVER_USER, Header, decode, user_number};
 use tipc_link_fsm::Change;
 use tipc_outside::Outbox;
 use tipc_recv_window::LinkOutcome;
@@ -238,26 +237,6 @@ fn take_early(
     Ok(outcome)
 }
 
-/// The user number of tunnel packets. (TIPC 2.0 draft, changeover protocol.)
-const CHANGEOVER: u32 = 10;
-
-/// The first word of a packet.
-#[tactic(auto, unfolding(tipc_header::specs::Reading::word_at))]
-fn first_word(packet: &[u8]) -> u32
-    requires { 4 ≤ length packet.now }
-    ensures { result ≡ word_at 0 packet.now }
-{
-    u32::from_be_bytes([packet[0], packet[1], packet[2], packet[3]])
-}
-
-/// Whether a packet names the user of tunnel packets.
-fn has_tunnel_user(packet: &[u8]) -> bool
-    requires { 4 ≤ length packet.now }
-    ensures { result ≡ (user_at packet.now == 10) }
-{
-    first_word(packet) >> 25 & 15 == CHANGEOVER
-}
-
 /// Whether the bytes are a tunnel packet, as they are decoded.
 #[tactic(auto, unfolding(crate::specs::Records::is_tunnel))]
 fn is_decoded_tunnel(packet: &[u8]) -> bool
@@ -274,7 +253,7 @@ fn is_decoded_tunnel(packet: &[u8]) -> bool
 pub fn is_tunnel(packet: &[u8]) -> bool
     ensures { result ≡ is_tunnel packet.now }
 {
-    if packet.len() >= 4 && !has_tunnel_user(packet) {
+    if packet.len() >= 4 && user_number(packet) != CHANGEOVER_USER {
         return false;
     }
     is_decoded_tunnel(packet)
