@@ -1,17 +1,23 @@
 //! A step that may fail: a node works on it with copies of what its neighbours were, so that they are made what they
 //! were where memory runs out.
 
-ghost use Rattle.std.specs.Prelude.{◌≡◌, ℕ, ◌<◌, List, [], false, true, None, is_some, length, slice_index_or, IfOk, OnOk};
+ghost use Rattle.std.specs.Prelude.{◌≡◌, ℕ, ◌+◌, ◌-◌, ◌<◌, ◌≤◌, ◌++◌, List, [], false, true, None, is_some, length, slice_index_or, sum_by, IfOk, OnOk};
 ghost use Rattle.tipc_outside.specs.declared.outgoing.Outgoing.{Outgoing};
 ghost use Rattle.tipc_outside.specs.Frames.{Adds, Out};
+ghost use Rattle.tipc_journal.specs.Room.{entry_bytes};
+ghost use Rattle.tipc_journal.specs.Steps.{step_entries};
 ghost use Rattle.tipc_node.specs.Drafts.{restored, with_copy};
+ghost use Rattle.tipc_node.specs.Limits.{free_entries, free_message_bytes};
+ghost use Rattle.tipc_node.specs.Nodes.{has_room, step_of};
 
 use crate::neighbours::{NUMBERS, Neighbour};
+use crate::recording::record;
 use std::alloc::Global;
 use std::collections::VecDeque;
-use tipc_journal::Entry;
+use tipc_journal::{Entry, Journal};
 use tipc_outside::Outbox;
-use tipc_types::NoMemory;
+use tipc_sockets::Sockets;
+use tipc_types::{Answer, By, EventNote, NoMemory};
 
 /// A step that may fail: what the neighbours were before it, what happened in it so far, and the frames that leave
 /// with it.
@@ -97,6 +103,21 @@ pub fn restore(copies: Vec<Option<Neighbour>>, neighbours: &mut Vec<Option<Neigh
     }
 }
 
+/// Makes the neighbours and the sockets what they were before a step that found no memory.
+pub fn take_back(
+    draft: Draft,
+    before: Sockets,
+    neighbours: &mut Vec<Option<Neighbour>>,
+    sockets: &mut Sockets,
+)
+    requires wide { length draft.copies.items ≡ length neighbours.old.items }
+    ensures neighbours { neighbours.new.items ≡ restored draft.copies.items neighbours.old.items }
+    ensures sockets { sockets.new ≡ before }
+{
+    restore(draft.copies, neighbours);
+    *sockets = before;
+}
+
 /// Puts the frames that left with a step behind those that left before.
 pub fn leave(leaving: Outbox, out: &mut Outbox)
     ensures { (box : Out) (frames : List Outgoing) → box.frames ≡ [] → box.lost ≡ false →
@@ -110,4 +131,26 @@ pub fn leave(leaving: Outbox, out: &mut Outbox)
     if lost {
         out.mark_lost();
     }
+}
+
+/// Records a step as it was drafted, and lets its frames leave.
+pub fn conclude(
+    journal: &mut Journal,
+    by: By,
+    note: EventNote,
+    draft: Draft,
+    answer: Answer,
+    out: &mut Outbox,
+)
+    requires room { has_room journal.old.entries ≡ true }
+    requires few { length draft.inside.items ≤ free_entries - 2 }
+    requires spare { length draft.inside.items + 2 ≤ journal.old.spare }
+    requires bytes { sum_by entry_bytes draft.inside.items ≤ free_message_bytes }
+    ensures journal { journal.new.entries ≡ journal.old.entries ++ step_entries
+        (step_of by note draft.inside.items answer) }
+    ensures frames { (box : Out) (frames : List Outgoing) → box.frames ≡ [] → box.lost ≡ false →
+        Adds box draft.out frames → Adds out.old out.new frames }
+{
+    leave(draft.out, out);
+    record(journal, by, note, draft.inside, answer);
 }

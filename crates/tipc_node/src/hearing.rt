@@ -12,10 +12,10 @@ ghost use Rattle.tipc_node.specs.Sure.{all_wait};
 
 use crate::arriving::{Due, Hearing, fits, look, message_count, prepare};
 use crate::cores::Core;
-use crate::drafts::{begin_draft, leave, restore};
+use crate::drafts::{begin_draft, conclude, take_back};
 use crate::following::hear_in;
 use crate::recording::{NodeFault, begin, has_room, record};
-use crate::waiting::{all_wait, prepare_waiting, put_all};
+use crate::waiting::{all_wait, conclude_waiting, prepare_waiting};
 use std::alloc::Global;
 use tipc_outside::Outbox;
 use tipc_types::{Answer, Arrival, By, EventNote, NoMemory, Why};
@@ -190,13 +190,12 @@ impl Core {
         };
         let _ = neighbour.take(alloc, heard.arriving, &due.packet, out);
         neighbour.answer(alloc, due.bearer, out);
-        put_all(&mut self.sockets, told.messages);
         let note = EventNote::Arrive {
             bearer: due.bearer,
             number: heard.number,
         };
         let kept = Answer::Arrived(heard.answer);
-        record(&mut self.journal, by, note, told.entries, kept);
+        conclude_waiting(&mut self.sockets, &mut self.journal, by, note, told, kept);
         Ok(heard.answer)
     }
 
@@ -229,17 +228,15 @@ impl Core {
             &due,
             heard,
         ) else {
-            restore(draft.copies, &mut self.neighbours);
-            self.sockets = before;
+            take_back(draft, before, &mut self.neighbours, &mut self.sockets);
             return Err(NoMemory);
         };
-        leave(draft.out, out);
         let note = EventNote::Arrive {
             bearer: due.bearer,
             number,
         };
         let kept = Answer::Arrived(answer);
-        record(&mut self.journal, by, note, draft.inside, kept);
+        conclude(&mut self.journal, by, note, draft, kept, out);
         Ok(answer)
     }
 }

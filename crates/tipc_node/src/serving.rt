@@ -12,7 +12,7 @@ ghost use Rattle.tipc_node.specs.Nodes.{has_room};
 ghost use Rattle.tipc_node.specs.Sockets.{first_answer, kept_answer, publication_refusal};
 
 use crate::cores::Core;
-use crate::drafts::{leave, restore};
+use crate::drafts::{conclude, restore};
 use crate::recording::record;
 use crate::sharing::{crowd_refusal, share, telling, tellings};
 use std::alloc::Global;
@@ -134,8 +134,7 @@ impl Core {
         let Ok(()) = self.sockets.close(port) else {
             unreachable!()
         };
-        leave(draft.out, out);
-        record(&mut self.journal, by, note, draft.inside, Answer::Done);
+        conclude(&mut self.journal, by, note, draft, Answer::Done, out);
         Ok(Answer::Done)
     }
 
@@ -199,8 +198,7 @@ impl Core {
             restore(draft.copies, &mut self.neighbours);
             return Err(NoMemory);
         };
-        leave(draft.out, out);
-        record(&mut self.journal, by, note, draft.inside, Answer::Done);
+        conclude(&mut self.journal, by, note, draft, Answer::Done, out);
         Ok(Answer::Done)
     }
 
@@ -260,8 +258,7 @@ impl Core {
         let Ok(_) = self.sockets.withdraw_at(port, key) else {
             unreachable!()
         };
-        leave(draft.out, out);
-        record(&mut self.journal, by, note, draft.inside, Answer::Done);
+        conclude(&mut self.journal, by, note, draft, Answer::Done, out);
         Ok(Answer::Done)
     }
 

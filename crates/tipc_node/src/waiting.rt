@@ -1,17 +1,22 @@
 //! What an arrival delivers, where each message surely waits at its port: nothing goes back by it, and what can fail
 //! is done before the node is changed.
 
-ghost use Rattle.std.specs.Prelude.{◌≡◌, ◌++◌, ◌∷◌, [], true, IfOk, OnOk};
+ghost use Rattle.std.specs.Prelude.{◌≡◌, ◌+◌, ◌-◌, ◌≤◌, ◌++◌, ◌∷◌, [], true, length, sum_by, IfOk, OnOk};
 ghost use Rattle.tipc_journal.specs.declared.entries.Entry.{Entry};
+ghost use Rattle.tipc_journal.specs.Room.{entry_bytes};
+ghost use Rattle.tipc_journal.specs.Steps.{step_entries};
 ghost use Rattle.tipc_sockets.specs.Fates.{port_of};
+ghost use Rattle.tipc_node.specs.Limits.{free_entries, free_message_bytes};
+ghost use Rattle.tipc_node.specs.Nodes.{has_room, step_of};
 ghost use Rattle.tipc_node.specs.Sure.{all_wait, are_sure, message_of, messages_in, told_in, told_of, waits_surely, with_all_waiting};
 
 use crate::arriving::Delivery;
+use crate::recording::record;
 use std::alloc::Global;
 use std::collections::VecDeque;
-use tipc_journal::{Entry, PortList};
+use tipc_journal::{Entry, Journal, PortList};
 use tipc_sockets::{Sockets, port_of};
-use tipc_types::{Message, NoMemory};
+use tipc_types::{Answer, By, EventNote, Message, NoMemory};
 
 /// Whether the message of a delivery surely waits at its port, as the last of so many that arrived.
 fn waits_surely(sockets: &Sockets, count: u32, message: &Option<Message>) -> bool
@@ -85,7 +90,7 @@ pub fn prepare_waiting(alloc: Global, deliveries: Vec<Delivery>) -> Result<Waiti
 }
 
 /// Puts messages that surely wait at their ports there. It takes no memory.
-pub fn put_all(sockets: &mut Sockets, messages: Vec<Message>)
+fn put_all(sockets: &mut Sockets, messages: Vec<Message>)
     requires sure { are_sure sockets.old messages.items ≡ true }
     ensures { sockets.new ≡ with_all_waiting sockets.old messages.items }
 {
@@ -93,4 +98,26 @@ pub fn put_all(sockets: &mut Sockets, messages: Vec<Message>)
     while let Some(m) = waiting.pop_front() {
         sockets.put(m);
     }
+}
+
+/// Puts the messages of an arrival, which surely wait at their ports, there, and records its step.
+pub fn conclude_waiting(
+    sockets: &mut Sockets,
+    journal: &mut Journal,
+    by: By,
+    note: EventNote,
+    told: Waiting,
+    answer: Answer,
+)
+    requires sure { are_sure sockets.old told.messages.items ≡ true }
+    requires room { has_room journal.old.entries ≡ true }
+    requires few { length told.entries.items ≤ free_entries - 2 }
+    requires spare { length told.entries.items + 2 ≤ journal.old.spare }
+    requires bytes { sum_by entry_bytes told.entries.items ≤ free_message_bytes }
+    ensures sockets { sockets.new ≡ with_all_waiting sockets.old told.messages.items }
+    ensures journal { journal.new.entries ≡ journal.old.entries ++ step_entries
+        (step_of by note told.entries.items answer) }
+{
+    put_all(sockets, told.messages);
+    record(journal, by, note, told.entries, answer);
 }

@@ -64,15 +64,15 @@ returns-clause-ok c =
     let given = c.as_slice-5.result.now in
     let d = c.in_ok-draft.draft in
     let xs = c.share.new.neighbours.items in
-    let journal = c.record.new.journal.entries in
+    let journal = c.conclude.new.journal.entries in
     let none = port_there k.sockets a.port (sym c.has.ensures ∙ c.if-not-has.false) in
     let told = c.as_slice-5.ensures.value ∙ c.in_ok-told.ensures.value ∙ ap (tellings true) (c.as_slice.ensures ∙ c.in_ok-those.ensures) in
     let clear : crowd_refusal k.neighbours given ≡ None =
     sym (crowd_same k c.as_slice-2.result.now c.as_slice-3.result.now given c.as_slice-2.ensures.value (c.as_slice-3.ensures.value ∙ sym c.as_slice-5.ensures.value)) ∙ sym c.crowd_refusal.ensures ∙ c.in_default.is in
-    subst (λ (z : NodeState). IsAnnounced z (node_of k xs c.close.new.self journal) a.by note (port_refusal z.sockets a.port) (closed_work z a.port) (told_closing z.sockets a.port) a.out.now c.leave.new.out answer.Done) c.self.view_is
+    subst (λ (z : NodeState). IsAnnounced z (node_of k xs c.close.new.self journal) a.by note (port_refusal z.sockets a.port) (closed_work z a.port) (told_closing z.sockets a.port) a.out.now c.conclude.new.out answer.Done) c.self.view_is
     (announced k a.by note (port_refusal k.sockets a.port) (closed_work k a.port) c.in_ok-inside.inside.items (told_closing k.sockets a.port) given xs c.close.new.self d.inside.items journal d.out
-    a.out.now c.leave.new.out none clear told (c.in_ok-inside.ensures ∙ ap (map Withdrawn) (c.as_slice-4.ensures ∙ c.in_ok-those.ensures)) refl c.in-Ok.ensures.ok (record {
+    a.out.now c.conclude.new.out none clear told (c.in_ok-inside.ensures ∙ ap (map Withdrawn) (c.as_slice-4.ensures ∙ c.in_ok-those.ensures)) refl c.in-Ok.ensures.ok (record {
       tells = c.in_ok-draft.ensures.told;
-      leaves = λ frames adds. c.leave.ensures nothing_out frames refl refl adds;
-      recorded_is = c.record.ensures ∙ ap (λ es. es ++ step_entries (step_of a.by note d.inside.items answer.Done)) c.share.ensures.journal;
+      leaves = λ frames adds. c.conclude.ensures.frames nothing_out frames refl refl adds;
+      recorded_is = c.conclude.ensures.journal ∙ ap (λ es. es ++ step_entries (step_of a.by note d.inside.items answer.Done)) c.share.ensures.journal;
     }))

@@ -17,8 +17,8 @@ use Rattle.tipc_node.proofs.cores.Core.hear_each.Goals as goal
 pub invariant_of-self : goal.invariant_of-self
 invariant_of-self c =
     let i = c.self.invariant in
-    let back = c.restore.ensures ∙ c.hear_in.ensures.kept ∙ restored_none c.in_ok-draft.draft.copies.items c.self.inside.neighbours.items c.in_ok-draft.ensures.empty in
-    let before = c.in_ok-before.ensures in (
+    let back = c.take_back.ensures.neighbours ∙ c.hear_in.ensures.kept ∙ restored_none c.in_ok-draft.draft.copies.items c.self.inside.neighbours.items c.in_ok-draft.ensures.empty in
+    let before = c.take_back.ensures.sockets ∙ c.in_ok-before.ensures in (
       ap (λ (xs : List (Option Neighbour)). length xs) back ∙ i.0,
       ap (λ (xs : List (Option Neighbour)). slice_index_or xs 0 None) back ∙ i.1,
       i.2,
@@ -28,8 +28,8 @@ invariant_of-self c =
 
 pub returns-in_default-clause-err : goal.returns-in_default-clause-err
 returns-in_default-clause-err c =
-    let back = c.restore.ensures ∙ c.hear_in.ensures.kept ∙ restored_none c.in_ok-draft.draft.copies.items c.self.inside.neighbours.items c.in_ok-draft.ensures.empty in (
-      same_parts (the_view c.self.inside) c.args.self.now c.restore.new.neighbours.items c.in_ok-before.before c.hear_in.new.journal.entries back c.in_ok-before.ensures c.hear_in.ensures.journal c.self.view_is,
+    let back = c.take_back.ensures.neighbours ∙ c.hear_in.ensures.kept ∙ restored_none c.in_ok-draft.draft.copies.items c.self.inside.neighbours.items c.in_ok-draft.ensures.empty in (
+      same_parts (the_view c.self.inside) c.args.self.now c.take_back.new.neighbours.items c.take_back.new.sockets c.hear_in.new.journal.entries back (c.take_back.ensures.sockets ∙ c.in_ok-before.ensures) c.hear_in.ensures.journal c.self.view_is,
       refl,
     )
 
@@ -57,6 +57,6 @@ returns-clause-heard c = λ bytes due.
     let w = work_of c.hear_in.new.neighbours.items c.hear_in.new.sockets c.hear_in.new.draft.inside.items in
     let box = c.in_ok-draft.draft.out in
     let heard = heard_worked n c.args.by bytes x.0 d number c.in-Ok.answer w box c.hear_in.new.draft.out due_here x.1 (c.in-Ok.ensures.worked x.0 x.1) in
-    let left = c.leave.ensures box heard.0 c.in_ok-draft.ensures.frames.0 c.in_ok-draft.ensures.frames.1 heard.2 in
-    journal_heard n c.args.self.now c.args.by bytes d.bearer number c.in-Ok.answer w c.record.new.journal.entries c.hear_in.new.journal.entries c.args.out.now c.leave.new.out (heard.0, heard.1, left)
-    c.record.ensures c.hear_in.ensures.journal c.self.view_is
+    let left = c.conclude.ensures.frames box heard.0 c.in_ok-draft.ensures.frames.0 c.in_ok-draft.ensures.frames.1 heard.2 in
+    journal_heard n c.args.self.now c.args.by bytes d.bearer number c.in-Ok.answer w c.conclude.new.journal.entries c.hear_in.new.journal.entries c.args.out.now c.conclude.new.out (heard.0, heard.1, left)
+    c.conclude.ensures.journal c.hear_in.ensures.journal c.self.view_is

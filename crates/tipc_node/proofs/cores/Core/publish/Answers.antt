@@ -45,7 +45,7 @@ returns-clause-ok c =
     let given = c.as_slice-3.result.now in
     let d = c.in_ok-draft.draft in
     let xs = c.share.new.neighbours.items in
-    let journal = c.record.new.journal.entries in
+    let journal = c.conclude.new.journal.entries in
     let none : publication_refusal k.sockets a.port a.range.kind a.key ≡ None =
     ap (λ (z : NodeState). publication_refusal z.sockets a.port a.range.kind a.key) c.self.view_is
     ∙ ap (λ kind. publication_refusal a.self.now.sockets a.port kind a.key) (sym c.kind.ensures) ∙ sym c.publication_refusal.ensures ∙ c.in_default.is in
@@ -55,10 +55,10 @@ returns-clause-ok c =
     sym (crowd_same k c.as_slice.result.now c.as_slice-2.result.now given c.as_slice.ensures.value (c.as_slice-2.ensures.value ∙ sym c.as_slice-3.ensures.value)) ∙ sym c.crowd_refusal.ensures ∙ c.in_default-crowd_refusal.is in
     let sockets = c.in-Ok.ensures.ok ∙ ap (λ word. published k.sockets (own_publication word a.port a.range a.scope a.key)) c.self.invariant.3 in
     subst (λ (z : NodeState). IsAnnounced z (node_of k xs c.publish_at.new.self journal) a.by note (publication_refusal z.sockets a.port a.range.kind a.key) (published_work z a.port a.range a.scope a.key)
-    (telling false (own_publication z.own a.port a.range a.scope a.key)) a.out.now c.leave.new.out answer.Done) c.self.view_is
+    (telling false (own_publication z.own a.port a.range a.scope a.key)) a.out.now c.conclude.new.out answer.Done) c.self.view_is
     (announced k a.by note (publication_refusal k.sockets a.port a.range.kind a.key) (published_work k a.port a.range a.scope a.key) c.in_ok-inside.inside.items (telling false p) given xs c.publish_at.new.self d.inside.items journal d.out
-    a.out.now c.leave.new.out none clear (c.as_slice-3.ensures.value ∙ told) (c.in_ok-inside.ensures ∙ ap (λ q. Published q ∷ []) published_is) refl sockets (record {
+    a.out.now c.conclude.new.out none clear (c.as_slice-3.ensures.value ∙ told) (c.in_ok-inside.ensures ∙ ap (λ q. Published q ∷ []) published_is) refl sockets (record {
       tells = c.in_ok-draft.ensures.told;
-      leaves = λ frames adds. c.leave.ensures nothing_out frames refl refl adds;
-      recorded_is = c.record.ensures ∙ ap (λ es. es ++ step_entries (step_of a.by note d.inside.items answer.Done)) c.share.ensures.journal;
+      leaves = λ frames adds. c.conclude.ensures.frames nothing_out frames refl refl adds;
+      recorded_is = c.conclude.ensures.journal ∙ ap (λ es. es ++ step_entries (step_of a.by note d.inside.items answer.Done)) c.share.ensures.journal;
     }))

@@ -27,17 +27,17 @@ take-requires c =
     let prepared = subst (λ (k : NodeState). IsPrepared (neighbour_of k d.peer) d h) (sym c.self.view_is) c.requires.heard in
     (d.first, d.second, h.number, told_there (neighbour_of n d.peer) c.in-Some.neighbour d h was prepared)
 
-pub put_all-requires : goal.put_all-requires
-put_all-requires c =
+pub conclude_waiting-requires-clause-sure : goal.conclude_waiting-requires-clause-sure
+conclude_waiting-requires-clause-sure c =
     let ds = c.args.heard.deliveries.items in
     let sure = ap (λ (n : NodeState). all_wait n.sockets (message_count ds) ds) c.self.view_is ∙ c.requires.sure in
-    record { sure = ap (are_sure c.self.inside.sockets) c.in_ok-told.ensures.messages ∙ each_sure c.self.inside.sockets ds sure }
+    ap (are_sure c.self.inside.sockets) c.in_ok-told.ensures.messages ∙ each_sure c.self.inside.sockets ds sure
 
 pub invariant_of-self-2 : goal.invariant_of-self-2
 invariant_of-self-2 c =
     let i = c.self.invariant in
-    core_kept c.self.inside.neighbours.items c.args.due.peer c.answer.new.self c.self.inside.sockets c.put_all.new.sockets c.self.inside.boot c.self.inside.own.word i.0 i.1 i.2 i.3 i.4 c.requires.due.0
-    (same_put c.self.inside.sockets c.put_all.new.sockets c.in_ok-told.told.messages.items c.put_all.ensures)
+    core_kept c.self.inside.neighbours.items c.args.due.peer c.answer.new.self c.self.inside.sockets c.conclude_waiting.new.sockets c.self.inside.boot c.self.inside.own.word i.0 i.1 i.2 i.3 i.4 c.requires.due.0
+    (same_put c.self.inside.sockets c.conclude_waiting.new.sockets c.in_ok-told.told.messages.items c.conclude_waiting.ensures.sockets)
 
 pub returns-clause-heard : goal.returns-clause-heard
 returns-clause-heard c = λ bytes due.
@@ -60,9 +60,9 @@ returns-clause-heard c = λ bytes due.
     let took = c.take.ensures in
     let heard = taken_heard x d h y given c.args.out.now c.take.new.out (prepared_there (neighbour_of n d.peer) x d h was prepared) (took.takes d.first d.second h.number told) refl refl took.once in
     let inside = c.in_ok-told.told.entries.items in
-    let sockets = c.put_all.new.sockets in
-    journal_heard n c.args.self.now c.args.by bytes d.bearer h.number h.answer (work_of (slice_set n.neighbours d.peer (Some z)) sockets inside) c.record.new.journal.entries c.reserve.new.self.entries c.args.out.now c.answer.new.out
+    let sockets = c.conclude_waiting.new.sockets in
+    journal_heard n c.args.self.now c.args.by bytes d.bearer h.number h.answer (work_of (slice_set n.neighbours d.peer (Some z)) sockets inside) c.conclude_waiting.new.journal.entries c.reserve.new.self.entries c.args.out.now c.answer.new.out
     (taken_all n c.args.by bytes x y z d h given inside c.in_ok-told.told.messages.items sockets c.args.out.now c.take.new.out c.answer.new.out due_here was within prepared heard (took.changes ∙ c.requires.still) refl refl
     (record { answered = c.answer.ensures.after; state = c.answer.ensures.frames })
-    (record { inside_is = c.in_ok-told.ensures.entries; messages_are = c.in_ok-told.ensures.messages; sockets_are = c.put_all.ensures; sure = sure }))
-    c.record.ensures (ap (λ (j : JournalState). j.entries) c.in_ok-reserve.ensures.ok) c.self.view_is
+    (record { inside_is = c.in_ok-told.ensures.entries; messages_are = c.in_ok-told.ensures.messages; sockets_are = c.conclude_waiting.ensures.sockets; sure = sure }))
+    c.conclude_waiting.ensures.journal (ap (λ (j : JournalState). j.entries) c.in_ok-reserve.ensures.ok) c.self.view_is

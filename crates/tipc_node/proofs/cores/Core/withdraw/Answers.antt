@@ -55,7 +55,7 @@ returns-clause-ok c =
     let given = c.as_slice-3.result.now in
     let d = c.in_ok-draft.draft in
     let xs = c.share.new.neighbours.items in
-    let journal = c.record.new.journal.entries in
+    let journal = c.conclude.new.journal.entries in
     let found = sym c.published_at.ensures ∙ c.in-Some.is in
     let sound = subst (λ (z : NodeState). AreSockets z.sockets) (sym c.self.view_is) c.sound.ensures.sockets in
     let none = withdrawal_free k.sockets a.port a.key p (sym c.has.ensures ∙ c.if-not-has.false) found in
@@ -63,10 +63,10 @@ returns-clause-ok c =
     let clear : crowd_refusal k.neighbours given ≡ None =
     sym (crowd_same k c.as_slice.result.now c.as_slice-2.result.now given c.as_slice.ensures.value (c.as_slice-2.ensures.value ∙ sym c.as_slice-3.ensures.value)) ∙ sym c.crowd_refusal.ensures ∙ c.in_default-crowd_refusal.is in
     subst (λ (z : NodeState). IsAnnounced z (node_of k xs c.withdraw_at.new.self journal) a.by note (withdrawal_refusal z.sockets a.port a.key) (withdrawn_work z a.port a.key) (told_withdrawal z.sockets a.port a.key)
-    a.out.now c.leave.new.out answer.Done) c.self.view_is
+    a.out.now c.conclude.new.out answer.Done) c.self.view_is
     (announced k a.by note (withdrawal_refusal k.sockets a.port a.key) (withdrawn_work k a.port a.key) c.in_ok-inside.inside.items (told_withdrawal k.sockets a.port a.key) given xs c.withdraw_at.new.self d.inside.items journal d.out
-    a.out.now c.leave.new.out none clear told (c.in_ok-inside.ensures ∙ withdrawn_inside k a.port a.key p found) refl (withdrawn_sockets k a.port a.key p c.withdraw_at.new.self sound found c.in-Ok.ensures.after) (record {
+    a.out.now c.conclude.new.out none clear told (c.in_ok-inside.ensures ∙ withdrawn_inside k a.port a.key p found) refl (withdrawn_sockets k a.port a.key p c.withdraw_at.new.self sound found c.in-Ok.ensures.after) (record {
       tells = c.in_ok-draft.ensures.told;
-      leaves = λ frames adds. c.leave.ensures nothing_out frames refl refl adds;
-      recorded_is = c.record.ensures ∙ ap (λ es. es ++ step_entries (step_of a.by note d.inside.items answer.Done)) c.share.ensures.journal;
+      leaves = λ frames adds. c.conclude.ensures.frames nothing_out frames refl refl adds;
+      recorded_is = c.conclude.ensures.journal ∙ ap (λ es. es ++ step_entries (step_of a.by note d.inside.items answer.Done)) c.share.ensures.journal;
     }))
