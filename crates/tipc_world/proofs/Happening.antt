@@ -1,8 +1,8 @@
 -- An event among the nodes and in the air, put together from what its calls say.
-use Rattle.std.proofs.Common.{◌≡◌, ◌≤◌, ℕ, suc, zero, Bool, true, false, List, Option, Some, None, [], ◌∷◌, ◌++◌, length, take, refl, sym, ap, ◌∙◌, subst, arith}
+use Rattle.std.proofs.Common.{◌≡◌, ◌<◌, ◌≤◌, ℕ, suc, zero, Bool, true, false, List, Option, Some, None, [], ◌∷◌, ◌++◌, take, refl, sym, ap, ◌∙◌, subst, arith}
 use Rattle.std.proofs.Math.Path.{fun_ext}
 use Rattle.std.proofs.lemmas.Bool.Decides.{nat_tests}
-use Rattle.std.specs.Prelude.{All, if◌then◌else◌, is_some, nat_le, option_map, slice_get, slice_index_or}
+use Rattle.std.specs.Prelude.{All, if◌then◌else◌, is_some, nat_le, option_map, slice_get, slice_index_or, unwrap_or, filter, map}
 use Rattle.tipc_types.specs.Address.{node_word}
 use Rattle.tipc_types.specs.declared.node_calls.Answer.{Answer}
 use Rattle.tipc_outside.specs.declared.outgoing.Outgoing.{Outgoing}
@@ -13,18 +13,20 @@ use Rattle.tipc_pair.specs.Facing.{facing}
 use Rattle.tipc_node.specs.Nodes.{end_with, neighbour_of}
 use Rattle.tipc_world.specs.declared.air.Sent.{Sent}
 use Rattle.tipc_world.specs.declared.events.WorldEvent.{WorldEvent}
+use Rattle.tipc_world.specs.declared.flying.Met.{Met}
 use Rattle.tipc_world.specs.declared.events.WorldEvent.TheVariants.{Know, Restart, Call, Arrive}
-use Rattle.tipc_world.specs.Air.{met_in, with_leaving, Emits, IsSized, Leaves}
+use Rattle.tipc_world.specs.Air.{airborne, is_on, met_in, met_sender, receiver_of, with_leaving, Emits, IsSized, Leaves}
 use Rattle.tipc_world.specs.Numbers.{end_on}
-use Rattle.tipc_world.specs.Skies.{AirState, air_on}
-use Rattle.tipc_world.specs.Calls.{CanDoAt, CanHappenAt, node_of}
+use Rattle.tipc_world.specs.Skies.{AirState, air_on, with_both}
+use Rattle.tipc_world.specs.Calls.{CanDoAt, CanHappenAt, may_end_contact, node_of}
 use Rattle.tipc_world.specs.Due.{frame_for, unarrived}
 use Rattle.tipc_world.specs.Events.{AreSettled, DidAt}
+use Rattle.tipc_world.specs.Members.{sender_of}
 use Rattle.tipc_world.specs.Sound.{IsSound}
-use Rattle.tipc_world.specs.States.{MemberState, contact_at, knows}
+use Rattle.tipc_world.specs.States.{MemberState, contact_at, knows, numbers_at}
 use Rattle.tipc_world.specs.Steps.{stage, Happens, IsArrival}
 use Rattle.tipc_world.proofs.calls.Calls.{the_some}
-use Rattle.tipc_world.proofs.pairs.Contacts.{met_is}
+use Rattle.tipc_world.proofs.frames.Lasting.{StandsFor, stands_before, stands_sender}
 use Rattle.tipc_world.proofs.LookUps.{member_at-is, pair_at-is}
 
 -- a front of a front is a front
@@ -60,9 +62,26 @@ leaves_of air air' met members a frames box box' lost empty adds emits = by lost
           whole = λ kept. count;
         }
 
-pub happens_of : (old new : List (Option MemberState)) (air air' : AirState) (met : ℕ → Option (ℕ × ℕ)) (stamp : ℕ) (event : WorldEvent) (bytes : List ℕ) (box box' : Out) (answered : Answer) (lost : Bool)
-    → ((b : ℕ) → met b ≡ contact_at old (node_of event) b) → box.frames ≡ [] → DidAt old new stamp event bytes box box' answered → Emits air air' met new (node_of event) box' lost → Happens (stage old air) (stage new air') stamp event bytes answered lost
-happens_of old new air air' met stamp event bytes box box' answered lost was empty did emits = record {
+-- the frame in the air, whichever contact stands beside it
+abbrev stamped : List (Option MemberState) → ℕ → Outgoing → ℕ × ℕ → Sent
+stamped members a o contact = record (airborne (λ b. None) members a o) { contact = contact }
+
+same_frame : (met met' : ℕ → Option (ℕ × ℕ)) (members : List (Option MemberState)) (a : ℕ) → ((b : ℕ) → unwrap_or (met b) (numbers_at members a b) ≡ unwrap_or (met' b) (numbers_at members a b)) → (o : Outgoing) → airborne met members a o ≡ airborne met' members a o
+same_frame met met' members a same o = ap (stamped members a o) (same (receiver_of o.to))
+
+same_leaves : (air air' : AirState) (met met' : ℕ → Option (ℕ × ℕ)) (members : List (Option MemberState)) (a : ℕ) (frames : List Outgoing) (lost : Bool) → ((b : ℕ) → unwrap_or (met b) (numbers_at members a b) ≡ unwrap_or (met' b) (numbers_at members a b))
+    → Leaves air air' met members a frames lost → Leaves air air' met' members a frames lost
+same_leaves air air' met met' members a frames lost same leaves = record {
+  count = leaves.count;
+  air = leaves.air ∙ ap (λ f. with_both air (map f (filter (is_on 0) (take leaves.count frames))) (map f (filter (is_on 1) (take leaves.count frames)))) (fun_ext (same_frame met met' members a same));
+  sized = leaves.sized;
+  whole = leaves.whole;
+}
+
+-- Beside each frame stands the contact before the event, of those contacts that may end in it.
+pub happens_of : (old new : List (Option MemberState)) (air air' : AirState) (met : Met) (stamp : ℕ) (event : WorldEvent) (bytes : List ℕ) (box box' : Out) (answered : Answer) (lost : Bool)
+    → ((b : ℕ) → StandsFor old new (node_of event) met b) → box.frames ≡ [] → DidAt old new stamp event bytes box box' answered → Emits air air' (met_in met) new (node_of event) box' lost → Happens (stage old air) (stage new air') stamp event bytes answered lost
+happens_of old new air air' met stamp event bytes box box' answered lost stands empty did emits = record {
   before = did.before;
   after = did.after;
   frames = did.did.frames;
@@ -70,20 +89,31 @@ happens_of old new air air' met stamp event bytes box box' answered lost was emp
   turns = record {
     was = did.was;
     members = did.new_is;
-    leaves = subst (λ m. Leaves air air' m new (node_of event) did.did.frames lost) (fun_ext was) (leaves_of air air' met new (node_of event) did.did.frames box box' lost empty did.did.adds emits);
+    leaves = same_leaves air air' (met_in met) (contact_at old (node_of event)) new (node_of event) did.did.frames lost stands
+        (leaves_of air air' (met_in met) new (node_of event) did.did.frames box box' lost empty did.did.adds emits);
   };
 }
 
--- the same of contacts that were gathered before, and of the nodes and the contacts as the calls see them
-pub happens_as : (old before new after : List (Option MemberState)) (air air' : AirState) (met seen : List (Option (ℕ × ℕ))) (stamp node : ℕ) (event : WorldEvent) (bytes : List ℕ) (box box' : Out) (answered : Answer) (lost : Bool)
-    → AreSettled old → node ≡ node_of event → before ≡ old → length met ≡ 33 → ((b : ℕ) → b ≤ 32 → slice_index_or met b None ≡ contact_at before node b) → seen ≡ met → after ≡ new
-    → box.frames ≡ [] → DidAt old new stamp event bytes box box' answered → Emits air air' (met_in seen) after node box' lost → Happens (stage old air) (stage new air') stamp event bytes answered lost
-happens_as old before new after air air' met seen stamp node event bytes box box' answered lost settled at was few each same now empty did emits =
-    let a = node_of event in
-    let contacts : (b : ℕ) → b ≤ 32 → slice_index_or met b None ≡ contact_at old a b = λ b low. each b low ∙ (ap (λ ms. contact_at ms node b) was ∙ ap (λ n. contact_at old n b) at) in
-    let here = subst (λ n. Emits air air' (met_in seen) after n box' lost) at emits in
-    let left = subst (λ ms. Emits air air' (met_in seen) ms a box' lost) now here in
-    happens_of old new air air' (met_in met) stamp event bytes box box' answered lost (met_is old a met settled few contacts) empty did (subst (λ m. Emits air air' (met_in m) new a box' lost) same left)
+-- an event other than an arrival, of nodes and contacts as the calls see them
+pub happens_before : (old before new after : List (Option MemberState)) (air air' : AirState) (met : Met) (stamp node : ℕ) (event : WorldEvent) (box box' : Out) (answered : Answer) (lost : Bool)
+    → AreSettled old → node ≡ node_of event → before ≡ old → ((b : ℕ) → b ≤ 32 → met_in met b ≡ (if may_end_contact event then contact_at before (node_of event) b else None)) → ((b : ℕ) → 32 < b → met_in met b ≡ None)
+    → after ≡ new → box.frames ≡ [] → DidAt old new stamp event [] box box' answered → Emits air air' (met_in met) after node box' lost → Happens (stage old air) (stage new air') stamp event [] answered lost
+happens_before old before new after air air' met stamp node event box box' answered lost settled at was each beyond now empty did emits =
+    let contacts : (b : ℕ) → b ≤ 32 → met_in met b ≡ (if may_end_contact event then contact_at old (node_of event) b else None) =
+    λ b low. each b low ∙ ap (λ ms. if may_end_contact event then contact_at ms (node_of event) b else None) was in
+    let here = subst (λ n. Emits air air' (met_in met) after n box' lost) at emits in
+    happens_of old new air air' met stamp event [] box box' answered lost (stands_before old new stamp event [] box box' answered met settled did contacts beyond) empty did
+    (subst (λ ms. Emits air air' (met_in met) ms (node_of event) box' lost) now here)
+
+-- an arrival, likewise
+pub happens_sender : (old before new after : List (Option MemberState)) (air air' : AirState) (met : Met) (stamp node bearer place : ℕ) (bytes : List ℕ) (box box' : Out) (answered : Answer) (lost : Bool)
+    → IsSound old air → before ≡ old → met ≡ met_sender before node (sender_of bytes) → after ≡ new → box.frames ≡ [] → DidAt old new stamp (Arrive node bearer place) bytes box box' answered
+    → Emits air air' (met_in met) after node box' lost → Happens (stage old air) (stage new air') stamp (Arrive node bearer place) bytes answered lost
+happens_sender old before new after air air' met stamp node bearer place bytes box box' answered lost sound was met_is now empty did emits =
+    let is : met ≡ met_sender old node (sender_of bytes) = met_is ∙ ap (λ ms. met_sender ms node (sender_of bytes)) was in
+    happens_of old new air air' met stamp (Arrive node bearer place) bytes box box' answered lost
+    (λ b. subst (λ m. StandsFor old new node m b) (sym is) (stands_sender old new air stamp node bearer place bytes box box' answered sound did b)) empty did
+    (subst (λ ms. Emits air air' (met_in met) ms node box' lost) now emits)
 
 -- a frame arrived
 pub arrival_of : (old new : List (Option MemberState)) (air air' : AirState) (stamp node bearer place : ℕ) (f : Sent) (answered : Answer) (lost : Bool)

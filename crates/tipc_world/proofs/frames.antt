@@ -8,3 +8,4 @@ pub mod Truth
 pub mod Coming
 pub mod Messages
 pub mod Routes
+pub mod Lasting

@@ -1,5 +1,5 @@
 -- Frames that are sent, and the air that keeps them.
-use Rattle.std.specs.Prelude.{◌≡◌, ℕ, ◌-◌, ◌==◌, All, Bool, false, true, ◌&&◌, ◌++◌, List, None, Option, filter, map, slice_index_or, take, length, unwrap_or}
+use Rattle.std.specs.Prelude.{◌≡◌, ℕ, ◌-◌, ◌==◌, All, Bool, false, true, ◌&&◌, ◌++◌, List, None, Option, Some, filter, if◌then◌else◌, map, slice_index_or, take, length, unwrap_or}
 use Rattle.tipc_types.specs.Address.{node_word}
 use Rattle.tipc_types.specs.declared.identity.To.{To}
 use Rattle.tipc_types.specs.declared.identity.To.TheVariants as to
@@ -9,8 +9,10 @@ use Rattle.tipc_paired.specs.Views.{Frame, er_of, es_of}
 use Rattle.tipc_node.specs.Nodes.{is_frame_size}
 use Rattle.tipc_node.specs.Turns.{is_to}
 use Rattle.tipc_world.specs.declared.air.Sent.{Sent}
+use Rattle.tipc_world.specs.declared.flying.Met.{Met}
+use Rattle.tipc_world.specs.declared.flying.Met.TheVariants.{Lasting, Sender, Everyone}
 use Rattle.tipc_world.specs.Skies.{AirState, with_both}
-use Rattle.tipc_world.specs.States.{MemberState, count_at, numbers_at}
+use Rattle.tipc_world.specs.States.{MemberState, contact_at, count_at, numbers_at}
 
 -- the number of a node by its address word
 abbrev pub number_of_node : ℕ → ℕ
@@ -21,9 +23,16 @@ abbrev pub receiver_of : To → ℕ
 receiver_of (to.Node address) = number_of_node address.word
 receiver_of to.All = 0
 
--- the contacts in which a node is, as a list by peer
-abbrev pub met_in : List (Option (ℕ × ℕ)) → ℕ → Option (ℕ × ℕ)
-met_in met b = slice_index_or met b None
+-- the contact in which a node was with a peer before an event, where it may end in the event
+abbrev pub met_in : Met → ℕ → Option (ℕ × ℕ)
+met_in Lasting b = None
+met_in (Sender peer contact) b = if b == peer then contact else None
+met_in (Everyone contacts) b = slice_index_or contacts.items b None
+
+-- the contact of node a that may end as a frame arrives: that with the sender that the frame names
+abbrev pub met_sender : List (Option MemberState) → ℕ → Option ℕ → Met
+met_sender members a (Some peer) = Sender peer (contact_at members a peer)
+met_sender members a None = Lasting
 
 -- A frame that leaves node a in an event: before it the node was in these contacts, by peer, and these are the nodes after it. Beside the
 -- frame stands the contact with the receiver before the event, or else the contact numbers after it, and the counts after it.

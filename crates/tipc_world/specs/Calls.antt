@@ -1,5 +1,7 @@
 -- What an event needs, and what it counts for.
-use Rattle.std.specs.Prelude.{◌≡◌, ◌≢◌, ◌≤◌, ℕ, Bool, true, false, ◌&&◌, List, Option, Some, None, is_none, is_some, slice_index_or}
+use Rattle.std.specs.Prelude.{◌≡◌, ◌≢◌, ◌≤◌, ℕ, Bool, true, false, ◌&&◌, List, Option, Some, None, is_none, is_some, not, slice_index_or}
+use Rattle.tipc_types.specs.declared.node_calls.EventNote.{EventNote}
+use Rattle.tipc_types.specs.declared.node_calls.EventNote.TheVariants as note
 use Rattle.tipc_node.specs.Calls.{CanPerform}
 use Rattle.tipc_node.specs.Nodes.{NodeState, end_with, neighbour_of}
 use Rattle.tipc_node.specs.declared.recording.NodeFault.{NodeFault}
@@ -50,6 +52,19 @@ abbrev pub is_recorded : WorldEvent → Bool
 is_recorded (Know node peer bearer) = false
 is_recorded (Restart node) = false
 is_recorded event = true
+
+-- whether a call is one of a user: it is no tick, cuts or mends no bearer, and nothing arrives in it
+abbrev pub is_of_user : EventNote → Bool
+is_of_user note.Tick = false
+is_of_user (note.Cut bearer) = false
+is_of_user (note.Mend bearer) = false
+is_of_user (note.Arrive bearer number) = false
+is_of_user other = true
+
+-- whether a contact of the node may end in an event: in no call of a user
+abbrev pub may_end_contact : WorldEvent → Bool
+may_end_contact (Call node call) = not (is_of_user call)
+may_end_contact other = true
 
 -- whether it counts as an event: an arrival of no frame, or of one that is too old, is none
 abbrev pub counts_at : List (Option MemberState) → AirState → WorldEvent → Bool

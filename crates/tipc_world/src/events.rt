@@ -1,7 +1,7 @@
 //! What may happen in a world, and the limits at which it stops.
 
 ghost use Rattle.std.specs.Prelude.{◌≡◌};
-ghost use Rattle.tipc_world.specs.Calls.{is_recorded, node_of};
+ghost use Rattle.tipc_world.specs.Calls.{is_of_user, is_recorded, may_end_contact, node_of};
 
 use std::alloc::AllocError;
 use tipc_node::NodeFault;
@@ -65,6 +65,41 @@ impl WorldEvent {
             WorldEvent::Call { .. } => true,
             WorldEvent::Arrive { .. } => true,
         }
+    }
+
+    /// Whether a contact of its node may end in it: in no call of a user.
+    pub(crate) fn may_end_contact(&self) -> bool
+        ensures { result ≡ may_end_contact self.now }
+    {
+        match self {
+            WorldEvent::Know { .. } => true,
+            WorldEvent::Restart { .. } => true,
+            WorldEvent::Call { node: _, call } => !is_of_user(call),
+            WorldEvent::Arrive { .. } => true,
+        }
+    }
+}
+
+/// Whether a call is one of a user: it is no tick, cuts or mends no bearer, and nothing arrives in it.
+fn is_of_user(call: &EventNote) -> bool
+    ensures { result ≡ is_of_user call.now }
+{
+    match call {
+        EventNote::Tick => false,
+        EventNote::Cut { .. } => false,
+        EventNote::Mend { .. } => false,
+        EventNote::Arrive { .. } => false,
+        EventNote::Socket => true,
+        EventNote::Close { .. } => true,
+        EventNote::Publish { .. } => true,
+        EventNote::Withdraw { .. } => true,
+        EventNote::SendPort { .. } => true,
+        EventNote::SendName { .. } => true,
+        EventNote::Multicast { .. } => true,
+        EventNote::Receive { .. } => true,
+        EventNote::Subscribe { .. } => true,
+        EventNote::Cancel { .. } => true,
+        EventNote::NextEvent { .. } => true,
     }
 }
 

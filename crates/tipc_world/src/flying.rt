@@ -1,15 +1,18 @@
 //! Frames that leave a node and come into the air, and those of the air that arrive.
 
-ghost use Rattle.std.specs.Prelude.{All, ◌≡◌, ◌≤◌, ◌∷◌, ◌⊎◌, [], ℕ, true, false, Some, None, length, drop, is_some, slice_get, slice_index_or, unwrap_or, IfOk, IfSome, IfNone, IfErr, OnOk};
+ghost use Rattle.std.specs.Prelude.{All, ◌≡◌, ◌<◌, ◌≤◌, ◌∷◌, ◌⊎◌, [], ℕ, true, false, Some, None, length, drop, is_some, if◌then◌else◌, slice_get, slice_index_or, unwrap_or, IfOk, IfSome, IfNone, IfErr, OnOk};
 ghost use Rattle.tipc_types.specs.Address.{node_word};
 ghost use Rattle.tipc_paired.specs.Views.{er_of, es_of};
-ghost use Rattle.tipc_world.specs.Air.{airborne, met_in, with_leaving, Emits, IsSized, Releases};
+ghost use Rattle.tipc_world.specs.Air.{airborne, met_in, met_sender, with_leaving, Emits, IsSized, Releases};
+ghost use Rattle.tipc_world.specs.Calls.{may_end_contact, node_of};
 ghost use Rattle.tipc_world.specs.Due.{age_of, frame_for, is_for, session_age, unarrived, HasNoSession, HasSession};
+ghost use Rattle.tipc_world.specs.Members.{sender_of};
 ghost use Rattle.tipc_world.specs.Skies.{air_on};
 ghost use Rattle.tipc_world.specs.States.{boot_at, contact_at, count_at, numbers_at, pair_at};
 
 use crate::air::{Air, Sent};
-use crate::members::Member;
+use crate::events::WorldEvent;
+use crate::members::{Member, sender_of};
 use std::alloc::Global;
 use std::collections::VecDeque;
 use tipc_header::{decode, open_frame};
@@ -22,6 +25,22 @@ const OLDEST: u64 = 30_000;
 
 /// The contacts in which a node is, by peer.
 type Contacts = Vec<Option<(u64, u64)>>;
+
+/// The contacts in which a node was before an event, of those that may end in it.
+#[derive(Drop)]
+pub enum Met {
+    /// None may end.
+    Lasting,
+    /// The contact with the sender of what arrives may end, and no other.
+    Sender {
+        /// The sender's number.
+        peer: u8,
+        /// The contact with it.
+        contact: Option<(u64, u64)>,
+    },
+    /// All may end: the contacts by the peer's number.
+    Everyone(Contacts),
+}
 
 /// The first contact number of the first boot.
 const FIRST_CONTACT: u64 = 4_294_967_297;
@@ -60,7 +79,7 @@ pub fn contact_at(members: &[Option<Member>], a: u8, b: u8) -> Option<(u64, u64)
 }
 
 /// The contacts in which node `a` is, by peer.
-pub fn contacts_of(members: &[Option<Member>], alloc: Global, a: u8) -> Result<Contacts, NoMemory>
+fn contacts_of(members: &[Option<Member>], alloc: Global, a: u8) -> Result<Contacts, NoMemory>
     ensures each { IfOk result (λ met. (b : ℕ) → b ≤ 32 → slice_index_or met.items b None ≡
         contact_at members.now a b) }
     ensures few { IfOk result (λ met. length met.items ≡ 33) }
@@ -73,13 +92,47 @@ pub fn contacts_of(members: &[Option<Member>], alloc: Global, a: u8) -> Result<C
     Ok(met)
 }
 
-/// The contact in which a node was with a peer.
-fn met_with(met: &[Option<(u64, u64)>], b: u8) -> Option<(u64, u64)>
-    ensures { result ≡ slice_index_or met.now b None }
+/// The contacts that may end in an event other than an arrival, before it: all that its node has, or none.
+pub fn met_before(
+    members: &[Option<Member>],
+    alloc: Global,
+    event: &WorldEvent,
+) -> Result<Met, NoMemory>
+    ensures each { IfOk result (λ met. (b : ℕ) → b ≤ 32 → met_in met b ≡
+        (if may_end_contact event.now then contact_at members.now (node_of event.now) b else None)) }
+    ensures beyond { IfOk result (λ met. (b : ℕ) → 32 < b → met_in met b ≡ None) }
 {
-    match met.get(b as usize) {
-        Some(contact) => *contact,
-        None => None,
+    if !event.may_end_contact() {
+        return Ok(Met::Lasting);
+    }
+    let contacts = contacts_of(members, alloc, event.node())?;
+    Ok(Met::Everyone(contacts))
+}
+
+/// The contact of node `a` that may end as a frame arrives: that with the sender that the frame names.
+pub fn met_sender(members: &[Option<Member>], a: u8, frame: &[u8]) -> Met
+    ensures { result ≡ met_sender members.now a (sender_of frame.now) }
+{
+    match sender_of(frame) {
+        Some(peer) => Met::Sender {
+            peer,
+            contact: contact_at(members, a, peer),
+        },
+        None => Met::Lasting,
+    }
+}
+
+/// The contact in which a node was with a peer, where it may end.
+fn met_with(met: &Met, b: u8) -> Option<(u64, u64)>
+    ensures { result ≡ met_in met.now b }
+{
+    match met {
+        Met::Lasting => None,
+        Met::Sender { peer, contact } => { if b == *peer { *contact } else { None } }
+        Met::Everyone(contacts) => match contacts.get(b as usize) {
+            Some(contact) => *contact,
+            None => None,
+        },
     }
 }
 
@@ -212,9 +265,10 @@ pub fn find<'a>(
 
 // ---- frames that leave
 
-/// The contact that stands beside a frame from node `a` to a node: that in which it was before, or else its contact numbers.
-fn told_in(members: &[Option<Member>], met: &[Option<(u64, u64)>], a: u8, to: u8) -> (u64, u64)
-    ensures { result ≡ unwrap_or (slice_index_or met.now to None) (numbers_at members.now a to) }
+/// The contact that stands beside a frame from node `a` to a node: that in which it was before, where it may have ended, or else its contact
+/// numbers.
+fn told_in(members: &[Option<Member>], met: &Met, a: u8, to: u8) -> (u64, u64)
+    ensures { result ≡ unwrap_or (met_in met.now to) (numbers_at members.now a to) }
 {
     match met_with(met, to) {
         Some(contact) => contact,
@@ -223,12 +277,7 @@ fn told_in(members: &[Option<Member>], met: &[Option<(u64, u64)>], a: u8, to: u8
 }
 
 /// The frame that leaves node `a`, as the air keeps it: None where it has no frame's size, or isn't for one of the 32 nodes.
-fn airborne(
-    members: &[Option<Member>],
-    met: &[Option<(u64, u64)>],
-    a: u8,
-    outgoing: Outgoing,
-) -> Option<Sent>
+fn airborne(members: &[Option<Member>], met: &Met, a: u8, outgoing: Outgoing) -> Option<Sent>
     requires { (1 ≤ a) × (a ≤ 32) }
     ensures value { IfSome result (λ f. f ≡ airborne (met_in met.now) members.now a outgoing) }
     ensures sized { IfSome result (λ f. IsSized outgoing) }
@@ -252,7 +301,7 @@ fn airborne(
 /// Brings a frame that leaves node `a` into the air of its bearer. It answers whether it came there.
 fn release_one(
     members: &[Option<Member>],
-    met: &[Option<(u64, u64)>],
+    met: &Met,
     air: &mut Air,
     a: u8,
     outgoing: Outgoing,
@@ -275,7 +324,7 @@ fn release_one(
 /// Brings frames that leave node `a` into the air, in order, up to one that finds no memory. It answers whether all came there.
 fn release(
     members: &[Option<Member>],
-    met: &[Option<(u64, u64)>],
+    met: &Met,
     air: &mut Air,
     a: u8,
     frames: Vec<Outgoing>,
@@ -294,15 +343,9 @@ fn release(
     true
 }
 
-/// Brings what left node `a` in an event into the air. Before it the node was in these contacts. It answers whether a frame was lost for want
-/// of memory.
-pub fn emit(
-    members: &[Option<Member>],
-    met: &[Option<(u64, u64)>],
-    air: &mut Air,
-    a: u8,
-    out: Outbox,
-) -> bool
+/// Brings what left node `a` in an event into the air. Before it the node was in these contacts, of those that may end in it. It answers
+/// whether a frame was lost for want of memory.
+pub fn emit(members: &[Option<Member>], met: &Met, air: &mut Air, a: u8, out: Outbox) -> bool
     requires { (1 ≤ a) × (a ≤ 32) }
     ensures { Emits air.old air.new (met_in met.now) members.now a out result }
 {

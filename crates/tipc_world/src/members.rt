@@ -158,7 +158,7 @@ fn sender_word(frame: &[u8]) -> u32
 }
 
 /// The number of the node that a frame names as its sender: None exactly where it names none of the 32.
-fn sender_of(frame: &[u8]) -> Option<u8>
+pub fn sender_of(frame: &[u8]) -> Option<u8>
     ensures { result ≡ sender_of frame.now }
 {
     if frame.len() < 32 {

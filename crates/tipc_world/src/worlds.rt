@@ -17,7 +17,7 @@ ghost use Rattle.tipc_world.specs.Steps.{stage, Becomes, Happens, IsArrival, IsJ
 
 use crate::air::Air;
 use crate::events::{Limit, WorldEvent, WorldFault};
-use crate::flying::{contacts_of, emit, find};
+use crate::flying::{emit, find, met_before, met_sender};
 use crate::members::Member;
 use std::alloc::Global;
 use std::marker::Model;
@@ -219,10 +219,10 @@ fn turn<P: Pick>(
 {
     begin(events)?;
     let node = event.node();
-    let met = contacts_of(members, alloc, node)?;
+    let met = met_before(members, alloc, &event)?;
     let mut out = Outbox::new(alloc);
     let answer = happen_at(members, chooser, alloc, stamp, event, &mut out)?;
-    let lost = emit(members, met.as_slice(), air, node, out);
+    let lost = emit(members, &met, air, node, out);
     Ok(Happened {
         answer,
         lost,
@@ -264,11 +264,11 @@ fn arrive(
         }
     };
     begin(events)?;
-    let met = contacts_of(members, alloc, node)?;
-    let mut out = Outbox::new(alloc);
     let frame = sent.frame.as_slice();
+    let met = met_sender(members, node, frame);
+    let mut out = Outbox::new(alloc);
     let answer = arrive_at(members, alloc, stamp, node, bearer, place, frame, &mut out)?;
-    let lost = emit(members, met.as_slice(), air, node, out);
+    let lost = emit(members, &met, air, node, out);
     Ok(Happened {
         answer,
         lost,

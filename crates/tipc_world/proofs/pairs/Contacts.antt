@@ -1,11 +1,8 @@
 -- The contacts in which a node is, gathered by peer.
-use Rattle.std.proofs.Common.{◌≡◌, ◌≤◌, ◌<◌, ℕ, List, Option, Some, None, length, option_and_then, option_map, slice_index_or, inl, inr, refl, sym, ap, ◌∙◌, arith}
-use Rattle.std.proofs.lemmas.Bool.{cases_lt}
-use Rattle.std.proofs.lemmas.List.{get_or_past}
+use Rattle.std.proofs.Common.{◌≡◌, ◌<◌, ℕ, List, Option, Some, None, length, option_and_then, option_map, slice_index_or, refl, ap}
 use Rattle.tipc_pair.specs.Facing.{contact_between}
 use Rattle.tipc_node.specs.declared.neighbours.Neighbour.{Neighbour}
 use Rattle.tipc_node.specs.Turns.{pair_in}
-use Rattle.tipc_world.specs.Air.{met_in}
 use Rattle.tipc_world.specs.Events.{AreSettled}
 use Rattle.tipc_world.specs.States.{MemberState, contact_at, member_at, pair_at}
 
@@ -15,18 +12,10 @@ pub record AreGathered (members : List (Option MemberState)) (a below : ℕ) (me
   pub each : (b : ℕ) → b < below → slice_index_or met b None ≡ contact_at members a b
 
 -- a node is in no contact with a number beyond 32
-no_contact : (members : List (Option MemberState)) (a b : ℕ) → AreSettled members → 32 < b → contact_at members a b ≡ None
+pub no_contact : (members : List (Option MemberState)) (a b : ℕ) → AreSettled members → 32 < b → contact_at members a b ≡ None
 unfolding contact_at pair_at member_at
 no_contact members a b settled high = case (slice_index_or members a None) refl
   where
     case : (o : Option MemberState) → slice_index_or members a None ≡ o → option_and_then contact_between (option_and_then (λ (m : MemberState). pair_in m.node b) o) ≡ None
     case None is = refl
     case (Some m) is = ap (λ (x : Option Neighbour). option_and_then contact_between (option_map (λ (y : Neighbour). y.pair) x)) ((settled a m is).known b high)
-
--- what is kept of the contacts with the numbers up to 32 is all of them
-pub met_is : (members : List (Option MemberState)) (a : ℕ) (met : List (Option (ℕ × ℕ))) → AreSettled members → length met ≡ 33 → ((b : ℕ) → b ≤ 32 → slice_index_or met b None ≡ contact_at members a b)
-    → (b : ℕ) → met_in met b ≡ contact_at members a b
-met_is members a met settled few each b = elim (cases_lt b 33) [
-  | inl low ↦ each b (omega (arith, low))
-  | inr high ↦ get_or_past met b None (omega (arith, high, few)) ∙ sym (no_contact members a b settled (omega (arith, high)))
-]
