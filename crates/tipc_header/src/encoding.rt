@@ -109,7 +109,11 @@ fn put_word(into: &mut Vec<u8>, number: u32)
     ensures len { vec_len into.new ≡ vec_len into.old + 4 }
     ensures room { vec_capacity into.old ≤ vec_capacity into.new }
 {
-    put_bytes(into, &number.to_be_bytes());
+    let bytes = number.to_be_bytes();
+    into.push_reserved(bytes[0]);
+    into.push_reserved(bytes[1]);
+    into.push_reserved(bytes[2]);
+    into.push_reserved(bytes[3]);
 }
 
 /// Appends these words, for which there is room.

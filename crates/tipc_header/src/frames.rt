@@ -84,7 +84,7 @@ pub fn encode_frame(
     requires { Fits (view packet.now) }
     ensures { IfOk result (λ frame. frame.items ≡ frame_of first second (spelling (view packet.now))) }
 {
-    let mut frame = Vec::with_capacity(alloc, 16)?;
+    let mut frame = Vec::with_capacity(alloc, 16 + packet.size())?;
     put_envelope(&mut frame, first, second);
     encode(packet, &mut frame)?;
     Ok(frame)
@@ -105,9 +105,8 @@ pub fn stamp_frame(
     ensures { IfOk result (λ frame. frame.items ≡ frame_of first second
         (stamped acknowledgement sequence previous packet.now)) }
 {
-    let mut frame = Vec::with_capacity(alloc, 16)?;
+    let mut frame = Vec::with_capacity(alloc, 16 + packet.len())?;
     put_envelope(&mut frame, first, second);
-    frame.reserve(packet.len())?;
     put_stamped(
         &mut frame,
         packet,
