@@ -10,12 +10,11 @@ use Rattle.tipc_report.specs.declared.told.Told.{Told}
 use Rattle.tipc_world.specs.declared.events.WorldEvent.{WorldEvent}
 use Rattle.tipc_world.specs.declared.events.WorldEvent.TheVariants as event
 use Rattle.tipc_world.specs.declared.events.WorldFault.{WorldFault}
-use Rattle.tipc_world.specs.declared.events.WorldFault.TheVariants as fault
 use Rattle.tipc_world.specs.Calls.{CanHappen}
 use Rattle.tipc_world.specs.States.{WorldState, WorldView}
 use Rattle.tipc_sim.specs.declared.messages.Socket.{Socket}
-use Rattle.tipc_sim.specs.declared.places.Places.{Places}
-use Rattle.tipc_sim.specs.Courses.{Comes, Continues, Once}
+use Rattle.tipc_world.specs.declared.places.Places.{Places}
+use Rattle.tipc_world.specs.Courses.{Continues, Once}
 use Rattle.tipc_sim.specs.Meanings.{Pumps}
 use Rattle.tipc_sim.specs.Happenings.{beside, sending, told_of, Conversed, Moves, Repeated}
 use Rattle.tipc_sim.specs.Messages.{is_call, is_message, is_sent, low_message, Bursts, Follows, PumpsAndReceives, PumpsBoth, ReceivesAll, Repeats, SendsAgain, Turn, Turns}
@@ -29,45 +28,39 @@ send_can old new (event.Restart node) continues e can = absurd cc
 send_can old new (event.Arrive node bearer place) continues e can = absurd cc
 
 -- the next message was stopped
-pub send_halts : (times : ℕ) (send : WorldEvent) (start : WorldState) (count : ℕ) (before now : WorldState) (f : WorldFault) → count < times → Repeats send is_sent start count before → Comes (Once send before) (Err f) now
-    → Comes (SendsAgain times send start) (Err f) now
-send_halts times send start count before now (fault.Limit stop) fewer passed stopped = (record { count = count; before = before; passed = passed; stopped = stopped }, fewer)
-send_halts times send start count before now fault.NoMemory fewer passed stopped = tt
+pub send_halts : (times : ℕ) (send : WorldEvent) (start : WorldState) (count : ℕ) (before now : WorldState) (f : WorldFault) → count < times → Repeats send is_sent start count before → Once send before (Err f) now
+    → SendsAgain times send start (Err f) now
+send_halts times send start count before now stop fewer passed stopped = (record { count = count; before = before; passed = passed; stopped = stopped }, fewer)
 
 -- the next receive was stopped
 pub receive_halts : (node port : ℕ) (start : WorldState) (count : ℕ) (before now : WorldState) (f : WorldFault) → Repeats (event.Call node (call.Receive port)) is_message start count before
-    → Comes (Once (event.Call node (call.Receive port)) before) (Err f) now → Comes (ReceivesAll node port start) (Err f) now
-receive_halts node port start count before now (fault.Limit stop) passed stopped = record { count = count; before = before; passed = passed; stopped = stopped }
-receive_halts node port start count before now fault.NoMemory passed stopped = tt
+    → Once (event.Call node (call.Receive port)) before (Err f) now → ReceivesAll node port start (Err f) now
+receive_halts node port start count before now stop passed stopped = record { count = count; before = before; passed = passed; stopped = stopped }
 
 -- how many events a receive leaves
 pub receive_counts : (old : WorldState) (node port : ℕ) (new : WorldState) (answer : Answer) → Once (event.Call node (call.Receive port)) old (Ok answer) new → (old.events < 300000) × (new.events ≡ old.events + 1)
-receive_counts old node port new answer answered = (answered.free.below refl, answered.step.events)
+receive_counts old node port new answer made = (made.answered.free.below refl, made.answered.step.events)
 
 -- the frames of bearer 0 were pumped, and an arrival on bearer 1 was stopped
-pub second_halts : (places : Places) (start between now : WorldState) (first : Answer) (f : WorldFault) → Pumps 0 places.first start (Ok first) between → Comes (Pumps 1 places.second between) (Err f) now
-    → Comes (PumpsBoth places start) (Err f) now
-second_halts places start between now first (fault.Limit stop) came stopped = inr (between, first, came, stopped)
-second_halts places start between now first fault.NoMemory came stopped = tt
+pub second_halts : (places : Places) (start between now : WorldState) (first : Answer) (f : WorldFault) → Pumps 0 places.first start (Ok first) between → Pumps 1 places.second between (Err f) now
+    → PumpsBoth places start (Err f) now
+second_halts places start between now first stop came stopped = inr (between, first, came, stopped)
 
 -- frames were pumped, and the receive was stopped
-pub last_halts : (places : Places) (receive : WorldEvent) (start between now : WorldState) (ends : Places) (f : WorldFault) → PumpsBoth places start (Ok ends) between → Comes (Once receive between) (Err f) now
-    → Comes (PumpsAndReceives places receive start) (Err f) now
-last_halts places receive start between now ends (fault.Limit stop) came stopped = inr (between, ends, came, stopped)
-last_halts places receive start between now ends fault.NoMemory came stopped = tt
+pub last_halts : (places : Places) (receive : WorldEvent) (start between now : WorldState) (ends : Places) (f : WorldFault) → PumpsBoth places start (Ok ends) between → Once receive between (Err f) now
+    → PumpsAndReceives places receive start (Err f) now
+last_halts places receive start between now ends stop came stopped = inr (between, ends, came, stopped)
 
 -- a message was sent, and then frames are pumped and a message is received
 pub turn_goes_on : (send receive : WorldEvent) (places : Places) (start between now : WorldState) (answer : Answer) (came : Result (Bool × Places) WorldFault) → Once send start (Ok answer) between → is_sent answer ≡ true
-    → Comes (PumpsAndReceives places receive between) came now → Comes (Turn send receive places start) came now
+    → PumpsAndReceives places receive between came now → Turn send receive places start came now
 turn_goes_on send receive places start between now answer (Ok value) once sent came = (between, answer, once, subst (λ b. Follows b places receive between (Ok value) now) (sym sent) came)
-turn_goes_on send receive places start between now answer (Err (fault.Limit stop)) once sent came = inr (between, answer, once, subst (λ b. Follows b places receive between (Err stop) now) (sym sent) came)
-turn_goes_on send receive places start between now answer (Err fault.NoMemory) once sent came = tt
+turn_goes_on send receive places start between now answer (Err stop) once sent came = inr (between, answer, once, subst (λ b. Follows b places receive between (Err stop) now) (sym sent) came)
 
 -- an event of the next turn was stopped
 pub turn_halts : (times : ℕ) (send receive : WorldEvent) (first : Places) (start : WorldState) (count : ℕ) (places : Places) (before now : WorldState) (f : WorldFault) → count < times → Turns send receive first start count places before
-    → Comes (Turn send receive places before) (Err f) now → Comes (Bursts times send receive first start) (Err f) now
-turn_halts times send receive first start count places before now (fault.Limit stop) fewer made stopped = record { count = count; fewer = fewer; places = places; before = before; made = made; stopped = stopped }
-turn_halts times send receive first start count places before now fault.NoMemory fewer made stopped = tt
+    → Turn send receive places before (Err f) now → Bursts times send receive first start (Err f) now
+turn_halts times send receive first start count places before now stop fewer made stopped = record { count = count; fewer = fewer; places = places; before = before; made = made; stopped = stopped }
 
 -- a line of another kind than these three leaves everything as it is
 pub stays : (line : Line) (notes : NotesState) (w : WorldState) (given : Told)
@@ -81,15 +74,15 @@ stays other notes w given repeat drain burst e = (refl, ap (λ told. (told, note
 -- a line that sends again and again comes to what the sending of its message comes to
 pub repeats_line : (line : Line) (times node port : ℕ) (to : Destination) (importance : Importance) (body : List ℕ) (message : WorldEvent) (notes : NotesState) (start now : WorldState) (came : Result Told WorldFault)
     → line ≡ Repeat times node port to importance body → message ≡ event.Call node (sending port to importance body)
-    → Comes (Repeated (SendsAgain times message) notes start) (beside came notes) now → Comes (Conversed line notes start) (beside came notes) now
+    → Repeated (SendsAgain times message) notes start (beside came notes) now → Conversed line notes start (beside came notes) now
 repeats_line line times node port to importance body message notes start now came is sends h =
-    subst (λ l. Comes (Conversed l notes start) (beside came notes) now) (sym is) (subst (λ m. Comes (Repeated (SendsAgain times m) notes start) (beside came notes) now) sends h)
+    subst (λ l. Conversed l notes start (beside came notes) now) (sym is) (subst (λ m. Repeated (SendsAgain times m) notes start (beside came notes) now) sends h)
 
 -- a line that bursts comes to what its bursts come to
 pub bursts_line : (line : Line) (node port to_node to_port times : ℕ) (body : List ℕ) (at : Socket) (message : WorldEvent) (notes : NotesState) (start now : WorldState) (came : Result (Told × NotesState) WorldFault)
     → line ≡ Burst node port to_node to_port times body → at ≡ record { node = to_node; port = to_port } → message ≡ low_message node port at.node at.port body
-    → Comes (Moves (Bursts times message (event.Call at.node (call.Receive at.port)) notes.places) notes start) came now → Comes (Conversed line notes start) came now
+    → Moves (Bursts times message (event.Call at.node (call.Receive at.port)) notes.places) notes start came now → Conversed line notes start came now
 bursts_line line node port to_node to_port times body at message notes start now came is there sends h =
     let sent : message ≡ low_message node port to_node to_port body = subst (λ (a : Socket). message ≡ low_message node port a.node a.port body) there sends in
-    let comes = subst (λ (a : Socket). Comes (Moves (Bursts times message (event.Call a.node (call.Receive a.port)) notes.places) notes start) came now) there h in
-    subst (λ l. Comes (Conversed l notes start) came now) (sym is) (subst (λ m. Comes (Moves (Bursts times m (event.Call to_node (call.Receive to_port)) notes.places) notes start) came now) sent comes)
+    let comes = subst (λ (a : Socket). Moves (Bursts times message (event.Call a.node (call.Receive a.port)) notes.places) notes start came now) there h in
+    subst (λ l. Conversed l notes start came now) (sym is) (subst (λ m. Moves (Bursts times m (event.Call to_node (call.Receive to_port)) notes.places) notes start came now) sent comes)

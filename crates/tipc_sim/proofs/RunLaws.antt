@@ -1,5 +1,5 @@
 -- The run of a script: its beginning, one line more, and its ends.
-use Rattle.std.proofs.Common.{◌≡◌, ℕ, ◌+◌, ◌-◌, ◌≤◌, ◌⊎◌, ◌||◌, Option, Some, None, Err, List, [], ◌∷◌, ◌++◌, length, take, drop, refl, sym, ap, subst, ◌∙◌, arith, inl, inr, append-nil, add-one, false}
+use Rattle.std.proofs.Common.{◌≡◌, ℕ, ◌+◌, ◌-◌, ◌≤◌, ◌||◌, Option, Some, None, Err, List, [], ◌∷◌, ◌++◌, length, take, drop, refl, sym, ap, subst, ◌∙◌, arith, inl, inr, append-nil, add-one, false}
 use Rattle.std.specs.Prelude.{IfSome}
 use Rattle.std.specs.Io.KnownBytes.{Appends}
 use Rattle.std.proofs.KnownBytes.{Appends-trans, Appends-nil}
@@ -7,20 +7,21 @@ use Rattle.std.proofs.lemmas.List.{length-drop, length-take, take_all}
 use Rattle.std.proofs.Math.Seq.{take-append-add}
 use Rattle.tipc_report.specs.Text.{told_line}
 use Rattle.tipc_script.specs.Grammar.{asked}
+use Rattle.tipc_world.specs.Growth.{Grows}
 use Rattle.tipc_world.specs.States.{WorldState, is_there}
 use Rattle.tipc_sim.specs.declared.status.Status.{Status}
 use Rattle.tipc_sim.specs.declared.status.Status.TheVariants as status
 use Rattle.tipc_sim.specs.Happenings.{Runs, Scene, begin, go_on, scene}
-use Rattle.tipc_sim.specs.Lines.{lines_of, IsWithin}
+use Rattle.tipc_sim.specs.Lines.{lines_of}
 use Rattle.tipc_sim.specs.Nodes.{AreSound, IsFirstBad, fault_where, made_by, makes}
 use Rattle.tipc_sim.specs.Noted.{no_notes}
 use Rattle.tipc_sim.specs.Output.{AppendsFront}
-use Rattle.tipc_sim.specs.Reports.{Ends, EndsBadly, EndsLimited, EndsOver, ReachesLimit, Reports, WritesReport}
+use Rattle.tipc_sim.specs.Reports.{Ends, EndsBadly, EndsLimited, EndsOver, Reports, WritesReport}
 use Rattle.tipc_sim.specs.Steps.{IsUnderWay, IsDone, IsHalted, IsRefused, IsCut, IsUntold, TellsAnswer, TellsFault, TellsLimit, LineRuns, IsLimitStatus}
 use Rattle.tipc_sim.proofs.LineLaws.{lines_of-nil}
 use Rattle.tipc_sim.proofs.ListLaws.{here}
 use Rattle.tipc_sim.proofs.ReportLaws.{fault_where_same, made_by_more, sound_more, sound_none}
-use Rattle.tipc_sim.proofs.WorldLaws.{grows_equal, grows_same}
+use Rattle.tipc_world.proofs.Continuing.{grows_equal, grows_same}
 
 -- a text and a front of another are a front of both
 front_more : (a b c : Option (List ℕ)) (text more : List ℕ) → Appends a b text → AppendsFront b c more → AppendsFront a c (text ++ more)
@@ -222,21 +223,36 @@ cut_short script rest line behind number start old new before between after u ne
       ]
     ]
 
--- memory ran out before anything was written of a line
-untold : (script rest : List ℕ) (number : ℕ) (start : WorldState) (old new : Scene) (before between after : Option (List ℕ)) → IsRunning script rest number start old before between → IsUntold old new between after
-    → Reports script status.NoMemory start new.world before after
-untold script rest number start old new before between after u none = record {
-  done = number;
-  few = u.few;
-  sound = u.sound;
-  left = old;
-  report = u.report;
-  runs = u.runs;
-  grown = none.grown;
-  closing = [];
-  ends = inl refl;
-  written = front_more before between after u.report [] u.written none.written;
-}
+-- memory ran out before anything was written of a line: it wasn't begun, or it was
+untold : (script rest line behind : List ℕ) (number : ℕ) (start : WorldState) (old new : Scene) (before between after : Option (List ℕ)) → IsRunning script rest number start old before between → Next rest line behind
+    → IsUntold line old new between after → Reports script status.NoMemory start new.world before after
+untold script rest line behind number start old new before between after u next none =
+    let lines = lines_of script in
+    let h = here lines number line (lines_of behind) (sym u.left ∙ next) in
+    let ends_so : Ends status.NoMemory script number old new.world [] → Grows old.world new.world → Reports script status.NoMemory start new.world before after =
+    λ ends grown. record {
+      done = number;
+      few = u.few;
+      sound = u.sound;
+      left = old;
+      report = u.report;
+      runs = u.runs;
+      grown = grown;
+      closing = [];
+      ends = ends;
+      written = front_more before between after u.report [] u.written none.written;
+    }
+    in
+    elim none.begun [
+      | inl same ↦ ends_so (inr (inl (refl, same))) (grows_equal old.world new.world same)
+      | inr begun ↦ ends_so (inl (record {
+        line = line;
+        there = h.at;
+        clear = sym (fault_where_same (is_there old.world) (made_by (take number lines)) line u.nodes) ∙ begun.0;
+        begun = begun.1;
+        told = refl;
+      })) begun.1.grown
+    ]
 
 -- what a line that ends the run comes to
 pub stops : (script rest line behind : List ℕ) (number : ℕ) (start : WorldState) (old new : Scene) (before between after : Option (List ℕ)) (s : Status) → IsRunning script rest number start old before between → Next rest line behind
@@ -246,7 +262,7 @@ stops script rest line behind number start old new before between after status.L
 stops script rest line behind number start old new before between after status.WriteFault u next run = cut_short script rest line behind number start old new before between after u next run
 stops script rest line behind number start old new before between after status.NoMemory u next run =
     elim run [
-      | inl none ↦ untold script rest number start old new before between after u none
+      | inl none ↦ untold script rest line behind number start old new before between after u next none
       | inr cut ↦
           let r = cut_short script rest line behind number start old new before between after u next cut in
           record { done = r.done; few = r.few; sound = r.sound; left = r.left; report = r.report; runs = r.runs; grown = r.grown; closing = r.closing; ends = inr r.ends; written = r.written }
@@ -296,7 +312,7 @@ pub unused : (script : List ℕ) (start : WorldState) (before : Option (List ℕ
 unused script start before = only_closing script [] start before before status.Usage (inl (refl, refl)) (0, Appends-nil before)
 
 pub unwritten : (script : List ℕ) (start : WorldState) (before : Option (List ℕ)) → Reports script status.NoMemory start start before before
-unwritten script start before = only_closing script [] start before before status.NoMemory (inl refl) (0, Appends-nil before)
+unwritten script start before = only_closing script [] start before before status.NoMemory (inr (inl (refl, refl))) (0, Appends-nil before)
 
 -- a script that is too long
 pub too_long : (script closing : List ℕ) (start : WorldState) (before after : Option (List ℕ)) (s : Status) → EndsOver script 0 closing → IsLimitStatus s → (s ≡ status.Limit → Appends before after closing) → AppendsFront before after closing

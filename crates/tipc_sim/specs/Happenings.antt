@@ -23,14 +23,16 @@ use Rattle.tipc_world.specs.declared.events.Limit.{Limit}
 use Rattle.tipc_world.specs.declared.events.Limit.TheVariants as limit
 use Rattle.tipc_world.specs.declared.events.WorldEvent.{WorldEvent}
 use Rattle.tipc_world.specs.declared.events.WorldEvent.TheVariants as event
+use Rattle.tipc_world.specs.declared.events.WorldFault.{WorldFault}
+use Rattle.tipc_world.specs.declared.events.WorldFault.TheVariants as fault
 use Rattle.tipc_world.specs.Growth.{Grows}
 use Rattle.tipc_world.specs.Readers.{links_of, table_of}
 use Rattle.tipc_world.specs.Skies.{air_on}
 use Rattle.tipc_world.specs.States.{WorldState, counted, flow_of, is_there}
 use Rattle.tipc_world.specs.Steps.{IsJoined}
-use Rattle.tipc_sim.specs.declared.places.Places.{Places}
-use Rattle.tipc_sim.specs.Courses.{Course, Once}
-use Rattle.tipc_sim.specs.Ends.{ends_of, place_on}
+use Rattle.tipc_world.specs.declared.places.Places.{Places}
+use Rattle.tipc_world.specs.Courses.{Course, IsEarly, Once}
+use Rattle.tipc_world.specs.Ends.{ends_of, place_on}
 use Rattle.tipc_sim.specs.Meanings.{Mends, Links as LinksUp, Pumps, Settles}
 use Rattle.tipc_sim.specs.Messages.{low_message, Bursts, ReceivesAll, SendsAgain}
 use Rattle.tipc_sim.specs.Nodes.{makes}
@@ -123,12 +125,12 @@ Moves comes notes start (Err stop) now = comes start (Err stop) now
 -- what is told of a world that stays as it is, and what is noted
 abbrev pub Stays : Told → NotesState → Course Outcome
 Stays told noted start (Ok given) now = (now ≡ start) × (given ≡ (told, noted))
-Stays told noted start (Err stop) now = ⊥
+Stays told noted start (Err stop) now = IsEarly start stop now
 
 -- a node comes in
 abbrev pub ComesIn : ℕ → NotesState → Course Outcome
 ComesIn node notes start (Ok given) now = IsJoined start now node × (given ≡ (told.Answer answer.Done, notes))
-ComesIn node notes start (Err stop) now = ⊥
+ComesIn node notes start (Err stop) now = IsEarly start stop now
 
 -- a frame of the air, where there is one
 abbrev pub shown : Option Sent → Told
@@ -190,7 +192,13 @@ pub record Happens (line : Line) (before after : Scene) (given : Told) : Type 0 
 pub record IsLimited (line : Line) (before : Scene) (stop : Limit) (now : WorldState) : Type 0 where
   pub grown : Grows before.world now
   pub kept : now.lost ≡ false
-  pub limited : Answers line before.notes before.world (Err stop) now
+  pub limited : Answers line before.notes before.world (Err (fault.Limit stop)) now
+
+-- a line was begun: all of its events happened, or a front of them up to one that was stopped; the world only grew
+pub record IsBegun (line : Line) (before : Scene) (now : WorldState) : Type 0 where
+  pub grown : Grows before.world now
+  pub came : Result Outcome WorldFault
+  pub comes : Answers line before.notes before.world came now
 
 -- how a limit of a world is told
 abbrev pub which_of : Limit → Which

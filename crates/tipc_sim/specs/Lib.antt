@@ -1,5 +1,3 @@
-pub mod Courses
-pub mod Ends
 pub mod Happenings
 pub mod Lines
 pub mod Meanings

@@ -5,12 +5,12 @@ use Rattle.tipc_types.specs.declared.message_forms.Importance.TheVariants.{Low}
 use Rattle.tipc_types.specs.declared.node_calls.Answer.{Answer}
 use Rattle.tipc_types.specs.declared.node_calls.Answer.TheVariants.{Drained, NoSocket, Received, Sent, SentTo}
 use Rattle.tipc_script.specs.Spelling.{port_at}
-use Rattle.tipc_world.specs.declared.events.Limit.{Limit}
 use Rattle.tipc_world.specs.declared.events.WorldEvent.{WorldEvent}
 use Rattle.tipc_world.specs.declared.events.WorldEvent.TheVariants as event
+use Rattle.tipc_world.specs.declared.events.WorldFault.{WorldFault}
 use Rattle.tipc_world.specs.States.{WorldState}
-use Rattle.tipc_sim.specs.declared.places.Places.{Places}
-use Rattle.tipc_sim.specs.Courses.{Course, Once, Then}
+use Rattle.tipc_world.specs.declared.places.Places.{Places}
+use Rattle.tipc_world.specs.Courses.{Course, Once, Then}
 use Rattle.tipc_sim.specs.Meanings.{Pumps}
 
 -- the answer says that a message was sent
@@ -54,12 +54,12 @@ pub record RepeatsTo (event : WorldEvent) (passes : Answer → Bool) (start : Wo
   pub passes_last : passes last ≡ true
   pub count_is : count ≡ earlier + 1
 
--- it happened so many times, and a limit stopped the next one
-pub record RepeatHalts (event : WorldEvent) (passes : Answer → Bool) (start : WorldState) (limit : Limit) (now : WorldState) : Type 0 where
+-- it happened so many times, and the next one was stopped
+pub record RepeatHalts (event : WorldEvent) (passes : Answer → Bool) (start : WorldState) (stop : WorldFault) (now : WorldState) : Type 0 where
   pub count : ℕ
   pub before : WorldState
   pub passed : Repeats event passes start count before
-  pub stopped : Once event before (Err limit) now
+  pub stopped : Once event before (Err stop) now
 
 -- ---- messages that are sent
 
@@ -68,7 +68,7 @@ abbrev pub SendsAgain : ℕ → WorldEvent → Course (ℕ × Answer)
 SendsAgain times send start (Ok value) now =
     (RepeatsTo send is_sent start value.0 value.1 now × (value.0 ≡ times))
     ⊎ (RepeatsUntil send is_sent start value.0 value.1 now × (value.0 < times))
-SendsAgain times send start (Err limit) now = (halts : RepeatHalts send is_sent start limit now)
+SendsAgain times send start (Err stop) now = (halts : RepeatHalts send is_sent start stop now)
     × (halts.count < times)
 
 -- ---- messages that are received
@@ -83,7 +83,7 @@ abbrev pub ReceivesAll : ℕ → ℕ → Course Answer
 ReceivesAll node port start (Ok answer) now =
     (count : ℕ) × (last : Answer) × RepeatsUntil (event.Call node (call.Receive port)) is_message start count last now
     × (answer ≡ drained_answer count last)
-ReceivesAll node port start (Err limit) now = RepeatHalts (event.Call node (call.Receive port)) is_message start limit now
+ReceivesAll node port start (Err stop) now = RepeatHalts (event.Call node (call.Receive port)) is_message start stop now
 
 -- ---- messages that are sent, pumped and received
 
@@ -98,7 +98,7 @@ PumpsBoth places start (Ok ends) now =
     (between : WorldState) × (first : Answer) × (second : Answer) × Pumps 0 places.first start (Ok first) between
     × Pumps 1 places.second between (Ok second) now
     × (ends ≡ record { first = length between.air.first; second = length now.air.second })
-PumpsBoth places start (Err limit) now = Then (Pumps 0 places.first) (Pumps 1 places.second) start (Err limit) now
+PumpsBoth places start (Err stop) now = Then (Pumps 0 places.first) (Pumps 1 places.second) start (Err stop) now
 
 -- The frames from these places on are pumped, and then a message is received. The value is whether there was one, and up to which places frames
 -- are pumped then.
@@ -106,21 +106,21 @@ abbrev pub PumpsAndReceives : Places → WorldEvent → Course (Bool × Places)
 PumpsAndReceives places receive start (Ok value) now =
     (between : WorldState) × (ends : Places) × (last : Answer) × PumpsBoth places start (Ok ends) between
     × Once receive between (Ok last) now × (value ≡ (is_message last, ends))
-PumpsAndReceives places receive start (Err limit) now = Then (PumpsBoth places) (Once receive) start (Err limit) now
+PumpsAndReceives places receive start (Err stop) now = Then (PumpsBoth places) (Once receive) start (Err stop) now
 
 -- the same where the message was sent, and else nothing
 abbrev pub Follows : Bool → Places → WorldEvent → Course (Bool × Places)
 Follows true places receive start came now = PumpsAndReceives places receive start came now
 Follows false places receive start (Ok value) now = (now ≡ start) × (value ≡ (false, places))
-Follows false places receive start (Err limit) now = ⊥
+Follows false places receive start (Err stop) now = ⊥
 
 -- A message is sent, and where it was, frames are pumped and a message is received. The value is whether one was, and up to which places frames
 -- are pumped then.
 abbrev pub Turn : WorldEvent → WorldEvent → Places → Course (Bool × Places)
 Turn send receive places start (Ok value) now = (between : WorldState) × (answer : Answer)
     × Once send start (Ok answer) between × Follows (is_sent answer) places receive between (Ok value) now
-Turn send receive places start (Err limit) now =
-    Once send start (Err limit) now ⊎ ((between : WorldState) × (answer : Answer) × Once send start (Ok answer) between × Follows (is_sent answer) places receive between (Err limit) now)
+Turn send receive places start (Err stop) now =
+    Once send start (Err stop) now ⊎ ((between : WorldState) × (answer : Answer) × Once send start (Ok answer) between × Follows (is_sent answer) places receive between (Err stop) now)
 
 -- So many turns were made, one after the other, and a message was received in each. The frames before those places are pumped.
 pub data Turns (send receive : WorldEvent) (first : Places) (start : WorldState) : ℕ → Places → WorldState → Type 0 where
@@ -136,14 +136,14 @@ pub record TurnsUntil (send receive : WorldEvent) (first : Places) (start : Worl
   pub made : Turns send receive first start count places before
   pub fails : Turn send receive places before (Ok (false, ends)) now
 
--- likewise, and a limit stopped an event of the next one
-pub record TurnHalts (send receive : WorldEvent) (times : ℕ) (first : Places) (start : WorldState) (limit : Limit) (now : WorldState) : Type 0 where
+-- likewise, and the next one was stopped
+pub record TurnHalts (send receive : WorldEvent) (times : ℕ) (first : Places) (start : WorldState) (stop : WorldFault) (now : WorldState) : Type 0 where
   pub count : ℕ
   pub fewer : count < times
   pub places : Places
   pub before : WorldState
   pub made : Turns send receive first start count places before
-  pub stopped : Turn send receive places before (Err limit) now
+  pub stopped : Turn send receive places before (Err stop) now
 
 -- So many turns are made at most, until no message is received. The value is in how many one was, and up to which places frames are pumped
 -- then.
@@ -151,4 +151,4 @@ abbrev pub Bursts : ℕ → WorldEvent → WorldEvent → Places → Course (ℕ
 Bursts times send receive first start (Ok value) now =
     (Turns send receive first start times value.1 now × (value.0 ≡ times))
     ⊎ (TurnsUntil send receive first start value.0 value.1 now × (value.0 < times))
-Bursts times send receive first start (Err limit) now = TurnHalts send receive times first start limit now
+Bursts times send receive first start (Err stop) now = TurnHalts send receive times first start stop now

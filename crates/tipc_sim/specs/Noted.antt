@@ -1,8 +1,8 @@
 -- What a script keeps beside the world.
 use Rattle.std.specs.Prelude.{ℕ, ◌==◌, Bool, ◌&&◌, ◌||◌, if◌then◌else◌, List, [], ◌∷◌, ◌++◌}
 use Rattle.std.specs.List.{list_any}
-use Rattle.tipc_sim.specs.declared.places.Places.{Places}
-use Rattle.tipc_sim.specs.Ends.{first_frames, with_place}
+use Rattle.tipc_world.specs.declared.places.Places.{Places}
+use Rattle.tipc_world.specs.Ends.{first_frames, with_place}
 
 -- the places in the air of both bearers that the script calls 0, those of the next frames that are pumped, and the pairs of nodes for which
 -- a link was asked for

@@ -10,7 +10,7 @@ use Rattle.tipc_world.specs.Growth.{Grows}
 use Rattle.tipc_world.specs.States.{WorldState}
 use Rattle.tipc_sim.specs.declared.status.Status.{Status}
 use Rattle.tipc_sim.specs.declared.status.Status.TheVariants as status
-use Rattle.tipc_sim.specs.Happenings.{IsLimited, Runs, Scene, scene, which_of}
+use Rattle.tipc_sim.specs.Happenings.{IsBegun, IsLimited, Runs, Scene, scene, which_of}
 use Rattle.tipc_sim.specs.Lines.{lines_of}
 use Rattle.tipc_sim.specs.Nodes.{AreSound, IsFirstBad, fault_where, made_by}
 use Rattle.tipc_sim.specs.Noted.{no_notes}
@@ -44,13 +44,21 @@ EndsEarly script done left now closing =
     ((closing ≡ []) × (now ≡ left.world))
     ⊎ ((EndsBadly script done closing × (now ≡ left.world)) ⊎ ((EndsOver script done closing × (now ≡ left.world)) ⊎ EndsLimited script done left now closing))
 
+-- memory ran out at the line that follows those that were done, which is without fault: it was begun, and nothing is told of it
+pub record EndsUntold (script : List ℕ) (done : ℕ) (left : Scene) (now : WorldState) (closing : List ℕ) : Type 0 where
+  pub line : List ℕ
+  pub there : slice_get (lines_of script) done ≡ Some line
+  pub clear : fault_where (made_by (take done (lines_of script))) line ≡ None
+  pub begun : IsBegun (asked line) left now
+  pub told : closing ≡ []
+
 -- how the report of a script ends, behind the lines that were done, and what the world is then
 abbrev pub Ends : Status → List ℕ → ℕ → Scene → WorldState → List ℕ → Type 0
 Ends status.Ok script done left now closing = (done ≡ length (lines_of script)) × (closing ≡ []) × (now ≡ left.world)
 Ends status.BadLine script done left now closing = EndsBadly script done closing × (now ≡ left.world)
 Ends status.Limit script done left now closing = (EndsOver script done closing × (now ≡ left.world))
     ⊎ EndsLimited script done left now closing
-Ends status.NoMemory script done left now closing = (closing ≡ []) ⊎ EndsEarly script done left now closing
+Ends status.NoMemory script done left now closing = EndsUntold script done left now closing ⊎ EndsEarly script done left now closing
 Ends other script done left now closing = EndsEarly script done left now closing
 
 -- the whole text was written at these statuses, and a front of it at the others

@@ -1,7 +1,12 @@
--- How a run ends, as the exit status of the program.
-use Rattle.std.specs.Prelude.{ℕ}
+-- How a run ends, and the exit status of the program.
+use Rattle.std.specs.Prelude.{ℕ, Bool, true, false}
 use Rattle.tipc_sim.specs.declared.status.Status.{Status}
 use Rattle.tipc_sim.specs.declared.status.Status.TheVariants.{Ok, Usage, BadLine, ReadFault, WriteFault, NoMemory, Limit}
+
+-- how a run ends that came to this status, by whether all that it wrote could be given out at its end
+abbrev pub after_flush : Status → Bool → Status
+after_flush status true = status
+after_flush status false = WriteFault
 
 -- the exit status
 abbrev pub code_of : Status → ℕ

@@ -7,11 +7,10 @@ use Rattle.tipc_script.specs.Faults.{Fault}
 use Rattle.tipc_report.specs.Text.{bad_line, limit_line, told_line}
 use Rattle.tipc_report.specs.declared.told.Told.{Told}
 use Rattle.tipc_world.specs.declared.events.Limit.{Limit}
-use Rattle.tipc_world.specs.Growth.{Grows}
 use Rattle.tipc_world.specs.States.{is_there}
 use Rattle.tipc_sim.specs.declared.status.Status.{Status}
 use Rattle.tipc_sim.specs.declared.status.Status.TheVariants as status
-use Rattle.tipc_sim.specs.Happenings.{Happens, IsLimited, Runs, Scene, which_of}
+use Rattle.tipc_sim.specs.Happenings.{Happens, IsBegun, IsLimited, Runs, Scene, which_of}
 use Rattle.tipc_sim.specs.Lines.{lines_of}
 use Rattle.tipc_sim.specs.Nodes.{AreSound, fault_where, made_by}
 use Rattle.tipc_sim.specs.Output.{AppendsFront}
@@ -60,9 +59,10 @@ pub record IsCut (number : ℕ) (line : List ℕ) (old new : Scene) (before afte
       ⊎ (TellsFault number line old new text ⊎ TellsLimit number line old new text)
   pub written : AppendsFront before after text
 
--- nothing was written of it, whether it was done or not
-pub record IsUntold (old new : Scene) (before after : Option (List ℕ)) : Type 0 where
-  pub grown : Grows old.world new.world
+-- nothing was written of it: nothing of it happened, or it is without fault and was begun
+pub record IsUntold (line : List ℕ) (old new : Scene) (before after : Option (List ℕ)) : Type 0 where
+  pub begun : (new.world ≡ old.world)
+      ⊎ ((fault_where (is_there old.world) line ≡ None) × IsBegun (asked line) old new.world)
   pub written : AppendsFront before after []
 
 -- what a line comes to, by what its run answers
@@ -72,7 +72,7 @@ LineRuns (Ok done) number line old new before after = IsDone number line old new
 LineRuns (Err status.BadLine) number line old new before after = IsRefused number line old new before after
 LineRuns (Err status.Limit) number line old new before after = IsHalted number line old new before after
 LineRuns (Err status.WriteFault) number line old new before after = IsCut number line old new before after
-LineRuns (Err status.NoMemory) number line old new before after = IsUntold old new before after
+LineRuns (Err status.NoMemory) number line old new before after = IsUntold line old new before after
     ⊎ IsCut number line old new before after
 LineRuns (Err other) number line old new before after = ⊥
 

@@ -1,37 +1,15 @@
-//! Lines that move frames: arrivals, `drain` and `pump`.
+//! Lines that move frames: arrivals, `drain`, `pump` and `settle`.
 
-ghost use Rattle.std.specs.Prelude.{◌≡◌, ◌≤◌, IfOk};
+ghost use Rattle.std.specs.Prelude.{◌≡◌, ◌≤◌};
 ghost use Rattle.tipc_world.specs.Calls.{CanHappen};
-ghost use Rattle.tipc_sim.specs.Courses.{Comes, Continues, Drains, Once, Takes, TakesAll};
-ghost use Rattle.tipc_sim.specs.Ends.{ends_of, AreBefore};
-ghost use Rattle.tipc_sim.specs.Meanings.{arrival_asked, is_among, Arrivals, Delivers, Pumps};
+ghost use Rattle.tipc_world.specs.Courses.{Continues, Drains, Once};
+ghost use Rattle.tipc_world.specs.Settling.{arrival_asked};
+ghost use Rattle.tipc_sim.specs.Meanings.{settled_answer, Pumps, Settles};
 
-use crate::places::{Places, ends_of};
 use std::alloc::Global;
 use tipc_pick::Pick;
 use tipc_types::Answer;
-use tipc_world::{World, WorldEvent, WorldFault};
-
-/// The nodes that frames arrive at.
-#[derive(Clone, Copy, Debug, PartialEq, Eq)]
-pub enum Receivers {
-    /// Every node.
-    Any,
-    /// These two alone.
-    Both(u8, u8),
-}
-
-impl Receivers {
-    /// Whether a node is one of them.
-    pub fn has(self, node: u8) -> bool
-        ensures { result ≡ is_among self node }
-    {
-        match self {
-            Receivers::Any => true,
-            Receivers::Both(first, second) => node == first || node == second,
-        }
-    }
-}
+use tipc_world::{Receivers, Settled, World, WorldEvent, WorldFault};
 
 /// Lets an event happen.
 pub fn make<P: Pick>(
@@ -40,38 +18,10 @@ pub fn make<P: Pick>(
     world: &mut World<P>,
 ) -> Result<Answer, WorldFault>
     requires { CanHappen world.old.state event }
-    ensures comes { Comes (Once event world.old.state) result world.new.state }
+    ensures comes { Once event world.old.state result world.new.state }
     ensures continues { Continues P.gives world.old world.new }
 {
     world.step(alloc, event)
-}
-
-/// Lets the frame at a place of a bearer's air arrive at the node that it is for, where that is one of the receivers, and
-/// answers whether one arrived.
-fn arrive<P: Pick>(
-    alloc: Global,
-    among: Receivers,
-    bearer: u8,
-    place: u64,
-    world: &mut World<P>,
-) -> Result<bool, WorldFault>
-    requires { bearer ≤ 1 }
-    ensures comes { Comes (Takes (arrival_asked among bearer) place world.old.state) result world.new.state }
-    ensures continues { Continues P.gives world.old world.new }
-{
-    let Some(node) = world.receiver(bearer, place) else {
-        return Ok(false);
-    };
-    if !among.has(node) || !world.has_node(node) {
-        return Ok(false);
-    }
-    let event = WorldEvent::Arrive {
-        node,
-        bearer,
-        frame: place,
-    };
-    make(alloc, event, world)?;
-    Ok(true)
 }
 
 /// Lets the frames of a bearer from a place on arrive at the receivers, with those that are sent meanwhile, until none is left, and
@@ -84,13 +34,13 @@ pub fn drain<P: Pick>(
     world: &mut World<P>,
 ) -> Result<u64, WorldFault>
     requires { bearer ≤ 1 }
-    ensures comes { Comes (Drains (arrival_asked among bearer) bearer first world.old.state) result world.new.state }
+    ensures comes { Drains (arrival_asked among bearer) bearer first world.old.state result world.new.state }
     ensures continues { Continues P.gives world.old world.new }
 {
     let mut place = first;
     let mut count = 0;
     while place < world.air_len(bearer) {
-        if arrive(alloc, among, bearer, place, world)? {
+        if world.arrive(alloc, among, bearer, place)? {
             count += 1;
         }
         place += 1;
@@ -106,61 +56,32 @@ pub fn pump<P: Pick>(
     world: &mut World<P>,
 ) -> Result<Answer, WorldFault>
     requires { bearer ≤ 1 }
-    ensures comes { Comes (Pumps bearer place world.old.state) result world.new.state }
+    ensures comes { Pumps bearer place world.old.state result world.new.state }
     ensures continues { Continues P.gives world.old world.new }
 {
     let count = drain(alloc, Receivers::Any, bearer, place, world)?;
     Ok(Answer::Pumped(count))
 }
 
-/// Lets the frames of a bearer from a place on and before another arrive.
-fn deliver_on<P: Pick>(
-    alloc: Global,
-    bearer: u8,
-    first: u64,
-    end: u64,
-    world: &mut World<P>,
-) -> Result<(), WorldFault>
-    requires bearer { bearer ≤ 1 }
-    requires ordered { first ≤ end }
-    ensures comes { Comes
-        (TakesAll (arrival_asked Receivers.Any bearer) first end world.old.state) result world.new.state }
-    ensures continues { Continues P.gives world.old world.new }
+/// How it is told whether packets are under way.
+fn settled_answer(settled: Settled) -> Answer
+    ensures { result ≡ settled_answer settled }
 {
-    for place in first..end {
-        arrive(alloc, Receivers::Any, bearer, place, world)?;
+    match settled {
+        Settled::Quiet => Answer::Quiet,
+        Settled::Unsettled { unacked, waiting } => Answer::Unsettled { unacked, waiting },
     }
-    Ok(())
 }
 
-/// Lets the frames from some places on and before others arrive, those of bearer 0 and then those of bearer 1.
-fn deliver_both<P: Pick>(
+/// Makes so many rounds, and tells whether packets are under way then.
+pub fn settle<P: Pick>(
     alloc: Global,
-    places: Places,
-    ends: Places,
+    rounds: u32,
     world: &mut World<P>,
-) -> Result<(), WorldFault>
-    requires { AreBefore places ends }
-    ensures comes { Comes (Arrivals places ends world.old.state) result world.new.state }
+) -> Result<Answer, WorldFault>
+    ensures comes { Settles rounds world.old.state result world.new.state }
     ensures continues { Continues P.gives world.old world.new }
 {
-    deliver_on(alloc, 0, places.first, ends.first, world)?;
-    deliver_on(alloc, 1, places.second, ends.second, world)
-}
-
-/// Lets the frames from some places on arrive that are in the air now, those of bearer 0 and then those of bearer 1, and answers the
-/// places behind them.
-pub fn deliver<P: Pick>(
-    alloc: Global,
-    places: Places,
-    world: &mut World<P>,
-) -> Result<Places, WorldFault>
-    requires { AreBefore places (ends_of world.old.state.air) }
-    ensures comes { Comes (Delivers places world.old.state) result world.new.state }
-    ensures behind { IfOk result (λ ends. AreBefore ends (ends_of world.new.state.air)) }
-    ensures continues { Continues P.gives world.old world.new }
-{
-    let ends = ends_of(world);
-    deliver_both(alloc, places, ends, world)?;
-    Ok(ends)
+    let settled = world.settle(alloc, rounds)?;
+    Ok(settled_answer(settled))
 }

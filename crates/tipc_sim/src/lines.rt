@@ -10,21 +10,19 @@ ghost use Rattle.tipc_world.specs.Growth.{Grows};
 ghost use Rattle.tipc_script.specs.Grammar.{asked};
 ghost use Rattle.tipc_script.specs.Faults.{Tells};
 ghost use Rattle.tipc_sim.specs.Nodes.{is_misplaced, fault_where, makes, CanBeDone};
-ghost use Rattle.tipc_sim.specs.Courses.{Comes, Continues};
-ghost use Rattle.tipc_sim.specs.Ends.{place_on};
-ghost use Rattle.tipc_sim.specs.Happenings.{beside, event_of, filter_number, scene, sending, service_event, shown, subscription_event, told_of, wished, Answers, Composed, Conversed, IsLimited, Moves, Repeated};
+ghost use Rattle.tipc_world.specs.Courses.{Continues};
+ghost use Rattle.tipc_world.specs.Ends.{place_on};
+ghost use Rattle.tipc_sim.specs.Happenings.{beside, event_of, filter_number, scene, sending, service_event, shown, subscription_event, told_of, wished, Answers, Composed, Conversed, IsBegun, IsLimited, Moves, Repeated};
 ghost use Rattle.tipc_sim.specs.Meanings.{Links, Pumps};
 ghost use Rattle.tipc_sim.specs.Messages.{is_call, low_message, Bursts, SendsAgain};
 ghost use Rattle.tipc_sim.specs.Noted.{naming, pumped, with_named, NotesState};
 ghost use Rattle.tipc_world.specs.declared.events.Limit.{Limit};
 ghost use Rattle.tipc_sim.specs.Steps.{IsAnswered};
 
-use crate::frames::{make, pump};
+use crate::frames::{make, pump, settle};
 use crate::linking::{link, mend};
 use crate::messages::{Socket, burst, receive_all, repeat};
 use crate::notes::Notes;
-use crate::places::ends_of;
-use crate::settling::settle;
 use std::alloc::Global;
 use tipc_pick::Pick;
 use tipc_report::{Told, print};
@@ -242,8 +240,7 @@ fn link_named<P: Pick>(
     requires first { is_there world.old.state first ≡ true }
     requires second { is_there world.old.state second ≡ true }
     requires bearer { bearer ≤ 1 }
-    ensures comes { Comes
-        (Links (naming notes.old.named first second) first second bearer world.old.state) result world.new.state }
+    ensures comes { Links (naming notes.old.named first second) first second bearer world.old.state result world.new.state }
     ensures noted { OnOk result (notes.new ≡ with_named notes.old (naming notes.old.named first second)) }
     ensures continues { Continues P.gives world.old world.new }
 {
@@ -259,7 +256,7 @@ fn pump_on<P: Pick>(
     notes: &mut Notes,
 ) -> Result<Answer, WorldFault>
     requires { bearer ≤ 1 }
-    ensures comes { Comes (Pumps bearer (place_on bearer notes.old.places) world.old.state) result world.new.state }
+    ensures comes { Pumps bearer (place_on bearer notes.old.places) world.old.state result world.new.state }
     ensures noted { OnOk result (notes.new ≡ pumped notes.old bearer (length (air_on bearer world.new.state.air))) }
     ensures continues { Continues P.gives world.old world.new }
 {
@@ -280,8 +277,8 @@ fn burst_on<P: Pick>(
     requires can { CanHappen world.old.state message.now }
     requires sends { is_call message.now ≡ true }
     requires there { is_there world.old.state at.node ≡ true }
-    ensures comes { Comes (Moves (Bursts times message.now
-        (WorldEvent.Call at.node (EventNote.Receive at.port)) notes.old.places) notes.old world.old.state)
+    ensures comes { Moves (Bursts times message.now
+        (WorldEvent.Call at.node (EventNote.Receive at.port)) notes.old.places) notes.old world.old.state
         (beside result notes.new) world.new.state }
     ensures continues { Continues P.gives world.old world.new }
 {
@@ -300,7 +297,7 @@ fn repeat_on<P: Pick>(
     requires some { 1 ≤ times }
     requires can { CanHappen world.old.state message.now }
     requires sends { is_call message.now ≡ true }
-    ensures comes { (notes : NotesState) → Comes (Repeated (SendsAgain times message.now) notes world.old.state)
+    ensures comes { (notes : NotesState) → Repeated (SendsAgain times message.now) notes world.old.state
         (beside result notes) world.new.state }
     ensures continues { Continues P.gives world.old world.new }
 {
@@ -366,7 +363,7 @@ fn converse<P: Pick>(
     notes: &mut Notes,
 ) -> Result<Told, WorldFault>
     requires can { CanBeDone (is_there world.old.state) line }
-    ensures comes { Comes (Conversed line notes.old world.old.state) (beside result notes.new) world.new.state }
+    ensures comes { Conversed line notes.old world.old.state (beside result notes.new) world.new.state }
     ensures continues { Continues P.gives world.old world.new }
 {
     match line {
@@ -413,7 +410,7 @@ fn compose<P: Pick>(
     ensures good { IsGood P.gives world.new }
     ensures nodes { OnOk result ((n : ℕ) → is_there world.new.state n ≡ (makes line n || is_there world.old.state n)) }
     ensures grows { Grows world.old.state world.new.state }
-    ensures comes { Comes (Composed line notes.old world.old.state) (beside result notes.new) world.new.state }
+    ensures comes { Composed line notes.old world.old.state (beside result notes.new) world.new.state }
 {
     let answer = match line {
         Line::Node { node } => {
@@ -427,7 +424,7 @@ fn compose<P: Pick>(
             bearer,
         } => link_named(alloc, first, second, bearer, world, notes)?,
         Line::Mark => {
-            notes.mark(ends_of(world));
+            notes.mark(world.ends());
             Answer::Done
         }
         Line::Pump { bearer } => pump_on(alloc, bearer, world, notes)?,
@@ -449,7 +446,7 @@ pub fn answer_of<P: Pick>(
     ensures good { IsGood P.gives world.new }
     ensures nodes { OnOk result ((n : ℕ) → is_there world.new.state n ≡ (makes line n || is_there world.old.state n)) }
     ensures grows { Grows world.old.state world.new.state }
-    ensures comes { Comes (Answers line notes.old world.old.state) (beside result notes.new) world.new.state }
+    ensures comes { Answers line notes.old world.old.state (beside result notes.new) world.new.state }
 {
     match event_of(line, notes) {
         Ok(event) => Ok(Told::Answer(make(alloc, event, world)?)),
@@ -483,6 +480,8 @@ pub fn do_line<P: Pick>(
         (scene world.new.state notes.new) text.items) }
     ensures limited { IfErr result (λ fault. (stop : Limit) → fault ≡ WorldFault.Limit stop →
         IsLimited line (scene world.old.state notes.old) stop world.new.state) }
+    ensures begun { IfErr result (λ fault. fault ≡ WorldFault.NoMemory →
+        IsBegun line (scene world.old.state notes.old) world.new.state) }
 {
     let came = answer_of(alloc, line, world, notes);
     if world.lost() {

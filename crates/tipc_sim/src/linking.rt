@@ -2,15 +2,15 @@
 
 ghost use Rattle.std.specs.Prelude.{◌≡◌, ◌≤◌, true};
 ghost use Rattle.tipc_world.specs.States.{is_there};
-ghost use Rattle.tipc_sim.specs.Courses.{Comes, Continues, Takes, TakesAll};
+ghost use Rattle.tipc_world.specs.Courses.{Continues, Takes, TakesAll};
 ghost use Rattle.tipc_sim.specs.Meanings.{know_asked, link_answer, Joins, Links, Mends, MendsCut};
 
-use crate::frames::{Receivers, drain, make};
+use crate::frames::{drain, make};
 use crate::notes::Notes;
 use std::alloc::Global;
 use tipc_pick::Pick;
 use tipc_types::{Answer, EventNote};
-use tipc_world::{World, WorldEvent, WorldFault};
+use tipc_world::{Receivers, World, WorldEvent, WorldFault};
 
 /// The first number that no node has.
 const NUMBERS: u8 = 33;
@@ -26,7 +26,7 @@ fn know<P: Pick>(
 ) -> Result<bool, WorldFault>
     requires there { is_there world.old.state node ≡ true }
     requires bearer { bearer ≤ 1 }
-    ensures comes { Comes (Takes (know_asked notes.now.named node bearer) peer world.old.state) result world.new.state }
+    ensures comes { Takes (know_asked notes.now.named node bearer) peer world.old.state result world.new.state }
     ensures continues { Continues P.gives world.old world.new }
 {
     if !notes.is_named(node, peer) || !world.has_node(peer) || world.knows(node, peer, bearer) {
@@ -47,8 +47,7 @@ fn know_all<P: Pick>(
 ) -> Result<(), WorldFault>
     requires there { is_there world.old.state node ≡ true }
     requires bearer { bearer ≤ 1 }
-    ensures comes { Comes
-        (TakesAll (know_asked notes.now.named node bearer) 1 33 world.old.state) result world.new.state }
+    ensures comes { TakesAll (know_asked notes.now.named node bearer) 1 33 world.old.state result world.new.state }
     ensures continues { Continues P.gives world.old world.new }
 {
     for peer in 1..NUMBERS {
@@ -67,7 +66,7 @@ pub fn mend<P: Pick>(
 ) -> Result<Answer, WorldFault>
     requires there { is_there world.old.state node ≡ true }
     requires bearer { bearer ≤ 1 }
-    ensures comes { Comes (Mends notes.now.named node bearer world.old.state) result world.new.state }
+    ensures comes { Mends notes.now.named node bearer world.old.state result world.new.state }
     ensures continues { Continues P.gives world.old world.new }
 {
     know_all(alloc, notes, node, bearer, world)?;
@@ -88,7 +87,7 @@ fn mend_cut<P: Pick>(
 ) -> Result<(), WorldFault>
     requires there { is_there world.old.state node ≡ true }
     requires bearer { bearer ≤ 1 }
-    ensures comes { Comes (MendsCut notes.now.named node bearer world.old.state) result world.new.state }
+    ensures comes { MendsCut notes.now.named node bearer world.old.state result world.new.state }
     ensures continues { Continues P.gives world.old world.new }
 {
     if !world.is_mended(node, bearer) {
@@ -109,7 +108,7 @@ fn join<P: Pick>(
     requires first { is_there world.old.state first ≡ true }
     requires second { is_there world.old.state second ≡ true }
     requires bearer { bearer ≤ 1 }
-    ensures comes { Comes (Joins notes.now.named first second bearer world.old.state) result world.new.state }
+    ensures comes { Joins notes.now.named first second bearer world.old.state result world.new.state }
     ensures continues { Continues P.gives world.old world.new }
 {
     know(alloc, notes, first, second, bearer, world)?;
@@ -142,7 +141,7 @@ pub fn link<P: Pick>(
     requires first { is_there world.old.state first ≡ true }
     requires second { is_there world.old.state second ≡ true }
     requires bearer { bearer ≤ 1 }
-    ensures comes { Comes (Links notes.now.named first second bearer world.old.state) result world.new.state }
+    ensures comes { Links notes.now.named first second bearer world.old.state result world.new.state }
     ensures continues { Continues P.gives world.old world.new }
 {
     let place = world.air_len(bearer);

@@ -7,11 +7,9 @@ mod lines;
 mod linking;
 mod messages;
 mod notes;
-mod places;
 mod reading;
 mod running;
 mod scripts;
-mod settling;
 mod status;
 mod writing;
 
@@ -55,10 +53,8 @@ fn run_standard(rt: &HostRuntime) -> Result<Status, Status> {
         &mut StdSink::new(&mut writer),
         &mut world,
     );
-    if writer.flush().is_err() {
-        return Err(Status::WriteFault);
-    }
-    Ok(status)
+    let flushed = writer.flush().is_ok();
+    Ok(status.after_flush(flushed))
 }
 
 fn main(rt: HostRuntime) -> ExitCode {

@@ -3,15 +3,14 @@
 ghost use Rattle.std.specs.Prelude.{◌≡◌, ◌≤◌, true, IfOk};
 ghost use Rattle.tipc_world.specs.Calls.{CanHappen};
 ghost use Rattle.tipc_world.specs.States.{is_there};
-ghost use Rattle.tipc_sim.specs.Courses.{Comes, Continues, Once};
+ghost use Rattle.tipc_world.specs.Courses.{Continues, Once};
 ghost use Rattle.tipc_sim.specs.Messages.{drained_answer, is_call, is_message, is_sent, Bursts, PumpsAndReceives, PumpsBoth, ReceivesAll, SendsAgain, Turn};
 
 use crate::frames::{make, pump};
-use crate::places::Places;
 use std::alloc::{AllocError, Global};
 use tipc_pick::Pick;
 use tipc_types::{Answer, EventNote};
-use tipc_world::{World, WorldEvent, WorldFault};
+use tipc_world::{Places, World, WorldEvent, WorldFault};
 
 /// A socket of a node.
 #[derive(Clone, Copy, Debug, PartialEq, Eq)]
@@ -59,7 +58,7 @@ fn send<P: Pick>(
     world: &mut World<P>,
 ) -> Result<Answer, WorldFault>
     requires { CanHappen world.old.state message.now }
-    ensures comes { Comes (Once message.now world.old.state) result world.new.state }
+    ensures comes { Once message.now world.old.state result world.new.state }
     ensures continues { Continues P.gives world.old world.new }
 {
     make(alloc, copy_of(message)?, world)
@@ -68,8 +67,7 @@ fn send<P: Pick>(
 /// Lets a message be received.
 fn receive<P: Pick>(alloc: Global, at: Socket, world: &mut World<P>) -> Result<Answer, WorldFault>
     requires { is_there world.old.state at.node ≡ true }
-    ensures comes { Comes
-        (Once (WorldEvent.Call at.node (EventNote.Receive at.port)) world.old.state) result world.new.state }
+    ensures comes { Once (WorldEvent.Call at.node (EventNote.Receive at.port)) world.old.state result world.new.state }
     ensures continues { Continues P.gives world.old world.new }
 {
     let event = WorldEvent::Call {
@@ -90,7 +88,7 @@ pub fn repeat<P: Pick>(
     requires some { 1 ≤ times }
     requires can { CanHappen world.old.state message.now }
     requires sends { is_call message.now ≡ true }
-    ensures comes { Comes (SendsAgain times message.now world.old.state) result world.new.state }
+    ensures comes { SendsAgain times message.now world.old.state result world.new.state }
     ensures continues { Continues P.gives world.old world.new }
 {
     let mut sent = 0;
@@ -123,7 +121,7 @@ pub fn receive_all<P: Pick>(
     world: &mut World<P>,
 ) -> Result<Answer, WorldFault>
     requires { is_there world.old.state at.node ≡ true }
-    ensures comes { Comes (ReceivesAll at.node at.port world.old.state) result world.new.state }
+    ensures comes { ReceivesAll at.node at.port world.old.state result world.new.state }
     ensures continues { Continues P.gives world.old world.new }
 {
     let mut count = 0;
@@ -142,7 +140,7 @@ fn pump_both<P: Pick>(
     places: Places,
     world: &mut World<P>,
 ) -> Result<Places, WorldFault>
-    ensures comes { Comes (PumpsBoth places world.old.state) result world.new.state }
+    ensures comes { PumpsBoth places world.old.state result world.new.state }
     ensures continues { Continues P.gives world.old world.new }
 {
     pump(alloc, 0, places.first, world)?;
@@ -163,8 +161,8 @@ fn pump_and_receive<P: Pick>(
     world: &mut World<P>,
 ) -> Result<(bool, Places), WorldFault>
     requires { is_there world.old.state at.node ≡ true }
-    ensures comes { Comes (PumpsAndReceives places (WorldEvent.Call at.node
-        (EventNote.Receive at.port)) world.old.state) result world.new.state }
+    ensures comes { PumpsAndReceives places (WorldEvent.Call at.node
+        (EventNote.Receive at.port)) world.old.state result world.new.state }
     ensures continues { Continues P.gives world.old world.new }
 {
     let ends = pump_both(alloc, places, world)?;
@@ -183,8 +181,8 @@ fn turn<P: Pick>(
 ) -> Result<(bool, Places), WorldFault>
     requires can { CanHappen world.old.state message.now }
     requires there { is_there world.old.state at.node ≡ true }
-    ensures comes { Comes (Turn message.now (WorldEvent.Call at.node
-        (EventNote.Receive at.port)) places world.old.state) result world.new.state }
+    ensures comes { Turn message.now (WorldEvent.Call at.node
+        (EventNote.Receive at.port)) places world.old.state result world.new.state }
     ensures continues { Continues P.gives world.old world.new }
 {
     let answer = send(alloc, message, world)?;
@@ -207,8 +205,8 @@ pub fn burst<P: Pick>(
     requires can { CanHappen world.old.state message.now }
     requires sends { is_call message.now ≡ true }
     requires there { is_there world.old.state at.node ≡ true }
-    ensures comes { Comes (Bursts times message.now (WorldEvent.Call at.node
-        (EventNote.Receive at.port)) first world.old.state) result world.new.state }
+    ensures comes { Bursts times message.now (WorldEvent.Call at.node
+        (EventNote.Receive at.port)) first world.old.state result world.new.state }
     ensures continues { Continues P.gives world.old world.new }
 {
     let mut places = first;

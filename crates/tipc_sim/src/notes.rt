@@ -1,13 +1,13 @@
 //! What a run keeps beside its world: the places of its pump and the pairs that are named.
 
 ghost use Rattle.std.specs.Prelude.{◌≡◌, ◌≢◌, true, OnOk, OnErr};
-ghost use Rattle.tipc_sim.specs.Ends.{place_on};
+ghost use Rattle.tipc_world.specs.Ends.{place_on};
 ghost use Rattle.tipc_sim.specs.Noted.{is_named, marked, naming, no_notes, pumped, pumped_to, with_named};
 
-use crate::places::Places;
 use std::alloc::Global;
 use std::marker::Model;
 use tipc_types::NoMemory;
+use tipc_world::Places;
 
 /// What a script keeps beside the world: where it counts the frames of each bearer from, how far it has pumped them, and the pairs of
 /// nodes for which it asked for a link. (This project's profile.)

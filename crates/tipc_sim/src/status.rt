@@ -1,7 +1,7 @@
 //! How a run ends.
 
 ghost use Rattle.std.specs.Prelude.{◌≡◌};
-ghost use Rattle.tipc_sim.specs.Statuses.{code_of};
+ghost use Rattle.tipc_sim.specs.Statuses.{after_flush, code_of};
 
 /// How a run ends. (This project's profile.)
 #[derive(Clone, Copy, Debug, PartialEq, Eq)]
@@ -23,6 +23,13 @@ pub enum Status {
 }
 
 impl Status {
+    /// How the run ends, by whether all that it wrote could be given out at its end: where it couldn't, the sink failed.
+    pub fn after_flush(self, flushed: bool) -> Status
+        ensures { result ≡ after_flush self flushed }
+    {
+        if flushed { self } else { Status::WriteFault }
+    }
+
     /// The exit status of the program, from 0 to 6.
     pub fn code(self) -> u8
         ensures { result ≡ code_of self }

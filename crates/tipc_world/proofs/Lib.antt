@@ -1,4 +1,4 @@
-pub mod Places
+pub mod InLists
 pub mod LookUps
 pub mod calls
 pub mod frames
@@ -13,4 +13,7 @@ pub mod Happening
 pub mod SoundEvents
 pub mod SoundWorlds
 pub mod Advancing
+pub mod Telling
 pub mod Promise
+pub mod Continuing
+pub mod CourseLaws

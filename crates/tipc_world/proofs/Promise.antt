@@ -17,7 +17,10 @@ use Rattle.tipc_world.specs.Sound.{IsSound}
 use Rattle.tipc_world.specs.States.{MemberState, WorldView, accepted_at, delivered_at}
 use Rattle.tipc_world.specs.Views.{sight_at}
 use Rattle.tipc_world.specs.Watched.{AreWatched}
+use Rattle.tipc_world.proofs.calls.Merged.{orderly_merged}
+use Rattle.tipc_world.proofs.names.Rising.{numbers_rise}
 use Rattle.tipc_world.proofs.names.Agreed.{tables_agree}
+use Rattle.tipc_world.proofs.Telling.{journals_tell}
 use Rattle.tipc_world.proofs.streams.Entered.{both_entered}
 use Rattle.tipc_world.proofs.frames.Messages.{same_bytes}
 use Rattle.tipc_world.proofs.frames.Truth.{frame_is_true, truth_is}
@@ -70,10 +73,13 @@ pub is_good : {P : Type 0} (gives : P → ℕ → ℕ → ℕ → Type 0) (w : W
 is_good gives w h all orderly shared = record {
   prefix = λ a b a_number b_number flow. promise w.state.members w.state.air a b b_number a_number flow h;
   entered = λ a b a_number b_number flow some. both_entered w.state.members w.state.air a b a_number b_number flow (λ n m there. (all n m there).lawful) (promise w.state.members w.state.air a b b_number a_number flow h) some;
+  fresh = numbers_rise w.state.members shared;
   spelled = λ n m there k journal is i s at place peer numbers flow message by stands. ((((all n m there).lawful k journal is).steps_are i s at).entries place (entry.Delivered peer numbers flow message by) stands).1;
   frames = frame_is_true w.state.members w.state.air h;
   truth = truth_is w.state.members w.state.air h;
   lawful = λ n m there. (all n m there).lawful;
+  told = journals_tell w.state.members shared;
   tables = tables_agree w.state.members w.state.air h shared (λ a b own theirs. promise w.state.members w.state.air a b own theirs Zero h);
   orderly = orderly;
+  merged = orderly_merged gives w.state w.chooser h orderly;
 }

@@ -1,4 +1,5 @@
 -- What nodes hold of one another's publications.
 pub mod Shown
+pub mod Rising
 pub mod Sharing
 pub mod Agreed

@@ -67,8 +67,9 @@ turn_at members stamp = sum_to (λ n. sent_in (slice_index_or members n None) st
 -- What every world keeps of the calls of all nodes. So many were recorded, and the chooser is at that turn.
 pub record AreOrderly {P : Type 0} (gives : P → ℕ → ℕ → ℕ → Type 0) (members : List (Option MemberState)) (recorded : ℕ) (chooser : Choosing P) : Type 0 where
   pub answered : (n boot : ℕ) (journal : List Entry) → journal_at members n boot ≡ Some journal → AreAnswered (addr_of n) journal
-  -- the stamps are the numbers of the calls, each of which is recorded in one journal alone
+  -- the stamps are the numbers of the calls, each of which is recorded in a journal, and in one alone
   pub stamped : (n boot : ℕ) (journal : List Entry) → journal_at members n boot ≡ Some journal → All (λ stamp. stamp < recorded) (stamps journal)
+  pub every : (stamp : ℕ) → stamp < recorded → (n : ℕ) × (boot : ℕ) × HasStamp members n boot stamp
   pub once : (n boot n' boot' stamp : ℕ) → HasStamp members n boot stamp → HasStamp members n' boot' stamp → (n ≡ n') × (boot ≡ boot')
   pub picked : (n boot : ℕ) (journal : List Entry) → journal_at members n boot ≡ Some journal
       → AllPicked (gives chooser.pick) (turn_at members) (addr_of n) journal

@@ -1,5 +1,7 @@
 -- What is promised of every world.
 use Rattle.std.specs.Prelude.{◌≡◌, ◌≢◌, ◌≤◌, ℕ, [], Some, None, length, slice_get, slice_index_or}
+use Rattle.std.specs.List.Sorted.{IsStrictlySortedBy}
+use Rattle.std.specs.Ordering.{nat_cmp}
 use Rattle.tipc_types.specs.Address.{node_word}
 use Rattle.tipc_types.specs.declared.identity.To.TheVariants as to
 use Rattle.tipc_types.specs.declared.message_forms.Flow.{Flow}
@@ -7,14 +9,18 @@ use Rattle.tipc_header.specs.Frames.{frame_of}
 use Rattle.tipc_header.specs.Grammar.{Fits}
 use Rattle.tipc_header.specs.Spelling.{Fields, spelling}
 use Rattle.tipc_journal.specs.Prefixes.{IsPrefixOf}
+use Rattle.tipc_node.specs.Turns.{addr_of}
 use Rattle.tipc_twins.specs.Truth.{AreTrue}
 use Rattle.tipc_world.specs.declared.air.Sent.{Sent}
 use Rattle.tipc_world.specs.Lawful.{AreLawful, HasBegun}
 use Rattle.tipc_world.specs.Answered.{AreOrderly}
+use Rattle.tipc_world.specs.Merged.{merged, AreMerged}
+use Rattle.tipc_world.specs.Entered.{numbers_entered}
 use Rattle.tipc_world.specs.Skies.{air_on}
 use Rattle.tipc_world.specs.Sound.{IsNumber}
 use Rattle.tipc_world.specs.Spelled.{AreSpelled}
 use Rattle.tipc_world.specs.Tables.{AreTables}
+use Rattle.tipc_world.specs.Told.{IsToldOf}
 use Rattle.tipc_world.specs.States.{MemberState, WorldView, accepted_at, delivered_at, history_at}
 use Rattle.tipc_world.specs.Views.{sight_at}
 
@@ -41,6 +47,8 @@ pub record IsGood {P : Type 0} (gives : P → ℕ → ℕ → ℕ → Type 0) (w
   pub entered : (a b a_number b_number : ℕ) (flow : Flow) → delivered_at w.state.members b a b_number a_number flow ≢ [] →
       HasBegun (history_at w.state.members a) (record { word = node_word b }) (a_number, b_number)
       × HasBegun (history_at w.state.members b) (record { word = node_word a }) (b_number, a_number)
+  -- For each node and each other one: over all its boots the numbers under which it entered contacts with it rise, so none was entered twice.
+  pub fresh : (a b : ℕ) → IsStrictlySortedBy nat_cmp (numbers_entered (history_at w.state.members a) (addr_of b))
   -- For each node, in all its boots: each message that was delivered is spelled by frames that arrived there in that step or before, and
   -- that the peer sent.
   pub spelled : (n : ℕ) (m : MemberState) → slice_index_or w.state.members n None ≡ Some m → AreSpelled w.state.air m
@@ -54,8 +62,13 @@ pub record IsGood {P : Type 0} (gives : P → ℕ → ℕ → ℕ → Type 0) (w
   -- For each node and each of its boots: each link that went down shows its cause, each contact that ended stands where no link is up, and
   -- messages are accepted and delivered in the contact in which the node is.
   pub lawful : (n : ℕ) (m : MemberState) → slice_index_or w.state.members n None ≡ Some m → AreLawful w.state.air m
+  -- For all nodes a and b, the contact of a with b and its links to b that are up are those that the present journal of a tells.
+  pub told : (a b : ℕ) → IsToldOf w.state.members a b
   -- Nodes whose name items are all delivered hold one another's live publications that are seen in the cluster.
   pub tables : AreTables w.state.members
   -- For each node and each of its boots: each call has a licensed answer, and each message its fate; calls are counted and stamped; and
   -- each message by name went to the match that the pick gives for its turn, which is how many were sent so before, at all nodes.
   pub orderly : AreOrderly gives w.state.members w.state.stamps w.chooser
+  -- The calls of all nodes in order of their stamps are just the steps of all journals, each with its answer: as many as were recorded,
+  -- each at the place of its stamp.
+  pub merged : AreMerged w.state.members w.state.stamps (merged w.state)

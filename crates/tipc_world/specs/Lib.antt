@@ -15,10 +15,16 @@ pub mod Spelled
 pub mod Lawful
 pub mod Choices
 pub mod Answered
+pub mod Merged
 pub mod Tables
+pub mod Told
 pub mod Good
 pub mod Views
 pub mod Sound
 pub mod Watched
+pub mod Entered
 pub mod Shared
 pub mod Readers
+pub mod Courses
+pub mod Ends
+pub mod Settling

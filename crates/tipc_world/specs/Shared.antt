@@ -5,6 +5,7 @@ use Rattle.tipc_journal.specs.declared.entries.Entry.{Entry}
 use Rattle.tipc_contact.specs.Sides.{boot_of}
 use Rattle.tipc_node.specs.Sharing.{IsUnused, SharesNames}
 use Rattle.tipc_node.specs.Telling.{IsTold}
+use Rattle.tipc_world.specs.Entered.{HasRisen}
 use Rattle.tipc_world.specs.States.{MemberState}
 
 pub record IsShared (m : MemberState) : Type 0 where
@@ -13,6 +14,8 @@ pub record IsShared (m : MemberState) : Type 0 where
   -- in a boot before this one nothing was accepted or delivered under a contact number of this boot or a later one
   pub spent : (k : ℕ) (journal : List Entry) → slice_get m.past k ≡ Some journal
       → (b number : ℕ) → m.node.boot ≤ boot_of number → IsUnused journal b number
+  -- over all its boots its contact numbers for each peer rose
+  pub rises : (b : ℕ) → HasRisen m b
 
 abbrev pub AreShared : List (Option MemberState) → Type 0
 AreShared members = (n : ℕ) (m : MemberState) → slice_index_or members n None ≡ Some m → IsShared m

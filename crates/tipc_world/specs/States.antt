@@ -90,6 +90,18 @@ count_of m peer bearer epoch = count_with m.counts (link_in m.node peer bearer) 
 unfoldable pub member_at : List (Option MemberState) → ℕ → Option MemberState
 member_at members n = slice_index_or members n None
 
+-- a node as it is
+abbrev pub node_at : List (Option MemberState) → ℕ → Option NodeState
+node_at members n = option_map (λ m. m.node) (slice_index_or members n None)
+
+-- the journals of its boots before the present one, in order; none where it isn't there
+abbrev pub past_at : List (Option MemberState) → ℕ → List (List Entry)
+past_at members n = unwrap_or (option_map (λ m. m.past) (slice_index_or members n None)) []
+
+-- the frames that ever arrived at a node, in order; none where it isn't there
+abbrev pub arrivals_at : List (Option MemberState) → ℕ → List Arrived
+arrivals_at members n = unwrap_or (option_map (λ m. m.arrivals) (slice_index_or members n None)) []
+
 -- a node that isn't there counts as one that has just begun its first boot
 unfoldable pub boot_at : List (Option MemberState) → ℕ → ℕ
 boot_at members n = unwrap_or (option_map (λ m. m.node.boot) (member_at members n)) 1

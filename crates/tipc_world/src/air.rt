@@ -72,6 +72,17 @@ impl Air {
         }
     }
 
+    /// Every frame that was ever sent on a bearer, in order.
+    pub fn sent(&self, bearer: u8) -> &[Sent]
+        ensures { result.now ≡ air_on bearer self.now }
+    {
+        match bearer {
+            0 => &self.first,
+            1 => &self.second,
+            _ => &[],
+        }
+    }
+
     /// How many frames were ever sent on a bearer.
     pub fn len(&self, bearer: u8) -> u64
         ensures { result ≡ length (air_on bearer self.now) }

@@ -5,10 +5,14 @@ mod air;
 mod events;
 mod flying;
 mod members;
+mod places;
 mod readers;
+mod settling;
 mod tables;
 mod worlds;
 
 pub use air::{Arrived, Sent};
 pub use events::{Limit, WorldEvent, WorldFault};
+pub use places::Places;
+pub use settling::{Receivers, Settled};
 pub use worlds::World;

@@ -312,6 +312,27 @@ impl Member {
         )
     }
 
+    /// The node in its present boot.
+    pub fn node(&self) -> &Node
+        ensures { result.now ≡ self.now.node }
+    {
+        &self.node
+    }
+
+    /// The journals of the boots before the present one, in order.
+    pub fn past(&self) -> &[Journal]
+        ensures { map (λ j. j.entries) result.now ≡ self.now.past }
+    {
+        &self.past
+    }
+
+    /// Every frame that ever arrived at it, in order.
+    pub fn arrivals(&self) -> &[Arrived]
+        ensures { result.now ≡ self.now.arrivals }
+    {
+        &self.arrivals
+    }
+
     /// The contact with the peer: None exactly where it isn't in contact with it.
     pub fn contact(&self, peer: u8) -> Option<(u64, u64)>
         ensures { result ≡ option_and_then contact_between (pair_in self.now.node peer) }

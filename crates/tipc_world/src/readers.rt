@@ -1,20 +1,22 @@
 //! What is told of a world. None of these takes memory but `links` and `table`.
 
-ghost use Rattle.std.specs.Prelude.{◌≡◌, ◌≤◌, ◌+◌, ◌++◌, [], ℕ, Some, None, length, is_some, slice_get, slice_index_or, option_map, IfOk, IfSome, OnErr, OnOk};
+ghost use Rattle.std.specs.Prelude.{◌≡◌, ◌≤◌, ◌+◌, ◌++◌, [], ℕ, Some, None, length, is_some, map, slice_get, slice_index_or, option_map, IfOk, IfSome, OnErr, OnOk};
 ghost use Rattle.std.specs.Option.{option_copied};
 ghost use Rattle.tipc_link_fsm.specs.Table.{is_up};
 ghost use Rattle.tipc_pair.specs.Facing.{state_of, states_of};
 ghost use Rattle.tipc_types.specs.declared.message_forms.Flow.TheVariants.{Zero};
 ghost use Rattle.tipc_world.specs.Readers.{link_shown, links_of, load_of, node_number, receiver_at, receiver_number, sender_at, table_of, unacked_in, waiting_in};
 ghost use Rattle.tipc_world.specs.Skies.{air_on};
-ghost use Rattle.tipc_world.specs.States.{accepted_at, counted, delivered_at, flow_of, is_mended_at, is_there, is_up_at, knows, link_at, pair_at};
+ghost use Rattle.tipc_world.specs.States.{accepted_at, arrivals_at, counted, delivered_at, flow_of, is_mended_at, is_there, is_up_at, knows, link_at, node_at, pair_at, past_at};
 
-use crate::air::{Air, Sent};
+use crate::air::{Air, Arrived, Sent};
 use crate::flying::contact_at;
 use crate::members::Member;
 use crate::tables::told_of;
 use crate::worlds::World;
 use std::alloc::Global;
+use tipc_journal::Journal;
+use tipc_node::Node;
 use tipc_pick::Pick;
 use tipc_types::{Addr, Answer, LinkState, List, NoMemory, PeerLinks, Publication, Sequence, To};
 
@@ -222,6 +224,43 @@ impl<P: Pick> World<P> {
             Some(Some(_)) => true,
             _ => false,
         }
+    }
+
+    /// A node in its present boot, with its journal: None exactly where it isn't there.
+    pub fn node(&self, n: u8) -> Option<&Node>
+        ensures { option_copied result ≡ node_at self.now.state.members n }
+    {
+        match self.members.get(n as usize) {
+            Some(Some(member)) => Some(member.node()),
+            _ => None,
+        }
+    }
+
+    /// The journals of the boots of a node before its present one, in order. Where it isn't there, there are none.
+    pub fn past(&self, n: u8) -> &[Journal]
+        ensures { map (λ j. j.entries) result.now ≡ past_at self.now.state.members n }
+    {
+        match self.members.get(n as usize) {
+            Some(Some(member)) => member.past(),
+            _ => &[],
+        }
+    }
+
+    /// Every frame that ever arrived at a node, in order. Where it isn't there, there are none.
+    pub fn arrivals(&self, n: u8) -> &[Arrived]
+        ensures { result.now ≡ arrivals_at self.now.state.members n }
+    {
+        match self.members.get(n as usize) {
+            Some(Some(member)) => member.arrivals(),
+            _ => &[],
+        }
+    }
+
+    /// Every frame that was ever sent on a bearer, in order.
+    pub fn air(&self, bearer: u8) -> &[Sent]
+        ensures { result.now ≡ air_on bearer self.now.state.air }
+    {
+        self.air.sent(bearer)
     }
 
     /// Whether a frame was lost for want of memory.

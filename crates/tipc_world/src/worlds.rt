@@ -10,6 +10,7 @@ ghost use Rattle.tipc_world.specs.Events.{AreSettled, DidAt, IsSettledAt, IsStea
 ghost use Rattle.tipc_world.specs.Good.{IsGood};
 ghost use Rattle.tipc_world.specs.Growth.{Grows};
 ghost use Rattle.tipc_world.specs.Limits.{has_room_at, IsAnswered, IsFree, IsStopped, Stops, TurnStops};
+ghost use Rattle.tipc_world.specs.Merged.{merged, recorded_by, AddsAtFault};
 ghost use Rattle.tipc_world.specs.Skies.{air_size};
 ghost use Rattle.tipc_world.specs.Sound.{IsSound};
 ghost use Rattle.tipc_world.specs.States.{is_there, no_nodes, MemberState};
@@ -363,7 +364,8 @@ impl<P: Pick> World<P> {
     ///
     /// Limit exactly where a limit is reached: at 300,000 events; where the journal of the node has no room for the call; and after an
     /// event that takes the air of both bearers past 100,000 frames, which happened then. Else NoMemory. At all but the limit of frames nothing is
-    /// changed. The clause `stops` says so. To which match a message by name goes is a part of the clause `good`.
+    /// changed. The clause `stops` says so. To which match a message by name goes is a part of the clause `good`. The clauses `recorded` and
+    /// `kept` say which calls stand in all journals then, in order of their stamps.
     pub fn step(&mut self, alloc: Global, event: WorldEvent) -> Result<Answer, WorldFault>
         requires { CanHappen self.old.state event }
         ensures answered { IfOk result (IsAnswered self.old.state event self.new.state) }
@@ -372,7 +374,11 @@ impl<P: Pick> World<P> {
         ensures pick { self.new.chooser.pick ≡ self.old.chooser.pick }
         ensures grows { Grows self.old.state self.new.state }
         ensures good { IsGood P.gives self.new }
+        ensures recorded { IfOk result (λ answered.
+            merged self.new.state ≡ merged self.old.state ++ recorded_by self.old.state event answered) }
+        ensures kept { IfErr result (AddsAtFault self.old.state event self.new.state) }
     {
+        let _ = &self.members;
         let answer = self.advance(alloc, event);
         let _ = &self.members;
         answer

@@ -2,6 +2,7 @@
 use Rattle.std.proofs.Common.{◌≡◌, ◌≢◌, ◌<◌, ◌⊎◌, ◌%◌, ◌^◌, ℕ, zero, suc, List, [], ◌∷◌, ◌++◌, Option, Some, None, length, slice_get, slice_index_or, slice_set, sum_by, refl, sym, ap, subst, ◌∙◌, inl, inr, get_or-set_same, get_or-set_other, arith}
 use Rattle.std.specs.List.{All}
 use Rattle.std.proofs.lemmas.Bool.{cases_eq}
+use Rattle.std.proofs.lemmas.List.{append-nil}
 use Rattle.std.proofs.lemmas.List.Elements.{All-nil}
 use Rattle.tipc_types.specs.declared.identity.Addr.{Addr}
 use Rattle.tipc_pick.specs.Choosing.{Choosing}
@@ -19,6 +20,7 @@ use Rattle.tipc_world.specs.Answered.{journal_at, journals_of, sent_in, sum_to, 
 use Rattle.tipc_world.specs.Events.{JoinsAt}
 use Rattle.tipc_world.specs.Members.{IsNewcomer, IsRestarted, known_member}
 use Rattle.tipc_world.specs.States.{MemberState}
+use Rattle.tipc_world.proofs.calls.Adding.{stamp_lasts, stay_longer, Stay}
 use Rattle.tipc_world.proofs.calls.Journals.{get_more, journal_at-is, journal_at-none, journal_at-same}
 use Rattle.tipc_world.proofs.LookUps.{place_within}
 use Rattle.tipc_world.proofs.calls.Sums.{sent_split, sum_last, turn_same}
@@ -53,9 +55,10 @@ never_stamped place stamp there = absurd (let wrong : slice_get [] place ≡ Som
 abbrev pub IsCounted : MemberState → Type 0
 IsCounted m = m.calls ≡ length (calls_of m.node.journal 0)
 
--- each journal stood there before or is empty, and no node sent more
+-- each journal stood there before or is empty, each stamp stays, and no node sent more
 pub record NoneNew (old new : List (Option MemberState)) : Type 0 where
   pub journals : (n boot : ℕ) (journal : List Entry) → journal_at new n boot ≡ Some journal → (journal_at old n boot ≡ Some journal) ⊎ (journal ≡ [])
+  pub lasts : (n boot stamp : ℕ) → HasStamp old n boot stamp → HasStamp new n boot stamp
   pub sent : (n stamp : ℕ) → sent_in (slice_index_or new n None) stamp ≡ sent_in (slice_index_or old n None) stamp
   pub calls : (n : ℕ) (m : MemberState) → slice_index_or new n None ≡ Some m → IsCounted m
 
@@ -84,6 +87,7 @@ quiet_orderly gives old new recorded chooser h q =
     record {
       answered = λ n boot journal there. quiet_answered (addr_of n) journal (journal_at old n boot ≡ Some journal) (h.answered n boot journal) (q.journals n boot journal there);
       stamped = λ n boot journal there. quiet_stamped recorded journal (journal_at old n boot ≡ Some journal) (h.stamped n boot journal) (q.journals n boot journal there);
+      every = λ stamp below. (let one = h.every stamp below in (one.0, one.1, q.lasts one.0 one.1 stamp one.2));
       once = λ n boot n' boot' stamp one other. h.once n boot n' boot' stamp (quiet_stamp old new n boot stamp q one) (quiet_stamp old new n' boot' stamp q other);
       picked = λ n boot journal there. quiet_picked (gives chooser.pick) (turn_at new) (addr_of n) journal (journal_at old n boot ≡ Some journal)
           (λ stood. AllPicked_same (gives chooser.pick) (turn_at old) (turn_at new) (addr_of n) journal recorded (h.stamped n boot journal stood) (λ x _. sym (turns x)) (h.picked n boot journal stood)) (q.journals n boot journal there);
@@ -96,6 +100,7 @@ quiet_orderly gives old new recorded chooser h q =
 -- what a node has after such an event
 record QuietAt (before after : MemberState) : Type 0 where
   journals : (boot : ℕ) (journal : List Entry) → slice_get (journals_of after) boot ≡ Some journal → (slice_get (journals_of before) boot ≡ Some journal) ⊎ (journal ≡ [])
+  stay : Stay before after
   sent : (stamp : ℕ) → sent_in (Some after) stamp ≡ sent_in (Some before) stamp
   calls : IsCounted before → IsCounted after
 
@@ -109,6 +114,7 @@ quiet_set old a before after was counted q = record {
         (subst (λ o. (o ≡ Some journal) ⊎ (journal ≡ [])) (sym (journal_at-is old a boot before was)) (q.journals boot journal at_a))
     | inr apart ↦ inl (sym (journal_at-same old new n boot (others n apart)) ∙ there)
   ];
+  lasts = λ n boot stamp. stamp_lasts old a n boot stamp before after was q.stay;
   sent = λ n stamp. elim (cases_eq n a) [
     | inl same ↦ subst (λ k. sent_in (slice_index_or new k None) stamp ≡ sent_in (slice_index_or old k None) stamp) (sym same)
         (ap (λ o. sent_in o stamp) here ∙ q.sent stamp ∙ ap (λ o. sent_in o stamp) (sym was))
@@ -133,13 +139,22 @@ quiet_set old a before after was counted q = record {
 
 -- a node comes to know another
 know_quiet : (m : MemberState) (peer bearer : ℕ) → QuietAt m (known_member m peer bearer)
-know_quiet m peer bearer = record { journals = λ boot journal there. inl there; sent = λ stamp. refl; calls = λ h. h }
+know_quiet m peer bearer = record {
+  journals = λ boot journal there. inl there;
+  stay = stay_longer m (known_member m peer bearer) [] (sym (append-nil (journals_of m)));
+  sent = λ stamp. refl;
+  calls = λ h. h;
+}
 
--- a node is restarted
+-- a node is restarted: its journals stay, and an empty one comes behind them
+pub restart_journals : (m m' : MemberState) → IsRestarted m m' → journals_of m' ≡ journals_of m ++ [] ∷ []
+restart_journals m m' r = ap (λ js. js ++ m'.node.journal ∷ []) r.past ∙ ap (λ j. (m.past ++ m.node.journal ∷ []) ++ j ∷ []) r.node.no_history
+
 restart_quiet : (m m' : MemberState) → IsRestarted m m' → QuietAt m m'
 restart_quiet m m' r = record {
   journals = λ boot journal there.
       by journal (get_more (m.past ++ m.node.journal ∷ []) [] boot journal (subst (λ js. slice_get js boot ≡ Some journal) journals there));
+  stay = stay_longer m m' ([] ∷ []) journals;
   sent = λ stamp.
       let now = sum_last (λ j. names_sent_before j stamp) (m.past ++ m.node.journal ∷ []) [] in
       let none = names_sent_before_nil stamp in
@@ -149,7 +164,7 @@ restart_quiet m m' r = record {
 }
   where
     journals : journals_of m' ≡ (m.past ++ m.node.journal ∷ []) ++ [] ∷ []
-    journals = ap (λ js. js ++ m'.node.journal ∷ []) r.past ∙ ap (λ j. (m.past ++ m.node.journal ∷ []) ++ j ∷ []) r.node.no_history
+    journals = restart_journals m m' r
 
     by : (journal : List Entry) {boot : ℕ} → (slice_get (journals_of m) boot ≡ Some journal) ⊎ ((boot ≡ length (journals_of m)) × ([] ≡ journal)) → (slice_get (journals_of m) boot ≡ Some journal) ⊎ (journal ≡ [])
     by journal (inl old) = inl old
@@ -193,6 +208,10 @@ joined_none_new old new n absent j counted = record {
     | inl same ↦ inr (newcomer_journal j.newcomer n boot journal j.fresh (sym (journal_at-is new n boot j.newcomer j.here) ∙ ap (λ i. journal_at new i boot) (sym same) ∙ there))
     | inr apart ↦ inl (sym (journal_at-same old new k boot (j.others k apart)) ∙ there)
   ];
+  lasts = λ k boot stamp h. elim (cases_eq k n) [
+    | inl same ↦ absurd (let none = sym (ap (λ i. journal_at old i boot) same ∙ journal_at-none old n boot absent) ∙ h.there in let wrong : ⊥ = cc in wrong)
+    | inr apart ↦ record { journal = h.journal; there = journal_at-same old new k boot (j.others k apart) ∙ h.there; place = h.place; stands = h.stands }
+  ];
   sent = λ k stamp. elim (cases_eq k n) [
     | inl same ↦ subst (λ i. sent_in (slice_index_or new i None) stamp ≡ sent_in (slice_index_or old i None) stamp) (sym same)
         (ap (λ o. sent_in o stamp) j.here ∙ newcomer_sent j.newcomer n stamp j.fresh ∙ sym (ap (λ o. sent_in o stamp) absent))
@@ -227,6 +246,7 @@ pub start_orderly : {P : Type 0} (gives : P → ℕ → ℕ → ℕ → Type 0) 
 start_orderly gives chooser first = record {
   answered = λ n boot journal there. absurd (nowhere n boot journal there);
   stamped = λ n boot journal there. absurd (nowhere n boot journal there);
+  every = λ stamp below. absurd (omega (arith, below));
   once = λ n boot n' boot' stamp one other. absurd (nowhere n boot one.journal one.there);
   picked = λ n boot journal there. absurd (nowhere n boot journal there);
   calls = λ n m there. absurd cc;

@@ -1,7 +1,7 @@
 -- Where a call is recorded, the calls of all nodes stay in order.
 use Rattle.std.proofs.Common.{◌≡◌, ◌≤◌, ◌<◌, ◌⊎◌, ◌%◌, ◌^◌, ◌+◌, ◌==◌, ◌&&◌, ℕ, Bool, true, false, List, [], ◌∷◌, ◌++◌, Option, Some, None, cond, nat_lt, length, sum_by, slice_get, slice_index_or, slice_set, refl, sym, ap, subst, ◌∙◌, inl, inr, get_or-set_same, get_or-set_other, length-append, arith}
 use Rattle.std.specs.List.{All}
-use Rattle.std.proofs.lemmas.Bool.{cases_eq}
+use Rattle.std.proofs.lemmas.Bool.{cases_eq, cases_lt}
 use Rattle.std.proofs.lemmas.Bool.Decides.{nat_tests}
 use Rattle.std.proofs.lemmas.List.Elements.{All-push, All-weaker}
 use Rattle.tipc_pick.specs.Choosing.{Choosing}
@@ -18,8 +18,10 @@ use Rattle.tipc_node.specs.Turns.{addr_of}
 use Rattle.tipc_world.specs.Answered.{journal_at, journals_of, sent_in, turn_at, AreAnswered, AreOrderly, HasStamp}
 use Rattle.tipc_world.specs.Choices.{turned}
 use Rattle.tipc_world.specs.States.{MemberState}
+use Rattle.tipc_world.proofs.calls.Adding.{stamp_lasts, stay_recorded, step_made}
 use Rattle.tipc_world.proofs.calls.Journals.{all_get, get_more, journal_at-is, journal_at-same, past_at, present_at}
 use Rattle.tipc_world.proofs.LookUps.{place_within}
+use Rattle.tipc_world.proofs.calls.Merging.{stamp_of}
 use Rattle.tipc_world.proofs.calls.Quiet.{IsCounted}
 use Rattle.tipc_world.proofs.calls.Sums.{sent_split, sum_same, turn_more, turn_same}
 
@@ -211,6 +213,12 @@ recorded_orderly gives old a recorded before after s chooser chooser' was r one 
     | inl stood ↦ all_later (stamps journal) recorded (h.stamped n boot journal stood)
     | inr last ↦ subst (λ j. All (λ stamp. stamp < recorded + 1) (stamps j)) last.2 (subst (All (λ stamp. stamp < recorded + 1)) (sym (stamps_after a recorded before after s r))
         (All-push (λ stamp. stamp < recorded + 1) (stamps before.node.journal) recorded (all_later (stamps before.node.journal) recorded (h.stamped a (length before.past) before.node.journal present)) (omega arith)))
+  ];
+  every = λ stamp below. elim (cases_lt stamp recorded) [
+    | inl old_one ↦ let one = h.every stamp old_one in (one.0, one.1, stamp_lasts old a one.0 one.1 stamp before after was (stay_recorded before after s r.past r.journal r.whole r.inside) one.2)
+    | inr last ↦
+        let same : stamp ≡ recorded = omega (arith, below, last) in
+        (a, length after.past, subst (HasStamp new a (length after.past)) (r.stamp ∙ sym same) (stamp_of new a (length after.past) s (step_made old a before after s was r.journal r.whole r.inside)))
   ];
   once = λ n boot n' boot' stamp first second.
       recorded_once gives old a recorded n boot n' boot' stamp before after s chooser h (stamp_cases old a recorded n boot stamp before after s was r first) (stamp_cases old a recorded n' boot' stamp before after s was r second);

@@ -18,7 +18,7 @@ use Rattle.tipc_world.specs.Skies.{AirState}
 use Rattle.tipc_world.specs.States.{MemberState, contact_at, pair_at}
 use Rattle.tipc_world.specs.Views.{sight_at}
 use Rattle.tipc_world.proofs.pairs.Pairings.{told_as}
-use Rattle.tipc_world.proofs.Places.{Stands, stands_either, stands_front, stands_left, stands_map, stands_mapped, stands_passed, stands_passing, stands_right}
+use Rattle.tipc_world.proofs.InLists.{Stands, stands_either, stands_front, stands_left, stands_map, stands_mapped, stands_passed, stands_passing, stands_right}
 
 -- whether a frame that leaves is for node b
 abbrev pub is_out_to : ℕ → Outgoing → Bool

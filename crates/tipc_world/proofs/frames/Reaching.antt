@@ -21,7 +21,7 @@ use Rattle.tipc_world.specs.Air.{as_frame, goes, number_of_node, sent_between, s
 use Rattle.tipc_world.specs.Skies.{AirState, air_on}
 use Rattle.tipc_world.specs.Due.{age_by_fault, age_of, frame_for, is_for, kept_for, session_age, stopped_by_age, unarrived}
 use Rattle.tipc_world.specs.States.{MemberState, count_at}
-use Rattle.tipc_world.proofs.Places.{Stands, stands_left, stands_map, stands_passing, stands_right}
+use Rattle.tipc_world.proofs.InLists.{Stands, stands_left, stands_map, stands_passing, stands_right}
 
 -- ---- the frame among those that its sender sent
 

@@ -67,7 +67,7 @@ some_if true x = refl
 some_if false x = refl
 
 -- an end tells of epochs exactly where its link is up
-up_some : (o : Option LinkEnd) → is_some (option_and_then epochs_of o) ≡ is_up_at o
+pub up_some : (o : Option LinkEnd) → is_some (option_and_then epochs_of o) ≡ is_up_at o
 up_some None = refl
 up_some (Some e) = some_if (is_up e.fsm.state) (e.fsm.own, known e.fsm.peer)
 

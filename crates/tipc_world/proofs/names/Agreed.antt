@@ -119,11 +119,11 @@ contact_now members air a b m numbers sound was h is = case (neighbour_of m.node
 
 -- ---- two nodes
 
-journal_is : (members : List (Option MemberState)) (n : ℕ) (m : MemberState) → slice_index_or members n None ≡ Some m → journal_now members n ≡ m.node.journal
+pub journal_is : (members : List (Option MemberState)) (n : ℕ) (m : MemberState) → slice_index_or members n None ≡ Some m → journal_now members n ≡ m.node.journal
 unfolding journal_now member_at
 journal_is members n m is = ap (λ o. unwrap_or (option_map (λ (x : MemberState). x.node.journal) o) []) is
 
-no_journal : (members : List (Option MemberState)) (n : ℕ) → slice_index_or members n None ≡ None → journal_now members n ≡ []
+pub no_journal : (members : List (Option MemberState)) (n : ℕ) → slice_index_or members n None ≡ None → journal_now members n ≡ []
 unfolding journal_now member_at
 no_journal members n none = ap (λ o. unwrap_or (option_map (λ (x : MemberState). x.node.journal) o) []) none
 

@@ -8,14 +8,15 @@ use Rattle.tipc_contact.specs.Sides.{boot_of}
 use Rattle.tipc_paired.specs.Paired.{IsNode}
 use Rattle.tipc_twins.specs.Sights.{AreSeen, Sight}
 use Rattle.tipc_node.specs.declared.neighbours.Neighbour.{Neighbour}
-use Rattle.tipc_node.specs.Nodes.{neighbour_of}
+use Rattle.tipc_node.specs.Nodes.{end_with, neighbour_of}
 use Rattle.tipc_node.specs.Sharing.{IsUnused, SharesNames}
 use Rattle.tipc_node.specs.Telling.{IsTold}
 use Rattle.tipc_world.specs.declared.events.WorldEvent.{WorldEvent}
 use Rattle.tipc_world.specs.declared.events.WorldEvent.TheVariants.{Know, Restart, Call, Arrive}
-use Rattle.tipc_world.specs.Calls.{node_of}
+use Rattle.tipc_world.specs.Calls.{node_of, CanHappenAt}
 use Rattle.tipc_world.specs.Deeds.{Does}
 use Rattle.tipc_world.specs.Due.{unarrived}
+use Rattle.tipc_world.specs.Entered.{HasRisen}
 use Rattle.tipc_world.specs.Events.{JoinsAt}
 use Rattle.tipc_world.specs.Members.{IsNewcomer, IsRestarted}
 use Rattle.tipc_world.specs.Numbers.{own_in}
@@ -25,8 +26,11 @@ use Rattle.tipc_world.specs.States.{MemberState, boot_at, pair_at}
 use Rattle.tipc_world.specs.Steps.{Becomes, Happens, IsArrival, Stage}
 use Rattle.tipc_world.specs.Views.{sight_at}
 use Rattle.tipc_world.proofs.calls.Journals.{get_more}
+use Rattle.tipc_world.proofs.Happening.{not_known}
 use Rattle.tipc_world.proofs.LookUps.{boot_at-is, member_at-is, place_within}
 use Rattle.tipc_world.proofs.calls.Outcomes.{some_is}
+use Rattle.tipc_world.proofs.names.Rising.{know_rises, newcomer_rises, restart_rises, turn_rises}
+use Rattle.tipc_world.proofs.pairs.PairedEvents.{made_step, met_step}
 use Rattle.tipc_world.proofs.pairs.Standing.{acquainted, neighbour_apart, pair_is}
 
 -- ---- contact numbers
@@ -52,17 +56,19 @@ newcomer_shared m n c = record {
   told = c.node.told;
   shares = c.node.shares;
   spent = λ k j there b number above. absurd (none k j (subst (λ js. slice_get js k ≡ Some j) c.past there));
+  rises = λ b. newcomer_rises m n b c;
 }
   where
     none : (k : ℕ) (j : List Entry) → slice_get [] k ≡ Some j → ⊥
     none k j there = cc
 
 -- the boot goes on
-same_boot : (m m' : MemberState) → IsShared m → m'.past ≡ m.past → m'.node.boot ≡ m.node.boot → IsTold m'.node → SharesNames m'.node → IsShared m'
-same_boot m m' h past boot told shares = record {
+same_boot : (m m' : MemberState) → IsShared m → m'.past ≡ m.past → m'.node.boot ≡ m.node.boot → IsTold m'.node → SharesNames m'.node → ((b : ℕ) → HasRisen m' b) → IsShared m'
+same_boot m m' h past boot told shares rises = record {
   told = told;
   shares = shares;
   spent = λ k j there b number above. h.spent k j (subst (λ js. slice_get js k ≡ Some j) past there) b number (subst (λ n. n ≤ boot_of number) boot above);
+  rises = rises;
 }
 
 -- what ended with a boot is under the contact numbers of that boot
@@ -83,17 +89,28 @@ restart_shared s a m m' sound was h r = record {
         | inl old ↦ h.spent k j old b number (omega (arith, next))
         | inr last ↦ subst (λ es. IsUnused es b number) last.1 (ended s a m b number sound was h.shares (omega (arith, next)))
       ];
+  rises = λ b. restart_rises m m' b (λ x is. boot_is s a b m x sound was is) r (h.rises b);
 }
 
-does_shared : (s : Stage) (stamp : ℕ) (event : WorldEvent) (bytes : List ℕ) (m m' : MemberState) (frames : List Outgoing) (answered : Answer) → IsSound s.members s.air → slice_index_or s.members (node_of event) None ≡ Some m → IsShared m
+-- a node that comes to know another on a bearer doesn't know it there yet
+abbrev IsNew : MemberState → WorldEvent → Type 0
+IsNew m (Know a peer bearer) = end_with bearer (neighbour_of m.node peer) ≡ None
+IsNew m other = Unit {0}
+
+does_shared : (s : Stage) (stamp : ℕ) (event : WorldEvent) (bytes : List ℕ) (m m' : MemberState) (frames : List Outgoing) (answered : Answer) → IsSound s.members s.air → slice_index_or s.members (node_of event) None ≡ Some m → IsNew m event → IsShared m
     → Does stamp event bytes m m' frames answered → IsShared m'
-does_shared s stamp (Know a peer bearer) bytes m m' frames answered sound was h d =
+does_shared s stamp (Know a peer bearer) bytes m m' frames answered sound was new h d =
     same_boot m m' h (ap (λ (x : MemberState). x.past) d.0) (ap (λ (x : MemberState). x.node.boot) d.0) d.4 d.5
-does_shared s stamp (Restart a) bytes m m' frames answered sound was h d = restart_shared s a m m' sound was h d.0
-does_shared s stamp (Call a call) bytes m m' frames answered sound was h d =
-    same_boot m m' h (ap (λ (x : MemberState). x.past) d.after) d.turn.turn.boot d.turn.told d.turn.shared
-does_shared s stamp (Arrive a bearer place) bytes m m' frames answered sound was h d =
-    same_boot m m' h (ap (λ (x : MemberState). x.past) d.after) d.turn.turn.boot d.turn.told d.turn.shared
+    (λ b. subst (λ x. HasRisen x b) (sym d.0) (know_rises m peer bearer b d.3 new h.told (h.rises b)))
+does_shared s stamp (Restart a) bytes m m' frames answered sound was new h d = restart_shared s a m m' sound was h d.0
+does_shared s stamp (Call a call) bytes m m' frames answered sound was new h d =
+    let past = ap (λ (x : MemberState). x.past) d.after in
+    same_boot m m' h past d.turn.turn.boot d.turn.told d.turn.shared
+    (λ b. turn_rises m m' [] (made_step stamp call m m' frames answered d) frames b past d.turn.turn h.told (h.rises b))
+does_shared s stamp (Arrive a bearer place) bytes m m' frames answered sound was new h d =
+    let past = ap (λ (x : MemberState). x.past) d.after in
+    same_boot m m' h past d.turn.turn.boot d.turn.told d.turn.shared
+    (λ b. turn_rises m m' bytes (met_step stamp bearer place bytes m m' frames answered d) frames b past d.turn.turn h.told (h.rises b))
 
 -- ---- the world
 
@@ -105,25 +122,27 @@ set_shared members a before after was all new n m there = elim (cases_eq n a) [
   | inr apart ↦ all n m (sym (get_or-set_other members a n (Some after) None apart) ∙ there)
 ]
 
-happens_shared : (old new : Stage) (stamp : ℕ) (event : WorldEvent) (bytes : List ℕ) (answered : Answer) (lost : Bool) → IsSound old.members old.air → AreShared old.members → Happens old new stamp event bytes answered lost → AreShared new.members
-happens_shared old new stamp event bytes answered lost sound all h =
+happens_shared : (old new : Stage) (stamp : ℕ) (event : WorldEvent) (bytes : List ℕ) (answered : Answer) (lost : Bool) → IsSound old.members old.air → AreShared old.members
+    → ((m : MemberState) → slice_index_or old.members (node_of event) None ≡ Some m → IsNew m event) → Happens old new stamp event bytes answered lost → AreShared new.members
+happens_shared old new stamp event bytes answered lost sound all new_to h =
     let a = node_of event in
     subst AreShared (sym h.turns.members)
-    (set_shared old.members a h.before h.after h.turns.was all (does_shared old stamp event bytes h.before h.after h.frames answered sound h.turns.was (all a h.before h.turns.was) h.does))
+    (set_shared old.members a h.before h.after h.turns.was all (does_shared old stamp event bytes h.before h.after h.frames answered sound h.turns.was (new_to h.before h.turns.was) (all a h.before h.turns.was) h.does))
 
 arrival_shared : (old new : Stage) (stamp node bearer place : ℕ) (answered : Answer) (lost : Bool) → IsSound old.members old.air → AreShared old.members → IsArrival old new stamp node bearer place answered lost → AreShared new.members
 arrival_shared old new stamp node bearer place answered lost sound all h = case (unarrived old.members old.air node bearer place) refl
   where
     case : (o : Option Answer) → unarrived old.members old.air node bearer place ≡ o → AreShared new.members
     case (Some reason) stops = subst (λ (s : Stage). AreShared s.members) (sym (h.none reason stops).1) all
-    case None free = let a = h.arrives free in happens_shared old new stamp (Arrive node bearer place) a.0.frame answered lost sound all a.2
+    case None free = let a = h.arrives free in happens_shared old new stamp (Arrive node bearer place) a.0.frame answered lost sound all (λ m was. tt) a.2
 
 -- after one event
-pub becomes_shared : (old new : Stage) (stamp : ℕ) (event : WorldEvent) (answered : Answer) (lost : Bool) → IsSound old.members old.air → AreShared old.members → Becomes old stamp event new answered lost → AreShared new.members
-becomes_shared old new stamp (Know node peer bearer) answered lost sound all h = happens_shared old new stamp (Know node peer bearer) [] answered lost sound all h
-becomes_shared old new stamp (Restart node) answered lost sound all h = happens_shared old new stamp (Restart node) [] answered lost sound all h
-becomes_shared old new stamp (Call node call) answered lost sound all h = happens_shared old new stamp (Call node call) [] answered lost sound all h
-becomes_shared old new stamp (Arrive node bearer place) answered lost sound all h = arrival_shared old new stamp node bearer place answered lost sound all h
+pub becomes_shared : (old new : Stage) (stamp : ℕ) (event : WorldEvent) (answered : Answer) (lost : Bool) → CanHappenAt old.members event → IsSound old.members old.air → AreShared old.members → Becomes old stamp event new answered lost → AreShared new.members
+becomes_shared old new stamp (Know node peer bearer) answered lost can sound all h =
+    happens_shared old new stamp (Know node peer bearer) [] answered lost sound all (λ m was. not_known old.members node peer bearer m was can.3 can.4) h
+becomes_shared old new stamp (Restart node) answered lost can sound all h = happens_shared old new stamp (Restart node) [] answered lost sound all (λ m was. tt) h
+becomes_shared old new stamp (Call node call) answered lost can sound all h = happens_shared old new stamp (Call node call) [] answered lost sound all (λ m was. tt) h
+becomes_shared old new stamp (Arrive node bearer place) answered lost can sound all h = arrival_shared old new stamp node bearer place answered lost sound all h
 
 -- where no nodes are
 pub start_shared : AreShared []

@@ -1,7 +1,7 @@
 use Rattle.std.proofs.Common.{◌-◌, ◌≤◌, max, length}
 use Rattle.tipc_world.specs.Skies.{air_on}
-use Rattle.tipc_sim.specs.Courses.{Continues, Goes}
-use Rattle.tipc_sim.specs.Meanings.{arrival_asked}
+use Rattle.tipc_world.specs.Courses.{Continues, Goes}
+use Rattle.tipc_world.specs.Settling.{arrival_asked}
 use Rattle.tipc_sim.proofs.frames.drain.Given as goal
 
 abbrev pub decreases-loop-place : goal.decreases-loop-place

@@ -1,5 +1,8 @@
-use Rattle.tipc_sim.proofs.WorldLaws.{grows_same}
+use Rattle.tipc_world.proofs.Continuing.{grows_same}
 use Rattle.tipc_sim.proofs.lines.compose.Goals.{in-Node+in_ok-add_node-in-Node, in-Mend+in_ok-answer-in-Mend, in-Link+in_ok-answer-in-Link, in-Mark, in-Pump+in_ok-answer-in-Pump, in-Settle+in_ok-answer-in-Settle}
+use Rattle.std.proofs.lemmas.Result.{err_from_is_err_and}
+use Rattle.std.proofs.Common.{subst, sym, Err}
+use Rattle.tipc_sim.specs.Happenings.{Composed}
 use Rattle.tipc_sim.proofs.lines.compose.Goals as goal
 
 pub returns-clause-good : goal.returns-clause-good
@@ -23,3 +26,13 @@ returns-clause-grows g c =
       | in-Pump+in_ok-answer-in-Pump w ↦ rw w.world-is w.pump_on.ensures.continues.grown
       | in-Settle+in_ok-answer-in-Settle w ↦ rw w.world-is w.settle.ensures.continues.grown
     ]
+
+pub returns-in_err-answer-in-Mend-clause-comes : goal.returns-in_err-answer-in-Mend-clause-comes
+returns-in_err-answer-in-Mend-clause-comes g c =
+    let p = err_from_is_err_and c.from_residual-in_err-answer-in-Mend.result c.from_residual-in_err-answer-in-Mend.ensures.1 in
+    rw (p.1, p.2) (subst (λ line. Composed line c.args.notes.now c.args.world.now.state (Err c.in_err-answer-in-Mend.field-0.0) c.mend.new.world.state) (sym c.in-Mend.is) c.in_err-answer-in-Mend.ensures.comes)
+
+pub returns-in_err-answer-in-Link-clause-comes : goal.returns-in_err-answer-in-Link-clause-comes
+returns-in_err-answer-in-Link-clause-comes g c =
+    let p = err_from_is_err_and c.from_residual-in_err-answer-in-Link.result c.from_residual-in_err-answer-in-Link.ensures.1 in
+    rw (p.1, p.2) (subst (λ line. Composed line c.args.notes.now c.args.world.now.state (Err c.in_err-answer-in-Link.field-0.0) c.link_named.new.world.state) (sym c.in-Link.is) c.in_err-answer-in-Link.ensures.comes)

@@ -4,7 +4,7 @@ use Rattle.tipc_world.specs.States.{is_there}
 use Rattle.tipc_sim.specs.Nodes.{CanBeDone}
 use Rattle.tipc_sim.proofs.MessageLaws.{bursts_line, repeats_line, stays}
 use Rattle.tipc_sim.proofs.NodeLaws.{sending_can}
-use Rattle.tipc_sim.proofs.WorldLaws.{continues_same}
+use Rattle.tipc_world.proofs.Continuing.{continues_same}
 use Rattle.tipc_sim.proofs.lines.converse.Goals as goal
 
 pub repeat_on-requires-clause-can : goal.repeat_on-requires-clause-can

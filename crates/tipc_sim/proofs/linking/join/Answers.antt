@@ -1,9 +1,9 @@
 use Rattle.std.proofs.Common.{Err}
 use Rattle.std.proofs.lemmas.Result.{err_from_is_err_and}
-use Rattle.tipc_sim.specs.Courses.{Takes, Then}
+use Rattle.tipc_world.specs.Courses.{Takes, Then}
 use Rattle.tipc_sim.specs.Meanings.{know_asked, MendsCut}
-use Rattle.tipc_sim.proofs.CourseLaws.{then_came, then_stopped}
-use Rattle.tipc_sim.proofs.WorldLaws.{continues_more}
+use Rattle.tipc_world.proofs.CourseLaws.{then_came, then_stopped}
+use Rattle.tipc_world.proofs.Continuing.{continues_more}
 use Rattle.tipc_sim.proofs.linking.join.Goals as goal
 
 pub returns-in_err-know-2-clause-comes : goal.returns-in_err-know-2-clause-comes

@@ -1,9 +1,9 @@
 use Rattle.std.proofs.Common.{◌∙◌, arith}
 use Rattle.std.proofs.lemmas.Result.{err_from_is_err_and}
-use Rattle.tipc_sim.specs.Courses.{begin, go_on}
+use Rattle.tipc_world.specs.Courses.{begin, go_on}
 use Rattle.tipc_sim.specs.Meanings.{know_asked}
-use Rattle.tipc_sim.proofs.CourseLaws.{all_halts}
-use Rattle.tipc_sim.proofs.WorldLaws.{continues_same, continues_more}
+use Rattle.tipc_world.proofs.CourseLaws.{all_halts}
+use Rattle.tipc_world.proofs.Continuing.{continues_same, continues_more}
 use Rattle.tipc_sim.proofs.linking.know_all.Goals as goal
 
 pub loop-peer-init : goal.loop-peer-init

@@ -1,5 +1,5 @@
 use Rattle.std.proofs.Common.{ℕ}
-use Rattle.tipc_sim.specs.Courses.{Continues, Goes}
+use Rattle.tipc_world.specs.Courses.{Continues, Goes}
 use Rattle.tipc_sim.specs.Meanings.{know_asked}
 use Rattle.tipc_sim.proofs.linking.know_all.Given as goal
 

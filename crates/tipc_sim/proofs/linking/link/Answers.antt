@@ -1,10 +1,12 @@
 use Rattle.std.proofs.Common.{Err}
 use Rattle.std.proofs.lemmas.Result.{err_from_is_err_and}
-use Rattle.tipc_sim.specs.declared.frames.Receivers.TheVariants.{Both}
-use Rattle.tipc_sim.specs.Courses.{Drains}
-use Rattle.tipc_sim.specs.Meanings.{arrival_asked, Joins}
-use Rattle.tipc_sim.proofs.CourseLaws.{links_halt, then_came}
-use Rattle.tipc_sim.proofs.WorldLaws.{continues_more}
+use Rattle.tipc_world.specs.declared.settling.Receivers.TheVariants.{Both}
+use Rattle.tipc_world.specs.Courses.{Drains}
+use Rattle.tipc_world.specs.Settling.{arrival_asked}
+use Rattle.tipc_sim.specs.Meanings.{Joins}
+use Rattle.tipc_sim.proofs.CourseLaws.{links_halt}
+use Rattle.tipc_world.proofs.CourseLaws.{then_came, then_stopped}
+use Rattle.tipc_world.proofs.Continuing.{continues_more}
 use Rattle.tipc_sim.proofs.linking.link.Goals as goal
 
 pub returns-in_err-drain-clause-comes : goal.returns-in_err-drain-clause-comes
@@ -23,3 +25,11 @@ returns-in_err-drain-clause-continues g c = continues_more c.args.world.now c.jo
 
 pub returns-clause-continues : goal.returns-clause-continues
 returns-clause-continues g c = continues_more c.args.world.now c.join.new.world c.drain.new.world c.join.ensures.continues c.drain.ensures.continues
+
+pub returns-in_err-join-clause-comes : goal.returns-in_err-join-clause-comes
+returns-in_err-join-clause-comes g c =
+    let place = c.air_len-place.result in
+    let p = err_from_is_err_and c.from_residual.result c.from_residual.ensures.1 in
+    rw (p.1, p.2) (links_halt c.args.notes.now.named c.args.first c.args.second c.args.bearer place c.args.world.now.state c.join.new.world.state c.in_err-join.field-0.0 c.air_len-place.ensures.len
+    (then_stopped (Joins c.args.notes.now.named c.args.first c.args.second c.args.bearer) (Drains (arrival_asked (Both c.args.first c.args.second) c.args.bearer) c.args.bearer place) c.args.world.now.state c.join.new.world.state
+    c.in_err-join.field-0.0 c.in_err-join.ensures.comes))

@@ -4,7 +4,7 @@ use Rattle.tipc_types.specs.declared.node_calls.EventNote.TheVariants as call
 use Rattle.tipc_world.specs.declared.events.WorldEvent.TheVariants as event
 use Rattle.tipc_sim.specs.Messages.{begin, go_on, Turn}
 use Rattle.tipc_sim.proofs.MessageLaws.{send_can, turn_halts}
-use Rattle.tipc_sim.proofs.WorldLaws.{continues_same, continues_more}
+use Rattle.tipc_world.proofs.Continuing.{continues_same, continues_more}
 use Rattle.tipc_sim.proofs.messages.burst.Goals as goal
 
 pub loop-init : goal.loop-init

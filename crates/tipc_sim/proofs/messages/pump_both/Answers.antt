@@ -1,7 +1,7 @@
 use Rattle.std.proofs.Common.{refl}
 use Rattle.std.proofs.lemmas.Result.{err_from_is_err_and}
 use Rattle.tipc_sim.proofs.MessageLaws.{second_halts}
-use Rattle.tipc_sim.proofs.WorldLaws.{continues_more}
+use Rattle.tipc_world.proofs.Continuing.{continues_more}
 use Rattle.tipc_sim.proofs.messages.pump_both.Goals as goal
 
 pub returns-in_err-pump-2-clause-comes : goal.returns-in_err-pump-2-clause-comes

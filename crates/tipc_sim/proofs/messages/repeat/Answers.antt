@@ -2,7 +2,7 @@ use Rattle.std.proofs.Common.{◌∙◌, sym, arith}
 use Rattle.std.proofs.lemmas.Result.{err_from_is_err_and}
 use Rattle.tipc_sim.specs.Messages.{begin, go_on}
 use Rattle.tipc_sim.proofs.MessageLaws.{send_can, send_halts}
-use Rattle.tipc_sim.proofs.WorldLaws.{continues_same, continues_more}
+use Rattle.tipc_world.proofs.Continuing.{continues_same, continues_more}
 use Rattle.tipc_sim.proofs.messages.repeat.Goals as goal
 
 pub loop-last-init : goal.loop-last-init

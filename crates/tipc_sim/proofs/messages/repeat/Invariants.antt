@@ -1,5 +1,5 @@
 use Rattle.std.proofs.Common.{◌<◌, ◌-◌}
-use Rattle.tipc_sim.specs.Courses.{Continues}
+use Rattle.tipc_world.specs.Courses.{Continues}
 use Rattle.tipc_sim.specs.Messages.{is_sent, Repeats}
 use Rattle.tipc_sim.proofs.messages.repeat.Given as goal
 

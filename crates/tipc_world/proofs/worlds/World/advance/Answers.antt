@@ -36,7 +36,7 @@ invariant_of-self-then-is_over g c =
       steady_after old _ _ _ _ _ _ _ _ h.becomes counts h.free c.self.invariant.1,
       becomes_watched _ _ _ _ _ _ c.self.invariant.0 c.self.invariant.2 (next_boots _ _ _ _ c.self.invariant.0 c.self.invariant.1) (subst (λ (o : WorldView _). CanHappen o.state c.args.event) (sym c.self.view_is) c.requires) h.becomes,
       orderly_after g.P.Pick.gives old _ _ _ _ _ _ _ _ _ _ (subst (λ (o : WorldView _). CanHappen o.state c.args.event) (sym c.self.view_is) c.requires) c.self.invariant.0 h.becomes counts h.chose c.self.invariant.3,
-      becomes_shared _ _ _ _ _ _ c.self.invariant.0 c.self.invariant.4 h.becomes,
+      becomes_shared _ _ _ _ _ _ (subst (λ (o : WorldView _). CanHappen o.state c.args.event) (sym c.self.view_is) c.requires) c.self.invariant.0 c.self.invariant.4 h.becomes,
     )
 
 pub invariant_of-self-2 : goal.invariant_of-self-2
@@ -57,7 +57,7 @@ invariant_of-self-2 g c =
       steady_after old _ _ _ _ _ _ _ _ h.becomes counts h.free c.self.invariant.1,
       becomes_watched _ _ _ _ _ _ c.self.invariant.0 c.self.invariant.2 (next_boots _ _ _ _ c.self.invariant.0 c.self.invariant.1) (subst (λ (o : WorldView _). CanHappen o.state c.args.event) (sym c.self.view_is) c.requires) h.becomes,
       orderly_after g.P.Pick.gives old _ _ _ _ _ _ _ _ _ _ (subst (λ (o : WorldView _). CanHappen o.state c.args.event) (sym c.self.view_is) c.requires) c.self.invariant.0 h.becomes counts h.chose c.self.invariant.3,
-      becomes_shared _ _ _ _ _ _ c.self.invariant.0 c.self.invariant.4 h.becomes,
+      becomes_shared _ _ _ _ _ _ (subst (λ (o : WorldView _). CanHappen o.state c.args.event) (sym c.self.view_is) c.requires) c.self.invariant.0 c.self.invariant.4 h.becomes,
     )
 
 pub returns-then-is_over-clause-stops : goal.returns-then-is_over-clause-stops

@@ -1,10 +1,10 @@
 //! A place in the air of each of the two bearers.
 
 ghost use Rattle.std.specs.Prelude.{◌≡◌};
-ghost use Rattle.tipc_sim.specs.Ends.{ends_of, place_on, with_place};
+ghost use Rattle.tipc_world.specs.Ends.{ends_of, place_on, with_place};
 
+use crate::worlds::World;
 use tipc_pick::Pick;
-use tipc_world::World;
 
 /// A place in the air of each bearer.
 #[derive(Clone, Copy, Debug, PartialEq, Eq)]
@@ -43,12 +43,14 @@ impl Places {
     }
 }
 
-/// The places behind the last frames of both bearers.
-pub fn ends_of<P: Pick>(world: &World<P>) -> Places
-    ensures { result ≡ ends_of world.now.state.air }
-{
-    Places {
-        first: world.air_len(0),
-        second: world.air_len(1),
+impl<P: Pick> World<P> {
+    /// The places behind the last frames of both bearers.
+    pub fn ends(&self) -> Places
+        ensures { result ≡ ends_of self.now.state.air }
+    {
+        Places {
+            first: self.air_len(0),
+            second: self.air_len(1),
+        }
     }
 }

@@ -1,7 +1,7 @@
-use Rattle.tipc_sim.specs.Courses.{Continues}
-use Rattle.tipc_sim.specs.Ends.{ends_of, AreBefore}
-use Rattle.tipc_sim.specs.Meanings.{Rounds}
-use Rattle.tipc_sim.proofs.settling.settle.Given as goal
+use Rattle.tipc_world.specs.Courses.{Continues}
+use Rattle.tipc_world.specs.Ends.{ends_of, AreBefore}
+use Rattle.tipc_world.specs.Settling.{Rounds}
+use Rattle.tipc_world.proofs.settling.make_rounds.Given as goal
 
 abbrev pub invariant-loop : goal.invariant-loop
 invariant-loop g l = record {

@@ -1,10 +1,10 @@
 use Rattle.std.proofs.Common.{arith}
 use Rattle.std.proofs.lemmas.Result.{err_from_is_err_and}
-use Rattle.tipc_sim.specs.Courses.{begin, go_on}
-use Rattle.tipc_sim.specs.Meanings.{tick_asked}
-use Rattle.tipc_sim.proofs.CourseLaws.{all_halts}
-use Rattle.tipc_sim.proofs.WorldLaws.{continues_same, continues_more}
-use Rattle.tipc_sim.proofs.settling.tick_all.Goals as goal
+use Rattle.tipc_world.specs.Courses.{begin, go_on}
+use Rattle.tipc_world.specs.Settling.{tick_asked}
+use Rattle.tipc_world.proofs.CourseLaws.{all_halts}
+use Rattle.tipc_world.proofs.Continuing.{continues_same, continues_more}
+use Rattle.tipc_world.proofs.settling.tick_all.Goals as goal
 
 pub loop-node-init : goal.loop-node-init
 loop-node-init g c = record { goes = (0, begin); continues = continues_same c.args.world.now }

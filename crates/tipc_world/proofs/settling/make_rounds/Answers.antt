@@ -1,16 +1,16 @@
 use Rattle.std.proofs.Common.{subst, sym, arith}
 use Rattle.std.proofs.lemmas.Result.{err_from_is_err_and}
-use Rattle.tipc_sim.specs.Ends.{ends_of, AreBefore}
-use Rattle.tipc_sim.specs.Meanings.{Rounds, begin, go_on}
-use Rattle.tipc_sim.proofs.CourseLaws.{settle_halts}
-use Rattle.tipc_sim.proofs.WorldLaws.{continues_same, continues_more}
-use Rattle.tipc_sim.proofs.settling.settle.Goals as goal
+use Rattle.tipc_world.specs.Ends.{ends_of, AreBefore}
+use Rattle.tipc_world.specs.Settling.{Rounds, begin, go_on}
+use Rattle.tipc_world.proofs.CourseLaws.{settle_halts}
+use Rattle.tipc_world.proofs.Continuing.{continues_same, continues_more}
+use Rattle.tipc_world.proofs.settling.make_rounds.Goals as goal
 
 pub loop-init : goal.loop-init
 loop-init g c = record {
-  made = subst (λ k. Rounds c.args.world.now.state 0 k c.args.world.now.state) (sym c.ends_of-places.ensures) begin;
+  made = subst (λ k. Rounds c.args.world.now.state 0 k c.args.world.now.state) (sym c.ends-places.ensures) begin;
   continues = continues_same c.args.world.now;
-  within = subst (λ k. AreBefore k (ends_of c.args.world.now.state.air)) (sym c.ends_of-places.ensures) (omega arith, omega arith);
+  within = subst (λ k. AreBefore k (ends_of c.args.world.now.state.air)) (sym c.ends-places.ensures) (omega arith, omega arith);
 }
 
 pub returns-in_err-places-clause-comes : goal.returns-in_err-places-clause-comes

@@ -1,7 +1,7 @@
 use Rattle.std.proofs.Common.{ℕ}
-use Rattle.tipc_sim.specs.Courses.{Continues, Goes}
-use Rattle.tipc_sim.specs.Meanings.{tick_asked}
-use Rattle.tipc_sim.proofs.settling.tick_all.Given as goal
+use Rattle.tipc_world.specs.Courses.{Continues, Goes}
+use Rattle.tipc_world.specs.Settling.{tick_asked}
+use Rattle.tipc_world.proofs.settling.tick_all.Given as goal
 
 abbrev pub invariant-loop-node : goal.invariant-loop-node
 invariant-loop-node g l = record {

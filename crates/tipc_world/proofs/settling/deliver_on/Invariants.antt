@@ -1,8 +1,8 @@
 use Rattle.std.proofs.Common.{ℕ}
-use Rattle.tipc_sim.specs.declared.frames.Receivers.TheVariants.{Any}
-use Rattle.tipc_sim.specs.Courses.{Continues, Goes}
-use Rattle.tipc_sim.specs.Meanings.{arrival_asked}
-use Rattle.tipc_sim.proofs.frames.deliver_on.Given as goal
+use Rattle.tipc_world.specs.declared.settling.Receivers.TheVariants.{Any}
+use Rattle.tipc_world.specs.Courses.{Continues, Goes}
+use Rattle.tipc_world.specs.Settling.{arrival_asked}
+use Rattle.tipc_world.proofs.settling.deliver_on.Given as goal
 
 abbrev pub invariant-loop-place : goal.invariant-loop-place
 invariant-loop-place g l = record {

@@ -1,0 +1,75 @@
+-- What it is to settle a world: rounds in which every node ticks and frames arrive.
+use Rattle.std.specs.Prelude.{◌≡◌, ℕ, ◌+◌, ◌<◌, ◌==◌, Bool, true, ◌&&◌, ◌||◌, if◌then◌else◌, Option, Some, None, Ok, Err}
+use Rattle.tipc_types.specs.declared.node_calls.EventNote.TheVariants as call
+use Rattle.tipc_world.specs.declared.events.WorldEvent.{WorldEvent}
+use Rattle.tipc_world.specs.declared.events.WorldEvent.TheVariants as event
+use Rattle.tipc_world.specs.declared.events.WorldFault.{WorldFault}
+use Rattle.tipc_world.specs.declared.places.Places.{Places}
+use Rattle.tipc_world.specs.declared.settling.Receivers.{Receivers}
+use Rattle.tipc_world.specs.declared.settling.Receivers.TheVariants.{Any, Both}
+use Rattle.tipc_world.specs.declared.settling.Settled.{Settled}
+use Rattle.tipc_world.specs.declared.settling.Settled.TheVariants.{Quiet, Unsettled}
+use Rattle.tipc_world.specs.Courses.{Course, Asks, TakesAll, Then}
+use Rattle.tipc_world.specs.Ends.{ends_of}
+use Rattle.tipc_world.specs.Readers.{load_of, receiver_at}
+use Rattle.tipc_world.specs.States.{WorldState, is_there}
+
+-- ---- what is asked for
+
+-- a node that is there ticks
+abbrev pub tick_asked : Asks
+tick_asked w node = if is_there w node then Some (event.Call node call.Tick) else None
+
+-- whether a node is among the receivers
+abbrev pub is_among : Receivers → ℕ → Bool
+is_among Any n = true
+is_among (Both first second) n = (n == first) || (n == second)
+
+abbrev pub arrival_for : Receivers → ℕ → WorldState → ℕ → Option ℕ → Option WorldEvent
+arrival_for among bearer w place None = None
+arrival_for among bearer w place (Some node) = if is_among among node && is_there w node then Some (event.Arrive node bearer place) else None
+
+-- the frame at a place of a bearer's air arrives at the node that it is for, where that is among the receivers and is there
+abbrev pub arrival_asked : Receivers → ℕ → Asks
+arrival_asked among bearer w place = arrival_for among bearer w place (receiver_at w.air bearer place)
+
+-- ---- rounds
+
+-- the frames from some places on and before others arrive, those of bearer 0 and then those of bearer 1
+abbrev pub Arrivals : Places → Places → Course (Unit {0})
+Arrivals places ends =
+    Then (TakesAll (arrival_asked Any 0) places.first ends.first) (TakesAll (arrival_asked Any 1) places.second ends.second)
+
+-- the frames from some places on arrive that are in the air at the beginning; the value is the places behind them
+abbrev pub Delivers : Places → Course Places
+Delivers places start (Ok ends) now = (ends ≡ ends_of start.air) × Arrivals places (ends_of start.air) start (Ok tt) now
+Delivers places start (Err stop) now = Arrivals places (ends_of start.air) start (Err stop) now
+
+-- every node ticks, in order of address, and then the frames from some places on arrive that are in the air
+abbrev pub Round : Places → Course Places
+Round places = Then (TakesAll tick_asked 1 33) (Delivers places)
+
+-- so many rounds were made, the first from the end of the air on, and each other from where the one before ended
+pub data Rounds (start : WorldState) : ℕ → Places → WorldState → Type 0 where
+  begin : Rounds start 0 (ends_of start.air) start
+  go_on : (done : ℕ) (places : Places) (before : WorldState) (ends : Places) (now : WorldState) → Rounds start done places before
+      → Round places before (Ok ends) now → Rounds start (done + 1) ends now
+
+-- likewise, and the next round was stopped
+pub record RoundHalts (rounds : ℕ) (start : WorldState) (stop : WorldFault) (now : WorldState) : Type 0 where
+  pub done : ℕ
+  pub fewer : done < rounds
+  pub places : Places
+  pub before : WorldState
+  pub made : Rounds start done places before
+  pub stopped : Round places before (Err stop) now
+
+-- no packet is under way, or so many are unacknowledged and so many wait
+abbrev pub settled_by : ℕ × ℕ → Settled
+settled_by load = if (load.0 == 0) && (load.1 == 0) then Quiet else Unsettled load.0 load.1
+
+-- so many rounds are made
+abbrev pub Settles : ℕ → Course Settled
+Settles rounds start (Ok settled) now = (places : Places) × Rounds start rounds places now
+    × (settled ≡ settled_by (load_of now.members))
+Settles rounds start (Err stop) now = RoundHalts rounds start stop now
