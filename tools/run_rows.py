@@ -15,11 +15,12 @@ A row is a few files in rows/:
 
 rows/bad_lines.table has lines that are bad by themselves; each is run as a script of its own.
 
-A few cases more stand here, since no file can say them: a full device and a closed one behind standard output, and a
-closed standard input.
+A few cases more stand here, since no file can say them: a full device and a closed one behind standard output, a
+closed standard input, and little memory.
 """
 
 import os
+import resource
 import subprocess
 import sys
 from pathlib import Path
@@ -30,7 +31,8 @@ KINDS = {".script", ".report", ".status", ".words", ".make"}
 TABLE = "bad_lines.table"
 
 A_NODE = b"node 1\n"
-USAGE, BAD_LINE, READ_FAULT, WRITE_FAULT = 1, 2, 3, 4
+USAGE, BAD_LINE, READ_FAULT, WRITE_FAULT, NO_MEMORY = 1, 2, 3, 4, 5
+MEBIBYTE = 1 << 20
 
 
 class Missing(Exception):
@@ -101,21 +103,51 @@ def fault_of_run(command: list, script: bytes, report: bytes, status: int) -> st
     return ""
 
 
-def fault_of_shell(program: str, words: str, status: int) -> str:
+def fault_of_shell(program: str, script: bytes, words: str, status: int) -> str:
     """The same for a run with a closed or full device, which the shell gives it."""
-    ended = subprocess.run(["sh", "-c", f'exec "$0" {words}', program], input=A_NODE, capture_output=True, timeout=SECONDS)
+    ended = subprocess.run(["sh", "-c", f'exec "$0" {words}', program], input=script, capture_output=True, timeout=SECONDS)
     if ended.returncode != status:
         return f"status {ended.returncode}, wanted {status}"
     return f"printed {ended.stdout[:100]!r}" if ended.stdout else ""
 
 
-# What the shell gives the program, and the status with which it must end.
+# A script, what the shell gives the program beside it, and the status with which it must end.
 DEVICES = {
-    "a full device": ("run >/dev/full", WRITE_FAULT),
-    "a closed output": ("run >&-", WRITE_FAULT),
-    "a closed input": ("run <&-", READ_FAULT),
-    "other words over a closed input": ("walk <&-", USAGE),
-    "other words over a full device": ("walk >/dev/full", USAGE),
+    "a full device": (A_NODE, "run >/dev/full", WRITE_FAULT),
+    "a bad line over a full device": (A_NODE + A_NODE, "run >/dev/full", WRITE_FAULT),
+    "a closed output": (A_NODE, "run >&-", WRITE_FAULT),
+    "a bad line over a closed output": (A_NODE + A_NODE, "run >&-", WRITE_FAULT),
+    "a closed input": (A_NODE, "run <&-", READ_FAULT),
+    "other words over a closed input": (A_NODE, "walk <&-", USAGE),
+    "other words over a full device": (A_NODE, "walk >/dev/full", USAGE),
+}
+
+
+def fault_of_little(program: str, script: bytes, most: int, front: bytes) -> str:
+    """The same for a run that has so many bytes of memory at most, and runs out: it may print any front of these bytes."""
+    ended = subprocess.run(
+        [program, "run"],
+        input=script,
+        capture_output=True,
+        timeout=SECONDS,
+        preexec_fn=lambda: resource.setrlimit(resource.RLIMIT_AS, (most, most)),
+    )
+    if ended.returncode != NO_MEMORY:
+        return f"status {ended.returncode}, wanted {NO_MEMORY}; {ended.stderr[:100]!r} on standard error"
+    if not front.startswith(ended.stdout):
+        return f"no front of the report: {difference(front, ended.stdout)}"
+    return f"on standard error: {ended.stderr[:100]!r}" if ended.stderr else ""
+
+
+# A script, the memory that the program has, its code included, and the answers of the lines for which that is enough.
+# The program starts with 3 MiB. The air keeps the 60,000,000 bytes of the thousand bodies; a script is read whole.
+LITTLE_MEMORY = {
+    "memory runs out in a line": (
+        b"node 1\nnode 2\nlink 1 2 0\nsocket 1\nsocket 2\nburst 1 1 2 1 1000 *60000\nflow 1 2\n",
+        32 * MEBIBYTE,
+        b"1 ok\n2 ok\n3 up\n4 socket 1\n5 socket 1\n",
+    ),
+    "memory runs out before the first line": (A_NODE + b"#" * (12 * MEBIBYTE), 8 * MEBIBYTE, b""),
 }
 
 
@@ -127,6 +159,8 @@ def fault_of(program: str, name: str, table: dict) -> str:
     try:
         if name in DEVICES:
             return fault_of_shell(program, *DEVICES[name])
+        if name in LITTLE_MEMORY:
+            return fault_of_little(program, *LITTLE_MEMORY[name])
         if name in table:
             return fault_of_run([program, "run"], *table[name], BAD_LINE)
         return fault_of_row(program, name)
@@ -145,7 +179,7 @@ def main(words: list) -> int:
         print(f"rows/{TABLE} can't be read: {error}")
         print("0 passed, 1 failed")
         return 1
-    names = words[1:] or [*names_of_rows(), *table, *DEVICES]
+    names = words[1:] or [*names_of_rows(), *table, *DEVICES, *LITTLE_MEMORY]
     if not os.access(program, os.X_OK):
         print(f"{program} isn't there, so no row was run")
         print(f"0 passed, {len(names)} failed")

@@ -315,21 +315,23 @@ fn the_first_fault(rt: HostRuntime) -> Result<(), Fail> {
     let bytes = bytes_of(rt.alloc(), &DIRECT, b"hello")?;
     assert_eq!(rt; bytes.len(), 37);
     assert_eq!(rt; decode(&bytes[..20]).err(), Some(HeaderFault::Short));
-    for (word, value, fault) in [
-        (0, 0x2100_0025, HeaderFault::Version),
-        (0, 0x40e0_0025, HeaderFault::HeaderSize),
-        (0, 0x4100_0026, HeaderFault::Size),
-        (0, 0x4b00_0025, HeaderFault::User),
-        (1, 0x4000_0000, HeaderFault::Type),
-        (0, 0x4102_0025, HeaderFault::Reserved),
-        (1, 0x6004_0000, HeaderFault::Reserved),
-        (1, 0x6c00_0000, HeaderFault::Reserved),
+    assert_eq!(rt; HeaderFault::Short.number(), 1);
+    // a word and what it is made; the fault, and its number in the table of docs/FORMATS.md
+    for (word, value, fault, number) in [
+        (0, 0x2100_0025, HeaderFault::Version, 2),
+        (0, 0x40e0_0025, HeaderFault::HeaderSize, 3),
+        (0, 0x4100_0026, HeaderFault::Size, 4),
+        (0, 0x4b00_0025, HeaderFault::User, 5),
+        (1, 0x4000_0000, HeaderFault::Type, 6),
+        (0, 0x4102_0025, HeaderFault::Reserved, 7),
+        (1, 0x6004_0000, HeaderFault::Reserved, 7),
+        (1, 0x6c00_0000, HeaderFault::Reserved, 7),
     ] {
         let mut words = DIRECT;
         words[word] = value;
         let bytes = bytes_of(rt.alloc(), &words, b"hello")?;
         assert_eq!(rt; decode(&bytes).err(), Some(fault), "at {value}");
-        assert!(rt; fault.number() >= 2);
+        assert_eq!(rt; fault.number(), number, "at {value}");
     }
     Ok(())
 }

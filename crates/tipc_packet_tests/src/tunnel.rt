@@ -107,6 +107,69 @@ fn a_message_is_wrapped_and_unwrapped(rt: HostRuntime) -> Result<(), Fail> {
 }
 
 #[test]
+fn a_message_by_name_is_in_a_duplicate(rt: HostRuntime) -> Result<(), Fail> {
+    let alloc = rt.alloc();
+    // version 2, user 2, 10 words of header, 42 bytes in all; named, looked up in the cluster; number 515; node 1.1.5;
+    // port 9 of that node to port 4 of node 1.1.7; type 1,000, instance 3
+    let mut inner = [
+        0x4540_002a,
+        0x4010_0000,
+        0x0000_0203,
+        0x0100_1005,
+        9,
+        4,
+        0x0100_1005,
+        0x0100_1007,
+        1_000,
+        3,
+    ];
+    let numbered = bytes_of(alloc, &inner, b"hi")?;
+    inner[2] = 0;
+    let message = bytes_of(alloc, &inner, b"hi")?;
+    // version 2, user 10, 10 words of header, 90 bytes in all; duplicate; a run of 6, number 515; bearer 1; the epoch
+    let words = [
+        0x5540_005a,
+        0,
+        0,
+        0,
+        0x0006_0203,
+        1,
+        0,
+        0,
+        0,
+        0,
+        2,
+        0xffff_ffff,
+    ];
+    let expected = bytes_of(alloc, &words, numbered.as_slice())?;
+    if message.len() > 1_452 || !may_be_tunnelled(message.as_slice()) {
+        panic!(rt; "this may not be wrapped");
+    }
+    let old = OldSession {
+        bearer: 1,
+        epoch: 0x2_ffff_ffff,
+    };
+    let tunnel = wrap(
+        alloc,
+        TunnelKind::Duplicate,
+        old,
+        6,
+        515,
+        message.as_slice(),
+    )?;
+    assert_eq!(rt; tunnel, expected);
+    let carried = Tunnel {
+        kind: TunnelKind::Duplicate,
+        old,
+        count: 6,
+        number: 515,
+        inner: numbered.as_slice(),
+    };
+    assert_eq!(rt; unwrapped(&rt, expected.as_slice()), Ok(carried));
+    Ok(())
+}
+
+#[test]
 fn what_is_not_unwrapped(rt: HostRuntime) -> Result<(), Fail> {
     let alloc = rt.alloc();
     let message = bytes_of(alloc, &MESSAGE, b"hello")?;

@@ -1,6 +1,10 @@
 //! Tests of the edge, with fakes and with the standard library.
 
+ghost use Rattle.std.specs.Prelude.{◌<◌, length, IsTrue};
+ghost use Rattle.tipc_outside.specs.Causes.{Rose};
+
 use std::alloc::Global;
+use std::io;
 use std::test::Fail;
 use tipc_outside::{
     Clock, Failed, MemorySink, MemorySource, Outbox, Sink, SinkFault, Source, StdSink, StdSource,
@@ -84,6 +88,48 @@ fn standard_streams_are_sources_and_sinks(rt: HostRuntime) -> Result<(), Fail> {
     assert_eq!(rt; sink.write(b"abc"), Ok(3));
     drop(sink);
     assert_eq!(rt; written.as_slice(), b"abc".as_slice());
+    Ok(())
+}
+
+/// A writer that takes nothing of the first piece that it gets, and all of each later one.
+#[derive(Drop)]
+struct Slow {
+    taken: Vec<u8>,
+    is_ready: bool,
+}
+
+impl io::Write for Slow {
+    fn write(&mut self, piece: &[u8]) -> io::Result<usize> {
+        if !self.is_ready {
+            self.is_ready = true;
+            return Ok(0);
+        }
+        self.taken.extend_from_slice(piece)?;
+        Ok(piece.len())
+    }
+
+    fn flush(&mut self) -> io::Result<()> {
+        Ok(())
+    }
+}
+
+/// Whether a sink takes nothing of a piece; where that isn't empty, its count of stalls rises then.
+fn takes_nothing<K: Sink>(sink: &mut K, piece: &[u8]) -> bool
+    ensures { IsTrue result → 0 < length piece.now → Rose (K.stalls sink.old) (K.stalls sink.new) }
+{
+    sink.write(piece) == Ok(0)
+}
+
+#[test]
+fn a_writer_that_takes_nothing_stalls_its_sink(rt: HostRuntime) -> Result<(), Fail> {
+    let slow = Slow {
+        taken: Vec::new(rt.alloc()),
+        is_ready: false,
+    };
+    let mut sink = StdSink::new(slow);
+    assert!(rt; takes_nothing(&mut sink, b"abc"));
+    assert!(rt; !takes_nothing(&mut sink, b"abc"));
+    assert!(rt; takes_nothing(&mut sink, b""));
     Ok(())
 }
 
