@@ -14,6 +14,7 @@ use Rattle.tipc_broadcast.specs.declared.contacts.Contact.{Contact}
 use Rattle.tipc_broadcast.specs.Contacts.{acked_by_all, acknowledging, brought, contact_with, heard, heard_outcome, IsContact, joined, member_set, refusal, shown_to, told, with_changed, without}
 use Rattle.tipc_broadcast.specs.Frames.{accepted_frame, cast_again, cast_all}
 
+-- the broadcast link of a node, as contracts see it
 pub record Casting : Type 0 where
   -- the node's address word and its boot
   pub own : ℕ
@@ -29,6 +30,7 @@ pub record Casting : Type 0 where
 abbrev pub booted : ℕ → ℕ → Casting
 booted own boot = record { own = own; boot = boot; mended = replicate 2 false; sending = fresh; contacts = [] }
 
+-- the broadcast link with a bearer, 0 or 1, mended or cut
 abbrev pub with_bearer : Casting → ℕ → Bool → Casting
 with_bearer v bearer mended = record v { mended = slice_set v.mended bearer mended }
 
@@ -50,9 +52,11 @@ room s = min (50 - length s.unacked) (length s.waiting)
 abbrev pub advanced : ℕ → Sending → Sending
 advanced n s = record { numbered = s.numbered + n; unacked = s.unacked ++ take n s.waiting; waiting = drop n s.waiting }
 
+-- the broadcast link with another send window
 abbrev pub with_sending : Casting → Sending → Casting
 with_sending v s = record v { sending = s }
 
+-- the broadcast link when the first n waiting packets have been numbered
 abbrev pub sent : ℕ → Casting → Casting
 sent n v = with_sending v (advanced n v.sending)
 
@@ -79,17 +83,21 @@ abbrev pub kept_for : List Contact → Casting → Casting
 kept_for [] v = with_sending v (passed_over v.sending)
 kept_for (c ∷ contacts) v = v
 
+-- after a message of these packets was accepted: what the window has room for is numbered
 abbrev pub accepting : Casting → List (List ℕ) → Casting
 accepting v pieces = kept_for v.contacts (flushed (with_message v pieces))
 
+-- the frames that leave when a message of these packets is accepted
 abbrev pub accepting_frames : Casting → List (List ℕ) → List Outgoing
 accepting_frames v pieces = flush_frames (with_message v pieces)
 
 -- ---- peers join and leave
 
+-- the broadcast link with other contacts
 abbrev pub with_contacts : Casting → List Contact → Casting
 with_contacts v contacts = record v { contacts = contacts }
 
+-- after a peer in this boot has joined: all that is accepted from now on is for it, too
 abbrev pub joining : Casting → ℕ → ℕ → Casting
 joining v peer boot = with_contacts v (v.contacts ++ joined peer boot (next_start v) ∷ [])
 
@@ -99,13 +107,16 @@ abbrev pub left_with : List Contact → Casting → Casting
 left_with [] v = with_sending v (passed_over v.sending)
 left_with (c ∷ contacts) v = flushed (settled v)
 
+-- the frames that leave when a peer has left; `contacts` are those that are left
 abbrev pub left_frames : List Contact → Casting → List Outgoing
 left_frames [] v = []
 left_frames (c ∷ contacts) v = flush_frames (settled v)
 
+-- after a peer has left
 abbrev pub leaving : Casting → ℕ → Casting
 leaving v peer = left_with (without peer v.contacts) (with_contacts v (without peer v.contacts))
 
+-- the frames that leave when a peer leaves
 abbrev pub leaving_frames : Casting → ℕ → List Outgoing
 leaving_frames v peer = left_frames (without peer v.contacts) (with_contacts v (without peer v.contacts))
 
@@ -123,6 +134,7 @@ credited v peer number = with_contacts v (with_changed peer (acknowledging v.sen
 abbrev pub is_behind : ℕ → ℕ → Kept → Bool
 is_behind acknowledgement gap k = nat_lt 0 (distance_of acknowledgement k.number) && nat_le (distance_of acknowledgement k.number) gap
 
+-- the frames that are sent again for a gap behind an acknowledgement
 unfoldable pub repeat_frames : Casting → ℕ → ℕ → List Outgoing
 repeat_frames v acknowledgement gap = cast_again v.mended (filter (is_behind acknowledgement gap) (kept_of v.sending))
 
@@ -130,6 +142,7 @@ repeat_frames v acknowledgement gap = cast_again v.mended (filter (is_behind ack
 abbrev pub answered : Casting → ℕ → ℕ → Casting
 answered v peer acknowledgement = flushed (settled (credited v peer acknowledgement))
 
+-- the frames that leave then: what is sent again, and behind it what moves up
 abbrev pub answered_frames : Casting → ℕ → ℕ → ℕ → List Outgoing
 answered_frames v peer acknowledgement gap =
     repeat_frames (settled (credited v peer acknowledgement)) acknowledgement gap ++ flush_frames (settled (credited v peer acknowledgement))
@@ -139,6 +152,7 @@ abbrev pub stating : Casting → ℕ → BroadcastState → Casting
 stating v peer seen =
     if seen.in_step then answered (informed v peer seen.start seen.next) peer seen.acknowledged else informed v peer seen.start seen.next
 
+-- the frames that leave when a STATE of a peer is taken
 abbrev pub stating_frames : Casting → ℕ → BroadcastState → List Outgoing
 stating_frames v peer seen =
     if seen.in_step then answered_frames (informed v peer seen.start seen.next) peer seen.acknowledged seen.gap else []
@@ -149,6 +163,7 @@ shown v peer = shown_to (number_of (v.sending.numbered + 1)) (number_of (next_st
 
 -- ---- a broadcast packet arrives
 
+-- what the arrival of a broadcast packet answers; one from a node that isn't in contact is ignored as out of step
 abbrev pub hearing_outcome : Casting → ℕ → ℕ → Taken → Option Contact → LinkOutcome
 hearing_outcome v boot members t None = LinkOutcome.Ignored why.OutOfStep
 hearing_outcome v boot members t (Some c) = heard_outcome t c (refusal v.own boot members c)
@@ -157,6 +172,7 @@ hearing_outcome v boot members t (Some c) = heard_outcome t c (refusal v.own boo
 abbrev pub arriving : Casting → ℕ → ℕ → Fields → ℕ → Casting
 arriving v boot members p by = with_contacts v (with_changed p.previous (λ c. heard (brought p by) c (refusal v.own boot members c)) v.contacts)
 
+-- what the arrival of that packet answers
 abbrev pub arriving_outcome : Casting → ℕ → ℕ → Fields → ℕ → LinkOutcome
 arriving_outcome v boot members p by = hearing_outcome v boot members (brought p by) (contact_with p.previous v.contacts)
 

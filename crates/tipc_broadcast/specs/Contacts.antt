@@ -68,6 +68,7 @@ acknowledged_to numbered acked number = (
     if nat_le past (numbered - acked) then acked + past else acked
     )
 
+-- the contact after a peer has acknowledged the packet with this number; `numbered` are the packets that have numbers
 abbrev pub acknowledging : ℕ → ℕ → Contact → Contact
 acknowledging numbered number c = record c { acked = acknowledged_to numbered c.acked number }
 
@@ -102,6 +103,7 @@ abbrev pub noted_in : ℕ → Contact → Option Receiving → Contact
 noted_in next c None = c
 noted_in next c (Some r) = record c { shown = max c.shown (r.wanted + ahead r next) }
 
+-- the contact after the peer has shown this next number; where this node isn't in step yet it says nothing
 abbrev pub noted : ℕ → Contact → Contact
 noted next c = noted_in next c c.window
 
@@ -114,6 +116,8 @@ abbrev pub shows_more_in : ℕ → Option Receiving → Bool
 shows_more_in next None = false
 shows_more_in next (Some r) = is_more r next
 
+-- whether a STATE of a node shows more than was taken of its broadcast; one of a node that isn't in contact shows
+-- nothing
 abbrev pub shows_more_to : ℕ → Option Contact → Bool
 shows_more_to next None = false
 shows_more_to next (Some c) = shows_more_in next c.window
@@ -128,10 +132,12 @@ abbrev pub shown_to : ℕ → ℕ → Option Contact → BroadcastState
 shown_to next start None = record { acknowledged = 0; next = next; start = start; gap = 0; in_step = false }
 shown_to next start (Some c) = shown_in next (number_of c.start) c.shown c.window
 
+-- how many packets are held behind the wanted one; none before the node is in step
 abbrev pub deferred_in : Option Receiving → ℕ
 deferred_in None = 0
 deferred_in (Some r) = deferred_count r
 
+-- how many packets of a peer are held; none where it isn't in contact
 abbrev pub deferred_of : Option Contact → ℕ
 deferred_of None = 0
 deferred_of (Some c) = deferred_in c.window
@@ -179,6 +185,7 @@ abbrev pub taken_in : Contact → Taken → Option Receiving → Contact
 taken_in c t None = c
 taken_in c t (Some r) = record c { window = Some (drained (window_with r t)) }
 
+-- what an arrival that isn't refused answers, by where its number lies in the receive window
 abbrev pub outcome_in : Taken → Option Receiving → LinkOutcome
 outcome_in t None = LinkOutcome.Ignored why.OutOfStep
 outcome_in t (Some r) = outcome_at (place_at r (past_wanted r t.number)) (run_of (window_with r t).held)
@@ -188,6 +195,7 @@ abbrev pub heard : Taken → Contact → Option Why → Contact
 heard t c (Some reason) = c
 heard t c None = taken_in c t c.window
 
+-- what an arrival answers that is refused for a reason, or isn't
 abbrev pub heard_outcome : Taken → Contact → Option Why → LinkOutcome
 heard_outcome t c (Some reason) = LinkOutcome.Ignored reason
 heard_outcome t c None = outcome_in t c.window

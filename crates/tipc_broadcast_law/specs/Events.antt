@@ -9,6 +9,7 @@ use Rattle.tipc_broadcast_law.specs.Groups.{Accepted, Caster, Group, length_now,
 abbrev pub accepting : Group → List ℕ → Accepted
 accepting g packet = record { packet = packet; members = λ m. (g.members m).joined }
 
+-- the caster with one more accepted packet in its present boot
 abbrev pub line_with : Caster → Accepted → Caster
 line_with a x = record { boot = a.boot; line = put a.boot (a.line a.boot ++ x ∷ []) a.line; numbered = a.numbered }
 
@@ -16,29 +17,38 @@ line_with a x = record { boot = a.boot; line = put a.boot (a.line a.boot ++ x �
 abbrev pub numbered_to : Caster → ℕ → Caster
 numbered_to a n = record { boot = a.boot; line = a.line; numbered = put a.boot n a.numbered }
 
+-- the caster in its next boot, in which nothing was accepted yet
 abbrev pub booted_again : Caster → Caster
 booted_again a = record { boot = a.boot + 1; line = put (a.boot + 1) [] a.line; numbered = put (a.boot + 1) 0 a.numbered }
 
+-- the member after the caster has left the contact with it
 abbrev pub without_contact : Member → Member
 without_contact k = record k { joined = None }
 
 -- ---- at one member, or of it
 
+-- the member after the caster came into contact c with it: the first place that is for it is `start`, and nothing is
+-- acknowledged
 abbrev pub joined_in : Member → ℕ → ℕ → Member
 joined_in k c start = record k { joined = Some c; acked = start; begun = put c (Some start) k.begun }
 
+-- the member after it came into contact c with the caster
 abbrev pub entered : Member → ℕ → Member
 entered k c = record k { at = Some c; last = c }
 
+-- the member after it left its contact with the caster
 abbrev pub left : Member → Member
 left k = record k { at = None }
 
+-- the member after it came in step in contact c: it wants the place `start`
 abbrev pub in_step_from : Member → ℕ → ℕ → Member
 in_step_from k c start = record k { want = put c (Some start) k.want }
 
+-- the member after it took the packet at the place w, in contact c
 abbrev pub taking : Member → ℕ → ℕ → List (List ℕ) → Member
 taking k c w packet = record k { want = put c (Some (w + 1)) k.want; out = put c (k.out c ++ packet) k.out }
 
+-- the member after its acknowledgement up to the place v was taken
 abbrev pub acknowledged : Member → ℕ → Member
 acknowledged k v = record k { acked = v }
 
@@ -67,6 +77,8 @@ pub data Changes (a : Caster) (m : ℕ) (k : Member) : Member → Type 0 where
 abbrev pub IsAlone : Group → Type 0
 IsAlone g = (m : ℕ) → (g.members m).joined ≡ None
 
+-- What happens to a caster and its members: a packet is accepted, one gets a number, what waits is passed over, the
+-- caster is restarted, or something happens to one member.
 pub data Happens (g : Group) : Group → Type 0 where
   accepts : (packet : List ℕ) → length_now g.caster < numbered_now g.caster + queue
       → Happens g (record { caster = line_with g.caster (accepting g packet); members = g.members })

@@ -30,6 +30,7 @@ pub record Member : Type 0 where
   pub want : ℕ → Option ℕ
   pub out : ℕ → List (List ℕ)
 
+-- the caster and its members, by number
 pub record Group : Type 0 where
   pub caster : Caster
   pub members : ℕ → Member
@@ -63,6 +64,7 @@ packets from to line = map (λ a. a.packet) (take (to - from) (drop from line))
 unfoldable pub place : Member → ℕ → ℕ
 place k c = unwrap_or (k.want c) (unwrap_or (k.begun c) 0)
 
+-- whether there is a contact, and it is c
 abbrev pub is_contact : ℕ → Option ℕ → Bool
 is_contact c None = false
 is_contact c (Some d) = d == c
@@ -75,5 +77,6 @@ accepted_for m c line = map (λ a. a.packet) (filter (λ a. is_contact c (a.memb
 abbrev pub length_now : Caster → ℕ
 length_now a = length (a.line a.boot)
 
+-- how many packets of its present boot have numbers, or were passed over
 abbrev pub numbered_now : Caster → ℕ
 numbered_now a = a.numbered a.boot

@@ -40,6 +40,8 @@ pub record Keeps (a : Caster) (m : ℕ) (k : Member) : Type 0 where
   pub joined_near : (c : ℕ) → k.joined ≡ Some c → numbered_now a ≤ place k c + window
   pub place_near : (c s : ℕ) → k.begun c ≡ Some s → place k c ≤ a.numbered (k.boots c) + queue
 
+-- What is always true of a group: in each boot no more packets are numbered than were accepted, no more wait than may,
+-- and each member stands rightly.
 pub record IsGroup (g : Group) : Type 0 where
   pub counted : (f : ℕ) → g.caster.numbered f ≤ length (g.caster.line f)
   pub waiting : (f : ℕ) → length (g.caster.line f) ≤ g.caster.numbered f + queue

@@ -4,15 +4,19 @@ use Rattle.tipc_broadcast_law.specs.Groups.{Accepted, accepted_for, Group, is_co
 use Rattle.tipc_broadcast_law.specs.Events.{accepting, Happens, IsBegin, Runs}
 use Rattle.tipc_broadcast_law.specs.Law.{IsGroup}
 
+-- one list of packets is the first part of another
 abbrev pub IsFrontOf : List (List ℕ) → List (List ℕ) → Type 0
 IsFrontOf front xs = (rest : List (List ℕ)) × (xs ≡ front ++ rest)
 
+-- what is always true of a group is true at the beginning
 abbrev pub BeginsSound : Type 0
 BeginsSound = (g : Group) → IsBegin g → IsGroup g
 
+-- each event keeps what is always true of a group
 abbrev pub EventsKeep : Type 0
 EventsKeep = (g after : Group) → Happens g after → IsGroup g → IsGroup after
 
+-- any number of events, one after the other, keep it
 abbrev pub RunsKeep : Type 0
 RunsKeep = (g after : Group) → Runs g after → IsGroup g → IsGroup after
 
@@ -42,9 +46,11 @@ pub record ReleasesInOrder (g : Group) : Type 0 where
   pub nested : (m x y : ℕ) → x ≤ y → IsPending g m x → IsPending g m y
   pub own : (m c x : ℕ) → (g.members m).joined ≡ Some c → (g.members m).acked ≤ x → x < numbered_now g.caster → mark (g.caster.line g.caster.boot) m x ≡ Some c
 
+-- in every group packets are released in order
 abbrev pub AllReleaseInOrder : Type 0
 AllReleaseInOrder = (g : Group) → IsGroup g → ReleasesInOrder g
 
+-- at most 50 packets are numbered past what any member in contact acknowledged
 abbrev pub WindowOf50 : Type 0
 WindowOf50 = (g : Group) → IsGroup g → (m c : ℕ) → (g.members m).joined ≡ Some c → numbered_now g.caster ≤ (g.members m).acked + window
 

@@ -47,6 +47,8 @@ pub record TellsPlace (numbered acked place : ℕ) : Type 0 where
   pub later : acked ≤ place → acknowledged_to numbered acked (number_of place) ≡ place
   pub earlier : place ≤ acked → acknowledged_to numbered acked (number_of place) ≡ acked
 
+-- A number of 16 bits tells the place in every case that occurs: what is acknowledged lies at most 50 places behind
+-- what is numbered, and at most 60,000 past the member's place.
 abbrev pub AcknowledgementsTellPlaces : Type 0
 AcknowledgementsTellPlaces = (numbered acked place : ℕ) → numbered ≤ acked + 50 → place ≤ numbered → acked ≤ place + 60000 → TellsPlace numbered acked place
 

@@ -41,6 +41,7 @@ bundle_with count rest = record {
   rest = rest;
 }
 
+-- the bundle of these packets, as it waits to be sent
 abbrev pub bundle_of : List (List ℕ) → Fields
 bundle_of packets = bundle_with (length packets) (in_a_row packets)
 

@@ -19,6 +19,7 @@ pub data Opening : Type 0 where
   -- a place before it is missing
   Deferred : Opening
 
+-- what may happen at the near link
 pub data Event : Type 0 where
   -- a plain packet is put
   Put : Event
@@ -57,6 +58,7 @@ abbrev pub plain_count : Slot → ℕ
 plain_count (Plain i) = 1
 plain_count (Tunnel f q full) = 0
 
+-- the record when the next place of its session was taken
 abbrev pub after_next : Receiver → Receiver
 after_next r = record { session = r.session; taken = r.taken + 1 }
 
@@ -64,6 +66,7 @@ after_next r = record { session = r.session; taken = r.taken + 1 }
 unfoldable pub told : Receiver → ℕ → Receiver
 told t session = if nat_lt t.session session then record { session = session; taken = 0 } else t
 
+-- the record of the far link when a tunnel packet that speaks of it was opened so
 abbrev pub opened : Receiver → Opening → Receiver
 opened t Late = t
 opened t Old = t
@@ -71,6 +74,7 @@ opened t Passed = after_next t
 opened t (Next i) = after_next t
 opened t Deferred = t
 
+-- the plain packets that are taken by such an opening
 abbrev pub taken_out : Opening → List ℕ
 taken_out Late = []
 taken_out Old = []
@@ -78,6 +82,7 @@ taken_out Passed = []
 taken_out (Next i) = i ∷ []
 taken_out Deferred = []
 
+-- the state with other senders' ends, of the near link and of the far one
 abbrev pub with_ends : State → Sender → Sender → State
 with_ends s x y = record {
   near = x;
@@ -89,6 +94,8 @@ with_ends s x y = record {
   delivered = s.delivered;
 }
 
+-- the state with other receiver's records, of the near link and of the far one, and with this list of packets that were
+-- taken
 abbrev pub with_records : State → Receiver → Receiver → List ℕ → State
 with_records s r t delivered = record {
   near = s.near;
@@ -100,6 +107,7 @@ with_records s r t delivered = record {
   delivered = delivered;
 }
 
+-- the end with other slots that wait
 abbrev pub with_waiting : Sender → List Slot → Sender
 with_waiting x waiting = record {
   session = x.session;
@@ -109,12 +117,15 @@ with_waiting x waiting = record {
   acked = x.acked;
 }
 
+-- the end in another state
 abbrev pub with_state : Sender → EndState → Sender
 with_state x state = record { session = x.session; state = state; line = x.line; waiting = x.waiting; acked = x.acked }
 
+-- the end with so many places of its present session acknowledged
 abbrev pub with_acked : Sender → ℕ → Sender
 with_acked x acked = record { session = x.session; state = x.state; line = x.line; waiting = x.waiting; acked = acked }
 
+-- the end when a slot has got the next number, and these go on to wait
 abbrev pub with_number : Sender → Slot → List Slot → Sender
 with_number x slot rest = record {
   session = x.session;
@@ -124,9 +135,11 @@ with_number x slot rest = record {
   acked = x.acked;
 }
 
+-- the end when its link has gone up, with these slots to send
 abbrev pub gone_up : Sender → List Slot → Sender
 gone_up x waiting = record { session = x.session; state = Up; line = x.line; waiting = waiting; acked = x.acked }
 
+-- the end when its link has gone down: it is held, and in its next session, of which nothing is sent yet
 abbrev pub gone_down : Sender → Sender
 gone_down x = record { session = x.session + 1; state = Held; line = x.line; waiting = []; acked = 0 }
 
@@ -139,6 +152,7 @@ switched_slots y = duplicates y.session y.acked (y.line y.session) ++ y.waiting
 abbrev pub lost_slots : Sender → List Slot
 lost_slots x = originals x.session x.acked (x.line x.session) ++ plain_slots x.waiting
 
+-- the state after an event at the near link
 abbrev pub acted : State → Event → State
 acted s Put = record {
   near = with_waiting s.near (s.near.waiting ++ Plain (s.put + 1) ∷ []);

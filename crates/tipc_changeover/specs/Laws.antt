@@ -17,6 +17,7 @@ StaySound =
     (b : Bearer) (s : State) (event : Event) → Sound First s → MayAct b (seen b s) event →
     Sound First (happened b s event)
 
+-- what is reached from the beginning of a contact is sound
 abbrev pub ReachedAreSound : Type 0
 ReachedAreSound = (s : State) → IsReached s → Sound First s
 
@@ -26,9 +27,11 @@ SoundFromEither = (b : Bearer) (s : State) → Sound First s → Sound b (seen b
 
 -- ---- what was taken
 
+-- in what is reached from the beginning of a contact, what was taken is a front of what was put
 abbrev pub ReachedTakeFront : Type 0
 ReachedTakeFront = (s : State) → IsReached s → IsFront s
 
+-- wherever two links are sound, what was taken is a front of what was put
 abbrev pub SoundTakeFront : Type 0
 SoundTakeFront = (s : State) → Sound First s → IsFront s
 
@@ -48,11 +51,14 @@ IsOpened =
 
 -- ---- what a tunnel packet holds
 
+-- a full tunnel packet, but for a marker, speaks of a place at which a plain packet stands
 abbrev pub FullHoldsPlain : Type 0
 FullHoldsPlain =
     (b : Bearer) (s : State) (p f q : ℕ) → Sound b s → at (slots s.near) p ≡ Some (Tunnel f q true) → 1 ≤ q →
     HoldsPlain s.far.line f q
 
+-- a placeholder speaks of a place at which a tunnel packet stands, which itself speaks of an earlier place than that of
+-- the placeholder
 abbrev pub PlaceholderHoldsTunnel : Type 0
 PlaceholderHoldsTunnel =
     (b : Bearer) (s : State) (p f q : ℕ) → Sound b s → at (slots s.near) p ≡ Some (Tunnel f q false) →
@@ -86,9 +92,11 @@ StayBounded =
     (b : Bearer) (s : State) (event : Event) → Sound First s → Bounded s → MayAct b (seen b s) event →
     Bounded (happened b s event)
 
+-- what is reached from the beginning of a contact has its places near
 abbrev pub ReachedAreBounded : Type 0
 ReachedAreBounded = (s : State) → IsReached s → Bounded s
 
+-- places that are near are so seen from either link
 abbrev pub BoundedFromEither : Type 0
 BoundedFromEither = (b : Bearer) (s : State) → Bounded s → Bounded (seen b s)
 

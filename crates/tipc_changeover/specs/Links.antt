@@ -2,10 +2,12 @@
 use Rattle.std.specs.Prelude.{◌≡◌, ℕ, ◌<◌, ◌≤◌, ◌⊎◌, Bool, true, false, List, ◌++◌, Some}
 use Rattle.tipc_changeover.specs.Slots.{at, leading, Slot, Tunnel}
 
+-- the two bearers; over the first one's link the flow goes where both links are up
 pub data Bearer : Type 0 where
   First : Bearer
   Second : Bearer
 
+-- the other bearer
 abbrev pub other : Bearer → Bearer
 other First = Second
 other Second = First

@@ -57,6 +57,8 @@ RunsIn zs t =
     (p f q : ℕ) (full : Bool) (q' : ℕ) → at zs p ≡ Some (Tunnel f q full) → 1 ≤ q' → q' < q →
     Past t f q' ⊎ TunnelsBefore zs p f q'
 
+-- so it is with each line of an end, and with what it sends in its present session, against the record of the other
+-- link
 pub record Runs (x : Sender) (t : Receiver) : Type 0 where
   pub lines : (e : ℕ) → RunsIn (x.line e) t
   pub now : RunsIn (slots x) t
@@ -69,9 +71,11 @@ pub record IsTarget (y : Sender) (f q : ℕ) : Type 0 where
   pub up : f ≡ y.session → y.state ≡ Up
   pub numbered : q ≤ length (y.line f)
 
+-- each tunnel packet of these slots speaks of such a place
 abbrev pub TargetIn : List Slot → Sender → Type 0
 TargetIn zs y = (p f q : ℕ) (full : Bool) → at zs p ≡ Some (Tunnel f q full) → IsTarget y f q
 
+-- each tunnel packet in the lines of an end, and in what it sends in its present session, speaks of such a place
 pub record Target (x y : Sender) : Type 0 where
   pub lines : (e : ℕ) → TargetIn (x.line e) y
   pub now : TargetIn (slots x) y
@@ -82,16 +86,19 @@ pub record HoldsPlain (line : ℕ → List Slot) (f q : ℕ) : Type 0 where
   pub index : ℕ
   pub there : at (line f) q ≡ Some (Plain index)
 
+-- at place q of session f there is a tunnel packet that speaks of a place of session e, which is before place p
 pub record HoldsTunnel (line : ℕ → List Slot) (f q e p : ℕ) : Type 0 where
   pub place : ℕ
   pub full : Bool
   pub there : at (line f) q ≡ Some (Tunnel e place full)
   pub earlier : place < p
 
+-- what the tunnel packets among these slots of session e speak of, in the lines of the other link
 pub record InnerIn (zs : List Slot) (e : ℕ) (line : ℕ → List Slot) : Type 0 where
   pub full : (p f q : ℕ) → at zs p ≡ Some (Tunnel f q true) → 1 ≤ q → HoldsPlain line f q
   pub placeholder : (p f q : ℕ) → at zs p ≡ Some (Tunnel f q false) → (1 ≤ q) × HoldsTunnel line f q e p
 
+-- what the tunnel packets in the lines of an end, and in what it sends in its present session, speak of
 pub record Inner (x : Sender) (line : ℕ → List Slot) : Type 0 where
   pub lines : (e : ℕ) → InnerIn (x.line e) e line
   pub now : InnerIn (slots x) x.session line

@@ -8,6 +8,7 @@ use Rattle.tipc_changeover.specs.Events.{happened, Event, MayAct}
 abbrev pub unused : Sender
 unused = record { session = 1; state = Reset; line = λ e. []; waiting = []; acked = 0 }
 
+-- the record of a link of which nothing arrived yet
 abbrev pub no_record : Receiver
 no_record = record { session = 0; taken = 0 }
 

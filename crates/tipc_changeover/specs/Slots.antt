@@ -18,6 +18,7 @@ at (z ∷ zs) zero = None
 at (z ∷ zs) (suc zero) = Some z
 at (z ∷ zs) (suc (suc p)) = at zs (suc p)
 
+-- whether a slot is a plain packet
 abbrev pub is_plain : Slot → Bool
 is_plain (Plain i) = true
 is_plain (Tunnel f q full) = false

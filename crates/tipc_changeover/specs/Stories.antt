@@ -9,12 +9,15 @@ pub record Step : Type 0 where
   pub bearer : Bearer
   pub event : Event
 
+-- an event at the first bearer's link
 abbrev pub first : Event → Step
 first event = record { bearer = First; event = event }
 
+-- an event at the second bearer's link
 abbrev pub second : Event → Step
 second event = record { bearer = Second; event = event }
 
+-- the state after these events, one after the other
 abbrev pub told_from : State → List Step → State
 told_from s [] = s
 told_from s (step ∷ steps) = told_from (happened step.bearer s step.event) steps
@@ -47,5 +50,6 @@ arrived =
     second (Record 1) ∷ second (TakePlain 1) ∷ second (TakePlain 2) ∷ second (TakeTunnel 1 1 false Passed) ∷
     second (TakeTunnel 1 2 false Passed) ∷ second (TakeTunnel 1 3 true (Next 3)) ∷ []
 
+-- the whole story
 abbrev pub failover_story : List Step
 failover_story = taken_over ++ (given_back ++ arrived)

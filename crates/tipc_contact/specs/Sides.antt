@@ -14,6 +14,7 @@ pub record Side : Type 0 where
 abbrev pub boot_of : ℕ → ℕ
 boot_of number = number / 4294967296
 
+-- the first contact number of a boot; no link end has a lower epoch in it
 abbrev pub first_number : ℕ → ℕ
 first_number boot = boot * 4294967296 + 1
 
@@ -32,6 +33,7 @@ pub record Notice : Type 0 where
   pub contact : ℕ
   pub peer_contact : ℕ
 
+-- an epoch of the peer as a frame shows it: 0 where it isn't known
 abbrev pub known : Option ℕ → ℕ
 known None = 0
 known (Some epoch) = epoch
@@ -56,6 +58,7 @@ pub record IsTold (notices : List Notice) (bearer epoch contact : ℕ) : Type 0 
 
 -- ---- what a side does
 
+-- what a side does, one action at a time
 pub data Action : Type 0 where
   EndMade : (bearer : ℕ) → Action
   EndCalled : (bearer : ℕ) (call : Call) → Action
@@ -63,6 +66,7 @@ pub data Action : Type 0 where
   ContactEnded : Action
   Restarted : (boot : ℕ) → Action
 
+-- the link states of an end after this call; none where there is no end
 abbrev pub after_call : Call → Option Fsm → Option Fsm
 after_call call end = option_map (λ e. (outcome e call).after) end
 

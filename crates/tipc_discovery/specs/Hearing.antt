@@ -11,6 +11,7 @@ pub record Neighbourhood : Type 0 where
   pub on_bearer_0 : List ℕ
   pub on_bearer_1 : List ℕ
 
+-- the address words of those that were heard on a bearer, 0 or 1
 abbrev pub heard_on : ℕ → Neighbourhood → List ℕ
 heard_on bearer n = if bearer == 0 then n.on_bearer_0 else n.on_bearer_1
 

@@ -32,7 +32,11 @@ impl Model for Neighbours {
 
     ghost Value = { Neighbourhood };
 
-    ghost view = { λ n. record { own = n.own.word; on_bearer_0 = n.on_bearer_0.keys; on_bearer_1 = n.on_bearer_1.keys } };
+    ghost view = { λ n. record {
+      own = n.own.word;
+      on_bearer_0 = n.on_bearer_0.keys;
+      on_bearer_1 = n.on_bearer_1.keys;
+    } };
 
     ghost invariant = { λ n. IsNodeWord n.own.word };
 }

@@ -12,6 +12,7 @@ pub record Piece : Type 0 where
   pub number : ℕ
   pub bytes : List ℕ
 
+-- the fragment of this kind and number, with these bytes
 abbrev pub piece_of : FragmentType → ℕ → List ℕ → Piece
 piece_of kind number bytes = record { kind = kind; number = number; bytes = bytes }
 
@@ -29,6 +30,7 @@ may_follow First before = before == 0
 may_follow Middle before = nat_lt 0 before
 may_follow Last before = nat_lt 0 before
 
+-- whether a fragment of this kind ends its message
 abbrev pub is_last : FragmentType → Bool
 is_last First = false
 is_last Middle = false

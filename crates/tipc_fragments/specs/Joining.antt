@@ -31,6 +31,7 @@ is_next s kind number = may_follow kind (length s.arrivals) && (number == length
 abbrev pub has_room : Joining → List ℕ → Bool
 has_room s bytes = nat_le (length s.bytes + length bytes) 66044
 
+-- what whole bytes give: the message, or the fault for which they are no packet
 abbrev pub with_fault : Joining → Option HeaderFault → Result Joined JoinFault
 with_fault s None = Ok (Whole s.bytes s.arrivals)
 with_fault s (Some fault) = Err (BadMessage fault)
@@ -47,6 +48,7 @@ answer_of s p by =
     else (if is_last p.kind then whole_of (grown s p.bytes by)
     else Ok More))
 
+-- whether the answer says that more fragments are to come
 abbrev pub is_more : Result Joined JoinFault → Bool
 is_more (Ok More) = true
 is_more (Ok (Whole message arrivals)) = false

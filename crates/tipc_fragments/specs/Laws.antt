@@ -22,6 +22,7 @@ pub record IsLong (message : List ℕ) : Type 0 where
   pub within : length message ≤ 66044
   pub packet : fault_of message ≡ None
 
+-- one list is the first part of another
 abbrev pub IsFrontOf : {A : Type 0} → List A → List A → Type 0
 IsFrontOf {A} front xs = (rest : List A) × (xs ≡ front ++ rest)
 
@@ -29,9 +30,11 @@ IsFrontOf {A} front xs = (rest : List A) × (xs ≡ front ++ rest)
 abbrev pub Came : Type 0
 Came = Piece × ℕ
 
+-- the fragments that came
 abbrev pub pieces_in : List Came → List Piece
 pieces_in came = map (λ c. c.0) came
 
+-- the arrival numbers by which they came
 abbrev pub arrivals_in : List Came → List ℕ
 arrivals_in came = map (λ c. c.1) came
 
@@ -65,6 +68,7 @@ pub record IsWhole (message : List ℕ) (came : List Came) : Type 0 where
 abbrev pub Arrived : Type 0
 Arrived = List ℕ × List ℕ
 
+-- the message that an answer gives, if it gives one
 abbrev pub arrived_in : Result Joined JoinFault → Option Arrived
 arrived_in (Ok (Whole message arrivals)) = Some (message, arrivals)
 arrived_in (Ok More) = None

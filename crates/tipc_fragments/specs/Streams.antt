@@ -28,6 +28,7 @@ abbrev pub item_answer : Joining → Item → ℕ → Result Joined JoinFault
 item_answer s (Single message) by = Ok (Whole message (by ∷ []))
 item_answer s (Part piece) by = answer_of s piece by
 
+-- the message that is begun after an item that came by this arrival
 abbrev pub item_after : Joining → Item → ℕ → Joining
 item_after s (Single message) by = s
 item_after s (Part piece) by = after s piece by
@@ -36,9 +37,11 @@ item_after s (Part piece) by = after s piece by
 abbrev pub CameItem : Type 0
 CameItem = Item × ℕ
 
+-- the items that came
 abbrev pub items_in : List CameItem → List Item
 items_in came = map (λ c. c.0) came
 
+-- the arrival numbers by which they came
 abbrev pub item_arrivals_in : List CameItem → List ℕ
 item_arrivals_in came = map (λ c. c.1) came
 

@@ -5,14 +5,17 @@ use Rattle.tipc_header.specs.declared.fault.HeaderFault.{HeaderFault}
 use Rattle.tipc_header.specs.declared.fault.HeaderFault.TheVariants.{Short, Version, HeaderSize, Size, User, «Type», Reserved}
 use Rattle.tipc_header.specs.Reading.{word_at, field, user_at, size_in_words, type_at}
 
+-- whether a number is one of these
 abbrev pub is_one_of : List ℕ → ℕ → Bool
 is_one_of ns n = list_any (λ k. k == n) ns
 
+-- whether these numbers are all 0
 abbrev pub all_zero : List ℕ → Bool
 all_zero ns = list_all (λ n. n == 0) ns
 
 -- ---- the users, their types, and the header size of each type
 
+-- whether there is a user with this number
 abbrev pub has_user : ℕ → Bool
 has_user u = nat_le u 3 || is_one_of (6 ∷ 7 ∷ 10 ∷ 11 ∷ 12 ∷ 13 ∷ []) u
 
@@ -98,6 +101,7 @@ discovery_is_clean b =
     all_zero (field 1 28 0 b ∷ word_at 2 b ∷ word_at 5 b ∷ word_at 6 b ∷ word_at 7 b ∷ word_at 8 b ∷ word_at 9 b ∷ [])
     && (length b == 40)
 
+-- What the user and type ask, by the row for them: the zeros of words 1 to 9, the counts, and how many bytes follow.
 unfoldable pub user_is_clean : ℕ → ℕ → List ℕ → Bool
 user_is_clean u t b =
     if nat_le u 3 then payload_is_clean b
@@ -110,9 +114,11 @@ user_is_clean u t b =
 
 -- ---- the rules in their order, each with the fault of bytes that break it
 
+-- enough bytes for the shortest header, which has 24
 abbrev pub has_start : List ℕ → Bool
 has_start b = nat_le 24 (length b)
 
+-- TIPC's version, 2, in the top bits of word 0
 abbrev pub has_version : List ℕ → Bool
 has_version b = field 0 31 29 b == 2
 
@@ -128,6 +134,7 @@ has_size b = (field 0 16 0 b == length b) && (nat_lt 3 (user_at b) || nat_le (le
 abbrev pub has_type : List ℕ → Bool
 has_type b = nat_lt (type_at b) (types_of (user_at b)) && (size_in_words b == size_of_type (user_at b) (type_at b))
 
+-- what must be zero is zero, in word 0 and in what the user and type ask
 abbrev pub is_clean : List ℕ → Bool
 is_clean b = word_0_is_clean (user_at b) b && user_is_clean (user_at b) (type_at b) b
 
@@ -148,6 +155,7 @@ fault_of b = first_broken
     ∷ (is_clean b, Reserved)
     ∷ [])
 
+-- the number of each fault, 1 to 7, in the order in which the rules are tried
 abbrev pub number_of : HeaderFault → ℕ
 number_of Short = 1
 number_of Version = 2

@@ -6,6 +6,8 @@ use Rattle.tipc_header.specs.Spelling.{Fields, from_bit, words, two_words}
 unfoldable pub envelope : ℕ → ℕ → List ℕ
 envelope first second = words (two_words first ++ two_words second)
 
+-- a frame's bytes: an envelope of two numbers, on a link the sender's epoch and the receiver's as the sender knows it,
+-- and a packet's bytes
 abbrev pub frame_of : ℕ → ℕ → List ℕ → List ℕ
 frame_of first second packet = envelope first second ++ packet
 

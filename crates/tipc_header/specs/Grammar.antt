@@ -10,6 +10,7 @@ use Rattle.tipc_header.specs.declared.packet.Addressing.{Addressing}
 use Rattle.tipc_header.specs.declared.packet.Addressing.TheVariants.{Connected, Multicast, Named, Direct}
 use Rattle.tipc_header.specs.Spelling.{Fields, size_of}
 
+-- the addresses of a message are words: nodes, and the name with its bounds or its instance
 abbrev pub AddressingFits : Addressing → Type 0
 AddressingFits Connected = Unit {0}
 AddressingFits (Multicast origin_node destination_node name_type lower upper) =
@@ -18,6 +19,7 @@ AddressingFits (Named origin_node destination_node name_type instance) =
     (origin_node < 2 ^ 32) × (destination_node < 2 ^ 32) × (name_type < 2 ^ 32) × (instance < 2 ^ 32)
 AddressingFits (Direct origin_node destination_node) = (origin_node < 2 ^ 32) × (destination_node < 2 ^ 32)
 
+-- the fields of a payload header are within their bits; importance is 0 to 3, and the error code 0 to 5
 pub record PayloadFits (m : Payload) : Type 0 where
   pub importance : m.importance ≤ 3
   pub error_code : m.error_code ≤ 5
@@ -28,6 +30,7 @@ pub record PayloadFits (m : Payload) : Type 0 where
   pub destination_port : m.destination_port < 2 ^ 32
   pub addressing : AddressingFits m.addressing
 
+-- the fields of a STATE are within their bits
 pub record StateFits (s : State) : Type 0 where
   pub gap : s.gap < 2 ^ 13
   pub broadcast_acknowledgement : s.broadcast_acknowledgement < 2 ^ 16
@@ -38,12 +41,14 @@ pub record StateFits (s : State) : Type 0 where
   pub destination_node : s.destination_node < 2 ^ 32
   pub priority : s.priority < 2 ^ 5
 
+-- the fields of a RESET or an ACTIVATE are within their bits
 pub record ResetFits (r : Reset) : Type 0 where
   pub destination_node : r.destination_node < 2 ^ 32
   pub priority : r.priority < 2 ^ 5
   pub contact : r.contact < 2 ^ 64
   pub peer_contact : r.peer_contact < 2 ^ 64
 
+-- the fields of a tunnel packet's header are within their bits; the old bearer is 0 or 1
 pub record ChangeoverFits (c : Changeover) : Type 0 where
   pub broadcast_acknowledgement : c.broadcast_acknowledgement < 2 ^ 16
   pub count : c.count < 2 ^ 16
@@ -51,6 +56,7 @@ pub record ChangeoverFits (c : Changeover) : Type 0 where
   pub old_bearer : c.old_bearer ≤ 1
   pub old_epoch : c.old_epoch < 2 ^ 64
 
+-- the fields of a header are in their ranges: a bundle has at least 2 packets inside, and fragments are numbered from 1
 abbrev pub HeaderFits : Header → Type 0
 HeaderFits (header.Payload m) = PayloadFits m
 HeaderFits (header.Bundler b) = (b.broadcast_acknowledgement < 2 ^ 16) × (2 ≤ b.count) × (b.count < 2 ^ 16)

@@ -25,6 +25,7 @@ bits high low n = n / 2 ^ low % 2 ^ (high + 1 - low)
 abbrev pub field : ℕ → ℕ → ℕ → List ℕ → ℕ
 field i high low b = bits high low (word_at i b)
 
+-- whether the bit of word i at this place is set
 abbrev pub flag : ℕ → ℕ → List ℕ → Bool
 flag i place b = field i place place b == 1
 
@@ -32,15 +33,19 @@ flag i place b = field i place place b == 1
 abbrev pub long_at : ℕ → List ℕ → ℕ
 long_at i b = word_at i b * 2 ^ 32 + word_at (i + 1) b
 
+-- the user number, of 4 bits
 abbrev pub user_at : List ℕ → ℕ
 user_at b = field 0 28 25 b
 
+-- the size of the header in words, of 4 bits
 abbrev pub size_in_words : List ℕ → ℕ
 size_in_words b = field 0 24 21 b
 
+-- the message type, of 3 bits
 abbrev pub type_at : List ℕ → ℕ
 type_at b = field 1 31 29 b
 
+-- the addresses of payload of type t
 unfoldable pub addressing_at : ℕ → List ℕ → Addressing
 addressing_at t b =
     if t == 0 then Connected
@@ -48,6 +53,7 @@ addressing_at t b =
     else (if t == 2 then Named (word_at 6 b) (word_at 7 b) (word_at 8 b) (word_at 9 b)
     else Direct (word_at 6 b) (word_at 7 b)))
 
+-- the header of payload; the user number is its importance
 unfoldable pub payload_at : ℕ → ℕ → List ℕ → Header
 payload_at u t b = header.Payload (record {
   importance = u;
@@ -62,9 +68,11 @@ payload_at u t b = header.Payload (record {
   addressing = addressing_at t b;
 })
 
+-- the header of a bundle
 unfoldable pub bundle_at : List ℕ → Header
 bundle_at b = header.Bundler (record { broadcast_acknowledgement = field 1 15 0 b; count = field 4 31 16 b })
 
+-- the header of a STATE
 unfoldable pub state_at : List ℕ → Header
 state_at b = header.State (record {
   gap = field 1 28 16 b;
@@ -79,6 +87,7 @@ state_at b = header.State (record {
   priority = field 8 6 2 b;
 })
 
+-- what RESET and ACTIVATE say: the node that they are for, the priority, and both contact numbers
 unfoldable pub reset_at : List ℕ → Reset
 reset_at b = record {
   destination_node = word_at 7 b;
@@ -87,6 +96,7 @@ reset_at b = record {
   peer_contact = long_at 12 b;
 }
 
+-- the header of a tunnel packet, of type t: 0 is a duplicate
 unfoldable pub changeover_at : ℕ → List ℕ → Header
 changeover_at t b = header.Changeover (record {
   changeover_type = if t == 0 then Duplicate else Original;
@@ -97,12 +107,14 @@ changeover_at t b = header.Changeover (record {
   old_epoch = long_at 10 b;
 })
 
+-- the header of name items, of type t: 0 is publications
 unfoldable pub distribution_at : ℕ → List ℕ → Header
 distribution_at t b = header.NameDistributor (record {
   distribution_type = if t == 0 then Publication else Withdrawal;
   broadcast_acknowledgement = field 1 15 0 b;
 })
 
+-- the header of a fragment, of type t: 0 is the first one of a message, 1 one between, 2 the last
 unfoldable pub fragment_at : ℕ → List ℕ → Header
 fragment_at t b = header.Fragmenter (record {
   fragment_type = if t == 0 then First else (if t == 1 then Middle else Last);
@@ -110,6 +122,7 @@ fragment_at t b = header.Fragmenter (record {
   number = field 4 15 0 b;
 })
 
+-- the header of a discovery packet, of type t: 0 is a request
 unfoldable pub discovery_at : ℕ → List ℕ → Header
 discovery_at t b = header.Discovery (record { discovery_type = if t == 0 then Request else Response; network = word_at 4 b })
 
@@ -138,5 +151,6 @@ fields_with h b = record {
   rest = drop (rest_start h) b;
 }
 
+-- the packet that these bytes are, if they are one: its header is that of the user and the type that stand in them
 unfoldable pub fields_at : List ℕ → Fields
 fields_at b = fields_with (header_at (user_at b) (type_at b) b) b

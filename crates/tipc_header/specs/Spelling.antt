@@ -21,6 +21,7 @@ pub record Fields : Type 0 where
   pub header : Header
   pub rest : List ℕ
 
+-- a packet as contracts see it: its fields, with the bytes of the rest as they are now
 abbrev pub view : Packet → Fields
 view p = record { acknowledgement = p.acknowledgement; sequence = p.sequence; previous = p.previous; header = p.header; rest = p.rest.now }
 
@@ -28,6 +29,7 @@ view p = record { acknowledgement = p.acknowledgement; sequence = p.sequence; pr
 unfoldable pub word : ℕ → List ℕ
 word n = to_be_bytes w32 n
 
+-- words as bytes, one behind the other
 abbrev pub words : List ℕ → List ℕ
 words ns = flat_map word ns
 
@@ -35,6 +37,7 @@ words ns = flat_map word ns
 abbrev pub from_bit : ℕ → ℕ → ℕ
 from_bit low n = n * 2 ^ low
 
+-- a flag as one bit
 abbrev pub bit : Bool → ℕ
 bit b = if b then 1 else 0
 
@@ -49,6 +52,7 @@ numbers_size _ = 0
 abbrev pub size_of : Fields → ℕ
 size_of p = 4 * header_size p.header + numbers_size p.header + length p.rest
 
+-- word 0: version, user, header size, the three flags and the message size
 unfoldable pub word_0 : Fields → ℕ
 word_0 p =
     from_bit 29 2
@@ -71,9 +75,11 @@ below_type (header.NameDistributor n) = n.broadcast_acknowledgement
 below_type (header.Fragmenter f) = f.broadcast_acknowledgement
 below_type (header.Discovery d) = 0
 
+-- word 1: the type, and what each user has below it
 unfoldable pub word_1 : Header → ℕ
 word_1 h = from_bit 29 (type_of h) + below_type h
 
+-- word 2: the acknowledgement and the sequence number, of 16 bits each
 unfoldable pub word_2 : Fields → ℕ
 word_2 p = from_bit 16 p.acknowledgement + p.sequence
 
@@ -84,6 +90,7 @@ addressing_words (Multicast origin_node destination_node name_type lower upper) 
 addressing_words (Named origin_node destination_node name_type instance) = origin_node ∷ destination_node ∷ name_type ∷ instance ∷ []
 addressing_words (Direct origin_node destination_node) = origin_node ∷ destination_node ∷ []
 
+-- words 4 to 9 of a STATE
 abbrev pub state_words : State → List ℕ
 state_words s =
     (from_bit 16 s.next + s.broadcast_next)
@@ -94,9 +101,11 @@ state_words s =
     ∷ 0
     ∷ []
 
+-- words 4 to 9 of a RESET or an ACTIVATE
 abbrev pub reset_words : Reset → List ℕ
 reset_words r = 0 ∷ 0 ∷ 0 ∷ r.destination_node ∷ from_bit 2 r.priority ∷ 0 ∷ []
 
+-- words 4 to 9 of a tunnel packet
 abbrev pub changeover_words : Changeover → List ℕ
 changeover_words c = (from_bit 16 c.count + c.inner_number) ∷ c.old_bearer ∷ 0 ∷ 0 ∷ 0 ∷ 0 ∷ []
 
@@ -123,9 +132,11 @@ number_words (header.Activate a) = two_words a.contact ++ two_words a.peer_conta
 number_words (header.Changeover c) = two_words c.old_epoch
 number_words _ = []
 
+-- all words of a packet: the header, and the numbers behind it
 abbrev pub all_words : Fields → List ℕ
 all_words p = word_0 p ∷ word_1 p.header ∷ word_2 p ∷ p.previous ∷ (user_words p.header ++ number_words p.header)
 
+-- the bytes of a packet: its words, and the rest
 unfoldable pub spelling : Fields → List ℕ
 spelling p = words (all_words p) ++ p.rest
 

@@ -13,6 +13,7 @@ use Rattle.tipc_header.specs.declared.packet.FragmentType.TheVariants.{First, Mi
 use Rattle.tipc_header.specs.declared.packet.DiscoveryType.{DiscoveryType}
 use Rattle.tipc_header.specs.declared.packet.DiscoveryType.TheVariants.{Request, Response}
 
+-- the user number of a packet with this header; that of payload is its importance, 0 to 3
 abbrev pub user_of : Header → ℕ
 user_of (header.Payload m) = m.importance
 user_of (header.Bundler b) = 6
@@ -24,29 +25,35 @@ user_of (header.NameDistributor n) = 11
 user_of (header.Fragmenter f) = 12
 user_of (header.Discovery d) = 13
 
+-- the message type of payload, by how it is addressed
 abbrev pub addressing_type : Addressing → ℕ
 addressing_type Connected = 0
 addressing_type (Multicast o d k l u) = 1
 addressing_type (Named o d k i) = 2
 addressing_type (Direct o d) = 3
 
+-- the message type of a tunnel packet
 abbrev pub changeover_type : ChangeoverType → ℕ
 changeover_type Duplicate = 0
 changeover_type Original = 1
 
+-- the message type of name items
 abbrev pub distribution_type : DistributionType → ℕ
 distribution_type Publication = 0
 distribution_type Withdrawal = 1
 
+-- the message type of a fragment
 abbrev pub fragment_type : FragmentType → ℕ
 fragment_type First = 0
 fragment_type Middle = 1
 fragment_type Last = 2
 
+-- the message type of a discovery packet
 abbrev pub discovery_type : DiscoveryType → ℕ
 discovery_type Request = 0
 discovery_type Response = 1
 
+-- the message type of a packet with this header
 abbrev pub type_of : Header → ℕ
 type_of (header.Payload m) = addressing_type m.addressing
 type_of (header.Bundler b) = 0
@@ -94,6 +101,7 @@ abbrev pub is_destination_droppable : Header → Bool
 is_destination_droppable (header.Payload m) = m.destination_droppable
 is_destination_droppable _ = false
 
+-- whether a message may be dropped by its sender where the link is congested; only payload may be
 abbrev pub is_source_droppable : Header → Bool
 is_source_droppable (header.Payload m) = m.source_droppable
 is_source_droppable _ = false

@@ -33,9 +33,11 @@ return_limit = 200
 abbrev pub no_name : ℕ
 no_name = 1
 
+-- no socket of the node has the port
 abbrev pub no_port : ℕ
 no_port = 2
 
+-- the inbox of the port is full
 abbrev pub overload : ℕ
 overload = 4
 
@@ -155,6 +157,7 @@ scene_at own before d front =
 abbrev pub due_in : Addr → PlacedStep → List Entry → Due
 due_in own p front = due_behind own (first_due own p.step.event p.step.answer) front
 
+-- what a fate in a step of a journal rests on, behind the entries of the step so far
 abbrev pub scene_in : Addr → PlacedStep → List Entry → Scene
 scene_in own p front = scene_at own p.before (first_due own p.step.event p.step.answer) front
 

@@ -20,15 +20,19 @@ use Rattle.tipc_journal.specs.Subscriptions.{subscriptions}
 abbrev pub most_sockets : ℕ
 most_sockets = 256
 
+-- how many sockets a node makes in one boot at most: 2^20 - 1
 abbrev pub most_sockets_made : ℕ
 most_sockets_made = 1048575
 
+-- how many publications of its own a node has at a time at most
 abbrev pub most_publications : ℕ
 most_publications = 1024
 
+-- how many subscriptions a node has at a time at most
 abbrev pub most_subscriptions : ℕ
 most_subscriptions = 256
 
+-- how many subscriptions a node makes in one boot at most: 2^32 - 1
 abbrev pub most_subscriptions_made : ℕ
 most_subscriptions_made = 4294967295
 
@@ -70,6 +74,7 @@ is_offer port key p = (p.at.port == port) && (p.key == key)
 abbrev pub no_socket : List Entry → ℕ → Bool × Answer
 no_socket entries port = (not (is_among (sockets entries) port), answer.NoSocket)
 
+-- the body is longer than a user's may be; the answer tells its length
 abbrev pub too_long : List ℕ → Bool × Answer
 too_long body = (nat_lt longest_body (length body), answer.TooLong (length body))
 
@@ -79,6 +84,7 @@ no_more_sockets entries =
     let made = length (sockets_made entries) in
     (nat_le most_sockets (length (sockets entries)) || nat_le most_sockets_made made, answer.Full most_sockets)
 
+-- as many subscriptions are there as may be, or were made in this boot
 abbrev pub no_more_subscriptions : List Entry → Bool × Answer
 no_more_subscriptions entries =
     let made = subscriptions_made entries in

@@ -43,6 +43,7 @@ wide =
       key = 7;
     }
 
+-- what port 2 publishes for the own node: the upper half of the same range
 abbrev pub narrow : Publication
 narrow =
     record {
@@ -85,6 +86,7 @@ story_steps =
 unfoldable pub story_after : ℕ → List Entry
 story_after n = flat_map step_entries (take n story_steps)
 
+-- the journal of the whole story, which has 19 calls
 abbrev pub story : List Entry
 story = story_after 19
 

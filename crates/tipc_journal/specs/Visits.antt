@@ -30,6 +30,7 @@ visitor = record { word = 16781314 }
 abbrev pub home : ℕ → PortId
 home port = record { node = teller; port = port }
 
+-- a port of the peer
 abbrev pub away : ℕ → PortId
 away port = record { node = visitor; port = port }
 
@@ -37,6 +38,7 @@ away port = record { node = visitor; port = port }
 abbrev pub open_offer : Publication
 open_offer = record { range = record { kind = 100; lower = 0; upper = 9 }; scope = Cluster; at = home 1; key = 7 }
 
+-- what port 1 publishes for the own node alone
 abbrev pub home_offer : Publication
 home_offer = record { range = record { kind = 100; lower = 20; upper = 29 }; scope = Node; at = home 1; key = 8 }
 

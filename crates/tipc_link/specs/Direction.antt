@@ -33,6 +33,8 @@ abbrev pub packet_flight : ℕ → ℕ → ℕ → ℕ → List ℕ → Flight
 packet_flight taken numbered peer_numbered position packet =
     record { acknowledgement = number_of taken; content = Carries (number_of position) packet; numbered = numbered; peer_numbered = peer_numbered }
 
+-- the frame of a STATE by an end that has taken and numbered so many packets: it shows the end's next number, and how
+-- many packets it misses
 abbrev pub state_flight : ℕ → ℕ → ℕ → ℕ → Bool → Flight
 state_flight taken numbered peer_numbered gap probe =
     record { acknowledgement = number_of taken; content = Shows (number_of (numbered + 1)) gap probe; numbered = numbered; peer_numbered = peer_numbered }

@@ -22,6 +22,7 @@ pub record HearingState : Type 0 where
 abbrev pub coming_of : Receiving → Taken → Option Coming
 coming_of w t = if is_early_tunnel w t then None else Some (coming w t)
 
+-- what a packet makes of a receive window, by what it brings; only one with a number makes anything of it
 abbrev pub window_by : Receiving → ℕ → Content → Option Coming
 window_by w by (Carries number packet) = coming_of w (brought number packet by)
 window_by w by other = None
@@ -30,9 +31,11 @@ window_by w by other = None
 abbrev pub numbered_outcome : Receiving → Taken → LinkOutcome
 numbered_outcome w t = placed (place_at w (standing w t)) (run_of (arrived_at w (standing w t) t).held)
 
+-- all that is told of a packet with a number
 abbrev pub numbered_hearing : Receiving → Taken → HearingState
 numbered_hearing w t = record { by = t.by; window = coming_of w t; outcome = numbered_outcome w t }
 
+-- what the arrival of any packet answers, by what it brings
 abbrev pub window_outcome : Receiving → ℕ → Content → LinkOutcome
 window_outcome w by (Shows next gap probe) = LinkOutcome.Took []
 window_outcome w by (Carries number packet) = numbered_outcome w (brought number packet by)

@@ -25,6 +25,7 @@ pub record Reaches (a b : Side) : Type 0 where
   pub took : b.took ≡ take b.end.taken a.line
   pub flights : (k : ℕ) (f : Flight) → slice_get a.sent k ≡ Some f → IsFlight a.end.sending.numbered a.end.taken b.end.sending.numbered a.line f
 
+-- the two sides of a session: each direction is whole
 pub record AreJoined (a b : Side) : Type 0 where
   pub there : Reaches a b
   pub back : Reaches b a
@@ -99,9 +100,11 @@ answers a peer_numbered = record {
 
 -- ---- the law, step by step
 
+-- a side whose session has just begun: nothing was numbered, taken or sent
 abbrev pub new_side : ℕ → ℕ → ℕ → ℕ → ℕ → Side
 new_side own peer bearer epoch peer_epoch = record { end = begun own peer bearer epoch peer_epoch; line = []; took = []; sent = [] }
 
+-- two sides that have just begun are joined
 abbrev pub BeginJoined : Type 0
 BeginJoined = (own peer bearer epoch peer_epoch : ℕ) → AreJoined (new_side own peer bearer epoch peer_epoch) (new_side peer own bearer peer_epoch epoch)
 
@@ -109,9 +112,11 @@ BeginJoined = (own peer bearer epoch peer_epoch : ℕ) → AreJoined (new_side o
 abbrev pub TurnJoined : Type 0
 TurnJoined = (a b : Side) → AreJoined a b → AreJoined b a
 
+-- two sides stay joined when packets are put at one of them
 abbrev pub PutsStayJoined : Type 0
 PutsStayJoined = (a b : Side) (pieces : List (List ℕ)) (put : SessionEnd) → AreJoined a b → IsPut a.end pieces put → AreJoined (puts a b.end.sending.numbered put) b
 
+-- two sides stay joined when one of them sends a STATE
 abbrev pub StatesStayJoined : Type 0
 StatesStayJoined = (a b : Side) (probe : Bool) → AreJoined a b → AreJoined (tells a b.end.sending.numbered probe) b
 
@@ -120,8 +125,10 @@ abbrev pub ArrivalsStayJoined : Type 0
 ArrivalsStayJoined = (a b : Side) (k by : ℕ) (f : Flight) → AreJoined a b → slice_get b.sent k ≡ Some f → IsFresh b.end.sending.numbered a.end.sending.numbered f
     → AreJoined (hears a b.end.sending.numbered by f) b
 
+-- two sides stay joined when one of them sends the STATE that is due
 abbrev pub AnswersStayJoined : Type 0
 AnswersStayJoined = (a b : Side) → AreJoined a b → AreJoined (answers a b.end.sending.numbered) b
 
+-- of two sides that are joined, what one took is a prefix of what the other numbered
 abbrev pub JoinedGivePrefix : Type 0
 JoinedGivePrefix = (a b : Side) → AreJoined a b → IsPrefixOf b.took a.line

@@ -23,6 +23,7 @@ use Rattle.tipc_recv_window.specs.declared.outcomes.LinkOutcome.{LinkOutcome}
 use Rattle.tipc_link.specs.Records.{Early, Received, early_of, early_record, kept_for, named, tunnelled}
 use Rattle.tipc_link.specs.Sessions.{SessionEnd, Content, again_frames, answer_frames, answered, arrival_frames, arrival_moving, arrived, begun_with, content_of, given_up, heard, moved_frames, outcome, priority_of, receiving_record, state_frame, told, tunnel_count, waiting_given, with_broadcast, with_record}
 
+-- one end of a link to a peer on one bearer, as contracts see it
 pub record LinkEnd : Type 0 where
   -- address words
   pub own : ℕ
@@ -59,9 +60,11 @@ abbrev pub record_in : Option SessionEnd → Option Early → Option Received
 record_in None early = option_map early_record early
 record_in (Some s) early = Some (receiving_record s)
 
+-- the receiving record of a link end; none where nothing was received of the peer yet
 abbrev pub record_of : LinkEnd → Option Received
 record_of e = record_in e.session e.early
 
+-- what stands beside the session when the record has become r: r itself as long as there is no session
 abbrev pub early_with : Option SessionEnd → Option Early → Received → Option Early
 early_with None early r = Some (early_of r)
 early_with (Some s) early r = early
@@ -81,9 +84,11 @@ known (Some epoch) = epoch
 abbrev pub shown_by : LinkEnd → Reset
 shown_by e = record { destination_node = e.peer; priority = priority_of e.bearer; contact = e.contact; peer_contact = e.peer_contact }
 
+-- the packet of link protocol with this header that is no STATE: it has no numbers, and nothing follows
 abbrev pub notice_fields : LinkEnd → Header → Fields
 notice_fields e h = record { acknowledgement = 0; sequence = 0; previous = e.own; header = h; rest = [] }
 
+-- the frame of a RESET or an ACTIVATE to the peer, under the own epoch and the peer's as the end knows it
 abbrev pub notice : LinkEnd → Header → Outgoing
 notice e h = record {
   bearer = e.bearer;
@@ -95,12 +100,15 @@ notice e h = record {
 abbrev pub on_bearer : LinkEnd → Outgoing → List Outgoing
 on_bearer e frame = if e.mended then frame ∷ [] else []
 
+-- the RESET that an end sends, none on a cut bearer
 abbrev pub reset_frames : LinkEnd → List Outgoing
 reset_frames e = on_bearer e (notice e (header.Reset (shown_by e)))
 
+-- the ACTIVATE that an end sends, none on a cut bearer
 abbrev pub activate_frames : LinkEnd → List Outgoing
 activate_frames e = on_bearer e (notice e (header.Activate (shown_by e)))
 
+-- the STATE of a session; none where there is no session
 abbrev pub state_frames : Option SessionEnd → BroadcastState → Bool → List Outgoing
 state_frames None shown probe = []
 state_frames (Some s) shown probe = state_frame s shown probe ∷ []
@@ -117,6 +125,7 @@ followed e Up = record e { session = Some (session_of e); early = None }
 followed e (Answer (reply.State probe)) = record e { session = option_map told e.session }
 followed e other = e
 
+-- the frames that an end sends by a change of its link states; `shown` is what a STATE tells of the broadcast
 abbrev pub follow_frames : LinkEnd → Change → BroadcastState → List Outgoing
 follow_frames e Up shown = state_frame (session_of e) shown false ∷ []
 follow_frames e (Answer reply.Reset) shown = reset_frames e
@@ -124,9 +133,11 @@ follow_frames e (Answer reply.Activate) shown = activate_frames e
 follow_frames e (Answer (reply.State probe)) shown = state_frames e.session shown probe
 follow_frames e other shown = []
 
+-- the end with other link states
 abbrev pub with_fsm : LinkEnd → Fsm → LinkEnd
 with_fsm e fsm = record e { fsm = fsm }
 
+-- the end with this session
 abbrev pub with_session : LinkEnd → SessionEnd → LinkEnd
 with_session e s = record e { session = Some s }
 
@@ -134,11 +145,13 @@ with_session e s = record e { session = Some s }
 abbrev pub after : LinkEnd → Outcome → LinkEnd
 after e o = followed (with_fsm e o.after) o.change
 
+-- the frames that an end sends at an outcome of its link states
 abbrev pub frames : LinkEnd → Outcome → BroadcastState → List Outgoing
 frames e o shown = follow_frames (with_fsm e o.after) o.change shown
 
 -- ---- calls
 
+-- whether a link end is in RESET_UNKNOWN
 abbrev pub is_reset_unknown : LinkState → Bool
 is_reset_unknown ResetUnknown = true
 is_reset_unknown _ = false
@@ -147,9 +160,12 @@ is_reset_unknown _ = false
 abbrev pub mended_end : LinkEnd → LinkEnd
 mended_end e = record e { mended = true }
 
+-- the frames that an end sends as its bearer is mended
 abbrev pub mend_frames : LinkEnd → List Outgoing
 mend_frames e = if is_reset_unknown e.fsm.state then reset_frames (mended_end e) else []
 
+-- the end after its bearer was cut; `held` tells whether it is held where that takes it down, since the pair's other
+-- link is up
 abbrev pub cut_end : LinkEnd → Bool → LinkEnd
 cut_end e held = record e { mended = false; fsm = (on_cut e.fsm held).after }
 
@@ -157,6 +173,7 @@ cut_end e held = record e { mended = false; fsm = (on_cut e.fsm held).after }
 abbrev pub ended_end : LinkEnd → LinkEnd
 ended_end e = record e { fsm = (contact_ended e.fsm).after }
 
+-- whether a change takes the link down
 abbrev pub is_down : Change → Bool
 is_down (Down cause) = true
 is_down other = false
@@ -169,6 +186,7 @@ forget_frames e = if is_down (forget_peer e.fsm).change then reset_frames (with_
 abbrev pub tunnelled_down : LinkEnd → ℕ → LinkEnd
 tunnelled_down e epoch = with_fsm e (on_peer_tunnel e.fsm epoch).after
 
+-- whether a change is an answer alone: the end sends a frame and goes neither up nor down
 abbrev pub is_answer : Change → Bool
 is_answer (Answer reply) = true
 is_answer other = false
@@ -183,6 +201,7 @@ release_frames e = if is_answer (release e.fsm).change then reset_frames (with_f
 abbrev pub handed_over : LinkEnd → LinkEnd
 handed_over e = record e { session = option_map given_up e.session }
 
+-- the end after its waiting packets were taken from it
 abbrev pub without_waiting : LinkEnd → LinkEnd
 without_waiting e = record e { session = option_map waiting_given e.session }
 
@@ -191,13 +210,16 @@ abbrev pub unacked_of : Option SessionEnd → List Kept
 unacked_of None = []
 unacked_of (Some s) = kept_of s.sending
 
+-- what tunnel packets say of a session whose packets they carry: its bearer, and this end's epoch in it
 abbrev pub name_of : SessionEnd → OldSession
 name_of s = record { bearer = s.bearer; epoch = s.epoch }
 
+-- the packets that wait in a session; none where there is no session
 abbrev pub waiting_of : Option SessionEnd → List (List ℕ)
 waiting_of None = []
 waiting_of (Some s) = s.sending.waiting
 
+-- how many of the packets of a session, unacknowledged and waiting, are tunnel packets
 abbrev pub tunnels_of : Option SessionEnd → ℕ
 tunnels_of None = 0
 tunnels_of (Some s) = tunnel_count s
@@ -235,13 +257,16 @@ answered_end e = if is_up e.fsm.state then record e { session = option_map answe
 abbrev pub answered_with : LinkEnd → ℕ → Bool → LinkEnd
 answered_with e taken asks = if is_up e.fsm.state then record e { session = option_map (λ s. answered (with_broadcast s taken asks)) e.session } else e
 
+-- the STATE of a session, where one is due
 abbrev pub session_answer : Option SessionEnd → BroadcastState → List Outgoing
 session_answer None shown = []
 session_answer (Some s) shown = answer_frames s shown
 
+-- the frames that an end sends as the answer to an arrival
 abbrev pub answered_frames : LinkEnd → BroadcastState → List Outgoing
 answered_frames e shown = if is_up e.fsm.state then session_answer e.session shown else []
 
+-- the frames that an end sends as the answer where the arrival brought or showed anything of the broadcast
 abbrev pub frames_with : LinkEnd → ℕ → Bool → BroadcastState → List Outgoing
 frames_with e taken asks shown = if is_up e.fsm.state then session_answer (option_map (λ s. with_broadcast s taken asks) e.session) shown else []
 
@@ -260,6 +285,7 @@ is_taken Up = true
 is_taken Stay = true
 is_taken other = false
 
+-- whether packets with this header belong to a session: STATE, and all that have a number
 abbrev pub is_traffic : Header → Bool
 is_traffic (header.Reset r) = false
 is_traffic (header.Activate a) = false
@@ -270,9 +296,11 @@ is_traffic other = true
 abbrev pub is_heard : Header → Change → Bool
 is_heard h change = is_traffic h && is_taken change
 
+-- the end after its session has heard a packet
 abbrev pub heard_end : LinkEnd → ℕ → ℕ → Content → LinkEnd
 heard_end e by acknowledgement c = record e { session = option_map (λ s. arrived s by acknowledgement c) e.session }
 
+-- the frames that a session sends when it hears a packet; none where there is no session
 abbrev pub heard_by : Option SessionEnd → ℕ → ℕ → Content → List Outgoing
 heard_by None by acknowledgement c = []
 heard_by (Some s) by acknowledgement c = arrival_frames s by acknowledgement c
@@ -282,6 +310,7 @@ abbrev pub sent_again : Option SessionEnd → ℕ → Content → List Outgoing
 sent_again None acknowledgement c = []
 sent_again (Some s) acknowledgement c = again_frames s acknowledgement c
 
+-- the frames of the packets that a session numbers at an arrival
 abbrev pub newly_numbered : Option SessionEnd → ℕ → ℕ → Content → List Outgoing
 newly_numbered None by acknowledgement c = []
 newly_numbered (Some s) by acknowledgement c = moved_frames c (heard s by acknowledgement c)
@@ -296,10 +325,12 @@ abbrev pub heard_frames : LinkEnd → Change → ℕ → ℕ → Content → Lis
 heard_frames e Up by acknowledgement c = []
 heard_frames e other by acknowledgement c = heard_by e.session by acknowledgement c
 
+-- what an arrival answers that a session hears
 abbrev pub heard_outcome : Option SessionEnd → ℕ → Content → LinkOutcome
 heard_outcome None by c = LinkOutcome.Took []
 heard_outcome (Some s) by c = outcome s by c
 
+-- what an arrival answers that no session hears: why it is ignored, or that it was taken and brings no packet
 abbrev pub change_outcome : Change → LinkOutcome
 change_outcome (Ignore reason) = LinkOutcome.Ignored reason
 change_outcome other = LinkOutcome.Took []
@@ -308,6 +339,7 @@ change_outcome other = LinkOutcome.Took []
 abbrev pub arrival_end : LinkEnd → Outcome → Fields → ℕ → LinkEnd
 arrival_end e o p by = if is_heard p.header o.change then heard_end (after e o) by p.acknowledgement (content_of p) else after e o
 
+-- the frames that an end sends at an arrival: those of its link states, and behind them those of its session
 abbrev pub link_frames : LinkEnd → Outcome → Fields → ℕ → BroadcastState → List Outgoing
 link_frames e o p by shown =
     if is_heard p.header o.change then frames e o shown ++ heard_frames (after e o) o.change by p.acknowledgement (content_of p) else frames e o shown
@@ -316,8 +348,10 @@ link_frames e o p by shown =
 abbrev pub repeats_at : LinkEnd → Outcome → Fields → List Outgoing
 repeats_at e o p = if is_heard p.header o.change then sent_again (after e o).session p.acknowledgement (content_of p) else []
 
+-- the frames of the packets that are numbered at an arrival
 abbrev pub numbers_at : LinkEnd → Outcome → Fields → ℕ → List Outgoing
 numbers_at e o p by = if is_heard p.header o.change then newly_numbered (after e o).session by p.acknowledgement (content_of p) else []
 
+-- what an arrival answers
 abbrev pub link_outcome : LinkEnd → Outcome → Fields → ℕ → LinkOutcome
 link_outcome e o p by = if is_heard p.header o.change then heard_outcome (after e o).session by (content_of p) else change_outcome o.change

@@ -10,6 +10,7 @@ use Rattle.tipc_header.specs.Reading.{fields_at}
 use Rattle.tipc_recv_window.specs.declared.outcomes.LinkOutcome.{LinkOutcome}
 use Rattle.tipc_recv_window.specs.Receiving.{Receiving, drained, past_wanted, run_of, with_packet}
 
+-- the receiving record of a link end, as contracts see it
 pub record Received : Type 0 where
   -- the peer's epoch
   pub epoch : ℕ
@@ -28,9 +29,11 @@ pub record Early : Type 0 where
   pub epoch : ℕ
   pub taken : ℕ
 
+-- what is kept of a record that was made before there was a session
 abbrev pub early_of : Received → Early
 early_of r = record { epoch = r.epoch; taken = r.taken }
 
+-- what tunnel packets brought before there was a session, as a record
 abbrev pub early_record : Early → Received
 early_record a = record { epoch = a.epoch; taken = a.taken; held = []; shown = 1 }
 
@@ -51,6 +54,7 @@ kept_for (Some r) epoch = if r.epoch == epoch then r else unheard epoch
 
 -- ---- tunnel packets on their own link
 
+-- whether this is the header of a tunnel packet
 abbrev pub is_changeover : Header → Bool
 is_changeover (header.Changeover c) = true
 is_changeover _ = false
@@ -90,6 +94,7 @@ advanced_by r t = record { epoch = r.epoch; taken = r.taken + length (freed r t)
 abbrev pub tunnelled : Received → ℕ → Taken → Received
 tunnelled r epoch t = if is_next r epoch t then advanced_by r t else r
 
+-- what the arrival of a packet that comes through the other link answers
 abbrev pub tunnelled_outcome : Received → ℕ → Taken → LinkOutcome
 tunnelled_outcome r epoch t = if is_next r epoch t then LinkOutcome.Took (freed r t) else LinkOutcome.Ignored why.Old
 

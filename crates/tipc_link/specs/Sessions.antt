@@ -26,9 +26,11 @@ pub record Unanswered : Type 0 where
   pub packets : ℕ
   pub broadcasts : ℕ
 
+-- nothing was taken since the last frame
 abbrev pub all_answered : Unanswered
 all_answered = record { packets = 0; broadcasts = 0 }
 
+-- one end of a link in one session, as contracts see it
 pub record SessionEnd : Type 0 where
   -- address words
   pub own : ℕ
@@ -105,6 +107,7 @@ pub data Content : Type 0 where
   Carries : (number : ℕ) (packet : List ℕ) → Content
   Nothing : Content
 
+-- what a packet brings, by its header; `packet` are its bytes as they waited to be sent
 abbrev pub content_by : Header → ℕ → List ℕ → Content
 content_by (header.State state) sequence packet = Shows state.next state.gap state.probe
 content_by (header.Reset reset) sequence packet = Nothing
@@ -124,9 +127,11 @@ previous_waiting _ previous = previous
 abbrev pub as_waiting : Fields → Fields
 as_waiting p = sent_as 0 0 (previous_waiting p.header p.previous) p
 
+-- what a packet of a session brings
 unfoldable pub content_of : Fields → Content
 content_of p = content_by p.header p.sequence (spelling (as_waiting p))
 
+-- the end after an acknowledgement with this number: the packets up to it are released
 abbrev pub released : SessionEnd → ℕ → SessionEnd
 released e acknowledgement = record e { sending = acknowledged e.sending acknowledgement }
 
@@ -138,12 +143,15 @@ brought number packet by = record { number = number; packet = packet; by = by }
 abbrev pub place_of : SessionEnd → Taken → Place
 place_of e t = place_at (receiving e) (standing (receiving e) t)
 
+-- the receive window when a packet has arrived
 abbrev pub window_with : SessionEnd → Taken → Receiving
 window_with e t = arrived_at (receiving e) (standing (receiving e) t) t
 
+-- the packets that can be taken when a packet has arrived
 unfoldable pub due_with : SessionEnd → Taken → List Taken
 due_with e t = run_of (window_with e t).held
 
+-- whether a packet at this place is held until those before it came
 abbrev pub is_deferred : Place → Bool
 is_deferred place.Deferred = true
 is_deferred other = false
@@ -169,6 +177,7 @@ noted e next probe = record e { shown = highest e next; owes = probe || shows_mo
 abbrev pub is_behind : ℕ → ℕ → Kept → Bool
 is_behind acknowledgement gap k = nat_lt 0 (distance_of acknowledgement k.number) && nat_le (distance_of acknowledgement k.number) gap
 
+-- the packets that are sent again for a gap behind an acknowledgement
 unfoldable pub repeated : SessionEnd → ℕ → ℕ → List Kept
 repeated e acknowledgement gap = filter (is_behind acknowledgement gap) (kept_of e.sending)
 
@@ -191,6 +200,7 @@ placed place.InOrder due = LinkOutcome.Took due
 placed place.Deferred due = LinkOutcome.Deferred
 placed place.Old due = LinkOutcome.Ignored why.Old
 
+-- what an arrival answers, by what it brings
 abbrev pub outcome : SessionEnd → ℕ → Content → LinkOutcome
 outcome e by (Shows next gap probe) = LinkOutcome.Took []
 outcome e by (Carries number packet) = placed (place_of e (brought number packet by)) (due_with e (brought number packet by))
@@ -218,6 +228,7 @@ put e pieces = record e { sending = offered e.sending pieces }
 abbrev pub with_last : SessionEnd → List ℕ → SessionEnd
 with_last e packet = record e { sending = swapped e.sending packet }
 
+-- the last packet that waits; no bytes where none does
 abbrev pub last_of : SessionEnd → List ℕ
 last_of e = slice_index_or e.sending.waiting (length e.sending.waiting - 1) []
 
@@ -251,6 +262,7 @@ begun_with own peer bearer epoch peer_epoch r = record {
   owes = false;
 }
 
+-- a new end, which is up, with a new receiving record
 abbrev pub begun : ℕ → ℕ → ℕ → ℕ → ℕ → SessionEnd
 begun own peer bearer epoch peer_epoch = begun_with own peer bearer epoch peer_epoch (unheard peer_epoch)
 
@@ -260,6 +272,7 @@ begun own peer bearer epoch peer_epoch = begun_with own peer bearer epoch peer_e
 abbrev pub given_up : SessionEnd → SessionEnd
 given_up e = record e { sending = emptied e.sending }
 
+-- the end after its waiting packets were given up
 abbrev pub waiting_given : SessionEnd → SessionEnd
 waiting_given e = record e { sending = without_waiting e.sending }
 
@@ -330,10 +343,12 @@ abbrev pub again_frames : SessionEnd → ℕ → Content → List Outgoing
 again_frames e acknowledgement (Shows next gap probe) = repeat_frames (released e acknowledgement) acknowledgement gap
 again_frames e acknowledgement other = []
 
+-- the end after packets moved up at an arrival that brought this
 abbrev pub moved_at : Content → SessionEnd → SessionEnd
 moved_at Nothing e = e
 moved_at other e = flushed e
 
+-- the frames that leave as packets move up at an arrival that brought this
 abbrev pub moved_frames : Content → SessionEnd → List Outgoing
 moved_frames Nothing e = []
 moved_frames other e = flush_frames e
@@ -371,6 +386,7 @@ state_fields e broadcast probe = record {
   rest = [];
 }
 
+-- the frame of a STATE; `broadcast` is what it shows of the broadcast, and `probe` whether it asks for a STATE
 abbrev pub state_frame : SessionEnd → BroadcastState → Bool → Outgoing
 state_frame e broadcast probe = record {
   bearer = e.bearer;
@@ -397,5 +413,6 @@ told e = record e { unanswered = all_answered }
 abbrev pub answered : SessionEnd → SessionEnd
 answered e = record e { unanswered = if is_due e then all_answered else e.unanswered; owes = false }
 
+-- the STATE that is due; none where none is
 abbrev pub answer_frames : SessionEnd → BroadcastState → List Outgoing
 answer_frames e broadcast = if is_due e then state_frame e broadcast false ∷ [] else []

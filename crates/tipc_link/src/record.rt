@@ -32,7 +32,12 @@ impl Model for Record {
 
     ghost Value = { Received };
 
-    ghost view = { λ r. record { epoch = r.epoch; taken = r.window.wanted - 1; held = r.window.held; shown = r.shown } };
+    ghost view = { λ r. record {
+      epoch = r.epoch;
+      taken = r.window.wanted - 1;
+      held = r.window.held;
+      shown = r.shown;
+    } };
 
     ghost invariant = { λ r. IsRecord r.window r.shown };
 }

@@ -75,7 +75,8 @@ impl Model for Session {
       owes = l.owes;
     } };
 
-    ghost invariant = { λ l. IsSession l.bearer (record { packets = l.unanswered; broadcasts = l.broadcasts }) l.window l.received };
+    ghost invariant = { λ l.
+        IsSession l.bearer (record { packets = l.unanswered; broadcasts = l.broadcasts }) l.window l.received };
 }
 
 impl Session {

@@ -22,6 +22,7 @@ pub record Outcome : Type 0 where
   pub after : Fsm
   pub change : Change
 
+-- the outcome of a call: the link end after it, and what the call did
 abbrev pub gives : Fsm → Change → Outcome
 gives after change = record { after = after; change = change }
 
@@ -147,6 +148,7 @@ tick_in ResetReset s held = gives s (Answer reply.Activate)
 tick_in Held s held = gives s Stay
 tick_in _ s held = up_tick s held
 
+-- a tick passes at a link end; `held` tells whether it is held where that takes it down
 unfoldable pub on_tick : Fsm → Bool → Outcome
 on_tick s held = tick_in s.state s held
 

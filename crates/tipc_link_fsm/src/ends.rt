@@ -32,9 +32,16 @@ impl Model for LinkFsm {
 
     ghost Value = { Fsm };
 
-    ghost view = { λ f. record { own = f.own; peer = f.peer; highest = f.highest; state = f.state; silent = f.silent } };
+    ghost view = { λ f. record {
+      own = f.own;
+      peer = f.peer;
+      highest = f.highest;
+      state = f.state;
+      silent = f.silent;
+    } };
 
-    ghost invariant = { λ f. IsSound (record { own = f.own; peer = f.peer; highest = f.highest; state = f.state; silent = f.silent }) };
+    ghost invariant = { λ f.
+        IsSound (record { own = f.own; peer = f.peer; highest = f.highest; state = f.state; silent = f.silent }) };
 }
 
 impl LinkFsm {

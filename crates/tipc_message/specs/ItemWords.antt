@@ -35,5 +35,6 @@ pub record IsInWords (item : Item) : Type 0 where
   pub port : item.port < 2 ^ 32
   pub key : item.key < 2 ^ 32
 
+-- items whose fields are words
 abbrev pub AreInWords : List Item → Type 0
 AreInWords items = All IsInWords items

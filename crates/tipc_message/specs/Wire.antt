@@ -25,6 +25,7 @@ importance_number Medium = 1
 importance_number High = 2
 importance_number Critical = 3
 
+-- the importance of this number, 0 to 3
 abbrev pub importance_of : ℕ → Importance
 importance_of n = if n == 0 then Low else (if n == 1 then Medium else (if n == 2 then High else Critical))
 
@@ -35,6 +36,8 @@ lookup_scope_of form.Multicast = 2
 lookup_scope_of form.Connected = 0
 lookup_scope_of form.Direct = 0
 
+-- how a message is addressed in its packet, by its form: nodes are address words, and a named message has its instance
+-- as the lower bound
 abbrev pub addressing_of : Form → ℕ → ℕ → ℕ → ℕ → ℕ → Addressing
 addressing_of form.Connected origin destination kind lower upper = Connected
 addressing_of form.Multicast origin destination kind lower upper = Multicast origin destination kind lower upper
@@ -85,19 +88,24 @@ packet_of own (message.Payload importance form from to kind lower upper code dro
     Some (payload_packet own (payload_of importance form from to kind lower upper code droppable) body)
 packet_of own (message.Items withdrawal items) = Some (items_packet own withdrawal items)
 
+-- the port of this number at the node of this address word
 abbrev pub port_at : ℕ → ℕ → PortId
 port_at node port = record { node = record { word = node }; port = port }
 
+-- The message of a payload packet, addressed so, with this body. A message between connected ports names no nodes, and
+-- so 0 stands for both.
 abbrev pub message_by : Payload → Addressing → List ℕ → Message
 message_by p Connected body = message.Payload (importance_of p.importance) form.Connected (port_at 0 p.origin_port) (port_at 0 p.destination_port) 0 0 0 p.error_code p.destination_droppable body
 message_by p (Multicast origin destination kind lower upper) body = message.Payload (importance_of p.importance) form.Multicast (port_at origin p.origin_port) (port_at destination p.destination_port) kind lower upper p.error_code p.destination_droppable body
 message_by p (Named origin destination kind instance) body = message.Payload (importance_of p.importance) form.Named (port_at origin p.origin_port) (port_at destination p.destination_port) kind instance instance p.error_code p.destination_droppable body
 message_by p (Direct origin destination) body = message.Payload (importance_of p.importance) form.Direct (port_at origin p.origin_port) (port_at destination p.destination_port) 0 0 0 p.error_code p.destination_droppable body
 
+-- whether an item message tells of withdrawals
 abbrev pub is_withdrawal : DistributionType → Bool
 is_withdrawal Withdrawal = true
 is_withdrawal Publication = false
 
+-- the message of a packet with this header, and these bytes behind it
 abbrev pub message_with : Header → List ℕ → Option Message
 message_with (header.Payload p) rest = Some (message_by p p.addressing rest)
 message_with (header.NameDistributor d) rest = Some (message.Items (is_withdrawal d.distribution_type) (items_of rest))

@@ -22,6 +22,7 @@ told_by from item = record {
   key = item.key;
 }
 
+-- whether an item's lower bound is at most its upper one
 abbrev pub is_ordered : Item → Bool
 is_ordered item = nat_le item.lower item.upper
 
@@ -45,6 +46,7 @@ pub record Applied : Type 0 where
   pub publications : List Publication
   pub bad : Option ℕ
 
+-- a table of which nothing is learned or forgotten; `bad` is the place of an item that doesn't fit, if one doesn't
 abbrev pub nothing_applied : List Publication → Option ℕ → Applied
 nothing_applied table bad = record { table = table; publications = []; bad = bad }
 
@@ -66,6 +68,8 @@ abbrev pub forgotten_if : Option Publication → List Publication → Applied �
 forgotten_if None table later = nothing_applied table (Some 0)
 forgotten_if (Some p) table later = behind p later
 
+-- the publications of a peer that these withdrawals name are forgotten, one after the other, up to the first that names
+-- none
 abbrev pub forgotten_from : ℕ → List Publication → List Item → Applied
 forgotten_from from table [] = nothing_applied table None
 forgotten_from from table (item ∷ items) =

@@ -20,6 +20,7 @@ item_of p =
 abbrev pub items_for : Publication → List Item
 items_for p = if is_clusterwide p.scope then item_of p ∷ [] else []
 
+-- the items of a message; a user's message has none
 abbrev pub items_in : Message → List Item
 items_in (Items withdrawal items) = items
 items_in (Payload importance form from to kind lower upper code droppable body) = []
@@ -42,5 +43,6 @@ pub record IsBulk (live : List Publication) (messages : List Message) : Type 0 w
 abbrev pub telling : Bool → Publication → List Message
 telling withdrawal p = if is_clusterwide p.scope then Items withdrawal (item_of p ∷ []) ∷ [] else []
 
+-- what a node tells each peer of these publications, or of their withdrawals, in order
 abbrev pub tellings : Bool → List Publication → List Message
 tellings withdrawal ps = flat_map (telling withdrawal) ps

@@ -53,9 +53,11 @@ contact_ends x contact shown = record {
 abbrev pub forgetting : ℕ → LinkEnd → LinkEnd
 forgetting seen e = record (with_fsm e (forget_peer e.fsm).after) { peer_contact = seen }
 
+-- the pair without contact when the peer has shown this contact number
 abbrev pub forgotten : PairEnds → ℕ → PairEnds
 forgotten x seen = record x { seen = seen; near = option_map (forgetting seen) x.near; far = option_map (forgetting seen) x.far }
 
+-- what the higher contact number of the peer makes of the pair
 abbrev pub risen : PairEnds → ℕ → Course
 risen x number =
     if in_contact x then contact_ends (record x { seen = number }) (x.contact, x.seen) number else rests (forgotten x number)
@@ -73,10 +75,12 @@ failing x near far (Some lost) (Some s) = record (rests (with_far (with_near x (
 }
 failing x near far other carrier = rests x
 
+-- what the near end leaves to the far one, where both were made
 abbrev pub fail_over_to : PairEnds → Option LinkEnd → Option LinkEnd → Course
 fail_over_to x (Some near) (Some far) = failing x near far near.session far.session
 fail_over_to x near far = rests x
 
+-- the far link takes over from the near one, which went down
 abbrev pub fail_over : PairEnds → Course
 fail_over x = fail_over_to x x.near x.far
 
@@ -87,10 +91,12 @@ switching x near far (Some s) (Some old) = record (rests (with_far (with_near x 
 }
 switching x near far other old = rests x
 
+-- what the near end takes over from the far one, where both were made
 abbrev pub switch_from : PairEnds → Option LinkEnd → Option LinkEnd → Course
 switch_from x (Some near) (Some far) = switching x near far near.session far.session
 switch_from x near far = rests x
 
+-- the near link, which went up, takes over from the far one
 abbrev pub switch : PairEnds → Course
 switch x = switch_from x x.near x.far
 
@@ -104,6 +110,7 @@ gone_up x = if is_up_at x.far then (if x.bearer == 0 then switch x else rests x)
 abbrev pub gone_down : PairEnds → Course
 gone_down x = if is_up_at x.far then fail_over x else contact_ends x (x.contact, x.seen) 0
 
+-- what is told of a link that went up: its bearer, and the two epochs of its session
 abbrev pub up_told : ℕ → Option LinkEnd → Transition
 up_told bearer None = LinkUp bearer 0 0
 up_told bearer (Some e) = LinkUp bearer e.fsm.own (known e.fsm.peer)
@@ -131,6 +138,7 @@ is_clear (Some e) = tunnels_of e.session == 0
 abbrev pub let_go : LinkEnd → LinkEnd
 let_go e = with_fsm e (release e.fsm).after
 
+-- the RESET that a held end says when it is released; none of any other end
 abbrev pub let_go_frames : Option LinkEnd → List Outgoing
 let_go_frames None = []
 let_go_frames (Some e) = release_frames e

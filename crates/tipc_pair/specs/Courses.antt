@@ -5,6 +5,7 @@ use Rattle.tipc_outside.specs.Frames.{Adds, Out}
 use Rattle.tipc_pair.specs.declared.transitions.Transition.{Transition}
 use Rattle.tipc_pair.specs.Facing.{PairEnds}
 
+-- the course of an event at a pair
 pub record Course : Type 0 where
   pub pair : PairEnds
   pub changes : List Transition

@@ -7,6 +7,7 @@ use Rattle.tipc_link_fsm.specs.Table.{is_held, is_up}
 use Rattle.tipc_contact.specs.Sides.{first_number}
 use Rattle.tipc_link.specs.Links.{LinkEnd, made}
 
+-- a pair, as contracts see it
 pub record PairEnds : Type 0 where
   -- address words
   pub own : ℕ
@@ -29,6 +30,7 @@ other bearer = 1 - bearer
 abbrev pub turned : PairEnds → PairEnds
 turned x = record x { bearer = other x.bearer; near = x.far; far = x.near }
 
+-- the same pair, seen from the link of this bearer
 unfoldable pub facing : ℕ → PairEnds → PairEnds
 facing bearer x = if x.bearer == bearer then x else turned x
 
@@ -49,18 +51,22 @@ alone own peer boot = record {
 abbrev pub with_made : PairEnds → PairEnds
 with_made x = record x { near = Some (record (made x.own x.peer x.bearer x.contact) { peer_contact = x.seen }) }
 
+-- the pair with another near end
 abbrev pub with_near : PairEnds → LinkEnd → PairEnds
 with_near x e = record x { near = Some e }
 
+-- the pair with another far end
 abbrev pub with_far : PairEnds → LinkEnd → PairEnds
 with_far x e = record x { far = Some e }
 
 -- ---- what is read of a pair
 
+-- whether there is an end, and its link is up
 abbrev pub is_up_at : Option LinkEnd → Bool
 is_up_at None = false
 is_up_at (Some e) = is_up e.fsm.state
 
+-- whether there is an end, and it is held
 abbrev pub is_held_at : Option LinkEnd → Bool
 is_held_at None = false
 is_held_at (Some e) = is_held e.fsm.state
@@ -69,6 +75,7 @@ is_held_at (Some e) = is_held e.fsm.state
 abbrev pub in_contact : PairEnds → Bool
 in_contact x = is_up_at x.near || is_up_at x.far
 
+-- the contact of the node with the peer: its own number and the peer's; none while no link is up
 abbrev pub contact_between : PairEnds → Option (ℕ × ℕ)
 contact_between x = if in_contact x then Some (x.contact, x.seen) else None
 
@@ -76,6 +83,7 @@ contact_between x = if in_contact x then Some (x.contact, x.seen) else None
 abbrev pub active_of : Option LinkEnd → Option LinkEnd → Option ℕ
 active_of first second = if is_up_at first then Some 0 else (if is_up_at second then Some 1 else None)
 
+-- the bearer of the active link; none while no link is up
 abbrev pub active : PairEnds → Option ℕ
 active x = active_of (facing 0 x).near (facing 1 x).near
 
@@ -84,11 +92,14 @@ abbrev pub made_of : Option LinkEnd → List LinkEnd
 made_of None = []
 made_of (Some e) = e ∷ []
 
+-- the ends that were made, bearer 0's first
 abbrev pub ends_of : PairEnds → List LinkEnd
 ends_of x = made_of (facing 0 x).near ++ made_of (facing 1 x).near
 
+-- the link state of an end, where it was made
 abbrev pub state_of : Option LinkEnd → Option LinkState
 state_of end = option_map (λ (e : LinkEnd). e.fsm.state) end
 
+-- the link states of both ends, bearer 0's first
 abbrev pub states_of : PairEnds → Option LinkState × Option LinkState
 states_of x = (state_of (facing 0 x).near, state_of (facing 1 x).near)

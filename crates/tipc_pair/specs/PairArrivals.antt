@@ -35,9 +35,11 @@ pub record Heard : Type 0 where
   pub course : Course
   pub outcome : LinkOutcome
 
+-- the packet is ignored for this reason, and the pair stays as it is
 abbrev pub passing : PairEnds → Why → Heard
 passing x reason = record { course = rests x; outcome = LinkOutcome.Ignored reason }
 
+-- first this course, and then an arrival at the pair that it left
 abbrev pub behind : Course → (PairEnds → Heard) → Heard
 behind c hear = record { course = going_on c (λ y. (hear y).course); outcome = (hear c.pair).outcome }
 
@@ -57,10 +59,12 @@ met x e o p es by shown = record {
   outcome = link_outcome e o p by;
 }
 
+-- a packet under the epochs es and er meets the near end: it is ignored as unknown where that isn't made
 abbrev pub met_at : ℕ → ℕ → Fields → ℕ → BroadcastState → PairEnds → Option LinkEnd → Heard
 met_at es er p by shown x None = passing x why.Unknown
 met_at es er p by shown x (Some e) = met x e (outcome_of e.fsm p.header es er (is_up_at x.far)) p es by shown
 
+-- a packet under the epochs es and er meets the near end of this pair
 abbrev pub met_near : ℕ → ℕ → Fields → ℕ → BroadcastState → PairEnds → Heard
 met_near es er p by shown x = met_at es er p by shown x x.near
 
@@ -74,6 +78,7 @@ reset_given es held shown x (Some e) = record {
   outcome = change_outcome (on_reset e.fsm es held).change;
 }
 
+-- the change that a RESET makes of the near end's link states; none where the end isn't made
 abbrev pub reset_change : ℕ → Bool → Option LinkEnd → Change
 reset_change es held None = Stay
 reset_change es held (Some e) = (on_reset e.fsm es held).change
@@ -91,9 +96,11 @@ reset_near es shown x =
 abbrev pub by_number : PairEnds → ℕ → Heard → Heard → Heard
 by_number x number same higher = if nat_lt number x.seen then passing x why.Contact else (if number == x.seen then same else higher)
 
+-- a RESET that shows this contact number arrives on the near link
 abbrev pub reset_shown : ℕ → ℕ → BroadcastState → PairEnds → Heard
 reset_shown number es shown x = by_number x number (reset_near es shown x) (behind (risen x number) (reset_near es shown))
 
+-- what becomes of an ACTIVATE with a higher contact number: where a contact ended it took nothing, and else it goes on
 abbrev pub activates : Bool → Course → Heard → Heard
 activates true risen others = record { course = risen; outcome = LinkOutcome.Took [] }
 activates false risen others = others
@@ -102,9 +109,11 @@ activates false risen others = others
 abbrev pub activate_higher : ℕ → (PairEnds → Heard) → PairEnds → Heard
 activate_higher number meet x = activates (in_contact x) (risen x number) (behind (risen x number) meet)
 
+-- an ACTIVATE that shows this contact number arrives on the near link; `meet` is how it meets the near end
 abbrev pub activate_shown : ℕ → (PairEnds → Heard) → PairEnds → Heard
 activate_shown number meet x = by_number x number (meet x) (activate_higher number meet x)
 
+-- what the near link makes of a packet of any kind, under the epochs es and er
 abbrev pub hears : Header → ℕ → ℕ → Fields → ℕ → BroadcastState → PairEnds → Heard
 hears (header.Reset said) es er p by shown x = reset_shown said.contact es shown x
 hears (header.Activate said) es er p by shown x = activate_shown said.contact (met_near es er p by shown) x
@@ -136,6 +145,7 @@ abbrev pub tunnelled_at : ℕ → PairEnds → Option LinkEnd → Course
 tunnelled_at epoch x None = rests x
 tunnelled_at epoch x (Some e) = following (with_near x (tunnelled_down e epoch)) (on_peer_tunnel e.fsm epoch).change epoch
 
+-- what a tunnel packet that names this epoch makes of the far link before it is opened: a duplicate makes nothing of it
 abbrev pub taken_down : ChangeoverType → ℕ → PairEnds → Course
 taken_down kind.Duplicate epoch x = rests x
 taken_down kind.Original epoch x = at_far (λ y. tunnelled_at epoch y y.near) x
@@ -152,22 +162,27 @@ inside_of t by = brought t.number (restored t.inner) by
 abbrev pub inner_taken : Tunnelled → ℕ → LinkEnd → LinkEnd
 inner_taken t by e = if t.count == 0 then named_end e t.old.epoch else tunnelled_end e t.old.epoch (inside_of t by)
 
+-- the packets that an arrival took; none where it was deferred or ignored
 abbrev pub taken_in : LinkOutcome → List Taken
 taken_in (LinkOutcome.Took taken) = taken
 taken_in other = []
 
+-- what the far end can take by the packet inside: that one and those held behind it, where it is the wanted one
 abbrev pub freed_by : Tunnelled → ℕ → LinkEnd → List Taken
 freed_by t by e =
     if t.count == 0 then [] else taken_in (tunnelled_outcome (named (record_of e) t.old.epoch) t.old.epoch (inside_of t by))
 
+-- the pair when the far end, where it was made, has counted the packet inside
 abbrev pub inner_at : Tunnelled → ℕ → PairEnds → Option LinkEnd → Course
 inner_at t by x None = rests x
 inner_at t by x (Some e) = rests (with_far x (inner_taken t by e))
 
+-- what the far end can take by it, where it was made
 abbrev pub freed_at : Tunnelled → ℕ → Option LinkEnd → List Taken
 freed_at t by None = []
 freed_at t by (Some e) = freed_by t by e
 
+-- what a tunnel packet that speaks of the far link makes of the pair
 abbrev pub tunnelled_through : PairEnds → Tunnelled → ℕ → Course
 tunnelled_through x t by = going_on (taken_down t.kind t.old.epoch x) (λ y. inner_at t by y y.far)
 
@@ -188,6 +203,7 @@ with_bytes taken = filter (λ (t : Taken). nat_lt 0 (length t.packet)) taken
 
 -- ---- what an arrival gives
 
+-- the course after which this message is begun
 abbrev pub with_begun : Course → Joining → Course
 with_begun c begun = record c { pair = record c.pair { begun = begun } }
 

@@ -15,14 +15,17 @@ at_bearer bearer x call = record (call (facing bearer x)) { pair = facing x.bear
 
 -- ---- the bearer is mended or cut
 
+-- the pair with its near bearer mended, where an end was made there
 abbrev pub mended_near : PairEnds → Option LinkEnd → PairEnds
 mended_near x None = x
 mended_near x (Some e) = with_near x (mended_end e)
 
+-- what that end says then
 abbrev pub mended_frames : Option LinkEnd → List Outgoing
 mended_frames None = []
 mended_frames (Some e) = mend_frames e
 
+-- the bearer of the near link is mended
 abbrev pub mended : PairEnds → Course
 mended x = record (rests (mended_near x x.near)) { states = mended_frames x.near }
 
@@ -30,10 +33,12 @@ mended x = record (rests (mended_near x x.near)) { states = mended_frames x.near
 abbrev pub cut_link : PairEnds → LinkEnd → Course
 cut_link x e = following (with_near x (cut_end e (is_up_at x.far))) (on_cut e.fsm (is_up_at x.far)).change 0
 
+-- the near link's bearer is cut, where an end was made there
 abbrev pub cut_at : PairEnds → Option LinkEnd → Course
 cut_at x None = rests x
 cut_at x (Some e) = cut_link x e
 
+-- the bearer of the near link is cut, with all that follows; then ends may be released
 abbrev pub cut_near : PairEnds → Course
 cut_near x = going_on (cut_at x x.near) released
 
@@ -44,10 +49,12 @@ abbrev pub stepped : PairEnds → LinkEnd → Outcome → ℕ → BroadcastState
 stepped x e o epoch shown =
     going_on (record (rests (with_near x (after e o))) { states = frames e o shown }) (λ y. following y o.change epoch)
 
+-- a tick passes at the near end, where it was made; `shown` is what a STATE tells of the broadcast
 abbrev pub tick_at : BroadcastState → PairEnds → Option LinkEnd → Course
 tick_at shown x None = rests x
 tick_at shown x (Some e) = stepped x e (on_tick e.fsm (is_up_at x.far)) 0 shown
 
+-- a tick passes at the near link of this pair, with all that follows
 abbrev pub tick_near : BroadcastState → PairEnds → Course
 tick_near shown x = tick_at shown x x.near
 
@@ -74,6 +81,7 @@ abbrev pub session_at : Option LinkEnd → Option SessionEnd
 session_at None = None
 session_at (Some e) = e.session
 
+-- the session of the active link; that of bearer 1's end where no link is up
 abbrev pub active_session : PairEnds → Option SessionEnd
 active_session x = if is_up_at (facing 0 x).near then session_at (facing 0 x).near else session_at (facing 1 x).near
 
@@ -93,6 +101,7 @@ abbrev pub load_in : Option SessionEnd → ℕ × ℕ
 load_in None = (0, 0)
 load_in (Some s) = (length s.sending.unacked, length s.sending.waiting)
 
+-- how many packets are unacknowledged and how many wait at an end; none of either where its link isn't up
 abbrev pub load_of : Option LinkEnd → ℕ × ℕ
 load_of None = (0, 0)
 load_of (Some e) = if is_up e.fsm.state then load_in e.session else (0, 0)
@@ -101,6 +110,7 @@ load_of (Some e) = if is_up e.fsm.state then load_in e.session else (0, 0)
 abbrev pub numbers_of : Option SessionEnd → Option (ℕ × ℕ)
 numbers_of session = option_map (λ (s : SessionEnd). (s.sending.numbered, s.taken)) session
 
+-- how many packets each direction numbered at an end; None where it had no session
 abbrev pub numbered_of : Option LinkEnd → Option (ℕ × ℕ)
 numbered_of None = None
 numbered_of (Some e) = numbers_of e.session
@@ -112,6 +122,7 @@ last_count_of (Some e) = count_of e.session
 
 -- ---- the answer
 
+-- the answer of the near end to an arrival, where it was made
 abbrev pub answered_at : PairEnds → Option LinkEnd → ℕ → Bool → BroadcastState → Course
 answered_at x None taken asks shown = rests x
 answered_at x (Some e) taken asks shown =

@@ -34,6 +34,7 @@ pub record IsEndOf (own peer contact seen bearer : ℕ) (e : LinkEnd) : Type 0 w
   pub begun : is_up e.fsm.state ≡ true → is_some e.session ≡ true
   pub session : IfSome e.session (IsSessionOn bearer)
 
+-- the near and the far end are from this node to this peer, each on its bearer, under the pair's contact numbers
 pub record IsPairOfEnds (x : PairEnds) : Type 0 where
   pub two_bearers : x.bearer ≤ 1
   pub near : IfSome x.near (IsEndOf x.own x.peer x.contact x.seen x.bearer)
@@ -52,6 +53,7 @@ pub record HasCarrier (carrier : Option LinkEnd) (e : LinkEnd) : Type 0 where
   pub up : is_held e.fsm.state ≡ true → is_up_at carrier ≡ true
   pub tunnel : is_held e.fsm.state ≡ true → IfSome carrier (λ (c : LinkEnd). 0 < tunnels_of c.session)
 
+-- either end is held only for the sake of the other link
 pub record AreHeldRightly (x : PairEnds) : Type 0 where
   pub near : IfSome x.near (HasCarrier x.far)
   pub far : IfSome x.far (HasCarrier x.near)

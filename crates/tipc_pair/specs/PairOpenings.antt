@@ -32,6 +32,7 @@ pub record IsCarriedIn (x : PairEnds) (taken : List Taken) (c : Carried) : Type 
   pub speaks : SpeaksOfFar x first.packet (told_by (other x.bearer) c)
   pub by_is : c.by ≡ first.by
 
+-- the first of these packets, if there is one, carries nothing for the far link
 abbrev pub NoneCarriedIn : PairEnds → List Taken → Type 0
 NoneCarriedIn x taken = (first : Taken) (others : List Taken) (t : Tunnelled) → taken ≡ first ∷ others → SpeaksOfFar x first.packet t → ⊥
 

@@ -29,9 +29,11 @@ pub record Outset : Type 0 where
   pub course : Course
   pub given : PairOutcome
 
+-- nothing came of any packet
 abbrev pub nothing_given : PairOutcome
 nothing_given = PairOutcome.Took []
 
+-- an event by which nothing is given
 abbrev pub quietly : Course → Outset
 quietly c = record { course = c; given = nothing_given }
 
@@ -44,6 +46,7 @@ made_near false x = nothing (with_made x)
 abbrev pub seen_as : PairEnds → Course → Course
 seen_as x c = record c { pair = facing x.bearer c.pair }
 
+-- this opening made this of the pair; `o` is its course and what it gave
 abbrev pub Happened : PairEnds → Opening → Outset → Type 0
 Happened x Opening.rests o = o ≡ quietly (nothing x)
 Happened x (Opening.makes bearer is_mended) o = o ≡ quietly (at_bearer bearer x (made_near is_mended))
@@ -77,6 +80,7 @@ pub record Reply : Type 0 where
   pub bearer : ℕ
   pub shown : BroadcastState
 
+-- the course of the answer; no answer is nothing
 abbrev pub replied : Option Reply → PairEnds → Course
 replied None x = nothing x
 replied (Some r) x = at_bearer r.bearer x (answered_near 0 false r.shown)
@@ -101,6 +105,7 @@ ShowsIn (Opening.ticks shown) = IsShowable shown
 ShowsIn (Opening.hears bearer es er p by shown) = IsShowable shown
 ShowsIn other = Unit {0}
 
+-- what the answer shows of broadcast fits its places
 abbrev pub ShowsAtLast : Option Reply → Type 0
 ShowsAtLast None = Unit {0}
 ShowsAtLast (Some r) = IsShowable r.shown

@@ -20,6 +20,7 @@ previous_sent own (header.Bundler bundle) previous = own
 previous_sent own (header.Fragmenter fragment) previous = own
 previous_sent own _ previous = previous
 
+-- the packet as it names its node once this node sent it; its acknowledgement and number stay
 abbrev pub as_sent : ℕ → Fields → Fields
 as_sent own p = sent_as p.acknowledgement p.sequence (previous_sent own p.header p.previous) p
 

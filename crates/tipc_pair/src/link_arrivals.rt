@@ -73,7 +73,8 @@ impl LinkEnds {
         requires fits { Fits (view incoming.now.packet) }
         ensures { IfOk result (λ outcome.
             Does (hears incoming.now.packet.header incoming.now.sender_epoch incoming.now.receiver_epoch
-            (view incoming.now.packet) incoming.now.by incoming.now.shown self.old) self.new event.old event.new outcome) }
+            (view incoming.now.packet) incoming.now.by incoming.now.shown self.old)
+            self.new event.old event.new outcome) }
     {
         match incoming.packet.header {
             Header::Reset(said) => self.hear_reset(
@@ -104,7 +105,8 @@ impl LinkEnds {
         requires fits { Fits (view incoming.now.packet) }
         ensures { IfOk result (λ outcome.
             Does (met_near incoming.now.sender_epoch incoming.now.receiver_epoch
-            (view incoming.now.packet) incoming.now.by incoming.now.shown self.old) self.new event.old event.new outcome) }
+            (view incoming.now.packet) incoming.now.by incoming.now.shown self.old)
+            self.new event.old event.new outcome) }
     {
         let held = self.far_is_up();
         let Some(link) = &mut self.near else {
@@ -137,7 +139,8 @@ impl LinkEnds {
         ensures { IfOk result (λ outcome.
             Does (activate_shown number
             (met_near incoming.now.sender_epoch incoming.now.receiver_epoch
-            (view incoming.now.packet) incoming.now.by incoming.now.shown) self.old) self.new event.old event.new outcome) }
+            (view incoming.now.packet) incoming.now.by incoming.now.shown) self.old)
+            self.new event.old event.new outcome) }
     {
         match self.standing(number) {
             Standing::Lower => Ok(LinkOutcome::Ignored(Why::Contact)),
@@ -158,7 +161,8 @@ impl LinkEnds {
         ensures { IfOk result (λ outcome.
             Does (activate_higher number
             (met_near incoming.now.sender_epoch incoming.now.receiver_epoch
-            (view incoming.now.packet) incoming.now.by incoming.now.shown) self.old) self.new event.old event.new outcome) }
+            (view incoming.now.packet) incoming.now.by incoming.now.shown) self.old)
+            self.new event.old event.new outcome) }
     {
         let ended = self.in_contact();
         self.rise(alloc, number, event)?;

@@ -71,7 +71,8 @@ impl LinkEnds {
     ) -> Result<(Way, PairOutcome), NoMemory>
         requires bearer { bearer ≤ 1 }
         requires fits { Fits (view incoming.now.packet) }
-        ensures { IfOk result (λ told. IsPrepared (facing bearer self.now) incoming.now.sender_epoch incoming.now.receiver_epoch
+        ensures { IfOk result (λ told.
+            IsPrepared (facing bearer self.now) incoming.now.sender_epoch incoming.now.receiver_epoch
             (view incoming.now.packet) incoming.now.by incoming.now.shown told.0 told.1) }
     {
         match self.standing_with(&incoming.packet.header) {
@@ -91,7 +92,8 @@ impl LinkEnds {
         requires bearer { bearer ≤ 1 }
         requires fits { Fits (view incoming.now.packet) }
         requires same { standing_with self.now incoming.now.packet.header ≡ Standing.Same }
-        ensures { IfOk result (λ told. IsPrepared (facing bearer self.now) incoming.now.sender_epoch incoming.now.receiver_epoch
+        ensures { IfOk result (λ told.
+            IsPrepared (facing bearer self.now) incoming.now.sender_epoch incoming.now.receiver_epoch
             (view incoming.now.packet) incoming.now.by incoming.now.shown told.0 told.1) }
     {
         let Some(arriving) = self.prepare_quietly(alloc, bearer, incoming)? else {
@@ -111,7 +113,8 @@ impl LinkEnds {
     ) -> Result<(Way, PairOutcome), NoMemory>
         requires bearer { bearer ≤ 1 }
         requires fits { Fits (view incoming.now.packet) }
-        ensures { IfOk result (λ told. IsPrepared (facing bearer self.now) incoming.now.sender_epoch incoming.now.receiver_epoch
+        ensures { IfOk result (λ told.
+            IsPrepared (facing bearer self.now) incoming.now.sender_epoch incoming.now.receiver_epoch
             (view incoming.now.packet) incoming.now.by incoming.now.shown told.0 told.1) }
     {
         let mut event = Leaving::new(alloc);

@@ -55,14 +55,17 @@ abbrev pub heard_more : ℕ → Option SessionEnd → Fields → ℕ → ℕ →
 heard_more bearer None p by = none_more
 heard_more bearer (Some s) p by = more_at bearer s.epoch (moving (heard s by p.acknowledgement (content_of p)))
 
+-- what a session takes that hears a packet, by the peer's epoch; nothing where there is none
 abbrev pub heard_taken : ℕ → Option SessionEnd → Fields → ℕ → ℕ → ℕ → List (List ℕ)
 heard_taken bearer None p by = none_more
 heard_taken bearer (Some s) p by = more_at bearer s.peer_epoch (taken_of s p by (content_of p))
 
+-- what the near link's session numbers as it hears a packet, where it hears it
 abbrev pub linked_more : PairEnds → LinkEnd → Outcome → Fields → ℕ → ℕ → ℕ → List (List ℕ)
 linked_more x e o p by =
     if is_heard p.header o.change then heard_more x.bearer (after e o).session p by else none_more
 
+-- what the near link's session takes of a packet, where it hears it
 abbrev pub linked_taken : PairEnds → LinkEnd → Outcome → Fields → ℕ → ℕ → ℕ → List (List ℕ)
 linked_taken x e o p by =
     if is_heard p.header o.change then heard_taken x.bearer (after e o).session p by else none_more
@@ -71,10 +74,12 @@ linked_taken x e o p by =
 abbrev pub met_more : PairEnds → LinkEnd → Outcome → Fields → ℕ → ℕ → ℕ → List (List ℕ)
 met_more x e o p by = both_more (linked_more x e o p by) (followed_more (with_near x (arrival_end e o p by)) o.change)
 
+-- what is numbered when a packet meets the near end, where that was made
 abbrev pub met_at_more : ℕ → ℕ → Fields → ℕ → PairEnds → Option LinkEnd → ℕ → ℕ → List (List ℕ)
 met_at_more es er p by x None = none_more
 met_at_more es er p by x (Some e) = met_more x e (outcome_of e.fsm p.header es er (is_up_at x.far)) p by
 
+-- what is taken when a packet meets the near end, where that was made
 abbrev pub met_at_taken : ℕ → ℕ → Fields → ℕ → PairEnds → Option LinkEnd → ℕ → ℕ → List (List ℕ)
 met_at_taken es er p by x None = none_more
 met_at_taken es er p by x (Some e) = linked_taken x e (outcome_of e.fsm p.header es er (is_up_at x.far)) p by
@@ -88,6 +93,7 @@ hears_more (header.Activate said) es er p by x =
     if said.contact == x.seen then met_at_more es er p by x x.near else none_more
 hears_more other es er p by x = met_at_more es er p by x x.near
 
+-- what is taken of a packet of any kind: of a RESET or an ACTIVATE nothing
 abbrev pub hears_taken : Header → ℕ → ℕ → Fields → ℕ → PairEnds → ℕ → ℕ → List (List ℕ)
 hears_taken (header.Reset said) es er p by x = none_more
 hears_taken (header.Activate said) es er p by x = none_more
@@ -101,6 +107,7 @@ tunnelled_more epoch x None = none_more
 tunnelled_more epoch x (Some e) =
     followed_more (with_near x (tunnelled_down e epoch)) (on_peer_tunnel e.fsm epoch).change
 
+-- what is numbered where a tunnel packet takes the far link down; a duplicate takes none down
 abbrev pub taken_down_more : ChangeoverType → ℕ → PairEnds → ℕ → ℕ → List (List ℕ)
 taken_down_more kind.Duplicate epoch x = none_more
 taken_down_more kind.Original epoch x = tunnelled_more epoch (turned x) x.far
@@ -110,10 +117,13 @@ taken_down_more kind.Original epoch x = tunnelled_more epoch (turned x) x.far
 abbrev pub counted_in : Received → ℕ → Taken → List (List ℕ) → List (List ℕ)
 counted_in r epoch t line = if is_next r epoch t then take (length (freed r t)) (drop r.taken line) else []
 
+-- what the far end's record counts of the peer's line by the packet inside; an empty run has none inside
 abbrev pub inner_counted : Tunnelled → ℕ → LinkEnd → List (List ℕ) → List (List ℕ)
 inner_counted t by e line =
     if t.count == 0 then [] else counted_in (named (record_of e) t.old.epoch) t.old.epoch (inside_of t by) line
 
+-- what is taken through a tunnel packet, on the far link's bearer and by the old epoch that it names; nothing where the
+-- far end isn't made
 abbrev pub inner_taken_at : View → PairEnds → Tunnelled → ℕ → Option LinkEnd → ℕ → ℕ → List (List ℕ)
 inner_taken_at y x t by None = none_more
 inner_taken_at y x t by (Some e) =
@@ -126,6 +136,7 @@ unwraps_more x _ _ _ none_taken = none_more
 unwraps_more x _ _ _ (as_it_is first others plain) = none_more
 unwraps_more x _ _ _ (tunnel first others t speaks) = taken_down_more t.kind t.old.epoch x
 
+-- what is taken through a tunnel packet, as packets are unwrapped
 abbrev pub unwraps_taken : View → (x : PairEnds) (taken : List Taken) (c : Course) (carried : List Taken)
     → Unwraps x taken c carried → ℕ → ℕ → List (List ℕ)
 unwraps_taken y x _ _ _ none_taken = none_more
@@ -133,12 +144,14 @@ unwraps_taken y x _ _ _ (as_it_is first others plain) = none_more
 unwraps_taken y x _ _ _ (tunnel first others t speaks) =
     inner_taken_at y (taken_down t.kind t.old.epoch x).pair t first.by (taken_down t.kind t.old.epoch x).pair.far
 
+-- what is numbered as the packets that an arrival took are opened
 abbrev pub opens_more : (x : PairEnds) (o : LinkOutcome) (c : Course) (given : PairOutcome) → OpensInto x o c given
     → ℕ → ℕ → List (List ℕ)
 opens_more x _ _ _ (opens unwraps brings) = unwraps_more x _ _ _ unwraps
 opens_more x _ _ _ deferred = none_more
 opens_more x _ _ _ ignored = none_more
 
+-- what is taken on the far link as the packets that an arrival took are opened
 abbrev pub opens_taken : View → (x : PairEnds) (o : LinkOutcome) (c : Course) (given : PairOutcome)
     → OpensInto x o c given → ℕ → ℕ → List (List ℕ)
 opens_taken y x _ _ _ (opens unwraps brings) = unwraps_taken y x _ _ _ unwraps
@@ -147,12 +160,14 @@ opens_taken y x _ _ _ ignored = none_more
 
 -- ---- a whole arrival
 
+-- all that is numbered in an arrival, by bearer and the node's own epoch
 abbrev pub arrival_more : (x : PairEnds) (es er : ℕ) (p : Fields) (by : ℕ) (shown : BroadcastState) (c : Course)
     (given : PairOutcome) → Arrives x es er p by shown c given → ℕ → ℕ → List (List ℕ)
 arrival_more x es er p by shown c given a =
     let h = hears p.header es er p by shown x in
     both_more (hears_more p.header es er p by x) (opens_more h.course.pair h.outcome a.opened given a.opens)
 
+-- all that is taken in an arrival, by bearer and the peer's epoch
 abbrev pub arrival_taken : View → (x : PairEnds) (es er : ℕ) (p : Fields) (by : ℕ) (shown : BroadcastState)
     (c : Course) (given : PairOutcome) → Arrives x es er p by shown c given → ℕ → ℕ → List (List ℕ)
 arrival_taken y x es er p by shown c given a =

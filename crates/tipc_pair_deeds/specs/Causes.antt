@@ -52,6 +52,7 @@ abbrev pub TunnelsTell : Type 0
 TunnelsTell = (x : PairEnds) (epoch : ℕ)
     → MayFall (turned x) cause.PeerTunnel epoch (λ s. s.peer ≡ Some epoch) (taken_down kind.Original epoch x).changes
 
+-- a duplicate tunnel packet tells nothing of links
 abbrev pub DuplicatesTell : Type 0
 DuplicatesTell = (x : PairEnds) (epoch : ℕ) → (taken_down kind.Duplicate epoch x).changes ≡ []
 
@@ -67,6 +68,7 @@ NumbersTell = (x : PairEnds) (number : ℕ) → IsPairOfEnds x → in_contact x 
     × ((risen x number).changes ≡ (ended_on 0 (facing 0 x).near ++ ended_on 1 (facing 1 x).near)
     ++ ContactDown (x.contact, x.seen) states number ∷ [])
 
+-- without contact a higher contact number tells nothing
 abbrev pub NumbersAreNoted : Type 0
 NumbersAreNoted = (x : PairEnds) (number : ℕ) → in_contact x ≡ false → (risen x number).changes ≡ []
 
@@ -82,6 +84,7 @@ pub data MayRise (x : PairEnds) : List Transition → Type 0 where
   begins : (own peer : ℕ) → is_up_at x.far ≡ false
       → MayRise x (LinkUp x.bearer own peer ∷ ContactUp (x.contact, x.seen) ∷ [])
 
+-- each packet that meets the near link and is no RESET tells nothing, or of a link that went up
 abbrev pub MeetsTell : Type 0
 MeetsTell = (x : PairEnds) (es er : ℕ) (p : Fields) (by : ℕ) (shown : BroadcastState)
     → ((said : Reset) → p.header ≡ header.Reset said → ⊥) → MayRise x (met_near es er p by shown x).course.changes

@@ -24,10 +24,12 @@ use Rattle.tipc_pair_deeds.specs.PairDeeds.{Did, IsOfPair, Takes, both_more, cut
 abbrev pub MakesAreDeeds : Type 0
 MakesAreDeeds = (v y : View) (x : PairEnds) → ArePaired v y → IsOfPair v x → x.near ≡ None → Takes v y (rests (with_made x)) none_more none_more
 
+-- a bearer is mended
 abbrev pub MendsAreDeeds : Type 0
 MendsAreDeeds = (v y : View) (bearer : ℕ) (x : PairEnds) → ArePaired v y → IsOfPair v x
     → Takes v y (at_bearer bearer x mended) none_more none_more
 
+-- a bearer is cut, with all that follows
 abbrev pub CutsAreDeeds : Type 0
 CutsAreDeeds = (v y : View) (bearer : ℕ) (x : PairEnds) → ArePaired v y → IsOfPair v x → IsPairOfEnds x
     → Takes v y (at_bearer bearer x cut_near) (cut_at_more (facing bearer x) (facing bearer x).near) none_more
@@ -57,6 +59,7 @@ StepsAreDeeds = (v y : View) (x : PairEnds) (e : LinkEnd) (call : Call) (epoch :
     → Takes v y (stepped x e (outcome e.fsm call) epoch shown)
     (followed_more (with_near x (after e (outcome e.fsm call))) (outcome e.fsm call).change) none_more
 
+-- ends that are held are released
 abbrev pub ReleasesAreDeeds : Type 0
 ReleasesAreDeeds = (v y : View) (x : PairEnds) → ArePaired v y → IsOfPair v x → Takes v y (released x) none_more none_more
 

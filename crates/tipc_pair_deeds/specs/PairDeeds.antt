@@ -39,9 +39,11 @@ pub record IsToldSince (since : ℕ) (v : View) (o : Outgoing) : Type 0 where
 abbrev pub none_more : ℕ → ℕ → List (List ℕ)
 none_more bearer epoch = []
 
+-- these packets on this bearer, under this epoch, and no others
 abbrev pub more_at : ℕ → ℕ → List (List ℕ) → ℕ → ℕ → List (List ℕ)
 more_at bearer epoch packets = put_at none_more bearer (put_at (none_more bearer) epoch packets)
 
+-- on each bearer and under each epoch first the ones and then the others
 abbrev pub both_more : (ℕ → ℕ → List (List ℕ)) → (ℕ → ℕ → List (List ℕ)) → ℕ → ℕ → List (List ℕ)
 both_more first second b k = first b k ++ second b k
 
@@ -58,6 +60,7 @@ pub record Took (v y after : View) (c : Course) (numbered taken : ℕ → ℕ �
   pub did : Did v y after (sent_in c) numbered taken
   pub pair : IsOfPair after c.pair
 
+-- by deeds of v, beside y, the pair takes this course, and these packets are numbered and taken
 abbrev pub Takes : View → View → Course → (ℕ → ℕ → List (List ℕ)) → (ℕ → ℕ → List (List ℕ)) → Type 0
 Takes v y c numbered taken = (after : View) × Took v y after c numbered taken
 
@@ -84,9 +87,11 @@ abbrev pub called_more : PairEnds → Option LinkEnd → Call → ℕ → ℕ �
 called_more x None call = none_more
 called_more x (Some e) call = followed_more (with_near x (after e (outcome e.fsm call))) (outcome e.fsm call).change
 
+-- what is numbered by what follows a tick at the near link
 abbrev pub tick_more : PairEnds → ℕ → ℕ → List (List ℕ)
 tick_more x = called_more x x.near (TickPasses (is_up_at x.far))
 
+-- what is numbered by what follows where the near link's bearer is cut; nothing where no end was made
 abbrev pub cut_at_more : PairEnds → Option LinkEnd → ℕ → ℕ → List (List ℕ)
 cut_at_more x None = none_more
 cut_at_more x (Some e) = followed_more (with_near x (cut_end e (is_up_at x.far))) (on_cut e.fsm (is_up_at x.far)).change

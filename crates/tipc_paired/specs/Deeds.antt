@@ -50,6 +50,7 @@ MayCall x y bearer other = Unit {0}
 abbrev pub begun_by : Node → LinkEnd → Begun
 begun_by n e = record { peer_epoch = known e.fsm.peer; contact = n.contact; peer_contact = n.seen }
 
+-- the wire when the session of this end, whose link went up, has begun
 abbrev pub with_begun : Node → Wire → LinkEnd → Wire
 with_begun n w e = record { end = Some e; begun = put_at w.begun e.fsm.own (Some (begun_by n e)); line = w.line; got = w.got }
 
@@ -59,6 +60,7 @@ with_begun n w e = record { end = Some e; begun = put_at w.begun e.fsm.own (Some
 abbrev pub ended_with : ℕ → LinkEnd → LinkEnd
 ended_with contact e = record e { fsm = (contact_ended e.fsm).after; contact = contact }
 
+-- the node when its contact has ended
 abbrev pub parted : View → View
 parted x = record {
   node = record x.node { contact = x.node.contact + 1 };
@@ -70,6 +72,7 @@ parted x = record {
 abbrev pub forgot_with : ℕ → LinkEnd → LinkEnd
 forgot_with seen e = record e { fsm = (forget_peer e.fsm).after; peer_contact = seen }
 
+-- the node without contact when the peer has shown this contact number
 abbrev pub risen : View → ℕ → View
 risen x number = record {
   node = record x.node { seen = number };
@@ -79,6 +82,7 @@ risen x number = record {
 
 -- ---- sessions
 
+-- the wire with this session of its link end
 abbrev pub with_going : Wire → LinkEnd → SessionEnd → Wire
 with_going w e s = with_end w (with_session e s)
 
@@ -113,6 +117,7 @@ pub data MayTell (w : Wire) : Outgoing → Type 0 where
   sends : (s : SessionEnd) (k : ℕ) (packet : Kept) → session_on w ≡ Some s
       → slice_get (kept_of s.sending) k ≡ Some packet → MayTell w (packet_frame s packet.number packet.packet)
 
+-- a frame as a node x tells it on a bearer, with the contact numbers and counts of that moment
 abbrev pub framed : View → View → ℕ → Outgoing → Frame
 framed x y bearer o = record {
   bearer = bearer;
@@ -192,6 +197,7 @@ pub record Counts (x y : View) (bearer : ℕ) (e : LinkEnd) (r : Received) (more
   pub takes : length ((x.wires bearer).got r.epoch ++ more) ≡ r.taken
   pub holds : IsReceiver r.held r.taken ((y.wires bearer).line r.epoch)
 
+-- the wire when its receiving record has become r, as so many packets more were taken of the record's session
 abbrev pub with_counted : Wire → LinkEnd → Received → List (List ℕ) → Wire
 with_counted w e r more = record {
   end = Some (recorded e r);

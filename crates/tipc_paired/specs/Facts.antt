@@ -28,6 +28,7 @@ pub record IsOfPeer (x y : View) (bearer epoch : ℕ) : Type 0 where
   pub before : (y.wires bearer).end ≡ None → epoch < y.node.contact
   pub on_record : (e : LinkEnd) (r : Received) → (x.wires bearer).end ≡ Some e → record_of e ≡ Some r → r.epoch ≤ epoch
 
+-- where a call takes a link up, the epoch of the peer is one under which it can be up
 abbrev pub RisesAreOfPeer : Type 0
 RisesAreOfPeer = (x y : View) (b : ℕ) (e : LinkEnd) (call : Call) → ArePaired x y → (x.wires b).end ≡ Some e
     → MayCall x y b call → (outcome e.fsm call).change ≡ Up
@@ -46,6 +47,7 @@ pub record IsNamed (x : View) (bearer epoch : ℕ) : Type 0 where
   pub highest : epoch ≤ end.fsm.highest
   pub known : (peer : ℕ) → end.fsm.peer ≡ Some peer → epoch ≤ peer
 
+-- each session of the peer that began in the present contact was named so
 abbrev pub BegunWasNamed : Type 0
 BegunWasNamed = (x y : View) (b epoch : ℕ) (g : Begun) → ArePaired x y → (y.wires b).begun epoch ≡ Some g
     → g.peer_contact ≡ x.node.contact → IsNamed x b epoch

@@ -35,6 +35,7 @@ ShowsContact other own theirs = Unit {0}
 
 -- ---- a node and its link ends
 
+-- what is true of a node's numbers: addresses and the boot have 32 bits, contact numbers 64
 pub record IsNode (n : Node) : Type 0 where
   pub own : n.own < 2 ^ 32
   pub peer : n.peer < 2 ^ 32
@@ -43,6 +44,7 @@ pub record IsNode (n : Node) : Type 0 where
   pub contact : boot_of n.contact ≡ n.boot
   pub seen : n.seen < 2 ^ 64
 
+-- what is true of a node's link end on a bearer
 pub record IsEnd (n : Node) (bearer : ℕ) (e : LinkEnd) : Type 0 where
   pub own : e.own ≡ n.own
   pub peer : e.peer ≡ n.peer
@@ -219,6 +221,8 @@ pub record IsHalf (x y : View) : Type 0 where
   pub frames : (k : ℕ) (f : Frame) → slice_get x.told k ≡ Some f
       → IsFrame x.node.own (x.wires f.bearer) (y.wires f.bearer) f
 
+-- Two nodes are paired: what each keeps and told is true beside the other, and so is what they know of each other's
+-- contact numbers and epochs.
 pub record ArePaired (x y : View) : Type 0 where
   pub peers : ArePeers (side_of x) (said_by x) (side_of y) (said_by y)
   pub here : IsHalf x y

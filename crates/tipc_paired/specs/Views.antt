@@ -58,9 +58,11 @@ unused = record { end = None; begun = λ epoch. None; line = λ epoch. []; got =
 abbrev pub es_of : List ℕ → ℕ
 es_of bytes = long_at 0 bytes
 
+-- the second epoch of an envelope: the receiver's, as the sender knew it
 abbrev pub er_of : List ℕ → ℕ
 er_of bytes = long_at 2 bytes
 
+-- the session of a link end whose link is up
 abbrev pub session_in : Option LinkEnd → Option SessionEnd
 session_in None = None
 session_in (Some e) = if is_up e.fsm.state then e.session else None
@@ -69,6 +71,7 @@ session_in (Some e) = if is_up e.fsm.state then e.session else None
 unfoldable pub session_on : Wire → Option SessionEnd
 session_on w = session_in w.end
 
+-- the own epoch of a link end, or the contact number under which one would be made
 abbrev pub epoch_in : ℕ → Option LinkEnd → ℕ
 epoch_in contact None = contact
 epoch_in contact (Some e) = e.fsm.own
@@ -77,6 +80,7 @@ epoch_in contact (Some e) = e.fsm.own
 unfoldable pub epoch_on : Node → Wire → ℕ
 epoch_on n w = epoch_in n.contact w.end
 
+-- the link states of an end, where it was made
 abbrev pub fsm_in : Option LinkEnd → Option Fsm
 fsm_in end = option_map (λ e. e.fsm) end
 
@@ -88,9 +92,11 @@ IsApart x = (b : ℕ) (e : LinkEnd) → (x.wires b).end ≡ Some e → is_up e.f
 abbrev pub side_of : View → Side
 side_of x = record { own = x.node.contact; seen = x.node.seen; ends = λ b. fsm_in (x.wires b).end }
 
+-- what a frame says of contacts: its bearer, both epochs, and the contact numbers that its sender had then
 abbrev pub notice_of : Frame → Notice
 notice_of f = record { bearer = f.bearer; es = es_of f.bytes; er = er_of f.bytes; contact = f.contact; peer_contact = f.peer_contact }
 
+-- what a node has said of contacts, in all frames that it told
 abbrev pub said_by : View → List Notice
 said_by x = map notice_of x.told
 
@@ -100,11 +106,14 @@ said_by x = map notice_of x.told
 abbrev pub put_at : {A : Type 0} → (ℕ → A) → ℕ → A → ℕ → A
 put_at f place value k = if k == place then value else f k
 
+-- the node with another wire on this bearer
 abbrev pub with_wire : View → ℕ → Wire → View
 with_wire x b w = record { node = x.node; wires = put_at x.wires b w; told = x.told }
 
+-- the wire with another link end
 abbrev pub with_end : Wire → LinkEnd → Wire
 with_end w e = record { end = Some e; begun = w.begun; line = w.line; got = w.got }
 
+-- the node when it has told one more frame
 abbrev pub with_told : View → Frame → View
 with_told x f = record { node = x.node; wires = x.wires; told = x.told ++ f ∷ [] }

@@ -20,10 +20,12 @@ pub trait Pick {
         ensures { gives self.now turn count result };
 
     // What it gives is below the count.
-    ghost below: { (p : Self) (turn count k : ℕ) → turn < 2 ^ 64 → 1 ≤ count → count ≤ 32768 → gives p turn count k → k < count };
+    ghost below: { (p : Self) (turn count k : ℕ) → turn < 2 ^ 64 → 1 ≤ count → count ≤ 32768
+        → gives p turn count k → k < count };
 
     // It gives one number.
-    ghost one: { (p : Self) (turn count k l : ℕ) → turn < 2 ^ 64 → 1 ≤ count → count ≤ 32768 → gives p turn count k → gives p turn count l → k ≡ l };
+    ghost one: { (p : Self) (turn count k l : ℕ) → turn < 2 ^ 64 → 1 ≤ count → count ≤ 32768
+        → gives p turn count k → gives p turn count l → k ≡ l };
 }
 
 /// The same pick by reference.

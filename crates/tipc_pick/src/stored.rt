@@ -15,8 +15,10 @@ pub type PickClosure = Box<dyn Fn(u64, u64) -> u64 + Send + Sync>;
 pub struct StoredPick {
     pick: PickClosure,
     ghost callable: { (turn count : ℕ) → turn < 2 ^ 64 → 1 ≤ count → count ≤ 32768 → PickClosure.pre pick turn count },
-    ghost below: { (turn count k : ℕ) → turn < 2 ^ 64 → 1 ≤ count → count ≤ 32768 → PickClosure.post pick turn count k → k < count },
-    ghost one: { (turn count k l : ℕ) → turn < 2 ^ 64 → 1 ≤ count → count ≤ 32768 → PickClosure.post pick turn count k → PickClosure.post pick turn count l → k ≡ l },
+    ghost below: { (turn count k : ℕ) → turn < 2 ^ 64 → 1 ≤ count → count ≤ 32768
+        → PickClosure.post pick turn count k → k < count },
+    ghost one: { (turn count k l : ℕ) → turn < 2 ^ 64 → 1 ≤ count → count ≤ 32768
+        → PickClosure.post pick turn count k → PickClosure.post pick turn count l → k ≡ l },
 }
 
 impl StoredPick {

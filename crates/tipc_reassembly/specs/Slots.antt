@@ -72,14 +72,17 @@ pub record BringsItems (s : Joining) (came : List CameItem) (opened : List Opene
 
 -- ---- the packets that are whole
 
+-- what was opened gave a packet, and wasn't passed over
 abbrev pub IsWholePacket : Opened → Type 0
 IsWholePacket (Whole packet by) = Unit {0}
 IsWholePacket (Passed place) = ⊥
 
+-- the packet that was opened, if it wasn't passed over
 abbrev pub whole_in : Opened → List (List ℕ)
 whole_in (Whole packet by) = packet ∷ []
 whole_in (Passed place) = []
 
+-- the packets that were opened, in order, without those that were passed over
 abbrev pub packets_in : List Opened → List (List ℕ)
 packets_in opened = flat_map whole_in opened
 

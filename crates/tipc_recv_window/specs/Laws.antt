@@ -5,6 +5,7 @@ use Rattle.tipc_types.specs.declared.packet_lists.Taken.{Taken}
 use Rattle.tipc_recv_window.specs.declared.outcomes.Place.TheVariants.{InOrder, Deferred, Old}
 use Rattle.tipc_recv_window.specs.Receiving.{advanced, arrived_at, held_at, IsReceiving, next_of, past_wanted, place_at, Receiving}
 
+-- two positions at most 32,000 apart that have the same number of 16 bits are the same
 abbrev pub NumbersTellPositions : Type 0
 NumbersTellPositions = (p q : ℕ) → p ≤ q + 32000 → q ≤ p + 32000 → number_of p ≡ number_of q → p ≡ q
 
@@ -15,6 +16,8 @@ pub record ArrivesByPosition (r : Receiving) (wanted position : ℕ) (packet : T
   pub behind : position < wanted → place_at r (past_wanted r (number_of position)) ≡ Old
   pub unchanged : position < wanted → arrived_at r (past_wanted r (number_of position)) packet ≡ r
 
+-- A packet within 32,000 positions of the wanted one does what the distance of the positions says. The window may count
+-- from elsewhere, as long as it wants the same number.
 abbrev pub AllArriveByPosition : Type 0
 AllArriveByPosition = (r : Receiving) (wanted position : ℕ) (packet : Taken)
     → number_of wanted ≡ number_of r.wanted → position ≤ wanted + 32000 → wanted ≤ position + 32000
@@ -27,11 +30,14 @@ pub record AnswersByPosition (r : Receiving) (wanted position : ℕ) : Type 0 wh
   pub deferred : (place_at r (past_wanted r (number_of position)) ≡ Deferred)
       ↔ ((wanted < position) × (position < wanted + 50) × (held_at r (position - wanted) ≡ None))
 
+-- A packet within 32,000 positions of the wanted one is answered by the distance of the positions. The window may count
+-- from elsewhere, as long as it wants the same number.
 abbrev pub AllAnswersByPosition : Type 0
 AllAnswersByPosition = (r : Receiving) (wanted position : ℕ)
     → number_of wanted ≡ number_of r.wanted → position ≤ wanted + 32000 → wanted ≤ position + 32000
     → AnswersByPosition r wanted position
 
+-- how packets are held by their distance from the wanted one, and how they come nearer
 pub record HoldsByPosition : Type 0 where
   -- a packet that isn't old is held at its distance
   pub arrival : (r : Receiving) (d : ℕ) (packet : Taken) → (place_at r d ≡ Old → ⊥) → held_at (arrived_at r d packet) d ≡ Some packet

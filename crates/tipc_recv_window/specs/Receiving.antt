@@ -94,6 +94,7 @@ pub record Coming : Type 0 where
   pub held : Option Taken
   pub count : ℕ
 
+-- what this packet will make of a window
 abbrev pub coming : Receiving → Taken → Coming
 coming r packet = record {
   wanted = r.wanted;

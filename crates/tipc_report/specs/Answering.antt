@@ -28,6 +28,7 @@ is_visible byte = nat_le 33 byte && nat_le byte 126
 abbrev pub is_shown : List ℕ → Bool
 is_shown body = nat_le 1 (length body) && nat_le (length body) 64 && list_all is_visible body
 
+-- the text of a body: its characters where they are shown, else `-`
 unfoldable pub body_text : List ℕ → List ℕ
 body_text body = if is_shown body then body else codes "-"
 
@@ -37,9 +38,11 @@ message_text (Payload importance form from to kind lower upper code droppable bo
     spaced (codes "got" ∷ port_text from.node.word from.port ∷ decimal code ∷ decimal (length body) ∷ body_text body ∷ [])
 message_text (Items withdrawal items) = codes "got"
 
+-- what an event of a subscription tells: 1 a publication, 2 a withdrawal, any other the timeout
 abbrev pub what_word : ℕ → List ℕ
 what_word what = if what == 1 then codes "published" else if what == 2 then codes "withdrawn" else codes "timeout"
 
+-- an event of a subscription: what it tells, the bounds of the range, and the port that published it
 abbrev pub event_text : Event → List ℕ
 event_text event = spaced (what_word event.what ∷ decimal event.lower ∷ decimal event.upper ∷ port_text event.at_node event.at_port ∷ [])
 
@@ -58,6 +61,7 @@ why_words why.OutOfStep = codes "out-of-step"
 why_words why.NotMember = codes "not-member"
 why_words why.Old = codes "old"
 
+-- what became of a frame that arrived
 abbrev pub arrival_text : Arrival → List ℕ
 arrival_text (arrival.Took messages) = spaced (codes "took" ∷ decimal messages ∷ [])
 arrival_text arrival.Deferred = codes "deferred"

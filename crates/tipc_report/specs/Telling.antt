@@ -18,6 +18,7 @@ hex_digit n = if nat_lt n 10 then 48 + n else 87 + n
 abbrev pub byte_text : ℕ → List ℕ
 byte_text byte = hex_digit (byte / 16) ∷ hex_digit (byte % 16) ∷ []
 
+-- bytes as digits, with nothing between
 abbrev pub hex_text : List ℕ → List ℕ
 hex_text bytes = flat_map byte_text bytes
 

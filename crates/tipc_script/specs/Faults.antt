@@ -11,6 +11,7 @@ use Rattle.tipc_script.specs.Splitting.{Left, whole, first_token, behind}
 use Rattle.tipc_script.specs.Kinds.{Kind, NewNode, OldNode, AnyNode, BearerNumber, AnyNumber, FrameNumber, RoundsNumber, TimesNumber, SendWord, FormWord, ScopeWord, FilterWord, ImportanceWord, BodyText, takes, is_remark}
 use Rattle.tipc_script.specs.Grammar.{Row, row_nodes, row_of}
 
+-- a fault: the byte place in the line, from 1, and why
 abbrev pub Fault : Type 0
 Fault = ℕ × LineWhy
 
@@ -31,6 +32,8 @@ why_not FilterWord = why.Word
 why_not ImportanceWord = why.Word
 why_not BodyText = why.Body
 
+-- the fault of the first of these tokens against a test: at its place where it doesn't pass, and at the end of the line
+-- where there is no token
 abbrev pub fault_among : List (List ℕ) → (List ℕ → Bool) → LineWhy → ℕ → ℕ → Option Fault
 fault_among [] test reason place end = Some (end, why.End)
 fault_among (token ∷ tokens) test reason place end = if test token then None else Some (place, reason)
@@ -48,6 +51,7 @@ abbrev pub more_fault : List (List ℕ) → ℕ → Option Fault
 more_fault [] place = None
 more_fault (token ∷ tokens) place = Some (place, why.End)
 
+-- the fault of a line that should be over: a token is left
 unfoldable pub end_fault : Left → Option Fault
 end_fault left = more_fault left.tokens left.place
 
@@ -60,6 +64,7 @@ fault_in (kind ∷ kinds) left = option_or (first_fault (takes kind) (why_not ki
 unfoldable pub row_fault : Row → Left → Option Fault
 row_fault row left = fault_in (row.kinds left) left
 
+-- the fault of what stands behind the first word; a first word that has no row is the fault itself, at place 1
 abbrev pub fault_by : Option Row → Left → Option Fault
 fault_by None left = Some (1, why.Command)
 fault_by (Some row) left = row_fault row left

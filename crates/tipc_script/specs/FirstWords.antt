@@ -3,6 +3,7 @@ use Rattle.tipc_script.specs.declared.parsing.FirstWord.{FirstWord}
 use Rattle.tipc_script.specs.declared.parsing.FirstWord.TheVariants.{Node, Mend, Cut, Tick, Restart, Link, Mark, Socket, Close, Publish, Withdraw, Subscribe, Event, Cancel, Send, Repeat, Receive, Drain, Burst, Arrive, Pump, Settle, Air, Show, Links, Table, Flow}
 use Rattle.tipc_script.specs.Grammar.{Row, node_row, mend_row, cut_row, tick_row, restart_row, link_row, mark_row, socket_row, close_row, publish_row, withdraw_row, subscribe_row, event_row, cancel_row, send_row, repeat_row, receive_row, drain_row, burst_row, arrive_row, pump_row, settle_row, air_row, show_row, links_row, table_row, flow_row}
 
+-- the row of a first word, as the code names it
 abbrev pub row_for : FirstWord → Row
 row_for Node = node_row
 row_for Mend = mend_row

@@ -50,6 +50,7 @@ unfoldable pub is_count : List ℕ → Bool
 is_count [] = false
 is_count (sign ∷ digits) = sign == 42 && is_number 0 70000 digits
 
+-- whether a token is a body, in either spelling
 abbrev pub is_body : List ℕ → Bool
 is_body token = is_text token || is_count token
 
@@ -67,6 +68,7 @@ importance_in token =
     if bytes_eq token (codes "low") then Some Low
     else (if bytes_eq token (codes "medium") then Some Medium else (if bytes_eq token (codes "high") then Some High else (if bytes_eq token (codes "critical") then Some Critical else None)))
 
+-- whether a token is an importance
 abbrev pub is_importance : List ℕ → Bool
 is_importance token = is_some (importance_in token)
 
@@ -80,6 +82,7 @@ scope_in token =
     if bytes_eq token (codes "zone") then Some scope.Zone
     else (if bytes_eq token (codes "cluster") then Some scope.Cluster else (if bytes_eq token (codes "node") then Some scope.Node else None))
 
+-- whether a token is a scope
 abbrev pub is_scope : List ℕ → Bool
 is_scope token = is_some (scope_in token)
 
@@ -91,6 +94,7 @@ scope_of token = unwrap_or (scope_in token) scope.Zone
 unfoldable pub filter_in : List ℕ → Option Filter
 filter_in token = if bytes_eq token (codes "ports") then Some filter.Ports else (if bytes_eq token (codes "service") then Some filter.Service else None)
 
+-- whether a token is a filter
 abbrev pub is_filter : List ℕ → Bool
 is_filter token = is_some (filter_in token)
 
@@ -102,6 +106,7 @@ filter_of token = unwrap_or (filter_in token) filter.Ports
 abbrev pub is_name : List ℕ → Bool
 is_name token = bytes_eq token (codes "name")
 
+-- whether a token is the word that tells how the message finds its destination: `name` or `port`
 abbrev pub is_form : List ℕ → Bool
 is_form token = is_name token || bytes_eq token (codes "port")
 

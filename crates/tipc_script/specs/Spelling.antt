@@ -20,17 +20,20 @@ use Rattle.tipc_script.specs.Kinds.{is_remark, is_visible, pattern}
 abbrev pub spaced : List (List ℕ) → List ℕ
 spaced words = join_with_byte 32 words
 
+-- the word for an importance
 abbrev pub importance_word : Importance → List ℕ
 importance_word Low = codes "low"
 importance_word Medium = codes "medium"
 importance_word High = codes "high"
 importance_word Critical = codes "critical"
 
+-- the word for a scope
 abbrev pub scope_word : Scope → List ℕ
 scope_word scope.Zone = codes "zone"
 scope_word scope.Cluster = codes "cluster"
 scope_word scope.Node = codes "node"
 
+-- the word for a filter of subscriptions
 abbrev pub filter_word : Filter → List ℕ
 filter_word filter.Ports = codes "ports"
 filter_word filter.Service = codes "service"
@@ -92,9 +95,11 @@ words_of (Links node) = codes "links" ∷ decimal node ∷ []
 words_of (Table node) = codes "table" ∷ decimal node ∷ []
 words_of (Flow from to) = codes "flow" ∷ decimal from ∷ decimal to ∷ []
 
+-- how a line is spelled
 abbrev pub spelling_of : Line → List ℕ
 spelling_of line = spaced (words_of line)
 
+-- the number of a node, 1 to 32
 abbrev pub IsNode : ℕ → Type 0
 IsNode n = (1 ≤ n) × (n ≤ 32)
 
@@ -110,6 +115,7 @@ IsText body = (1 ≤ length body) × (length body ≤ 64) × All (λ byte. (33 �
 abbrev pub IsPattern : List ℕ → Type 0
 IsPattern body = (length body ≤ 70000) × (body ≡ pattern (length body))
 
+-- a body that a line can tell: characters, or the pattern
 abbrev pub IsBody : List ℕ → Type 0
 IsBody body = IsText body ⊎ IsPattern body
 

@@ -81,7 +81,8 @@ impl Model for SendWindow {
     } };
 
     ghost invariant = { λ w.
-        IsStored w.numbered w.released (vec_len w.stored) (vec_capacity w.stored) (deque_len w.waiting) w.stored.items };
+        IsStored w.numbered w.released (vec_len w.stored) (vec_capacity w.stored) (deque_len w.waiting)
+        w.stored.items };
 }
 
 impl SendWindow {

@@ -35,6 +35,7 @@ abbrev pub hearers : SocketTable → Bool → Span → List ℕ
 hearers s arrived range =
     filter (λ port. list_any (is_at port) (aimed_at s.live arrived range) && has_room (queue_at s port)) s.ports.present
 
+-- whether messages of this form are sent by name, to the port that was picked
 abbrev pub is_by_name : Form → Bool
 is_by_name Named = true
 is_by_name _ = false

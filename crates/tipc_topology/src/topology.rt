@@ -66,7 +66,8 @@ impl Model for Topology {
 
     ghost view = { λ t. record { made = t.made; room = t.room; kept = t.kept.items } };
 
-    ghost invariant = { λ t. AreKept (record { made = t.made; room = t.room; kept = t.kept.items }) × (length t.kept.items ≤ 256) };
+    ghost invariant = { λ t. AreKept (record { made = t.made; room = t.room; kept = t.kept.items })
+        × (length t.kept.items ≤ 256) };
 }
 
 /// Where the subscription of a number is.

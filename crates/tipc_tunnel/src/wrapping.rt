@@ -18,8 +18,13 @@ fn tunnel_header(
     count: u16,
     number: u16,
 ) -> Header
-    ensures header { result ≡
-        header_of 0 (record { kind = kind; old = record { bearer = old_bearer; epoch = old_epoch }; count = count; number = number; inner = [] }) }
+    ensures header { result ≡ header_of 0 (record {
+      kind = kind;
+      old = record { bearer = old_bearer; epoch = old_epoch };
+      count = count;
+      number = number;
+      inner = [];
+    }) }
     ensures epoch { old_epoch < 2 ^ 64 }
 {
     Header::Changeover(Changeover {
@@ -55,8 +60,13 @@ pub fn wrap(
     requires run { IsRun count number inner.now }
     requires inner { MayBeWrapped inner.now }
     requires size { length inner.now ≤ 1452 }
-    ensures packet { IfOk result (λ bytes. bytes ≡ spelling
-        (tunnel_packet (record { kind = kind; old = old; count = count; number = number; inner = numbered number inner.now }))) }
+    ensures packet { IfOk result (λ bytes. bytes ≡ spelling (tunnel_packet (record {
+      kind = kind;
+      old = old;
+      count = count;
+      number = number;
+      inner = numbered number inner.now;
+    }))) }
     ensures within { IfOk result (λ bytes. length bytes ≤ 1500) }
 {
     let carried = numbered(alloc, number, inner)?;

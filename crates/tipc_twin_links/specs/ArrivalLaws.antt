@@ -51,10 +51,12 @@ TakenAreGiven = (y : PairEnds) (b : Bearer) (t : Traffic) (s : State) (before : 
 
 -- ---- what follows leaves the records as they are
 
+-- what follows a change of the near link leaves both receiving records as they are
 abbrev pub FollowingKeeps : Type 0
 FollowingKeeps = (x : PairEnds) (change : Change) (epoch : ℕ)
     → records_of (following x change epoch).pair ≡ records_of x
 
+-- the release of held ends leaves both receiving records as they are
 abbrev pub ReleaseKeeps : Type 0
 ReleaseKeeps = (x : PairEnds) → records_of (released x).pair ≡ records_of x
 

@@ -46,6 +46,7 @@ up_beside x e s = record {
 abbrev pub session_by : Lines → SendingEnd → ℕ
 session_by l e = e.epoch + 1 - l.first
 
+-- more packets were numbered in a session of the far link
 abbrev pub far_more : Traffic → ℕ → List (List ℕ) → Traffic
 far_more t session packets = turned_traffic (near_more (turned_traffic t) session packets)
 

@@ -39,6 +39,7 @@ pub data Events (kind : Event → Bool) (b : Bearer) (s : State) : State → Typ
 abbrev pub Follows : Bearer → State → State → Type 0
 Follows b s s' = Events is_sent b s s'
 
+-- by events of the receiver a state becomes another
 abbrev pub Takes : Bearer → State → State → Type 0
 Takes b s s' = Events is_received b s s'
 

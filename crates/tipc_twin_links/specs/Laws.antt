@@ -25,9 +25,11 @@ use Rattle.tipc_twin_links.specs.Steps.{ArePlain, AreTaken, CanTravel, failed, f
 
 -- ---- what follows
 
+-- two sound links stay sound through events of a kind
 abbrev pub StaySound : Type 0
 StaySound = (kind : Event → Bool) (b : Bearer) (s s' : State) → Sound b s → Events kind b s s' → Sound b s'
 
+-- what is reached from the beginning of a contact is still so after events of a kind
 abbrev pub StayReached : Type 0
 StayReached = (kind : Event → Bool) (b : Bearer) (s s' : State) → IsReached (seen b s) → Events kind b s s'
     → IsReached (seen b s')
@@ -38,6 +40,7 @@ pub record TakesNone (s s' : State) : Type 0 where
   pub far : s'.far_record ≡ s.far_record
   pub delivered : s'.delivered ≡ s.delivered
 
+-- the sender's events take nothing
 abbrev pub TakeNone : Type 0
 TakeNone = (b : Bearer) (s s' : State) → Follows b s s' → TakesNone s s'
 
@@ -76,11 +79,14 @@ RisesFollow = (b : Bearer) (x : SendingEnds) (t : Traffic) (s : State) → Stand
     → x.near.state ≡ Reset
     → (b ≡ First → x.far.state ≢ Up) → Become b (near_up x) t s
 
+-- the first bearer's link goes up while the other one is up: it takes the traffic over, with duplicates of what isn't
+-- acknowledged
 abbrev pub SwitchesFollow : Type 0
 SwitchesFollow = (b : Bearer) (own : ℕ) (x : SendingEnds) (t : Traffic) (s : State) → StandFor b x t s → Sound b s → b ≡ First
     → x.near.state ≡ Reset → x.far.state ≡ Up → CanTravel Duplicate (far_session x) x.far.window.unacked
     → Become b (switched own x) t s
 
+-- a link goes down while the other one is up, which gets originals of what isn't acknowledged
 abbrev pub FailoversFollow : Type 0
 FailoversFollow = (b : Bearer) (own : ℕ) (x : SendingEnds) (t : Traffic) (s : State) (last : Sending) → StandFor b x t s
     → Sound b s

@@ -22,6 +22,7 @@ pub record IsPlain (put : List (List ℕ)) (index : ℕ) (packet : List ℕ) : T
 abbrev pub told_of : ChangeoverType → OldSession → ℕ → ℕ → Kept → Tunnelled
 told_of kind old own count k = record { kind = kind; old = old; count = count; number = k.number; inner = inner_of own k }
 
+-- what the marker of an empty run tells: its session alone
 abbrev pub told_by_marker : ChangeoverType → OldSession → Tunnelled
 told_by_marker kind old = record { kind = kind; old = old; count = 0; number = 0; inner = [] }
 

@@ -19,10 +19,12 @@ pub record Records : Type 0 where
   pub near : Option Received
   pub far : Option Received
 
+-- the receiving record of an end; none where no end was made
 abbrev pub record_at : Option LinkEnd → Option Received
 record_at None = None
 record_at (Some e) = record_of e
 
+-- the receiving records of both ends of a pair
 abbrev pub records_of : PairEnds → Records
 records_of y = record { near = record_at y.near; far = record_at y.far }
 

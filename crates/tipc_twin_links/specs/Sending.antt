@@ -29,12 +29,15 @@ pub record SendingEnds : Type 0 where
 abbrev pub beside : ℕ → ℕ
 beside bearer = 1 - bearer
 
+-- both ends, seen from the other one
 abbrev pub turned : SendingEnds → SendingEnds
 turned x = record { bearer = beside x.bearer; near = x.far; far = x.near }
 
+-- the state of a link end, as the law of two links has it: up, held or reset
 abbrev pub state_as : LinkState → EndState
 state_as state = if is_up state then Up else (if is_held state then Held else Reset)
 
+-- the send window of a session; an empty one where there was none
 abbrev pub window_in : Option SessionEnd → Sending
 window_in None = fresh
 window_in (Some s) = s.sending
@@ -44,11 +47,13 @@ abbrev pub end_seen : ℕ → Option LinkEnd → SendingEnd
 end_seen contact None = record { epoch = contact; state = Reset; window = fresh }
 end_seen contact (Some e) = record { epoch = e.fsm.own; state = state_as e.fsm.state; window = window_in e.session }
 
+-- the ends of a pair, as senders
 abbrev pub ends_seen : PairEnds → SendingEnds
 ends_seen x = record { bearer = x.bearer; near = end_seen x.contact x.near; far = end_seen x.contact x.far }
 
 -- ---- how they stand for a state
 
+-- the number of a bearer
 abbrev pub number_as : Bearer → ℕ
 number_as First = 0
 number_as Second = 1

@@ -14,9 +14,11 @@ use Rattle.tipc_twin_links.specs.Sending.{SendingEnd, SendingEnds, beside}
 
 -- ---- an end that stays up
 
+-- the end with another window
 abbrev pub with_window : SendingEnd → Sending → SendingEnd
 with_window e w = record { epoch = e.epoch; state = e.state; window = w }
 
+-- the near link's window is another one
 abbrev pub near_window : SendingEnds → Sending → SendingEnds
 near_window x w = record { bearer = x.bearer; near = with_window x.near w; far = x.far }
 
@@ -24,6 +26,7 @@ near_window x w = record { bearer = x.bearer; near = with_window x.near w; far =
 abbrev pub with_put : Traffic → List (List ℕ) → Traffic
 with_put t packets = record { put = t.put ++ packets; near = t.near; far = t.far }
 
+-- more packets were numbered in a session of the near link
 abbrev pub near_more : Traffic → ℕ → List (List ℕ) → Traffic
 near_more t session packets = record { put = t.put; near = with_more t.near session packets; far = t.far }
 
@@ -43,12 +46,15 @@ pub record AreTaken (s : State) (count : ℕ) : Type 0 where
 
 -- ---- an end that goes up or down
 
+-- the end when its link is up, with this window
 abbrev pub with_up : SendingEnd → Sending → SendingEnd
 with_up e w = record { epoch = e.epoch; state = Up; window = w }
 
+-- the end when its link has gone down, with this window: it has the next epoch, and is held
 abbrev pub with_down : SendingEnd → Sending → SendingEnd
 with_down e w = record { epoch = e.epoch + 1; state = Held; window = w }
 
+-- the end when it is held no longer, with this window
 abbrev pub with_reset : SendingEnd → Sending → SendingEnd
 with_reset e w = record { epoch = e.epoch; state = Reset; window = w }
 
@@ -64,6 +70,7 @@ let_go x w = record { bearer = x.bearer; near = with_reset x.near w; far = x.far
 abbrev pub near_session : SendingEnds → OldSession
 near_session x = record { bearer = x.bearer; epoch = x.near.epoch }
 
+-- the far link's present session, as tunnel packets name it
 abbrev pub far_session : SendingEnds → OldSession
 far_session x = record { bearer = beside x.bearer; epoch = x.far.epoch }
 
@@ -81,6 +88,8 @@ pub record CanTravel (kind : ChangeoverType) (old : OldSession) (packets : List 
 abbrev pub left : OldSession → ℕ → Sending → List (List ℕ)
 left old own w = run_of Original old own (kept_of w) ++ filter (λ packet. not (is_tunnel packet)) w.waiting
 
+-- the ends when the near link went down while the far one was up, which got what was left; `w` is the near window then,
+-- of which nothing is asked
 abbrev pub failed : ℕ → SendingEnds → Sending → SendingEnds
 failed own x w = record {
   bearer = x.bearer;
@@ -92,6 +101,7 @@ failed own x w = record {
 abbrev pub taken_from : OldSession → ℕ → Sending → List (List ℕ)
 taken_from old own w = run_of Duplicate old own (kept_of w) ++ w.waiting
 
+-- the ends when the near link went up in place of the far one
 abbrev pub switched : ℕ → SendingEnds → SendingEnds
 switched own x = record {
   bearer = x.bearer;

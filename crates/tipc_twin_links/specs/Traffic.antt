@@ -8,6 +8,7 @@ pub record Lines : Type 0 where
   pub first : ℕ
   pub line : ℕ → List (List ℕ)
 
+-- the epoch of a session, which counts from 1, by that of the first one
 abbrev pub epoch_of : ℕ → ℕ → ℕ
 epoch_of first session = first + session - 1
 
@@ -25,5 +26,6 @@ pub record Traffic : Type 0 where
   pub near : Lines
   pub far : Lines
 
+-- what a node sends in a contact, seen from the other link
 abbrev pub turned : Traffic → Traffic
 turned t = record { put = t.put; near = t.far; far = t.near }

@@ -20,6 +20,7 @@ use Rattle.tipc_twin_links.specs.Ends.{AreListed, IsUpAt, far_more, gets}
 
 -- ---- the table of link states
 
+-- whether a change takes the link up
 abbrev pub is_rise : Change → Bool
 is_rise GoesUp = true
 is_rise other = false
@@ -45,9 +46,11 @@ pub record IsRunning (bearer : ℕ) (o : Option LinkEnd) (e : LinkEnd) : Type 0 
   pub epoch : session.epoch < 2 ^ 64
   pub going_on : is_last e.fsm.own ≡ false
 
+-- where there is an end on this bearer and its link is up, it is running
 abbrev pub RunsWhereUp : ℕ → Option LinkEnd → Type 0
 RunsWhereUp bearer o = (e : LinkEnd) → o ≡ Some e → is_up e.fsm.state ≡ true → IsRunning bearer o e
 
+-- both ends of a pair are running where their links are up
 pub record AreEnds (x : PairEnds) : Type 0 where
   pub two_bearers : x.bearer ≤ 1
   pub near : RunsWhereUp x.bearer x.near

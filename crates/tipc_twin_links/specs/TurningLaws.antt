@@ -17,18 +17,23 @@ use Rattle.tipc_twin_links.specs.Following.{Become}
 abbrev pub CutsTurn : Type 0
 CutsTurn = (fsm : Fsm) (held : Bool) → Turns held fsm (on_cut fsm held)
 
+-- a tick passes
 abbrev pub TicksTurn : Type 0
 TicksTurn = (fsm : Fsm) (held : Bool) → Turns held fsm (on_tick fsm held)
 
+-- a RESET arrives
 abbrev pub ResetsTurn : Type 0
 ResetsTurn = (fsm : Fsm) (es : ℕ) (held : Bool) → Turns held fsm (on_reset fsm es held)
 
+-- an ACTIVATE arrives
 abbrev pub ActivatesTurn : Type 0
 ActivatesTurn = (fsm : Fsm) (es er : ℕ) (held : Bool) → Turns held fsm (on_activate fsm es er)
 
+-- a STATE or a numbered packet arrives
 abbrev pub TrafficTurns : Type 0
 TrafficTurns = (fsm : Fsm) (es er : ℕ) (held : Bool) → Turns held fsm (on_traffic fsm es er)
 
+-- an original tunnel packet speaks of the link
 abbrev pub TunnelsTurn : Type 0
 TunnelsTurn = (fsm : Fsm) (epoch : ℕ) → Turns true fsm (on_peer_tunnel fsm epoch)
 

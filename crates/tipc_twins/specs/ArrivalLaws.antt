@@ -30,6 +30,7 @@ FirstLands = (x y : View) (message : Joining) (es er : ℕ) (p : Fields) (h : Ar
     → in_contact (pair_of x message) ≡ true → Reaches x y 0 es er p
     → MayLand (pair_of x message) es er p (takes_in x y h).traffic (takes_in x y h).state
 
+-- a frame that y told lands at the link of bearer 1 of x, from which pair, packets and state are seen then
 abbrev pub SecondLands : Type 0
 SecondLands = (x y : View) (message : Joining) (es er : ℕ) (p : Fields) (h : AreTwins x y)
     → in_contact (pair_of x message) ≡ true → Reaches x y 1 es er p
@@ -41,6 +42,7 @@ abbrev pub FarIsMade : Type 0
 FarIsMade = (x y : View) (message : Joining) (h : AreTwins x y)
     → IsMadeFor (pair_of x message) (takes_in x y h).traffic
 
+-- where a packet of the link of bearer 1 is a tunnel packet, the end on bearer 0 is made
 abbrev pub NearIsMade : Type 0
 NearIsMade = (x y : View) (message : Joining) (h : AreTwins x y)
     → IsMadeFor (turned (pair_of x message)) (turned_traffic (takes_in x y h).traffic)
@@ -50,6 +52,7 @@ abbrev pub PairsStand : Type 0
 PairsStand = (x y : View) (message : Joining) (h : AreTwins x y) → in_contact (pair_of x message) ≡ true
     → Stands (pair_of x message) First (takes_in x y h).traffic (takes_in x y h).state (taken_of (takes_in x y h))
 
+-- the pair stands for what was sent, seen from the link of bearer 1
 abbrev pub TurnedPairsStand : Type 0
 TurnedPairsStand = (x y : View) (message : Joining) (h : AreTwins x y) → in_contact (pair_of x message) ≡ true
     → Stands (turned (pair_of x message)) Second (turned_traffic (takes_in x y h).traffic)
@@ -67,6 +70,7 @@ abbrev pub FirstAcknowledges : Type 0
 FirstAcknowledges = (x y : View) (message : Joining) (es er : ℕ) (p : Fields) (h : AreTwins x y)
     → Reaches x y 0 es er p → AcknowledgesTaken (pair_of x message) es er p (sends_in x y h).state
 
+-- what x hears acknowledged on bearer 1 was taken
 abbrev pub SecondAcknowledges : Type 0
 SecondAcknowledges = (x y : View) (message : Joining) (es er : ℕ) (p : Fields) (h : AreTwins x y)
     → Reaches x y 1 es er p

@@ -61,6 +61,7 @@ pub record Carriage : Type 0 where
 abbrev pub taken_of : Carriage → List (List ℕ)
 taken_of c = take (length c.state.delivered) c.traffic.put
 
+-- a link of which nothing was numbered in the contact; its first session will have this epoch
 abbrev pub unsent : ℕ → Lines
 unsent first = record { first = first; line = λ session. [] }
 

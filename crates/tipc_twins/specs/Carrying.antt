@@ -40,6 +40,7 @@ with_in f own theirs value k l = if (k == own) && (l == theirs) then value else 
 abbrev pub none_taken : ℕ → ℕ → List (List ℕ)
 none_taken own theirs = []
 
+-- these packets in the contact of these numbers, and none in any other
 abbrev pub taken_in : ℕ → ℕ → List (List ℕ) → ℕ → ℕ → List (List ℕ)
 taken_in own theirs packets = with_in none_taken own theirs packets
 

@@ -33,6 +33,7 @@ use Rattle.tipc_twins.specs.Twins.{AreTwins, GoesOn, sends_in, takes_in}
 
 -- ---- the two stay what they are to each other
 
+-- two nodes that know nothing of each other are twins
 abbrev pub NewAreTwins : Type 0
 NewAreTwins = (x y : View) → IsNew x → IsNew y → AreTwins x y
 
@@ -50,32 +51,39 @@ EnteringKeeps = (x x' y : View) (t : Traffic) (h : AreTwins x y) → GoesOn x x'
 abbrev pub LeavingKeeps : Type 0
 LeavingKeeps = (x x' y : View) → AreTwins x y → GoesOn x x' y → Leaves x x' → IsApart x' → AreTwins x' y
 
+-- x learns a higher number of y, without contact
 abbrev pub LearningKeeps : Type 0
 LearningKeeps = (x x' y : View) → AreTwins x y → GoesOn x x' y → Learns x x' → IsApart x' → AreTwins x' y
 
 -- ---- deeds
 
+-- x leaves a contact in which a link of it is up
 abbrev pub PartsKeep : Type 0
 PartsKeep = (x y : View) (b : ℕ) (e : LinkEnd) → AreTwins x y → (x.wires b).end ≡ Some e → is_up e.fsm.state ≡ true
     → AreTwins (parted x) y
 
+-- a link of x goes down, and with it the contact
 abbrev pub FallsKeep : Type 0
 FallsKeep = (x y : View) (b : ℕ) (e : LinkEnd) (call : Call) (cause : Cause) → AreTwins x y → (x.wires b).end ≡ Some e
     → MayCall x y b call → (outcome e.fsm call).change ≡ Down cause
     → AreTwins (parted (with_wire x b (with_end (x.wires b) (after e (outcome e.fsm call))))) y
 
+-- x is restarted, in a later boot
 abbrev pub RestartsKeep : Type 0
 RestartsKeep = (x y : View) (boot : ℕ) → AreTwins x y → x.node.boot < boot → boot < 2 ^ 32
     → AreTwins (restarted x boot) y
 
+-- y shows a higher contact number, without contact
 abbrev pub ShowsKeep : Type 0
 ShowsKeep = (x y : View) (number : ℕ) → AreTwins x y → x.node.seen < number → number < 2 ^ 64 → IsApart x
     → AreTwins (risen x number) y
 
+-- every deed of x leaves its contact numbers and epochs in order; `m` are those of y
 abbrev pub DeedsKeepNumbers : Type 0
 DeedsKeepNumbers = (x y x' : View) (n m : Numbers) → ArePaired x y → AreNumbers x y n → AreNumbers y x m → Does x y x'
     → (n' : Numbers) × AreNumbers x' y n'
 
+-- every deed of x leaves its receiving records those of sessions of y
 abbrev pub DeedsKeepRecords : Type 0
 DeedsKeepRecords = (x y x' : View) (n : Numbers) → ArePaired x y → AreNumbers x y n → AreRecorded x y → Does x y x'
     → AreRecorded x' y

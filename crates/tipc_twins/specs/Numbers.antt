@@ -42,6 +42,7 @@ pub record IsTimely (n : Numbers) (contact peer_contact : ℕ) (f : Frame) : Typ
   pub alone : (es_of f.bytes ≤ n.first f.bearer f.contact)
       ⊎ ((f.peer_contact ≡ n.met f.contact) × (n.met f.contact ≤ peer_contact))
 
+-- what is true of the contact numbers and epochs that x began and told, beside its peer y
 pub record AreNumbers (x y : View) (n : Numbers) : Type 0 where
   pub now : n.met x.node.contact ≡ x.node.seen
   -- out of contact each bearer is at its first epoch
@@ -79,5 +80,6 @@ pub record IsRecorded (y x : View) (b : ℕ) (a : Received) : Type 0 where
   pub told : IsToldBy x.told b a.epoch y.node.seen
   pub used : IsUnused a ⊎ ((g : Begun) × ((x.wires b).begun a.epoch ≡ Some g) × IsTimelyFor y g)
 
+-- each receiving record of y, on either bearer, is of what x told and sent
 abbrev pub AreRecorded : View → View → Type 0
 AreRecorded y x = (b : ℕ) (a : Received) → record_at (y.wires b).end ≡ Some a → IsRecorded y x b a

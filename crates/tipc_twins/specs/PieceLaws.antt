@@ -22,10 +22,12 @@ abbrev pub MakesKeep : Type 0
 MakesKeep = (v y : View) (x : PairEnds) → AreTwins v y → IsOfPair v x → x.near ≡ None
     → Keeps v y (rests (with_made x)) none_more
 
+-- a bearer is mended
 abbrev pub MendsKeep : Type 0
 MendsKeep = (v y : View) (bearer : ℕ) (x : PairEnds) → AreTwins v y → IsOfPair v x
     → Keeps v y (at_bearer bearer x mended) none_more
 
+-- the STATE that is due is sent
 abbrev pub AnswersKeep : Type 0
 AnswersKeep = (v y : View) (bearer : ℕ) (x : PairEnds) (taken : ℕ) (asks : Bool) (shown : BroadcastState) → AreTwins v y
     → IsOfPair v x → IsShowable shown → Keeps v y (at_bearer bearer x (answered_near taken asks shown)) none_more

@@ -49,6 +49,7 @@ abbrev pub traffic_from : Bearer → Traffic → Traffic
 traffic_from First t = t
 traffic_from Second t = turned_traffic t
 
+-- the state of two links, seen from the link of a bearer
 abbrev pub state_from : Bearer → State → State
 state_from First s = s
 state_from Second s = turned s

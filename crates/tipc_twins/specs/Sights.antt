@@ -61,6 +61,7 @@ pub record WasTold (x : View) (f : Frame) : Type 0 where
       → is_traffic p.header ≡ true
       → (frame.contact ≡ f.contact) × (frame.peer_contact ≡ f.peer_contact)
 
+-- a sight tells what this talker keeps and did, and its frames in the air are some of those that the talker told
 pub record IsSeen (x : Talker) (v : Sight) : Type 0 where
   pub node : x.view.node ≡ v.node
   pub pair : x.pair ≡ pair_seen v
@@ -102,6 +103,7 @@ sent_as v v' w o = record {
   peer_numbered = w.numbered o.bearer (er_of o.frame);
 }
 
+-- the node with the contact numbers that its pair has
 abbrev pub node_with : Node → PairEnds → Node
 node_with n x = record { own = n.own; peer = n.peer; boot = n.boot; contact = x.contact; seen = x.seen }
 
@@ -210,12 +212,15 @@ pub record IsSpoken (own : ℕ) (f : Frame) : Type 0 where
 
 -- ---- what holds, whatever either does
 
+-- two nodes that know nothing of each other are talking
 abbrev pub StartsSeen : Type 0
 StartsSeen = (v w : Sight) → IsNew v → IsNew w → AreSeen v w
 
+-- what holds of the one and the other holds of the other and the one
 abbrev pub TurnedSeen : Type 0
 TurnedSeen = (v w : Sight) → AreSeen v w → AreSeen w v
 
+-- a node is restarted
 abbrev pub RestartsSeen : Type 0
 RestartsSeen = (v v' w : Sight) → AreSeen v w → Restarts v v' → v.node.boot + 1 < 2 ^ 32 → AreSeen v' w
 
@@ -234,11 +239,14 @@ GivesSeen = (v w : Sight) (opening : Opening) (o : Outset) → AreSeen v w → M
     → Happened (pair_seen v) opening o
     → GivesFront v w o
 
+-- in each contact what a node was given is a front of what the other one put
 abbrev pub FrontsSeen : Type 0
 FrontsSeen = (v w : Sight) → AreSeen v w → (own theirs : ℕ) → IsPrefixOf (v.given own theirs) (w.put theirs own)
 
+-- each link end is true of its node: addresses, contact numbers and epochs
 abbrev pub EndsSeen : Type 0
 EndsSeen = (v w : Sight) (bearer : ℕ) (e : LinkEnd) → AreSeen v w → v.ends bearer ≡ Some e → IsEnd v.node bearer e
 
+-- each frame in the air is an envelope and a packet of the node that sent it
 abbrev pub FramesSeen : Type 0
 FramesSeen = (v w : Sight) (k : ℕ) (f : Frame) → AreSeen v w → slice_get v.sent k ≡ Some f → IsSpoken v.node.own f

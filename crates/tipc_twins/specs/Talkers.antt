@@ -71,6 +71,7 @@ pub record IsNewTalker (x : Talker) : Type 0 where
   pub put : (own theirs : ℕ) → x.put own theirs ≡ []
   pub given : (own theirs : ℕ) → x.given own theirs ≡ []
 
+-- two nodes that know nothing of each other are talking
 abbrev pub NewAreTalking : Type 0
 NewAreTalking = (x y : Talker) → IsNewTalker x → IsNewTalker y → AreTalking x y
 
@@ -91,9 +92,11 @@ abbrev pub MakesTalk : Type 0
 MakesTalk = (x y : Talker) (bearer : ℕ) → AreTalking x y → (facing bearer x.pair).near ≡ None
     → TalksOn x y (at_bearer bearer x.pair (λ z. rests (with_made z))) none_more
 
+-- a bearer is mended
 abbrev pub MendsTalk : Type 0
 MendsTalk = (x y : Talker) (bearer : ℕ) → AreTalking x y → TalksOn x y (at_bearer bearer x.pair mended) none_more
 
+-- the STATE that is due is sent
 abbrev pub AnswersTalk : Type 0
 AnswersTalk = (x y : Talker) (bearer taken : ℕ) (asks : Bool) (shown : BroadcastState) → AreTalking x y
     → IsShowable shown → TalksOn x y (at_bearer bearer x.pair (answered_near taken asks shown)) none_more
@@ -119,6 +122,7 @@ abbrev pub put_more : Talker → List ℕ → ℕ → ℕ → List (List ℕ)
 put_more x m = with_in x.put x.view.node.contact x.view.node.seen
     (x.put x.view.node.contact x.view.node.seen ++ m ∷ [])
 
+-- x when it has put a message, with another view and pair
 abbrev pub posted : Talker → List ℕ → View → PairEnds → Talker
 posted x m view pair = record { view = view; pair = pair; put = put_more x m; given = x.given }
 
@@ -137,6 +141,7 @@ SendsTalk = (x y : Talker) (pair : PairEnds) (m : List ℕ) (limit : ℕ) (frame
 abbrev pub begun_again : Talker → ℕ → Talker
 begun_again x boot = went_on x (restarted x.view boot) (alone x.view.node.own x.view.node.peer boot)
 
+-- x is restarted, and the two talk on
 abbrev pub RestartsTalk : Type 0
 RestartsTalk = (x y : Talker) (boot : ℕ) → AreTalking x y → x.view.node.boot < boot → boot < 2 ^ 32
     → AreTalking (begun_again x boot) y
@@ -161,6 +166,7 @@ abbrev pub given_more : Talker → List Opened → ℕ → ℕ → List (List �
 given_more x opened = with_in x.given x.view.node.contact x.view.node.seen
     (x.given x.view.node.contact x.view.node.seen ++ packets_in opened)
 
+-- x when it was given messages, with another view and pair
 abbrev pub given_on : Talker → List Opened → View → PairEnds → Talker
 given_on x opened view pair = record { view = view; pair = pair; put = x.put; given = given_more x opened }
 

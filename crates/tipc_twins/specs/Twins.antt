@@ -13,6 +13,8 @@ pub record Crosses (x y : View) (n : Numbers) : Type 0 where
   pub taken : (own theirs : ℕ) → IsTaken y theirs own (carriage own theirs)
   pub counted : (own theirs : ℕ) → AreCounted x y own theirs (carriage own theirs)
 
+-- Two nodes, each with a pair of two links, are twins: they are paired, their contact numbers, epochs and records are
+-- in order, and in each contact either takes what the other sends.
 pub record AreTwins (x y : View) : Type 0 where
   pub paired : ArePaired x y
   pub here : Numbers
@@ -37,5 +39,6 @@ pub record GoesOn (x x' y : View) : Type 0 where
 abbrev pub sends_in : (x y : View) → AreTwins x y → Carriage
 sends_in x y h = h.sends.carriage x.node.contact x.node.seen
 
+-- what x takes in its present contact
 abbrev pub takes_in : (x y : View) → AreTwins x y → Carriage
 takes_in x y h = h.receives.carriage x.node.seen x.node.contact
