@@ -46,6 +46,7 @@ abbrev pub GreetsWhere : Bool → List Publication → List Message → Type 0
 GreetsWhere true live ms = IsBulk live ms
 GreetsWhere false live ms = ms ≡ []
 
+-- the messages that tell a peer of the live publications, where a contact with it began by one of these changes
 abbrev pub Greets : List Publication → List Transition → List Message → Type 0
 Greets live changes ms = GreetsWhere (begins changes) live ms
 

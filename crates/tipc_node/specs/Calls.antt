@@ -118,6 +118,8 @@ abbrev pub Ticks : NodeState → By → NodeState → List Outgoing → Answer �
 Ticks n by n' frames answered =
     (n' ≡ concluded n by Tick (tick_work n) answer.Done) × (frames ≡ frames_all deed.Tick n.neighbours) × (answered ≡ answer.Done)
 
+-- What a call makes of a node: the node before it, who made the call, the call, the node after it, the frames that
+-- leave, and the answer. A multicast and an arrival aren't performed.
 abbrev pub Performs : NodeState → By → EventNote → NodeState → List Outgoing → Answer → Type 0
 Performs n by Socket n' frames answered =
     Makes n by Socket (socket_refusal n.sockets) (with_sockets_of (begun n) (with_socket n.sockets (next_port n.sockets))) (answer.Socket (next_port n.sockets)) n' frames answered

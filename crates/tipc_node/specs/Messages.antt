@@ -14,6 +14,7 @@ use Rattle.tipc_message.specs.Wire.{message_of, packet_of}
 
 -- ---- packets
 
+-- the bytes of a packet, where there is one
 abbrev pub spelled : Option Fields → List ℕ
 spelled (Some p) = spelling p
 spelled None = []
@@ -42,6 +43,7 @@ limit_of Medium = 100
 limit_of High = 150
 limit_of Critical = 200
 
+-- the port of that number at the node with this address word
 abbrev pub port_id : ℕ → ℕ → PortId
 port_id word port = record { node = record { word = word }; port = port }
 

@@ -23,6 +23,7 @@ use Rattle.tipc_node.specs.declared.neighbours.Deed.TheVariants as deed
 abbrev pub no_broadcast : Bool → BroadcastState
 no_broadcast in_step = record { acknowledged = 0; next = 1; start = 1; gap = 0; in_step = in_step }
 
+-- a neighbour by its parts: the pair to it, and whether the node is in step with its broadcast
 abbrev pub neighbour : PairEnds → Bool → Neighbour
 neighbour pair in_step = record { pair = pair; in_step = in_step }
 
@@ -36,19 +37,21 @@ is_of_contact (ContactUp contact) = true
 is_of_contact (ContactDown contact states shown) = true
 is_of_contact other = false
 
--- whether a contact began by one of these changes
+-- whether a contact began
 abbrev pub is_beginning : Transition → Bool
 is_beginning (ContactUp contact) = true
 is_beginning other = false
 
+-- whether a contact began by one of these changes
 abbrev pub begins : List Transition → Bool
 begins changes = list_any is_beginning changes
 
--- and whether one ended
+-- whether a contact ended
 abbrev pub is_ending : Transition → Bool
 is_ending (ContactDown contact states shown) = true
 is_ending other = false
 
+-- whether a contact ended by one of these changes
 abbrev pub ends : List Transition → Bool
 ends changes = list_any is_ending changes
 
@@ -68,6 +71,7 @@ IsOnBearer (deed.Mend bearer) = bearer ≤ 1
 IsOnBearer (deed.Cut bearer) = bearer ≤ 1
 IsOnBearer deed.Tick = Unit {0}
 
+-- what a bearer that is mended or cut, or a tick, makes of the pair to a neighbour, and the frames that leave for it
 abbrev pub course_of : Deed → Neighbour → Course
 course_of (deed.Mend bearer) x = at_bearer bearer x.pair mended
 course_of (deed.Cut bearer) x = at_bearer bearer x.pair cut_near
@@ -81,9 +85,11 @@ pub record Done : Type 0 where
   pub numbered : List Outgoing
   pub changes : List Transition
 
+-- the neighbour where that became of its pair: where a contact began or ended, the node isn't in step any more
 abbrev pub done_by : Neighbour → Course → Done
 done_by x c = record { after = neighbour c.pair (stays_in_step x.in_step c.changes); states = c.states; numbered = c.numbered; changes = c.changes }
 
+-- what a bearer that is mended or cut, or a tick, makes of a neighbour
 abbrev pub done : Deed → Neighbour → Done
 done d x = done_by x (course_of d x)
 
@@ -100,6 +106,7 @@ pub record PutsThere (x : Neighbour) (pieces : List (List ℕ)) (x' : Neighbour)
 abbrev pub HearsAt : Neighbour → (bearer es er : ℕ) → Fields → ℕ → Outset → Type 0
 HearsAt x bearer es er p by o = Happened x.pair (hears bearer es er p by (no_broadcast x.in_step)) o
 
+-- whether a packet is a STATE, which tells how far its sender is
 abbrev pub is_state : Header → Bool
 is_state (header.State s) = true
 is_state other = false
@@ -121,5 +128,6 @@ heard_neighbour x p o = neighbour o.course.pair (in_step_after x p o)
 abbrev pub answering : ℕ → Neighbour → Course
 answering bearer x = at_bearer bearer x.pair (answered_near 0 false (no_broadcast x.in_step))
 
+-- the neighbour when that STATE has left
 abbrev pub answered_neighbour : ℕ → Neighbour → Neighbour
 answered_neighbour bearer x = neighbour (answering bearer x).pair x.in_step

@@ -63,9 +63,11 @@ abbrev pub end_with : ℕ → Option Neighbour → Option LinkEnd
 end_with bearer None = None
 end_with bearer (Some x) = (facing bearer x.pair).near
 
+-- the node with these neighbours in place of its own
 abbrev pub with_neighbours : NodeState → List (Option Neighbour) → NodeState
 with_neighbours n xs = record { own = n.own; boot = n.boot; mended = n.mended; neighbours = xs; sockets = n.sockets; journal = n.journal }
 
+-- the node where these bearers are mended
 abbrev pub with_mended : NodeState → Bool × Bool → NodeState
 with_mended n mended = record { own = n.own; boot = n.boot; mended = mended; neighbours = n.neighbours; sockets = n.sockets; journal = n.journal }
 
@@ -91,6 +93,7 @@ change_entry peer (LinkDown bearer cause shown_epoch) = entry.LinkDown (record {
 change_entry peer (ContactUp contact) = entry.ContactUp (record { word = node_word peer }) contact
 change_entry peer (ContactDown contact states shown) = entry.ContactDown (record { word = node_word peer }) contact states shown
 
+-- what is recorded of several changes, in order
 abbrev pub change_entries : ℕ → List Transition → List Entry
 change_entries peer changes = map (change_entry peer) changes
 
@@ -104,36 +107,44 @@ is_change other = false
 
 -- ---- what happens to all neighbours alike, in order of their numbers
 
+-- the neighbour at a place after that, where there is one
 abbrev pub after_one : Deed → Option Neighbour → Option Neighbour
 after_one d None = None
 after_one d (Some x) = Some (done d x).after
 
+-- the frames of link states and of repeated packets that leave for the neighbour at a place
 abbrev pub states_one : Deed → Option Neighbour → List Outgoing
 states_one d None = []
 states_one d (Some x) = (done d x).states
 
+-- the frames of packets that are numbered then for the neighbour at a place
 abbrev pub numbered_one : Deed → Option Neighbour → List Outgoing
 numbered_one d None = []
 numbered_one d (Some x) = (done d x).numbered
 
+-- what is recorded of the links to the neighbour of that number, and of the contact with it
 abbrev pub entries_one : Deed → ℕ → Option Neighbour → List Entry
 entries_one d number None = []
 entries_one d number (Some x) = change_entries number (done d x).changes
 
+-- all neighbours after that
 unfoldable pub after_all : Deed → List (Option Neighbour) → List (Option Neighbour)
 after_all d xs = map (after_one d) xs
 
--- all frames of link states and of repeated packets leave first, and then those of packets that are numbered, by peer both times
+-- the frames of link states and of repeated packets for all neighbours
 unfoldable pub states_all : Deed → List (Option Neighbour) → List Outgoing
 states_all d xs = flat_map (states_one d) xs
 
+-- the frames of packets that are numbered then, for all neighbours
 unfoldable pub numbered_all : Deed → List (Option Neighbour) → List Outgoing
 numbered_all d xs = flat_map (numbered_one d) xs
 
+-- all frames of link states and of repeated packets leave first, and then those of packets that are numbered, by peer
+-- both times
 abbrev pub frames_all : Deed → List (Option Neighbour) → List Outgoing
 frames_all d xs = states_all d xs ++ numbered_all d xs
 
--- the first of them has that number
+-- what is recorded of the links to all neighbours, of which the first has that number
 unfoldable pub entries_all : Deed → ℕ → List (Option Neighbour) → List Entry
 entries_all d number [] = []
 entries_all d number (x ∷ xs) = entries_one d number x ++ entries_all d (number + 1) xs
@@ -142,6 +153,7 @@ entries_all d number (x ∷ xs) = entries_one d number x ++ entries_all d (numbe
 abbrev pub active_load : PairEnds → Option (ℕ × ℕ)
 active_load x = option_map (λ bearer. link_load (facing bearer x).near) (active x)
 
+-- the same of the peer at a place, where there is one
 abbrev pub load_with : Option Neighbour → Option (ℕ × ℕ)
 load_with None = None
 load_with (Some x) = active_load x.pair
@@ -151,11 +163,12 @@ abbrev pub is_met : Option Neighbour → Bool
 is_met None = false
 is_met (Some x) = in_contact x.pair
 
--- each of the two: none without contact
+-- how many are unacknowledged by such a pair of numbers: none without contact
 abbrev pub unacked_in : Option (ℕ × ℕ) → ℕ
 unacked_in None = 0
 unacked_in (Some load) = load.0
 
+-- how many wait by such a pair of numbers: none without contact
 abbrev pub waiting_in : Option (ℕ × ℕ) → ℕ
 waiting_in None = 0
 waiting_in (Some load) = load.1
@@ -164,10 +177,11 @@ waiting_in (Some load) = load.1
 abbrev pub load_on : ℕ → Option Neighbour → ℕ × ℕ
 load_on bearer x = link_load (end_with bearer x)
 
--- and on all links of a node that are up
+-- the sums of both over the two links to each neighbour
 unfoldable pub load_all : List (Option Neighbour) → ℕ × ℕ
 load_all xs = (sum_by (λ x. (load_on 0 x).0 + (load_on 1 x).0) xs, sum_by (λ x. (load_on 0 x).1 + (load_on 1 x).1) xs)
 
+-- how many packets are unacknowledged and how many wait on all links of a node together that are up
 abbrev pub load_of : NodeState → ℕ × ℕ
 load_of n = load_all n.neighbours
 
@@ -177,6 +191,7 @@ accepted_entry peer x m = entry.Accepted (record { word = node_word peer }) (x.c
 
 -- ---- all neighbours at once
 
+-- what the journal keeps of a call that mends or cuts a bearer, or of a tick
 abbrev pub deed_note : Deed → EventNote
 deed_note (deed.Mend bearer) = event.Mend bearer
 deed_note (deed.Cut bearer) = event.Cut bearer
@@ -186,9 +201,11 @@ deed_note deed.Tick = event.Tick
 abbrev pub is_mended_on : Bool × Bool → ℕ → Bool
 is_mended_on mended bearer = if bearer == 0 then mended.0 else ((bearer == 1) && mended.1)
 
+-- the bearers where this one is mended now, or cut
 abbrev pub with_mended_on : Bool × Bool → ℕ → Bool → Bool × Bool
 with_mended_on mended bearer now = if bearer == 0 then (now, mended.1) else (mended.0, now)
 
+-- the bearers after a call that mends or cuts one; a tick changes none
 abbrev pub mended_by : Deed → Bool × Bool → Bool × Bool
 mended_by (deed.Mend bearer) mended = with_mended_on mended bearer true
 mended_by (deed.Cut bearer) mended = with_mended_on mended bearer false
@@ -205,12 +222,15 @@ acquaintance n peer (Some x) = x
 abbrev pub known_course : NodeState → ℕ → ℕ → Course
 known_course n peer bearer = making bearer (is_mended_on n.mended bearer) (acquaintance n peer (neighbour_of n peer))
 
+-- what is kept of the peer then
 abbrev pub known_neighbour : NodeState → ℕ → ℕ → Neighbour
 known_neighbour n peer bearer = neighbour (known_course n peer bearer).pair (acquaintance n peer (neighbour_of n peer)).in_step
 
+-- the node that knows the peer on that bearer
 abbrev pub known_node : NodeState → ℕ → ℕ → NodeState
 known_node n peer bearer = with_neighbours n (slice_set n.neighbours peer (Some (known_neighbour n peer bearer)))
 
+-- the frames that leave then: the new end says RESET where its bearer is mended
 abbrev pub known_frames : NodeState → ℕ → ℕ → List Outgoing
 known_frames n peer bearer = (known_course n peer bearer).states
 
@@ -227,12 +247,15 @@ abbrev pub delivery_of : ℕ → ℕ × ℕ → Opened → Delivery
 delivery_of peer contact (Whole packet by) = record { entry = delivered_by peer contact (message_in packet) by; message = message_in packet }
 delivery_of peer contact (Passed place) = record { entry = entry.Dropped place; message = None }
 
+-- what all that was given in a contact comes to, in order
 abbrev pub deliveries_of : ℕ → ℕ × ℕ → List Opened → List Delivery
 deliveries_of peer contact opened = map (delivery_of peer contact) opened
 
+-- the entries of deliveries, in order
 abbrev pub entries_in : List Delivery → List Entry
 entries_in deliveries = map (λ (d : Delivery). d.entry) deliveries
 
+-- how many messages a delivery has, one or none
 abbrev pub taken_count : Option Message → ℕ
 taken_count (Some m) = 1
 taken_count None = 0
@@ -241,6 +264,8 @@ taken_count None = 0
 abbrev pub message_count : List Delivery → ℕ
 message_count deliveries = sum_by (λ (d : Delivery). taken_count d.message) deliveries
 
+-- what an arrival is answered: how many messages it gave, that its packet waits for those before it, or why it was
+-- ignored
 abbrev pub arrival_answer : PairOutcome → List Delivery → Arrival
 arrival_answer (PairOutcome.Took opened) deliveries = arrival.Took (message_count deliveries)
 arrival_answer PairOutcome.Deferred deliveries = arrival.Deferred
@@ -257,6 +282,7 @@ arrival_deliveries peer x out = deliveries_of peer (shown_contact x) (opened_in 
 
 -- ---- an arrival that reaches no link
 
+-- whether a frame can have so many bytes: at least the 16 of its envelope
 abbrev pub is_frame_size : ℕ → Bool
 is_frame_size bytes = nat_le 16 bytes && nat_le bytes most_frame_bytes
 
@@ -271,6 +297,8 @@ stop_by_sender own neighbours bearer word =
     then (if is_some (end_with bearer (slice_index_or neighbours (word - node_word 0) None)) then None else Some why.Unknown)
     else Some why.Own
 
+-- a packet that breaks a rule of the header reaches no link, and the rule is told by its number; one that breaks none
+-- may still be stopped by its sender
 abbrev pub stop_by_fault : ℕ → List (Option Neighbour) → ℕ → List ℕ → Option HeaderFault → Option Why
 stop_by_fault own neighbours bearer bytes (Some fault) = Some (why.Header (number_of fault))
 stop_by_fault own neighbours bearer bytes None = stop_by_sender own neighbours bearer (word_at 3 (drop 16 bytes))
@@ -283,8 +311,10 @@ stop_among own mended neighbours bearer bytes =
     then (if is_frame_size (length bytes) then stop_by_fault own neighbours bearer bytes (fault_of (drop 16 bytes)) else Some why.Envelope)
     else Some why.Cut
 
+-- why a frame that arrives at a node on a bearer reaches no link
 abbrev pub stop_of : NodeState → ℕ → List ℕ → Option Why
 stop_of n bearer bytes = stop_among n.own n.mended n.neighbours bearer bytes
 
+-- the node then: the arrival is recorded as ignored, and nothing else changes
 abbrev pub stopped_node : NodeState → By → ℕ → ℕ → Why → NodeState
 stopped_node n by bearer number reason = recorded n by (event.Arrive bearer number) [] (answer.Arrived (arrival.Ignored reason))

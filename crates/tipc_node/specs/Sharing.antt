@@ -39,6 +39,7 @@ pub record AreUnused (n : NodeState) : Type 0 where
   pub next : (b : ℕ) (x : Neighbour) → neighbour_of n b ≡ Some x → in_contact x.pair ≡ false
       → IsUnused n.journal b x.pair.contact
 
+-- What a node told its peers of its names, and what it holds of theirs, is right in each contact that there is.
 pub record SharesNames (n : NodeState) : Type 0 where
   -- its live publications are its own, each of a range that has instances
   pub own_names : AreOwn n.own (live n.journal)

@@ -41,21 +41,25 @@ next_port s = port_number s.ports.boot (s.ports.made + 1)
 
 -- ---- a port that is named
 
+-- why a call on a port is refused: there is no such socket
 abbrev pub port_refusal : SocketTable → ℕ → Option Answer
 port_refusal s port = if has_port s port then None else Some answer.NoSocket
 
--- what a receive takes, and what the journal keeps of that: only that a message was given
+-- the messages that wait at a port
 abbrev pub waiting_at : SocketTable → ℕ → List Message
 waiting_at s port = unwrap_or (queue_at s port) []
 
+-- what a receive is answered where these messages wait: the first of them, or that there is none
 abbrev pub first_answer : List Message → Answer
 first_answer [] = answer.Empty
 first_answer (first ∷ rest) = answer.Received first
 
+-- what the journal keeps of an answer: of a message that was received, only that one was given
 abbrev pub kept_answer : Answer → Answer
 kept_answer (answer.Received message) = answer.Got
 kept_answer other = other
 
+-- the work where the first message that waits at a port is taken
 abbrev pub received_work : NodeState → ℕ → Work
 received_work n port = with_sockets_of (begun n) (with_queues n.sockets (taken_from n.sockets.queues port))
 
@@ -78,9 +82,11 @@ refused_publication (Some (fault.Duplicate key)) = Some (answer.Duplicate key)
 refused_publication (Some fault.Full) = Some (answer.Full most_publications)
 refused_publication (Some fault.NoMemory) = None
 
+-- why a publication of that service type and key is refused at a port: the first reason that holds
 abbrev pub publication_refusal : SocketTable → ℕ → ℕ → ℕ → Option Answer
 publication_refusal s port kind key = refused_publication (publish_refusal s port kind key)
 
+-- the work where a range is published at a port
 abbrev pub published_work : NodeState → ℕ → Span → Scope → ℕ → Work
 published_work n port range scope key = noted (begun n) (Published (own_publication n.own port range scope key) ∷ [])
 
@@ -89,6 +95,7 @@ abbrev pub key_refusal : Option Publication → Option Answer
 key_refusal None = Some answer.Unknown
 key_refusal (Some p) = None
 
+-- why a key isn't withdrawn at a port: there is no such socket, or the key isn't live there
 abbrev pub withdrawal_refusal : SocketTable → ℕ → ℕ → Option Answer
 withdrawal_refusal s port key = if has_port s port then key_refusal (published_at s port key) else Some answer.NoSocket
 
@@ -97,6 +104,7 @@ abbrev pub withdrawn_entries : Option Publication → List Entry
 withdrawn_entries None = []
 withdrawn_entries (Some p) = Withdrawn p ∷ []
 
+-- the work where a key is withdrawn at a port
 abbrev pub withdrawn_work : NodeState → ℕ → ℕ → Work
 withdrawn_work n port key = noted (begun n) (withdrawn_entries (published_at n.sockets port key))
 
@@ -119,19 +127,23 @@ subscription_refusal s asked =
 abbrev pub number_refusal : SocketTable → ℕ → Option Answer
 number_refusal s number = if is_some (of_number s.watchers number) then None else Some answer.Unknown
 
+-- the number of the next subscription
 abbrev pub next_number : SocketTable → ℕ
 next_number s = s.watchers.made + 1
 
+-- the work where a subscription is made
 abbrev pub subscribed_work : NodeState → Subscription → Work
 subscribed_work n asked = noted (begun n) (Subscribed (next_number n.sockets) asked ∷ [])
 
+-- the work where the subscription of that number is cancelled
 abbrev pub cancelled_work : NodeState → ℕ → Work
 cancelled_work n number = noted (begun n) (Cancelled number ∷ [])
 
--- the first event of a subscription that wasn't taken yet, and the work where it is taken
+-- the first event of a subscription that wasn't taken yet
 abbrev pub first_event : SocketTable → ℕ → Option Event
 first_event s number = slice_get (events_left (of_number s.watchers number)) 0
 
+-- the work where that event is taken
 abbrev pub next_work : NodeState → ℕ → Work
 next_work n number =
     with_sockets_of (begun n)
@@ -155,6 +167,7 @@ names_limit = 1000
 abbrev pub is_crowded : List (Option Neighbour) → ℕ → Bool
 is_crowded xs peer = nat_le names_limit (waiting_in (load_with (slice_index_or xs peer None)))
 
+-- what a call is answered where so many packets wait for a peer: its number, and how many they are
 abbrev pub crowded_answer : List (Option Neighbour) → ℕ → Answer
 crowded_answer xs peer = answer.NamesCongested peer (waiting_in (load_with (slice_index_or xs peer None)))
 
@@ -167,9 +180,10 @@ abbrev pub crowd_refusal : List (Option Neighbour) → List Message → Option A
 crowd_refusal xs [] = None
 crowd_refusal xs (m ∷ ms) = option_map (crowded_answer xs) (first_crowded xs)
 
--- what peers are told where a key is withdrawn, and where a port is closed
+-- what peers are told where a key is withdrawn
 abbrev pub told_withdrawal : SocketTable → ℕ → ℕ → List Message
 told_withdrawal s port key = tellings true (option_to_list (published_at s port key))
 
+-- what peers are told where a port is closed
 abbrev pub told_closing : SocketTable → ℕ → List Message
 told_closing s port = tellings true (filter (is_at port) s.live)

@@ -17,22 +17,25 @@ waits_surely s count (Some m) = surely_waits s count m
 abbrev pub all_wait : SocketTable → ℕ → List Delivery → Bool
 all_wait s count ds = list_all (λ (d : Delivery). waits_surely s count d.message) ds
 
--- the messages of deliveries
+-- the message of a delivery, as a list
 abbrev pub message_of : Option Message → List Message
 message_of None = []
 message_of (Some m) = m ∷ []
 
+-- the messages of deliveries, in order
 abbrev pub messages_in : List Delivery → List Message
 messages_in ds = flat_map (λ (d : Delivery). message_of d.message) ds
 
--- what is told where each message waits at its port
+-- what is told of a message that waits at its port
 abbrev pub waiting_entries : Option Message → List Entry
 waiting_entries None = []
 waiting_entries (Some m) = Queued (port_of m ∷ []) ∷ []
 
+-- what is told of a delivery whose message waits at its port
 abbrev pub told_of : Delivery → List Entry
 told_of d = d.entry ∷ waiting_entries d.message
 
+-- what is told of all deliveries, in order
 abbrev pub told_in : List Delivery → List Entry
 told_in ds = flat_map told_of ds
 

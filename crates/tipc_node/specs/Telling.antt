@@ -40,6 +40,7 @@ epochs_of e = if is_up e.fsm.state then Some (e.fsm.own, known e.fsm.peer) else 
 abbrev pub silence_of : LinkEnd → ℕ
 silence_of e = if is_up e.fsm.state then e.fsm.silent else 0
 
+-- the same of a link end, where there is one
 abbrev pub silence_in : Option LinkEnd → ℕ
 silence_in None = 0
 silence_in (Some e) = silence_of e
@@ -87,6 +88,7 @@ IsFull (SendName port kind instance importance body) (answer.Congested in_flight
 IsFull (SendPort port to importance body) (answer.Congested in_flight waiting) = (in_flight ≡ 50) × (limit_of importance ≤ waiting)
 IsFull event answered = Unit {0}
 
+-- so it was with each step of a journal
 abbrev pub AllFull : List Entry → Type 0
 AllFull entries = All (λ p. IsFull p.step.event p.step.answer) (steps entries)
 
@@ -98,13 +100,17 @@ IsPacked s = (length s.sending.unacked ≤ 50) × ((s.sending.waiting ≡ []) �
 abbrev pub IsPackedEnd : LinkEnd → Type 0
 IsPackedEnd e = IfSome e.session IsPacked
 
+-- so it is at both link ends of a pair
 pub record IsPackedPair (x : PairEnds) : Type 0 where
   pub near : IfSome x.near IsPackedEnd
   pub far : IfSome x.far IsPackedEnd
 
+-- so it is at the pair to each neighbour of a node
 abbrev pub ArePacked : NodeState → Type 0
 ArePacked n = (b : ℕ) (x : Neighbour) → neighbour_of n b ≡ Some x → IsPackedPair x.pair
 
+-- A node's journal tells what the node is: its links and contacts, and what its sockets hold. What the journal tells
+-- was lawful: each step was licensed and answered to its caller, and each message had its fate.
 pub record IsTold (n : NodeState) : Type 0 where
   pub whole : IsWhole n.journal
   pub links : (p : ℕ) → TellsOf n.journal p (pair_in n p)
@@ -127,6 +133,7 @@ shown_contact (header.Reset said) = Some said.contact
 shown_contact (header.Activate said) = Some said.contact
 shown_contact other = None
 
+-- whether a packet is a RESET, which says that its sender's link is in reset
 abbrev pub is_reset : Header → Bool
 is_reset (header.Reset said) = true
 is_reset other = false

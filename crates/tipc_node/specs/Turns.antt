@@ -35,6 +35,7 @@ use Rattle.tipc_node.specs.declared.neighbours.Neighbour.{Neighbour}
 use Rattle.tipc_node.specs.Messages.{IsSendable, bytes_of, message_in}
 use Rattle.tipc_node.specs.Nodes.{NodeState, accepted_entry, change_entries, neighbour_of, shown_contact}
 
+-- the address of the node of that number
 abbrev pub addr_of : ℕ → Addr
 addr_of n = record { word = node_word n }
 
@@ -62,25 +63,28 @@ abbrev pub is_delivered_from : ℕ → Entry → Bool
 is_delivered_from b (entry.Delivered peer numbers flow message by) = peer.word == node_word b
 is_delivered_from b other = false
 
--- the entries of what was given by node b in a contact: those of its messages
+-- the entry of a message that came from node b in a contact: none where the packet carries none
 abbrev pub delivered_message : ℕ → ℕ × ℕ → Option Message → List ℕ → List Entry
 delivered_message b contact (Some m) by = entry.Delivered (addr_of b) contact Zero m by ∷ []
 delivered_message b contact None by = []
 
+-- the same of a member of what was given: a place that was passed has none
 abbrev pub delivered_of : ℕ → ℕ × ℕ → Opened → List Entry
 delivered_of b contact (Whole packet by) = delivered_message b contact (message_in packet) by
 delivered_of b contact (Passed place) = []
 
+-- the entries of all that was given by node b, in order: those of its messages
 abbrev pub given_entries : ℕ → PairEnds → PairOutcome → List Entry
 given_entries b x given = flat_map (delivered_of b (shown_contact x)) (opened_in given)
 
 -- ---- frames
 
--- whether a frame is for node b alone
+-- whether node b alone is meant
 abbrev pub is_to : ℕ → To → Bool
 is_to b (to.Node address) = address.word == node_word b
 is_to b to.All = false
 
+-- whether a frame that leaves is for node b alone
 abbrev pub is_out_to : ℕ → Outgoing → Bool
 is_out_to b o = is_to b o.to
 
@@ -176,10 +180,11 @@ pub record IsRouted (n : NodeState) (o : Outgoing) : Type 0 where
   pub there : is_some (neighbour_of n peer) ≡ true
   pub to_is : o.to ≡ to.Node (addr_of peer)
 
--- what an entry tells of a peer it tells of a neighbour
+-- the address is that of a neighbour
 abbrev pub IsOfNeighbour : NodeState → Addr → Type 0
 IsOfNeighbour n peer = (b : ℕ) × (is_some (neighbour_of n b) ≡ true) × (peer ≡ addr_of b)
 
+-- what an entry tells of a link, of a contact or of a message of a peer, it tells of a neighbour
 abbrev pub IsPlaced : NodeState → Entry → Type 0
 IsPlaced n (entry.LinkUp peer bearer own theirs) = IsOfNeighbour n peer
 IsPlaced n (entry.LinkDown peer bearer cause shown) = IsOfNeighbour n peer

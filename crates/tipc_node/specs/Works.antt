@@ -33,6 +33,7 @@ pub record Work : Type 0 where
   pub sockets : SocketTable
   pub inside : List Entry
 
+-- the work on a step that begins: nothing has happened yet
 abbrev pub begun : NodeState → Work
 begun n = record { neighbours = n.neighbours; sockets = n.sockets; inside = [] }
 
@@ -47,9 +48,11 @@ concluded n by event w answered = record {
   journal = n.journal ++ step_entries (step_of by event w.inside answered);
 }
 
+-- the work that has these parts
 abbrev pub work_of : List (Option Neighbour) → SocketTable → List Entry → Work
 work_of neighbours sockets inside = record { neighbours = neighbours; sockets = sockets; inside = inside }
 
+-- the address with that word
 abbrev pub addr_of_word : ℕ → Addr
 addr_of_word word = record { word = word }
 

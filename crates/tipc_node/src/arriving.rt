@@ -1,6 +1,6 @@
 //! What an arriving frame is to a node, and what it delivers.
 
-ghost use Rattle.std.specs.Prelude.{◌≡◌, ◌≤◌, ◌-◌, ◌^◌, true, false, All, None, Some, is_some, length, min, slice_index_or, sum_by, IfErr, IfOk, IfSome, IfNone};
+ghost use Rattle.std.specs.Prelude.{◌≡◌, ◌≤◌, ◌-◌, ◌^◌, ◌↔◌, true, false, All, None, Some, is_some, length, min, slice_index_or, sum_by, IfErr, IfOk, IfSome, IfNone};
 ghost use Rattle.tipc_types.specs.Address.{node_word};
 ghost use Rattle.tipc_header.specs.Faults.{fault_of};
 ghost use Rattle.tipc_header.specs.Frames.{frame_of};
@@ -243,15 +243,17 @@ fn counted_bytes(entry: &Entry) -> u64
     }
 }
 
-/// Whether these entries have room in the step that tells of a call, beside its begin, its end, and two more.
+/// Whether these entries have room in the step that tells of a call, beside its begin, its end, and two more: exactly
+/// where there are 65,532 at most, with 4,194,304 message bytes at most.
 ///
 /// They always have: a call changes the links and the contact of a pair three times at most. What an arrival gives at
-/// once came in the packets that were held, 50 at most, and in this one, beside a message that was begun. A frame has at most 1,516 bytes, and each user's message in it has three entries at most
-/// in 24 bytes or more, each message of items one more than it has items, of 20 bytes: some ten thousand entries at
-/// most, and some 300,000 bytes with the returns. A greeting has 1,024 items at most, in 15 messages.
+/// once came in the packets that were held, 50 at most, and in this one, beside a message that was begun. A frame has
+/// at most 1,516 bytes, and each user's message in it has three entries at most in 24 bytes or more, each message of
+/// items one more than it has items, of 20 bytes: some ten thousand entries at most, and some 300,000 bytes with the
+/// returns. A greeting has 1,024 items at most, in 15 messages.
 pub fn fits(entries: &[Entry]) -> bool
-    ensures { result ≡ true → (length entries.now ≤ free_entries - 4) ×
-        (sum_by entry_bytes entries.now ≤ free_message_bytes) }
+    ensures { (result ≡ true) ↔
+        ((length entries.now ≤ free_entries - 4) × (sum_by entry_bytes entries.now ≤ free_message_bytes)) }
 {
     let mut left = FREE_MESSAGE_BYTES;
     for entry in entries {
@@ -299,6 +301,13 @@ pub fn arrival_answer(outcome: &PairOutcome, deliveries: &[Delivery]) -> Arrival
     }
 }
 
+/// Whether there are so few deliveries that their entries have room in a step: 65,532 at most.
+fn are_few(deliveries: &[Delivery]) -> bool
+    ensures { (result ≡ true) ↔ (length deliveries.now ≤ free_entries - 4) }
+{
+    deliveries.len() <= MOST_TOLD
+}
+
 /// What a packet will make of a neighbour, what it delivers, and what will have become of it.
 #[derive(Drop)]
 pub struct Hearing {
@@ -336,7 +345,7 @@ pub fn prepare(
     let arriving = neighbour.pair.prepare(alloc, due.bearer, &incoming)?;
     let contact = neighbour.contact_numbers();
     let deliveries = prepare_deliveries(alloc, due.peer, contact, arriving.outcome())?;
-    if deliveries.len() > MOST_TOLD {
+    if !are_few(deliveries.as_slice()) {
         return Err(NoMemory);
     }
     let answer = arrival_answer(arriving.outcome(), deliveries.as_slice());

@@ -1,6 +1,6 @@
 //! What a node learns of a peer's items.
 
-ghost use Rattle.std.specs.Prelude.{◌≡◌, ◌++◌, ◌∷◌, [], Some, None, fold, find, if◌then◌else◌, option_map, option_to_list, IfOk, OnOk};
+ghost use Rattle.std.specs.Prelude.{◌≡◌, ◌≤◌, ◌^◌, ◌++◌, ◌∷◌, [], Some, None, fold, find, if◌then◌else◌, option_map, option_to_list, IfOk, IsErr, OnOk};
 ghost use Rattle.tipc_types.specs.Address.{IsNodeWord};
 ghost use Rattle.tipc_name_table.specs.Tables.{is_named};
 ghost use Rattle.tipc_name_dist.specs.Applying.{can_be_put, learnt_entries};
@@ -63,9 +63,11 @@ fn apply_item(
     }
 }
 
-/// Tells that the item at this place doesn't fit. Of a place that a u32 doesn't count there is no memory to tell.
+/// Tells that the item at this place doesn't fit. A place that a u32 doesn't count can't be told, which counts as want
+/// of memory. (No packet has so many items.)
 fn tell_misfit(inside: &mut Vec<Entry>, place: usize) -> Result<(), NoMemory>
-    ensures { OnOk result (inside.new.items ≡ inside.old.items ++ Entry.Dropped place ∷ []) }
+    ensures far { 2 ^ 32 ≤ place → IsErr result }
+    ensures told { OnOk result (inside.new.items ≡ inside.old.items ++ Entry.Dropped place ∷ []) }
 {
     if place > u32::MAX as usize {
         return Err(NoMemory);

@@ -1,10 +1,12 @@
 //! The peers of a node, and what a call does at each.
 
-ghost use Rattle.std.specs.Prelude.{◌≡◌, ◌+◌, ◌++◌, ◌≤◌, ◌&&◌, not, ℕ, List, [], true, false, All, Some, None, is_some, length, slice_index_or, unwrap_or, IfOk, IfSome, IfNone, OnErr, OnOk};
+ghost use Rattle.std.specs.Prelude.{◌≡◌, ◌+◌, ◌-◌, ◌^◌, ◌++◌, ◌≤◌, ◌&&◌, not, ℕ, List, [], true, false, All, Some, None, is_some, length, slice_index_or, unwrap_or, IfOk, IfSome, IfNone, IsErr, OnErr, OnOk};
 ghost use Rattle.std.specs.List.{list_any};
 ghost use Rattle.tipc_outside.specs.Frames.{Adds};
 ghost use Rattle.tipc_outside.specs.declared.outgoing.Outgoing.{Outgoing};
+ghost use Rattle.tipc_link.specs.Sessions.{SessionEnd};
 ghost use Rattle.tipc_pair.specs.Facing.{facing, in_contact};
+ghost use Rattle.tipc_pair.specs.PairCalls.{active_session};
 ghost use Rattle.tipc_pair.specs.Runs.{IsListed};
 ghost use Rattle.tipc_node.specs.Nodes.{accepted_entry, after_all, after_one, deed_note, entries_all, entries_one, load_all, load_on, load_with, mended_by, numbered_all, numbered_one, shown_contact, states_all, states_one, unacked_in, waiting_in, with_mended_on, is_mended_on};
 ghost use Rattle.tipc_node.specs.Neighbours.{course_of, done, is_of_contact, making, neighbour, no_broadcast, stays_in_step, stranger, IsOnBearer, PutsThere};
@@ -14,6 +16,7 @@ use std::alloc::Global;
 use tipc_journal::Entry;
 use tipc_outside::Outbox;
 use tipc_pair::{Pair, Transition, TransitionList};
+use tipc_send_window::OfferFault;
 use tipc_types::{Addr, BroadcastState, EventNote, Flow, Message, NoMemory, Pieces};
 
 /// The numbers of nodes are from 1 to 32.
@@ -238,17 +241,21 @@ impl Neighbour {
     }
 
     /// Puts the packets of a message on the active link, where there is a contact. The caller has asked whether as
-    /// many packets wait as may before such a message. For more than 4,294,967,294 that wait there is no memory.
+    /// many packets wait as may before such a message. Behind 4,294,967,295 that wait there is no place for another:
+    /// that counts as want of memory.
     pub fn send(&mut self, alloc: Global, pieces: Pieces, out: &mut Outbox) -> Result<(), NoMemory>
         requires contact { in_contact self.old.pair ≡ true }
         requires pieces { All IsListed pieces }
         ensures ok { OnOk result ((frames : List Outgoing) × PutsThere self.old pieces self.new frames ×
             Adds out.old out.new frames) }
+        ensures most { (s : SessionEnd) → active_session self.old.pair ≡ Some s →
+            2 ^ 32 - 1 ≤ length s.sending.waiting → IsErr result }
         ensures err { OnErr result ((self.new ≡ self.old) × (out.new ≡ out.old)) }
     {
         match self.pair.send(alloc, pieces, u32::MAX, out) {
             Ok(()) => Ok(()),
-            Err(_) => Err(NoMemory),
+            Err(OfferFault::NoMemory) => Err(NoMemory),
+            Err(OfferFault::Congested { .. }) => Err(NoMemory),
         }
     }
 }

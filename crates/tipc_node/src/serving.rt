@@ -1,12 +1,12 @@
 //! The calls on sockets, names and subscriptions.
 
-ghost use Rattle.std.specs.Prelude.{◌≡◌, ◌∷◌, List, [], true, map, slice_get, IfOk, OnErr};
+ghost use Rattle.std.specs.Prelude.{◌≡◌, ◌∷◌, List, [], true, None, map, slice_get, IfOk, OnErr, OnOk};
 ghost use Rattle.tipc_types.specs.declared.message_forms.Message.{Message};
 ghost use Rattle.tipc_outside.specs.Frames.{Adds};
 ghost use Rattle.tipc_outside.specs.declared.outgoing.Outgoing.{Outgoing};
 ghost use Rattle.tipc_journal.specs.declared.entries.Entry.TheVariants.{Withdrawn};
 ghost use Rattle.tipc_journal.specs.Licensed.{next_answer};
-ghost use Rattle.tipc_sockets.specs.Publishing.{own_publication};
+ghost use Rattle.tipc_sockets.specs.Publishing.{own_publication, published};
 ghost use Rattle.tipc_node.specs.Calls.{Performs};
 ghost use Rattle.tipc_node.specs.Nodes.{has_room};
 ghost use Rattle.tipc_node.specs.Sockets.{first_answer, kept_answer, publication_refusal};
@@ -20,7 +20,7 @@ use tipc_journal::Entry;
 use tipc_name_table::MOST_PUBLICATIONS;
 use tipc_outside::Outbox;
 use tipc_ports::{MOST_PORTS, PortFault};
-use tipc_sockets::PublishFault;
+use tipc_sockets::{PublishFault, Sockets};
 use tipc_topology::{MOST_SUBSCRIPTIONS, TopologyFault};
 use tipc_types::{
     Answer, By, Event, EventNote, Message, NoMemory, PortId, Publication, Scope, ServiceRange,
@@ -68,6 +68,30 @@ fn alone(alloc: Global, entry: Entry) -> Result<Vec<Entry>, NoMemory>
     let mut inside = Vec::with_capacity(alloc, 1)?;
     inside.push_reserved(entry);
     Ok(inside)
+}
+
+/// Publishes a range at a port of this node, where nothing speaks against it. There is an error only where memory runs
+/// out, and nothing is changed then.
+fn publish_allowed(
+    sockets: &mut Sockets,
+    port: u32,
+    range: ServiceRange,
+    scope: Scope,
+    key: u32,
+) -> Result<(), NoMemory>
+    requires allowed { publication_refusal sockets.old port range.kind key ≡ None }
+    ensures ok { OnOk result (sockets.new ≡ published sockets.old
+        (own_publication sockets.old.own port range scope key)) }
+    ensures err { OnErr result (sockets.new ≡ sockets.old) }
+{
+    match sockets.publish_at(port, range, scope, key) {
+        Ok(()) => Ok(()),
+        Err(PublishFault::NoMemory) => Err(NoMemory),
+        Err(PublishFault::NoSocket) => unreachable!(),
+        Err(PublishFault::Reserved) => unreachable!(),
+        Err(PublishFault::Duplicate(_)) => unreachable!(),
+        Err(PublishFault::Full) => unreachable!(),
+    }
 }
 
 impl Core {
@@ -194,7 +218,7 @@ impl Core {
             inside,
             told.as_slice(),
         )?;
-        let Ok(()) = self.sockets.publish_at(port, range, scope, key) else {
+        let Ok(()) = publish_allowed(&mut self.sockets, port, range, scope, key) else {
             restore(draft.copies, &mut self.neighbours);
             return Err(NoMemory);
         };

@@ -54,9 +54,9 @@ returns-clause-ok c =
     let clear : crowd_refusal k.neighbours given ≡ None =
     sym (crowd_same k c.as_slice.result.now c.as_slice-2.result.now given c.as_slice.ensures.value (c.as_slice-2.ensures.value ∙ sym c.as_slice-3.ensures.value)) ∙ sym c.crowd_refusal.ensures ∙ c.in_default-crowd_refusal.is in
     let sockets = c.in-Ok.ensures.ok ∙ ap (λ word. published k.sockets (own_publication word a.port a.range a.scope a.key)) c.self.invariant.3 in
-    subst (λ (z : NodeState). IsAnnounced z (node_of k xs c.publish_at.new.self journal) a.by note (publication_refusal z.sockets a.port a.range.kind a.key) (published_work z a.port a.range a.scope a.key)
+    subst (λ (z : NodeState). IsAnnounced z (node_of k xs c.publish_allowed.new.sockets journal) a.by note (publication_refusal z.sockets a.port a.range.kind a.key) (published_work z a.port a.range a.scope a.key)
     (telling false (own_publication z.own a.port a.range a.scope a.key)) a.out.now c.conclude.new.out answer.Done) c.self.view_is
-    (announced k a.by note (publication_refusal k.sockets a.port a.range.kind a.key) (published_work k a.port a.range a.scope a.key) c.in_ok-inside.inside.items (telling false p) given xs c.publish_at.new.self d.inside.items journal d.out
+    (announced k a.by note (publication_refusal k.sockets a.port a.range.kind a.key) (published_work k a.port a.range a.scope a.key) c.in_ok-inside.inside.items (telling false p) given xs c.publish_allowed.new.sockets d.inside.items journal d.out
     a.out.now c.conclude.new.out none clear (c.as_slice-3.ensures.value ∙ told) (c.in_ok-inside.ensures ∙ ap (λ q. Published q ∷ []) published_is) refl sockets (record {
       tells = c.in_ok-draft.ensures.told;
       leaves = λ frames adds. c.conclude.ensures.frames nothing_out frames refl refl adds;
