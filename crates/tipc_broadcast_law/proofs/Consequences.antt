@@ -5,10 +5,11 @@ use Rattle.std.proofs.lemmas.Bool.Decides.{nat_tests}
 use Rattle.std.proofs.lemmas.List.{get_or-drop, get_or-take, map-append, take-append-drop}
 use Rattle.std.proofs.lemmas.List.Elements.{All-from_get_or, All-head, All-tail, filter-append}
 use Rattle.std.proofs.lemmas.Option.{same_Some, slice_get-get_or}
+use Rattle.tipc_types.specs.Prefixes.{IsPrefixOf}
 use Rattle.tipc_broadcast_law.specs.Groups.{Accepted, accepted_for, Caster, Group, is_contact, mark, mark_in, Member, numbered_now, packets, place, queue, window}
 use Rattle.tipc_broadcast_law.specs.Events.{accepting, IsBegin, IsNewMember, Runs}
 use Rattle.tipc_broadcast_law.specs.Law.{IsGroup, Keeps}
-use Rattle.tipc_broadcast_law.specs.Promises.{IsFrontOf, ReleasesInOrder}
+use Rattle.tipc_broadcast_law.specs.Promises.{ReleasesInOrder}
 use Rattle.tipc_broadcast_law.proofs.CasterEvents.{run_keeps}
 use Rattle.tipc_broadcast_law.proofs.MemberEvents.{place-begun, place-want}
 use Rattle.tipc_broadcast_law.proofs.Places.{mark-none}
@@ -92,7 +93,7 @@ not_for-mark line m c x d within never =
 
 -- those before the start aren't for the member, and those up to a place all are
 pub front_is : (line : List Accepted) (m c s w : ℕ) (d : Accepted) → s ≤ w → ((x : ℕ) → mark line m x ≡ Some c → s ≤ x) → ((x : ℕ) → s ≤ x → x < w → mark line m x ≡ Some c)
-    → IsFrontOf (packets s w line) (accepted_for m c line)
+    → IsPrefixOf (packets s w line) (accepted_for m c line)
 unfolding packets accepted_for
 front_is line m c s w d low before own =
     let p = is_for m c in
@@ -115,18 +116,18 @@ front_is line m c s w d low before own =
     ∙ ap (filter p) (sym (take-append-drop (w - s) (drop s line))) ∙ filter-append p middle rest ∙ ap (λ xs. xs ++ filter p rest) everyone in
     (map (λ a. a.packet) (filter p rest), ap (map (λ a. a.packet)) split ∙ map-append (λ a. a.packet) middle (filter p rest))
 
-taken_front : (a : Caster) (m : ℕ) (k : Member) (c : ℕ) → Keeps a m k → IsFrontOf (k.out c) (accepted_for m c (a.line (k.boots c)))
-taken_front a m k c h = elim (k.want c) as (λ o. k.want c ≡ o → IsFrontOf (k.out c) (accepted_for m c (a.line (k.boots c)))) [
+taken_front : (a : Caster) (m : ℕ) (k : Member) (c : ℕ) → Keeps a m k → IsPrefixOf (k.out c) (accepted_for m c (a.line (k.boots c)))
+taken_front a m k c h = elim (k.want c) as (λ o. k.want c ≡ o → IsPrefixOf (k.out c) (accepted_for m c (a.line (k.boots c)))) [
   | None ↦ λ is. (accepted_for m c (a.line (k.boots c)), ap (λ xs. xs ++ accepted_for m c (a.line (k.boots c))) (sym (h.took_none c is)))
   | Some w ↦ λ is.
       let b = h.want_begun c w is in
       let nobody : Accepted = record { packet = []; members = λ _. None } in
       let from : (x : ℕ) → mark (a.line (k.boots c)) m x ≡ Some c → b.0 ≤ x = λ x e. let at = h.mark_begun (k.boots c) c x e in let same : at.0 ≡ b.0 = same_Some at.0 b.0 (sym at.1 ∙ b.1) in subst (λ s. s ≤ x) same at.2 in
-      subst (λ xs. IsFrontOf xs (accepted_for m c (a.line (k.boots c)))) (sym (h.took c w b.0 is b.1))
+      subst (λ xs. IsPrefixOf xs (accepted_for m c (a.line (k.boots c)))) (sym (h.took c w b.0 is b.1))
       (front_is (a.line (k.boots c)) m c b.0 w nobody (h.want_from c w b.0 is b.1) from (λ x low high. h.took_own c w b.0 x is b.1 low high))
 ] refl
 
-pub takes_a_prefix : (g after : Group) → IsBegin g → Runs g after → (m c : ℕ) → IsFrontOf ((after.members m).out c) (accepted_for m c (after.caster.line ((after.members m).boots c)))
+pub takes_a_prefix : (g after : Group) → IsBegin g → Runs g after → (m c : ℕ) → IsPrefixOf ((after.members m).out c) (accepted_for m c (after.caster.line ((after.members m).boots c)))
 takes_a_prefix g after start runs m c = taken_front after.caster m (after.members m) c ((run_keeps g after runs (begins_sound g start)).each m)
 
 -- ---- the packets of one message

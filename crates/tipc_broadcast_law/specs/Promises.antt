@@ -1,12 +1,9 @@
 -- What follows for callers.
 use Rattle.std.specs.Prelude.{◌≡◌, ℕ, ◌+◌, ◌<◌, ◌≤◌, List, [], ◌++◌, map, Some, if◌then◌else◌}
+use Rattle.tipc_types.specs.Prefixes.{IsPrefixOf}
 use Rattle.tipc_broadcast_law.specs.Groups.{Accepted, accepted_for, Group, is_contact, mark, numbered_now, place, queue, window}
 use Rattle.tipc_broadcast_law.specs.Events.{accepting, Happens, IsBegin, Runs}
 use Rattle.tipc_broadcast_law.specs.Law.{IsGroup}
-
--- one list of packets is the first part of another
-abbrev pub IsFrontOf : List (List ℕ) → List (List ℕ) → Type 0
-IsFrontOf front xs = (rest : List (List ℕ)) × (xs ≡ front ++ rest)
 
 -- what is always true of a group is true at the beginning
 abbrev pub BeginsSound : Type 0
@@ -23,7 +20,7 @@ RunsKeep = (g after : Group) → Runs g after → IsGroup g → IsGroup after
 -- each member, in each of its contacts, past ones too
 abbrev pub TakesAPrefix : Type 0
 TakesAPrefix = (g after : Group) → IsBegin g → Runs g after → (m c : ℕ)
-    → IsFrontOf ((after.members m).out c) (accepted_for m c (after.caster.line ((after.members m).boots c)))
+    → IsPrefixOf ((after.members m).out c) (accepted_for m c (after.caster.line ((after.members m).boots c)))
 
 -- The packets of one message are accepted one behind the other. Each member gets all of them, side by side, where it is in
 -- contact, and none where it isn't: no packet of another message stands between them.

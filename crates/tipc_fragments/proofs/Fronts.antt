@@ -1,11 +1,11 @@
 -- What came, behind which more is to come, against lists that stand one behind the other.
 use Rattle.std.proofs.Common.{◌≡◌, ℕ, ◌≤◌, List, ◌++◌, length, take, drop, map, refl, sym, ap, ◌∙◌, arith}
 use Rattle.std.proofs.lemmas.List.{drop_at, drop-append-le, drop-map, length-map, take_all, take_at, take-append-drop, take-append-le, take-map}
-use Rattle.tipc_fragments.specs.Laws.{IsFrontOf}
+use Rattle.tipc_types.specs.Prefixes.{IsPrefixOf}
 
 -- As long as no more came than the first list has, it is a front of that.
 pub front_of_first : {A B : Type 0} (f : A → B) (first others rest : List B) (came : List A)
-    → first ++ others ≡ map f came ++ rest → length came ≤ length first → IsFrontOf (map f came) first
+    → first ++ others ≡ map f came ++ rest → length came ≤ length first → IsPrefixOf (map f came) first
 front_of_first f first others rest came same short =
     let n = length came in
     let mine : map f came ≡ take n first =
@@ -28,6 +28,6 @@ others_came f first others rest came n same long all =
     ∙ ap (λ xs. xs ++ rest) (drop-map f n came)
 
 -- A front that is as long as the list is the list.
-pub whole_front : {A : Type 0} (front xs : List A) → IsFrontOf front xs → length xs ≤ length front → front ≡ xs
+pub whole_front : {A : Type 0} (front xs : List A) → IsPrefixOf front xs → length xs ≤ length front → front ≡ xs
 whole_front front xs is long =
     sym (take_at front is.0 (length front) refl) ∙ ap (take (length front)) (sym is.1) ∙ take_all (length front) xs long

@@ -5,12 +5,13 @@ use Rattle.std.specs.List.{flat_map}
 use Rattle.std.proofs.lemmas.Bool.{cases_lt, le-leb}
 use Rattle.std.proofs.lemmas.List.{append-nil, length-append, length-map, length-take-le, map-append, take-append-drop}
 use Rattle.std.proofs.lemmas.List.Elements.{All-append, All-cons, All-head, All-nil, All-replicate, All-same, All-tail, filter_map-append}
+use Rattle.tipc_types.specs.Prefixes.{IsPrefixOf}
 use Rattle.tipc_fragments.specs.declared.joining.Joined.{Joined}
 use Rattle.tipc_fragments.specs.declared.joining.Joined.TheVariants.{More, Whole}
 use Rattle.tipc_fragments.specs.declared.joining.JoinFault.{JoinFault}
 use Rattle.tipc_fragments.specs.Cutting.{count_of, Piece, pieces_of}
 use Rattle.tipc_fragments.specs.Joining.{fresh, Joining}
-use Rattle.tipc_fragments.specs.Laws.{after_all, answers, arrivals_in, Arrived, arrived, arrived_in, Came, IsFrontOf, IsLong, pieces_in}
+use Rattle.tipc_fragments.specs.Laws.{after_all, answers, arrivals_in, Arrived, arrived, arrived_in, Came, IsLong, pieces_in}
 use Rattle.tipc_fragments.specs.Streams.{CameItem, GivesFront, IsMessage, Item, item_after, item_after_all, item_answer, item_answers, item_arrivals_in, items_in, items_of, Part, Single}
 use Rattle.tipc_fragments.proofs.CutLaws.{length-pieces_of}
 use Rattle.tipc_fragments.proofs.Fronts.{first_came, front_of_first, others_came, whole_front}
@@ -49,7 +50,7 @@ arrivals-parts (c ∷ came) = ap (λ (bys : List ℕ). c.1 ∷ bys) (arrivals-pa
 record ArePieces (pieces : List Piece) (came : List CameItem) : Type 0 where
   fragments : List Came
   same : came ≡ map part_of fragments
-  front : IsFrontOf (pieces_in fragments) pieces
+  front : IsPrefixOf (pieces_in fragments) pieces
 
 first_piece : (p : Piece) (pieces : List Piece) (c : CameItem) (came : List CameItem) (rest : List Item)
     → map Part (p ∷ pieces) ≡ items_in (c ∷ came) ++ rest → Part p ≡ c.0
@@ -151,7 +152,7 @@ is_long m is long = record { long = omega arith; within = is.within; packet = is
 length-items_of-long : (m : List ℕ) → 1452 < length m → length (items_of m) ≡ count_of m
 length-items_of-long m long = ap length (items_of-long m long) ∙ length-map (pieces_of m) Part ∙ length-pieces_of m
 
-item_part : (m : List ℕ) (came : List CameItem) → IsMessage m → IsFrontOf (items_in came) (items_of m)
+item_part : (m : List ℕ) (came : List CameItem) → IsMessage m → IsPrefixOf (items_in came) (items_of m)
     → length came < length (items_of m) → IsPart came
 item_part m came is front short =
     elim (cases_lt 1452 (length m)) [
@@ -243,5 +244,5 @@ gives (m ∷ messages) rest came are same =
     ]
 
 pub gives_front : (messages : List (List ℕ)) (came : List CameItem) → All IsMessage messages
-    → IsFrontOf (items_in came) (flat_map items_of messages) → GivesFront messages came
+    → IsPrefixOf (items_in came) (flat_map items_of messages) → GivesFront messages came
 gives_front messages came are front = gives messages front.0 came are front.1

@@ -6,11 +6,12 @@ use Rattle.std.proofs.lemmas.Bool.{eq-eqb, le-leb}
 use Rattle.std.proofs.lemmas.Bool.Decides.{nat_tests}
 use Rattle.std.proofs.lemmas.List.{append-nil, length-map, length-take, length_push, take_all, take_at}
 use Rattle.std.proofs.lemmas.List.FromFn.{take-map-range_with_len}
+use Rattle.tipc_types.specs.Prefixes.{IsPrefixOf}
 use Rattle.tipc_header.specs.declared.packet.FragmentType.TheVariants.{Middle, Last}
 use Rattle.tipc_fragments.specs.declared.joining.Joined.TheVariants.{More, Whole}
 use Rattle.tipc_fragments.specs.Cutting.{count_of, is_last, kind_of, may_follow, Piece, piece_after, pieces_of}
 use Rattle.tipc_fragments.specs.Joining.{after, answer_of, fresh, grown, has_room, is_more, is_next, Joining, whole_of, with_fault}
-use Rattle.tipc_fragments.specs.Laws.{after_all, answers, arrivals_in, begun, Came, IsBegun, IsFrontOf, IsLong, IsWhole, pieces_in}
+use Rattle.tipc_fragments.specs.Laws.{after_all, answers, arrivals_in, begun, Came, IsBegun, IsLong, IsWhole, pieces_in}
 use Rattle.tipc_fragments.proofs.CutLaws.{length-piece, length-pieces_of, pieces_from}
 use Rattle.tipc_fragments.proofs.JoinLaws.{after-else, after-more, answer_of-last, answer_of-more}
 
@@ -165,7 +166,7 @@ run_whole m bys (c ∷ (d ∷ came)) is all some same =
 
 -- ---- fragments of one message, from the first on
 
-pub one_front : (m : List ℕ) (came : List Came) → IsLong m → IsFrontOf (pieces_in came) (pieces_of m) → length came < count_of m
+pub one_front : (m : List ℕ) (came : List Came) → IsLong m → IsPrefixOf (pieces_in came) (pieces_of m) → length came < count_of m
     → IsBegun m came
 one_front m came is front short =
     let mine : pieces_in came ≡ pieces_from m 0 (length came) =

@@ -6,12 +6,13 @@ use Rattle.std.proofs.lemmas.Bool.{cases_lt, le-leb}
 use Rattle.std.proofs.lemmas.Bool.Decides.{nat_tests}
 use Rattle.std.proofs.lemmas.List.{drop-map, length-append, length-drop, length-map, length-take-le, take-append-drop, take-map}
 use Rattle.std.proofs.lemmas.List.Elements.{All-append, All-cons, All-head, All-nil, All-replicate, All-same, All-tail, filter_map-append}
+use Rattle.tipc_types.specs.Prefixes.{IsPrefixOf}
 use Rattle.tipc_fragments.specs.declared.joining.Joined.{Joined}
 use Rattle.tipc_fragments.specs.declared.joining.Joined.TheVariants.{More, Whole}
 use Rattle.tipc_fragments.specs.declared.joining.JoinFault.{JoinFault}
 use Rattle.tipc_fragments.specs.Cutting.{count_of, Piece, pieces_of}
 use Rattle.tipc_fragments.specs.Joining.{after, answer_of, fresh, Joining}
-use Rattle.tipc_fragments.specs.Laws.{after_all, answers, arrivals_in, Arrived, arrived, arrived_in, Came, IsBegun, IsFrontOf, IsLong, IsWhole, joined_of, JoinsFront, left_of, pieces_in}
+use Rattle.tipc_fragments.specs.Laws.{after_all, answers, arrivals_in, Arrived, arrived, arrived_in, Came, IsBegun, IsLong, IsWhole, joined_of, JoinsFront, left_of, pieces_in}
 use Rattle.tipc_fragments.proofs.CutLaws.{length-pieces_of}
 use Rattle.tipc_fragments.proofs.Fronts.{first_came, front_of_first, others_came}
 use Rattle.tipc_fragments.proofs.RunLaws.{one_front, one_whole}
@@ -112,12 +113,12 @@ exact (m ∷ messages) rest came long same =
 -- ---- what the joined messages are
 
 -- They are a front of the messages.
-front_joined : (messages : List (List ℕ)) (arrivals : List ℕ) → IsFrontOf (map (λ (a : Arrived). a.0) (joined_of messages arrivals)) messages
+front_joined : (messages : List (List ℕ)) (arrivals : List ℕ) → IsPrefixOf (map (λ (a : Arrived). a.0) (joined_of messages arrivals)) messages
 front_joined [] arrivals = ([], refl)
 front_joined (m ∷ messages) arrivals =
     let later = front_joined messages (drop (count_of m) arrivals) in
     let one : Arrived = (m, take (count_of m) arrivals) in
-    elim (nat_le (count_of m) (length arrivals)) as (λ b. IsFrontOf (map (λ (a : Arrived). a.0) (if b then one ∷ joined_of messages (drop (count_of m) arrivals) else [])) (m ∷ messages)) [
+    elim (nat_le (count_of m) (length arrivals)) as (λ b. IsPrefixOf (map (λ (a : Arrived). a.0) (if b then one ∷ joined_of messages (drop (count_of m) arrivals) else [])) (m ∷ messages)) [
       | true ↦ (later.0, ap (λ (ms : List (List ℕ)). m ∷ ms) later.1)
       | false ↦ (m ∷ messages, refl)
     ]
@@ -172,7 +173,7 @@ every_joined (m ∷ messages) arrivals all =
 -- ---- the law
 
 pub joins_front : (messages : List (List ℕ)) (came : List Came) → All IsLong messages
-    → IsFrontOf (pieces_in came) (flat_map pieces_of messages) → JoinsFront messages came
+    → IsPrefixOf (pieces_in came) (flat_map pieces_of messages) → JoinsFront messages came
 joins_front messages came long front =
     let is = exact messages front.0 came long front.1 in
     let arrivals = arrivals_in came in

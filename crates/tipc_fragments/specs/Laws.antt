@@ -1,6 +1,7 @@
 -- What the laws of cutting and joining speak of.
 use Rattle.std.specs.Prelude.{◌≡◌, ℕ, ◌+◌, ◌-◌, ◌*◌, ◌<◌, ◌≤◌, All, List, [], ◌∷◌, ◌++◌, length, take, drop, map, replicate, nat_le, if◌then◌else◌, Option, Some, None, Result, Ok, Err, IsOk}
 use Rattle.std.specs.List.{filter_map, flat_map}
+use Rattle.tipc_types.specs.Prefixes.{IsPrefixOf}
 use Rattle.tipc_header.specs.Faults.{fault_of}
 use Rattle.tipc_fragments.specs.declared.joining.Joined.{Joined}
 use Rattle.tipc_fragments.specs.declared.joining.Joined.TheVariants.{More, Whole}
@@ -21,10 +22,6 @@ pub record IsLong (message : List ℕ) : Type 0 where
   pub long : 1453 ≤ length message
   pub within : length message ≤ 66044
   pub packet : fault_of message ≡ None
-
--- one list is the first part of another
-abbrev pub IsFrontOf : {A : Type 0} → List A → List A → Type 0
-IsFrontOf {A} front xs = (rest : List A) × (xs ≡ front ++ rest)
 
 -- a fragment that came, and the arrival number by which it came
 abbrev pub Came : Type 0
@@ -103,7 +100,7 @@ pub record JoinsFront (messages : List (List ℕ)) (came : List Came) : Type 0 w
   pub sound : All IsOk (answers fresh came)
   pub joined : arrived (answers fresh came) ≡ joined_of messages (arrivals_in came)
   pub left : after_all fresh came ≡ left_of messages (arrivals_in came)
-  pub front : IsFrontOf (map (λ a. a.0) (arrived (answers fresh came))) messages
+  pub front : IsPrefixOf (map (λ a. a.0) (arrived (answers fresh came))) messages
   pub counts : All (λ a. length a.1 ≡ count_of a.0) (arrived (answers fresh came))
   pub arrivals : flat_map (λ a. a.1) (arrived (answers fresh came)) ++ (after_all fresh came).arrivals ≡ arrivals_in came
   pub every : length came ≡ length (flat_map pieces_of messages)

@@ -1,13 +1,14 @@
 -- What comes in one flow: messages in packets of their own, and fragments of longer ones between them.
 use Rattle.std.specs.Prelude.{◌≡◌, ℕ, ◌≤◌, All, List, [], ◌∷◌, ◌++◌, length, map, nat_le, if◌then◌else◌, None, Result, Ok, IsOk}
 use Rattle.std.specs.List.{flat_map}
+use Rattle.tipc_types.specs.Prefixes.{IsPrefixOf}
 use Rattle.tipc_header.specs.Faults.{fault_of}
 use Rattle.tipc_fragments.specs.declared.joining.Joined.{Joined}
 use Rattle.tipc_fragments.specs.declared.joining.Joined.TheVariants.{Whole}
 use Rattle.tipc_fragments.specs.declared.joining.JoinFault.{JoinFault}
 use Rattle.tipc_fragments.specs.Cutting.{Piece, pieces_of}
 use Rattle.tipc_fragments.specs.Joining.{after, answer_of, fresh, Joining}
-use Rattle.tipc_fragments.specs.Laws.{arrived, IsFrontOf}
+use Rattle.tipc_fragments.specs.Laws.{arrived}
 
 -- what comes: a message in a packet of its own, or a fragment
 pub data Item : Type 0 where
@@ -60,7 +61,7 @@ item_after_all s (c ∷ came) = item_after_all (item_after s c.0 c.1) came
 -- Where everything came, every message is answered, and none is begun.
 pub record GivesFront (messages : List (List ℕ)) (came : List CameItem) : Type 0 where
   pub sound : All IsOk (item_answers fresh came)
-  pub front : IsFrontOf (map (λ a. a.0) (arrived (item_answers fresh came))) messages
+  pub front : IsPrefixOf (map (λ a. a.0) (arrived (item_answers fresh came))) messages
   pub counts : All (λ a. length a.1 ≡ length (items_of a.0)) (arrived (item_answers fresh came))
   pub arrivals : flat_map (λ a. a.1) (arrived (item_answers fresh came)) ++ (item_after_all fresh came).arrivals ≡ item_arrivals_in came
   pub every : length came ≡ length (flat_map items_of messages)

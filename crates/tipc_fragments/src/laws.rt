@@ -2,12 +2,13 @@
 
 ghost use Rattle.std.specs.Prelude.{◌≡◌, ℕ, ◌+◌, ◌<◌, ◌≤◌, ◌^◌, All, List, length, slice_get};
 ghost use Rattle.std.specs.List.{flat_map};
+ghost use Rattle.tipc_types.specs.Prefixes.{IsPrefixOf};
 ghost use Rattle.tipc_header.specs.Frames.{sent_as};
 ghost use Rattle.tipc_header.specs.Grammar.{Fits};
 ghost use Rattle.tipc_header.specs.Spelling.{spelling};
 ghost use Rattle.tipc_fragments.specs.declared.cutting.TheConstants.{FRAGMENT_BYTES, LEAST_CUT, MOST_CUT};
 ghost use Rattle.tipc_fragments.specs.Cutting.{count_of, packet_of, Piece, piece_after, pieces_of};
-ghost use Rattle.tipc_fragments.specs.Laws.{Came, IsBegun, IsFrontOf, IsLong, IsPiece, IsWhole, JoinsFront, pieces_in};
+ghost use Rattle.tipc_fragments.specs.Laws.{Came, IsBegun, IsLong, IsPiece, IsWhole, JoinsFront, pieces_in};
 ghost use Rattle.tipc_fragments.specs.Streams.{CameItem, GivesFront, IsMessage, items_in, items_of};
 
 /// The numbers that callers go by: which messages are cut, and how much of one each fragment has but the last.
@@ -41,7 +42,7 @@ pub fn fragments_fit()
 /// joiner as new.
 pub fn one_message_is_joined()
     ensures more { (message : List ℕ) (came : List Came) → IsLong message →
-        IsFrontOf (pieces_in came) (pieces_of message) → length came < count_of message → IsBegun message came }
+        IsPrefixOf (pieces_in came) (pieces_of message) → length came < count_of message → IsBegun message came }
     ensures whole { (message : List ℕ) (came : List Came) → IsLong message → pieces_in came ≡ pieces_of message →
         IsWhole message came }
 {}
@@ -50,7 +51,7 @@ pub fn one_message_is_joined()
 /// messages, in order, each with the arrival numbers of its own fragments.
 pub fn a_front_of_fragments_gives_a_front_of_messages()
     ensures { (messages : List (List ℕ)) (came : List Came) → All IsLong messages →
-        IsFrontOf (pieces_in came) (flat_map pieces_of messages) → JoinsFront messages came }
+        IsPrefixOf (pieces_in came) (flat_map pieces_of messages) → JoinsFront messages came }
 {}
 
 /// The same of packets that come in one flow, where a message that fits one packet comes in a packet of its own and
@@ -58,5 +59,5 @@ pub fn a_front_of_fragments_gives_a_front_of_messages()
 /// in a packet of its own leaves the joiner as it is.
 pub fn a_front_of_packets_gives_a_front_of_messages()
     ensures { (messages : List (List ℕ)) (came : List CameItem) → All IsMessage messages →
-        IsFrontOf (items_in came) (flat_map items_of messages) → GivesFront messages came }
+        IsPrefixOf (items_in came) (flat_map items_of messages) → GivesFront messages came }
 {}

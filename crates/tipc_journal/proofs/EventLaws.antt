@@ -1,6 +1,7 @@
 -- The events that licensed steps give are a front of the transitions.
 use Rattle.std.specs.Prelude.{◌==◌, not, slice_get}
 use Rattle.std.proofs.Common.{◌≡◌, inl, inr, ℕ, Bool, true, false, List, [], ◌∷◌, ◌++◌, Option, Some, None, cond, length, refl, sym, subst, ◌∙◌, ap, append_assoc, true≢false, eqb-true}
+use Rattle.tipc_types.specs.Prefixes.{IsPrefixOf}
 use Rattle.tipc_types.specs.declared.identity.Addr.{Addr}
 use Rattle.tipc_types.specs.declared.node_calls.Answer.{Answer}
 use Rattle.tipc_types.specs.declared.node_calls.Answer.TheVariants.{Next, Unknown}
@@ -10,7 +11,7 @@ use Rattle.tipc_types.specs.declared.node_calls.EventNote.{EventNote}
 use Rattle.tipc_types.specs.declared.node_calls.EventNote.TheVariants.{NextEvent}
 use Rattle.tipc_journal.specs.declared.entries.Entry.{Entry}
 use Rattle.tipc_journal.specs.Licensed.{event_given, events_given, next_answer, IsAnswered, IsLicensed}
-use Rattle.tipc_journal.specs.Prefixes.{each_behind, list_with, IsPrefixOf}
+use Rattle.tipc_journal.specs.Prefixes.{each_behind, list_with}
 use Rattle.tipc_journal.specs.Refusals.{is_among, refusal}
 use Rattle.tipc_journal.specs.Steps.{IsInside, IsWhole, NodeStep, step_entries}
 use Rattle.tipc_journal.specs.Subscriptions.{subscriptions, told, transitions}

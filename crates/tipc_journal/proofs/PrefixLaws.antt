@@ -1,7 +1,7 @@
 -- Fronts of lists.
 use Rattle.std.specs.Prelude.{slice_get}
 use Rattle.std.proofs.Common.{◌≡◌, ℕ, zero, suc, ◌<◌, arith, List, [], ◌∷◌, ◌++◌, length, append_assoc, refl, ◌∙◌, ap}
-use Rattle.tipc_journal.specs.Prefixes.{IsPrefixOf}
+use Rattle.tipc_types.specs.Prefixes.{IsPrefixOf}
 
 -- it stays a prefix when the longer list grows
 pub IsPrefixOf_grows : {A : Type 0} (xs ys more : List A) → IsPrefixOf xs ys → IsPrefixOf xs (ys ++ more)

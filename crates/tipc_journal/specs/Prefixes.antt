@@ -1,9 +1,5 @@
--- One list is a front of another, and what holds of each element behind those before it.
-use Rattle.std.specs.Prelude.{◌≡◌, List, [], ◌∷◌, ◌++◌, Option, Some, None}
-
--- xs is a prefix of ys: ys is xs and then some rest
-abbrev pub IsPrefixOf : {A : Type 0} → List A → List A → Type 0
-IsPrefixOf {A} xs ys = (rest : List A) × (ys ≡ xs ++ rest)
+-- Lists that grow at the end, and what holds of each element behind those before it.
+use Rattle.std.specs.Prelude.{List, [], ◌∷◌, ◌++◌, Option, Some, None}
 
 -- the list, and behind it the item where there is one
 abbrev pub list_with : {A : Type 0} → List A → Option A → List A

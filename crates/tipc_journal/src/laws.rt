@@ -3,6 +3,7 @@
 
 ghost use Rattle.std.specs.Prelude.{◌≡◌, ◌<◌, ◌+◌, ◌%◌, ◌&&◌, nat_lt, ℕ, Bool, true, false, not, List, [], ◌∷◌, ◌++◌, if◌then◌else◌, drop, filter, length};
 ghost use Rattle.std.specs.List.{All, list_all, list_any};
+ghost use Rattle.tipc_types.specs.Prefixes.{IsPrefixOf};
 ghost use Rattle.tipc_types.specs.declared.message_forms.Flow.{Flow};
 ghost use Rattle.tipc_types.specs.declared.message_forms.Message.{Message};
 ghost use Rattle.tipc_types.specs.declared.services.Publication.{Publication};
@@ -15,7 +16,7 @@ ghost use Rattle.tipc_journal.specs.Fates.{AllHaveFates, AllMayStand, HasFates, 
 ghost use Rattle.tipc_journal.specs.Licensed.{event_given, events_given, is_send, sends_in, AllLicensed, AllPicked, IsLicensed};
 ghost use Rattle.tipc_journal.specs.Matches.{arranged, names, names_after};
 ghost use Rattle.tipc_journal.specs.Names.{live, live_after, learned, learned_after, table, is_at_home, AreAtHome};
-ghost use Rattle.tipc_journal.specs.Prefixes.{list_with, IsPrefixOf};
+ghost use Rattle.tipc_journal.specs.Prefixes.{list_with};
 ghost use Rattle.tipc_journal.specs.Queues.{ever_queued, step_queued, queued_by, taken_count, is_taking, queue, queue_inside, IsFed, sockets, sockets_after};
 ghost use Rattle.tipc_journal.specs.Refusals.{is_subscribed, made_by, sockets_made, subscriptions_made};
 ghost use Rattle.tipc_journal.specs.Room.{message_bytes, entry_bytes};

@@ -2,14 +2,11 @@
 -- stay whole, and what was taken is a beginning of what the other end numbered.
 use Rattle.std.specs.Prelude.{◌≡◌, ℕ, ◌+◌, Bool, false, List, [], ◌∷◌, ◌++◌, Some, map, take, slice_get, if◌then◌else◌}
 use Rattle.tipc_types.specs.Position.{number_of}
+use Rattle.tipc_types.specs.Prefixes.{IsPrefixOf}
 use Rattle.tipc_types.specs.declared.packet_lists.Kept.{Kept}
 use Rattle.tipc_types.specs.declared.packet_lists.Taken.{Taken}
 use Rattle.tipc_link.specs.Sessions.{SessionEnd, Content, Shows, Carries, Nothing, IsPut, answered, arrival_moving, arrived, begun, brought, due_with, flushed, gap, heard, is_due, moving, released, repeated, room, told}
 use Rattle.tipc_link.specs.Direction.{Flight, IsDirection, IsFlight, IsFresh, IsReceiver, packet_flight, state_flight}
-
--- xs is a prefix of ys: ys is xs and then some rest
-abbrev pub IsPrefixOf : {A : Type 0} → List A → List A → Type 0
-IsPrefixOf {A} xs ys = (rest : List A) × (ys ≡ xs ++ rest)
 
 -- one side: its end, every packet that it numbered, every packet that it took, and every frame that it sent
 pub record Side : Type 0 where

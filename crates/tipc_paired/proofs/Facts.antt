@@ -2,10 +2,10 @@
 use Rattle.std.proofs.Common.{◌≡◌, ◌==◌, ◌<◌, ◌≤◌, ◌+◌, ℕ, true, false, if◌then◌else◌, nat_lt, List, [], ◌++◌, Option, Some, None, option_map, length, take, drop, refl, sym, ap, ◌∙◌, subst, append-nil, length-append, length-drop, length-take, arith}
 use Rattle.std.proofs.lemmas.Bool.{true≢false}
 use Rattle.std.proofs.lemmas.Bool.Decides.{nat_tests}
+use Rattle.tipc_types.specs.Prefixes.{IsPrefixOf}
 use Rattle.tipc_contact.specs.Sides.{boot_of}
 use Rattle.tipc_send_window.specs.Sending.{acked_of}
 use Rattle.tipc_link.specs.Direction.{IsReceiver}
-use Rattle.tipc_link.specs.Laws.{IsPrefixOf}
 use Rattle.tipc_link.specs.Links.{LinkEnd, after, early_with, record_in, record_of}
 use Rattle.tipc_link.specs.Records.{Early, Received, advanced_by, early_of, early_record, freed, named, unheard}
 use Rattle.tipc_link.specs.Sessions.{SessionEnd, receiving_record, released, with_record}

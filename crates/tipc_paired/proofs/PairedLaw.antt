@@ -1,9 +1,9 @@
 -- Two nodes stay paired, whatever either does.
 use Rattle.std.proofs.Common.{◌≡◌, ℕ, [], None, map, refl, sym, ap, ◌∙◌, subst, arith}
+use Rattle.tipc_types.specs.Prefixes.{IsPrefixOf}
 use Rattle.tipc_contact.specs.Peers.{ArePeers}
 use Rattle.tipc_contact.specs.Sides.{alone, boot_of, first_number}
 use Rattle.tipc_contact.proofs.Sessions.{start as start_peers, turned as turn_peers}
-use Rattle.tipc_link.specs.Laws.{IsPrefixOf}
 use Rattle.tipc_paired.proofs.wires.Sides.{same_side}
 use Rattle.tipc_paired.proofs.sessions.BesideDeeds.{counts_paired, falls_beside_paired, hands_over_paired}
 use Rattle.tipc_paired.proofs.sessions.CallDeeds.{calls_paired, turns_paired}

@@ -1,6 +1,7 @@
 -- What holds of the two nodes of a pair at every moment, whatever either does and whatever arrives, by bearer and session.
 use Rattle.std.specs.Prelude.{[], ◌+◌, ◌<◌, ◌^◌, ◌≡◌, ◌≢◌, ◌≤◌, ◌⊎◌, List, None, Some, false, length, slice_get, true, ℕ}
 use Rattle.tipc_types.specs.Position.{number_of}
+use Rattle.tipc_types.specs.Prefixes.{IsPrefixOf}
 use Rattle.tipc_header.specs.Frames.{frame_of, sent_as}
 use Rattle.tipc_header.specs.Grammar.{Fits}
 use Rattle.tipc_header.specs.Spelling.{Fields, spelling}
@@ -10,7 +11,6 @@ use Rattle.tipc_link_fsm.specs.Table.{is_held, is_last, is_up}
 use Rattle.tipc_contact.specs.Peers.{ArePeers}
 use Rattle.tipc_contact.specs.Sides.{boot_of, first_number}
 use Rattle.tipc_link.specs.Direction.{IsCarried, IsDirection, IsReceiver}
-use Rattle.tipc_link.specs.Laws.{IsPrefixOf}
 use Rattle.tipc_link.specs.Links.{LinkEnd, is_traffic, record_of}
 use Rattle.tipc_link.specs.Records.{Received}
 use Rattle.tipc_link.specs.Sessions.{Carries, SessionEnd, content_of}

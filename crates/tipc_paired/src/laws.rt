@@ -6,7 +6,7 @@
 //! ended: whatever a node ever told may arrive at any time.
 
 ghost use Rattle.std.specs.Prelude.{ℕ};
-ghost use Rattle.tipc_link.specs.Laws.{IsPrefixOf};
+ghost use Rattle.tipc_types.specs.Prefixes.{IsPrefixOf};
 ghost use Rattle.tipc_paired.specs.Deeds.{Does, DoesAll};
 ghost use Rattle.tipc_paired.specs.Facts.{BegunWasNamed, HeardWasTaken, NamesCount, RisesAreOfPeer, SameRecordsStay, TunnelsCount, UpIsOnRecord};
 ghost use Rattle.tipc_paired.specs.Paired.{ArePaired, IsNew};

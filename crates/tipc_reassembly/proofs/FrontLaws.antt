@@ -5,6 +5,7 @@ use Rattle.std.specs.List.{flat_map}
 use Rattle.std.proofs.lemmas.Bool.{cases_lt, le-leb, ltb-true}
 use Rattle.std.proofs.lemmas.List.{append-nil, drop_at, length-map, length_push, map-append}
 use Rattle.std.proofs.lemmas.List.Elements.{All-cons, All-drop, All-head, All-nil, All-same, All-tail, All-weaker, filter_map-append}
+use Rattle.tipc_types.specs.Prefixes.{IsPrefixOf}
 use Rattle.tipc_types.specs.declared.packet_lists.Taken.{Taken}
 use Rattle.tipc_header.specs.declared.packet.FragmentType.{FragmentType}
 use Rattle.tipc_header.specs.declared.packet.FragmentType.TheVariants.{First, Middle, Last}
@@ -15,7 +16,7 @@ use Rattle.tipc_fragments.specs.declared.joining.Joined.TheVariants as answer
 use Rattle.tipc_fragments.specs.declared.joining.JoinFault.{JoinFault}
 use Rattle.tipc_fragments.specs.Cutting.{is_last, may_follow, Piece}
 use Rattle.tipc_fragments.specs.Joining.{answer_of, fresh, Joining}
-use Rattle.tipc_fragments.specs.Laws.{Arrived, arrived, arrived_in, IsFrontOf}
+use Rattle.tipc_fragments.specs.Laws.{Arrived, arrived, arrived_in}
 use Rattle.tipc_fragments.specs.Streams.{CameItem, GivesFront, IsMessage, Item, item_after, item_after_all, item_answer, item_answers, items_in, items_of, Part, Single}
 use Rattle.tipc_fragments.proofs.ItemLaws.{gives_front}
 use Rattle.tipc_bundle.specs.Bundles.{IsInner}
@@ -119,7 +120,7 @@ answers-append s (c ∷ xs) ys = ap (λ (rs : List (Result Joined JoinFault)). i
 all_behind : {A : Type 0} (P : A → Type 0) (xs ys : List A) → All P (xs ++ ys) → All P ys
 all_behind P xs ys are = All-same P ys (drop (length xs) (xs ++ ys)) (sym (drop_at xs ys (length xs) refl)) (All-drop P (length xs) (xs ++ ys) are)
 
-sent_front : (given : List Arrived) (messages : List (List ℕ)) → IsFrontOf (map (λ (a : Arrived). a.0) given) messages → All IsInner messages
+sent_front : (given : List Arrived) (messages : List (List ℕ)) → IsPrefixOf (map (λ (a : Arrived). a.0) given) messages → All IsInner messages
     → All (λ (a : Arrived). length a.1 ≡ length (items_of a.0)) given → All IsSent given
 sent_front [] messages front inner counts = All-nil IsSent
 sent_front (a ∷ given) messages front inner counts =
@@ -141,7 +142,7 @@ record Behind (before more : List CameItem) (begun : Joining) : Type 0 where
   given : arrived (item_answers fresh (before ++ more)) ≡ arrived (item_answers fresh before) ++ arrived (item_answers begun more)
 
 behind : (messages : List (List ℕ)) (before more : List CameItem) (begun : Joining) → All IsInner messages
-    → IsFrontOf (items_in (before ++ more)) (flat_map items_of messages) → item_after_all fresh before ≡ begun → Behind before more begun
+    → IsPrefixOf (items_in (before ++ more)) (flat_map items_of messages) → item_after_all fresh before ≡ begun → Behind before more begun
 behind messages before more begun inner front left =
     let is = gives_front messages (before ++ more) (messages_are messages inner) front in
     let first = item_answers fresh before in
@@ -160,7 +161,7 @@ opened_none = record { came = []; items_is = refl; given_is = refl; left = refl 
 
 -- More packets are taken: the messages that come out stand behind those that were given, and every packet is whole.
 pub opened_more : (messages : List (List ℕ)) (items : List Item) (given : List (List ℕ)) (begun : Joining) (slots : List Slot) (taken : List Taken) (opened : List Opened) (last : Joining)
-    → HasOpened items given begun → All IsInner messages → IsFrontOf (items ++ flat_map slot_items slots) (flat_map items_of messages) → All IsSlot slots
+    → HasOpened items given begun → All IsInner messages → IsPrefixOf (items ++ flat_map slot_items slots) (flat_map items_of messages) → All IsSlot slots
     → map (λ t. t.packet) taken ≡ map slot_bytes slots → BringsAll begun taken opened last
     → HasOpened (items ++ flat_map slot_items slots) (given ++ packets_in opened) last × All IsWholePacket opened
 opened_more messages items given begun slots taken opened last has inner front are same brings =
@@ -171,7 +172,7 @@ opened_more messages items given begun slots taken opened last has inner front a
     ∙ ap (λ (is : List Item). is ++ items_in more) has.items_is
     ∙ ap (λ (is : List Item). items ++ is) (items-came_of slots taken many) in
     let is = slots_bring slots begun taken opened last are same brings in
-    let next = behind messages has.came more begun inner (subst (λ (is : List Item). IsFrontOf is (flat_map items_of messages)) (sym came_is) front) has.left in
+    let next = behind messages has.came more begun inner (subst (λ (is : List Item). IsPrefixOf is (flat_map items_of messages)) (sym came_is) front) has.left in
     let out : opened ≡ map out_of (arrived (item_answers begun more)) = is.opened_is ∙ next.out in
     let packets : packets_in opened ≡ map (λ (a : Arrived). a.0) (arrived (item_answers begun more)) = ap packets_in out ∙ packets_out (arrived (item_answers begun more)) in (
       record {
@@ -187,15 +188,15 @@ opened_more messages items given begun slots taken opened last has inner front a
     )
 
 came_front : (messages : List (List ℕ)) (items : List Item) (given : List (List ℕ)) (begun : Joining) (has : HasOpened items given begun) → All IsInner messages
-    → IsFrontOf items (flat_map items_of messages) → GivesFront messages has.came
+    → IsPrefixOf items (flat_map items_of messages) → GivesFront messages has.came
 came_front messages items given begun has inner front =
-    gives_front messages has.came (messages_are messages inner) (subst (λ (is : List Item). IsFrontOf is (flat_map items_of messages)) (sym has.items_is) front)
+    gives_front messages has.came (messages_are messages inner) (subst (λ (is : List Item). IsPrefixOf is (flat_map items_of messages)) (sym has.items_is) front)
 
 -- What was given is a front of the messages,
 pub opened_front : (messages : List (List ℕ)) (items : List Item) (given : List (List ℕ)) (begun : Joining) → HasOpened items given begun → All IsInner messages
-    → IsFrontOf items (flat_map items_of messages) → IsFrontOf given messages
+    → IsPrefixOf items (flat_map items_of messages) → IsPrefixOf given messages
 opened_front messages items given begun has inner front =
-    subst (λ (ms : List (List ℕ)). IsFrontOf ms messages) has.given_is (came_front messages items given begun has inner front).front
+    subst (λ (ms : List (List ℕ)). IsPrefixOf ms messages) has.given_is (came_front messages items given begun has inner front).front
 
 -- and all of them where everything came; then none is begun.
 pub opened_every : (messages : List (List ℕ)) (items : List Item) (given : List (List ℕ)) (begun : Joining) → HasOpened items given begun → All IsInner messages
@@ -209,7 +210,7 @@ opened_every messages items given begun has inner all =
 -- ---- the law of a whole run
 
 pub opens_front : (messages : List (List ℕ)) (slots : List Slot) (taken : List Taken) (opened : List Opened) (last : Joining) → All IsInner messages
-    → All IsSlot slots → IsFrontOf (flat_map slot_items slots) (flat_map items_of messages)
+    → All IsSlot slots → IsPrefixOf (flat_map slot_items slots) (flat_map items_of messages)
     → map (λ t. t.packet) taken ≡ map slot_bytes slots → BringsAll fresh taken opened last → OpensFront messages (flat_map slot_items slots) opened last
 opens_front messages slots taken opened last inner are front same brings =
     let items = flat_map slot_items slots in

@@ -1,11 +1,12 @@
 -- What a sender puts into numbered packets, and what comes out of them.
 use Rattle.std.specs.Prelude.{◌≡◌, ℕ, ◌<◌, ◌≤◌, ◌^◌, All, List, [], ◌∷◌, ◌++◌, length, map}
 use Rattle.std.specs.List.{flat_map}
+use Rattle.tipc_types.specs.Prefixes.{IsPrefixOf}
 use Rattle.tipc_types.specs.declared.packet_lists.Taken.{Taken}
 use Rattle.tipc_header.specs.Spelling.{spelling}
 use Rattle.tipc_fragments.specs.Cutting.{packet_of, Piece}
 use Rattle.tipc_fragments.specs.Joining.{answer_of, fresh, Joining}
-use Rattle.tipc_fragments.specs.Laws.{arrived, IsFrontOf}
+use Rattle.tipc_fragments.specs.Laws.{arrived}
 use Rattle.tipc_fragments.specs.Streams.{CameItem, Item, item_after, item_after_all, item_answers, items_in, items_of, Part, Single}
 use Rattle.tipc_bundle.specs.Bundles.{IsInner, joined}
 use Rattle.tipc_reassembly.specs.declared.opening.Opened.{Opened}
@@ -90,7 +91,7 @@ packets_in opened = flat_map whole_in opened
 -- messages. Where everything came they are the messages, and none is begun.
 pub record OpensFront (messages : List (List ℕ)) (items : List Item) (opened : List Opened) (last : Joining) : Type 0 where
   pub whole : All IsWholePacket opened
-  pub front : IsFrontOf (packets_in opened) messages
+  pub front : IsPrefixOf (packets_in opened) messages
   pub every : items ≡ flat_map items_of messages → (packets_in opened ≡ messages) × (last ≡ fresh)
 
 -- These items came from the begin on; they gave these messages, and have begun this.

@@ -2,9 +2,9 @@
 
 ghost use Rattle.std.specs.Prelude.{◌≡◌, ◌++◌, [], ℕ, All, List, map};
 ghost use Rattle.std.specs.List.{flat_map};
+ghost use Rattle.tipc_types.specs.Prefixes.{IsPrefixOf};
 ghost use Rattle.tipc_types.specs.declared.packet_lists.Taken.{Taken};
 ghost use Rattle.tipc_fragments.specs.Joining.{fresh, Joining};
-ghost use Rattle.tipc_fragments.specs.Laws.{IsFrontOf};
 ghost use Rattle.tipc_fragments.specs.Streams.{Item, items_of};
 ghost use Rattle.tipc_bundle.specs.Bundles.{IsInner};
 ghost use Rattle.tipc_reassembly.specs.declared.opening.Opened.{Opened};
@@ -39,7 +39,7 @@ pub fn a_slot_brings_its_items()
 pub fn slots_of_messages_give_a_front()
     ensures { (messages : List (List ℕ)) (slots : List Slot) (taken : List Taken) (opened : List Opened)
         (last : Joining) →
-        All IsInner messages → All IsSlot slots → IsFrontOf (flat_map slot_items slots) (flat_map items_of messages) →
+        All IsInner messages → All IsSlot slots → IsPrefixOf (flat_map slot_items slots) (flat_map items_of messages) →
         map (λ t. t.packet) taken ≡ map slot_bytes slots → BringsAll fresh taken opened last →
         OpensFront messages (flat_map slot_items slots) opened last }
 {}
@@ -50,12 +50,12 @@ pub fn messages_are_given_step_by_step()
     ensures more { (messages : List (List ℕ)) (items : List Item) (given : List (List ℕ)) (begun : Joining)
         (slots : List Slot) (taken : List Taken) (opened : List Opened) (last : Joining) →
         HasOpened items given begun → All IsInner messages →
-        IsFrontOf (items ++ flat_map slot_items slots) (flat_map items_of messages) → All IsSlot slots →
+        IsPrefixOf (items ++ flat_map slot_items slots) (flat_map items_of messages) → All IsSlot slots →
         map (λ t. t.packet) taken ≡ map slot_bytes slots → BringsAll begun taken opened last →
         HasOpened (items ++ flat_map slot_items slots) (given ++ packets_in opened) last × All IsWholePacket opened }
     ensures front { (messages : List (List ℕ)) (items : List Item) (given : List (List ℕ)) (begun : Joining) →
         HasOpened items given begun →
-        All IsInner messages → IsFrontOf items (flat_map items_of messages) → IsFrontOf given messages }
+        All IsInner messages → IsPrefixOf items (flat_map items_of messages) → IsPrefixOf given messages }
     ensures every { (messages : List (List ℕ)) (items : List Item) (given : List (List ℕ)) (begun : Joining) →
         HasOpened items given begun →
         All IsInner messages → items ≡ flat_map items_of messages → (given ≡ messages) × (begun ≡ fresh) }

@@ -1,15 +1,14 @@
 -- The laws of two nodes. Each is promised by a public function of the crate. x takes the step, beside y.
 use Rattle.std.specs.Prelude.{◌≡◌, ◌<◌, ◌≤◌, ◌^◌, ℕ, true, All, List, ◌∷◌, [], ◌++◌, Some, length, map}
+use Rattle.tipc_types.specs.Prefixes.{IsPrefixOf}
 use Rattle.tipc_types.specs.declared.link_words.Cause.{Cause}
 use Rattle.tipc_types.specs.declared.packet_lists.Taken.{Taken}
 use Rattle.tipc_outside.specs.declared.outgoing.Outgoing.{Outgoing}
 use Rattle.tipc_bundle.specs.Bundles.{IsInner, joined}
 use Rattle.tipc_fragments.specs.Joining.{Joining}
-use Rattle.tipc_fragments.specs.Laws.{IsFrontOf}
 use Rattle.tipc_reassembly.specs.declared.opening.Opened.{Opened}
 use Rattle.tipc_reassembly.specs.Opening.{BringsAll}
 use Rattle.tipc_reassembly.specs.Slots.{IsWholePacket, packets_in}
-use Rattle.tipc_link.specs.Laws.{IsPrefixOf}
 use Rattle.tipc_link.specs.Links.{LinkEnd, after}
 use Rattle.tipc_link.specs.Sessions.{MayJoin, SessionEnd, last_of}
 use Rattle.tipc_link_fsm.specs.declared.changes.Change.TheVariants.{Down}
@@ -98,7 +97,7 @@ TakenAreFront = (x y : View) (h : AreTwins x y) (own theirs : ℕ)
 -- and so are the messages that it was given
 abbrev pub GivenAreFront : Type 0
 GivenAreFront = (x y : View) (f : ℕ → ℕ → Carriage) (put given : ℕ → ℕ → List (List ℕ)) (begun : Joining)
-    → Talks x y f put given begun → (own theirs : ℕ) → IsFrontOf (given theirs own) (put own theirs)
+    → Talks x y f put given begun → (own theirs : ℕ) → IsPrefixOf (given theirs own) (put own theirs)
 
 -- the packets of a message are put behind all others
 abbrev pub PutsKeep : Type 0

@@ -1,8 +1,8 @@
 -- Two nodes after any turns and restarts of either, in any order: what they come to from the beginning.
 use Rattle.std.specs.Prelude.{◌<◌, ℕ, ◌+◌, ◌^◌, All, List, Option}
+use Rattle.tipc_types.specs.Prefixes.{IsPrefixOf}
 use Rattle.tipc_outside.specs.declared.outgoing.Outgoing.{Outgoing}
 use Rattle.tipc_reassembly.specs.Slots.{packets_in}
-use Rattle.tipc_link.specs.Laws.{IsPrefixOf}
 use Rattle.tipc_pair.specs.Facing.{PairEnds}
 use Rattle.tipc_pair.specs.PairTurns.{Opening, PairTurn, Reply, ShowsAtLast, ShowsIn}
 use Rattle.tipc_pair.specs.Messages.{IsMessage, opened_in}

@@ -2,6 +2,7 @@
 -- frames that came into the air. That they are talking says what they did besides: their sessions, and frames that
 -- were lost.
 use Rattle.std.specs.Prelude.{◌≡◌, ◌<◌, ◌≤◌, ◌⊎◌, ℕ, ◌+◌, ◌^◌, ◌==◌, ◌&&◌, true, All, List, [], ◌++◌, Option, Some, None, length, slice_get, if◌then◌else◌}
+use Rattle.tipc_types.specs.Prefixes.{IsPrefixOf}
 use Rattle.tipc_outside.specs.declared.outgoing.Outgoing.{Outgoing}
 use Rattle.tipc_header.specs.Frames.{frame_of}
 use Rattle.tipc_header.specs.Grammar.{Fits}
@@ -9,7 +10,6 @@ use Rattle.tipc_header.specs.Spelling.{Fields, spelling}
 use Rattle.tipc_fragments.specs.Joining.{Joining, fresh}
 use Rattle.tipc_reassembly.specs.Slots.{IsWholePacket, packets_in}
 use Rattle.tipc_contact.specs.Sides.{first_number}
-use Rattle.tipc_link.specs.Laws.{IsPrefixOf}
 use Rattle.tipc_link.specs.Links.{LinkEnd, is_traffic}
 use Rattle.tipc_link.specs.Sessions.{SessionEnd}
 use Rattle.tipc_pair.specs.Facing.{PairEnds, facing, in_contact}

@@ -1,11 +1,11 @@
 -- Two nodes and their messages: what each call of either one's pair keeps of them.
 use Rattle.std.specs.Prelude.{◌≡◌, ◌<◌, ◌≤◌, ◌^◌, ◌⊎◌, ℕ, Bool, All, List, ◌∷◌, [], ◌++◌, None, map}
+use Rattle.tipc_types.specs.Prefixes.{IsPrefixOf}
 use Rattle.tipc_types.specs.declared.link_words.BroadcastState.{BroadcastState}
 use Rattle.tipc_types.specs.declared.packet_lists.Taken.{Taken}
 use Rattle.tipc_outside.specs.declared.outgoing.Outgoing.{Outgoing}
 use Rattle.tipc_header.specs.Spelling.{Fields}
 use Rattle.tipc_fragments.specs.Joining.{Joining, fresh}
-use Rattle.tipc_fragments.specs.Laws.{IsFrontOf}
 use Rattle.tipc_reassembly.specs.declared.opening.Opened.{Opened}
 use Rattle.tipc_reassembly.specs.Opening.{BringsAll}
 use Rattle.tipc_reassembly.specs.Slots.{IsWholePacket, packets_in}
@@ -56,7 +56,7 @@ pub record AreTalking (x y : Talker) : Type 0 where
 
 -- In each contact the messages that y was given are a front of those that x put, each whole, once and in order.
 abbrev pub GivenIsFront : Type 0
-GivenIsFront = (x y : Talker) → AreTalking x y → (own theirs : ℕ) → IsFrontOf (y.given theirs own) (x.put own theirs)
+GivenIsFront = (x y : Talker) → AreTalking x y → (own theirs : ℕ) → IsPrefixOf (y.given theirs own) (x.put own theirs)
 
 -- and so it is the other way
 abbrev pub TurnedTalk : Type 0

@@ -1,4 +1,5 @@
 pub mod Address
 pub mod Position
+pub mod Prefixes
 pub mod Span
 pub mod Watching

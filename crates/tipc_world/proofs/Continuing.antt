@@ -1,6 +1,6 @@
 -- Worlds that grow and go on, one after the other.
 use Rattle.std.proofs.Common.{◌≡◌, ℕ, ◌≤◌, List, [], ◌++◌, length, refl, sym, ap, subst, ◌∙◌, arith, append-nil, append_assoc, length-append}
-use Rattle.tipc_journal.specs.Prefixes.{IsPrefixOf}
+use Rattle.tipc_types.specs.Prefixes.{IsPrefixOf}
 use Rattle.tipc_world.specs.declared.places.Places.{Places}
 use Rattle.tipc_world.specs.Courses.{Continues}
 use Rattle.tipc_world.specs.Ends.{ends_of, AreBefore}

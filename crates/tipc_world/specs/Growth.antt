@@ -1,6 +1,6 @@
 -- A world only grows.
 use Rattle.std.specs.Prelude.{ℕ}
-use Rattle.tipc_journal.specs.Prefixes.{IsPrefixOf}
+use Rattle.tipc_types.specs.Prefixes.{IsPrefixOf}
 use Rattle.tipc_world.specs.Skies.{air_on}
 use Rattle.tipc_world.specs.States.{WorldState, history_at}
 

@@ -1,11 +1,11 @@
 -- One of two links goes up or down beside the other, hands over, or counts what came through the other.
 use Rattle.std.proofs.Common.{◌≡◌, ◌≤◌, ℕ, true, false, List, ◌++◌, Option, Some, None, option_map, length, refl, sym, ap, ◌∙◌, subst, inl, inr, arith}
 use Rattle.std.proofs.lemmas.Bool.{cases_eq}
+use Rattle.tipc_types.specs.Prefixes.{IsPrefixOf}
 use Rattle.tipc_types.specs.declared.link_words.Cause.{Cause}
 use Rattle.tipc_contact.specs.Sides.{boot_of}
 use Rattle.tipc_header.specs.Spelling.{spelling}
 use Rattle.tipc_link.specs.Direction.{IsReceiver}
-use Rattle.tipc_link.specs.Laws.{IsPrefixOf}
 use Rattle.tipc_link.specs.Links.{LinkEnd, after, early_with, handed_over, record_in, record_of, recorded}
 use Rattle.tipc_link.specs.Records.{Early, Received, early_of, early_record}
 use Rattle.tipc_link.specs.Sessions.{SessionEnd, given_up, with_record}

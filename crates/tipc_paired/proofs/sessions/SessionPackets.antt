@@ -1,10 +1,10 @@
 -- A session takes packets of its peer, and numbers packets of its own.
 use Rattle.std.proofs.Common.{◌≡◌, ◌⊎◌, ℕ, zero, suc, ◌+◌, ◌≤◌, List, [], ◌∷◌, ◌++◌, Some, None, length, take, drop, refl, sym, ap, ◌∙◌, subst, inl, inr, take-append-drop, length-append, arith}
 use Rattle.std.proofs.lemmas.List.{length-map}
+use Rattle.tipc_types.specs.Prefixes.{IsPrefixOf}
 use Rattle.tipc_types.specs.declared.packet_lists.Taken.{Taken}
 use Rattle.tipc_header.specs.Spelling.{Fields}
 use Rattle.tipc_link.specs.Direction.{IsDirection}
-use Rattle.tipc_link.specs.Laws.{IsPrefixOf}
 use Rattle.tipc_link.specs.Links.{LinkEnd, with_session}
 use Rattle.tipc_link.specs.Sessions.{Carries, SessionEnd, brought, content_of, due_with, flushed, moving, room, took}
 use Rattle.tipc_link.proofs.Directions.{moves_up, taken_recently}

@@ -1,7 +1,7 @@
 -- What holds of a node stays when its peer goes on.
 use Rattle.std.proofs.Common.{◌≡◌, ◌⊎◌, ℕ, ◌≤◌, List, ◌++◌, Some, length, sym, subst, inl, inr, arith}
+use Rattle.tipc_types.specs.Prefixes.{IsPrefixOf}
 use Rattle.tipc_link.specs.Direction.{IsDirection}
-use Rattle.tipc_link.specs.Laws.{IsPrefixOf}
 use Rattle.tipc_link.proofs.Directions.{IsCarried-stays, IsReceiver-stays, slice_get-append}
 use Rattle.tipc_send_window.specs.Sending.{Sending}
 use Rattle.tipc_paired.proofs.wires.Wires.{prefix_extends, prefix_long, prefix_trans}

@@ -1,7 +1,7 @@
 -- What was taken in a contact is a front of what was put in it.
 use Rattle.std.proofs.Common.{◌≡◌, ◌≤◌, ◌+◌, ℕ, zero, suc, length, drop, refl, sym, ap, ◌∙◌, arith}
 use Rattle.std.proofs.lemmas.List.{take-append-drop}
-use Rattle.tipc_link.specs.Laws.{IsPrefixOf}
+use Rattle.tipc_types.specs.Prefixes.{IsPrefixOf}
 use Rattle.tipc_changeover.specs.Slots.{counted}
 use Rattle.tipc_changeover.specs.Links.{Bearer, First, State}
 use Rattle.tipc_changeover.specs.Sound.{Sound}

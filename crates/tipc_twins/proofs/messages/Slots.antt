@@ -6,9 +6,9 @@ use Rattle.std.proofs.lemmas.Bool.Decides.{nat_tests}
 use Rattle.std.proofs.lemmas.Grind.{flat_map-append}
 use Rattle.std.proofs.lemmas.List.{length-map, map-append, take-append-le}
 use Rattle.std.proofs.lemmas.List.Elements.{All-append, All-cons, All-head, All-map, All-tail}
+use Rattle.tipc_types.specs.Prefixes.{IsPrefixOf}
 use Rattle.tipc_header.specs.Spelling.{spelling}
 use Rattle.tipc_fragments.specs.Cutting.{Piece, packet_of, packets_of, pieces_of}
-use Rattle.tipc_fragments.specs.Laws.{IsFrontOf}
 use Rattle.tipc_fragments.specs.Streams.{Item, Part, Single, items_of}
 use Rattle.tipc_bundle.specs.Bundles.{Carries as Waits, IsInner, joined}
 use Rattle.tipc_bundle.specs.Splitting.{IsBundle}
@@ -164,12 +164,12 @@ more_slots slots m line s _ _ is (waits pieces apart) sound bytes message =
 
 -- ---- what was taken
 
-front_part : {A : Type 0} (xs ys zs : List A) → IsFrontOf (xs ++ ys) zs → IsFrontOf xs zs
+front_part : {A : Type 0} (xs ys zs : List A) → IsPrefixOf (xs ++ ys) zs → IsPrefixOf xs zs
 front_part xs ys zs h = (ys ++ h.0, h.1 ∙ append_assoc xs ys h.0)
 
 -- what is in the first slots is a front of what is in all
-pub front_items : (n : ℕ) (slots : List Slot) (zs : List Item) → IsFrontOf (flat_map slot_items slots) zs → IsFrontOf (flat_map slot_items (take n slots)) zs
+pub front_items : (n : ℕ) (slots : List Slot) (zs : List Item) → IsPrefixOf (flat_map slot_items slots) zs → IsPrefixOf (flat_map slot_items (take n slots)) zs
 front_items n slots zs h =
     let parts : flat_map slot_items slots ≡ flat_map slot_items (take n slots) ++ flat_map slot_items (drop n slots) =
     ap (λ (ss : List Slot). flat_map slot_items ss) (sym (take-append-drop n slots)) ∙ flat_map-append slot_items (take n slots) (drop n slots) in
-    front_part (flat_map slot_items (take n slots)) (flat_map slot_items (drop n slots)) zs (subst (λ xs. IsFrontOf xs zs) parts h)
+    front_part (flat_map slot_items (take n slots)) (flat_map slot_items (drop n slots)) zs (subst (λ xs. IsPrefixOf xs zs) parts h)

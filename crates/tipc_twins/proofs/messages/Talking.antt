@@ -6,10 +6,10 @@ use Rattle.std.proofs.Math.Seq.{take-add, take-append_seam}
 use Rattle.std.proofs.lemmas.Grind.{flat_map-append}
 use Rattle.std.proofs.lemmas.List.{drop-map, drop_at, length-take, take-map}
 use Rattle.std.proofs.lemmas.List.Elements.{All-drop, All-take}
+use Rattle.tipc_types.specs.Prefixes.{IsPrefixOf}
 use Rattle.tipc_types.specs.declared.packet_lists.Taken.{Taken}
 use Rattle.tipc_bundle.specs.Bundles.{IsInner, joined}
 use Rattle.tipc_fragments.specs.Joining.{Joining, fresh}
-use Rattle.tipc_fragments.specs.Laws.{IsFrontOf}
 use Rattle.tipc_fragments.specs.Streams.{CameItem, item_after_all, items_in, items_of}
 use Rattle.tipc_reassembly.specs.declared.opening.Opened.{Opened}
 use Rattle.tipc_reassembly.specs.Opening.{BringsAll}
@@ -49,11 +49,11 @@ no_messages first second = record {
 }
 
 -- what was opened is a front of what is sent
-items_front : (c : Carriage) (put given : List (List ℕ)) (begun : Joining) (n : ℕ) → (h : AreMessages c put given begun) → IsFrontOf (flat_map slot_items (take n h.slots)) (flat_map items_of put)
+items_front : (c : Carriage) (put given : List (List ℕ)) (begun : Joining) (n : ℕ) → (h : AreMessages c put given begun) → IsPrefixOf (flat_map slot_items (take n h.slots)) (flat_map items_of put)
 items_front c put given begun n h = front_items n h.slots (flat_map items_of put) ([], sym (append-nil (flat_map slot_items h.slots) ∙ h.whole))
 
 -- the messages that were given are a front of those that were put
-pub given_front : (c : Carriage) (put given : List (List ℕ)) (begun : Joining) → AreMessages c put given begun → IsFrontOf given put
+pub given_front : (c : Carriage) (put given : List (List ℕ)) (begun : Joining) → AreMessages c put given begun → IsPrefixOf given put
 given_front c put given begun h = opened_front put (flat_map slot_items (take (length c.state.delivered) h.slots)) given begun h.opened (all_of IsInner put h.messages) (items_front c put given begun (length c.state.delivered) h)
 
 -- ---- a message is put
@@ -152,7 +152,7 @@ gives_more c c' put given begun last brought opened h same within within' longer
     let due_is : due ≡ map slot_bytes next = sym (ap (λ i. map slot_bytes (take (length due) (drop i slots))) (sym long) ∙ next_slots slots got due (drop n' c'.traffic.put) spelled) in
     let two : take n' slots ≡ take n slots ++ next = ap (λ i. take i slots) all ∙ take-add n (length due) slots in
     let items : flat_map slot_items (take n' slots) ≡ flat_map slot_items (take n slots) ++ flat_map slot_items next = ap (λ (ss : List Slot). flat_map slot_items ss) two ∙ flat_map-append slot_items (take n slots) next in
-    let front : IsFrontOf (flat_map slot_items (take n slots) ++ flat_map slot_items next) (flat_map items_of put) = subst (λ xs. IsFrontOf xs (flat_map items_of put)) items (items_front c put given begun n' h) in
+    let front : IsPrefixOf (flat_map slot_items (take n slots) ++ flat_map slot_items next) (flat_map items_of put) = subst (λ xs. IsPrefixOf xs (flat_map items_of put)) items (items_front c put given begun n' h) in
     let sound : All IsSlot next = All-take IsSlot (length due) (drop n slots) (All-drop IsSlot n slots h.sound) in
     let more = opened_more put (flat_map slot_items (take n slots)) given begun next brought opened last h.opened (all_of IsInner put h.messages) front sound due_is brings in (
       record {

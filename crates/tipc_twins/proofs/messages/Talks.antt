@@ -1,7 +1,7 @@
 -- The messages between two nodes, in every contact, whatever either does.
 use Rattle.std.proofs.Common.{◌≡◌, ◌<◌, ℕ, List, sym, ap, ◌∙◌, subst, arith}
+use Rattle.tipc_types.specs.Prefixes.{IsPrefixOf}
 use Rattle.tipc_fragments.specs.Joining.{Joining}
-use Rattle.tipc_fragments.specs.Laws.{IsFrontOf}
 use Rattle.tipc_paired.specs.Views.{Node, View}
 use Rattle.tipc_twins.specs.Carriages.{Carriage}
 use Rattle.tipc_twins.specs.Messages.{AreMessages, IsTalk, Talks}
@@ -10,7 +10,7 @@ use Rattle.tipc_twins.proofs.contacts.Choosing.{on_changed}
 use Rattle.tipc_twins.proofs.messages.Talking.{given_front}
 
 -- what y is given of each contact is a front of what x put
-pub talks_front : (x y : View) (f : ℕ → ℕ → Carriage) (put given : ℕ → ℕ → List (List ℕ)) (begun : Joining) → Talks x y f put given begun → (own theirs : ℕ) → IsFrontOf (given theirs own) (put own theirs)
+pub talks_front : (x y : View) (f : ℕ → ℕ → Carriage) (put given : ℕ → ℕ → List (List ℕ)) (begun : Joining) → Talks x y f put given begun → (own theirs : ℕ) → IsPrefixOf (given theirs own) (put own theirs)
 talks_front x y f put given begun h own theirs = (let e = h.each own theirs in given_front (f own theirs) (put own theirs) (given theirs own) e.last e.are)
 
 -- ---- the sender

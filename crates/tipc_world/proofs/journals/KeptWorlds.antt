@@ -8,7 +8,6 @@ use Rattle.tipc_types.specs.declared.node_calls.EventNote.{EventNote}
 use Rattle.tipc_types.specs.declared.node_calls.EventNote.TheVariants as note
 use Rattle.tipc_outside.specs.declared.outgoing.Outgoing.{Outgoing}
 use Rattle.tipc_journal.specs.declared.entries.Entry.{Entry}
-use Rattle.tipc_journal.specs.Prefixes.{IsPrefixOf}
 use Rattle.tipc_journal.specs.Steps.{NodeStep}
 use Rattle.tipc_reassembly.proofs.TraceLaws.{begun_none}
 use Rattle.tipc_node.specs.declared.neighbours.Neighbour.{Neighbour}
@@ -32,6 +31,7 @@ use Rattle.tipc_world.specs.States.{MemberState, member_at, pair_at}
 use Rattle.tipc_world.specs.Numbers.{end_on}
 use Rattle.tipc_world.specs.Skies.{AirState, air_on, empty_air, with_both}
 use Rattle.tipc_types.specs.Address.{node_word}
+use Rattle.tipc_types.specs.Prefixes.{IsPrefixOf}
 use Rattle.tipc_pair.specs.Courses.{going_on}
 use Rattle.tipc_pair.specs.Facing.{PairEnds, alone, facing, turned}
 use Rattle.tipc_pair.specs.PairCalls.{at_bearer}

@@ -4,6 +4,7 @@ use Rattle.std.specs.Prelude.{option_and_then}
 use Rattle.std.specs.List.{flat_map}
 use Rattle.std.proofs.lemmas.List.Sums.{sum_by-append, sum_by-cons}
 use Rattle.tipc_types.specs.Address.{node_word}
+use Rattle.tipc_types.specs.Prefixes.{IsPrefixOf}
 use Rattle.tipc_types.specs.declared.identity.Addr.{Addr}
 use Rattle.tipc_types.specs.declared.message_forms.Flow.TheVariants.{Zero}
 use Rattle.tipc_types.specs.declared.message_forms.Message.{Message}
@@ -14,7 +15,6 @@ use Rattle.tipc_journal.specs.declared.entries.Entry.{Entry}
 use Rattle.tipc_journal.specs.Contacts.{contact}
 use Rattle.tipc_journal.specs.Matches.{names}
 use Rattle.tipc_journal.specs.Names.{live}
-use Rattle.tipc_journal.specs.Prefixes.{IsPrefixOf}
 use Rattle.tipc_journal.specs.Streams.{Stream, accepted, delivered, is_items}
 use Rattle.tipc_journal.proofs.StreamLaws.{accepted_append, accepted_nil, delivered_append, delivered_nil}
 use Rattle.tipc_name_dist.specs.Agreeing.{Agrees, shared}

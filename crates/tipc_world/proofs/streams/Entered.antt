@@ -3,12 +3,12 @@ use Rattle.std.proofs.Common.{◌≡◌, ◌≢◌, ℕ, zero, suc, Bool, true, 
 use Rattle.std.specs.Prelude.{◌⊎◌}
 use Rattle.std.specs.List.{cons_option, filter_map, flat_map}
 use Rattle.std.proofs.lemmas.List.Concat.{flat_map-append}
+use Rattle.tipc_types.specs.Prefixes.{IsPrefixOf}
 use Rattle.tipc_types.specs.declared.identity.Addr.{Addr}
 use Rattle.tipc_types.specs.declared.message_forms.Flow.{Flow}
 use Rattle.tipc_types.specs.declared.message_forms.Message.{Message}
 use Rattle.tipc_journal.specs.declared.entries.Entry.{Entry}
 use Rattle.tipc_journal.specs.declared.entries.Entry.TheVariants as entry
-use Rattle.tipc_journal.specs.Prefixes.{IsPrefixOf}
 use Rattle.tipc_journal.specs.Streams.{Stream, accepted, accepted_message, delivered, delivered_message, stream_eq}
 use Rattle.tipc_journal.proofs.StreamLaws.{stream_eq_true}
 use Rattle.tipc_world.specs.Skies.{AirState}
