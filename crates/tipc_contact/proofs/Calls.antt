@@ -3,9 +3,10 @@ use Rattle.std.proofs.Common.{◌≡◌, ◌≢◌, ◌≤◌, ◌⊎◌, ℕ, �
 use Rattle.std.specs.Prelude.{◌&&◌, ◌||◌, ◌==◌, nat_lt, not}
 use Rattle.std.proofs.lemmas.Bool.{cases_Bool, true≢false}
 use Rattle.std.proofs.lemmas.Bool.Decides.{nat_tests}
+use Rattle.tipc_types.specs.LinkStates.{is_up}
 use Rattle.tipc_types.specs.declared.link_words.LinkState.{LinkState}
 use Rattle.tipc_types.specs.declared.link_words.LinkState.TheVariants.{ResetUnknown, ResetReset, WorkingWorking, WorkingUnknown, Held}
-use Rattle.tipc_link_fsm.specs.Table.{Fsm, Outcome, is_up, is_in_reset, is_reset_reset, is_held, is_last, is_peer, is_session, next_epoch, tick_in, up_tick, on_reset, on_activate, on_traffic, on_tick, on_cut, on_peer_tunnel, release, forget_peer, contact_ended}
+use Rattle.tipc_link_fsm.specs.Table.{Fsm, Outcome, is_in_reset, is_reset_reset, is_held, is_last, is_peer, is_session, next_epoch, tick_in, up_tick, on_reset, on_activate, on_traffic, on_tick, on_cut, on_peer_tunnel, release, forget_peer, contact_ended}
 use Rattle.tipc_link_fsm.specs.Runs.{Call, ResetArrives, ActivateArrives, TrafficArrives, TickPasses, BearerIsCut, TunnelNames, Releases, ForgetsPeer, ContactEnds, outcome}
 use Rattle.tipc_link_fsm.proofs.Moves.{cases_on, stays, rises, falls, moves}
 use Rattle.tipc_contact.specs.Sides.{boot_of}

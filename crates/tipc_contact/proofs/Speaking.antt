@@ -3,7 +3,8 @@ use Rattle.std.proofs.Common.{◌≡◌, ◌≢◌, ◌⊎◌, ℕ, zero, suc, �
 use Rattle.std.specs.Prelude.{slice_get}
 use Rattle.std.proofs.lemmas.Bool.{cases_Bool, cases_eq, true≢false}
 use Rattle.std.proofs.lemmas.Bool.Decides.{nat_tests}
-use Rattle.tipc_link_fsm.specs.Table.{Fsm, fresh, is_last, is_up, next_epoch}
+use Rattle.tipc_types.specs.LinkStates.{is_up}
+use Rattle.tipc_link_fsm.specs.Table.{Fsm, fresh, is_last, next_epoch}
 use Rattle.tipc_link_fsm.specs.Runs.{Call, ForgetsPeer, ContactEnds, outcome}
 use Rattle.tipc_link_fsm.proofs.Rising.{own_rises}
 use Rattle.tipc_contact.specs.Sides.{acted, after_call, alone, boot_of, Action, ContactEnded, EndCalled, EndMade, HigherShown, IsSaid, MayAct, Notice, Restarted, Side}

@@ -1,6 +1,7 @@
 -- The two sides of a pair of nodes: what each keeps of the other, what it may do, and what it says.
 use Rattle.std.specs.Prelude.{◌≡◌, ◌<◌, ℕ, ◌+◌, ◌*◌, ◌/◌, ◌==◌, false, List, Option, Some, None, option_map, slice_get, if◌then◌else◌}
-use Rattle.tipc_link_fsm.specs.Table.{Fsm, fresh, is_last, is_up}
+use Rattle.tipc_types.specs.LinkStates.{is_up}
+use Rattle.tipc_link_fsm.specs.Table.{Fsm, fresh, is_last}
 use Rattle.tipc_link_fsm.specs.Runs.{Call, ResetArrives, ActivateArrives, ForgetsPeer, ContactEnds, outcome}
 
 -- A side: the node's contact number for the peer, the highest that the peer has shown (0 where it has shown none), and its

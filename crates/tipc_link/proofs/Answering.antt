@@ -1,10 +1,10 @@
 -- The STATE that is due, where an arrival brought something of the broadcast.
 use Rattle.std.proofs.Common.{◌≡◌, ℕ, Bool, true, false, [], ◌∷◌, Option, Some, None, if◌then◌else◌, option_map, refl, sym, ap, subst, add-zero}
+use Rattle.tipc_types.specs.LinkStates.{is_up}
 use Rattle.tipc_types.specs.declared.link_words.BroadcastState.{BroadcastState}
 use Rattle.tipc_outside.specs.declared.outgoing.Outgoing.{Outgoing}
 use Rattle.tipc_outside.specs.Frames.{Adds, Out}
 use Rattle.tipc_outside.proofs.Adding.{adds_none}
-use Rattle.tipc_link_fsm.specs.Table.{is_up}
 use Rattle.tipc_link.specs.Sessions.{SessionEnd, answer_frames, answered, gap, is_due, state_fields, state_frame, with_broadcast}
 use Rattle.tipc_link.specs.Links.{LinkEnd, answered_end, answered_with}
 

@@ -1,8 +1,9 @@
 -- What a call makes of a link end: it stays as it was, takes an epoch, goes up, or goes down.
 use Rattle.std.proofs.Common.{◌∙◌, ◌≡◌, None, Option, Some, ap, false, option_map, refl, subst, sym, true, ℕ}
 use Rattle.std.proofs.lemmas.Bool.{true≢false}
+use Rattle.tipc_types.specs.LinkStates.{is_up}
 use Rattle.tipc_types.specs.declared.link_words.Reply.TheVariants as reply
-use Rattle.tipc_link_fsm.specs.Table.{Fsm, Outcome, apart, contact_ended, forget_peer, forgotten, is_last, is_up}
+use Rattle.tipc_link_fsm.specs.Table.{Fsm, Outcome, apart, contact_ended, forget_peer, forgotten, is_last}
 use Rattle.tipc_link_fsm.specs.declared.changes.Change.{Change}
 use Rattle.tipc_link_fsm.specs.declared.changes.Change.TheVariants.{Answer, Up}
 use Rattle.tipc_link_fsm.proofs.Moves.{cases_on}

@@ -2,11 +2,12 @@
 use Rattle.std.specs.Prelude.{◌&&◌, ◌==◌, nat_lt, not}
 use Rattle.std.proofs.Common.{◌≡◌, ◌≤◌, ◌⊎◌, Bool, None, Option, Some, ap, eqb-true, false, inl, inr, refl, sym, true, ℕ}
 use Rattle.std.proofs.lemmas.Bool.{and_parts, ltb-false}
+use Rattle.tipc_types.specs.LinkStates.{is_up}
 use Rattle.tipc_types.specs.declared.link_words.Cause.{Cause}
 use Rattle.tipc_types.specs.declared.link_words.LinkState.{LinkState}
 use Rattle.tipc_types.specs.declared.link_words.LinkState.TheVariants.{Held, ResetReset, ResetUnknown, WorkingUnknown, WorkingWorking}
 use Rattle.tipc_types.specs.declared.link_words.Reply.TheVariants as reply
-use Rattle.tipc_link_fsm.specs.Table.{Fsm, Outcome, is_held, is_in_reset, is_last, is_peer, is_reset_reset, is_session, is_up, next_epoch, on_activate, on_traffic}
+use Rattle.tipc_link_fsm.specs.Table.{Fsm, Outcome, is_held, is_in_reset, is_last, is_peer, is_reset_reset, is_session, next_epoch, on_activate, on_traffic}
 use Rattle.tipc_link_fsm.specs.declared.changes.Change.TheVariants.{Answer, Down, Stay, Up}
 use Rattle.tipc_link_fsm.proofs.Moves.{cases_on, is_up_in_reset, not_true}
 use Rattle.tipc_link.specs.Parts.{is_quiet}

@@ -1,5 +1,6 @@
 -- A link end through its states, and what each call makes of it.
 use Rattle.std.specs.Prelude.{ℕ, Bool, true, false, List, [], ◌∷◌, ◌++◌, Option, Some, None, length, option_map, ◌==◌, ◌&&◌, if◌then◌else◌}
+use Rattle.tipc_types.specs.LinkStates.{is_up}
 use Rattle.tipc_types.specs.declared.identity.To.TheVariants as to
 use Rattle.tipc_types.specs.declared.link_words.BroadcastState.{BroadcastState}
 use Rattle.tipc_types.specs.declared.link_words.LinkState.{LinkState}
@@ -17,7 +18,7 @@ use Rattle.tipc_header.specs.Spelling.{Fields, spelling}
 use Rattle.tipc_header.specs.Frames.{frame_of}
 use Rattle.tipc_link_fsm.specs.declared.changes.Change.{Change}
 use Rattle.tipc_link_fsm.specs.declared.changes.Change.TheVariants.{Stay, Up, Down, Answer, Ignore}
-use Rattle.tipc_link_fsm.specs.Table.{Fsm, Outcome, fresh, gives, is_up, on_activate, on_cut, on_peer_tunnel, on_reset, on_traffic, contact_ended, forget_peer, release}
+use Rattle.tipc_link_fsm.specs.Table.{Fsm, Outcome, fresh, gives, on_activate, on_cut, on_peer_tunnel, on_reset, on_traffic, contact_ended, forget_peer, release}
 use Rattle.tipc_send_window.specs.Sending.{kept_of}
 use Rattle.tipc_recv_window.specs.declared.outcomes.LinkOutcome.{LinkOutcome}
 use Rattle.tipc_link.specs.Records.{Early, Received, early_of, early_record, kept_for, named, tunnelled}

@@ -1,12 +1,13 @@
 //! What a pair of links asks of a link end when traffic changes over from one of them to the other.
 
 ghost use Rattle.std.specs.Prelude.{◌≡◌, ◌≤◌, false, true, is_some, length, option_map, Some, None, All, IfOk, IfSome, OnErr, OnOk};
+ghost use Rattle.tipc_types.specs.LinkStates.{is_up};
 ghost use Rattle.tipc_outside.specs.Frames.{Adds};
 ghost use Rattle.tipc_types.specs.declared.packet_lists.Kept.{Kept};
 ghost use Rattle.tipc_types.specs.declared.packet_lists.Taken.{Taken};
 ghost use Rattle.tipc_types.specs.declared.link_words.OldSession.{OldSession};
 ghost use Rattle.tipc_send_window.specs.Sending.{IsSending, kept_of};
-ghost use Rattle.tipc_link_fsm.specs.Table.{is_up, on_peer_tunnel, release};
+ghost use Rattle.tipc_link_fsm.specs.Table.{on_peer_tunnel, release};
 ghost use Rattle.tipc_link.specs.Records.{bytes_of, is_changeover, is_tunnel, named, tunnelled, tunnelled_outcome};
 ghost use Rattle.tipc_link.specs.Links.{is_answer};
 ghost use Rattle.tipc_link.specs.Sessions.{IsWaiting, SessionEnd};

@@ -1,10 +1,11 @@
 //! A link end: its states, its session while it is up, and the frames that it sends.
 
 ghost use Rattle.std.specs.Prelude.{◌≡◌, ℕ, ◌⊎◌, ◌<◌, ◌≤◌, [], true, false, is_some, Some, None, Err, length, All, IfNone, IfOk, IfSome, OnErr, OnOk};
+ghost use Rattle.tipc_types.specs.LinkStates.{is_up};
 ghost use Rattle.tipc_header.specs.Grammar.{Fits, ResetFits};
 ghost use Rattle.tipc_header.specs.Spelling.{view};
 ghost use Rattle.tipc_outside.specs.Frames.{Adds};
-ghost use Rattle.tipc_link_fsm.specs.Table.{is_up, on_cut, on_reset, on_tick, contact_ended, forget_peer};
+ghost use Rattle.tipc_link_fsm.specs.Table.{on_cut, on_reset, on_tick, contact_ended, forget_peer};
 ghost use Rattle.tipc_link.specs.Links.{change_outcome, is_down, is_heard, is_reset_unknown, known, outcome_of};
 ghost use Rattle.tipc_link.specs.Records.{kept_for, unheard};
 ghost use Rattle.tipc_link.specs.Sessions.{SessionEnd, IsPut, IsWaiting, content_of, flush_frames, flushed};
@@ -632,13 +633,7 @@ impl Link {
     pub fn is_up(&self) -> bool
         ensures { result ≡ is_up self.now.fsm.state }
     {
-        match self.fsm.state() {
-            LinkState::WorkingWorking => true,
-            LinkState::WorkingUnknown => true,
-            LinkState::ResetUnknown => false,
-            LinkState::ResetReset => false,
-            LinkState::Held => false,
-        }
+        self.fsm.state().is_up()
     }
 
     /// The peer showed a higher contact number while there was no contact: the end forgets the peer's epoch. An end that is up has

@@ -1,9 +1,10 @@
 use Rattle.std.proofs.Common.{◌≡◌, ◌+◌, ◌≤◌, ◌↔◌, arith, Bool, true, false, ◌&&◌, ◌||◌, ◌==◌, nat_lt, nat_le, not, cond, None, refl, sym, ◌∙◌, ap}
 use Rattle.std.proofs.lemmas.Bool.{and_parts, true≢false, ltb-false, leb-true, leb-false, eqb-false}
+use Rattle.tipc_types.specs.LinkStates.{is_up}
 use Rattle.tipc_types.specs.declared.link_words.LinkState.{LinkState}
 use Rattle.tipc_types.specs.declared.link_words.LinkState.TheVariants.{ResetUnknown, ResetReset, WorkingWorking, WorkingUnknown, Held}
 use Rattle.tipc_link_fsm.specs.Ends.{IsSound}
-use Rattle.tipc_link_fsm.specs.Table.{Fsm, Outcome, is_up, is_in_reset, is_reset_reset, is_held, is_peer, is_session, is_last, lowered, heard, told, apart, unheard, on_reset, on_activate, on_traffic, on_tick, tick_in, on_cut, on_peer_tunnel, release, forget_peer, contact_ended}
+use Rattle.tipc_link_fsm.specs.Table.{Fsm, Outcome, is_in_reset, is_reset_reset, is_held, is_peer, is_session, is_last, lowered, heard, told, apart, unheard, on_reset, on_activate, on_traffic, on_tick, tick_in, on_cut, on_peer_tunnel, release, forget_peer, contact_ended}
 use Rattle.tipc_link_fsm.specs.Runs.{Call, ResetArrives, ActivateArrives, TrafficArrives, TickPasses, BearerIsCut, TunnelNames, Releases, ForgetsPeer, ContactEnds, outcome}
 use Rattle.tipc_link_fsm.proofs.Moves.{cases_on, not_true, is_up_held, moves, stays, rises, falls}
 

@@ -1,10 +1,11 @@
 use Rattle.std.proofs.Common.{◌≡◌, ℕ, Bool, true, false, ◌&&◌, ◌||◌, ◌==◌, nat_lt, nat_le, not, cond, Option, Some, None, refl, sym, ◌∙◌, ap, eqb-true}
 use Rattle.std.proofs.lemmas.Bool.{and_parts}
+use Rattle.tipc_types.specs.LinkStates.{is_up}
 use Rattle.tipc_types.specs.declared.link_words.LinkState.{LinkState}
 use Rattle.tipc_types.specs.declared.link_words.LinkState.TheVariants.{ResetUnknown, ResetReset, WorkingWorking, WorkingUnknown, Held}
 use Rattle.tipc_link_fsm.specs.declared.changes.Change.{Change}
 use Rattle.tipc_link_fsm.specs.declared.changes.Change.TheVariants.{Up}
-use Rattle.tipc_link_fsm.specs.Table.{Fsm, Outcome, is_up, is_in_reset, is_reset_reset, is_held, is_peer, is_session, is_last, next_epoch, lowered, unheard, tick_in, on_reset, on_activate, on_traffic, on_tick, on_cut, on_peer_tunnel, release, forget_peer, contact_ended}
+use Rattle.tipc_link_fsm.specs.Table.{Fsm, Outcome, is_in_reset, is_reset_reset, is_held, is_peer, is_session, is_last, next_epoch, lowered, unheard, tick_in, on_reset, on_activate, on_traffic, on_tick, on_cut, on_peer_tunnel, release, forget_peer, contact_ended}
 use Rattle.tipc_link_fsm.specs.Runs.{Call, ResetArrives, ActivateArrives, TrafficArrives, TickPasses, BearerIsCut, TunnelNames, Releases, ForgetsPeer, ContactEnds, outcome, shown_epochs}
 
 -- whether a change says that the link went up

@@ -1,10 +1,11 @@
 use Rattle.std.proofs.Common.{◌≡◌, ℕ, zero, suc, ◌+◌, ◌<◌, ◌≤◌, arith, true, false, List, [], ◌∷◌, ◌++◌, length, cond, slice_index, ◌⊎◌, inl, inr, refl, sym, ◌∙◌, ap, subst, add-one}
 use Rattle.std.proofs.lemmas.Bool.{true≢false}
 use Rattle.std.specs.List.Sorted.{IsStrictlyIncreasing}
+use Rattle.tipc_types.specs.LinkStates.{is_up}
 use Rattle.tipc_link_fsm.specs.declared.changes.Change.{Change}
 use Rattle.tipc_link_fsm.specs.declared.changes.Change.TheVariants.{Up}
 use Rattle.tipc_link_fsm.specs.Ends.{IsSound}
-use Rattle.tipc_link_fsm.specs.Table.{Fsm, is_up, is_last, next_epoch}
+use Rattle.tipc_link_fsm.specs.Table.{Fsm, is_last, next_epoch}
 use Rattle.tipc_link_fsm.specs.Runs.{Call, outcome, GoesUp, epoch_up, epochs_up}
 use Rattle.tipc_link_fsm.proofs.Moves.{stays, rises, falls, moves, is_going_up, is_up_in_reset}
 

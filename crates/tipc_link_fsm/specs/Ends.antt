@@ -1,7 +1,8 @@
 -- What holds of every link end, whatever is called.
 use Rattle.std.specs.Prelude.{◌≡◌, ◌≤◌, ◌↔◌, true, false}
+use Rattle.tipc_types.specs.LinkStates.{is_up}
 use Rattle.tipc_types.specs.declared.link_words.LinkState.TheVariants.{WorkingUnknown}
-use Rattle.tipc_link_fsm.specs.Table.{Fsm, is_up, is_last}
+use Rattle.tipc_link_fsm.specs.Table.{Fsm, is_last}
 
 -- what each link end keeps
 pub record IsSound (s : Fsm) : Type 0 where

@@ -1,5 +1,6 @@
 -- The table of link states: what each event changes in each state.
 use Rattle.std.specs.Prelude.{◌==◌, ◌&&◌, ◌||◌, ◌+◌, ◌%◌, if◌then◌else◌, nat_lt, nat_le, not, ℕ, Bool, true, false, Option, Some, None}
+use Rattle.tipc_types.specs.LinkStates.{is_up}
 use Rattle.tipc_types.specs.declared.link_words.LinkState.{LinkState}
 use Rattle.tipc_types.specs.declared.link_words.LinkState.TheVariants.{ResetUnknown, ResetReset, WorkingWorking, WorkingUnknown, Held}
 use Rattle.tipc_types.specs.declared.link_words.Cause.TheVariants as cause
@@ -29,12 +30,6 @@ gives after change = record { after = after; change = change }
 -- a new link end
 abbrev pub fresh : ℕ → Fsm
 fresh epoch = record { own = epoch; peer = None; highest = 0; state = ResetUnknown; silent = 0 }
-
--- whether a link in this state is up
-abbrev pub is_up : LinkState → Bool
-is_up WorkingWorking = true
-is_up WorkingUnknown = true
-is_up _ = false
 
 -- whether it is down and not held
 abbrev pub is_in_reset : LinkState → Bool

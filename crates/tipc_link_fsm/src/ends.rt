@@ -1,7 +1,8 @@
 //! The state of a link end, and the table of its changes.
 
 ghost use Rattle.std.specs.Prelude.{◌≡◌, ◌&&◌, ◌≤◌, ◌↔◌, true, false, not};
-ghost use Rattle.tipc_link_fsm.specs.Table.{fresh, is_up, is_in_reset, is_held, is_last, is_peer, is_session, next_epoch, lowered, apart, forgotten, heard, up_tick, on_reset, on_activate, on_traffic, on_tick, on_cut, on_peer_tunnel, release, forget_peer, contact_ended};
+ghost use Rattle.tipc_types.specs.LinkStates.{is_up};
+ghost use Rattle.tipc_link_fsm.specs.Table.{fresh, is_in_reset, is_held, is_last, is_peer, is_session, next_epoch, lowered, apart, forgotten, heard, up_tick, on_reset, on_activate, on_traffic, on_tick, on_cut, on_peer_tunnel, release, forget_peer, contact_ended};
 ghost use Rattle.tipc_link_fsm.specs.Ends.{IsSound};
 
 use crate::changes::Change;
@@ -82,10 +83,10 @@ impl LinkFsm {
         if is_held(self.state) {
             return Change::Ignore(Why::Held);
         }
-        if es < self.highest || self.is_up() && self.is_peer(es) {
+        if es < self.highest || self.state.is_up() && self.is_peer(es) {
             return Change::Ignore(Why::Epoch);
         }
-        if self.is_up() {
+        if self.state.is_up() {
             self.lower(held);
             return Change::Down(Cause::PeerReset);
         }
@@ -110,7 +111,7 @@ impl LinkFsm {
             self.state = LinkState::WorkingWorking;
             return Change::Up;
         }
-        if self.is_up() && self.is_session(es, er) {
+        if self.state.is_up() && self.is_session(es, er) {
             self.hear();
             return Change::Stay;
         }
@@ -130,7 +131,7 @@ impl LinkFsm {
             self.state = LinkState::WorkingWorking;
             return Change::Up;
         }
-        if self.is_up() {
+        if self.state.is_up() {
             self.hear();
             return Change::Stay;
         }
@@ -157,7 +158,7 @@ impl LinkFsm {
         ensures after { self.new ≡ (on_cut self.old held).after }
         ensures change { result ≡ (on_cut self.old held).change }
     {
-        if !self.is_up() {
+        if !self.state.is_up() {
             return Change::Stay;
         }
         self.lower(held);
@@ -170,7 +171,7 @@ impl LinkFsm {
         ensures after { self.new ≡ (on_peer_tunnel self.old epoch).after }
         ensures change { result ≡ (on_peer_tunnel self.old epoch).change }
     {
-        if !(self.is_up() && self.is_peer(epoch)) {
+        if !(self.state.is_up() && self.is_peer(epoch)) {
             return Change::Stay;
         }
         self.lower(true);
@@ -197,7 +198,7 @@ impl LinkFsm {
         ensures after { self.new ≡ (forget_peer self.old).after }
         ensures change { result ≡ (forget_peer self.old).change }
     {
-        if self.is_up() {
+        if self.state.is_up() {
             return self.contact_ended();
         }
         self.forget();
@@ -210,7 +211,7 @@ impl LinkFsm {
         ensures after { self.new ≡ (contact_ended self.old).after }
         ensures change { result ≡ (contact_ended self.old).change }
     {
-        let was_up = self.is_up();
+        let was_up = self.state.is_up();
         self.part();
         if was_up {
             Change::Down(Cause::ContactEnded)
@@ -248,16 +249,6 @@ impl LinkFsm {
         ensures unknown { (2 ≤ result) ↔ (self.now.state ≡ LinkState.WorkingUnknown) }
     {
         self.silent
-    }
-
-    /// Whether the link is up.
-    fn is_up(&self) -> bool
-        ensures { result ≡ is_up self.now.state }
-    {
-        matches!(
-            self.state,
-            LinkState::WorkingWorking | LinkState::WorkingUnknown
-        )
     }
 
     /// Whether the peer's epoch is known and is this one.

@@ -3,6 +3,7 @@
 use Rattle.std.specs.Prelude.{◌≡◌, ◌≤◌, ◌<◌, ◌⊎◌, IfSome, nat_le, ℕ, ◌||◌, Bool, true, false, List, [], Option, Some, None, if◌then◌else◌, is_some, length, option_and_then}
 use Rattle.std.specs.List.{All, list_all}
 use Rattle.tipc_types.specs.Address.{node_word}
+use Rattle.tipc_types.specs.LinkStates.{is_up}
 use Rattle.tipc_types.specs.declared.identity.Addr.{Addr}
 use Rattle.tipc_types.specs.declared.node_calls.Answer.{Answer}
 use Rattle.tipc_types.specs.declared.node_calls.Answer.TheVariants as answer
@@ -19,7 +20,7 @@ use Rattle.tipc_journal.specs.Fates.{AllHaveFates}
 use Rattle.tipc_journal.specs.Licensed.{AllLicensed, is_reached}
 use Rattle.tipc_journal.specs.Refusals.{is_among, sockets_made}
 use Rattle.tipc_journal.specs.Steps.{IsWhole, steps}
-use Rattle.tipc_link_fsm.specs.Table.{is_reset_reset, is_up}
+use Rattle.tipc_link_fsm.specs.Table.{is_reset_reset}
 use Rattle.tipc_link.specs.Links.{LinkEnd, known}
 use Rattle.tipc_link.specs.Sessions.{SessionEnd}
 use Rattle.tipc_pair.specs.Facing.{PairEnds, contact_between, facing}

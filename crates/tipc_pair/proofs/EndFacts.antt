@@ -1,10 +1,11 @@
 -- What is true of a link end of a pair stays so at what the pair does with it.
 use Rattle.std.proofs.Common.{◌≡◌, ℕ, Bool, true, false, Option, Some, None, refl, sym, subst, arith, is_some, option_map, if◌then◌else◌}
 use Rattle.std.specs.Prelude.{IfSome}
+use Rattle.tipc_types.specs.LinkStates.{is_up}
 use Rattle.tipc_types.specs.declared.link_words.LinkState.TheVariants.{ResetUnknown}
 use Rattle.tipc_types.specs.declared.link_words.Reply.TheVariants as reply
 use Rattle.tipc_link_fsm.specs.declared.changes.Change.TheVariants.{Answer, Stay}
-use Rattle.tipc_link_fsm.specs.Table.{Fsm, gives, is_held, is_up, release}
+use Rattle.tipc_link_fsm.specs.Table.{Fsm, gives, is_held, release}
 use Rattle.tipc_link.specs.Links.{LinkEnd, answered_with, mended_end, with_fsm}
 use Rattle.tipc_link.specs.Sessions.{SessionEnd, answered, with_broadcast}
 use Rattle.tipc_pair.specs.Facing.{PairEnds, with_near}

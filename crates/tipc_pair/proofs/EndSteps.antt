@@ -2,6 +2,7 @@
 use Rattle.std.specs.Prelude.{All, IfSome, OnErr, OnOk}
 use Rattle.std.proofs.Common.{◌≡◌, ◌≢◌, ◌⊎◌, ◌+◌, ◌%◌, ◌≤◌, ◌==◌, ◌&&◌, nat_lt, not, ◌∙◌, ℕ, Bool, true, false, List, [], Option, Some, None, Result, Ok, Err, inl, inr, refl, sym, subst, ap, arith, is_some, option_map, if◌then◌else◌}
 use Rattle.std.proofs.lemmas.Bool.Decides.{nat_tests}
+use Rattle.tipc_types.specs.LinkStates.{is_up}
 use Rattle.tipc_types.specs.declared.link_words.Cause.TheVariants as cause
 use Rattle.tipc_types.specs.declared.link_words.Reply.TheVariants as reply
 use Rattle.tipc_header.specs.declared.packet.Header.{Header}
@@ -9,7 +10,7 @@ use Rattle.tipc_header.specs.declared.packet.Header.TheVariants as header
 use Rattle.tipc_header.specs.Spelling.{Fields}
 use Rattle.tipc_link_fsm.specs.declared.changes.Change.{Change}
 use Rattle.tipc_link_fsm.specs.declared.changes.Change.TheVariants.{Answer, Down, Stay, Up}
-use Rattle.tipc_link_fsm.specs.Table.{Fsm, Outcome, apart, contact_ended, forget_peer, forgotten, gives, is_held, is_in_reset, is_last, is_peer, is_reset_reset, is_session, is_up, next_epoch, on_activate, on_cut, on_peer_tunnel, on_traffic}
+use Rattle.tipc_link_fsm.specs.Table.{Fsm, Outcome, apart, contact_ended, forget_peer, forgotten, gives, is_held, is_in_reset, is_last, is_peer, is_reset_reset, is_session, next_epoch, on_activate, on_cut, on_peer_tunnel, on_traffic}
 use Rattle.tipc_link_fsm.proofs.Moves.{Moves, cases_on, falls, is_going_up, on_activate_moves, on_cut_moves, on_peer_tunnel_moves, on_reset_moves, on_traffic_moves, rises, stays}
 use Rattle.tipc_contact.specs.Sides.{boot_of}
 use Rattle.tipc_link.specs.Links.{LinkEnd, after, arrival_end, cut_end, forget_frames, handed_over, heard_end, is_down, is_heard, known, outcome_of, record_of, reset_frames, tunnelled_down, with_fsm, with_session, without_waiting}

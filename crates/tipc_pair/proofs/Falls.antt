@@ -1,8 +1,9 @@
 -- A change of link states that takes a link down: it was up, and takes the next epoch.
 use Rattle.std.proofs.Common.{◌≡◌, ◌==◌, nat_lt, ◌||◌, ◌&&◌, Bool, true, ℕ, refl, ap}
+use Rattle.tipc_types.specs.LinkStates.{is_up}
 use Rattle.tipc_types.specs.declared.link_words.LinkState.{LinkState}
 use Rattle.tipc_types.specs.declared.link_words.LinkState.TheVariants.{ResetUnknown, ResetReset, WorkingWorking, WorkingUnknown, Held}
-use Rattle.tipc_link_fsm.specs.Table.{Fsm, Outcome, is_held, is_peer, is_up, next_epoch, on_cut, on_reset, on_tick, tick_in}
+use Rattle.tipc_link_fsm.specs.Table.{Fsm, Outcome, is_held, is_peer, next_epoch, on_cut, on_reset, on_tick, tick_in}
 use Rattle.tipc_link_fsm.proofs.Moves.{cases_on}
 use Rattle.tipc_link.specs.Links.{is_down}
 

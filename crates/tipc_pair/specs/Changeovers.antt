@@ -2,13 +2,14 @@
 -- one does; and when an end that is held is released.
 use Rattle.std.specs.Prelude.{ℕ, ◌+◌, Bool, false, ◌==◌, List, [], ◌∷◌, ◌++◌, Option, Some, None, option_map, if◌then◌else◌}
 use Rattle.std.specs.List.{flat_map}
+use Rattle.tipc_types.specs.LinkStates.{is_up}
 use Rattle.tipc_types.specs.declared.link_words.Cause.{Cause}
 use Rattle.tipc_types.specs.declared.link_words.Cause.TheVariants as cause
 use Rattle.tipc_outside.specs.declared.outgoing.Outgoing.{Outgoing}
 use Rattle.tipc_fragments.specs.Joining.{fresh}
 use Rattle.tipc_link_fsm.specs.declared.changes.Change.{Change}
 use Rattle.tipc_link_fsm.specs.declared.changes.Change.TheVariants.{Up, Down}
-use Rattle.tipc_link_fsm.specs.Table.{contact_ended, forget_peer, is_up, release}
+use Rattle.tipc_link_fsm.specs.Table.{contact_ended, forget_peer, release}
 use Rattle.tipc_link.specs.Links.{LinkEnd, handed_over, known, release_frames, reset_frames, tunnels_of, with_fsm, without_waiting}
 use Rattle.tipc_link.specs.Sessions.{SessionEnd, flush_frames, flushed, put}
 use Rattle.tipc_pair.specs.declared.transitions.Transition.{Transition}

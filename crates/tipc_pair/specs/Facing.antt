@@ -1,9 +1,10 @@
 -- A pair with a link end on each bearer, or on one, or on none yet, as one of its two nodes keeps it. It is seen from one of its links, which
 -- is the near one: so what is said of a link is said of the near one, once for both bearers.
 use Rattle.std.specs.Prelude.{ℕ, Bool, false, ◌||◌, ◌-◌, ◌==◌, List, [], ◌∷◌, ◌++◌, Option, Some, None, option_map, if◌then◌else◌}
+use Rattle.tipc_types.specs.LinkStates.{is_up}
 use Rattle.tipc_types.specs.declared.link_words.LinkState.{LinkState}
 use Rattle.tipc_fragments.specs.Joining.{Joining, fresh}
-use Rattle.tipc_link_fsm.specs.Table.{is_held, is_up}
+use Rattle.tipc_link_fsm.specs.Table.{is_held}
 use Rattle.tipc_contact.specs.Sides.{first_number}
 use Rattle.tipc_link.specs.Links.{LinkEnd, made}
 

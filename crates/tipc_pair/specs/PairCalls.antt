@@ -1,8 +1,9 @@
 -- What each call makes of a pair that has a link end on each bearer, but for arrivals. The near link is that of the call.
 use Rattle.std.specs.Prelude.{◌≡◌, ◌<◌, ℕ, Bool, List, [], Option, Some, None, length, option_map, if◌then◌else◌}
+use Rattle.tipc_types.specs.LinkStates.{is_up}
 use Rattle.tipc_types.specs.declared.link_words.BroadcastState.{BroadcastState}
 use Rattle.tipc_outside.specs.declared.outgoing.Outgoing.{Outgoing}
-use Rattle.tipc_link_fsm.specs.Table.{Outcome, is_up, on_cut, on_tick}
+use Rattle.tipc_link_fsm.specs.Table.{Outcome, on_cut, on_tick}
 use Rattle.tipc_link.specs.Links.{LinkEnd, after, answered_with, count_of, cut_end, frames, frames_with, mend_frames, mended_end, with_session}
 use Rattle.tipc_link.specs.Sessions.{IsPut, SessionEnd, flush_frames, flushed}
 use Rattle.tipc_pair.specs.Changeovers.{following, released}

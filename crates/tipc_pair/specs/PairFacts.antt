@@ -1,8 +1,9 @@
 -- What is true of every pair that has a link end on each bearer.
 use Rattle.std.specs.Prelude.{◌≡◌, ◌≤◌, ◌<◌, ℕ, true, false, All, Option, IfSome, is_some, length}
+use Rattle.tipc_types.specs.LinkStates.{is_up}
 use Rattle.tipc_link_fsm.specs.declared.changes.Change.{Change}
 use Rattle.tipc_link_fsm.specs.declared.changes.Change.TheVariants.{Up}
-use Rattle.tipc_link_fsm.specs.Table.{Fsm, is_held, is_last, is_up}
+use Rattle.tipc_link_fsm.specs.Table.{Fsm, is_held, is_last}
 use Rattle.tipc_contact.specs.Sides.{boot_of}
 use Rattle.tipc_link.specs.Links.{LinkEnd, is_down, tunnels_of}
 use Rattle.tipc_link.specs.Sessions.{SessionEnd}

@@ -2,8 +2,9 @@
 
 ghost use Rattle.std.specs.Prelude.{◌≡◌, ◌+◌, ◌≤◌, [], ◌∷◌, ◌++◌, true, false, ℕ, List, Some, None, is_some, option_map, All, IfSome, IfOk, OnErr, OnOk};
 ghost use Rattle.std.specs.List.{flat_map};
+ghost use Rattle.tipc_types.specs.LinkStates.{is_up};
 ghost use Rattle.tipc_outside.specs.Frames.{Adds};
-ghost use Rattle.tipc_link_fsm.specs.Table.{is_last, is_up};
+ghost use Rattle.tipc_link_fsm.specs.Table.{is_last};
 ghost use Rattle.tipc_link.specs.Links.{LinkEnd, handed_over, reset_frames, without_waiting};
 ghost use Rattle.tipc_link.specs.Sessions.{SessionEnd, IsWaiting, flush_frames, put};
 ghost use Rattle.tipc_pair.specs.Changeovers.{ended_with, forgetting, is_clear, let_go, let_go_frames, loaded, parted_end, shown_with, up_told};

@@ -1,6 +1,7 @@
 -- A link end of a pair is made, its bearer is mended, and it is called without going up or down.
 use Rattle.std.proofs.Common.{◌≡◌, ℕ, Bool, true, false, if◌then◌else◌, List, [], ◌∷◌, ◌++◌, Option, Some, None, option_map, refl, sym, ap, ◌∙◌, ◌⊎◌, subst, inl, inr, append-nil}
 use Rattle.std.proofs.lemmas.Bool.{true≢false}
+use Rattle.tipc_types.specs.LinkStates.{is_up}
 use Rattle.tipc_types.specs.declared.link_words.BroadcastState.{BroadcastState}
 use Rattle.tipc_types.specs.declared.link_words.LinkState.{LinkState}
 use Rattle.tipc_types.specs.declared.link_words.LinkState.TheVariants.{ResetUnknown}
@@ -14,7 +15,7 @@ use Rattle.tipc_link.proofs.LinkLaw.{Each, Each-none, Each-one}
 use Rattle.tipc_link_fsm.specs.declared.changes.Change.{Change}
 use Rattle.tipc_link_fsm.specs.declared.changes.Change.TheVariants.{Answer, Down, Ignore, Stay, Up}
 use Rattle.tipc_link_fsm.specs.Runs.{Call, Releases, outcome}
-use Rattle.tipc_link_fsm.specs.Table.{is_held, is_up, release}
+use Rattle.tipc_link_fsm.specs.Table.{is_held, release}
 use Rattle.tipc_link_fsm.proofs.Moves.{cases_on}
 use Rattle.tipc_pair.specs.Changeovers.{at_far, is_clear, let_go, let_go_frames, release_near, released}
 use Rattle.tipc_pair.specs.Courses.{rests}

@@ -1,5 +1,6 @@
 -- The calls of a pair as deeds: the bearer is cut, a tick passes, messages are sent, and the STATE that is due.
 use Rattle.std.proofs.Common.{◌≡◌, ◌≤◌, ◌⊎◌, ℕ, Bool, true, false, if◌then◌else◌, List, [], ◌∷◌, ◌++◌, Option, Some, None, option_map, refl, sym, ap, ◌∙◌, subst, inl, inr, arith}
+use Rattle.tipc_types.specs.LinkStates.{is_up}
 use Rattle.tipc_types.specs.declared.link_words.BroadcastState.{BroadcastState}
 use Rattle.tipc_types.specs.declared.link_words.Cause.{Cause}
 use Rattle.tipc_outside.specs.declared.outgoing.Outgoing.{Outgoing}
@@ -9,7 +10,7 @@ use Rattle.tipc_link.specs.Sessions.{IsPut, SessionEnd, answer_frames, answered,
 use Rattle.tipc_link.proofs.LinkLaw.{Each, Each-none, Each-one}
 use Rattle.tipc_link_fsm.specs.declared.changes.Change.TheVariants.{Down, Stay}
 use Rattle.tipc_link_fsm.specs.Runs.{BearerIsCut, TickPasses}
-use Rattle.tipc_link_fsm.specs.Table.{Fsm, is_up, on_cut}
+use Rattle.tipc_link_fsm.specs.Table.{Fsm, on_cut}
 use Rattle.tipc_link_fsm.proofs.Moves.{cases_on}
 use Rattle.tipc_pair.specs.Changeovers.{following, released}
 use Rattle.tipc_pair.specs.Courses.{Course, going_on, rests, sent_in}

@@ -1,9 +1,9 @@
 -- One of two links goes down, and hands over to the other; or it goes up, and takes over from the other.
 use Rattle.std.proofs.Common.{◌≡◌, ℕ, true, false, List, [], ◌++◌, Option, Some, None, option_map, refl, sym, ap, ◌∙◌, subst, append-nil}
+use Rattle.tipc_types.specs.LinkStates.{is_up}
 use Rattle.tipc_link.specs.Links.{LinkEnd, handed_over, with_session, without_waiting}
 use Rattle.tipc_link.specs.Sessions.{SessionEnd, flush_frames, moving, put, waiting_given}
 use Rattle.tipc_link.proofs.LinkLaw.{Each, Each-append, Each-none}
-use Rattle.tipc_link_fsm.specs.Table.{is_up}
 use Rattle.tipc_pair.specs.Changeovers.{failing, loaded, switching}
 use Rattle.tipc_pair.specs.Facing.{PairEnds, other, with_near}
 use Rattle.tipc_pair.specs.Runs.{left_by, taken_over}

@@ -2,6 +2,7 @@
 use Rattle.std.specs.Prelude.{All, IfSome}
 use Rattle.std.proofs.Common.{◌≡◌, ◌≤◌, ◌+◌, ◌==◌, ℕ, true, false, if◌then◌else◌, List, Option, Some, None, option_map, refl, sym, ap, ◌∙◌, subst, arith}
 use Rattle.std.proofs.lemmas.Bool.{and_parts, true≢false}
+use Rattle.tipc_types.specs.LinkStates.{is_up}
 use Rattle.tipc_types.specs.declared.link_words.BroadcastState.{BroadcastState}
 use Rattle.tipc_types.specs.declared.link_words.Cause.{Cause}
 use Rattle.tipc_header.specs.Spelling.{Fields}
@@ -12,7 +13,7 @@ use Rattle.tipc_link.proofs.EndsTurns.{Turn, fall, learn, rise, stay}
 use Rattle.tipc_link_fsm.specs.declared.changes.Change.{Change}
 use Rattle.tipc_link_fsm.specs.declared.changes.Change.TheVariants.{Down, Up}
 use Rattle.tipc_link_fsm.specs.Runs.{Call, TickPasses, TrafficArrives, outcome, shown_epochs}
-use Rattle.tipc_link_fsm.specs.Table.{Fsm, is_up, on_traffic}
+use Rattle.tipc_link_fsm.specs.Table.{Fsm, on_traffic}
 use Rattle.tipc_link_fsm.proofs.Moves.{moves}
 use Rattle.tipc_pair.specs.Changeovers.{contact_begins, contact_ends, fail_over, fail_over_to, failing, following, gone_down, gone_up, is_clear, let_go, let_go_frames, loaded, release_near, released, switch, switch_from, switching}
 use Rattle.tipc_pair.specs.Courses.{Course, going_on, rests}

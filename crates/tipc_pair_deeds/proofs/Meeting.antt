@@ -2,6 +2,7 @@
 use Rattle.std.proofs.Common.{◌≡◌, ◌≢◌, ◌&&◌, ◌⊎◌, ℕ, Bool, true, false, if◌then◌else◌, List, [], ◌++◌, Some, length, option_map, refl, sym, ap, ◌∙◌, subst, inl, inr, append-nil, eqb-true, arith}
 use Rattle.std.specs.Prelude.{not}
 use Rattle.std.proofs.lemmas.Bool.{and_parts}
+use Rattle.tipc_types.specs.LinkStates.{is_up}
 use Rattle.tipc_types.specs.declared.link_words.BroadcastState.{BroadcastState}
 use Rattle.tipc_outside.specs.declared.outgoing.Outgoing.{Outgoing}
 use Rattle.tipc_header.specs.declared.packet.Header.{Header}
@@ -14,7 +15,7 @@ use Rattle.tipc_link.specs.Sessions.{Nothing, SessionEnd, arrived, content_by, c
 use Rattle.tipc_link.proofs.EndsTurns.{peer_is}
 use Rattle.tipc_link_fsm.specs.declared.changes.Change.TheVariants.{Stay, Up}
 use Rattle.tipc_link_fsm.specs.Runs.{Call, TrafficArrives, outcome}
-use Rattle.tipc_link_fsm.specs.Table.{Fsm, Outcome, is_last, is_peer, is_reset_reset, is_session, is_up, on_traffic}
+use Rattle.tipc_link_fsm.specs.Table.{Fsm, Outcome, is_last, is_peer, is_reset_reset, is_session, on_traffic}
 use Rattle.tipc_link_fsm.proofs.Moves.{cases_on}
 use Rattle.tipc_pair.specs.Changeovers.{following}
 use Rattle.tipc_pair.specs.Courses.{Course, going_on, rests}

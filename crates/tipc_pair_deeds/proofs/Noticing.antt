@@ -3,6 +3,7 @@ use Rattle.std.proofs.Common.{◌≡◌, ◌<◌, ◌+◌, ◌^◌, ◌&&◌, �
 use Rattle.std.specs.Prelude.{not}
 use Rattle.std.specs.List.{flat_map}
 use Rattle.std.proofs.lemmas.Bool.{and_parts, cases_Bool, true≢false}
+use Rattle.tipc_types.specs.LinkStates.{is_up}
 use Rattle.tipc_types.specs.declared.link_words.BroadcastState.{BroadcastState}
 use Rattle.tipc_types.specs.declared.link_words.Cause.{Cause}
 use Rattle.tipc_contact.specs.Sides.{IsTold}
@@ -13,7 +14,7 @@ use Rattle.tipc_link.proofs.Ends.{ended-is, forgotten-is}
 use Rattle.tipc_link_fsm.specs.declared.changes.Change.{Change}
 use Rattle.tipc_link_fsm.specs.declared.changes.Change.TheVariants.{Answer, Down, Ignore, Stay, Up}
 use Rattle.tipc_link_fsm.specs.Runs.{ResetArrives}
-use Rattle.tipc_link_fsm.specs.Table.{Fsm, contact_ended, forget_peer, forgotten as forgotten_states, is_held, is_up, on_reset}
+use Rattle.tipc_link_fsm.specs.Table.{Fsm, contact_ended, forget_peer, forgotten as forgotten_states, is_held, on_reset}
 use Rattle.tipc_pair.specs.Changeovers.{contact_ends, following, forgetting, forgotten, parted as parted_pair, parted_end, risen}
 use Rattle.tipc_pair.specs.Courses.{Course, going_on, rests}
 use Rattle.tipc_pair.specs.Facing.{PairEnds, ends_of, in_contact, is_up_at, other, with_near}

@@ -1,5 +1,6 @@
 -- What the near link took is opened: a tunnel packet among it takes the far link down, and its record counts what is inside.
 use Rattle.std.proofs.Common.{◌≡◌, ◌∷◌, ◌&&◌, ℕ, true, List, [], Option, Some, None, refl, ap, ◌⊎◌, subst, inl, inr, append-nil}
+use Rattle.tipc_types.specs.LinkStates.{is_up}
 use Rattle.tipc_types.specs.declared.link_words.BroadcastState.{BroadcastState}
 use Rattle.tipc_types.specs.declared.link_words.Cause.{Cause}
 use Rattle.tipc_types.specs.declared.packet_lists.Taken.{Taken}
@@ -11,7 +12,7 @@ use Rattle.tipc_recv_window.specs.declared.outcomes.LinkOutcome.{LinkOutcome}
 use Rattle.tipc_link.specs.Links.{LinkEnd, after, follow_frames, followed, frames, tunnelled_down}
 use Rattle.tipc_link_fsm.specs.declared.changes.Change.TheVariants.{Down, Stay}
 use Rattle.tipc_link_fsm.specs.Runs.{TunnelNames}
-use Rattle.tipc_link_fsm.specs.Table.{Fsm, is_peer, is_up, on_peer_tunnel}
+use Rattle.tipc_link_fsm.specs.Table.{Fsm, is_peer, on_peer_tunnel}
 use Rattle.tipc_link_fsm.proofs.Moves.{cases_on}
 use Rattle.tipc_pair.specs.declared.changes.PairOutcome.{PairOutcome}
 use Rattle.tipc_pair.specs.Changeovers.{following}

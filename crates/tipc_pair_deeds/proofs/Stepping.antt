@@ -2,6 +2,7 @@
 use Rattle.std.proofs.Common.{◌≡◌, ◌==◌, ℕ, Bool, true, false, if◌then◌else◌, List, [], ◌∷◌, ◌++◌, Option, Some, None, ◌⊎◌, refl, sym, ap, ◌∙◌, subst, inl, inr, append-nil}
 use Rattle.std.specs.List.{flat_map}
 use Rattle.std.proofs.lemmas.Bool.{cases_Bool, true≢false}
+use Rattle.tipc_types.specs.LinkStates.{is_up}
 use Rattle.tipc_types.specs.declared.link_words.BroadcastState.{BroadcastState}
 use Rattle.tipc_types.specs.declared.link_words.Cause.{Cause}
 use Rattle.tipc_types.specs.declared.link_words.Reply.TheVariants as reply
@@ -15,7 +16,6 @@ use Rattle.tipc_link.proofs.LinkLaw.{Each, Each-one}
 use Rattle.tipc_link_fsm.specs.declared.changes.Change.{Change}
 use Rattle.tipc_link_fsm.specs.declared.changes.Change.TheVariants.{Answer, Down, Up}
 use Rattle.tipc_link_fsm.specs.Runs.{Call, outcome}
-use Rattle.tipc_link_fsm.specs.Table.{is_up}
 use Rattle.tipc_pair.specs.declared.transitions.Transition.{Transition}
 use Rattle.tipc_pair.specs.declared.transitions.Transition.TheVariants.{LinkDown}
 use Rattle.tipc_pair.specs.Changeovers.{contact_begins, contact_ends, fail_over, fail_over_to, failing, following, parted, shown_with, switch, switch_from, switching, up_told}

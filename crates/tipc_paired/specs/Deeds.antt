@@ -1,5 +1,6 @@
 -- What a node may do at its pair, one deed at a time. Each call of a pair is a list of deeds, and so is what a node does in one event.
 use Rattle.std.specs.Prelude.{◌≡◌, ◌≢◌, ◌<◌, ◌≤◌, ℕ, Bool, ◌+◌, ◌^◌, true, false, List, ◌++◌, Some, None, length, option_map, slice_get}
+use Rattle.tipc_types.specs.LinkStates.{is_up}
 use Rattle.tipc_types.specs.Prefixes.{IsPrefixOf}
 use Rattle.tipc_types.specs.declared.link_words.BroadcastState.{BroadcastState}
 use Rattle.tipc_types.specs.declared.link_words.Cause.{Cause}
@@ -13,7 +14,7 @@ use Rattle.tipc_header.specs.Spelling.{Fields, spelling}
 use Rattle.tipc_send_window.specs.Sending.{kept_of}
 use Rattle.tipc_link_fsm.specs.declared.changes.Change.TheVariants.{Up, Down}
 use Rattle.tipc_link_fsm.specs.Runs.{Call, ActivateArrives, ContactEnds, ForgetsPeer, ResetArrives, TrafficArrives, outcome}
-use Rattle.tipc_link_fsm.specs.Table.{contact_ended, forget_peer, is_held, is_up}
+use Rattle.tipc_link_fsm.specs.Table.{contact_ended, forget_peer, is_held}
 use Rattle.tipc_contact.specs.Sides.{IsTold, first_number}
 use Rattle.tipc_link.specs.Direction.{IsReceiver}
 use Rattle.tipc_link.specs.Links.{LinkEnd, after, handed_over, is_traffic, known, made, notice, record_of, recorded, shown_by, with_session}

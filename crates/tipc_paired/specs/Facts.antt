@@ -1,6 +1,7 @@
 -- What follows for two nodes that are paired: what an acknowledgement names, under which epochs a link goes up, which a tunnel packet can
 -- name, and how a receiving record counts.
 use Rattle.std.specs.Prelude.{◌≡◌, ◌<◌, ◌≤◌, ℕ, true, [], Some, None, length, take, drop}
+use Rattle.tipc_types.specs.LinkStates.{is_up}
 use Rattle.tipc_types.specs.declared.packet_lists.Taken.{Taken}
 use Rattle.tipc_header.specs.Spelling.{Fields}
 use Rattle.tipc_send_window.specs.Sending.{acked_of}
@@ -9,7 +10,7 @@ use Rattle.tipc_link.specs.Records.{Received, advanced_by, freed, named}
 use Rattle.tipc_link.specs.Sessions.{SessionEnd, released}
 use Rattle.tipc_link_fsm.specs.declared.changes.Change.TheVariants.{Up}
 use Rattle.tipc_link_fsm.specs.Runs.{Call, outcome}
-use Rattle.tipc_link_fsm.specs.Table.{is_held, is_up}
+use Rattle.tipc_link_fsm.specs.Table.{is_held}
 use Rattle.tipc_paired.specs.Deeds.{Counts, Hears, IsBeside, IsUp, MayCall}
 use Rattle.tipc_paired.specs.Paired.{ArePaired, IsUnder}
 use Rattle.tipc_paired.specs.Views.{Begun, View}

@@ -1,5 +1,6 @@
 -- What holds of the two nodes of a pair at every moment, whatever either does and whatever arrives, by bearer and session.
 use Rattle.std.specs.Prelude.{[], ◌+◌, ◌<◌, ◌^◌, ◌≡◌, ◌≢◌, ◌≤◌, ◌⊎◌, List, None, Some, false, length, slice_get, true, ℕ}
+use Rattle.tipc_types.specs.LinkStates.{is_up}
 use Rattle.tipc_types.specs.Position.{number_of}
 use Rattle.tipc_types.specs.Prefixes.{IsPrefixOf}
 use Rattle.tipc_header.specs.Frames.{frame_of, sent_as}
@@ -7,7 +8,7 @@ use Rattle.tipc_header.specs.Grammar.{Fits}
 use Rattle.tipc_header.specs.Spelling.{Fields, spelling}
 use Rattle.tipc_header.specs.declared.packet.Header.{Header}
 use Rattle.tipc_header.specs.declared.packet.Header.TheVariants as header
-use Rattle.tipc_link_fsm.specs.Table.{is_held, is_last, is_up}
+use Rattle.tipc_link_fsm.specs.Table.{is_held, is_last}
 use Rattle.tipc_contact.specs.Peers.{ArePeers}
 use Rattle.tipc_contact.specs.Sides.{boot_of, first_number}
 use Rattle.tipc_link.specs.Direction.{IsCarried, IsDirection, IsReceiver}

@@ -1,7 +1,8 @@
 -- A node as one of the two of a pair: what it keeps of its peer, and all that happened on their links, by bearer and session.
 use Rattle.std.specs.Prelude.{◌≡◌, ℕ, false, ◌==◌, List, [], ◌∷◌, ◌++◌, Option, Some, None, map, option_map, if◌then◌else◌}
+use Rattle.tipc_types.specs.LinkStates.{is_up}
 use Rattle.tipc_header.specs.Reading.{long_at}
-use Rattle.tipc_link_fsm.specs.Table.{Fsm, is_up}
+use Rattle.tipc_link_fsm.specs.Table.{Fsm}
 use Rattle.tipc_contact.specs.Sides.{Notice, Side}
 use Rattle.tipc_link.specs.Links.{LinkEnd}
 use Rattle.tipc_link.specs.Sessions.{SessionEnd}

@@ -1,7 +1,7 @@
 -- What a pair's link ends do as senders, and how an end of a pair is seen when it goes up or down.
 use Rattle.std.specs.Prelude.{◌≡◌, ◌≤◌, ℕ, ◌+◌, ◌-◌, true, List, [], ◌∷◌, Option, Some, length}
+use Rattle.tipc_types.specs.LinkStates.{is_up}
 use Rattle.tipc_send_window.specs.Sending.{Sending, acknowledged, fresh}
-use Rattle.tipc_link_fsm.specs.Table.{is_up}
 use Rattle.tipc_link.specs.Links.{LinkEnd}
 use Rattle.tipc_link.specs.Sessions.{SessionEnd, advanced, moving, put, room}
 use Rattle.tipc_pair.specs.Facing.{PairEnds}

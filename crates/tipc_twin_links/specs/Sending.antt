@@ -1,7 +1,8 @@
 -- The two link ends of a node as senders, and how they stand for a state of two links and their tunnels.
 use Rattle.std.specs.Prelude.{◌≡◌, ℕ, ◌+◌, ◌-◌, List, Option, Some, None, length, drop, if◌then◌else◌}
+use Rattle.tipc_types.specs.LinkStates.{is_up}
 use Rattle.tipc_types.specs.declared.link_words.LinkState.{LinkState}
-use Rattle.tipc_link_fsm.specs.Table.{is_held, is_up}
+use Rattle.tipc_link_fsm.specs.Table.{is_held}
 use Rattle.tipc_send_window.specs.Sending.{Sending, fresh}
 use Rattle.tipc_link.specs.Links.{LinkEnd}
 use Rattle.tipc_link.specs.Sessions.{SessionEnd}

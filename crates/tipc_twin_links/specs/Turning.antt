@@ -1,11 +1,12 @@
 -- How a link of a pair goes up or down, and what the pair's other link does then: the events of the sender that
 -- follow.
 use Rattle.std.specs.Prelude.{◌≡◌, ℕ, ◌+◌, ◌-◌, ◌<◌, ◌≤◌, ◌^◌, All, Bool, true, false, List, Option, Some, take}
+use Rattle.tipc_types.specs.LinkStates.{is_up}
 use Rattle.tipc_types.specs.declared.link_words.Cause.{Cause}
 use Rattle.tipc_send_window.specs.Sending.{fresh, offered}
 use Rattle.tipc_link_fsm.specs.declared.changes.Change.{Change}
 use Rattle.tipc_link_fsm.specs.declared.changes.Change.TheVariants.{Down, Up as GoesUp}
-use Rattle.tipc_link_fsm.specs.Table.{Fsm, Outcome, is_held, is_last, is_up, lowered}
+use Rattle.tipc_link_fsm.specs.Table.{Fsm, Outcome, is_held, is_last, lowered}
 use Rattle.tipc_link.specs.Links.{LinkEnd, is_down}
 use Rattle.tipc_link.specs.Sessions.{SessionEnd, room}
 use Rattle.tipc_pair.specs.Facing.{PairEnds, is_up_at, turned}

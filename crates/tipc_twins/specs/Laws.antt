@@ -1,5 +1,6 @@
 -- The laws of two nodes. Each is promised by a public function of the crate. x takes the step, beside y.
 use Rattle.std.specs.Prelude.{◌≡◌, ◌<◌, ◌≤◌, ◌^◌, ℕ, true, All, List, ◌∷◌, [], ◌++◌, Some, length, map}
+use Rattle.tipc_types.specs.LinkStates.{is_up}
 use Rattle.tipc_types.specs.Prefixes.{IsPrefixOf}
 use Rattle.tipc_types.specs.declared.link_words.Cause.{Cause}
 use Rattle.tipc_types.specs.declared.packet_lists.Taken.{Taken}
@@ -13,7 +14,6 @@ use Rattle.tipc_link.specs.Links.{LinkEnd, after}
 use Rattle.tipc_link.specs.Sessions.{MayJoin, SessionEnd, last_of}
 use Rattle.tipc_link_fsm.specs.declared.changes.Change.TheVariants.{Down}
 use Rattle.tipc_link_fsm.specs.Runs.{Call, outcome}
-use Rattle.tipc_link_fsm.specs.Table.{is_up}
 use Rattle.tipc_pair.specs.Facing.{PairEnds}
 use Rattle.tipc_pair.specs.PairCalls.{Sends as PairSends}
 use Rattle.tipc_pair.specs.PairFacts.{IsPairOfEnds}

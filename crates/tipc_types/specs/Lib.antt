@@ -1,4 +1,5 @@
 pub mod Address
+pub mod LinkStates
 pub mod Position
 pub mod Prefixes
 pub mod Span

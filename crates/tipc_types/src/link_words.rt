@@ -1,5 +1,8 @@
 //! The words of links: states, causes, replies, reasons, and what frames say of a session.
 
+ghost use Rattle.std.specs.Prelude.{◌≡◌};
+ghost use Rattle.tipc_types.specs.LinkStates.{is_up};
+
 /// The state of a link end. It is up in the two working states. (TIPC 2.0 draft; Held is this project's profile.)
 #[derive(Clone, Copy, Debug, PartialEq, Eq)]
 pub enum LinkState {
@@ -13,6 +16,15 @@ pub enum LinkState {
     WorkingUnknown,
     /// Down, and kept so until the pair's other link has handed over what this one had.
     Held,
+}
+
+impl LinkState {
+    /// Whether a link in this state is up.
+    pub fn is_up(self) -> bool
+        ensures { result ≡ is_up self }
+    {
+        matches!(self, LinkState::WorkingWorking | LinkState::WorkingUnknown)
+    }
 }
 
 /// Why a link went down. (This project's profile.)

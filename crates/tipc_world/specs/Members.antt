@@ -2,11 +2,11 @@
 use Rattle.std.specs.Prelude.{◌≡◌, ◌<◌, ◌≤◌, ℕ, ◌+◌, false, List, [], ◌∷◌, ◌++◌, Option, None, Some, length, nat_le, option_and_then, option_map, if◌then◌else◌}
 use Rattle.indexmap.specs.IndexMap.{insert_entry}
 use Rattle.tipc_types.specs.Address.{node_word}
+use Rattle.tipc_types.specs.LinkStates.{is_up}
 use Rattle.tipc_types.specs.declared.node_calls.By.{By}
 use Rattle.tipc_header.specs.Reading.{word_at}
 use Rattle.tipc_link.specs.Links.{LinkEnd}
 use Rattle.tipc_link.specs.Sessions.{SessionEnd}
-use Rattle.tipc_link_fsm.specs.Table.{is_up}
 use Rattle.tipc_sockets.specs.SocketTables.{no_sockets}
 use Rattle.tipc_node.specs.Nodes.{NodeState, known_node, neighbour_of}
 use Rattle.tipc_node.specs.Sharing.{SharesNames}

@@ -21,7 +21,7 @@ ghost use Rattle.tipc_world.specs.States.{count_in, count_of, counted, history, 
 
 use crate::air::Arrived;
 use crate::events::{Limit, WorldEvent, WorldFault};
-use crate::readers::{is_working, number_of};
+use crate::readers::number_of;
 use indexmap::IndexMap;
 use std::alloc::Global;
 use std::marker::Model;
@@ -102,18 +102,18 @@ fn last_session(node: &Node, peer: u8, bearer: u8) -> Option<Tally>
 fn over_with(node: &Node, peer: u8, bearer: u8) -> Option<Tally>
     ensures { result ≡ over_in peer bearer (link_in node.now peer bearer) }
 {
-    if is_working_at(node, peer, bearer) {
+    if is_link_up(node, peer, bearer) {
         return None;
     }
     last_session(node, peer, bearer)
 }
 
 /// Whether the link to a peer on a bearer is up.
-fn is_working_at(node: &Node, peer: u8, bearer: u8) -> bool
+fn is_link_up(node: &Node, peer: u8, bearer: u8) -> bool
     ensures { result ≡ is_up_at (link_in node.now peer bearer) }
 {
     match link_state(node, peer, bearer) {
-        Some(state) => is_working(state),
+        Some(state) => state.is_up(),
         None => false,
     }
 }

@@ -2,7 +2,6 @@
 
 ghost use Rattle.std.specs.Prelude.{◌≡◌, ◌≤◌, ◌+◌, ◌++◌, [], ℕ, Some, None, length, is_some, map, slice_get, slice_index_or, option_map, IfOk, IfSome, OnErr, OnOk};
 ghost use Rattle.std.specs.Option.{option_copied};
-ghost use Rattle.tipc_link_fsm.specs.Table.{is_up};
 ghost use Rattle.tipc_pair.specs.Facing.{state_of, states_of};
 ghost use Rattle.tipc_types.specs.declared.message_forms.Flow.TheVariants.{Zero};
 ghost use Rattle.tipc_world.specs.Readers.{link_shown, links_of, load_of, node_number, receiver_at, receiver_number, sender_at, table_of, unacked_in, waiting_in};
@@ -81,19 +80,6 @@ fn load_all(members: &[Option<Member>]) -> (u64, u64)
         waiting = waiting.saturating_add(queued);
     }
     (unacked, waiting)
-}
-
-/// Whether a link end in this state is up.
-pub fn is_working(state: LinkState) -> bool
-    ensures { result ≡ is_up state }
-{
-    match state {
-        LinkState::WorkingWorking => true,
-        LinkState::WorkingUnknown => true,
-        LinkState::ResetUnknown => false,
-        LinkState::ResetReset => false,
-        LinkState::Held => false,
-    }
 }
 
 /// How many messages node `a` accepted for node `b` in a contact.
@@ -291,7 +277,7 @@ impl<P: Pick> World<P> {
         ensures { result ≡ is_up_at self.now.state.members a b bearer }
     {
         match link_at(&self.members, a, b, bearer) {
-            Some(state) => is_working(state),
+            Some(state) => state.is_up(),
             None => false,
         }
     }

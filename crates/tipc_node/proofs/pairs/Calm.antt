@@ -2,10 +2,11 @@
 use Rattle.std.proofs.Common.{◌≡◌, ◌||◌, ℕ, false, List, [], ◌∷◌, ◌++◌, Option, Some, None, refl, ap, ◌∙◌}
 use Rattle.std.specs.List.{flat_map}
 use Rattle.std.proofs.lemmas.List.Folds.{list_any-append}
+use Rattle.tipc_types.specs.LinkStates.{is_up}
 use Rattle.tipc_types.specs.declared.link_words.BroadcastState.{BroadcastState}
 use Rattle.tipc_link_fsm.specs.declared.changes.Change.{Change}
 use Rattle.tipc_link_fsm.specs.declared.changes.Change.TheVariants.{Stay, Up, Down, Answer, Ignore}
-use Rattle.tipc_link_fsm.specs.Table.{Fsm, Outcome, is_up, on_cut, on_tick}
+use Rattle.tipc_link_fsm.specs.Table.{Fsm, Outcome, on_cut, on_tick}
 use Rattle.tipc_link_fsm.proofs.Moves.{Moves, falls, is_going_up, on_tick_moves, rises, stays}
 use Rattle.tipc_link.specs.Links.{LinkEnd}
 use Rattle.tipc_link.specs.Sessions.{SessionEnd}

@@ -6,10 +6,11 @@ use Rattle.std.specs.List.{flat_map}
 use Rattle.std.proofs.lemmas.Bool.Decides.{nat_tests}
 use Rattle.std.proofs.lemmas.Grind.{flat_map-append}
 use Rattle.std.proofs.lemmas.List.Sums.{fold-append}
+use Rattle.tipc_types.specs.LinkStates.{is_up}
 use Rattle.tipc_types.specs.declared.link_words.Cause.{Cause}
 use Rattle.tipc_link_fsm.specs.declared.changes.Change.{Change}
 use Rattle.tipc_link_fsm.specs.declared.changes.Change.TheVariants.{Stay, Up, Down, Answer, Ignore}
-use Rattle.tipc_link_fsm.specs.Table.{Fsm, is_reset_reset, is_up}
+use Rattle.tipc_link_fsm.specs.Table.{Fsm, is_reset_reset}
 use Rattle.tipc_link.specs.Links.{LinkEnd, handed_over, known, without_waiting}
 use Rattle.tipc_link.specs.Sessions.{SessionEnd, given_up, waiting_given}
 use Rattle.tipc_pair.specs.declared.transitions.Transition.{Transition}

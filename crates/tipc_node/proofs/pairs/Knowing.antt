@@ -2,8 +2,8 @@
 use Rattle.std.proofs.Common.{◌≡◌, ◌==◌, ◌||◌, ◌∙◌, ℕ, Bool, true, false, [], Option, Some, None, is_some, refl, sym, ap, subst, arith}
 use Rattle.std.specs.Prelude.{IfSome, if◌then◌else◌, nat_le, option_map}
 use Rattle.tipc_types.specs.Address.{node_word}
+use Rattle.tipc_types.specs.LinkStates.{is_up}
 use Rattle.tipc_types.specs.declared.link_words.LinkState.TheVariants.{ResetUnknown}
-use Rattle.tipc_link_fsm.specs.Table.{is_up}
 use Rattle.tipc_link.specs.Links.{LinkEnd}
 use Rattle.tipc_pair.specs.Courses.{rests as nothing}
 use Rattle.tipc_pair.specs.Facing.{PairEnds, alone, contact_between, facing, in_contact, is_up_at, turned, with_made, with_near}

@@ -1,6 +1,7 @@
 -- What an outcome of link states makes of a link end: its link goes up, goes down, or stays as it was.
 use Rattle.std.proofs.Common.{◌≡◌, ◌==◌, ◌&&◌, ◌||◌, ℕ, Bool, true, false, Option, Some, None, if◌then◌else◌, is_some, nat_le, nat_lt, not, inl, inr, ◌⊎◌, refl, sym, ap, ◌∙◌}
 use Rattle.std.proofs.lemmas.Bool.{and_parts}
+use Rattle.tipc_types.specs.LinkStates.{is_up}
 use Rattle.tipc_types.specs.declared.link_words.LinkState.{LinkState}
 use Rattle.tipc_types.specs.declared.link_words.LinkState.TheVariants.{ResetUnknown, ResetReset, WorkingWorking, WorkingUnknown, Held}
 use Rattle.tipc_types.specs.declared.link_words.Reply.TheVariants as reply
@@ -9,7 +10,7 @@ use Rattle.tipc_header.specs.declared.packet.Header.TheVariants as header
 use Rattle.tipc_header.specs.Spelling.{Fields}
 use Rattle.tipc_link_fsm.specs.declared.changes.Change.{Change}
 use Rattle.tipc_link_fsm.specs.declared.changes.Change.TheVariants.{Stay, Up, Down, Answer, Ignore}
-use Rattle.tipc_link_fsm.specs.Table.{Fsm, Outcome, contact_ended, forget_peer, heard, is_held, is_in_reset, is_last, is_peer, is_reset_reset, is_session, is_up, lowered, on_activate, on_cut, on_peer_tunnel, on_reset, on_tick, on_traffic, release, tick_in, unheard, up_tick}
+use Rattle.tipc_link_fsm.specs.Table.{Fsm, Outcome, contact_ended, forget_peer, heard, is_held, is_in_reset, is_last, is_peer, is_reset_reset, is_session, lowered, on_activate, on_cut, on_peer_tunnel, on_reset, on_tick, on_traffic, release, tick_in, unheard, up_tick}
 use Rattle.tipc_link_fsm.proofs.Moves.{cases_on, is_up_in_reset}
 use Rattle.tipc_link.specs.Links.{LinkEnd, after, arrival_end, cut_end, followed, is_heard, known, outcome_of, tunnelled_down, with_fsm}
 use Rattle.tipc_link.proofs.Ends.{ended-is, forgotten-is}

@@ -3,13 +3,14 @@ use Rattle.std.proofs.Common.{◌≡◌, ◌≤◌, ◌+◌, ◌-◌, ◌∙◌,
 use Rattle.std.specs.Prelude.{All, IfSome, if◌then◌else◌, min}
 use Rattle.std.proofs.lemmas.Bool.{cases_lt}
 use Rattle.std.proofs.lemmas.List.{drop_all, length-take}
+use Rattle.tipc_types.specs.LinkStates.{is_up}
 use Rattle.tipc_types.specs.declared.link_words.Reply.TheVariants as reply
 use Rattle.tipc_outside.specs.declared.outgoing.Outgoing.{Outgoing}
 use Rattle.tipc_send_window.specs.Sending.{release_count}
 use Rattle.tipc_journal.specs.Steps.{NodeStep}
 use Rattle.tipc_link_fsm.specs.declared.changes.Change.{Change}
 use Rattle.tipc_link_fsm.specs.declared.changes.Change.TheVariants.{Answer, Up}
-use Rattle.tipc_link_fsm.specs.Table.{Fsm, is_up}
+use Rattle.tipc_link_fsm.specs.Table.{Fsm}
 use Rattle.tipc_link.specs.Links.{LinkEnd, answered_with, followed, recorded, with_fsm}
 use Rattle.tipc_link.specs.Records.{Received}
 use Rattle.tipc_link.specs.Sessions.{Carries, Content, IsPut, Nothing, SessionEnd, Shows, answered, arrived, flushed, given_up, heard, joins, put, released, repeated, room, spoke, told, waiting_given, waits, with_broadcast, with_record}

@@ -4,6 +4,7 @@ use Rattle.std.specs.List.{list_any}
 use Rattle.std.proofs.Common.{◌≡◌, ◌≤◌, ◌∙◌, ℕ, Bool, true, false, List, [], ◌∷◌, Option, Some, None, option_map, refl, sym, subst, ap}
 use Rattle.std.proofs.lemmas.Bool.{and_parts}
 use Rattle.std.proofs.lemmas.List.Elements.{All-cons, All-nil}
+use Rattle.tipc_types.specs.LinkStates.{is_up}
 use Rattle.tipc_types.specs.declared.link_words.BroadcastState.{BroadcastState}
 use Rattle.tipc_types.specs.declared.link_words.Why.TheVariants as why
 use Rattle.tipc_types.specs.declared.packet_lists.Taken.{Taken}
@@ -22,7 +23,7 @@ use Rattle.tipc_reassembly.specs.Opening.{BringsAll}
 use Rattle.tipc_reassembly.specs.Opening.BringsAll.{none}
 use Rattle.tipc_link_fsm.specs.declared.changes.Change.{Change}
 use Rattle.tipc_link_fsm.specs.declared.changes.Change.TheVariants.{Answer, Down, Ignore, Stay, Up}
-use Rattle.tipc_link_fsm.specs.Table.{Fsm, Outcome, is_reset_reset, is_last, is_session, is_up, on_cut, on_peer_tunnel, on_reset, on_tick, on_traffic}
+use Rattle.tipc_link_fsm.specs.Table.{Fsm, Outcome, is_reset_reset, is_last, is_session, on_cut, on_peer_tunnel, on_reset, on_tick, on_traffic}
 use Rattle.tipc_link_fsm.proofs.Moves.{cases_on}
 use Rattle.tipc_link.specs.Links.{LinkEnd, after, answered_with, arrival_end, change_outcome, cut_end, heard_end, heard_outcome, is_down, is_heard, is_taken, is_traffic, link_outcome, mended_end, named_end, outcome_of, tunnelled_down, tunnelled_end}
 use Rattle.tipc_link.specs.Sessions.{answered, content_of, with_broadcast}

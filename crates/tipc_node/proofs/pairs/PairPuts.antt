@@ -1,9 +1,10 @@
 -- Messages that are put on the active link of a pair, and a STATE that leaves, change nothing of the contact, or of the states of the links.
 use Rattle.std.specs.Prelude.{◌||◌, ◌==◌, if◌then◌else◌}
 use Rattle.std.proofs.Common.{◌≡◌, ◌∙◌, ◌++◌, ℕ, Bool, true, false, List, ◌∷◌, Option, Some, None, option_map, refl, sym, subst, ap, append_assoc}
+use Rattle.tipc_types.specs.LinkStates.{is_up}
 use Rattle.tipc_types.specs.declared.link_words.BroadcastState.{BroadcastState}
 use Rattle.tipc_outside.specs.declared.outgoing.Outgoing.{Outgoing}
-use Rattle.tipc_link_fsm.specs.Table.{Fsm, is_up}
+use Rattle.tipc_link_fsm.specs.Table.{Fsm}
 use Rattle.tipc_link.specs.Links.{LinkEnd, answered_with, with_session}
 use Rattle.tipc_link.specs.Sessions.{answered, flushed, with_broadcast}
 use Rattle.tipc_pair.specs.Facing.{PairEnds, active, contact_between, facing, in_contact, is_up_at, turned, with_near}

@@ -1,8 +1,9 @@
 -- What a turn tells of a pair is so, before it and after it.
 use Rattle.std.proofs.Common.{◌≡◌, ℕ, Bool, true, false, List, [], append-nil, Option, Some, None, is_some, refl, sym, ◌∙◌, subst}
+use Rattle.tipc_types.specs.LinkStates.{is_up}
 use Rattle.tipc_types.specs.declared.link_words.BroadcastState.{BroadcastState}
 use Rattle.tipc_outside.specs.declared.outgoing.Outgoing.{Outgoing}
-use Rattle.tipc_link_fsm.specs.Table.{is_up, on_cut, on_tick}
+use Rattle.tipc_link_fsm.specs.Table.{on_cut, on_tick}
 use Rattle.tipc_link.specs.Links.{LinkEnd, answered_with, cut_end, mended_end, with_session}
 use Rattle.tipc_link.specs.Sessions.{flushed}
 use Rattle.tipc_pair.specs.declared.transitions.Transition.{Transition}

@@ -2,6 +2,7 @@
 use Rattle.std.proofs.Common.{◌≡◌, ℕ, ◌+◌, Bool, true, false, List, [], ◌∷◌, ◌++◌, Option, Some, None, option_map, if◌then◌else◌, refl, sym, ap, ◌∙◌}
 use Rattle.std.specs.Prelude.{All, map}
 use Rattle.std.proofs.lemmas.List.Elements.{All-cons, All-head, All-nil, All-tail}
+use Rattle.tipc_types.specs.LinkStates.{is_up}
 use Rattle.tipc_types.specs.declared.identity.To.TheVariants as to
 use Rattle.tipc_types.specs.declared.link_words.BroadcastState.{BroadcastState}
 use Rattle.tipc_types.specs.declared.link_words.Reply.TheVariants as reply
@@ -9,7 +10,7 @@ use Rattle.tipc_types.specs.declared.packet_lists.Kept.{Kept}
 use Rattle.tipc_outside.specs.declared.outgoing.Outgoing.{Outgoing}
 use Rattle.tipc_link_fsm.specs.declared.changes.Change.{Change}
 use Rattle.tipc_link_fsm.specs.declared.changes.Change.TheVariants.{Up, Answer}
-use Rattle.tipc_link_fsm.specs.Table.{Fsm, Outcome, is_up, release}
+use Rattle.tipc_link_fsm.specs.Table.{Fsm, Outcome, release}
 use Rattle.tipc_link.specs.Links.{LinkEnd, answered_with, followed, follow_frames, frames, frames_with, is_answer, is_reset_unknown, mend_frames, mended_end, newly_numbered, release_frames, reset_frames, sent_again, session_answer, state_frames, with_fsm, with_session}
 use Rattle.tipc_link.specs.Sessions.{Content, IsPut, Shows, Carries, Nothing, SessionEnd, answered, arrived, flush_frames, flushed, given_up, heard, is_due, moved_frames, again_frames, packet_frame, packet_frames, put, released, repeat_frames, repeated, spoke, told, waiting_given, with_broadcast, with_record}
 use Rattle.tipc_link.specs.Sessions.IsPut.{joins, waits}

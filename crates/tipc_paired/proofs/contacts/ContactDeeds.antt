@@ -2,6 +2,7 @@
 use Rattle.std.proofs.Common.{◌≡◌, ◌≢◌, ◌<◌, ◌≤◌, ◌+◌, ◌==◌, ◌^◌, ℕ, true, false, if◌then◌else◌, [], Option, Some, None, option_map, refl, sym, ap, ◌∙◌, subst, inl, inr, append-nil, arith}
 use Rattle.std.specs.Prelude.{slice_get}
 use Rattle.std.proofs.lemmas.Bool.{cases_Bool, cases_eq, true≢false}
+use Rattle.tipc_types.specs.LinkStates.{is_up}
 use Rattle.tipc_types.specs.declared.link_words.Cause.{Cause}
 use Rattle.tipc_contact.specs.Peers.{ArePeers}
 use Rattle.tipc_contact.specs.Sides.{ContactEnded, EndMade, HigherShown, Restarted, acted, after_call, boot_of, first_number}
@@ -13,7 +14,7 @@ use Rattle.tipc_link.specs.Records.{Received}
 use Rattle.tipc_link.specs.Sessions.{SessionEnd}
 use Rattle.tipc_link_fsm.specs.declared.changes.Change.TheVariants.{Down}
 use Rattle.tipc_link_fsm.specs.Runs.{Call, ContactEnds, ForgetsPeer, outcome}
-use Rattle.tipc_link_fsm.specs.Table.{Fsm, contact_ended, forget_peer, fresh, is_held, is_last, is_up, next_epoch}
+use Rattle.tipc_link_fsm.specs.Table.{Fsm, contact_ended, forget_peer, fresh, is_held, is_last, next_epoch}
 use Rattle.tipc_link.proofs.Ends.{ended-is, forgotten-is}
 use Rattle.tipc_contact.proofs.Calls.{not_last}
 use Rattle.tipc_link.proofs.EndsTurns.{Falls, Turn, fall, learn, rise, stay}

@@ -2,6 +2,7 @@
 use Rattle.std.proofs.Common.{◌≡◌, ◌<◌, ◌≤◌, ◌-◌, ◌==◌, ◌^◌, ℕ, true, false, if◌then◌else◌, List, [], ◌∷◌, ◌++◌, Option, Some, None, length, refl, sym, ap, ◌∙◌, subst, inl, inr, arith}
 use Rattle.std.proofs.lemmas.Bool.{cases_Bool, true≢false}
 use Rattle.std.proofs.lemmas.List.{map-append}
+use Rattle.tipc_types.specs.LinkStates.{is_up}
 use Rattle.tipc_outside.specs.declared.outgoing.Outgoing.{Outgoing}
 use Rattle.tipc_header.specs.declared.packet.Header.{Header}
 use Rattle.tipc_header.specs.declared.packet.Header.TheVariants as header
@@ -15,7 +16,7 @@ use Rattle.tipc_link.specs.Links.{LinkEnd, is_traffic, known, notice, notice_fie
 use Rattle.tipc_link.specs.Sessions.{SessionEnd, packet_frame, state_frame}
 use Rattle.tipc_link.proofs.Directions.{IsCarried-kept}
 use Rattle.tipc_link.proofs.LinkLaw.{Each-append, Each-one}
-use Rattle.tipc_link_fsm.specs.Table.{is_held, is_up}
+use Rattle.tipc_link_fsm.specs.Table.{is_held}
 use Rattle.tipc_paired.proofs.wires.Frames.{IsSaid, IsWorded, er_of-frame, es_of-frame, packet_said, packet_says, state_said, state_says, traffic_shows}
 use Rattle.tipc_paired.proofs.wires.Growing.{half_back}
 use Rattle.tipc_paired.proofs.contacts.Mutual.{taken_with}

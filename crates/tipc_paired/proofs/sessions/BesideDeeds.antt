@@ -1,6 +1,7 @@
 -- One of two links goes up or down beside the other, hands over, or counts what came through the other.
 use Rattle.std.proofs.Common.{◌≡◌, ◌≤◌, ℕ, true, false, List, ◌++◌, Option, Some, None, option_map, length, refl, sym, ap, ◌∙◌, subst, inl, inr, arith}
 use Rattle.std.proofs.lemmas.Bool.{cases_eq}
+use Rattle.tipc_types.specs.LinkStates.{is_up}
 use Rattle.tipc_types.specs.Prefixes.{IsPrefixOf}
 use Rattle.tipc_types.specs.declared.link_words.Cause.{Cause}
 use Rattle.tipc_contact.specs.Sides.{boot_of}
@@ -12,7 +13,7 @@ use Rattle.tipc_link.specs.Sessions.{SessionEnd, given_up, with_record}
 use Rattle.tipc_link.proofs.Ends.{Alike, IsStill, like-map}
 use Rattle.tipc_link_fsm.specs.declared.changes.Change.TheVariants.{Down}
 use Rattle.tipc_link_fsm.specs.Runs.{Call, outcome}
-use Rattle.tipc_link_fsm.specs.Table.{is_held, is_up}
+use Rattle.tipc_link_fsm.specs.Table.{is_held}
 use Rattle.tipc_paired.proofs.contacts.ContactDeeds.{fallen, fell, none_wire}
 use Rattle.tipc_paired.proofs.wires.Ends.{still_end}
 use Rattle.tipc_paired.proofs.wires.EpochsKept.{IsSteady, epochs_steady, reached_on, records_on}

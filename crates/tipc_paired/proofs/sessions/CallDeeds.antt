@@ -2,6 +2,7 @@
 use Rattle.std.proofs.Common.{◌≡◌, ◌<◌, ◌≤◌, ◌^◌, ℕ, Bool, true, false, Option, Some, None, option_map, length, refl, sym, ap, ◌∙◌, subst, arith}
 use Rattle.std.specs.Prelude.{slice_get}
 use Rattle.std.proofs.lemmas.Bool.{true≢false}
+use Rattle.tipc_types.specs.LinkStates.{is_up}
 use Rattle.tipc_contact.specs.Sides.{IsTold, Notice}
 use Rattle.tipc_header.specs.Spelling.{spelling}
 use Rattle.tipc_paired.proofs.wires.Frames.{es_of-frame}
@@ -10,7 +11,7 @@ use Rattle.tipc_link.specs.Sessions.{SessionEnd, told}
 use Rattle.tipc_link_fsm.specs.declared.changes.Change.{Change}
 use Rattle.tipc_link_fsm.specs.declared.changes.Change.TheVariants.{Up, Answer}
 use Rattle.tipc_link_fsm.specs.Runs.{Call, ActivateArrives, BearerIsCut, ContactEnds, ForgetsPeer, Releases, ResetArrives, TickPasses, TrafficArrives, TunnelNames, outcome}
-use Rattle.tipc_link_fsm.specs.Table.{Outcome, is_held, is_up}
+use Rattle.tipc_link_fsm.specs.Table.{Outcome, is_held}
 use Rattle.tipc_types.specs.declared.link_words.Reply.TheVariants as reply
 use Rattle.tipc_link.proofs.Ends.{Alike, IsStill, after-is, alike-same, followed_early, followed_session, learns_taught, like-same, quiet_record, stays_still}
 use Rattle.tipc_link.proofs.EndsTurns.{Turn, fall, learn, rise, stay}

@@ -1,9 +1,10 @@
 -- A link end keeps what holds of it, whatever is called.
 use Rattle.std.proofs.Common.{◌≡◌, ◌<◌, ◌≤◌, ◌^◌, ℕ, true, false, Some, None, refl, sym, ap, ◌∙◌, arith, if◌then◌else◌, ◌+◌}
 use Rattle.std.proofs.lemmas.Bool.{true≢false}
+use Rattle.tipc_types.specs.LinkStates.{is_up}
 use Rattle.tipc_contact.specs.Sides.{boot_of}
 use Rattle.tipc_contact.proofs.Calls.{next_boot}
-use Rattle.tipc_link_fsm.specs.Table.{contact_ended, forget_peer, is_last, is_up, next_epoch}
+use Rattle.tipc_link_fsm.specs.Table.{contact_ended, forget_peer, is_last, next_epoch}
 use Rattle.tipc_link.specs.Links.{LinkEnd, known, session_of}
 use Rattle.tipc_link.specs.Sessions.{SessionEnd}
 use Rattle.tipc_link.proofs.Ends.{IsRaised, IsStill, IsTaught, ended-is, forgotten-is}

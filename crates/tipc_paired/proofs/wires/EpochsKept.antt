@@ -1,9 +1,10 @@
 -- The sessions of a node, where its link end keeps its epochs.
 use Rattle.std.proofs.Common.{◌≡◌, ◌≤◌, ℕ, true, false, List, Option, Some, refl, sym, ap, ◌∙◌, subst, arith}
+use Rattle.tipc_types.specs.LinkStates.{is_up}
 use Rattle.tipc_link.specs.Links.{LinkEnd, record_of, with_session}
 use Rattle.tipc_link.specs.Records.{Received}
 use Rattle.tipc_link.specs.Sessions.{SessionEnd}
-use Rattle.tipc_link_fsm.specs.Table.{is_held, is_up}
+use Rattle.tipc_link_fsm.specs.Table.{is_held}
 use Rattle.tipc_link.proofs.Ends.{Alike, AreLike, IsStill}
 use Rattle.tipc_paired.proofs.wires.Wires.{epoch_of_end, same_some, session_of_up}
 use Rattle.tipc_paired.specs.Deeds.{IsUp}

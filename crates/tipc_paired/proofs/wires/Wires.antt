@@ -2,12 +2,12 @@
 use Rattle.std.specs.Prelude.{map, slice_get}
 use Rattle.std.proofs.Common.{◌≡◌, ◌≢◌, ◌≤◌, ℕ, zero, suc, true, false, if◌then◌else◌, List, [], ◌∷◌, ◌++◌, Option, Some, None, length, refl, sym, ap, ◌∙◌, subst, inl, inr, append_assoc, append-nil, length-append, arith}
 use Rattle.std.proofs.lemmas.Bool.{cases_eq}
+use Rattle.tipc_types.specs.LinkStates.{is_up}
 use Rattle.tipc_types.specs.Prefixes.{IsPrefixOf}
 use Rattle.tipc_contact.proofs.Speaking.{at_other, at_same}
 use Rattle.tipc_link.specs.Links.{LinkEnd}
 use Rattle.tipc_link.specs.Sessions.{SessionEnd}
 use Rattle.tipc_link.proofs.Directions.{Extends, Extends-append}
-use Rattle.tipc_link_fsm.specs.Table.{is_up}
 use Rattle.tipc_paired.specs.Deeds.{IsUp}
 use Rattle.tipc_paired.specs.Views.{Node, Wire, epoch_on, put_at, session_in, session_on}
 

@@ -1,12 +1,13 @@
 -- What the near link of a pair took is opened: what a tunnel packet makes of the pair as a sender.
 use Rattle.std.proofs.Common.{◌≡◌, ◌==◌, ◌||◌, ◌&&◌, ℕ, true, false, if◌then◌else◌, List, [], Option, Some, None, option_map, refl, sym, ap, ◌∙◌, subst}
+use Rattle.tipc_types.specs.LinkStates.{is_up}
 use Rattle.tipc_types.specs.declared.packet_lists.Taken.{Taken}
 use Rattle.tipc_header.specs.declared.packet.ChangeoverType.{ChangeoverType}
 use Rattle.tipc_header.specs.declared.packet.ChangeoverType.TheVariants as kind
 use Rattle.tipc_fragments.specs.Joining.{Joining}
 use Rattle.tipc_tunnel.specs.Tunnels.{Tunnelled}
 use Rattle.tipc_recv_window.specs.declared.outcomes.LinkOutcome.{LinkOutcome}
-use Rattle.tipc_link_fsm.specs.Table.{is_peer, is_up, on_peer_tunnel}
+use Rattle.tipc_link_fsm.specs.Table.{is_peer, on_peer_tunnel}
 use Rattle.tipc_link_fsm.proofs.Moves.{cases_on}
 use Rattle.tipc_link.specs.Links.{LinkEnd, after, named_end, recorded, tunnelled_down, tunnelled_end}
 use Rattle.tipc_link.specs.Records.{Received}

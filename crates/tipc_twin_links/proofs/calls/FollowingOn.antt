@@ -2,6 +2,7 @@
 use Rattle.std.proofs.Common.{◌≡◌, ◌≢◌, ◌==◌, ℕ, ◌+◌, ◌≤◌, true, false, if◌then◌else◌, Option, Some, None, option_map, take, ◌-◌, refl, sym, ap, ◌∙◌, subst, inl, inr, arith}
 use Rattle.std.proofs.lemmas.Bool.{cases_Bool, eqb-true}
 use Rattle.std.proofs.lemmas.Bool.Decides.{nat_tests}
+use Rattle.tipc_types.specs.LinkStates.{is_up}
 use Rattle.tipc_types.specs.declared.link_words.Cause.{Cause}
 use Rattle.tipc_types.specs.declared.link_words.LinkState.{LinkState}
 use Rattle.tipc_types.specs.declared.link_words.Reply.TheVariants as reply
@@ -10,7 +11,7 @@ use Rattle.tipc_header.specs.declared.packet.ChangeoverType.TheVariants.{Duplica
 use Rattle.tipc_link_fsm.specs.declared.changes.Change.{Change}
 use Rattle.tipc_link_fsm.specs.declared.changes.Change.TheVariants.{Answer, Down}
 use Rattle.tipc_link_fsm.specs.declared.changes.Change.TheVariants.{Up as GoesUp}
-use Rattle.tipc_link_fsm.specs.Table.{Fsm, Outcome, is_held, is_last, is_up, lowered, next_epoch, on_tick}
+use Rattle.tipc_link_fsm.specs.Table.{Fsm, Outcome, is_held, is_last, lowered, next_epoch, on_tick}
 use Rattle.tipc_link.specs.Links.{LinkEnd, after, followed, is_down, session_of, with_fsm}
 use Rattle.tipc_link.specs.Sessions.{SessionEnd, room, told}
 use Rattle.tipc_send_window.specs.Sending.{fresh, offered}

@@ -4,7 +4,7 @@ use Rattle.std.proofs.Common.{◌≡◌, None, false, ◌<◌, ◌+◌, ◌-◌,
 use Rattle.std.specs.Prelude.{All}
 use Rattle.std.proofs.Math.Seq.{drop-append_seam}
 use Rattle.std.proofs.lemmas.List.Elements.{All-head, All-tail}
-use Rattle.tipc_link_fsm.specs.Table.{is_up}
+use Rattle.tipc_types.specs.LinkStates.{is_up}
 use Rattle.tipc_link.specs.Links.{LinkEnd}
 use Rattle.tipc_pair.specs.Facing.{PairEnds, in_contact, is_held_at, is_up_at}
 use Rattle.tipc_pair.specs.PairFacts.{AreHeldRightly, IsEndOf, IsPairOfEnds}

@@ -1,7 +1,7 @@
 -- Calls of a pair that leave both ends as a sender sees them: a link end is made, a bearer is mended, and the STATE that is due is sent.
 use Rattle.std.proofs.Common.{◌≡◌, ℕ, Bool, true, false, if◌then◌else◌, Option, Some, None, option_map, refl, sym, ap, ◌∙◌}
+use Rattle.tipc_types.specs.LinkStates.{is_up}
 use Rattle.tipc_types.specs.declared.link_words.BroadcastState.{BroadcastState}
-use Rattle.tipc_link_fsm.specs.Table.{is_up}
 use Rattle.tipc_link.specs.Links.{LinkEnd, answered_with, mended_end}
 use Rattle.tipc_link.specs.Sessions.{SessionEnd, answered, with_broadcast}
 use Rattle.tipc_pair.specs.Facing.{PairEnds, with_made}

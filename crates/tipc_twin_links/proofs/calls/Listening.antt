@@ -2,6 +2,7 @@
 use Rattle.std.proofs.Common.{◌≡◌, ◌≢◌, ◌⊎◌, ℕ, ◌∷◌, not, ◌≤◌, ◌&&◌, Bool, true, false, if◌then◌else◌, List, [], Some, option_map, length, take, refl, sym, ap, ◌∙◌, subst, inl, inr, arith, length-append}
 use Rattle.std.proofs.lemmas.Bool.{and_parts}
 use Rattle.std.proofs.lemmas.List.{drop_all, length-drop, length-take}
+use Rattle.tipc_types.specs.LinkStates.{is_up}
 use Rattle.tipc_types.specs.declared.link_words.BroadcastState.{BroadcastState}
 use Rattle.tipc_header.specs.declared.packet.Header.{Header}
 use Rattle.tipc_header.specs.declared.packet.Header.TheVariants as header
@@ -10,7 +11,7 @@ use Rattle.tipc_send_window.specs.Sending.{Sending, acknowledged, fresh, release
 use Rattle.tipc_link_fsm.specs.declared.changes.Change.{Change}
 use Rattle.tipc_link_fsm.specs.declared.changes.Change.TheVariants.{Answer, Down, Ignore, Stay}
 use Rattle.tipc_link_fsm.specs.declared.changes.Change.TheVariants.{Up as GoesUp}
-use Rattle.tipc_link_fsm.specs.Table.{Fsm, Outcome, is_last, is_reset_reset, is_session, is_up, on_traffic}
+use Rattle.tipc_link_fsm.specs.Table.{Fsm, Outcome, is_last, is_reset_reset, is_session, on_traffic}
 use Rattle.tipc_link_fsm.proofs.Moves.{cases_on}
 use Rattle.tipc_link.specs.Links.{LinkEnd, after, arrival_end, followed, heard_end, is_down, is_heard, is_taken, is_traffic, session_of, with_fsm}
 use Rattle.tipc_link.specs.Sessions.{Carries, Content, Nothing, SessionEnd, Shows, advanced, arrived, content_by, content_of, flushed, moving, released, repeated, room, spoke}

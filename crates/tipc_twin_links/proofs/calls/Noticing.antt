@@ -1,11 +1,12 @@
 -- A RESET or an ACTIVATE arrives at a pair, or a packet that isn't heard: what that makes of the pair as a sender.
 use Rattle.std.proofs.Common.{◌≡◌, ◌&&◌, not, ℕ, ◌≤◌, Bool, true, false, if◌then◌else◌, Option, Some, None, option_map, refl, sym, ap, ◌∙◌, subst, inl, inr}
 use Rattle.std.proofs.lemmas.Bool.{and_parts, cases_Bool}
+use Rattle.tipc_types.specs.LinkStates.{is_up}
 use Rattle.tipc_types.specs.declared.link_words.BroadcastState.{BroadcastState}
 use Rattle.tipc_header.specs.declared.packet.Header.{Header}
 use Rattle.tipc_header.specs.declared.packet.Header.TheVariants as header
 use Rattle.tipc_header.specs.Spelling.{Fields}
-use Rattle.tipc_link_fsm.specs.Table.{Fsm, Outcome, is_up, on_reset}
+use Rattle.tipc_link_fsm.specs.Table.{Fsm, Outcome, on_reset}
 use Rattle.tipc_link_fsm.proofs.Moves.{not_true}
 use Rattle.tipc_link.specs.Links.{LinkEnd, after, arrival_end, heard_end, is_down, is_heard, is_taken, is_traffic, outcome_of}
 use Rattle.tipc_link.specs.Sessions.{content_of}

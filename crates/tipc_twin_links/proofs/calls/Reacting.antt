@@ -1,10 +1,11 @@
 -- What a call of the table of link states makes of a pair as a sender, with all that follows.
 use Rattle.std.proofs.Common.{◌≡◌, ◌||◌, ℕ, ◌≤◌, Bool, true, false, if◌then◌else◌, Some, refl, sym, ap, ◌∙◌, subst, inl, inr}
 use Rattle.std.proofs.lemmas.Bool.{cases_Bool}
+use Rattle.tipc_types.specs.LinkStates.{is_up}
 use Rattle.tipc_types.specs.declared.link_words.Cause.{Cause}
 use Rattle.tipc_link_fsm.specs.declared.changes.Change.TheVariants.{Down}
 use Rattle.tipc_link_fsm.specs.declared.changes.Change.TheVariants.{Up as GoesUp}
-use Rattle.tipc_link_fsm.specs.Table.{Fsm, Outcome, is_up, lowered}
+use Rattle.tipc_link_fsm.specs.Table.{Fsm, Outcome, lowered}
 use Rattle.tipc_link.specs.Links.{LinkEnd, after, followed, is_down, session_of, with_fsm}
 use Rattle.tipc_link.specs.Sessions.{SessionEnd}
 use Rattle.tipc_pair.specs.Changeovers.{contact_ends, fail_over, following, gone_up}

@@ -1,8 +1,9 @@
 -- At the end of a call the near end of a pair may be held no longer.
 use Rattle.std.proofs.Common.{◌≡◌, true, false, if◌then◌else◌, Option, Some, None, option_map, refl, sym, ap, ◌∙◌, subst, inl, inr}
 use Rattle.std.proofs.lemmas.Bool.{cases_Bool}
+use Rattle.tipc_types.specs.LinkStates.{is_up}
 use Rattle.tipc_types.specs.declared.link_words.LinkState.{LinkState}
-use Rattle.tipc_link_fsm.specs.Table.{is_held, is_up, release}
+use Rattle.tipc_link_fsm.specs.Table.{is_held, release}
 use Rattle.tipc_link_fsm.proofs.Moves.{is_up_held}
 use Rattle.tipc_link.specs.Links.{LinkEnd}
 use Rattle.tipc_pair.specs.Changeovers.{is_clear, let_go, let_go_frames, release_near}

@@ -1,11 +1,12 @@
 -- What each call makes of the table of link states, as the pair's other link sees it.
 use Rattle.std.proofs.Common.{◌≡◌, ◌==◌, ◌&&◌, ◌||◌, not, ℕ, Bool, true, false, nat_lt, nat_le, if◌then◌else◌, refl, sym, ap, ◌∙◌}
 use Rattle.std.proofs.lemmas.Bool.{and_parts}
+use Rattle.tipc_types.specs.LinkStates.{is_up}
 use Rattle.tipc_types.specs.declared.link_words.Cause.TheVariants as cause
 use Rattle.tipc_types.specs.declared.link_words.LinkState.{LinkState}
 use Rattle.tipc_types.specs.declared.link_words.LinkState.TheVariants.{ResetUnknown, ResetReset, WorkingWorking, WorkingUnknown}
 use Rattle.tipc_types.specs.declared.link_words.LinkState.TheVariants as state
-use Rattle.tipc_link_fsm.specs.Table.{Fsm, is_held, is_in_reset, is_last, is_peer, is_reset_reset, is_session, is_up, on_activate, on_cut, on_peer_tunnel, on_reset, on_tick, on_traffic, tick_in, unheard}
+use Rattle.tipc_link_fsm.specs.Table.{Fsm, is_held, is_in_reset, is_last, is_peer, is_reset_reset, is_session, on_activate, on_cut, on_peer_tunnel, on_reset, on_tick, on_traffic, tick_in, unheard}
 use Rattle.tipc_link_fsm.proofs.Moves.{cases_on}
 use Rattle.tipc_changeover.specs.Links.{Reset, Up}
 use Rattle.tipc_twin_links.specs.Sending.{state_as}

@@ -2,6 +2,7 @@
 use Rattle.std.proofs.Common.{◌≡◌, ◌≢◌, ◌==◌, ℕ, ◌+◌, ◌≤◌, true, false, if◌then◌else◌, Option, Some, None, option_map, length, take, [], refl, sym, ap, ◌∙◌, subst, inl, inr, arith, length-append}
 use Rattle.std.proofs.lemmas.Bool.{cases_Bool}
 use Rattle.std.proofs.lemmas.List.{length-take}
+use Rattle.tipc_types.specs.LinkStates.{is_up}
 use Rattle.tipc_types.specs.declared.link_words.LinkState.{LinkState}
 use Rattle.tipc_types.specs.declared.link_words.Reply.TheVariants as reply
 use Rattle.tipc_header.specs.declared.packet.ChangeoverType.TheVariants.{Duplicate, Original}
@@ -9,7 +10,7 @@ use Rattle.tipc_send_window.specs.Sending.{Sending, emptied, fresh, offered, wit
 use Rattle.tipc_link_fsm.specs.declared.changes.Change.{Change}
 use Rattle.tipc_link_fsm.specs.declared.changes.Change.TheVariants.{Answer}
 use Rattle.tipc_link_fsm.specs.declared.changes.Change.TheVariants.{Up as GoesUp}
-use Rattle.tipc_link_fsm.specs.Table.{Fsm, Outcome, is_held, is_up}
+use Rattle.tipc_link_fsm.specs.Table.{Fsm, Outcome, is_held}
 use Rattle.tipc_link.specs.Links.{LinkEnd, after, followed, with_fsm}
 use Rattle.tipc_link.specs.Sessions.{SessionEnd, advanced, flushed, put, room, told}
 use Rattle.tipc_pair.specs.Changeovers.{contact_begins, contact_ends, fail_over, gone_up, parted_end, switch}

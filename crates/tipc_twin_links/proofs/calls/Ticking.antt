@@ -2,11 +2,12 @@
 use Rattle.std.proofs.Common.{◌≡◌, ◌==◌, ◌||◌, ℕ, ◌-◌, ◌≤◌, Bool, true, false, Option, Some, None, refl, sym, ap, ◌∙◌, subst, inl, inr, arith}
 use Rattle.std.proofs.lemmas.Bool.{cases_Bool}
 use Rattle.std.proofs.lemmas.Bool.Decides.{nat_tests}
+use Rattle.tipc_types.specs.LinkStates.{is_up}
 use Rattle.tipc_types.specs.declared.link_words.BroadcastState.{BroadcastState}
 use Rattle.tipc_types.specs.declared.link_words.LinkState.{LinkState}
 use Rattle.tipc_link_fsm.specs.declared.changes.Change.{Change}
 use Rattle.tipc_link_fsm.specs.declared.changes.Change.TheVariants.{Up as GoesUp}
-use Rattle.tipc_link_fsm.specs.Table.{Fsm, Outcome, is_up, on_cut, on_tick}
+use Rattle.tipc_link_fsm.specs.Table.{Fsm, Outcome, on_cut, on_tick}
 use Rattle.tipc_link_fsm.proofs.Moves.{cases_on, is_going_up}
 use Rattle.tipc_link.specs.Links.{LinkEnd, after, cut_end, with_fsm}
 use Rattle.tipc_pair.specs.Changeovers.{following}

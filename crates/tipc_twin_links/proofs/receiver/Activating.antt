@@ -1,6 +1,7 @@
 -- An ACTIVATE arrives at a pair: it may take the near link up, whose record begins or is kept.
 use Rattle.std.proofs.Common.{◌≡◌, ◌&&◌, ◌||◌, ℕ, ◌<◌, ◌≤◌, Bool, true, false, if◌then◌else◌, List, [], Option, Some, None, option_map, refl, sym, ap, ◌∙◌, subst, inl, inr}
 use Rattle.std.proofs.lemmas.Bool.{cases_Bool}
+use Rattle.tipc_types.specs.LinkStates.{is_up}
 use Rattle.tipc_types.specs.declared.link_words.BroadcastState.{BroadcastState}
 use Rattle.tipc_types.specs.declared.link_words.Why.TheVariants as why
 use Rattle.tipc_header.specs.declared.packet.Header.{Header}
@@ -8,7 +9,7 @@ use Rattle.tipc_header.specs.declared.packet.Header.TheVariants as header
 use Rattle.tipc_header.specs.declared.packet.Reset.{Reset}
 use Rattle.tipc_header.specs.Spelling.{Fields}
 use Rattle.tipc_link_fsm.specs.declared.changes.Change.TheVariants.{Up}
-use Rattle.tipc_link_fsm.specs.Table.{Outcome, forget_peer, is_last, is_up, on_activate}
+use Rattle.tipc_link_fsm.specs.Table.{Outcome, forget_peer, is_last, on_activate}
 use Rattle.tipc_link_fsm.proofs.Moves.{is_going_up}
 use Rattle.tipc_link.specs.Links.{LinkEnd, after, arrival_end, change_outcome, heard_end, heard_outcome, is_heard, is_taken, is_traffic, outcome_of}
 use Rattle.tipc_link.specs.Sessions.{content_of}

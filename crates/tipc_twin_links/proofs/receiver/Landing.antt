@@ -1,5 +1,6 @@
 -- Any packet arrives at a pair: what it takes is the next packets that were put.
 use Rattle.std.proofs.Common.{◌≡◌, ◌&&◌, not, ℕ, true, false, List, Option, Some, None, refl, ap, ◌∙◌}
+use Rattle.tipc_types.specs.LinkStates.{is_up}
 use Rattle.tipc_types.specs.declared.link_words.BroadcastState.{BroadcastState}
 use Rattle.tipc_types.specs.declared.link_words.Why.{Why}
 use Rattle.tipc_types.specs.declared.link_words.Why.TheVariants as why
@@ -9,7 +10,7 @@ use Rattle.tipc_header.specs.declared.packet.Header.TheVariants as header
 use Rattle.tipc_header.specs.Spelling.{Fields}
 use Rattle.tipc_link_fsm.specs.declared.changes.Change.{Change}
 use Rattle.tipc_link_fsm.specs.declared.changes.Change.TheVariants.{Ignore, Stay, Up}
-use Rattle.tipc_link_fsm.specs.Table.{Fsm, Outcome, is_last, is_reset_reset, is_session, is_up, on_traffic}
+use Rattle.tipc_link_fsm.specs.Table.{Fsm, Outcome, is_last, is_reset_reset, is_session, on_traffic}
 use Rattle.tipc_link_fsm.proofs.Moves.{cases_on, is_going_up}
 use Rattle.tipc_link.specs.Links.{LinkEnd, is_heard, is_taken, is_traffic, outcome_of}
 use Rattle.tipc_pair.specs.declared.changes.PairOutcome.{PairOutcome}

@@ -1,8 +1,9 @@
 -- Calls of a pair that aren't arrivals leave its receiving records as they are.
 use Rattle.std.proofs.Common.{◌≡◌, ◌==◌, ◌≤◌, ℕ, Bool, true, false, if◌then◌else◌, List, Option, Some, None, option_map, refl, sym, ap, ◌∙◌, subst, arith}
+use Rattle.tipc_types.specs.LinkStates.{is_up}
 use Rattle.tipc_types.specs.declared.link_words.BroadcastState.{BroadcastState}
 use Rattle.tipc_outside.specs.declared.outgoing.Outgoing.{Outgoing}
-use Rattle.tipc_link_fsm.specs.Table.{is_up, on_cut, on_tick}
+use Rattle.tipc_link_fsm.specs.Table.{on_cut, on_tick}
 use Rattle.tipc_link.specs.Links.{LinkEnd, answered_with, cut_end, mended_end, record_in, record_of, with_session}
 use Rattle.tipc_link.specs.Records.{Early}
 use Rattle.tipc_link.specs.Sessions.{IsPut, SessionEnd, answered, flushed, joins, receiving_record, waits, with_broadcast}

@@ -2,6 +2,7 @@
 use Rattle.std.proofs.Common.{◌≡◌, ◌==◌, ◌&&◌, ◌||◌, not, ℕ, ◌+◌, ◌<◌, ◌≤◌, Bool, true, false, nat_lt, if◌then◌else◌, List, [], Option, Some, None, is_some, option_map, refl, sym, ap, ◌∙◌, subst, arith}
 use Rattle.std.proofs.lemmas.Bool.{and_parts, eqb-true}
 use Rattle.std.proofs.lemmas.Bool.Decides.{nat_tests}
+use Rattle.tipc_types.specs.LinkStates.{is_up}
 use Rattle.tipc_types.specs.declared.link_words.BroadcastState.{BroadcastState}
 use Rattle.tipc_types.specs.declared.link_words.Reply.TheVariants as reply
 use Rattle.tipc_types.specs.declared.link_words.Why.{Why}
@@ -12,7 +13,7 @@ use Rattle.tipc_header.specs.declared.packet.Reset.{Reset}
 use Rattle.tipc_header.specs.Spelling.{Fields}
 use Rattle.tipc_link_fsm.specs.declared.changes.Change.{Change}
 use Rattle.tipc_link_fsm.specs.declared.changes.Change.TheVariants.{Answer, Down, Ignore, Up}
-use Rattle.tipc_link_fsm.specs.Table.{Fsm, Outcome, is_held, is_in_reset, is_last, is_peer, is_session, is_up, on_activate, on_reset, on_traffic}
+use Rattle.tipc_link_fsm.specs.Table.{Fsm, Outcome, is_held, is_in_reset, is_last, is_peer, is_session, on_activate, on_reset, on_traffic}
 use Rattle.tipc_link_fsm.proofs.Moves.{cases_on, is_going_up, not_true}
 use Rattle.tipc_link.specs.Links.{LinkEnd, after, arrival_end, change_outcome, followed, heard_end, heard_outcome, is_down, is_heard, is_taken, is_traffic, known, record_in, record_of, with_fsm}
 use Rattle.tipc_link.specs.Records.{Early}

@@ -1,11 +1,12 @@
 -- What a receiver does with the packets that its near link took, the first of which may be a tunnel packet.
 use Rattle.std.proofs.Common.{◌≡◌, ◌⊎◌, ℕ, ◌&&◌, if◌then◌else◌, [], Option, Some, None, refl, sym, ap, ◌∙◌, inl, inr, arith, is_some, option_map}
 use Rattle.std.proofs.lemmas.Bool.{cases_Bool}
+use Rattle.tipc_types.specs.LinkStates.{is_up}
 use Rattle.tipc_types.specs.declared.link_words.Cause.TheVariants.{PeerTunnel}
 use Rattle.tipc_header.specs.declared.packet.ChangeoverType.{ChangeoverType}
 use Rattle.tipc_header.specs.declared.packet.ChangeoverType.TheVariants.{Duplicate, Original}
 use Rattle.tipc_link_fsm.specs.declared.changes.Change.TheVariants.{Down, Stay}
-use Rattle.tipc_link_fsm.specs.Table.{Fsm, is_peer, is_up, on_peer_tunnel}
+use Rattle.tipc_link_fsm.specs.Table.{Fsm, is_peer, on_peer_tunnel}
 use Rattle.tipc_link.specs.Links.{LinkEnd, early_with, record_in, record_of, recorded, tunnelled_down}
 use Rattle.tipc_link.specs.Records.{Early, Received}
 use Rattle.tipc_link.specs.Sessions.{SessionEnd, flushed, given_up, with_record}

@@ -1,10 +1,10 @@
 -- What changeover does with a pair, as events: the packets that a link leaves or takes over go on the other link and move up, and an end is
 -- released.
 use Rattle.std.proofs.Common.{◌≡◌, ℕ, ◌+◌, ◌-◌, ◌≤◌, true, Option, Some, length, take, refl, sym, ap, ◌∙◌, subst, arith}
+use Rattle.tipc_types.specs.LinkStates.{is_up}
 use Rattle.tipc_types.specs.declared.link_words.OldSession.{OldSession}
 use Rattle.tipc_header.specs.declared.packet.ChangeoverType.TheVariants.{Duplicate, Original}
 use Rattle.tipc_send_window.specs.Sending.{Sending, emptied, fresh, offered, without_waiting}
-use Rattle.tipc_link_fsm.specs.Table.{is_up}
 use Rattle.tipc_link.specs.Links.{LinkEnd}
 use Rattle.tipc_link.specs.Sessions.{SessionEnd, advanced, flushed, put, room}
 use Rattle.tipc_pair.specs.Changeovers.{fail_over, switch}

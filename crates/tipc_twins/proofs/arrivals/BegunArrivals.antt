@@ -2,6 +2,7 @@
 use Rattle.std.specs.Prelude.{nat_lt, not}
 use Rattle.std.proofs.Common.{◌≡◌, ◌==◌, ◌||◌, ◌&&◌, ℕ, Bool, true, false, if◌then◌else◌, Option, Some, None, option_map, refl, sym, ap, ◌∙◌, subst, inl, inr, arith}
 use Rattle.std.proofs.lemmas.Bool.{cases_Bool}
+use Rattle.tipc_types.specs.LinkStates.{is_up}
 use Rattle.tipc_types.specs.declared.link_words.BroadcastState.{BroadcastState}
 use Rattle.tipc_types.specs.declared.link_words.LinkState.{LinkState}
 use Rattle.tipc_types.specs.declared.link_words.LinkState.TheVariants.{ResetReset, ResetUnknown, WorkingUnknown, WorkingWorking}
@@ -16,7 +17,7 @@ use Rattle.tipc_link.specs.Sessions.{SessionEnd}
 use Rattle.tipc_link.proofs.Ends.{forgotten-is}
 use Rattle.tipc_link_fsm.specs.declared.changes.Change.{Change}
 use Rattle.tipc_link_fsm.specs.declared.changes.Change.TheVariants.{Down, Up}
-use Rattle.tipc_link_fsm.specs.Table.{Fsm, Outcome, is_up, on_reset}
+use Rattle.tipc_link_fsm.specs.Table.{Fsm, Outcome, on_reset}
 use Rattle.tipc_link_fsm.proofs.Moves.{is_going_up}
 use Rattle.tipc_pair.specs.declared.changes.PairOutcome.{PairOutcome}
 use Rattle.tipc_pair.specs.Changeovers.{contact_begins, contact_ends, following, forgetting, forgotten, gone_up, released, risen, switch, switch_from, switching}

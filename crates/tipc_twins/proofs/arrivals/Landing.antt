@@ -2,12 +2,13 @@
 use Rattle.std.proofs.Common.{◌≡◌, ◌&&◌, ◌||◌, ◌≤◌, ℕ, Bool, List, Some, true, false, refl, sym, ap, ◌∙◌, subst, inl, inr, eqb-true}
 use Rattle.std.specs.Prelude.{not}
 use Rattle.std.proofs.lemmas.Bool.{and_parts, cases_Bool, true≢false}
+use Rattle.tipc_types.specs.LinkStates.{is_up}
 use Rattle.tipc_header.specs.declared.packet.Header.TheVariants as header
 use Rattle.tipc_header.specs.declared.packet.Reset.{Reset}
 use Rattle.tipc_header.specs.Spelling.{Fields}
 use Rattle.tipc_link_fsm.specs.declared.changes.Change.TheVariants.{Stay, Up}
 use Rattle.tipc_link_fsm.specs.Runs.{TrafficArrives}
-use Rattle.tipc_link_fsm.specs.Table.{Fsm, Outcome, is_last, is_peer, is_reset_reset, is_session, is_up, on_traffic}
+use Rattle.tipc_link_fsm.specs.Table.{Fsm, Outcome, is_last, is_peer, is_reset_reset, is_session, on_traffic}
 use Rattle.tipc_link_fsm.proofs.Moves.{cases_on}
 use Rattle.tipc_link.specs.Links.{LinkEnd, after, is_taken, is_traffic, known}
 use Rattle.tipc_link.specs.Sessions.{SessionEnd}

@@ -3,10 +3,11 @@
 use Rattle.std.proofs.Common.{◌≡◌, ◌<◌, ◌+◌, ◌^◌, ◌||◌, ℕ, true, false, if◌then◌else◌, [], ◌++◌, Option, Some, None, option_map, refl, sym, ap, ◌∙◌, subst, inl, inr, append-nil}
 use Rattle.std.specs.List.{flat_map}
 use Rattle.std.proofs.lemmas.Bool.{cases_Bool}
+use Rattle.tipc_types.specs.LinkStates.{is_up}
 use Rattle.tipc_link.specs.Links.{LinkEnd, reset_frames}
 use Rattle.tipc_link.proofs.Ends.{ended-is, forgotten-is}
 use Rattle.tipc_link.proofs.LinkLaw.{Each}
-use Rattle.tipc_link_fsm.specs.Table.{Fsm, contact_ended, forget_peer, forgotten as forgotten_states, is_held, is_up}
+use Rattle.tipc_link_fsm.specs.Table.{Fsm, contact_ended, forget_peer, forgotten as forgotten_states, is_held}
 use Rattle.tipc_pair.specs.Changeovers.{contact_ends, forgotten, parted as parted_pair, parted_end, risen}
 use Rattle.tipc_pair.specs.Courses.{rests}
 use Rattle.tipc_pair.specs.Facing.{PairEnds, ends_of, in_contact, is_up_at, other}

@@ -1,13 +1,14 @@
 -- A call that takes a link of a pair up keeps two nodes what they are: a contact begins with it, or it goes up beside the other link.
 use Rattle.std.proofs.Common.{◌≡◌, ◌||◌, ◌-◌, ◌<◌, ℕ, Bool, true, false, Some, refl, sym, ap, ◌∙◌, subst, inl, inr, append-nil, arith}
 use Rattle.std.proofs.lemmas.Bool.{cases_Bool, cases_eq}
+use Rattle.tipc_types.specs.LinkStates.{is_up}
 use Rattle.tipc_types.specs.declared.link_words.BroadcastState.{BroadcastState}
 use Rattle.tipc_link.specs.Links.{LinkEnd, after, record_of}
 use Rattle.tipc_link.specs.Parts.{IsShowable}
 use Rattle.tipc_link.specs.Records.{kept_for}
 use Rattle.tipc_link_fsm.specs.declared.changes.Change.TheVariants.{Up}
 use Rattle.tipc_link_fsm.specs.Runs.{Call, outcome}
-use Rattle.tipc_link_fsm.specs.Table.{Fsm, is_held, is_in_reset, is_up}
+use Rattle.tipc_link_fsm.specs.Table.{Fsm, is_held, is_in_reset}
 use Rattle.tipc_link_fsm.proofs.Rising.{goes_up as rises_from}
 use Rattle.tipc_types.specs.declared.link_words.LinkState.{LinkState}
 use Rattle.tipc_types.specs.declared.link_words.LinkState.TheVariants.{ResetUnknown, ResetReset, WorkingWorking, WorkingUnknown}

@@ -1,5 +1,6 @@
 -- The near link of a pair stays up while packets that it took are opened and ends are released.
 use Rattle.std.proofs.Common.{◌≡◌, ◌||◌, ◌∷◌, ℕ, true, false, if◌then◌else◌, List, [], Option, Some, None, option_map, refl, sym, ap, ◌∙◌, subst, inl, inr}
+use Rattle.tipc_types.specs.LinkStates.{is_up}
 use Rattle.tipc_types.specs.declared.link_words.BroadcastState.{BroadcastState}
 use Rattle.tipc_types.specs.declared.link_words.LinkState.{LinkState}
 use Rattle.tipc_types.specs.declared.link_words.LinkState.TheVariants.{ResetUnknown, ResetReset, WorkingWorking, WorkingUnknown}
@@ -10,7 +11,7 @@ use Rattle.tipc_header.specs.declared.packet.ChangeoverType.TheVariants as kind
 use Rattle.tipc_header.specs.Spelling.{Fields}
 use Rattle.tipc_tunnel.specs.Tunnels.{Tunnelled}
 use Rattle.tipc_recv_window.specs.declared.outcomes.LinkOutcome.{LinkOutcome}
-use Rattle.tipc_link_fsm.specs.Table.{Outcome, is_held, is_up, release}
+use Rattle.tipc_link_fsm.specs.Table.{Outcome, is_held, release}
 use Rattle.tipc_link_fsm.proofs.Moves.{cases_on}
 use Rattle.tipc_link.specs.Links.{LinkEnd, tunnelled_down}
 use Rattle.tipc_link.specs.Sessions.{SessionEnd}

@@ -1,11 +1,12 @@
 -- A contact ends, or a node restarts or learns a higher number of its peer: the two stay what they are to each other.
 use Rattle.std.proofs.Common.{◌≡◌, ◌<◌, ◌≤◌, ◌+◌, ◌^◌, ℕ, true, false, Some, sym, ap, ◌∙◌, subst, arith}
 use Rattle.std.specs.Prelude.{slice_get}
+use Rattle.tipc_types.specs.LinkStates.{is_up}
 use Rattle.tipc_types.specs.declared.link_words.Cause.{Cause}
 use Rattle.tipc_link.specs.Links.{LinkEnd, after}
 use Rattle.tipc_link_fsm.specs.declared.changes.Change.TheVariants.{Down}
 use Rattle.tipc_link_fsm.specs.Runs.{Call, outcome}
-use Rattle.tipc_link_fsm.specs.Table.{Fsm, is_up}
+use Rattle.tipc_link_fsm.specs.Table.{Fsm}
 use Rattle.tipc_link.proofs.Ends.{forgotten-is}
 use Rattle.tipc_paired.proofs.contacts.ContactDeeds.{ended_down, falls_paired, mapped_end, parts_paired, restarts_paired, shows_paired}
 use Rattle.tipc_paired.specs.Deeds.{MayCall, ended_with, forgot_with, parted, restarted, risen}

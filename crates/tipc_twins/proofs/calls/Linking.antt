@@ -5,12 +5,13 @@ use Rattle.std.proofs.Math.Seq.{drop-append_seam}
 use Rattle.std.proofs.lemmas.Bool.{cases_eq}
 use Rattle.std.proofs.lemmas.Bool.Decides.{nat_tests}
 use Rattle.std.proofs.lemmas.List.{drop-drop, nil_from_length}
+use Rattle.tipc_types.specs.LinkStates.{is_up}
 use Rattle.tipc_types.specs.declared.link_words.LinkState.{LinkState}
 use Rattle.tipc_types.specs.declared.link_words.LinkState.TheVariants.{ResetUnknown, ResetReset, WorkingWorking, WorkingUnknown}
 use Rattle.tipc_types.specs.declared.link_words.LinkState.TheVariants as state
 use Rattle.tipc_link.specs.Links.{LinkEnd}
 use Rattle.tipc_link.specs.Sessions.{SessionEnd}
-use Rattle.tipc_link_fsm.specs.Table.{is_held, is_up}
+use Rattle.tipc_link_fsm.specs.Table.{is_held}
 use Rattle.tipc_send_window.specs.Sending.{Sending, acked_of}
 use Rattle.tipc_changeover.specs.Links.{Held, Sender, Up}
 use Rattle.tipc_twin_links.specs.Sending.{SendingEnd, end_seen, state_as, window_in}

@@ -3,6 +3,7 @@ use Rattle.std.specs.Prelude.{All, IfSome, cond, min, slice_index_or}
 use Rattle.std.specs.List.{count_by}
 use Rattle.std.proofs.Common.{◌≡◌, ◌<◌, ◌≤◌, ◌+◌, ◌-◌, ℕ, Bool, suc, true, false, if◌then◌else◌, List, [], ◌∷◌, ◌++◌, length, take, drop, Option, Some, None, option_map, refl, sym, ap, ◌∙◌, subst, take-append-drop, arith}
 use Rattle.std.proofs.lemmas.List.Sums.{sum_by-append, sum_by-cons}
+use Rattle.tipc_types.specs.LinkStates.{is_up}
 use Rattle.tipc_types.specs.declared.link_words.BroadcastState.{BroadcastState}
 use Rattle.tipc_outside.specs.declared.outgoing.Outgoing.{Outgoing}
 use Rattle.tipc_bundle.specs.Bundles.{joined}
@@ -11,7 +12,7 @@ use Rattle.tipc_link.specs.Parts.{IsShowable}
 use Rattle.tipc_link.specs.Records.{is_tunnel}
 use Rattle.tipc_link.specs.Sessions.{IsPut, SessionEnd, answered, flushed, joins, last_of, room, waits, with_broadcast}
 use Rattle.tipc_link_fsm.specs.Runs.{BearerIsCut, TickPasses}
-use Rattle.tipc_link_fsm.specs.Table.{Fsm, is_held, is_up, on_cut}
+use Rattle.tipc_link_fsm.specs.Table.{Fsm, is_held, on_cut}
 use Rattle.tipc_pair.specs.Changeovers.{following, released}
 use Rattle.tipc_pair.specs.Courses.{Course, going_on}
 use Rattle.tipc_pair.specs.Facing.{PairEnds, facing, is_held_at, is_up_at, with_made, with_near}

@@ -1,12 +1,13 @@
 -- One of two links of a node goes up or down beside the other, hands over, or counts what came through the other.
 use Rattle.std.proofs.Common.{◌≡◌, ◌<◌, ◌≤◌, ◌+◌, ◌⊎◌, ℕ, true, false, if◌then◌else◌, List, Some, refl, sym, ap, ◌∙◌, subst, inl, inr, arith}
 use Rattle.std.proofs.lemmas.Bool.{true≢false}
+use Rattle.tipc_types.specs.LinkStates.{is_up}
 use Rattle.tipc_link.specs.Links.{LinkEnd, after, handed_over, recorded}
 use Rattle.tipc_link.specs.Records.{Received}
 use Rattle.tipc_link.proofs.Ends.{after-is}
 use Rattle.tipc_link.proofs.EndsTurns.{Falls}
 use Rattle.tipc_link_fsm.specs.Runs.{outcome}
-use Rattle.tipc_link_fsm.specs.Table.{Outcome, is_last, is_up, next_epoch}
+use Rattle.tipc_link_fsm.specs.Table.{Outcome, is_last, next_epoch}
 use Rattle.tipc_twin_links.specs.Receiving.{record_at}
 use Rattle.tipc_paired.proofs.sessions.BesideDeeds.{counted_steady, handed_record, recorded_is}
 use Rattle.tipc_paired.proofs.contacts.ContactDeeds.{fallen}

@@ -2,8 +2,9 @@
 use Rattle.std.proofs.Common.{◌≡◌, ◌<◌, ◌≤◌, ◌+◌, ℕ, false, Option, Some, None, option_map, refl, sym, ap, ◌∙◌, subst, inl, inr, arith}
 use Rattle.std.specs.Prelude.{slice_get}
 use Rattle.std.proofs.lemmas.Bool.{cases_eq}
+use Rattle.tipc_types.specs.LinkStates.{is_up}
 use Rattle.tipc_link.specs.Links.{LinkEnd}
-use Rattle.tipc_link_fsm.specs.Table.{Fsm, is_last, is_up}
+use Rattle.tipc_link_fsm.specs.Table.{Fsm, is_last}
 use Rattle.tipc_link.proofs.Ends.{ended-is, forgotten-is}
 use Rattle.tipc_changeover.specs.Links.{Reset}
 use Rattle.tipc_twin_links.specs.Sending.{end_seen, state_as}

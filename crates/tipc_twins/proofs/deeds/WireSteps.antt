@@ -2,13 +2,14 @@
 -- records, but for one.
 use Rattle.std.proofs.Common.{◌≡◌, ◌<◌, ◌≤◌, ◌⊎◌, ℕ, zero, suc, false, List, [], ◌∷◌, ◌++◌, Some, None, refl, sym, ap, ◌∙◌, subst, inl, inr, arith}
 use Rattle.std.specs.Prelude.{slice_get}
+use Rattle.tipc_types.specs.LinkStates.{is_up}
 use Rattle.tipc_types.specs.declared.link_words.Cause.{Cause}
 use Rattle.tipc_link.specs.Links.{LinkEnd, after, followed, record_of, with_fsm, with_session}
 use Rattle.tipc_link.specs.Records.{Received}
 use Rattle.tipc_link.specs.Sessions.{SessionEnd}
 use Rattle.tipc_link_fsm.specs.declared.changes.Change.{Change}
 use Rattle.tipc_link_fsm.specs.declared.changes.Change.TheVariants.{Down}
-use Rattle.tipc_link_fsm.specs.Table.{Outcome, is_up}
+use Rattle.tipc_link_fsm.specs.Table.{Outcome}
 use Rattle.tipc_twin_links.specs.Receiving.{record_at}
 use Rattle.tipc_paired.proofs.sessions.CallDeeds.{GoesOn, session_onward}
 use Rattle.tipc_paired.proofs.wires.EpochsKept.{session_is}

@@ -1,6 +1,7 @@
 -- What each call of a pair numbers, and a packet that arrives, is of the sessions that the link ends have then, or had last.
 use Rattle.std.proofs.Common.{◌≡◌, ◌≤◌, ◌==◌, ◌&&◌, not, ℕ, Bool, true, false, nat_lt, if◌then◌else◌, List, Option, Some, None, option_map, refl, sym, ap, ◌∙◌, subst, inl, arith}
 use Rattle.std.proofs.lemmas.Bool.Decides.{nat_tests}
+use Rattle.tipc_types.specs.LinkStates.{is_up}
 use Rattle.tipc_types.specs.declared.link_words.BroadcastState.{BroadcastState}
 use Rattle.tipc_types.specs.declared.link_words.Why.TheVariants as why
 use Rattle.tipc_types.specs.declared.packet_lists.Taken.{Taken}
@@ -13,7 +14,7 @@ use Rattle.tipc_header.specs.Spelling.{Fields}
 use Rattle.tipc_tunnel.specs.Tunnels.{Tunnelled}
 use Rattle.tipc_recv_window.specs.declared.outcomes.LinkOutcome.{LinkOutcome}
 use Rattle.tipc_link_fsm.specs.Runs.{ResetArrives, TickPasses}
-use Rattle.tipc_link_fsm.specs.Table.{Outcome, is_up, on_cut, on_peer_tunnel, on_reset, on_tick}
+use Rattle.tipc_link_fsm.specs.Table.{Outcome, on_cut, on_peer_tunnel, on_reset, on_tick}
 use Rattle.tipc_link_fsm.proofs.Moves.{is_going_up}
 use Rattle.tipc_link.specs.Links.{LinkEnd, after, answered_with, arrival_end, cut_end, heard_end, is_down, is_heard, mended_end, named_end, outcome_of, recorded, tunnelled_down, tunnelled_end, with_session}
 use Rattle.tipc_link.specs.Records.{Received}

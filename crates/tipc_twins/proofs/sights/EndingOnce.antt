@@ -1,10 +1,11 @@
 -- In one event a pair leaves one contact at most, and enters none behind it.
 use Rattle.std.proofs.Common.{◌≡◌, ◌≤◌, ◌+◌, ◌&&◌, ◌||◌, ◌⊎◌, not, ℕ, Bool, true, false, if◌then◌else◌, Option, Some, None, refl, sym, ap, ◌∙◌, subst, inl, inr}
 use Rattle.std.proofs.lemmas.Bool.{cases_Bool}
+use Rattle.tipc_types.specs.LinkStates.{is_up}
 use Rattle.tipc_types.specs.declared.link_words.BroadcastState.{BroadcastState}
 use Rattle.tipc_link_fsm.specs.declared.changes.Change.{Change}
 use Rattle.tipc_link_fsm.specs.declared.changes.Change.TheVariants.{Down, Up}
-use Rattle.tipc_link_fsm.specs.Table.{Outcome, is_up, on_cut, on_reset, on_tick}
+use Rattle.tipc_link_fsm.specs.Table.{Outcome, on_cut, on_reset, on_tick}
 use Rattle.tipc_link.specs.Links.{LinkEnd, after, cut_end, is_down}
 use Rattle.tipc_pair.specs.Changeovers.{contact_ends, fail_over, following, forgotten, parted, released, risen}
 use Rattle.tipc_pair.specs.Courses.{going_on, rests}

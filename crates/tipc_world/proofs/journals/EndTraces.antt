@@ -2,6 +2,7 @@
 use Rattle.std.specs.Prelude.{All, nat_lt, replicate}
 use Rattle.std.proofs.Common.{◌≡◌, ℕ, eqb-true, ◌+◌, ◌-◌, ◌==◌, Bool, true, false, List, [], ◌∷◌, ◌++◌, Option, Some, None, option_map, length, drop, if◌then◌else◌, refl, sym, ap, subst}
 use Rattle.std.proofs.lemmas.List.Elements.{All-append, All-cons, All-drop, All-nil, All-replicate, All-set, All-head, All-tail}
+use Rattle.tipc_types.specs.LinkStates.{is_up}
 use Rattle.tipc_types.specs.declared.link_words.Reply.TheVariants as reply
 use Rattle.tipc_types.specs.declared.packet_lists.Taken.{Taken}
 use Rattle.tipc_header.specs.Spelling.{Fields}
@@ -12,7 +13,7 @@ use Rattle.tipc_recv_window.specs.declared.outcomes.Place.TheVariants as place
 use Rattle.tipc_recv_window.specs.Receiving.{Receiving, arrived_at, filled, is_new, place_at, run_of}
 use Rattle.tipc_link_fsm.specs.declared.changes.Change.{Change}
 use Rattle.tipc_link_fsm.specs.declared.changes.Change.TheVariants.{Up, Answer, Ignore}
-use Rattle.tipc_link_fsm.specs.Table.{Outcome, is_up}
+use Rattle.tipc_link_fsm.specs.Table.{Outcome}
 use Rattle.tipc_link.specs.Links.{LinkEnd, after, answered_with, arrival_end, change_outcome, followed, heard_outcome, is_heard, known, link_outcome, named_end, record_in, record_of, recorded, session_of, tunnelled_end, with_fsm}
 use Rattle.tipc_link.specs.Records.{Early, Received, early_record, freed, is_next, kept_for, named, standing, tunnelled, tunnelled_outcome, unheard}
 use Rattle.tipc_link.specs.Sessions.{Content, Shows, Carries, Nothing, SessionEnd, answered, arrived, brought, content_of, due_with, flushed, heard, outcome, place_of, placed, receiving, receiving_record, released, repeated, spoke, told, window_with, with_broadcast, with_record}

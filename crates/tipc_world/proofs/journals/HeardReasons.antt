@@ -7,6 +7,7 @@ use Rattle.std.proofs.lemmas.Bool.Decides.{nat_tests}
 use Rattle.std.proofs.lemmas.Grind.{flat_map-append}
 use Rattle.std.proofs.lemmas.List.Elements.{All-append, All-cons, All-nil}
 use Rattle.std.proofs.lemmas.List.Sums.{fold-append}
+use Rattle.tipc_types.specs.LinkStates.{is_up}
 use Rattle.tipc_types.specs.declared.link_words.BroadcastState.{BroadcastState}
 use Rattle.tipc_types.specs.declared.link_words.Cause.TheVariants as cause
 use Rattle.tipc_types.specs.declared.link_words.LinkState.{LinkState}
@@ -26,7 +27,7 @@ use Rattle.tipc_tunnel.specs.Tunnels.{Tunnelled}
 use Rattle.tipc_recv_window.specs.declared.outcomes.LinkOutcome.{LinkOutcome}
 use Rattle.tipc_link_fsm.specs.declared.changes.Change.{Change}
 use Rattle.tipc_link_fsm.specs.declared.changes.Change.TheVariants.{Down}
-use Rattle.tipc_link_fsm.specs.Table.{is_reset_reset, is_up, on_reset}
+use Rattle.tipc_link_fsm.specs.Table.{is_reset_reset, on_reset}
 use Rattle.tipc_link.specs.Links.{LinkEnd, after, is_down, known}
 use Rattle.tipc_link.specs.Sessions.{as_waiting}
 use Rattle.tipc_link.proofs.Standing.{waiting_fits}

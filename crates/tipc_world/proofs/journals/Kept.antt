@@ -1,11 +1,11 @@
 -- A node's journals stay lawful, and tell how long its links were silent, while the air grows and with one more step.
 use Rattle.std.proofs.Common.{◌≡◌, ◌≤◌, ◌+◌, ℕ, Bool, true, false, List, [], ◌∷◌, ◌++◌, Option, Some, None, if◌then◌else◌, length, slice_get, refl, sym, ap, ◌∙◌, subst, arith}
 use Rattle.std.specs.Prelude.{◌⊎◌, ◌||◌, IfSome, is_some, option_and_then}
+use Rattle.tipc_types.specs.LinkStates.{is_up}
 use Rattle.tipc_journal.specs.declared.entries.Entry.{Entry}
 use Rattle.tipc_journal.specs.Steps.{steps, step_entries, IsInside, NodeStep, PlacedStep}
 use Rattle.tipc_journal.proofs.StepLaws.{IsWhole_nil, steps_more, steps_nil}
 use Rattle.tipc_link.specs.Links.{LinkEnd, known}
-use Rattle.tipc_link_fsm.specs.Table.{is_up}
 use Rattle.tipc_link.proofs.LinkLaw.{Each}
 use Rattle.tipc_pair.specs.Facing.{PairEnds, contact_between, facing, in_contact, is_up_at}
 use Rattle.tipc_node.specs.Telling.{AreAbreast, TellsOf, epochs_of, epochs_on, silence_in}

@@ -4,6 +4,7 @@ use Rattle.std.specs.List.{All}
 use Rattle.std.proofs.Common.{◌≡◌, ◌≤◌, ◌<◌, ◌⊎◌, ◌==◌, ◌∙◌, ℕ, Bool, true, false, List, [], ◌∷◌, Option, Some, if◌then◌else◌, slice_get, refl, sym, ap, subst, arith}
 use Rattle.std.proofs.lemmas.Bool.Decides.{nat_tests}
 use Rattle.std.proofs.lemmas.List.Elements.{All-cons, All-nil}
+use Rattle.tipc_types.specs.LinkStates.{is_up}
 use Rattle.tipc_types.specs.declared.link_words.Cause.{Cause}
 use Rattle.tipc_types.specs.declared.link_words.Cause.TheVariants as cause
 use Rattle.tipc_types.specs.declared.link_words.LinkState.{LinkState}
@@ -11,7 +12,7 @@ use Rattle.tipc_header.specs.declared.packet.Changeover.{Changeover}
 use Rattle.tipc_header.specs.declared.packet.ChangeoverType.TheVariants.{Original}
 use Rattle.tipc_header.specs.declared.packet.Header.TheVariants as header
 use Rattle.tipc_header.specs.Spelling.{Fields}
-use Rattle.tipc_link_fsm.specs.Table.{Fsm, is_up}
+use Rattle.tipc_link_fsm.specs.Table.{Fsm}
 use Rattle.tipc_link.specs.Links.{LinkEnd, known}
 use Rattle.tipc_pair.specs.declared.changes.PairOutcome.{PairOutcome}
 use Rattle.tipc_pair.specs.declared.changes.PairOutcome.TheVariants as outcome

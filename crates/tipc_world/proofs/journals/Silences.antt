@@ -4,6 +4,7 @@ use Rattle.std.specs.Prelude.{◌==◌, ◌&&◌, ◌||◌, nat_lt, not, if◌th
 use Rattle.std.specs.List.{flat_map}
 use Rattle.std.proofs.Common.{◌≡◌, ◌≤◌, ◌∙◌, ◌+◌, ℕ, Bool, true, false, List, [], ◌∷◌, ◌++◌, Option, Some, None, refl, sym, ap, subst, arith}
 use Rattle.std.proofs.lemmas.Bool.{and_parts}
+use Rattle.tipc_types.specs.LinkStates.{is_up}
 use Rattle.tipc_types.specs.declared.link_words.BroadcastState.{BroadcastState}
 use Rattle.tipc_types.specs.declared.link_words.LinkState.{LinkState}
 use Rattle.tipc_types.specs.declared.link_words.LinkState.TheVariants.{Held, ResetReset, ResetUnknown, WorkingUnknown, WorkingWorking}
@@ -19,7 +20,7 @@ use Rattle.tipc_tunnel.specs.Tunnels.{Tunnelled}
 use Rattle.tipc_recv_window.specs.declared.outcomes.LinkOutcome.{LinkOutcome}
 use Rattle.tipc_link_fsm.specs.declared.changes.Change.{Change}
 use Rattle.tipc_link_fsm.specs.declared.changes.Change.TheVariants.{Answer, Down, Ignore, Stay, Up}
-use Rattle.tipc_link_fsm.specs.Table.{Fsm, Outcome, gives, is_held, is_in_reset, is_last, is_peer, is_reset_reset, is_session, is_up, lowered, on_activate, on_cut, on_peer_tunnel, on_reset, on_tick, on_traffic, tick_in, unheard, up_tick}
+use Rattle.tipc_link_fsm.specs.Table.{Fsm, Outcome, gives, is_held, is_in_reset, is_last, is_peer, is_reset_reset, is_session, lowered, on_activate, on_cut, on_peer_tunnel, on_reset, on_tick, on_traffic, tick_in, unheard, up_tick}
 use Rattle.tipc_link_fsm.proofs.Moves.{cases_on, is_going_up}
 use Rattle.tipc_link.specs.Links.{LinkEnd, after, arrival_end, change_outcome, cut_end, is_down, is_heard, is_taken, is_traffic, link_outcome, outcome_of, tunnelled_down}
 use Rattle.tipc_pair.specs.declared.changes.PairOutcome.{PairOutcome}

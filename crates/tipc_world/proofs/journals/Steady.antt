@@ -3,6 +3,7 @@
 use Rattle.std.specs.Prelude.{◌==◌, ◌&&◌, if◌then◌else◌}
 use Rattle.std.proofs.Common.{◌≡◌, ◌≤◌, ◌∙◌, ◌+◌, ℕ, Bool, true, false, List, Option, Some, None, option_map, refl, sym, ap, subst, arith}
 use Rattle.std.proofs.lemmas.Bool.Decides.{nat_tests}
+use Rattle.tipc_types.specs.LinkStates.{is_up}
 use Rattle.tipc_types.specs.declared.link_words.BroadcastState.{BroadcastState}
 use Rattle.tipc_types.specs.declared.packet_lists.Taken.{Taken}
 use Rattle.tipc_outside.specs.declared.outgoing.Outgoing.{Outgoing}
@@ -13,7 +14,7 @@ use Rattle.tipc_tunnel.specs.Tunnels.{Tunnelled}
 use Rattle.tipc_recv_window.specs.declared.outcomes.LinkOutcome.{LinkOutcome}
 use Rattle.tipc_link_fsm.specs.declared.changes.Change.{Change}
 use Rattle.tipc_link_fsm.specs.declared.changes.Change.TheVariants.{Answer, Down, Ignore, Stay, Up}
-use Rattle.tipc_link_fsm.specs.Table.{Fsm, Outcome, forget_peer, is_held, is_peer, is_up, lowered, on_cut, on_peer_tunnel, on_tick, release}
+use Rattle.tipc_link_fsm.specs.Table.{Fsm, Outcome, forget_peer, is_held, is_peer, lowered, on_cut, on_peer_tunnel, on_tick, release}
 use Rattle.tipc_link_fsm.proofs.Moves.{cases_on}
 use Rattle.tipc_link.specs.Links.{LinkEnd, after, answered_with, arrival_end, cut_end, handed_over, mended_end, named_end, tunnelled_down, tunnelled_end, with_session, without_waiting}
 use Rattle.tipc_link.specs.Sessions.{SessionEnd, flushed}

@@ -2,10 +2,11 @@
 use Rattle.std.specs.List.{All}
 use Rattle.std.proofs.Common.{◌≡◌, ◌≤◌, ◌++◌, ◌∙◌, ℕ, true, List, [], Option, Some, None, inl, refl, sym, ap, subst, arith}
 use Rattle.std.proofs.lemmas.List.Elements.{All-append, All-nil, All-weaker}
+use Rattle.tipc_types.specs.LinkStates.{is_up}
 use Rattle.tipc_types.specs.declared.link_words.BroadcastState.{BroadcastState}
 use Rattle.tipc_types.specs.declared.link_words.Cause.TheVariants as cause
 use Rattle.tipc_header.specs.Grammar.{Fits}
-use Rattle.tipc_link_fsm.specs.Table.{Fsm, is_up}
+use Rattle.tipc_link_fsm.specs.Table.{Fsm}
 use Rattle.tipc_link.specs.Links.{LinkEnd}
 use Rattle.tipc_pair.specs.declared.transitions.Transition.{Transition}
 use Rattle.tipc_pair.specs.declared.transitions.Transition.TheVariants.{LinkDown}

@@ -5,7 +5,7 @@ use Rattle.std.specs.Map.{lookup}
 use Rattle.std.proofs.lemmas.Bool.{cases_eq, cases_lt}
 use Rattle.std.proofs.lemmas.Bool.Decides.{nat_tests}
 use Rattle.indexmap.specs.IndexMap.{insert_entry}
-use Rattle.tipc_link_fsm.specs.Table.{is_up}
+use Rattle.tipc_types.specs.LinkStates.{is_up}
 use Rattle.tipc_link.specs.Links.{LinkEnd, numbered_in}
 use Rattle.tipc_link.specs.Sessions.{SessionEnd}
 use Rattle.tipc_pair.specs.Facing.{PairEnds, facing}

@@ -2,6 +2,7 @@
 use Rattle.std.specs.Prelude.{◌==◌, ◌||◌, nat_le, nat_lt, if◌then◌else◌}
 use Rattle.std.proofs.Common.{◌≡◌, ◌≤◌, ℕ, zero, suc, Bool, true, false, List, Option, Some, None, refl, sym, ap, ◌∙◌, subst, arith}
 use Rattle.std.proofs.lemmas.Bool.Decides.{nat_tests}
+use Rattle.tipc_types.specs.LinkStates.{is_up}
 use Rattle.tipc_types.specs.declared.link_words.BroadcastState.{BroadcastState}
 use Rattle.tipc_types.specs.declared.link_words.Why.TheVariants as why
 use Rattle.tipc_outside.specs.declared.outgoing.Outgoing.{Outgoing}
@@ -10,7 +11,7 @@ use Rattle.tipc_header.specs.declared.packet.Header.TheVariants as header
 use Rattle.tipc_header.specs.Spelling.{Fields}
 use Rattle.tipc_link_fsm.specs.declared.changes.Change.{Change}
 use Rattle.tipc_link_fsm.specs.declared.changes.Change.TheVariants.{Answer, Down, Ignore, Stay, Up}
-use Rattle.tipc_link_fsm.specs.Table.{Fsm, Outcome, is_up}
+use Rattle.tipc_link_fsm.specs.Table.{Fsm, Outcome}
 use Rattle.tipc_link_fsm.proofs.Moves.{is_going_up}
 use Rattle.tipc_link.specs.Links.{LinkEnd, after, arrival_end, heard_end, is_heard, outcome_of}
 use Rattle.tipc_link.specs.Sessions.{arrived, content_of}

@@ -1,6 +1,6 @@
 use Rattle.std.proofs.Common.{◌≡◌, ◌∙◌, false, subst, ap}
+use Rattle.tipc_types.specs.LinkStates.{is_up}
 use Rattle.tipc_outside.specs.Frames.{Adds}
-use Rattle.tipc_link_fsm.specs.Table.{is_up}
 use Rattle.tipc_link.specs.Links.{LinkEnd}
 use Rattle.tipc_pair.specs.Facing.{is_up_at}
 use Rattle.tipc_pair.proofs.EndSteps.{forget_silent}

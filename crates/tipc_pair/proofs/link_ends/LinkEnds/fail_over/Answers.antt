@@ -1,7 +1,7 @@
 use Rattle.std.proofs.Common.{◌≡◌, ◌∙◌, true, Some, sym, subst, ap}
 use Rattle.std.specs.Prelude.{IfSome, OnOk, is_some}
+use Rattle.tipc_types.specs.LinkStates.{is_up}
 use Rattle.tipc_outside.specs.Frames.{Adds}
-use Rattle.tipc_link_fsm.specs.Table.{is_up}
 use Rattle.tipc_link.specs.Links.{LinkEnd}
 use Rattle.tipc_link.specs.Sessions.{flush_frames, put}
 use Rattle.tipc_pair.specs.Courses.{LeavingState}

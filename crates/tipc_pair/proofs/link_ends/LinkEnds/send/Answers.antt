@@ -1,5 +1,5 @@
 use Rattle.std.proofs.Common.{◌≡◌, ◌∙◌, true, sym, subst, ap}
-use Rattle.tipc_link_fsm.specs.Table.{is_up}
+use Rattle.tipc_types.specs.LinkStates.{is_up}
 use Rattle.tipc_pair.specs.Facing.{PairEnds, is_up_at, with_near}
 use Rattle.tipc_pair.proofs.EndFacts.{near_kept}
 use Rattle.tipc_pair.proofs.EndSteps.{end_sent, near_of}
