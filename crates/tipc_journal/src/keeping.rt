@@ -177,8 +177,9 @@ fn counted_bytes(message: &Message) -> u64
     }
 }
 
-/// The message bytes of an entry; where there are more than a u64 holds, its last value.
-fn entry_bytes(entry: &Entry) -> u64
+/// The message bytes of an entry: those of the message that was accepted or delivered, else 0. Where there are more than a
+/// u64 holds, its last value.
+pub fn entry_bytes(entry: &Entry) -> u64
     ensures { result ≡ min (entry_bytes entry.now) (2 ^ 64 - 1) }
 {
     match entry {

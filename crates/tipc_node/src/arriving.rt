@@ -1,12 +1,12 @@
 //! What an arriving frame is to a node, and what it delivers.
 
-ghost use Rattle.std.specs.Prelude.{◌≡◌, ◌≤◌, ◌-◌, ◌^◌, ◌↔◌, true, false, All, None, Some, is_some, length, min, slice_index_or, sum_by, IfErr, IfOk, IfSome, IfNone};
+ghost use Rattle.std.specs.Prelude.{◌≡◌, ◌≤◌, ◌-◌, ◌↔◌, true, false, All, None, Some, is_some, length, slice_index_or, sum_by, IfErr, IfOk, IfSome, IfNone};
 ghost use Rattle.tipc_types.specs.Address.{node_word};
 ghost use Rattle.tipc_header.specs.Faults.{fault_of};
 ghost use Rattle.tipc_header.specs.Frames.{frame_of};
 ghost use Rattle.tipc_header.specs.Grammar.{Fits};
 ghost use Rattle.tipc_header.specs.Spelling.{spelling, view};
-ghost use Rattle.tipc_journal.specs.Room.{counted_bytes, entry_bytes};
+ghost use Rattle.tipc_journal.specs.Room.{entry_bytes};
 ghost use Rattle.tipc_reassembly.specs.declared.opening.Opened.TheVariants.{Whole};
 ghost use Rattle.tipc_pair.specs.Messages.{opened_in};
 ghost use Rattle.tipc_node.specs.Deliveries.{HasNoFault};
@@ -18,7 +18,7 @@ use crate::neighbours::{Bearers, Neighbour, is_mended_on, no_broadcast};
 use crate::recording::{FREE_ENTRIES, FREE_MESSAGE_BYTES};
 use std::alloc::Global;
 use tipc_header::{Packet, decode, open_frame};
-use tipc_journal::{Arrivals, Entry};
+use tipc_journal::{Arrivals, Entry, entry_bytes};
 use tipc_message::message_from;
 use tipc_pair::{Incoming, PairArriving, PairOutcome};
 use tipc_reassembly::Opened;
@@ -222,27 +222,6 @@ pub fn prepare_deliveries(
     }
 }
 
-/// The message bytes of a message; where there are more than a u64 holds, its last value.
-fn message_bytes(message: &Message) -> u64
-    ensures { result ≡ min (counted_bytes message.now) (2 ^ 64 - 1) }
-{
-    match message {
-        Message::Payload { body, .. } => body.len() as u64,
-        Message::Items { items, .. } => (items.len() as u64).saturating_mul(20),
-    }
-}
-
-/// The message bytes of an entry; where there are more than a u64 holds, its last value.
-fn counted_bytes(entry: &Entry) -> u64
-    ensures { result ≡ min (entry_bytes entry.now) (2 ^ 64 - 1) }
-{
-    match entry {
-        Entry::Accepted { message, .. } => message_bytes(message),
-        Entry::Delivered { message, .. } => message_bytes(message),
-        _ => 0,
-    }
-}
-
 /// Whether these entries have room in the step that tells of a call, beside its begin, its end, and two more: exactly
 /// where there are 65,532 at most, with 4,194,304 message bytes at most.
 ///
@@ -257,7 +236,7 @@ pub fn fits(entries: &[Entry]) -> bool
 {
     let mut left = FREE_MESSAGE_BYTES;
     for entry in entries {
-        let bytes = counted_bytes(entry);
+        let bytes = entry_bytes(entry);
         if bytes > left {
             return false;
         }
