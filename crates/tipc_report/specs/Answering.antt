@@ -14,15 +14,12 @@ use Rattle.tipc_types.specs.declared.node_calls.Arrival.TheVariants as arrival
 use Rattle.tipc_types.specs.declared.node_calls.PeerLinks.{PeerLinks}
 use Rattle.tipc_types.specs.declared.node_calls.Answer.{Answer}
 use Rattle.tipc_types.specs.declared.node_calls.Answer.TheVariants as answer
+use Rattle.tipc_script.specs.Kinds.{is_visible}
 use Rattle.tipc_report.specs.Closing.{spaced}
 
 -- a port: its node's number, a colon, and its own number. An address has the node's number in its low 12 bits.
 abbrev pub port_text : ℕ → ℕ → List ℕ
 port_text word port = decimal (word % 4096) ++ (58 ∷ decimal port)
-
--- a visible character
-abbrev pub is_visible : ℕ → Bool
-is_visible byte = nat_le 33 byte && nat_le byte 126
 
 -- a body is shown where it has 1 to 64 bytes that are all visible characters, else as `-`
 abbrev pub is_shown : List ℕ → Bool

@@ -1,13 +1,13 @@
 //! The text of a message that was received.
 
 ghost use Rattle.std.specs.Prelude.{◌≡◌, ◌∷◌, [], IfOk, length, codes};
-ghost use Rattle.std.specs.List.{list_all};
 ghost use Rattle.std.specs.Fmt.{decimal};
 ghost use Rattle.tipc_report.specs.Closing.{spaced};
-ghost use Rattle.tipc_report.specs.Answering.{is_shown, is_visible, body_text, port_text, message_text};
+ghost use Rattle.tipc_report.specs.Answering.{is_shown, body_text, port_text, message_text};
 
 use crate::words::word;
 use std::alloc::Global;
+use tipc_script::is_visible;
 use tipc_types::{Body, Message, NoMemory, PortId};
 
 /// The most bytes of a body that is shown.
@@ -18,13 +18,6 @@ fn is_shown(body: &[u8]) -> bool
     ensures { result ≡ is_shown body.now }
 {
     !body.is_empty() && body.len() <= LONGEST_SHOWN && is_visible(body)
-}
-
-/// Whether each byte is a character from 33 to 126.
-fn is_visible(text: &[u8]) -> bool
-    ensures { result ≡ list_all is_visible text.now }
-{
-    text.iter().all(|byte| 33 <= *byte && *byte <= 126)
 }
 
 /// A body as it is shown.

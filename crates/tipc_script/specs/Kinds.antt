@@ -36,7 +36,7 @@ number_of token = digits_value 10 token
 unfoldable pub is_number : ℕ → ℕ → List ℕ → Bool
 is_number low high token = bytes_eq token (decimal (number_of token)) && nat_le low (number_of token) && nat_le (number_of token) high
 
--- a character of a body
+-- a visible character: one that may stand in a body that is written out
 abbrev pub is_visible : ℕ → Bool
 is_visible byte = nat_le 33 byte && nat_le byte 126
 

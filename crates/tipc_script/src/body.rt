@@ -15,8 +15,8 @@ const LONGEST_TEXT: usize = 64;
 /// The most bytes of a body of the pattern.
 const LONGEST_PATTERN: u32 = 70_000;
 
-/// Whether each byte is a character from 33 to 126.
-fn is_visible(text: &[u8]) -> bool
+/// Whether each byte is a visible character, from 33 to 126.
+pub fn is_visible(text: &[u8]) -> bool
     ensures { result ≡ list_all is_visible text.now }
 {
     text.iter().all(|byte| 33 <= *byte && *byte <= 126)

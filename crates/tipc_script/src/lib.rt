@@ -12,6 +12,7 @@ mod services;
 mod subscriptions;
 mod tokens;
 
+pub use body::is_visible;
 pub use faults::{LineFault, LineWhy};
 pub use lines::{Command, Destination, Filter, Line, NodeToken};
 pub use parsing::{grammar, parse_line};
