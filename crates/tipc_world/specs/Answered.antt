@@ -17,6 +17,7 @@ use Rattle.tipc_world.specs.States.{MemberState}
 abbrev pub journals_of : MemberState → List (List Entry)
 journals_of m = m.past ++ m.node.journal ∷ []
 
+-- the journal of the boot of that place, where there is such a boot
 abbrev pub journal_in : Option MemberState → ℕ → Option (List Entry)
 journal_in None boot = None
 journal_in (Some m) boot = slice_get (journals_of m) boot

@@ -33,6 +33,7 @@ CanHappenAt members (Call node call) =
     (is_some (slice_index_or members node None) ≡ true) × CanPerform call
 CanHappenAt members (Arrive node bearer frame) = (is_some (slice_index_or members node None) ≡ true) × (bearer ≤ 1)
 
+-- an event may happen in a world
 abbrev pub CanHappen : WorldState → WorldEvent → Type 0
 CanHappen w event = CanHappenAt w.members event
 
@@ -43,6 +44,7 @@ CanDo n (Restart node) = Unit {0}
 CanDo n (Call node call) = CanPerform call
 CanDo n (Arrive node bearer frame) = ⊥
 
+-- an event has what it needs of its node, where that is there
 abbrev pub CanDoAt : List (Option MemberState) → WorldEvent → Type 0
 CanDoAt members event =
     (m : MemberState) → slice_index_or members (node_of event) None ≡ Some m → CanDo m.node event
@@ -71,6 +73,7 @@ abbrev pub counts_at : List (Option MemberState) → AirState → WorldEvent →
 counts_at members air (Arrive node bearer frame) = is_none (unarrived members air node bearer frame)
 counts_at members air event = true
 
+-- whether it counts as an event in a world
 abbrev pub counts : WorldState → WorldEvent → Bool
 counts w event = counts_at w.members w.air event
 
@@ -78,6 +81,7 @@ counts w event = counts_at w.members w.air event
 abbrev pub is_call_at : List (Option MemberState) → AirState → WorldEvent → Bool
 is_call_at members air event = is_recorded event && counts_at members air event
 
+-- whether it is a call that is recorded in a world
 abbrev pub is_call : WorldState → WorldEvent → Bool
 is_call w event = is_call_at w.members w.air event
 

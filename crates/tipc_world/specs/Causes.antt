@@ -31,6 +31,7 @@ pub record Seen : Type 0 where
   pub air : AirState
   pub arrivals : List Arrived
 
+-- the frame by which this came to a node, where it came on that bearer
 abbrev pub frame_in : AirState → ℕ → Arrived → Option Sent
 frame_in air bearer x = if x.bearer == bearer then slice_get (air_on bearer air) x.frame else None
 

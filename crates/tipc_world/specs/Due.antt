@@ -21,6 +21,7 @@ abbrev pub is_for : To → ℕ → Bool
 is_for (to.Node address) n = address.word == node_word n
 is_for to.All n = true
 
+-- a frame, where there is one and it is for node n
 abbrev pub kept_for : Option Sent → ℕ → Option Sent
 kept_for None n = None
 kept_for (Some f) n = if is_for f.to n then Some f else None
@@ -38,6 +39,7 @@ session_age members f n bearer =
     max (count_at members (number_of_node f.from.word) n bearer (es_of f.frame) - f.numbered)
     (count_at members n (number_of_node f.from.word) bearer (er_of f.frame) - f.peer_numbered)
 
+-- the age of a frame by the fault of its packet, where that has one
 abbrev pub age_by_fault : List (Option MemberState) → Sent → ℕ → ℕ → Option HeaderFault → ℕ
 age_by_fault members f n bearer (Some fault) = 0
 age_by_fault members f n bearer None = if is_traffic (fields_at (drop 16 f.frame)).header then session_age members f n bearer else 0
@@ -62,6 +64,7 @@ HasNoSession bytes = (is_frame_size (length bytes) ≡ false)
 
 -- ---- an arrival that is none
 
+-- why the frame that was found, or none, doesn't arrive at node n
 abbrev pub stopped_by_age : List (Option MemberState) → ℕ → ℕ → Option Sent → Option Answer
 stopped_by_age members n bearer None = Some answer.NoFrame
 stopped_by_age members n bearer (Some f) =

@@ -34,6 +34,7 @@ pub record IsSettledAt (m : MemberState) (n : ℕ) : Type 0 where
   pub known : (peer : ℕ) → 32 < peer → neighbour_of m.node peer ≡ None
   pub boot : m.node.boot < 4294967295
 
+-- each node that is there is so
 abbrev pub AreSettled : List (Option MemberState) → Type 0
 AreSettled members = (n : ℕ) (m : MemberState) → slice_index_or members n None ≡ Some m → IsSettledAt m n
 

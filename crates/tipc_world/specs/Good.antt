@@ -39,6 +39,7 @@ pub record IsTrue (f : Sent) : Type 0 where
   pub frame_is : f.frame ≡ frame_of es er (spelling packet)
   pub previous : packet.previous ≡ node_word a
 
+-- What is always true of a world that sends messages by name as its pick gives: the promises of this project, one each.
 pub record IsGood {P : Type 0} (gives : P → ℕ → ℕ → ℕ → Type 0) (w : WorldView P) : Type 0 where
   -- For all nodes a and b, each contact and each flow: what was ever delivered at b from a is a prefix of what a ever accepted for b.
   pub prefix : (a b a_number b_number : ℕ) (flow : Flow) →

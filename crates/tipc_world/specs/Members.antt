@@ -28,6 +28,7 @@ called m n = record { node = n; past = m.past; calls = m.calls + 1; arrivals = m
 abbrev pub Tally : Type 0
 Tally = (ℕ × ℕ × ℕ) × ℕ
 
+-- of a session: how many packets it has numbered, under the peer, the bearer and its epoch
 abbrev pub tally : ℕ → ℕ → SessionEnd → Tally
 tally peer bearer s = ((peer, bearer, s.epoch), s.sending.numbered)
 
@@ -36,10 +37,12 @@ abbrev pub over_in : ℕ → ℕ → Option LinkEnd → Option Tally
 over_in peer bearer None = None
 over_in peer bearer (Some e) = if is_up e.fsm.state then None else option_map (tally peer bearer) e.session
 
+-- that of the link with a peer, where one is named
 abbrev pub over_with : MemberState → Option ℕ → ℕ → Option Tally
 over_with m None bearer = None
 over_with m (Some peer) bearer = over_in peer bearer (link_in m.node peer bearer)
 
+-- the counts with one more noted, where there is one
 abbrev pub noted : List Tally → Option Tally → List Tally
 noted counts None = counts
 noted counts (Some last) = insert_entry same_session counts last.0 last.1
@@ -78,6 +81,7 @@ arrived_member m n sender bearer frame = record {
 
 -- ---- a node comes to know a peer, is restarted, or comes in
 
+-- the node has come to know a peer on a bearer
 abbrev pub known_member : MemberState → ℕ → ℕ → MemberState
 known_member m peer bearer =
     record { node = known_node m.node peer bearer; past = m.past; calls = m.calls; arrivals = m.arrivals; counts = m.counts }

@@ -29,6 +29,7 @@ call_in n s = record { node = n; call = s.event; answer = s.answer }
 
 -- ---- those with one stamp
 
+-- the call of a step of node n, where it has this stamp
 abbrev pub call_if : ℕ → ℕ → PlacedStep → List Recorded
 call_if n stamp s = if s.step.by.stamp == stamp then call_in n s.step ∷ [] else []
 

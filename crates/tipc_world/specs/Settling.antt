@@ -25,6 +25,7 @@ abbrev pub is_among : Receivers → ℕ → Bool
 is_among Any n = true
 is_among (Both first second) n = (n == first) || (n == second)
 
+-- the frame at a place arrives at this node, where one is named that is among the receivers and is there
 abbrev pub arrival_for : Receivers → ℕ → WorldState → ℕ → Option ℕ → Option WorldEvent
 arrival_for among bearer w place None = None
 arrival_for among bearer w place (Some node) = if is_among among node && is_there w node then Some (event.Arrive node bearer place) else None

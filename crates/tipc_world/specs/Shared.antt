@@ -8,6 +8,7 @@ use Rattle.tipc_node.specs.Telling.{IsTold}
 use Rattle.tipc_world.specs.Entered.{HasRisen}
 use Rattle.tipc_world.specs.States.{MemberState}
 
+-- what a node's journals tell of its names and of its contacts over all its boots
 pub record IsShared (m : MemberState) : Type 0 where
   pub told : IsTold m.node
   pub shares : SharesNames m.node
@@ -17,5 +18,6 @@ pub record IsShared (m : MemberState) : Type 0 where
   -- over all its boots its contact numbers for each peer rose
   pub rises : (b : ℕ) → HasRisen m b
 
+-- each node that is there keeps that
 abbrev pub AreShared : List (Option MemberState) → Type 0
 AreShared members = (n : ℕ) (m : MemberState) → slice_index_or members n None ≡ Some m → IsShared m

@@ -7,6 +7,7 @@ pub record AirState : Type 0 where
   pub first : List Sent
   pub second : List Sent
 
+-- an air in which nothing was sent yet
 abbrev pub empty_air : AirState
 empty_air = record { first = []; second = [] }
 

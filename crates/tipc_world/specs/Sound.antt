@@ -35,6 +35,7 @@ pub record IsPairOf (a b : ℕ) (x : PairEnds) : Type 0 where
   pub peer : x.peer ≡ node_word b
   pub first : x.bearer ≡ 0
 
+-- What every world keeps of its nodes, of each two of them, and of the frames in its air.
 pub record IsSound (members : List (Option MemberState)) (air : AirState) : Type 0 where
   -- a node has a number, and its address is that of its number
   pub numbered : (n : ℕ) (m : MemberState) → slice_index_or members n None ≡ Some m

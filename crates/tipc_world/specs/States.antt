@@ -44,9 +44,11 @@ pub record WorldView (P : Type 0) : Type 0 where
   pub state : WorldState
   pub chooser : Choosing P
 
+-- a world without nodes, in which nothing has happened
 abbrev pub no_nodes : WorldState
 no_nodes = record { members = []; air = empty_air; events = 0; stamps = 0; lost = false }
 
+-- whether node n is there
 abbrev pub is_there : WorldState → ℕ → Bool
 is_there w n = is_some (slice_index_or w.members n None)
 
@@ -82,11 +84,13 @@ abbrev pub count_with : List ((ℕ × ℕ × ℕ) × ℕ) → Option LinkEnd →
 count_with counts link peer bearer epoch =
     unwrap_or (option_and_then (λ e. numbered_in e.session epoch) link) (count_in counts peer bearer epoch)
 
+-- how many packets a node has numbered for a peer on a bearer under an epoch
 unfoldable pub count_of : MemberState → ℕ → ℕ → ℕ → ℕ
 count_of m peer bearer epoch = count_with m.counts (link_in m.node peer bearer) peer bearer epoch
 
 -- ---- of a world
 
+-- what the world keeps of node n, where it is there
 unfoldable pub member_at : List (Option MemberState) → ℕ → Option MemberState
 member_at members n = slice_index_or members n None
 
@@ -118,9 +122,11 @@ link_at members a b bearer = end_on bearer (pair_at members a b)
 abbrev pub numbers_at : List (Option MemberState) → ℕ → ℕ → ℕ × ℕ
 numbers_at members a b = (own_in (boot_at members a) (pair_at members a b), seen_in (pair_at members a b))
 
+-- everything that happened at node n, in all its boots; nothing where it isn't there
 unfoldable pub history_at : List (Option MemberState) → ℕ → List Entry
 history_at members n = unwrap_or (option_map history (member_at members n)) []
 
+-- how many packets node a has numbered for node b on a bearer under an epoch
 unfoldable pub count_at : List (Option MemberState) → ℕ → ℕ → ℕ → ℕ → ℕ
 count_at members a b bearer epoch = unwrap_or (option_map (λ m. count_of m b bearer epoch) (member_at members a)) 0
 
@@ -142,6 +148,7 @@ contact_at members a b = option_and_then contact_between (pair_at members a b)
 abbrev pub counted : ℕ → ℕ
 counted count = min count 18446744073709551615
 
+-- how many messages node a accepted for node b in this contact, and how many of them were delivered; or that there is no contact
 abbrev pub flow_in : List (Option MemberState) → ℕ → ℕ → Option (ℕ × ℕ) → Answer
 flow_in members a b None = answer.NoContact
 flow_in members a b (Some contact) =
@@ -151,10 +158,11 @@ flow_in members a b (Some contact) =
 unfoldable pub flow_of : List (Option MemberState) → ℕ → ℕ → Answer
 flow_of members a b = flow_in members a b (contact_at members a b)
 
--- whether the link end at node a to node b on a bearer is there, and whether it is up
+-- whether there is a link end at node a to node b on a bearer
 abbrev pub knows : List (Option MemberState) → ℕ → ℕ → ℕ → Bool
 knows members a b bearer = is_some (link_at members a b bearer)
 
+-- whether there is one, and it is up
 abbrev pub is_up_at : List (Option MemberState) → ℕ → ℕ → ℕ → Bool
 is_up_at members a b bearer = is_up_in (link_at members a b bearer)
 

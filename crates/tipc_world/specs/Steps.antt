@@ -18,6 +18,7 @@ pub record Stage : Type 0 where
   pub members : List (Option MemberState)
   pub air : AirState
 
+-- these nodes and this air
 abbrev pub stage : List (Option MemberState) → AirState → Stage
 stage members air = record { members = members; air = air }
 

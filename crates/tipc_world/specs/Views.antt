@@ -13,11 +13,12 @@ use Rattle.tipc_world.specs.Numbers.{begun_of, end_on, own_in, seen_in}
 use Rattle.tipc_world.specs.Skies.{AirState}
 use Rattle.tipc_world.specs.States.{MemberState, boot_at, count_at, history_at, pair_at, stream_of}
 
--- The packets of the messages that a node with this address word accepted for node b, and of those that were delivered from node b, in a
--- contact. A packet is spelled for the node that sends it.
+-- The packets of the messages that a node with this address word accepted for node b in a contact. A packet is spelled for the node that
+-- sends it.
 abbrev pub put_in : ℕ → List Entry → ℕ → ℕ → ℕ → List (List ℕ)
 put_in word entries b own theirs = map (bytes_of word) (accepted entries (stream_of b own theirs Zero))
 
+-- the packets of the messages that were delivered from node b in a contact
 abbrev pub given_in : List Entry → ℕ → ℕ → ℕ → List (List ℕ)
 given_in entries b own theirs = map (bytes_of (node_word b)) (delivered entries (stream_of b own theirs Zero))
 
@@ -39,6 +40,7 @@ sight_from a b boot pair put given counts sent = record {
   sent = sent;
 }
 
+-- node a of a world towards node b
 unfoldable pub sight_at : List (Option MemberState) → AirState → ℕ → ℕ → Sight
 sight_at members air a b =
     sight_from a b (boot_at members a) (pair_at members a b) (put_in (node_word a) (history_at members a) b)

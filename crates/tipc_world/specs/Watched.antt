@@ -35,10 +35,12 @@ abbrev pub AreTraced : Seen → List (Option Neighbour) → Type 0
 AreTraced seen xs = (p : ℕ) (x : Neighbour) → slice_index_or xs p None ≡ Some x
     → KeepsBy (HasBrought seen (addr_of p)) x.pair
 
+-- what is always true of a node's journals and of what it holds, by the frames that are in the air and those that arrived
 pub record IsWatched (air : AirState) (m : MemberState) : Type 0 where
   pub lawful : AreLawful air m
   pub ticked : AreTicked (record { air = air; arrivals = m.arrivals }) m.node.journal (link_in m.node)
   pub traced : AreTraced (record { air = air; arrivals = m.arrivals }) m.node.neighbours
 
+-- it is true of each node that is there
 abbrev pub AreWatched : List (Option MemberState) → AirState → Type 0
 AreWatched members air = (n : ℕ) (m : MemberState) → slice_index_or members n None ≡ Some m → IsWatched air m
