@@ -1,7 +1,8 @@
 -- The text of what is told of a line.
-use Rattle.std.specs.Prelude.{ℕ, ◌+◌, ◌/◌, ◌%◌, nat_lt, if◌then◌else◌, List, [], ◌∷◌, ◌++◌, codes}
+use Rattle.std.specs.Prelude.{ℕ, ◌%◌, List, [], ◌∷◌, ◌++◌, codes}
 use Rattle.std.specs.List.{flat_map, join_with_byte}
 use Rattle.std.specs.Fmt.{decimal}
+use Rattle.hex.specs.Hex.{encode_lower}
 use Rattle.tipc_types.specs.declared.identity.To.{To}
 use Rattle.tipc_types.specs.declared.identity.To.TheVariants as to
 use Rattle.tipc_types.specs.declared.services.Publication.{Publication}
@@ -9,18 +10,6 @@ use Rattle.tipc_report.specs.declared.told.Told.{Told}
 use Rattle.tipc_report.specs.declared.told.Told.TheVariants as told
 use Rattle.tipc_report.specs.Answering.{port_text, text_of}
 use Rattle.tipc_report.specs.Closing.{spaced}
-
--- a hexadecimal digit: `0` to `9`, and then `a` to `f`
-abbrev pub hex_digit : ℕ → ℕ
-hex_digit n = if nat_lt n 10 then 48 + n else 87 + n
-
--- a byte as two digits, the higher first
-abbrev pub byte_text : ℕ → List ℕ
-byte_text byte = hex_digit (byte / 16) ∷ hex_digit (byte % 16) ∷ []
-
--- bytes as digits, with nothing between
-abbrev pub hex_text : List ℕ → List ℕ
-hex_text bytes = flat_map byte_text bytes
 
 -- whom a frame is for: a node's number, or `all`. An address has the node's number in its low 12 bits.
 abbrev pub to_text : To → List ℕ
@@ -36,10 +25,10 @@ publication_text p =
 abbrev pub table_text : List Publication → List ℕ
 table_text ps = codes "table" ++ flat_map (λ p. 32 ∷ publication_text p) ps
 
--- the text of what is told of a line
+-- the text of what is told of a line; a frame's bytes are told in lower-case hexadecimal
 abbrev pub told_text : Told → List ℕ
 told_text told.Nothing = codes "-"
 told_text (told.Answer answer) = text_of answer
 told_text (told.Times count last) = spaced (codes "times" ∷ decimal count ∷ text_of last ∷ [])
 told_text (told.Table publications) = table_text publications
-told_text (told.Frame from to bytes) = spaced (decimal (from.word % 4096) ∷ to_text to ∷ hex_text bytes ∷ [])
+told_text (told.Frame from to bytes) = spaced (decimal (from.word % 4096) ∷ to_text to ∷ encode_lower bytes ∷ [])

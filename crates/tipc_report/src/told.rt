@@ -1,10 +1,11 @@
 //! What a line is answered by, and its text.
 
-ghost use Rattle.std.specs.Prelude.{◌≡◌, ◌<◌, ◌%◌, ◌++◌, ◌∷◌, [], IfOk, OnOk, codes};
+ghost use Rattle.std.specs.Prelude.{◌≡◌, ◌%◌, ◌∷◌, [], IfOk, codes};
 ghost use Rattle.std.specs.Fmt.{decimal};
+ghost use Rattle.hex.specs.Hex.{encode_lower};
 ghost use Rattle.tipc_report.specs.Closing.{spaced};
 ghost use Rattle.tipc_report.specs.Answering.{text_of};
-ghost use Rattle.tipc_report.specs.Telling.{byte_text, hex_digit, hex_text, to_text, told_text};
+ghost use Rattle.tipc_report.specs.Telling.{to_text, told_text};
 
 use crate::answers::answer_text;
 use crate::tables::table_text;
@@ -51,38 +52,6 @@ fn times_text(alloc: Global, count: u64, last: &Answer) -> Result<Vec<u8>, NoMem
     Ok(text)
 }
 
-/// A hexadecimal digit, in lower case.
-fn hex_digit(value: u8) -> u8
-    requires { value < 16 }
-    ensures { result ≡ hex_digit value }
-{
-    if value < 10 {
-        b'0' + value
-    } else {
-        b'a' + (value - 10)
-    }
-}
-
-/// Appends the two hexadecimal digits of a byte.
-fn push_byte(text: &mut Vec<u8>, byte: u8) -> Result<(), NoMemory>
-    ensures { OnOk result (text.new.items ≡ text.old.items ++ byte_text byte) }
-{
-    let digits = [hex_digit(byte / 16), hex_digit(byte % 16)];
-    text.extend_from_slice(digits.as_slice())?;
-    Ok(())
-}
-
-/// Bytes in hexadecimal.
-fn hex_text(alloc: Global, bytes: &[u8]) -> Result<Vec<u8>, NoMemory>
-    ensures { IfOk result (λ text. text.items ≡ hex_text bytes.now) }
-{
-    let mut text = Vec::new(alloc);
-    for byte in bytes {
-        push_byte(&mut text, *byte)?;
-    }
-    Ok(text)
-}
-
 /// The nodes of a frame: its sender, a space, and whom it is for.
 fn nodes_text(alloc: Global, from: Addr, to: To) -> Result<Vec<u8>, NoMemory>
     ensures { IfOk result (λ text. text.items ≡ spaced (decimal (from.word % 4096) ∷ to_text to ∷ [])) }
@@ -102,10 +71,10 @@ fn nodes_text(alloc: Global, from: Addr, to: To) -> Result<Vec<u8>, NoMemory>
 #[tactic(auto, using(crate::proofs::Spacing::two_and_one))]
 fn frame_text(alloc: Global, from: Addr, to: To, bytes: &[u8]) -> Result<Vec<u8>, NoMemory>
     ensures { IfOk result (λ text. text.items ≡ spaced (decimal (from.word % 4096) ∷ to_text to ∷
-        hex_text bytes.now ∷ [])) }
+        encode_lower bytes.now ∷ [])) }
 {
     let mut text = nodes_text(alloc, from, to)?;
-    let digits = hex_text(alloc, bytes)?;
+    let digits = hex::encode(alloc, bytes)?.into_bytes();
     text.push(b' ')?;
     text.extend_from_slice(digits.as_slice())?;
     Ok(text)
