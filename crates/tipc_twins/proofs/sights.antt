@@ -14,5 +14,6 @@ pub mod ToldIn
 pub mod Seeing
 pub mod Sights
 pub mod Sizes
+pub mod Holding
 pub mod Truth
 pub mod Reaching

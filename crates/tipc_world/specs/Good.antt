@@ -56,8 +56,9 @@ pub record IsGood {P : Type 0} (gives : P → ℕ → ℕ → ℕ → Type 0) (w
   -- Every frame in the air is true.
   pub frames : (bearer k : ℕ) (f : Sent) → slice_get (air_on bearer w.state.air) k ≡ Some f → IsTrue f
   -- What the STATEs and numbered packets between any two nodes say of the contact whose numbers stand beside them is so: there are packets
-  -- that the two numbered, by bearer and session; what such a packet acknowledges was taken by its sender, and gave what was delivered
-  -- there; and what it carries was numbered, and holds what its sender accepted, or is a tunnel packet.
+  -- that the two numbered, by bearer and session, and for each contact and direction one list of slots, which have what was accepted, and
+  -- of which the first so many were taken and gave what was delivered; what such a packet carries was numbered in its session, whose packets
+  -- hold slots of the list in order or are tunnel packets; and what it acknowledges holds slots that were taken.
   pub truth : (a b : ℕ) → IsNumber a → IsNumber b → a ≢ b
       → AreTrue (sight_at w.state.members w.state.air a b) (sight_at w.state.members w.state.air b a)
   -- For each node and each of its boots: each link that went down shows its cause, each contact that ended stands where no link is up, and
