@@ -7,7 +7,7 @@ use Rattle.tipc_outside.specs.declared.outgoing.Outgoing.{Outgoing}
 use Rattle.tipc_journal.specs.Steps.{step_entries}
 use Rattle.tipc_world.specs.declared.events.WorldEvent.{WorldEvent}
 use Rattle.tipc_world.specs.declared.events.WorldEvent.TheVariants.{Know, Restart, Call, Arrive}
-use Rattle.tipc_world.specs.Air.{Leaves, leaving_on}
+use Rattle.tipc_world.specs.Air.{Leaves, leaving_on, with_leaving}
 use Rattle.tipc_world.specs.Skies.{AirState, air_on}
 use Rattle.tipc_world.specs.Calls.{node_of}
 use Rattle.tipc_world.specs.Deeds.{Does}
@@ -15,6 +15,7 @@ use Rattle.tipc_world.specs.Due.{unarrived}
 use Rattle.tipc_world.specs.Growth.{Grows}
 use Rattle.tipc_world.specs.States.{MemberState, WorldState, contact_at, history, history_at}
 use Rattle.tipc_world.specs.Steps.{Becomes, Happens, IsArrival, IsStep, Stage, stage}
+use Rattle.tipc_world.proofs.frames.Released.{came}
 use Rattle.tipc_world.proofs.LookUps.{history_at-is, history_at-same, member_at-changed, member_at-is, member_at-other}
 use Rattle.tipc_world.proofs.streams.Histories.{history_restarted, history_same}
 use Rattle.tipc_world.proofs.pairs.PairedEvents.{made_step, made_turn, met_step, met_turn}
@@ -57,12 +58,15 @@ put_grows members a m m' was longer n =
 
 -- on each bearer, as frames come there behind all others
 leaves_grow : (old new : AirState) (met : ℕ → Option (ℕ × ℕ)) (members : List (Option MemberState)) (a : ℕ) (frames : List Outgoing) (lost : Bool) → Leaves old new met members a frames lost → (bearer : ℕ) → IsPrefixOf (air_on bearer old) (air_on bearer new)
-leaves_grow old new met members a frames lost l bearer = subst (λ air. IsPrefixOf (air_on bearer old) (air_on bearer air)) (sym l.air) (by (bearer == 0) (bearer == 1))
+leaves_grow old new met members a frames lost l bearer = subst (λ air. IsPrefixOf (air_on bearer old) (air_on bearer air)) (sym front.1) (by (bearer == 0) (bearer == 1))
   where
+    front : (count : ℕ) × (new ≡ with_leaving old met members a (take count frames))
+    front = came old new met members a frames lost l
+
     by : (s t : Bool) → IsPrefixOf (if s then old.first else (if t then old.second else []))
-        (if s then old.first ++ leaving_on 0 met members a (take l.count frames) else (if t then old.second ++ leaving_on 1 met members a (take l.count frames) else []))
-    by true t = (leaving_on 0 met members a (take l.count frames), refl)
-    by false true = (leaving_on 1 met members a (take l.count frames), refl)
+        (if s then old.first ++ leaving_on 0 met members a (take front.0 frames) else (if t then old.second ++ leaving_on 1 met members a (take front.0 frames) else []))
+    by true t = (leaving_on 0 met members a (take front.0 frames), refl)
+    by false true = (leaving_on 1 met members a (take front.0 frames), refl)
     by false false = ([], refl)
 
 pub happens_grows : (old new : Stage) (stamp : ℕ) (event : WorldEvent) (bytes : List ℕ) (answered : Answer) (lost : Bool) → Happens old new stamp event bytes answered lost → StageGrows old new

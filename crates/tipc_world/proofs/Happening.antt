@@ -1,21 +1,22 @@
 -- An event among the nodes and in the air, put together from what its calls say.
-use Rattle.std.proofs.Common.{◌≡◌, ◌<◌, ◌≤◌, ℕ, suc, zero, Bool, true, false, List, Option, Some, None, [], ◌∷◌, ◌++◌, take, refl, sym, ap, ◌∙◌, subst, arith}
+use Rattle.std.proofs.Common.{◌≡◌, ◌<◌, ◌≤◌, ℕ, suc, zero, Bool, true, false, List, Option, Some, None, [], ◌∷◌, take, refl, sym, ap, ◌∙◌, subst, arith}
 use Rattle.std.proofs.Math.Path.{fun_ext}
 use Rattle.std.proofs.lemmas.Bool.Decides.{nat_tests}
-use Rattle.std.specs.Prelude.{All, if◌then◌else◌, is_some, nat_le, option_map, slice_get, slice_index_or, unwrap_or, filter, map}
+use Rattle.std.specs.Prelude.{if◌then◌else◌, is_some, nat_le, option_map, slice_get, slice_index_or, unwrap_or, filter, map}
 use Rattle.tipc_types.specs.Address.{node_word}
 use Rattle.tipc_types.specs.declared.node_calls.Answer.{Answer}
 use Rattle.tipc_outside.specs.declared.outgoing.Outgoing.{Outgoing}
 use Rattle.tipc_outside.specs.Frames.{Adds, Out}
 use Rattle.tipc_node.specs.declared.neighbours.Neighbour.{Neighbour}
 use Rattle.tipc_link.specs.Links.{LinkEnd}
+use Rattle.tipc_pair.specs.Courses.{no_frames}
 use Rattle.tipc_pair.specs.Facing.{facing}
 use Rattle.tipc_node.specs.Nodes.{end_with, neighbour_of}
 use Rattle.tipc_world.specs.declared.air.Sent.{Sent}
 use Rattle.tipc_world.specs.declared.events.WorldEvent.{WorldEvent}
 use Rattle.tipc_world.specs.declared.flying.Met.{Met}
 use Rattle.tipc_world.specs.declared.events.WorldEvent.TheVariants.{Know, Restart, Call, Arrive}
-use Rattle.tipc_world.specs.Air.{airborne, is_on, met_in, met_sender, receiver_of, with_leaving, Emits, IsSized, Leaves}
+use Rattle.tipc_world.specs.Air.{airborne, is_on, met_in, met_sender, receiver_of, Emits}
 use Rattle.tipc_world.specs.Numbers.{end_on}
 use Rattle.tipc_world.specs.Skies.{AirState, air_on, with_both}
 use Rattle.tipc_world.specs.Calls.{CanDoAt, CanHappenAt, may_end_contact, node_of}
@@ -29,39 +30,6 @@ use Rattle.tipc_world.proofs.calls.Calls.{the_some}
 use Rattle.tipc_world.proofs.frames.Lasting.{StandsFor, stands_before, stands_sender}
 use Rattle.tipc_world.proofs.LookUps.{member_at-is, pair_at-is}
 
--- a front of a front is a front
-front_of_front : {A : Type 0} (k n : ℕ) (xs : List A) → (m : ℕ) × (take k (take n xs) ≡ take m xs)
-front_of_front zero n xs = (0, refl)
-front_of_front (suc k) zero xs = (0, refl)
-front_of_front (suc k) (suc n) [] = (0, refl)
-front_of_front (suc k) (suc n) (x ∷ xs) = let rest = front_of_front k n xs in (suc rest.0, ap (λ ys. x ∷ ys) rest.1)
-
-leaves_of : (air air' : AirState) (met : ℕ → Option (ℕ × ℕ)) (members : List (Option MemberState)) (a : ℕ) (frames : List Outgoing) (box box' : Out) (lost : Bool)
-    → box.frames ≡ [] → Adds box box' frames → Emits air air' met members a box' lost → Leaves air air' met members a frames lost
-leaves_of air air' met members a frames box box' lost empty adds emits = by lost refl
-  where
-    boxed : box'.frames ≡ take adds.count frames
-    boxed = adds.front ∙ ap (λ xs. xs ++ take adds.count frames) empty
-
-    by : (b : Bool) → lost ≡ b → Leaves air air' met members a frames lost
-    by true is =
-        let front = front_of_front emits.some.count adds.count frames in
-        record {
-          count = front.0;
-          air = emits.some.air ∙ ap (with_leaving air met members a) (ap (take emits.some.count) boxed ∙ front.1);
-          sized = subst (All IsSized) (ap (take emits.some.count) boxed ∙ front.1) emits.some.sized;
-          whole = λ kept. absurd cc;
-        }
-    by false is =
-        let all = emits.all is in
-        let count = (adds.whole all.0).1 in
-        record {
-          count = adds.count;
-          air = all.1 ∙ ap (with_leaving air met members a) boxed;
-          sized = subst (All IsSized) boxed all.2;
-          whole = λ kept. count;
-        }
-
 -- the frame in the air, whichever contact stands beside it
 abbrev stamped : List (Option MemberState) → ℕ → Outgoing → ℕ × ℕ → Sent
 stamped members a o contact = record (airborne (λ b. None) members a o) { contact = contact }
@@ -69,18 +37,22 @@ stamped members a o contact = record (airborne (λ b. None) members a o) { conta
 same_frame : (met met' : ℕ → Option (ℕ × ℕ)) (members : List (Option MemberState)) (a : ℕ) → ((b : ℕ) → unwrap_or (met b) (numbers_at members a b) ≡ unwrap_or (met' b) (numbers_at members a b)) → (o : Outgoing) → airborne met members a o ≡ airborne met' members a o
 same_frame met met' members a same o = ap (stamped members a o) (same (receiver_of o.to))
 
-same_leaves : (air air' : AirState) (met met' : ℕ → Option (ℕ × ℕ)) (members : List (Option MemberState)) (a : ℕ) (frames : List Outgoing) (lost : Bool) → ((b : ℕ) → unwrap_or (met b) (numbers_at members a b) ≡ unwrap_or (met' b) (numbers_at members a b))
-    → Leaves air air' met members a frames lost → Leaves air air' met' members a frames lost
-same_leaves air air' met met' members a frames lost same leaves = record {
-  count = leaves.count;
-  air = leaves.air ∙ ap (λ f. with_both air (map f (filter (is_on 0) (take leaves.count frames))) (map f (filter (is_on 1) (take leaves.count frames)))) (fun_ext (same_frame met met' members a same));
-  sized = leaves.sized;
-  whole = leaves.whole;
+-- what is emitted is the same with contacts that stand for the same
+same_emits : (air air' : AirState) (met met' : ℕ → Option (ℕ × ℕ)) (members : List (Option MemberState)) (a : ℕ) (box : Out) (lost : Bool) → ((b : ℕ) → unwrap_or (met b) (numbers_at members a b) ≡ unwrap_or (met' b) (numbers_at members a b))
+    → Emits air air' met members a box lost → Emits air air' met' members a box lost
+same_emits air air' met met' members a box lost same emits = record {
+  count = emits.count;
+  air = emits.air ∙ ap (λ f. with_both air (map f (filter (is_on 0) (take emits.count box.frames))) (map f (filter (is_on 1) (take emits.count box.frames)))) (fun_ext (same_frame met met' members a same));
+  lost_is = emits.lost_is;
 }
+
+-- a box in which nothing is, and which tells of no loss
+pub empty_box : (box : Out) → box.frames ≡ [] → box.lost ≡ false → box ≡ no_frames
+empty_box box frames lost = λ i. record { frames = frames i; lost = lost i }
 
 -- Beside each frame stands the contact before the event, of those contacts that may end in it.
 pub happens_of : (old new : List (Option MemberState)) (air air' : AirState) (met : Met) (stamp : ℕ) (event : WorldEvent) (bytes : List ℕ) (box box' : Out) (answered : Answer) (lost : Bool)
-    → ((b : ℕ) → StandsFor old new (node_of event) met b) → box.frames ≡ [] → DidAt old new stamp event bytes box box' answered → Emits air air' (met_in met) new (node_of event) box' lost → Happens (stage old air) (stage new air') stamp event bytes answered lost
+    → ((b : ℕ) → StandsFor old new (node_of event) met b) → box ≡ no_frames → DidAt old new stamp event bytes box box' answered → Emits air air' (met_in met) new (node_of event) box' lost → Happens (stage old air) (stage new air') stamp event bytes answered lost
 happens_of old new air air' met stamp event bytes box box' answered lost stands empty did emits = record {
   before = did.before;
   after = did.after;
@@ -89,15 +61,18 @@ happens_of old new air air' met stamp event bytes box box' answered lost stands 
   turns = record {
     was = did.was;
     members = did.new_is;
-    leaves = same_leaves air air' (met_in met) (contact_at old (node_of event)) new (node_of event) did.did.frames lost stands
-        (leaves_of air air' (met_in met) new (node_of event) did.did.frames box box' lost empty did.did.adds emits);
+    leaves = record {
+      box = box';
+      boxed = subst (λ b. Adds b box' did.did.frames) empty did.did.adds;
+      emits = same_emits air air' (met_in met) (contact_at old (node_of event)) new (node_of event) box' lost stands emits;
+    };
   };
 }
 
 -- an event other than an arrival, of nodes and contacts as the calls see them
 pub happens_before : (old before new after : List (Option MemberState)) (air air' : AirState) (met : Met) (stamp node : ℕ) (event : WorldEvent) (box box' : Out) (answered : Answer) (lost : Bool)
     → AreSettled old → node ≡ node_of event → before ≡ old → ((b : ℕ) → b ≤ 32 → met_in met b ≡ (if may_end_contact event then contact_at before (node_of event) b else None)) → ((b : ℕ) → 32 < b → met_in met b ≡ None)
-    → after ≡ new → box.frames ≡ [] → DidAt old new stamp event [] box box' answered → Emits air air' (met_in met) after node box' lost → Happens (stage old air) (stage new air') stamp event [] answered lost
+    → after ≡ new → box ≡ no_frames → DidAt old new stamp event [] box box' answered → Emits air air' (met_in met) after node box' lost → Happens (stage old air) (stage new air') stamp event [] answered lost
 happens_before old before new after air air' met stamp node event box box' answered lost settled at was each beyond now empty did emits =
     let contacts : (b : ℕ) → b ≤ 32 → met_in met b ≡ (if may_end_contact event then contact_at old (node_of event) b else None) =
     λ b low. each b low ∙ ap (λ ms. if may_end_contact event then contact_at ms (node_of event) b else None) was in
@@ -107,7 +82,7 @@ happens_before old before new after air air' met stamp node event box box' answe
 
 -- an arrival, likewise
 pub happens_sender : (old before new after : List (Option MemberState)) (air air' : AirState) (met : Met) (stamp node bearer place : ℕ) (bytes : List ℕ) (box box' : Out) (answered : Answer) (lost : Bool)
-    → IsSound old air → before ≡ old → met ≡ met_sender before node (sender_of bytes) → after ≡ new → box.frames ≡ [] → DidAt old new stamp (Arrive node bearer place) bytes box box' answered
+    → IsSound old air → before ≡ old → met ≡ met_sender before node (sender_of bytes) → after ≡ new → box ≡ no_frames → DidAt old new stamp (Arrive node bearer place) bytes box box' answered
     → Emits air air' (met_in met) after node box' lost → Happens (stage old air) (stage new air') stamp (Arrive node bearer place) bytes answered lost
 happens_sender old before new after air air' met stamp node bearer place bytes box box' answered lost sound was met_is now empty did emits =
     let is : met ≡ met_sender old node (sender_of bytes) = met_is ∙ ap (λ ms. met_sender ms node (sender_of bytes)) was in

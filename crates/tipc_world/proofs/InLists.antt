@@ -1,5 +1,7 @@
 -- What stands in a list, at some place.
-use Rattle.std.specs.Prelude.{slice_get}
+use Rattle.std.specs.Prelude.{All, slice_get}
+use Rattle.std.proofs.lemmas.Option.{get_or_from_slice_get, slice_get_within}
+use Rattle.std.proofs.lemmas.List.Elements.{All-cons, All-head, All-nil, All-tail}
 use Rattle.std.proofs.Common.{◌⊎◌, ◌≡◌, ℕ, zero, suc, Bool, true, false, List, [], ◌∷◌, ◌++◌, Some, filter, map, take, if◌then◌else◌, refl, sym, ap, subst, inl, inr}
 
 abbrev pub Stands : {A : Type 0} → List A → A → Type 0
@@ -62,3 +64,12 @@ stands_front zero xs x (k, is) = absurd cc
 stands_front (suc n) [] x (k, is) = absurd cc
 stands_front (suc n) (y ∷ xs) x (zero, is) = (zero, is)
 stands_front (suc n) (y ∷ xs) x (suc k, is) = stands_later y xs x (stands_front n xs x (k, is))
+
+-- what holds of all that stands in a list gives what follows from it there
+pub all_weaker : {A : Type 0} (P Q : A → Type 0) (xs : List A) → ((x : A) → Stands xs x → P x → Q x) → All P xs → All Q xs
+all_weaker P Q [] more all = All-nil Q
+all_weaker P Q (x ∷ xs) more all = All-cons Q x xs (more x (0, refl) (All-head P x xs all)) (all_weaker P Q xs (λ y there. more y (stands_later x xs y there)) (All-tail P x xs all))
+
+-- what holds of all holds of each
+pub all_at : {A : Type 0} (P : A → Type 0) (xs : List A) (k : ℕ) (x : A) → All P xs → slice_get xs k ≡ Some x → P x
+all_at P xs k x all there = subst P (get_or_from_slice_get xs k x x there) (all k x (slice_get_within xs k x there))

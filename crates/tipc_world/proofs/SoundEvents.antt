@@ -9,7 +9,7 @@ use Rattle.tipc_journal.specs.Steps.{NodeStep}
 use Rattle.tipc_node.specs.declared.neighbours.Neighbour.{Neighbour}
 use Rattle.tipc_link.specs.Links.{LinkEnd}
 use Rattle.tipc_pair.specs.Facing.{PairEnds, facing, other, with_made}
-use Rattle.tipc_node.specs.Nodes.{known_frames, neighbour_of}
+use Rattle.tipc_node.specs.Nodes.{neighbour_of}
 use Rattle.tipc_node.specs.Telling.{AreAbreast}
 use Rattle.tipc_node.specs.Turns.{PeerTurn, pair_in}
 use Rattle.tipc_node.proofs.pairs.PairEvents.{Any, On, OnBearer, closed_on}
@@ -28,11 +28,12 @@ use Rattle.tipc_world.proofs.frames.Coming.{ComesOut, nothing_out}
 use Rattle.tipc_world.proofs.streams.Histories.{history_restarted, history_same}
 use Rattle.tipc_world.proofs.Happening.{not_known}
 use Rattle.tipc_world.proofs.LookUps.{pair_at-is, pair_at-same, place_within}
+use Rattle.tipc_world.proofs.pairs.Outward.{all_out, there_number}
 use Rattle.tipc_world.proofs.pairs.PairedEvents.{IsReady, happens_pairs, made_step, made_turn, met_step, met_turn, ready_out}
-use Rattle.tipc_world.proofs.pairs.PairedStarts.{known_for, known_is, known_of, known_pair}
+use Rattle.tipc_world.proofs.pairs.PairedStarts.{known_is, known_of, known_pair}
 use Rattle.tipc_world.proofs.pairs.PairedTurns.{TakesTurn, turn_history}
-use Rattle.tipc_world.proofs.frames.Routes.{AreRouted, air_flies, routed_all, routed_for}
-use Rattle.tipc_world.proofs.pairs.Standing.{acquainted, neighbour_apart, pair_between}
+use Rattle.tipc_world.proofs.frames.Routes.{air_flies}
+use Rattle.tipc_world.proofs.pairs.Standing.{pair_between}
 use Rattle.tipc_world.proofs.streams.StreamsKept.{StreamsSound, streams_of, streams_same, turn_streams}
 use Rattle.tipc_world.proofs.pairs.Turning.{is_there, others_stay, was_there}
 
@@ -43,13 +44,11 @@ abbrev pub comes_to_know : WorldEvent → Option ℕ
 comes_to_know (Know node peer bearer) = Some peer
 comes_to_know other = None
 
--- a node keeps its address, comes to know no other node than that, and each frame that it sends is for another node; its pairs stay those of
--- the two nodes
-pub record KeepsNode (a : ℕ) (known : Option ℕ) (before after : MemberState) (frames : List Outgoing) : Type 0 where
+-- a node keeps its address, and comes to know no other node than that; its pairs stay those of the two nodes
+pub record KeepsNode (a : ℕ) (known : Option ℕ) (before after : MemberState) : Type 0 where
   pub own : after.node.own ≡ before.node.own
   pub none : (b : ℕ) → (known ≡ Some b → ⊥) → pair_in before.node b ≡ None → pair_in after.node b ≡ None
   pub between : (b : ℕ) (x : PairEnds) → pair_in after.node b ≡ Some x → IsPairOf a b x
-  pub routed : AreRouted a frames
 
 -- a node without a neighbour has no pair with it
 no_neighbour : (xs : List (Option Neighbour)) (b : ℕ) → option_map (λ (x : Neighbour). x.pair) (slice_index_or xs b None) ≡ None → slice_index_or xs b None ≡ None
@@ -88,12 +87,11 @@ turn_between own bytes s frames a b x x' abreast is p =
 
 -- a node's turn
 keeps_turn : (s : Stage) (a : ℕ) (before after : MemberState) (bytes : List ℕ) (step : NodeStep) (frames : List Outgoing) → IsSound s.members s.air → slice_index_or s.members a None ≡ Some before → member_at s.members a ≡ Some before
-    → TakesTurn before after bytes step frames → KeepsNode a None before after frames
+    → TakesTurn before after bytes step frames → KeepsNode a None before after
 keeps_turn s a before after bytes step frames sound there was t = record {
   own = t.turn.own;
   none = λ b _ none. ap (option_map (λ (x : Neighbour). x.pair)) (t.turn.alone b (no_neighbour before.node.neighbours b none));
   between = λ b x is. between b x (the_neighbour (neighbour_of after.node b) x is) (neighbour_of before.node b) refl;
-  routed = routed_all a before.node frames (λ b x is. neighbour_apart s a before (acquainted s.members s.air a before sound there) was b x is) t.turn.routed;
 }
   where
     between : (b : ℕ) (x : PairEnds) → (y : Neighbour) × (neighbour_of after.node b ≡ Some y) × (y.pair ≡ x) → (o : Option Neighbour) → neighbour_of before.node b ≡ o → IsPairOf a b x
@@ -104,17 +102,16 @@ keeps_turn s a before after bytes step frames sound there was t = record {
         let abreast = subst (λ o. IfSome o AreAbreast) (ap (option_map (λ (y : Neighbour). y.pair)) is) (t.told.links b).abreast in
         subst (IsPairOf a b) (ap (λ (y : Neighbour). y.pair) same ∙ found.2) (turn_between before.node.own bytes step frames a b z.pair n.after.pair abreast (pair_between s a b before z sound was is) n.turn)
 
-keeps_restart : (a : ℕ) (before after : MemberState) (frames : List Outgoing) → IsRestarted before after → frames ≡ [] → KeepsNode a None before after frames
-keeps_restart a before after frames r none = record {
+keeps_restart : (a : ℕ) (before after : MemberState) → IsRestarted before after → KeepsNode a None before after
+keeps_restart a before after r = record {
   own = r.node.own_is;
   none = λ b _ was. ap (option_map (λ (y : Neighbour). y.pair)) (r.node.alone b);
   between = λ b x is. absurd (let gone = ap (option_map (λ (y : Neighbour). y.pair)) (r.node.alone b) in let wrong : ⊥ = cc in wrong);
-  routed = subst (AreRouted a) (sym none) tt;
 }
 
-keeps_know : (s : Stage) (a peer bearer : ℕ) (before after : MemberState) (frames : List Outgoing) → IsSound s.members s.air → slice_index_or s.members a None ≡ Some before → member_at s.members a ≡ Some before
-    → IsNumber peer → peer ≢ a → bearer ≤ 1 → knows s.members a peer bearer ≡ false → after ≡ known_member before peer bearer → frames ≡ known_frames before.node peer bearer → peer < length before.node.neighbours → KeepsNode a (Some peer) before after frames
-keeps_know s a peer bearer before after frames sound there was number apart low unknown is frames_are within = record {
+keeps_know : (s : Stage) (a peer bearer : ℕ) (before after : MemberState) → IsSound s.members s.air → slice_index_or s.members a None ≡ Some before → member_at s.members a ≡ Some before
+    → bearer ≤ 1 → knows s.members a peer bearer ≡ false → after ≡ known_member before peer bearer → peer < length before.node.neighbours → KeepsNode a (Some peer) before after
+keeps_know s a peer bearer before after sound there was low unknown is within = record {
   own = ap (λ (m : MemberState). m.node.own) is;
   none = λ b other was.
       let b_apart : b ≢ peer = λ e. other (ap Some (sym e)) in
@@ -130,22 +127,13 @@ keeps_know s a peer bearer before after frames sound there was number apart low 
             let old : pair_in before.node b ≡ Some x = sym (ap (option_map (λ (y : Neighbour). y.pair)) (get_or-set_other before.node.neighbours peer b _ None other)) ∙ now in
             sound.between a b x (pair_at-is s.members a b before was ∙ old)
       ];
-  routed = subst (AreRouted a) (sym frames_are) (routed_for a peer _ number apart (known_for before peer bearer (λ y at. (pair_between s a peer before y sound was at).peer)));
 }
 
--- a node that is there has a number
-there_number : (members : List (Option MemberState)) (air : AirState) (n : ℕ) → IsSound members air → is_some (slice_index_or members n None) ≡ true → IsNumber n
-there_number members air n sound there = case (slice_index_or members n None) refl there
-  where
-    case : (o : Option MemberState) → slice_index_or members n None ≡ o → is_some o ≡ true → IsNumber n
-    case None is there = absurd cc
-    case (Some m) is there = (sound.numbered n m is).0
-
 keeps : (s : Stage) (stamp : ℕ) (event : WorldEvent) (bytes : List ℕ) (before after : MemberState) (frames : List Outgoing) (answered : Answer) → IsSound s.members s.air → slice_index_or s.members (node_of event) None ≡ Some before
-    → member_at s.members (node_of event) ≡ Some before → IsReady s.members s.air event bytes before → Does stamp event bytes before after frames answered → KeepsNode (node_of event) (comes_to_know event) before after frames
+    → member_at s.members (node_of event) ≡ Some before → IsReady s.members s.air event bytes before → Does stamp event bytes before after frames answered → KeepsNode (node_of event) (comes_to_know event) before after
 keeps s stamp (Know a peer bearer) bytes before after frames answered sound there was ready h =
-    keeps_know s a peer bearer before after frames sound there was (there_number s.members s.air peer sound ready.1) ready.0 ready.2 ready.3 h.0 h.1 h.3
-keeps s stamp (Restart a) bytes before after frames answered sound there was ready h = keeps_restart a before after frames h.0 h.1
+    keeps_know s a peer bearer before after sound there was ready.2 ready.3 h.0 h.3
+keeps s stamp (Restart a) bytes before after frames answered sound there was ready h = keeps_restart a before after h.0
 keeps s stamp (Call a call) bytes before after frames answered sound there was ready h =
     keeps_turn s a before after [] (made_step stamp call before after frames answered h) frames sound there was (made_turn stamp call before after frames answered h)
 keeps s stamp (Arrive a bearer place) bytes before after frames answered sound there was ready h =
@@ -168,7 +156,7 @@ table_here : (old new : Stage) (a : ℕ) (before after : MemberState) (frames : 
 table_here old new a before after frames lost t = ap (λ ms. slice_index_or ms a None) t.members ∙ get_or-set_same old.members a (Some after) None (place_within old.members a before t.was)
 
 -- a pair that isn't there doesn't come, but with the peer that comes to be known
-no_pair : (old new : Stage) (a : ℕ) (known : Option ℕ) (before after : MemberState) (frames : List Outgoing) (lost : Bool) → Turns old new a before after frames lost → KeepsNode a known before after frames
+no_pair : (old new : Stage) (a : ℕ) (known : Option ℕ) (before after : MemberState) (frames : List Outgoing) (lost : Bool) → Turns old new a before after frames lost → KeepsNode a known before after
     → (c b : ℕ) → (c ≡ a → known ≡ Some b → ⊥) → pair_at old.members c b ≡ None → pair_at new.members c b ≡ None
 no_pair old new a known before after frames lost t k c b other none = elim (cases_eq c a) [
   | inl same ↦
@@ -178,7 +166,7 @@ no_pair old new a known before after frames lost t k c b other none = elim (case
 ]
 
 -- each pair is still of the two nodes
-still_between : (old new : Stage) (a : ℕ) (known : Option ℕ) (before after : MemberState) (frames : List Outgoing) (lost : Bool) → IsSound old.members old.air → Turns old new a before after frames lost → KeepsNode a known before after frames
+still_between : (old new : Stage) (a : ℕ) (known : Option ℕ) (before after : MemberState) (frames : List Outgoing) (lost : Bool) → IsSound old.members old.air → Turns old new a before after frames lost → KeepsNode a known before after
     → (c b : ℕ) (x : PairEnds) → pair_at new.members c b ≡ Some x → IsPairOf c b x
 still_between old new a known before after frames lost sound t k c b x is = elim (cases_eq c a) [
   | inl same ↦
@@ -186,7 +174,7 @@ still_between old new a known before after frames lost sound t k c b x is = elim
   | inr apart ↦ sound.between c b x (sym (pair_at-same old.members new.members c b (others_stay old new a before after frames lost t c apart)) ∙ is)
 ]
 
-numbers_stay : (old new : Stage) (a : ℕ) (known : Option ℕ) (before after : MemberState) (frames : List Outgoing) (lost : Bool) → IsSound old.members old.air → Turns old new a before after frames lost → KeepsNode a known before after frames
+numbers_stay : (old new : Stage) (a : ℕ) (known : Option ℕ) (before after : MemberState) (frames : List Outgoing) (lost : Bool) → IsSound old.members old.air → Turns old new a before after frames lost → KeepsNode a known before after
     → (n : ℕ) (m : MemberState) → slice_index_or new.members n None ≡ Some m → IsNumber n × (m.node.own ≡ node_word n)
 numbers_stay old new a known before after frames lost sound t k n m there = elim (cases_eq n a) [
   | inl same ↦
@@ -249,5 +237,6 @@ happens_sound old new stamp event bytes answered lost sound h ready =
       accepted = streams.accepted;
       delivered = streams.delivered;
       nothing = streams.nothing;
-      frames = air_flies (contact_at old.members a) new.members old.air new.air a h.frames lost t.leaves (sound.numbered a h.before t.was).0 k.routed sound.frames;
+      frames = air_flies (contact_at old.members a) new.members old.air new.air a h.frames lost t.leaves (sound.numbered a h.before t.was).0
+          (all_out old stamp event bytes h.before h.after h.frames answered sound t.was ready h.does) sound.frames;
     }

@@ -7,5 +7,6 @@ pub mod Reaching
 pub mod Truth
 pub mod Coming
 pub mod Messages
+pub mod Fitting
 pub mod Routes
 pub mod Lasting

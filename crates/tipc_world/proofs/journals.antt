@@ -11,6 +11,8 @@ pub mod FirstTaken
 pub mod Reasons
 pub mod HeardReasons
 pub mod TurnReasons
+pub mod EndsLast
+pub mod Parted
 pub mod TunnelsTaken
 pub mod Silences
 pub mod TurnTimed

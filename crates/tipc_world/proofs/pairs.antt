@@ -9,3 +9,4 @@ pub mod Bringing
 pub mod PairedStarts
 pub mod PairedTurns
 pub mod PairedEvents
+pub mod Outward

@@ -1,13 +1,14 @@
 -- Frames that are sent, and the air that keeps them.
-use Rattle.std.specs.Prelude.{◌≡◌, ℕ, ◌-◌, ◌==◌, All, Bool, false, true, ◌&&◌, ◌++◌, List, None, Option, Some, filter, if◌then◌else◌, map, slice_index_or, take, length, unwrap_or}
+use Rattle.std.specs.Prelude.{◌≡◌, ◌≢◌, ◌≤◌, ℕ, ◌-◌, ◌==◌, Bool, true, ◌&&◌, ◌||◌, ◌++◌, List, None, Option, Some, filter, if◌then◌else◌, map, nat_lt, slice_index_or, take, length, unwrap_or}
 use Rattle.tipc_types.specs.Address.{node_word}
 use Rattle.tipc_types.specs.declared.identity.To.{To}
 use Rattle.tipc_types.specs.declared.identity.To.TheVariants as to
 use Rattle.tipc_outside.specs.declared.outgoing.Outgoing.{Outgoing}
-use Rattle.tipc_outside.specs.Frames.{Out}
+use Rattle.tipc_outside.specs.Frames.{Adds, Out}
+use Rattle.tipc_pair.specs.Courses.{no_frames}
 use Rattle.tipc_paired.specs.Views.{Frame, er_of, es_of}
 use Rattle.tipc_node.specs.Nodes.{is_frame_size}
-use Rattle.tipc_node.specs.Turns.{is_to}
+use Rattle.tipc_node.specs.Turns.{addr_of, is_to}
 use Rattle.tipc_world.specs.declared.air.Sent.{Sent}
 use Rattle.tipc_world.specs.declared.flying.Met.{Met}
 use Rattle.tipc_world.specs.declared.flying.Met.TheVariants.{Lasting, Sender, Everyone}
@@ -57,18 +58,29 @@ leaving_on bearer met members a frames = map (airborne met members a) (filter (i
 abbrev pub with_leaving : AirState → (ℕ → Option (ℕ × ℕ)) → List (Option MemberState) → ℕ → List Outgoing → AirState
 with_leaving air met members a frames = with_both air (leaving_on 0 met members a frames) (leaving_on 1 met members a frames)
 
--- a frame that leaves has a frame's size
-abbrev pub IsSized : Outgoing → Type 0
-IsSized o = is_frame_size (length o.frame) ≡ true
+-- A frame of node a may come into the air: it is on one of the two bearers, for another one of the 32 nodes, and has a frame's size.
+pub record IsOut (a : ℕ) (o : Outgoing) : Type 0 where
+  pub bearer : o.bearer ≤ 1
+  pub receiver : ℕ
+  pub number : (1 ≤ receiver) × (receiver ≤ 32)
+  pub apart : receiver ≢ a
+  pub to_is : o.to ≡ to.Node (addr_of receiver)
+  pub size : is_frame_size (length o.frame) ≡ true
 
--- The frames that leave node a came into the air, in order: all of them, or, where a frame was lost for want of memory, the first of
--- them. Each that came there has a frame's size.
+-- What node a put into a box came into the air, in order: all of it, or the first so many frames. A frame is lost exactly where the box
+-- tells so, or fewer frames came into the air than are in it.
+pub record Emits (old new : AirState) (met : ℕ → Option (ℕ × ℕ)) (members : List (Option MemberState)) (a : ℕ) (box : Out)
+    (lost : Bool) : Type 0 where
+  pub count : ℕ
+  pub air : new ≡ with_leaving old met members a (take count box.frames)
+  pub lost_is : lost ≡ (box.lost || nat_lt count (length box.frames))
+
+-- The frames that leave node a in an event went into a box, and from there into the air.
 pub record Leaves (old new : AirState) (met : ℕ → Option (ℕ × ℕ)) (members : List (Option MemberState)) (a : ℕ)
     (frames : List Outgoing) (lost : Bool) : Type 0 where
-  pub count : ℕ
-  pub air : new ≡ with_leaving old met members a (take count frames)
-  pub sized : All IsSized (take count frames)
-  pub whole : lost ≡ false → count ≡ length frames
+  pub box : Out
+  pub boxed : Adds no_frames box frames
+  pub emits : Emits old new met members a box lost
 
 -- the frames that node a ever sent to node b
 abbrev pub goes : ℕ → ℕ → Sent → Bool
@@ -91,16 +103,3 @@ sent_on bearer sent a b = map (as_frame bearer) (filter (goes a b) sent)
 -- on both bearers
 unfoldable pub sent_between : AirState → ℕ → ℕ → List Frame
 sent_between air a b = sent_on 0 air.first a b ++ sent_on 1 air.second a b
-
--- some of the frames that leave node a came into the air, the first of them
-pub record Releases (old new : AirState) (met : ℕ → Option (ℕ × ℕ)) (members : List (Option MemberState)) (a : ℕ)
-    (frames : List Outgoing) : Type 0 where
-  pub count : ℕ
-  pub air : new ≡ with_leaving old met members a (take count frames)
-  pub sized : All IsSized (take count frames)
-
--- what is in a box came into the air, or some of it did and a frame is lost
-pub record Emits (old new : AirState) (met : ℕ → Option (ℕ × ℕ)) (members : List (Option MemberState)) (a : ℕ) (box : Out)
-    (lost : Bool) : Type 0 where
-  pub some : Releases old new met members a box.frames
-  pub all : lost ≡ false → (box.lost ≡ false) × (new ≡ with_leaving old met members a box.frames) × All IsSized box.frames

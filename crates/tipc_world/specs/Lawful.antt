@@ -1,7 +1,8 @@
 -- What is promised of links and contacts, over the journals, the arrivals and the air alone: nothing of them happens without a cause that
 -- can be seen.
-use Rattle.std.specs.Prelude.{◌≡◌, ◌⊎◌, ◌<◌, ◌≤◌, ◌||◌, ℕ, List, [], ◌∷◌, ◌++◌, Some, None, is_some, slice_get, take}
+use Rattle.std.specs.Prelude.{◌≡◌, ◌⊎◌, ◌<◌, ◌≤◌, ◌||◌, ℕ, List, [], ◌∷◌, ◌++◌, Option, Some, None, is_some, slice_get, take}
 use Rattle.tipc_types.specs.declared.identity.Addr.{Addr}
+use Rattle.tipc_types.specs.declared.link_words.LinkState.{LinkState}
 use Rattle.tipc_types.specs.declared.node_calls.EventNote.TheVariants as event
 use Rattle.tipc_journal.specs.declared.entries.Entry.{Entry}
 use Rattle.tipc_journal.specs.declared.entries.Entry.TheVariants as entry
@@ -17,6 +18,10 @@ use Rattle.tipc_world.specs.Spelled.{IsSpelled}
 -- the journal after a step
 abbrev pub after : PlacedStep → List Entry
 after s = s.before ++ step_entries s.step
+
+-- the journal up to the entry at a place of a step
+abbrev pub up_to : PlacedStep → ℕ → List Entry
+up_to s place = s.before ++ entry.Step s.step.by s.step.event ∷ take place s.step.inside
 
 -- There are two bearers. A link that goes down was up before the step, and has a cause. A contact that ends was that contact, and no link
 -- is up after the step; where it shows a number, the step is the arrival of a frame that shows it, and it is above the peer's number of the contact. A message
@@ -39,6 +44,10 @@ pub record IsLawfulStep (seen : Seen) (earlier : List PlacedStep) (s : PlacedSte
   pub arrives : (bearer number : ℕ) → s.step.event ≡ event.Arrive bearer number
       → (f : Sent) × (bearer ≤ 1) × (arrived_frame seen bearer number ≡ Some f)
   pub entries : (place : ℕ) (e : Entry) → slice_get s.step.inside place ≡ Some e → IsLawfulEntry seen earlier s e
+  -- where a contact ends no link to its peer is up
+  pub parted : (place : ℕ) (peer : Addr) (numbers : ℕ × ℕ) (states : Option LinkState × Option LinkState) (number : ℕ)
+      → slice_get s.step.inside place ≡ Some (entry.ContactDown peer numbers states number)
+      → (bearer : ℕ) → up_epochs (up_to s place) peer bearer ≡ None
   -- the node is in contact with a node exactly where a link to it is up, on either bearer
   pub contacts : (n : ℕ) → is_some (contact (after s) (addr_of n))
       ≡ (is_some (up_epochs (after s) (addr_of n) 0) || is_some (up_epochs (after s) (addr_of n) 1))

@@ -1,9 +1,9 @@
 //! Frames that leave a node and come into the air, and those of the air that arrive.
 
-ghost use Rattle.std.specs.Prelude.{All, ◌≡◌, ◌<◌, ◌≤◌, ◌∷◌, ◌⊎◌, [], ℕ, true, false, Some, None, length, drop, is_some, if◌then◌else◌, slice_get, slice_index_or, unwrap_or, IfOk, IfSome, IfNone, IfErr, OnOk};
+ghost use Rattle.std.specs.Prelude.{All, ◌≡◌, ◌<◌, ◌≤◌, ◌∷◌, ◌⊎◌, [], ℕ, true, false, Some, None, length, drop, is_some, if◌then◌else◌, slice_get, slice_index_or, unwrap_or, IfOk, IfSome, IfNone, IfErr, OnErr, OnOk};
 ghost use Rattle.tipc_types.specs.Address.{node_word};
 ghost use Rattle.tipc_paired.specs.Views.{er_of, es_of};
-ghost use Rattle.tipc_world.specs.Air.{airborne, met_in, met_sender, with_leaving, Emits, IsSized, Releases};
+ghost use Rattle.tipc_world.specs.Air.{airborne, met_in, met_sender, with_leaving, Emits, IsOut};
 ghost use Rattle.tipc_world.specs.Calls.{may_end_contact, node_of};
 ghost use Rattle.tipc_world.specs.Due.{age_of, frame_for, is_for, session_age, unarrived, HasNoSession, HasSession};
 ghost use Rattle.tipc_world.specs.Members.{sender_of};
@@ -276,52 +276,55 @@ fn told_in(members: &[Option<Member>], met: &Met, a: u8, to: u8) -> (u64, u64)
     }
 }
 
-/// The frame that leaves node `a`, as the air keeps it: None where it has no frame's size, or isn't for one of the 32 nodes.
-fn airborne(members: &[Option<Member>], met: &Met, a: u8, outgoing: Outgoing) -> Option<Sent>
-    requires { (1 ≤ a) × (a ≤ 32) }
-    ensures value { IfSome result (λ f. f ≡ airborne (met_in met.now) members.now a outgoing) }
-    ensures sized { IfSome result (λ f. IsSized outgoing) }
+/// The frame that leaves node `a`, as the air keeps it.
+fn airborne(members: &[Option<Member>], met: &Met, a: u8, outgoing: Outgoing) -> Sent
+    requires number { (1 ≤ a) × (a ≤ 32) }
+    requires outward { IsOut a outgoing }
+    ensures { result ≡ airborne (met_in met.now) members.now a outgoing }
 {
     let To::Node(address) = outgoing.to else {
-        return None;
+        unreachable!()
     };
-    let to = address.number()?;
-    let opened = open_frame(outgoing.frame.as_slice())?;
+    let Some(to) = address.number() else {
+        unreachable!()
+    };
+    let Some(opened) = open_frame(outgoing.frame.as_slice()) else {
+        unreachable!()
+    };
     let (first, second) = (opened.first, opened.second);
-    Some(Sent {
+    Sent {
         from: Addr::node(a),
         to: outgoing.to,
         contact: told_in(members, met, a, to),
         numbered: count_at(members, a, to, outgoing.bearer, first),
         peer_numbered: count_at(members, to, a, outgoing.bearer, second),
         frame: outgoing.frame,
-    })
+    }
 }
 
-/// Brings a frame that leaves node `a` into the air of its bearer. It answers whether it came there.
+/// Brings a frame that leaves node `a` into the air of its bearer.
+///
+/// # Errors
+///
+/// NoMemory, and then nothing is changed.
 fn release_one(
     members: &[Option<Member>],
     met: &Met,
     air: &mut Air,
     a: u8,
     outgoing: Outgoing,
-) -> bool
-    requires { (1 ≤ a) × (a ≤ 32) }
-    ensures all { result ≡ true → air.new ≡ with_leaving air.old (met_in met.now) members.now a (outgoing ∷ []) }
-    ensures sized { result ≡ true → IsSized outgoing }
-    ensures none { result ≡ false → air.new ≡ air.old }
+) -> Result<(), NoMemory>
+    requires number { (1 ≤ a) × (a ≤ 32) }
+    requires outward { IsOut a outgoing }
+    ensures came { OnOk result (air.new ≡ with_leaving air.old (met_in met.now) members.now a (outgoing ∷ [])) }
+    ensures err { OnErr result (air.new ≡ air.old) }
 {
     let bearer = outgoing.bearer;
-    if bearer > 1 {
-        return false;
-    }
-    let Some(sent) = airborne(members, met, a, outgoing) else {
-        return false;
-    };
-    air.push(bearer, sent).is_ok()
+    let sent = airborne(members, met, a, outgoing);
+    air.push(bearer, sent)
 }
 
-/// Brings frames that leave node `a` into the air, in order, up to one that finds no memory. It answers whether all came there.
+/// Brings frames that leave node `a` into the air, in order, up to one that finds no memory. It answers whether there was one.
 fn release(
     members: &[Option<Member>],
     met: &Met,
@@ -329,27 +332,29 @@ fn release(
     a: u8,
     frames: Vec<Outgoing>,
 ) -> bool
-    requires { (1 ≤ a) × (a ≤ 32) }
-    ensures some { Releases air.old air.new (met_in met.now) members.now a frames.items }
-    ensures all { result ≡ true → (air.new ≡ with_leaving air.old (met_in met.now) members.now a frames.items)
-        × All IsSized frames.items }
+    requires number { (1 ≤ a) × (a ≤ 32) }
+    requires outward { All (IsOut a) frames.items }
+    ensures { Emits air.old air.new (met_in met.now) members.now a
+        (record { frames = frames.items; lost = false }) result }
 {
     let mut waiting = VecDeque::from_vec(frames);
     while let Some(outgoing) = waiting.pop_front() {
-        if !release_one(members, met, air, a, outgoing) {
-            return false;
-        }
+        let Ok(()) = release_one(members, met, air, a, outgoing) else {
+            return true;
+        };
     }
-    true
+    false
 }
 
 /// Brings what left node `a` in an event into the air. Before it the node was in these contacts, of those that may end in it. It answers
 /// whether a frame was lost for want of memory.
+#[tactic(auto, using(crate::proofs::frames::Released::emits_boxed))]
 pub fn emit(members: &[Option<Member>], met: &Met, air: &mut Air, a: u8, out: Outbox) -> bool
-    requires { (1 ≤ a) × (a ≤ 32) }
+    requires number { (1 ≤ a) × (a ≤ 32) }
+    requires outward { All (IsOut a) out.frames }
     ensures { Emits air.old air.new (met_in met.now) members.now a out result }
 {
     let lost = out.lost();
-    let all = release(members, met, air, a, out.into_frames());
-    lost || !all
+    let unreleased = release(members, met, air, a, out.into_frames());
+    lost || unreleased
 }

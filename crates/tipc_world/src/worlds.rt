@@ -205,9 +205,10 @@ fn turn<P: Pick>(
     stamp: u64,
     event: WorldEvent,
 ) -> Result<Happened, WorldFault>
-    requires can { CanDoAt members.old.items event }
-    requires there { is_some (slice_index_or members.old.items (node_of event) None) ≡ true }
+    requires can { CanHappenAt members.old.items event }
+    requires other { (node bearer frame : ℕ) → event ≢ WorldEvent.Arrive node bearer frame }
     requires settled { AreSettled members.old.items }
+    requires sound { IsSound members.old.items air.old }
     ensures happens { IfOk result (λ h. Happens (stage members.old.items air.old)
         (stage members.new.items air.new) stamp event [] h.answer h.lost × (h.counted ≡ true)) }
     ensures chose { IfOk result (λ h. ChoosesAt P.gives members.old.items event h.answer chooser.old chooser.new) }

@@ -17,6 +17,7 @@ use Rattle.tipc_world.specs.Air.{Leaves, airborne, as_frame, goes, is_on, leavin
 use Rattle.tipc_world.specs.Skies.{AirState}
 use Rattle.tipc_world.specs.States.{MemberState, contact_at, pair_at}
 use Rattle.tipc_world.specs.Views.{sight_at}
+use Rattle.tipc_world.proofs.frames.Released.{came}
 use Rattle.tipc_world.proofs.pairs.Pairings.{told_as}
 use Rattle.tipc_world.proofs.InLists.{Stands, stands_either, stands_front, stands_left, stands_map, stands_mapped, stands_passed, stands_passing, stands_right}
 
@@ -91,12 +92,13 @@ pub sent_adds : (members members' : List (Option MemberState)) (old new air'' : 
 unfolding sent_between
 sent_adds members members' old new air'' a b frames lost first l k f there =
     let met = contact_at members a in
-    let left : (bearer : ℕ) → List Sent = λ bearer. leaving_on bearer met members' a (take l.count frames) in
+    let front = came old new met members' a frames lost l in
+    let left : (bearer : ℕ) → List Sent = λ bearer. leaving_on bearer met members' a (take front.0 frames) in
     let here : Stands (sent_on 0 (old.first ++ left 0) a b ++ sent_on 1 (old.second ++ left 1) a b) f =
-    subst (λ (air : AirState). Stands (sent_on 0 air.first a b ++ sent_on 1 air.second a b) f) l.air (k, there) in
+    subst (λ (air : AirState). Stands (sent_on 0 air.first a b ++ sent_on 1 air.second a b) f) front.1 (k, there) in
     elim (stands_either (sent_on 0 (old.first ++ left 0) a b) (sent_on 1 (old.second ++ left 1) a b) f here) [
-      | inl low ↦ on_bearer members members' old new air'' a b 0 l.count old.first frames f first (stands_left (sent_on 0 old.first a b) (sent_on 1 old.second a b) f) low
-      | inr high ↦ on_bearer members members' old new air'' a b 1 l.count old.second frames f first (stands_right (sent_on 0 old.first a b) (sent_on 1 old.second a b) f) high
+      | inl low ↦ on_bearer members members' old new air'' a b 0 front.0 old.first frames f first (stands_left (sent_on 0 old.first a b) (sent_on 1 old.second a b) f) low
+      | inr high ↦ on_bearer members members' old new air'' a b 1 front.0 old.second frames f first (stands_right (sent_on 0 old.first a b) (sent_on 1 old.second a b) f) high
     ]
 
 -- ---- where nothing is added
@@ -148,10 +150,12 @@ stay_sent old new c b first second is one two =
 
 pub sent_same : (met : ℕ → Option (ℕ × ℕ)) (members : List (Option MemberState)) (old new : AirState) (a c b : ℕ) (frames : List Outgoing) (lost : Bool) → Leaves old new met members a frames lost → c ≢ a → sent_between new c b ≡ sent_between old c b
 sent_same met members old new a c b frames lost l apart =
-    stay_sent old new c b _ _ l.air (emitted_apart met members a c b 0 (take l.count frames) apart) (emitted_apart met members a c b 1 (take l.count frames) apart)
+    let front = came old new met members a frames lost l in
+    stay_sent old new c b _ _ front.1 (emitted_apart met members a c b 0 (take front.0 frames) apart) (emitted_apart met members a c b 1 (take front.0 frames) apart)
 
 pub none_sent : (met : ℕ → Option (ℕ × ℕ)) (members : List (Option MemberState)) (old new : AirState) (a b : ℕ) (frames : List Outgoing) (lost : Bool) → Leaves old new met members a frames lost → frames_to b frames ≡ []
     → sent_between new a b ≡ sent_between old a b
 none_sent met members old new a b frames lost l none =
-    let front = none_front b l.count frames none in
-    stay_sent old new a b _ _ l.air (emitted_none met members a b 0 (take l.count frames) front) (emitted_none met members a b 1 (take l.count frames) front)
+    let front = came old new met members a frames lost l in
+    let none_came = none_front b front.0 frames none in
+    stay_sent old new a b _ _ front.1 (emitted_none met members a b 0 (take front.0 frames) none_came) (emitted_none met members a b 1 (take front.0 frames) none_came)

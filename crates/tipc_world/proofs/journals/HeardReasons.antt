@@ -65,7 +65,7 @@ record MayTell (P : Transition → Type 0) (x : PairEnds) (es : ℕ) (h : Header
   ended : (number : ℕ) → shown_contact h ≡ Some number → x.seen < number → (b : ℕ) (e : LinkEnd) → b ≤ 1 → (facing b x).near ≡ Some e → is_up e.fsm.state ≡ true → P (LinkDown b cause.ContactEnded 0)
   replaced : (number : ℕ) → shown_contact h ≡ Some number → x.seen < number → (numbers : ℕ × ℕ) (states : Option LinkState × Option LinkState) → P (ContactDown numbers states number)
 
-not_true : (b : Bool) → not b ≡ true → b ≡ false
+pub not_true : (b : Bool) → not b ≡ true → b ≡ false
 not_true true is = absurd cc
 not_true false is = refl
 
@@ -97,10 +97,10 @@ ended_all P x number h link =
 risen_is : (x : PairEnds) (number : ℕ) → in_contact x ≡ true → risen x number ≡ contact_ends (record x { seen = number }) (x.contact, x.seen) number
 risen_is x number there = ap (λ b. if b then contact_ends (record x { seen = number }) (x.contact, x.seen) number else rests (forgotten x number)) there
 
-abbrev last_change : PairEnds → ℕ → Transition
+abbrev pub last_change : PairEnds → ℕ → Transition
 last_change x number = ContactDown (x.contact, x.seen) (states_of (parted (record x { seen = number }))) number
 
-risen_changes : (x : PairEnds) (number : ℕ) → in_contact x ≡ true → (risen x number).changes ≡ flat_map ended_with (ends_of (record x { seen = number })) ++ last_change x number ∷ []
+pub risen_changes : (x : PairEnds) (number : ℕ) → in_contact x ≡ true → (risen x number).changes ≡ flat_map ended_with (ends_of (record x { seen = number })) ++ last_change x number ∷ []
 risen_changes x number there = ap (λ (c : Course). c.changes) (risen_is x number there)
 
 risen_there : (P : Transition → Type 0) (x : PairEnds) (number es : ℕ) (h : Header) → MayTell P x es h → IsApt x → shown_contact h ≡ Some number → x.seen < number → in_contact x ≡ true → All P (risen x number).changes
@@ -117,10 +117,10 @@ risen_all P x number es h m apt shows higher = by (in_contact x) refl
     by false none = subst (All P) (sym (numbers_are_noted x number none)) (All-nil P)
 
 -- and none is there then
-over_by : (x : PairEnds) (c : Course) → Runs x c → fold contact_by (contact_between x) c.changes ≡ None → in_contact c.pair ≡ false
+pub over_by : (x : PairEnds) (c : Course) → Runs x c → fold contact_by (contact_between x) c.changes ≡ None → in_contact c.pair ≡ false
 over_by x c runs none = sym (contact_is_some c.pair) ∙ ap is_some (runs.contact ∙ none)
 
-risen_over : (x : PairEnds) (number : ℕ) → IsApt x → in_contact (risen x number).pair ≡ false
+pub risen_over : (x : PairEnds) (number : ℕ) → IsApt x → in_contact (risen x number).pair ≡ false
 risen_over x number apt = over_by x (risen x number) (risen_runs x number apt) (by (in_contact x) refl)
   where
     by : (b : Bool) → in_contact x ≡ b → fold contact_by (contact_between x) (risen x number).changes ≡ None
@@ -140,7 +140,7 @@ following_over y (Down because) epoch down far =
 following_over y other epoch down far = absurd cc
 
 -- where it took the last link down the contact is over
-given_over : (x : PairEnds) (near : Option LinkEnd) (es : ℕ) (held : Bool) (shown : BroadcastState) → is_down (reset_change es held near) ≡ true → is_up_at x.far ≡ false → in_contact (reset_given es held shown x near).course.pair ≡ false
+pub given_over : (x : PairEnds) (near : Option LinkEnd) (es : ℕ) (held : Bool) (shown : BroadcastState) → is_down (reset_change es held near) ≡ true → is_up_at x.far ≡ false → in_contact (reset_given es held shown x near).course.pair ≡ false
 unfolding going_on
 given_over x None es held shown down far = absurd cc
 given_over x (Some e) es held shown down far = following_over (with_near x (after e (on_reset e.fsm es held))) (on_reset e.fsm es held).change es down far
@@ -202,7 +202,7 @@ activated_all P x number es er p by shown h m apt shows higher plain = case (in_
         All-append P c.changes (meet c.pair).course.changes (risen_all P x number es h m apt shows higher)
         (met_all P c.pair es er p by shown plain (λ own peer. subst (λ n. P (LinkUp n own peer)) (sym (risen_runs x number apt).bearer) (m.up own peer)) m.fresh)
 
-plain_by : (p : Fields) (h : Header) → p.header ≡ h → is_reset h ≡ false → (said : Reset) → p.header ≡ header.Reset said → ⊥
+pub plain_by : (p : Fields) (h : Header) → p.header ≡ h → is_reset h ≡ false → (said : Reset) → p.header ≡ header.Reset said → ⊥
 plain_by p h is plain said reset = let wrong : false ≡ true = sym plain ∙ ap is_reset (sym is ∙ reset) in cc
 
 hears_all : (P : Transition → Type 0) (h : Header) (x : PairEnds) (es er : ℕ) (p : Fields) (by : ℕ) (shown : BroadcastState) → p.header ≡ h → IsApt x → MayTell P x es h → TellsAll P (heard_as h es er p by shown x)
@@ -305,7 +305,7 @@ down_all P y p given kind.Duplicate epoch took names far over = All-nil P
 down_all P y p given kind.Original epoch took names far over =
     falls_all P (turned y) cause.PeerTunnel epoch (λ s. s.peer ≡ Some epoch) _ (tunnels_tell y epoch) (λ e is up peer. far e epoch is up peer (names refl) took) over
 
-inner_none : (t : Tunnelled) (by : ℕ) (z : PairEnds) (o : Option LinkEnd) → (inner_at t by z o).changes ≡ []
+pub inner_none : (t : Tunnelled) (by : ℕ) (z : PairEnds) (o : Option LinkEnd) → (inner_at t by z o).changes ≡ []
 inner_none t by z None = refl
 inner_none t by z (Some e) = refl
 

@@ -17,6 +17,7 @@ use Rattle.tipc_world.specs.Lawful.{IsLawful, IsLawfulEntry}
 use Rattle.tipc_world.specs.States.{MemberState}
 use Rattle.tipc_world.specs.Watched.{AreTicked, AreTraced, IsWatched}
 use Rattle.tipc_world.proofs.pairs.Pairings.{first_end, second_end}
+use Rattle.tipc_world.proofs.journals.Parted.{AreParted}
 use Rattle.tipc_world.proofs.journals.Stepping.{Arrives, Widens, journal_ticked, lawful_more, lawful_wider, one_more, ticked_more}
 use Rattle.tipc_world.proofs.streams.Within.{get_longer}
 
@@ -89,14 +90,15 @@ pub record IsTimed (seen : Seen) (s : NodeStep) (p bearer : ℕ) (o o' : Option 
 
 pub kept_step : (seen : Seen) (past : List (List Entry)) (journal : List Entry) (pairs pairs' : ℕ → Option PairEnds) (s : NodeStep) → IsKept seen past journal pairs → IsInside s.inside → Arrives seen s
     → ((p : ℕ) → TellsOf (journal ++ step_entries s) p (pairs' p)) → ((p bearer : ℕ) → IsTimed seen s p bearer (end_on bearer (pairs p)) (end_on bearer (pairs' p)))
-    → Each (IsLawfulEntry seen (steps journal) (record { before = journal; step = s })) s.inside → IsKept seen past (journal ++ step_entries s) pairs'
-kept_step seen past journal pairs pairs' s h inside arrives told timed entries =
+    → Each (IsLawfulEntry seen (steps journal) (record { before = journal; step = s })) s.inside → AreParted (record { before = journal; step = s }) → IsKept seen past (journal ++ step_entries s) pairs'
+kept_step seen past journal pairs pairs' s h inside arrives told timed entries parted =
     let made : PlacedStep = record { before = journal; step = s } in
     record {
       past_lawful = h.past_lawful;
       lawful = lawful_more seen journal s h.lawful inside (record {
         arrives = arrives;
         entries = entries;
+        parted = parted;
         contacts = λ n. (let t = told n in let zero_is = t.epochs_are 0 in let one_is = t.epochs_are 1 in
             ap is_some t.contact_is ∙ same_some (pairs' n) t.abreast ∙ (λ i. is_some (sym zero_is i) || is_some (sym one_is i)));
       });

@@ -27,7 +27,7 @@ use Rattle.tipc_world.specs.Events.{JoinsAt}
 use Rattle.tipc_world.specs.Members.{IsNewcomer, IsRestarted, known_member}
 use Rattle.tipc_world.specs.Sound.{IsSound}
 use Rattle.tipc_world.specs.Spelled.{HasBrought}
-use Rattle.tipc_world.specs.States.{MemberState, member_at, pair_at}
+use Rattle.tipc_world.specs.States.{MemberState, contact_at, member_at, pair_at}
 use Rattle.tipc_world.specs.Numbers.{end_on}
 use Rattle.tipc_world.specs.Skies.{AirState, air_on, empty_air, with_both}
 use Rattle.tipc_types.specs.Address.{node_word}
@@ -48,6 +48,7 @@ use Rattle.tipc_world.proofs.journals.Kept.{IsKept, get_last, kept_of, kept_wide
 use Rattle.tipc_world.proofs.LookUps.{place_within}
 use Rattle.tipc_world.proofs.pairs.PairedEvents.{IsReady, comes_out, made_step, met_step}
 use Rattle.tipc_world.proofs.frames.Reaching.{placed}
+use Rattle.tipc_world.proofs.frames.Released.{came}
 use Rattle.tipc_world.proofs.SoundWorlds.{HaveNextBoots}
 use Rattle.tipc_world.proofs.journals.Stepping.{Widens, get_prefix}
 use Rattle.tipc_world.proofs.journals.TunnelsTaken.{TakesTunnels, arrival_takes}
@@ -69,7 +70,8 @@ with_longer air first second bearer = elim (bearer == 0) as (λ b. IsPrefixOf (i
 ]
 
 air_longer : (old new : Stage) (a : ℕ) (before after : MemberState) (frames : List Outgoing) (lost : Bool) → Turns old new a before after frames lost → GrowsAir old.air new.air
-air_longer old new a before after frames lost t = subst (GrowsAir old.air) (sym t.leaves.air) (with_longer old.air _ _)
+air_longer old new a before after frames lost t =
+    subst (GrowsAir old.air) (sym (came old.air new.air (contact_at old.members a) new.members a frames lost t.leaves).1) (with_longer old.air _ _)
 
 air_widens : (air air' : AirState) (m : MemberState) → GrowsAir air air' → Widens (seen_by air m) (seen_by air' m)
 air_widens air air' m longer = record { air = longer; arrivals = prefix_same m.arrivals m.arrivals refl }

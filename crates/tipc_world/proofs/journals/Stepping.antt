@@ -190,6 +190,7 @@ pub step_wider : (old new : Seen) (earlier : List PlacedStep) (s : PlacedStep) �
 step_wider old new earlier s w found h = record {
   arrives = λ bearer number is. (let f = h.arrives bearer number is in (f.0, f.1, arrived_longer old new bearer number f.0 w f.2));
   entries = λ place e there. entry_wider old new earlier s e w found (h.entries place e there);
+  parted = h.parted;
   contacts = h.contacts;
 }
 

@@ -3,7 +3,6 @@ use Rattle.std.specs.Prelude.{◌⊎◌, All, is_some, nat_le, option_map, if◌
 use Rattle.std.specs.List.{filter}
 use Rattle.std.proofs.Common.{◌≡◌, ◌<◌, ◌≤◌, ◌==◌, ℕ, zero, suc, Bool, true, false, List, [], ◌∷◌, ◌++◌, Option, Some, None, map, slice_get, refl, sym, ap, ◌∙◌, subst, inl, inr, arith}
 use Rattle.std.proofs.lemmas.Bool.Decides.{nat_tests}
-use Rattle.std.proofs.lemmas.Option.{get_or_from_slice_get, slice_get_within}
 use Rattle.tipc_types.specs.Address.{node_word}
 use Rattle.tipc_types.specs.declared.identity.Addr.{Addr}
 use Rattle.tipc_types.specs.declared.link_words.Cause.{Cause}
@@ -27,24 +26,22 @@ use Rattle.tipc_node.specs.Telling.{AreAbreast, IsTold, TellsOf, epochs_on, sile
 use Rattle.tipc_node.specs.Turns.{IsBrought, IsPlaced, NodeTurn, PeerTurn, Suits, addr_of, is_accepted_for, is_change_of, is_delivered_from, pair_in}
 use Rattle.tipc_node.proofs.pairs.Moves.{epochs_at}
 use Rattle.tipc_node.proofs.journal.Telling.{same_word}
-use Rattle.tipc_node.proofs.pairs.TurnMoves.{MakesNone}
 use Rattle.tipc_world.specs.Causes.{HasTicked, IsCaused, arrived_frame, IsNumberOf, IsResetOf, IsTunnelOf, Seen}
 use Rattle.tipc_world.specs.Lawful.{IsLawfulEntry}
 use Rattle.tipc_world.specs.Numbers.{end_on}
+use Rattle.tipc_world.proofs.InLists.{all_at}
 use Rattle.tipc_world.proofs.journals.Kept.{IsKept, kept_step}
+use Rattle.tipc_world.proofs.journals.Parted.{turn_parted}
 use Rattle.tipc_world.proofs.journals.Reasons.{CutsOff, HearsHigher, HearsReset, HearsTunnel, IsReason, IsTick, MayGoDown}
 use Rattle.tipc_world.proofs.journals.Stepping.{Arrives, passed, passes}
 use Rattle.tipc_world.proofs.journals.TunnelsTaken.{TakesTunnels}
 use Rattle.tipc_world.proofs.journals.TurnContacts.{contact_ended}
 use Rattle.tipc_world.proofs.journals.TurnMessages.{messages_lawful}
-use Rattle.tipc_world.proofs.journals.TurnReasons.{BringsFit, first_reasons}
+use Rattle.tipc_world.proofs.journals.TurnReasons.{BringsFit, first_reasons, makes_none}
 use Rattle.tipc_world.proofs.journals.TurnTimed.{turn_timed}
 use Rattle.tipc_world.proofs.journals.TurnTraced.{AreCarried, AreGivenSpelled, IsGivenSpelled, sender_is}
 
 -- ---- lists of entries
-
-all_at : {A : Type 0} (P : A → Type 0) (xs : List A) (k : ℕ) (x : A) → All P xs → slice_get xs k ≡ Some x → P x
-all_at P xs k x all there = subst P (get_or_from_slice_get xs k x x there) (all k x (slice_get_within xs k x there))
 
 mapped_there : {A B : Type 0} (f : A → B) (xs : List A) (k : ℕ) (x : A) → slice_get xs k ≡ Some x → slice_get (map f xs) k ≡ Some (f x)
 mapped_there f [] k x there = absurd cc
@@ -60,14 +57,6 @@ named : (peer : Addr) (b : ℕ) → peer ≡ addr_of b → (peer.word == node_wo
 named peer b is = ap (λ (a : Addr). a.word == node_word b) is ∙ same_word b
 
 -- ---- what happened first, and the event of the step
-
-makes_none : (note : EventNote) (opening : Opening) → Suits note opening → MakesNone opening
-makes_none note rests suits = tt
-makes_none note (makes bearer is_mended) suits = suits
-makes_none note (mends bearer) suits = tt
-makes_none note (cuts bearer) suits = tt
-makes_none note (ticks shown) suits = tt
-makes_none note (hears bearer es er p by shown) suits = tt
 
 brings_fit : (b : ℕ) (bytes : List ℕ) (opening : Opening) → IsBrought b bytes opening → BringsFit opening
 brings_fit b bytes (hears bearer es er p by shown) brought = brought.fits
@@ -332,5 +321,8 @@ pub turn_kept : (seen : Seen) (past : List (List Entry)) (n n' : NodeState) (byt
 turn_kept seen past n n' bytes s frames t h told told' carried answers spelled =
     let later : (p : ℕ) → TellsOf (n.journal ++ step_entries s) p (pair_in n' p) = λ p. subst (λ j. TellsOf j p (pair_in n' p)) t.journal (told'.links p) in
     let each = turn_lawful seen n n' bytes s frames t told later h.ticked carried answers spelled in
-    subst (λ j. IsKept seen past j (pair_in n')) (sym t.journal) (kept_step seen past n.journal (pair_in n) (pair_in n') s h t.inside (carried_arrives seen s bytes carried) later (turn_timed seen n n' bytes s frames told t carried)
-    (λ place e there. entry_lawful seen (steps n.journal) (placed_in n s) n place e each there (all_at (IsPlaced n) s.inside place e t.placed there)))
+    let entries : Each (IsLawfulEntry seen (steps n.journal) (placed_in n s)) s.inside =
+    λ place e there. entry_lawful seen (steps n.journal) (placed_in n s) n place e each there (all_at (IsPlaced n) s.inside place e t.placed there) in
+    let parted = turn_parted n n' bytes s frames t told (λ place peer numbers states number there. (entries place (entry.ContactDown peer numbers states number) there).1) in
+    subst (λ j. IsKept seen past j (pair_in n')) (sym t.journal)
+    (kept_step seen past n.journal (pair_in n) (pair_in n') s h t.inside (carried_arrives seen s bytes carried) later (turn_timed seen n n' bytes s frames told t carried) entries parted)

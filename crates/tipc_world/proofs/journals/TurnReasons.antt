@@ -5,6 +5,7 @@ use Rattle.std.proofs.lemmas.List.Elements.{All-append, All-nil, All-weaker}
 use Rattle.tipc_types.specs.LinkStates.{is_up}
 use Rattle.tipc_types.specs.declared.link_words.BroadcastState.{BroadcastState}
 use Rattle.tipc_types.specs.declared.link_words.Cause.TheVariants as cause
+use Rattle.tipc_types.specs.declared.node_calls.EventNote.{EventNote}
 use Rattle.tipc_header.specs.Grammar.{Fits}
 use Rattle.tipc_link_fsm.specs.Table.{Fsm}
 use Rattle.tipc_link.specs.Links.{LinkEnd}
@@ -19,7 +20,7 @@ use Rattle.tipc_pair.specs.PairTurns.Opening.{cuts, hears, makes, mends, rests, 
 use Rattle.tipc_pair.proofs.Facings.{facing_near, facing_one}
 use Rattle.tipc_pair_deeds.proofs.Causes.{cuts_tell, releases_tell, ticks_tell}
 use Rattle.tipc_node.specs.Telling.{AreAbreast, silence_in}
-use Rattle.tipc_node.specs.Turns.{IsOnOne}
+use Rattle.tipc_node.specs.Turns.{IsOnOne, Suits}
 use Rattle.tipc_node.proofs.pairs.Moves.{abreast_apt, up_silence}
 use Rattle.tipc_node.proofs.pairs.TurnMoves.{MakesNone}
 use Rattle.tipc_world.proofs.journals.HeardReasons.{arrival_reasons}
@@ -51,15 +52,15 @@ silent_reason : (x : PairEnds) (b : ℕ) (shown : BroadcastState) (cs : List Tra
 silent_reason x b shown cs e one is up four = goes_down x (ticks shown) nothing_given cs b cause.Silent 0 e one is up (tt, silent_four (facing b x).near e is up four)
 
 -- the pair between the ticks of its two links
-abbrev between : BroadcastState → PairEnds → PairEnds
+abbrev pub between : BroadcastState → PairEnds → PairEnds
 between shown x = (at_bearer 0 x (tick_near shown)).pair
 
 -- bearer 1's link has ticked no more than it had
-record IsBetween (shown : BroadcastState) (x : PairEnds) : Type 0 where
-  two : (between shown x).bearer ≤ 1
-  other_end : (e : LinkEnd) → (facing 1 (between shown x)).near ≡ Some e → is_up e.fsm.state ≡ true → (k : LinkEnd) × ((facing 1 x).near ≡ Some k) × (k.fsm ≡ e.fsm)
+pub record IsBetween (shown : BroadcastState) (x : PairEnds) : Type 0 where
+  pub two : (between shown x).bearer ≤ 1
+  pub other_end : (e : LinkEnd) → (facing 1 (between shown x)).near ≡ Some e → is_up e.fsm.state ≡ true → (k : LinkEnd) × ((facing 1 x).near ≡ Some k) × (k.fsm ≡ e.fsm)
 
-is_between : (shown : BroadcastState) (x : PairEnds) → x.bearer ≡ 0 → IsBetween shown x
+pub is_between : (shown : BroadcastState) (x : PairEnds) → x.bearer ≡ 0 → IsBetween shown x
 is_between shown x first =
     let z = facing 0 x in
     let t = (tick_near shown z).pair in
@@ -99,6 +100,15 @@ tick_reasons x shown first =
     (subst (All P) (sym (releases_tell later.pair)) (All-nil P))
 
 -- ---- what happens first
+
+-- no end is made in a turn
+pub makes_none : (note : EventNote) (opening : Opening) → Suits note opening → MakesNone opening
+makes_none note rests suits = tt
+makes_none note (makes bearer is_mended) suits = suits
+makes_none note (mends bearer) suits = tt
+makes_none note (cuts bearer) suits = tt
+makes_none note (ticks shown) suits = tt
+makes_none note (hears bearer es er p by shown) suits = tt
 
 -- the packet that is heard fits
 abbrev pub BringsFit : Opening → Type 0

@@ -21,7 +21,6 @@ use Rattle.tipc_node.specs.Nodes.{NodeState, change_entries, neighbour_of}
 use Rattle.tipc_node.specs.Telling.{AreAbreast, IsTold, silence_in}
 use Rattle.tipc_node.specs.Turns.{IsFrom, IsTakenBy, NodeTurn, PeerTurn, Suits, addr_of, is_change_of, pair_in}
 use Rattle.tipc_node.proofs.journal.Telling.{same_word}
-use Rattle.tipc_node.proofs.pairs.TurnMoves.{MakesNone}
 use Rattle.tipc_world.specs.declared.air.Sent.{Sent}
 use Rattle.tipc_world.specs.Causes.{BringsUp, IsTakenFrom, Seen, tick_of}
 use Rattle.tipc_world.specs.Numbers.{end_on}
@@ -29,18 +28,10 @@ use Rattle.tipc_world.proofs.journals.Kept.{IsTimed}
 use Rattle.tipc_world.proofs.journals.Silences.{IsHushed, Ups, Within, heard_on, opening_hushed, steady_within, steady_zero, ticks_in}
 use Rattle.tipc_world.proofs.journals.Steady.{AreSteady, are_steady_then, ends_on, puts_steady, replied_steady, steady_on}
 use Rattle.tipc_world.proofs.journals.Stepping.{passes}
+use Rattle.tipc_world.proofs.journals.TurnReasons.{makes_none}
 use Rattle.tipc_world.proofs.journals.TurnTraced.{AreCarried}
 
 -- ---- the event of the step
-
--- no end is made in a turn
-makes_none : (note : EventNote) (opening : Opening) → Suits note opening → MakesNone opening
-makes_none note rests suits = tt
-makes_none note (makes bearer is_mended) suits = suits
-makes_none note (mends bearer) suits = tt
-makes_none note (cuts bearer) suits = tt
-makes_none note (ticks shown) suits = tt
-makes_none note (hears bearer es er p by shown) suits = tt
 
 -- only in a tick a link may be silent for longer
 ticks_most : (note : EventNote) (opening : Opening) → Suits note opening → ticks_in opening ≤ tick_of note

@@ -28,6 +28,7 @@ use Rattle.tipc_world.specs.Sound.{IsPairOf, IsSound}
 use Rattle.tipc_world.specs.States.{MemberState, boot_at, history, link_in, member_at, pair_at}
 use Rattle.tipc_world.specs.Steps.{Stage, Turns}
 use Rattle.tipc_world.specs.Views.{given_in, node_from, put_in, sight_at}
+use Rattle.tipc_world.proofs.frames.Fitting.{AreFit}
 use Rattle.tipc_world.proofs.pairs.Counts.{count_link}
 use Rattle.tipc_world.proofs.streams.Histories.{history_restarted, history_same}
 use Rattle.tipc_world.proofs.pairs.LastSessions.{made_last}
@@ -224,28 +225,43 @@ known_turn m peer bearer =
       frames_are = sym (append-nil c.states) ∙ ap (λ fs. c.states ++ (fs ++ [])) (sym (none_numbered bearer (is_mended_on m.node.mended bearer) (kept_pair m peer)));
     }
 
+-- what a node that comes to know a peer is to that peer then
+known_change : (a peer bearer : ℕ) (s : Stage) (before after : MemberState) (frames : List Outgoing) → IsSound s.members s.air → member_at s.members a ≡ Some before
+    → after ≡ known_member before peer bearer → frames ≡ known_frames before.node peer bearer → end_with bearer (neighbour_of before.node peer) ≡ None → peer < length before.node.neighbours
+    → IsChanged (node_word a) before after frames peer (known_pair before peer bearer) (known_frames before.node peer bearer) [] []
+known_change a peer bearer s before after frames sound was then_ frames_are none within =
+    let are : (y : Neighbour) → neighbour_of before.node peer ≡ Some y → (y.pair.bearer ≡ 0) × (y.pair.peer ≡ node_word peer) = λ y is. (let b = pair_between s a peer before y sound was is in (b.first, b.peer)) in
+    let x' = known_pair before peer bearer in
+    let fs = known_frames before.node peer bearer in
+    subst (λ m. IsChanged (node_word a) before m frames peer x' fs [] []) (sym then_)
+    (subst (λ os. IsChanged (node_word a) before (known_member before peer bearer) os peer x' fs [] []) (sym frames_are) (changed (node_word a) before peer bearer are none within))
+
+-- The node and the peer that it comes to know talk on, and each frame for it fits the air.
+pub known_turned : (old new : Stage) (a peer bearer : ℕ) (before after : MemberState) (frames : List Outgoing) (lost : Bool) → IsSound old.members old.air → Turns old new a before after frames lost
+    → after ≡ known_member before peer bearer → frames ≡ known_frames before.node peer bearer → before.node.own ≡ node_word a → bearer ≤ 1 → end_with bearer (neighbour_of before.node peer) ≡ None → peer < length before.node.neighbours
+    → peer ≢ a → PartnersIn old old a peer → PartnersIn new old a peer × AreFit (known_frames before.node peer bearer)
+known_turned old new a peer bearer before after frames lost sound t then_ frames_are own low none within apart h =
+    let was = was_there old new a before after frames lost t in
+    let x' = known_pair before peer bearer in
+    let fs = known_frames before.node peer bearer in
+    let v = sight_in old a peer in
+    turned_by v (sight_in new a peer) (sight_in old peer a) (kept_pair before peer) x' (makes bearer (is_mended_on before.node.mended bearer)) [] None fs (kept_seen old a peer before sound was own) h
+    (low, no_end old a peer bearer before was none) tt tt (All-nil (IsMessage v.node.own)) (known_turn before peer bearer)
+    (goes old new a before after frames lost peer x' fs [] [] t apart (known_change a peer bearer old before after frames sound was then_ frames_are none within))
+
+-- each two nodes are paired when a node has come to know a peer
 pub know_pairs : (old new : Stage) (a peer bearer : ℕ) (before after : MemberState) (frames : List Outgoing) (lost : Bool) → IsSound old.members old.air → Turns old new a before after frames lost
     → after ≡ known_member before peer bearer → frames ≡ known_frames before.node peer bearer → before.node.own ≡ node_word a → bearer ≤ 1 → end_with bearer (neighbour_of before.node peer) ≡ None → peer < length before.node.neighbours → AllPaired new
 know_pairs old new a peer bearer before after frames lost sound t then_ frames_are own low none within =
     let was = was_there old new a before after frames lost t in
-    let are : (y : Neighbour) → neighbour_of before.node peer ≡ Some y → (y.pair.bearer ≡ 0) × (y.pair.peer ≡ node_word peer) = λ y is. (let b = pair_between old a peer before y sound was is in (b.first, b.peer)) in
-    let x' = known_pair before peer bearer in
-    let fs = known_frames before.node peer bearer in
-    let c : IsChanged (node_word a) before after frames peer x' fs [] [] =
-    subst (λ m. IsChanged (node_word a) before m frames peer x' fs [] []) (sym then_)
-    (subst (λ os. IsChanged (node_word a) before (known_member before peer bearer) os peer x' fs [] []) (sym frames_are) (changed (node_word a) before peer bearer are none within)) in
+    let are : (y : Neighbour) → neighbour_of before.node peer ≡ Some y → y.pair.peer ≡ node_word peer = λ y is. (pair_between old a peer before y sound was is).peer in
     let still : (b : ℕ) → b ≢ peer → IsIdle (node_word a) before after frames b =
     λ b apart. subst (λ m. IsIdle (node_word a) before m frames b) (sym then_)
-    (subst (λ os. IsIdle (node_word a) before (known_member before peer bearer) os b) (sym frames_are) (idle (node_word a) before peer bearer b (λ y is. (are y is).1) apart)) in
+    (subst (λ os. IsIdle (node_word a) before (known_member before peer bearer) os b) (sym frames_are) (idle (node_word a) before peer bearer b are apart)) in
     all_paired old new a before after frames lost sound.pairs t (λ b a_is b_is apart h.
     elim (cases_eq b peer) [
       | inl same ↦
-          let peer_apart : peer ≢ a = λ e. apart (same ∙ e) in
-          let h' : PartnersIn old old a peer = subst (λ k. PartnersIn old old a k) same h in
-          let v = sight_in old a peer in
           subst (λ k. PartnersIn new old a k) (sym same)
-          (turned_by v (sight_in new a peer) (sight_in old peer a) (kept_pair before peer) x' (makes bearer (is_mended_on before.node.mended bearer)) [] None fs (kept_seen old a peer before sound was own) h'
-          (low, no_end old a peer bearer before was none) tt tt (All-nil (IsMessage v.node.own)) (known_turn before peer bearer)
-          (goes old new a before after frames lost peer x' fs [] [] t peer_apart c))
+          (known_turned old new a peer bearer before after frames lost sound t then_ frames_are own low none within (λ e. apart (same ∙ e)) (subst (λ k. PartnersIn old old a k) same h)).0
       | inr other ↦ idle_pair old new a before after frames lost b t (still b other) h
     ])

@@ -36,6 +36,7 @@ use Rattle.tipc_world.specs.States.{MemberState, count_in, count_of, history, li
 use Rattle.tipc_world.specs.Steps.{Stage, Turns}
 use Rattle.tipc_world.specs.Views.{sight_at}
 use Rattle.tipc_world.proofs.frames.Coming.{ComesOut, may_happen}
+use Rattle.tipc_world.proofs.frames.Fitting.{AreFit, turn_fits}
 use Rattle.tipc_world.proofs.pairs.Counts.{count_alone, count_here, count_noted, sender_else, sender_here, session_cases}
 use Rattle.tipc_world.proofs.streams.Histories.{history_longer}
 use Rattle.tipc_world.proofs.pairs.LastSessions.{IsSteady, MakesNone, turn_last}
@@ -168,17 +169,19 @@ own_word : (s : Stage) (a b : ℕ) → (sight_in s a b).node.own ≡ node_word a
 unfolding sight_at
 own_word s a b = refl
 
--- a turn of the pair that the node sees
+-- A turn of the pair that the node sees: the two talk on, and each frame of it fits the air.
 pub turned_by : (v v' w : Sight) (x x' : PairEnds) (opening : Opening) (messages : List (List ℕ)) (reply : Option Reply) (frames : List Outgoing) → pair_seen v ≡ x → AreSeen v w → MayHappen v w opening
     → ShowsIn opening → ShowsAtLast reply → All (IsMessage v.node.own) messages → (t : PairTurn x opening messages reply x' frames)
-    → Goes v v' w x' frames messages (packets_in (opened_in t.first.given)) → AreSeen v' w
+    → Goes v v' w x' frames messages (packets_in (opened_in t.first.given)) → AreSeen v' w × AreFit frames
 turned_by v v' w x x' opening messages reply frames pair h may shows shows_last all =
-    subst (λ q. (t : PairTurn q opening messages reply x' frames) → Goes v v' w x' frames messages (packets_in (opened_in t.first.given)) → AreSeen v' w) pair
-    (λ t g. turns v v' w opening messages reply x' frames h may shows shows_last all t g)
+    subst (λ q. (t : PairTurn q opening messages reply x' frames) → Goes v v' w x' frames messages (packets_in (opened_in t.first.given)) → AreSeen v' w × AreFit frames) pair
+    (λ t g. (turns v v' w opening messages reply x' frames h may shows shows_last all t g, turn_fits v v' w opening messages reply x' frames h may shows shows_last all t g))
 
+-- so it is with a neighbour whose messages are recorded
 neighbour_pair : (old new : Stage) (a : ℕ) (m m' : MemberState) (bytes : List ℕ) (s : NodeStep) (frames : List Outgoing) (lost : Bool) (b : ℕ) (x : Neighbour) → IsSound old.members old.air → Turns old new a m m' frames lost
     → IsNumber b → TakesTurn m m' bytes s frames → ComesOut old a s.event bytes → b ≢ a → neighbour_of m.node b ≡ Some x → (n : NeighbourTurn m.node m'.node bytes s frames b x)
-    → Recorded (node_word a) (history m) (history m') b n.after.pair (map (bytes_of m.node.own) n.turn.messages) (packets_in (opened_in n.turn.turn.first.given)) → PartnersIn old old a b → PartnersIn new old a b
+    → Recorded (node_word a) (history m) (history m') b n.after.pair (map (bytes_of m.node.own) n.turn.messages) (packets_in (opened_in n.turn.turn.first.given)) → PartnersIn old old a b
+    → PartnersIn new old a b × AreFit n.turn.own_frames
 neighbour_pair old new a m m' bytes s frames lost b x sound t number turn out apart is n moved h =
     let p = n.turn in
     let v = sight_in old a b in
@@ -220,22 +223,27 @@ idle word m m' bytes s frames b t none h =
 
 -- ---- all pairs
 
+-- A neighbour and the node talk on, and each frame for it fits the air.
+pub neighbour_turned : (old new : Stage) (a : ℕ) (m m' : MemberState) (bytes : List ℕ) (s : NodeStep) (frames : List Outgoing) (lost : Bool) → IsSound old.members old.air → Turns old new a m m' frames lost
+    → (turn : TakesTurn m m' bytes s frames) → ComesOut old a s.event bytes → AreBrought m.node m'.node bytes s frames turn.turn → (b : ℕ) (x : Neighbour) → IsNumber b → b ≢ a → PartnersIn old old a b
+    → neighbour_of m.node b ≡ Some x → PartnersIn new old a b × AreFit (frames_to b frames)
+neighbour_turned old new a m m' bytes s frames lost sound t turn out brought b x number apart h is =
+    let n = turn.turn.turns b x is in
+    let longer : history m' ≡ history m ++ step_entries s = turn_history m m' bytes s frames turn in
+    let both = neighbour_pair old new a m m' bytes s frames lost b x sound t number turn out apart is n
+    (subst (λ k. Recorded k (history m) (history m') b n.after.pair (map (bytes_of m.node.own) n.turn.messages) (packets_in (opened_in n.turn.turn.first.given))) (sound.numbered a m t.was).1
+    (turn_records (history m) (history m') m.node.own bytes s frames b x.pair n.after.pair n.turn longer (brought b x is))) h in
+    (both.0, subst AreFit (sym n.turn.frames_are) both.1)
+
+-- a turn leaves each two nodes paired
 pub turn_pairs : (old new : Stage) (a : ℕ) (m m' : MemberState) (bytes : List ℕ) (s : NodeStep) (frames : List Outgoing) (lost : Bool) → IsSound old.members old.air → Turns old new a m m' frames lost
     → (turn : TakesTurn m m' bytes s frames) → ComesOut old a s.event bytes → AreBrought m.node m'.node bytes s frames turn.turn → AllPaired new
 turn_pairs old new a m m' bytes s frames lost sound t turn out brought =
     all_paired old new a m m' frames lost sound.pairs t (λ b a_is b_is apart h. by b b_is apart h (neighbour_of m.node b) refl)
   where
-    longer : history m' ≡ history m ++ step_entries s
-    longer = turn_history m m' bytes s frames turn
-
-    named : m.node.own ≡ node_word a
-    named = (sound.numbered a m t.was).1
-
     by : (b : ℕ) → IsNumber b → b ≢ a → PartnersIn old old a b → (o : Option Neighbour) → neighbour_of m.node b ≡ o → PartnersIn new old a b
-    by b b_is apart h None none = idle_pair old new a m m' frames lost b t
-        (idle (node_word a) m m' bytes s frames b turn none (subst (λ k. Untold k (history m) (history m') b) named (turn_untold (history m) (history m') m.node s b none turn.turn.placed longer))) h
-    by b b_is apart h (Some x) is =
-        let n = turn.turn.turns b x is in
-        neighbour_pair old new a m m' bytes s frames lost b x sound t b_is turn out apart is n
-        (subst (λ k. Recorded k (history m) (history m') b n.after.pair (map (bytes_of m.node.own) n.turn.messages) (packets_in (opened_in n.turn.turn.first.given))) named
-        (turn_records (history m) (history m') m.node.own bytes s frames b x.pair n.after.pair n.turn longer (brought b x is))) h
+    by b b_is apart h None none =
+        let untold = turn_untold (history m) (history m') m.node s b none turn.turn.placed (turn_history m m' bytes s frames turn) in
+        idle_pair old new a m m' frames lost b t
+        (idle (node_word a) m m' bytes s frames b turn none (subst (λ k. Untold k (history m) (history m') b) (sound.numbered a m t.was).1 untold)) h
+    by b b_is apart h (Some x) is = (neighbour_turned old new a m m' bytes s frames lost sound t turn out brought b x b_is apart h is).0

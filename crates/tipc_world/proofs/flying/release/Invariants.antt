@@ -1,3 +1,4 @@
+-- The loop that brings frames into the air.
 use Rattle.std.specs.VecDeque.{deque_len}
 use Rattle.tipc_world.specs.Air.{met_in}
 use Rattle.tipc_world.proofs.frames.Released.{IsReleasing}
