@@ -1,6 +1,6 @@
 -- The run of a script: its beginning, one line more, and its ends.
 use Rattle.std.proofs.Common.{◌≡◌, ℕ, ◌+◌, ◌-◌, ◌≤◌, ◌||◌, Option, Some, None, Err, List, [], ◌∷◌, ◌++◌, length, take, drop, refl, sym, ap, subst, ◌∙◌, arith, inl, inr, append-nil, add-one, false}
-use Rattle.std.specs.Prelude.{IfSome}
+use Rattle.std.specs.Prelude.{IfSome, slice_get}
 use Rattle.std.specs.Io.KnownBytes.{Appends}
 use Rattle.std.proofs.KnownBytes.{Appends-trans, Appends-nil}
 use Rattle.std.proofs.lemmas.List.{length-drop, length-take, take_all}
@@ -11,12 +11,12 @@ use Rattle.tipc_world.specs.Growth.{Grows}
 use Rattle.tipc_world.specs.States.{WorldState, is_there}
 use Rattle.tipc_sim.specs.declared.status.Status.{Status}
 use Rattle.tipc_sim.specs.declared.status.Status.TheVariants as status
-use Rattle.tipc_sim.specs.Happenings.{Runs, Scene, begin, go_on, scene}
+use Rattle.tipc_sim.specs.Happenings.{IsBegun, Runs, Scene, begin, go_on, scene}
 use Rattle.tipc_sim.specs.Lines.{lines_of}
 use Rattle.tipc_sim.specs.Nodes.{AreSound, IsFirstBad, fault_where, made_by, makes}
 use Rattle.tipc_sim.specs.Noted.{no_notes}
 use Rattle.tipc_sim.specs.Output.{AppendsFront}
-use Rattle.tipc_sim.specs.Reports.{Ends, EndsBadly, EndsLimited, EndsOver, Reports, WritesReport}
+use Rattle.tipc_sim.specs.Reports.{Ends, EndsBadly, EndsLimited, EndsOver, EndsUntold, Reports, WritesReport}
 use Rattle.tipc_sim.specs.Steps.{IsUnderWay, IsDone, IsHalted, IsRefused, IsCut, IsUntold, TellsAnswer, TellsFault, TellsLimit, LineRuns, IsLimitStatus}
 use Rattle.tipc_sim.proofs.LineLaws.{lines_of-nil}
 use Rattle.tipc_sim.proofs.ListLaws.{here}
@@ -53,6 +53,7 @@ record IsMore (script line behind : List ℕ) (number : ℕ) (start now : Scene)
   nodes : (n : ℕ) → is_there now.world n ≡ made_by (take (number + 1) (lines_of script)) n
   runs : Runs start (take (number + 1) (lines_of script)) now (report ++ text)
 
+-- a line that was done comes behind those that were done
 one_more : (script rest line behind text : List ℕ) (number : ℕ) (start old new : Scene) (before between : Option (List ℕ)) (u : IsUnderWay script rest number start old before between) → Next rest line behind
     → TellsAnswer (number + 1) line old new text → IsMore script line behind number start new u.report text
 one_more script rest line behind text number start old new before between u next told =
@@ -111,73 +112,78 @@ ends_whole script rest number start now before after u none =
       written = subst (Appends before after) (sym (append-nil u.report)) u.written;
     }
 
--- the closing line of a bad line
-ends_badly : (script rest line behind text : List ℕ) (number : ℕ) (start old new : Scene) (before between : Option (List ℕ)) → IsUnderWay script rest number start old before between → Next rest line behind
-    → TellsFault (number + 1) line old new text → EndsBadly script number text × (new.world ≡ old.world)
-ends_badly script rest line behind text number start old new before between u next told =
+-- ---- the line that ends a run
+
+-- a line stands behind those that were done, which are without fault, and its fault is the one that it has in the world that they left
+record IsNext (script line : List ℕ) (number : ℕ) (old : Scene) : Type 0 where
+  sound : AreSound (take number (lines_of script))
+  there : slice_get (lines_of script) number ≡ Some line
+  fault : fault_where (made_by (take number (lines_of script))) line ≡ fault_where (is_there old.world) line
+
+-- the line that ends a run stands so
+comes_next : (script rest line behind : List ℕ) (number : ℕ) (start old : Scene) (before between : Option (List ℕ)) → IsUnderWay script rest number start old before between → Next rest line behind
+    → IsNext script line number old
+comes_next script rest line behind number start old before between u next =
     let lines = lines_of script in
-    let h = here lines number line (lines_of behind) (sym u.left ∙ next) in
-    let bad : IsFirstBad lines number told.0 = record {
-      before = u.sound;
-      line = line;
-      there = h.at;
-      bad = sym (fault_where_same (is_there old.world) (made_by (take number lines)) line u.nodes) ∙ told.1;
-    } in
+    record {
+      sound = u.sound;
+      there = (here lines number line (lines_of behind) (sym u.left ∙ next)).at;
+      fault = sym (fault_where_same (is_there old.world) (made_by (take number lines)) line u.nodes);
+    }
+
+-- the closing line of a bad line
+ends_badly : (script line text : List ℕ) (number : ℕ) (old new : Scene) → IsNext script line number old → TellsFault (number + 1) line old new text → EndsBadly script number text × (new.world ≡ old.world)
+ends_badly script line text number old new n told =
+    let bad : IsFirstBad (lines_of script) number told.0 = record { before = n.sound; line = line; there = n.there; bad = n.fault ∙ told.1 } in
     ((told.0, bad, told.2), ap (λ s. s.world) told.3)
 
 -- the closing line of a limit
-ends_limited : (script rest line behind text : List ℕ) (number : ℕ) (start old new : Scene) (before between : Option (List ℕ)) → IsUnderWay script rest number start old before between → Next rest line behind
-    → TellsLimit (number + 1) line old new text → EndsLimited script number old new.world text
-ends_limited script rest line behind text number start old new before between u next told =
-    let lines = lines_of script in
-    let h = here lines number line (lines_of behind) (sym u.left ∙ next) in
-    record {
-      line = line;
-      there = h.at;
-      clear = sym (fault_where_same (is_there old.world) (made_by (take number lines)) line u.nodes) ∙ told.1;
-      stop = told.0;
-      limited = told.2;
-      told = told.3;
-    }
+ends_limited : (script line text : List ℕ) (number : ℕ) (old new : Scene) → IsNext script line number old → TellsLimit (number + 1) line old new text → EndsLimited script number old new.world text
+ends_limited script line text number old new n told =
+    record { line = line; there = n.there; clear = n.fault ∙ told.1; stop = told.0; limited = told.2; told = told.3 }
 
-refused : (script rest line behind : List ℕ) (number : ℕ) (start : WorldState) (old new : Scene) (before between after : Option (List ℕ)) → IsRunning script rest number start old before between → Next rest line behind
-    → IsRefused (number + 1) line old new between after → Reports script status.BadLine start new.world before after
-refused script rest line behind number start old new before between after u next bad =
-    let ends = ends_badly script rest line behind bad.text number (scene start no_notes) old new before between u next bad.told in
-    record {
-      done = number;
-      few = u.few;
-      sound = u.sound;
-      left = old;
-      report = u.report;
-      runs = u.runs;
-      grown = grows_equal old.world new.world ends.1;
-      closing = bad.text;
-      ends = ends;
-      written = Appends-trans before between after u.report bad.text u.written bad.written;
-    }
+-- a line that was begun, of which nothing is told
+ends_untold : (script line : List ℕ) (number : ℕ) (old new : Scene) → IsNext script line number old → fault_where (is_there old.world) line ≡ None → IsBegun (asked line) old new.world → EndsUntold script number old new.world []
+ends_untold script line number old new n clear begun = record { line = line; there = n.there; clear = n.fault ∙ clear; begun = begun; told = refl }
 
--- a limit stopped the line
-halted : (script rest line behind : List ℕ) (number : ℕ) (start : WorldState) (old new : Scene) (before between after : Option (List ℕ)) → IsRunning script rest number start old before between → Next rest line behind
-    → IsHalted (number + 1) line old new between after → Reports script status.Limit start new.world before after
-halted script rest line behind number start old new before between after u next halt = record {
+-- a run ends behind the lines that were done
+ends_behind : (script rest closing : List ℕ) (number : ℕ) (start now : WorldState) (old : Scene) (before between after : Option (List ℕ)) (s : Status) (u : IsRunning script rest number start old before between) → Grows old.world now
+    → Ends s script number old now closing → WritesReport s before after (u.report ++ closing) → Reports script s start now before after
+ends_behind script rest closing number start now old before between after s u grown ends written = record {
   done = number;
   few = u.few;
   sound = u.sound;
   left = old;
   report = u.report;
   runs = u.runs;
-  grown = halt.told.2.grown;
-  closing = halt.text;
-  ends = inr (ends_limited script rest line behind halt.text number (scene start no_notes) old new before between u next halt.told);
-  written = Appends-trans before between after u.report halt.text u.written halt.written;
+  grown = grown;
+  closing = closing;
+  ends = ends;
+  written = written;
 }
+
+-- the line is bad, and that was told
+refused : (script rest line behind : List ℕ) (number : ℕ) (start : WorldState) (old new : Scene) (before between after : Option (List ℕ)) → IsRunning script rest number start old before between → Next rest line behind
+    → IsRefused (number + 1) line old new between after → Reports script status.BadLine start new.world before after
+refused script rest line behind number start old new before between after u next bad =
+    let ends = ends_badly script line bad.text number old new (comes_next script rest line behind number (scene start no_notes) old before between u next) bad.told in
+    ends_behind script rest bad.text number start new.world old before between after status.BadLine u (grows_equal old.world new.world ends.1) ends
+    (Appends-trans before between after u.report bad.text u.written bad.written)
+
+-- a limit stopped the line, and that was told
+halted : (script rest line behind : List ℕ) (number : ℕ) (start : WorldState) (old new : Scene) (before between after : Option (List ℕ)) → IsRunning script rest number start old before between → Next rest line behind
+    → IsHalted (number + 1) line old new between after → Reports script status.Limit start new.world before after
+halted script rest line behind number start old new before between after u next halt =
+    ends_behind script rest halt.text number start new.world old before between after status.Limit u halt.told.2.grown
+    (inr (ends_limited script line halt.text number old new (comes_next script rest line behind number (scene start no_notes) old before between u next) halt.told))
+    (Appends-trans before between after u.report halt.text u.written halt.written)
 
 -- the sink or memory gave out
 cut_short : (script rest line behind : List ℕ) (number : ℕ) (start : WorldState) (old new : Scene) (before between after : Option (List ℕ)) → IsRunning script rest number start old before between → Next rest line behind
     → IsCut (number + 1) line old new between after → Reports script status.WriteFault start new.world before after
 cut_short script rest line behind number start old new before between after u next cut =
     let written : AppendsFront before after (u.report ++ cut.text) = front_more before between after u.report cut.text u.written cut.written in
+    let n = comes_next script rest line behind number (scene start no_notes) old before between u next in
     elim cut.told [
       | inl shown ↦
           let m = one_more script rest line behind cut.text number (scene start no_notes) old new before between u next shown in
@@ -195,31 +201,10 @@ cut_short script rest line behind number start old new before between after u ne
           }
       | inr other ↦ elim other [
         | inl told ↦
-            let ends = ends_badly script rest line behind cut.text number (scene start no_notes) old new before between u next told in
-            record {
-              done = number;
-              few = u.few;
-              sound = u.sound;
-              left = old;
-              report = u.report;
-              runs = u.runs;
-              grown = grows_equal old.world new.world ends.1;
-              closing = cut.text;
-              ends = inr (inl ends);
-              written = written;
-            }
-        | inr told ↦ record {
-          done = number;
-          few = u.few;
-          sound = u.sound;
-          left = old;
-          report = u.report;
-          runs = u.runs;
-          grown = told.2.grown;
-          closing = cut.text;
-          ends = inr (inr (inr (ends_limited script rest line behind cut.text number (scene start no_notes) old new before between u next told)));
-          written = written;
-        }
+            let ends = ends_badly script line cut.text number old new n told in
+            ends_behind script rest cut.text number start new.world old before between after status.WriteFault u (grows_equal old.world new.world ends.1) (inr (inl ends)) written
+        | inr told ↦
+            ends_behind script rest cut.text number start new.world old before between after status.WriteFault u told.2.grown (inr (inr (inr (ends_limited script line cut.text number old new n told)))) written
       ]
     ]
 
@@ -227,31 +212,13 @@ cut_short script rest line behind number start old new before between after u ne
 untold : (script rest line behind : List ℕ) (number : ℕ) (start : WorldState) (old new : Scene) (before between after : Option (List ℕ)) → IsRunning script rest number start old before between → Next rest line behind
     → IsUntold line old new between after → Reports script status.NoMemory start new.world before after
 untold script rest line behind number start old new before between after u next none =
-    let lines = lines_of script in
-    let h = here lines number line (lines_of behind) (sym u.left ∙ next) in
+    let n = comes_next script rest line behind number (scene start no_notes) old before between u next in
     let ends_so : Ends status.NoMemory script number old new.world [] → Grows old.world new.world → Reports script status.NoMemory start new.world before after =
-    λ ends grown. record {
-      done = number;
-      few = u.few;
-      sound = u.sound;
-      left = old;
-      report = u.report;
-      runs = u.runs;
-      grown = grown;
-      closing = [];
-      ends = ends;
-      written = front_more before between after u.report [] u.written none.written;
-    }
+    λ ends grown. ends_behind script rest [] number start new.world old before between after status.NoMemory u grown ends (front_more before between after u.report [] u.written none.written)
     in
     elim none.begun [
       | inl same ↦ ends_so (inr (inl (refl, same))) (grows_equal old.world new.world same)
-      | inr begun ↦ ends_so (inl (record {
-        line = line;
-        there = h.at;
-        clear = sym (fault_where_same (is_there old.world) (made_by (take number lines)) line u.nodes) ∙ begun.0;
-        begun = begun.1;
-        told = refl;
-      })) begun.1.grown
+      | inr begun ↦ ends_so (inl (ends_untold script line number old new n begun.0 begun.1)) begun.1.grown
     ]
 
 -- what a line that ends the run comes to
@@ -304,13 +271,15 @@ only_closing script closing start before after s ends written = record {
   written = written;
 }
 
--- nothing was done or written
+-- the source wasn't read: nothing was done or written
 pub unread : (script : List ℕ) (start : WorldState) (before : Option (List ℕ)) → Reports script status.ReadFault start start before before
 unread script start before = only_closing script [] start before before status.ReadFault (inl (refl, refl)) (0, Appends-nil before)
 
+-- the words aren't a form: nothing was done or written
 pub unused : (script : List ℕ) (start : WorldState) (before : Option (List ℕ)) → Reports script status.Usage start start before before
 unused script start before = only_closing script [] start before before status.Usage (inl (refl, refl)) (0, Appends-nil before)
 
+-- memory ran out first: nothing was done or written
 pub unwritten : (script : List ℕ) (start : WorldState) (before : Option (List ℕ)) → Reports script status.NoMemory start start before before
 unwritten script start before = only_closing script [] start before before status.NoMemory (inr (inl (refl, refl))) (0, Appends-nil before)
 
@@ -330,6 +299,7 @@ pub known : {A : Type 0} (o : Option A) (P Q : A → Type 0) → ((x : A) → P 
 known None P Q step h = h
 known (Some x) P Q step h = step x h
 
+-- what holds of each value holds of a value that may be known
 pub always : {A : Type 0} (o : Option A) (Q : A → Type 0) → ((x : A) → Q x) → IfSome o Q
 always None Q step = tt
 always (Some x) Q step = step x

@@ -43,6 +43,7 @@ pub record Scene : Type 0 where
   pub world : WorldState
   pub notes : NotesState
 
+-- the scene of a world and these notes
 abbrev pub scene : WorldState → NotesState → Scene
 scene world notes = record { world = world; notes = notes }
 
@@ -112,6 +113,7 @@ abbrev pub IsToldTimes : Course (ℕ × Answer) → Told → WorldState → Worl
 IsToldTimes comes (told.Times count last) start now = comes start (Ok (count, last)) now
 IsToldTimes comes other start now = ⊥
 
+-- how often a message was sent and the last answer are told, which a course gives, and this is noted
 abbrev pub Repeated : Course (ℕ × Answer) → NotesState → Course Outcome
 Repeated comes noted start (Ok given) now = IsToldTimes comes given.0 start now × (given.1 ≡ noted)
 Repeated comes noted start (Err stop) now = comes start (Err stop) now
@@ -168,6 +170,7 @@ Composed (Pump bearer) notes start came now = Answered (Pumps bearer (place_on b
 Composed (Settle rounds) notes start came now = Answered (Settles rounds) notes start came now
 Composed other notes start came now = Conversed other notes start came now
 
+-- what becomes of a world by a line that is this event, or by one that is no event or several
 abbrev pub AnswersBy : Option WorldEvent → Line → NotesState → Course Outcome
 AnswersBy (Some event) line notes start came now = Answered (Once event) notes start came now
 AnswersBy None line notes start came now = Composed line notes start came now

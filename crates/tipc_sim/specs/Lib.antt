@@ -8,4 +8,5 @@ pub mod Output
 pub mod Reports
 pub mod Statuses
 pub mod Steps
+pub mod Streams
 pub mod Words

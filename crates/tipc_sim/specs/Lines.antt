@@ -2,6 +2,7 @@
 use Rattle.std.specs.Prelude.{ℕ, ◌==◌, ◌≤◌, Bool, List, [], ◌∷◌, length}
 use Rattle.std.specs.List.{slice_split}
 
+-- the byte is a newline
 abbrev pub is_newline : ℕ → Bool
 is_newline byte = byte == 10
 
@@ -12,6 +13,7 @@ without_empty_end ([] ∷ []) = []
 without_empty_end ((byte ∷ bytes) ∷ []) = (byte ∷ bytes) ∷ []
 without_empty_end (part ∷ next ∷ parts) = part ∷ without_empty_end (next ∷ parts)
 
+-- the lines of a script, in order, without their newlines
 unfoldable pub lines_of : List ℕ → List (List ℕ)
 lines_of script = without_empty_end (slice_split is_newline script)
 

@@ -26,6 +26,7 @@ know_asked named node bearer w peer =
 abbrev pub Mends : List (ℕ × ℕ) → ℕ → ℕ → Course Answer
 Mends named node bearer = Then (TakesAll (know_asked named node bearer) 1 33) (Once (event.Call node (call.Mend bearer)))
 
+-- a bearer of a node is mended, unless it is so already
 abbrev pub MendsIf : Bool → List (ℕ × ℕ) → ℕ → ℕ → Course (Unit {0})
 MendsIf true named node bearer start (Ok done) now = now ≡ start
 MendsIf true named node bearer start (Err stop) now = ⊥

@@ -11,9 +11,11 @@ pub record NotesState : Type 0 where
   pub places : Places
   pub named : List (ℕ × ℕ)
 
+-- before the first line: frames count from the first one, none is pumped, and no pair is named
 abbrev pub no_notes : NotesState
 no_notes = record { bases = first_frames; places = first_frames; named = [] }
 
+-- a pair is that of two nodes, in either order
 abbrev pub is_pair : ℕ → ℕ → ℕ × ℕ → Bool
 is_pair a b pair = ((pair.0 == a) && (pair.1 == b)) || ((pair.0 == b) && (pair.1 == a))
 
@@ -25,6 +27,7 @@ is_named named a b = list_any (is_pair a b) named
 abbrev pub naming : List (ℕ × ℕ) → ℕ → ℕ → List (ℕ × ℕ)
 naming named a b = if (a == b) || is_named named a b then named else named ++ (a, b) ∷ []
 
+-- the notes with these pairs in place of those that were named
 abbrev pub with_named : NotesState → List (ℕ × ℕ) → NotesState
 with_named s named = record { bases = s.bases; places = s.places; named = named }
 

@@ -37,16 +37,19 @@ TellsLimit number line old new text =
     (stop : Limit) × (fault_where (is_there old.world) line ≡ None) × IsLimited (asked line) old stop new.world
     × (text ≡ limit_line number (which_of stop))
 
+-- a line without fault was done, and its printed line was written
 pub record IsDone (number : ℕ) (line : List ℕ) (old new : Scene) (before after : Option (List ℕ)) : Type 0 where
   pub text : List ℕ
   pub told : TellsAnswer number line old new text
   pub written : Appends before after text
 
+-- a line has a fault, nothing was done, and the line that tells the fault was written
 pub record IsRefused (number : ℕ) (line : List ℕ) (old new : Scene) (before after : Option (List ℕ)) : Type 0 where
   pub text : List ℕ
   pub told : TellsFault number line old new text
   pub written : Appends before after text
 
+-- a limit stopped a line without fault, and the line that tells the limit was written
 pub record IsHalted (number : ℕ) (line : List ℕ) (old new : Scene) (before after : Option (List ℕ)) : Type 0 where
   pub text : List ℕ
   pub told : TellsLimit number line old new text

@@ -10,57 +10,19 @@ mod notes;
 mod reading;
 mod running;
 mod scripts;
+mod standard;
 mod status;
+mod streams;
+mod words;
 mod writing;
 
 pub use running::run;
+use standard::run_standard;
 pub use status::Status;
-use std::io::{BufWriter, ErrorKind, Write};
+use std::env;
 use std::process::ExitCode;
-use std::{env, io};
-use tipc_outside::{StdSink, StdSource};
-use tipc_pick::{Chooser, RoundRobin};
-use tipc_world::World;
-
-/// The words after the program's name. Words that are no text aren't a form.
-fn words_of(rt: &HostRuntime) -> Result<Vec<String>, Status> {
-    let args = match env::args(rt) {
-        Ok(args) => args,
-        Err(error) => {
-            return match error.kind() {
-                ErrorKind::OutOfMemory => Err(Status::NoMemory),
-                _ => Err(Status::Usage),
-            };
-        }
-    };
-    args.skip(1)
-        .collect(rt.alloc())
-        .map_err(|_| Status::NoMemory)
-}
-
-/// Runs the script of standard input, and gives out what the run wrote.
-fn run_standard(rt: &HostRuntime) -> Result<Status, Status> {
-    let words = words_of(rt)?;
-    let Ok(mut writer) = BufWriter::new(rt.alloc(), io::writer(rt)) else {
-        return Err(Status::NoMemory);
-    };
-    let mut source = StdSource::new(rt.reader());
-    let mut world = World::new(rt.alloc(), Chooser::new(RoundRobin));
-    let status = run(
-        rt.alloc(),
-        words.as_slice(),
-        &mut source,
-        &mut StdSink::new(&mut writer),
-        &mut world,
-    );
-    let flushed = writer.flush().is_ok();
-    Ok(status.after_flush(flushed))
-}
 
 fn main(rt: HostRuntime) -> ExitCode {
-    let status = match run_standard(&rt) {
-        Ok(status) => status,
-        Err(status) => status,
-    };
+    let status = run_standard(&rt, env::args(&rt));
     ExitCode::from(status.code())
 }

@@ -1,7 +1,7 @@
 //! How a run ends.
 
 ghost use Rattle.std.specs.Prelude.{◌≡◌};
-ghost use Rattle.tipc_sim.specs.Statuses.{after_flush, code_of};
+ghost use Rattle.tipc_sim.specs.Statuses.{after_flush, after_streams, code_of};
 
 /// How a run ends. (This project's profile.)
 #[derive(Clone, Copy, Debug, PartialEq, Eq)]
@@ -23,11 +23,29 @@ pub enum Status {
 }
 
 impl Status {
-    /// How the run ends, by whether all that it wrote could be given out at its end: where it couldn't, the sink failed.
+    /// How the run ends, by whether a read and whether a write of it failed.
+    pub fn after_streams(self, unread: bool, unwritten: bool) -> Status
+        ensures { result ≡ after_streams self unread unwritten }
+    {
+        if unread {
+            Status::ReadFault
+        } else if unwritten {
+            Status::WriteFault
+        } else {
+            self
+        }
+    }
+
+    /// How the run ends, by whether all that it wrote could be given out at its end: where it couldn't, the output
+    /// failed. At Usage nothing was written.
     pub fn after_flush(self, flushed: bool) -> Status
         ensures { result ≡ after_flush self flushed }
     {
-        if flushed { self } else { Status::WriteFault }
+        if flushed || self == Status::Usage {
+            self
+        } else {
+            Status::WriteFault
+        }
     }
 
     /// The exit status of the program, from 0 to 6.

@@ -1,0 +1,75 @@
+//! The run over standard input and output.
+
+ghost use Rattle.std.specs.Prelude.{◌≡◌, ◌⊎◌, ◌↔◌, IfOk, IfErr, [], map, false};
+ghost use Rattle.std.specs.Io.Buffered.{writer_buffer};
+ghost use Rattle.std.specs.IoError.{error_kind};
+ghost use Rattle.std.specs.String.{string_bytes};
+ghost use Rattle.tipc_sim.specs.Streams.{failed_reads, failed_writes};
+ghost use Rattle.tipc_sim.specs.Words.{is_run, status_of, words_after_name};
+
+use crate::running::run;
+use crate::status::Status;
+use crate::streams::{Input, Output};
+use crate::words::words_behind;
+use std::alloc::Global;
+use std::env::Args;
+use std::io;
+use std::io::{BufWriter, Write};
+use tipc_pick::{Chooser, RoundRobin};
+use tipc_world::World;
+
+/// Runs the script that a reader holds, and writes its report to a writer. Where a call of one of them failed, the
+/// run ends so, whatever else it came to.
+fn run_streams<R: io::Read + Drop, W: io::Write + Drop>(
+    alloc: Global,
+    words: &[String],
+    input: &mut Input<R>,
+    output: &mut Output<W>,
+) -> Status
+    requires fresh { (failed_reads input.old.source ≡ 0) × (failed_writes output.old.sink ≡ 0) }
+    ensures usage { (result ≡ Status.Usage) ↔ (is_run (map string_bytes words.now) ≡ false) }
+    ensures read { (result ≡ Status.ReadFault) ↔ (failed_reads input.new.source ≡ 1) }
+    ensures write { (result ≡ Status.WriteFault) ↔ (failed_reads input.new.source ≡ 0) ×
+        (failed_writes output.new.sink ≡ 1) }
+{
+    let mut world = World::new(alloc, Chooser::new(RoundRobin));
+    let status = run(alloc, words, input, output, &mut world);
+    status.after_streams(input.has_failed(), output.has_failed())
+}
+
+/// Runs the script that a reader holds, writes its report to a writer with a buffer, and gives out what is left in
+/// the buffer.
+fn run_buffered<R: io::Read + Drop, W: io::Write + Drop>(
+    alloc: Global,
+    words: &[String],
+    reader: R,
+    writer: &mut BufWriter<W>,
+) -> Status
+    ensures usage { (result ≡ Status.Usage) ↔ (is_run (map string_bytes words.now) ≡ false) }
+    ensures flushed { (result ≡ Status.Usage) ⊎ ((result ≡ Status.WriteFault) ⊎ (writer_buffer writer.new ≡ [])) }
+{
+    let status = run_streams(
+        alloc,
+        words,
+        &mut Input::new(reader),
+        &mut Output::new(&mut *writer),
+    );
+    status.after_flush(writer.flush().is_ok())
+}
+
+/// Runs the script of standard input where the program's arguments ask for it, and gives out what the run wrote.
+pub fn run_standard(rt: &HostRuntime, args: io::Result<Args>) -> Status
+    ensures usage { result ≡ Status.Usage → IfOk args (λ all. is_run (words_after_name all) ≡ false) }
+    ensures form { IfOk args (λ all. is_run (words_after_name all) ≡ false → (result ≡ Status.Usage) ⊎
+        (result ≡ Status.NoMemory)) }
+    ensures none { IfErr args (λ error. result ≡ status_of (error_kind error)) }
+{
+    let words = match words_behind(rt.alloc(), args) {
+        Ok(words) => words,
+        Err(status) => return status,
+    };
+    let Ok(mut writer) = BufWriter::new(rt.alloc(), io::writer(rt)) else {
+        return Status::NoMemory;
+    };
+    run_buffered(rt.alloc(), words.as_slice(), rt.reader(), &mut writer)
+}
