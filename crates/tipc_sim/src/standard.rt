@@ -15,6 +15,7 @@ use std::alloc::Global;
 use std::env::Args;
 use std::io;
 use std::io::{BufWriter, Write};
+use std::mem::forget;
 use tipc_pick::{Chooser, RoundRobin};
 use tipc_world::World;
 
@@ -34,6 +35,8 @@ fn run_streams<R: io::Read + Drop, W: io::Write + Drop>(
 {
     let mut world = World::new(alloc, Chooser::new(RoundRobin));
     let status = run(alloc, words, input, output, &mut world);
+    // The process ends soon, which gives all its memory back at once: the world isn't taken apart piece by piece.
+    forget(world);
     status.after_streams(input.has_failed(), output.has_failed())
 }
 
