@@ -1,7 +1,7 @@
 #!/usr/bin/env python3
 """A journal has room for a call as long as 65,536 entries are free: with 983,040 told one more call is made, and with 983,042 none.
 
-A node learns 70 publications, in one message, at the begin of each contact. Each frame that arrives is two entries of its journal; beside these stand the
+Node 2, whose journal it is, learns 70 publications, in one message, at the beginning of each contact. Each frame that arrives is two entries; beside these stand the
 message and its 70 publications, the link and the contact that begin, and those that end. So the first contact is told in 83 entries, and each later one in 87, of which
 four are the cut by which the one before ends, and two the mended bearer. A socket is two entries more, a publication of node scope three, and a call that
 changes nothing two.

@@ -13,7 +13,7 @@ def is_there(name, crate, folder, file):
     """Whether the name stands where the table says."""
     base = ROOT / "crates" / crate
     if folder is None:
-        return any((base / folder / f"{name}.edit").is_file() for folder in ("must-fail", "wrong-bodies"))
+        return any((base / kind / f"{name}.edit").is_file() for kind in ("must-fail", "wrong-bodies"))
     suffix = "antt" if folder == "specs" else "rt"
     path = base / folder / f"{file}.{suffix}"
     if not path.is_file():

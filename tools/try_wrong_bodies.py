@@ -3,10 +3,11 @@
 
 try_wrong_bodies.py [CRATE..]: those of these crates, or of all. Each is a file crates/NAME/wrong-bodies/*.edit, of the form of a must-fail
 edit. It works on a copy of the repository in which they are the must-fail edits, and runs `rt must-fail` there, which says of each
-whether it was refused. A crate is proved once before its edits are tried, and so are those below it: all of them take some hours of one
-processor, where `rt` has kept nothing. With --look it proves nothing, and says only whether each edit still fits its file.
+whether it was refused. Where `rt` has kept nothing it first proves these crates and those below them; all edits together take some
+hours of one processor. With --look it proves nothing, and says only whether each edit, those of the gate among them, still fits its file.
 """
 
+import os
 import pathlib
 import shutil
 import subprocess
@@ -18,11 +19,12 @@ FOLDERS = ("must-fail", "wrong-bodies")
 
 
 def fits(edit: pathlib.Path) -> bool:
-    """Whether each text that an edit takes away stands in its file exactly once."""
+    """Whether each text that an edit takes away stands in its file exactly once, and another is put in its place."""
     lines = edit.read_text(encoding="utf-8").splitlines()
     files = [line[6:] for line in lines if line.startswith("file: ")]
     texts = [line[5:] for line in lines if line.startswith("old: ")]
-    if len(files) != 1 or not texts:
+    others = [line for line in lines if line.startswith("new: ")]
+    if len(files) != 1 or not texts or len(texts) != len(others):
         return False
     source = edit.parent.parent / files[0]
     return source.is_file() and all(source.read_text(encoding="utf-8").count(text) == 1 for text in texts)
@@ -48,10 +50,12 @@ def try_all(crates: list) -> int:
             folder = top / "crates" / crate / "must-fail"
             shutil.rmtree(folder, ignore_errors=True)
             (top / "crates" / crate / "wrong-bodies").rename(folder)
-        return subprocess.run(["rt", "must-fail", *crates], cwd=top, check=False).returncode
+        lanes = {"RT_JOBS": str(len(os.sched_getaffinity(0))), **os.environ}
+        return subprocess.run(["rt", "must-fail", *crates], cwd=top, env=lanes, check=False).returncode
 
 
 def main() -> int:
+    """Looks at all edits, or tries those that are asked for."""
     if sys.argv[1:] == ["--look"]:
         return look()
     having = sorted(path.parent.name for path in TOP.glob("crates/*/wrong-bodies"))
