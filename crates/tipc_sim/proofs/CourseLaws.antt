@@ -1,5 +1,6 @@
 -- What becomes of an air by a course, and a link that is stopped.
 use Rattle.std.proofs.Common.{◌≡◌, ℕ, ◌≤◌, max, Bool, Option, Some, None, List, Ok, Err, length, ap, subst, sym, ◌∙◌, arith, inl, false}
+use Rattle.tipc_types.specs.declared.node_calls.Answer.{Answer}
 use Rattle.tipc_world.specs.declared.events.WorldEvent.{WorldEvent}
 use Rattle.tipc_world.specs.declared.events.WorldFault.{WorldFault}
 use Rattle.tipc_world.specs.declared.events.WorldFault.TheVariants as fault
@@ -21,6 +22,11 @@ pub takes_few : (bearer : ℕ) (asks : Asks) (number : ℕ) (before : WorldState
 takes_few bearer asks number before made now h = maybe_few bearer (asks before number) before made now h
 
 -- ---- a link
+
+-- a cut bearer of a node was mended
+pub mends_cut_comes : (named : List (ℕ × ℕ)) (node bearer : ℕ) (start now : WorldState) (answer : Answer) (mended : Bool) → mended ≡ is_mended_at start.members node bearer → mended ≡ false
+    → Mends named node bearer start (Ok answer) now → MendsCut named node bearer start (Ok tt) now
+mends_cut_comes named node bearer start now answer mended is cut h = subst (λ b. MendsIf b named node bearer start (Ok tt) now) (sym cut ∙ is) (answer, h)
 
 -- an event was stopped by which a cut bearer of a node is mended
 pub mends_cut_halts : (named : List (ℕ × ℕ)) (node bearer : ℕ) (start now : WorldState) (f : WorldFault) (mended : Bool) → mended ≡ is_mended_at start.members node bearer → mended ≡ false → Mends named node bearer start (Err f) now
