@@ -3,7 +3,7 @@ use Rattle.std.proofs.Common.{◌≡◌, ℕ, ◌+◌, ◌-◌, ◌≤◌, ◌||
 use Rattle.std.specs.Prelude.{IfSome, slice_get}
 use Rattle.std.specs.Io.KnownBytes.{Appends}
 use Rattle.std.proofs.KnownBytes.{Appends-trans, Appends-nil}
-use Rattle.std.proofs.lemmas.List.{length-drop, length-take, take_all}
+use Rattle.std.proofs.lemmas.List.{length-append, length-drop, length-take, take_all}
 use Rattle.std.proofs.Math.Seq.{take-append-add}
 use Rattle.tipc_report.specs.Text.{told_line}
 use Rattle.tipc_script.specs.Grammar.{asked}
@@ -15,7 +15,7 @@ use Rattle.tipc_sim.specs.Happenings.{IsBegun, Runs, Scene, begin, go_on, scene}
 use Rattle.tipc_sim.specs.Lines.{lines_of}
 use Rattle.tipc_sim.specs.Nodes.{AreSound, IsFirstBad, fault_where, made_by, makes}
 use Rattle.tipc_sim.specs.Noted.{no_notes}
-use Rattle.tipc_sim.specs.Output.{AppendsFront}
+use Rattle.tipc_sim.specs.Output.{AppendsPart}
 use Rattle.tipc_sim.specs.Reports.{Ends, EndsBadly, EndsLimited, EndsOver, EndsUntold, Reports, WritesReport}
 use Rattle.tipc_sim.specs.Steps.{IsUnderWay, IsDone, IsHalted, IsRefused, IsCut, IsUntold, TellsAnswer, TellsFault, TellsLimit, LineRuns, IsLimitStatus}
 use Rattle.tipc_sim.proofs.LineLaws.{lines_of-nil}
@@ -23,10 +23,13 @@ use Rattle.tipc_sim.proofs.ListLaws.{here}
 use Rattle.tipc_sim.proofs.ReportLaws.{fault_where_same, made_by_more, sound_more, sound_none}
 use Rattle.tipc_world.proofs.Continuing.{grows_equal, grows_same}
 
--- a text and a front of another are a front of both
-front_more : (a b c : Option (List ℕ)) (text more : List ℕ) → Appends a b text → AppendsFront b c more → AppendsFront a c (text ++ more)
-front_more a b c text more whole front =
-    (length text + front.0, subst (Appends a c) (sym (take-append-add text more front.0)) (Appends-trans a b c text (take front.0 more) whole front.1))
+-- a text and a part of another are a part of both
+part_more : (a b c : Option (List ℕ)) (text more : List ℕ) → Appends a b text → AppendsPart b c more → AppendsPart a c (text ++ more)
+part_more a b c text more whole part = (
+  length text + part.0,
+  omega (arith, part.1, length-append text more),
+  subst (Appends a c) (sym (take-append-add text more part.0)) (Appends-trans a b c text (take part.0 more) whole part.2),
+)
 
 -- a script before its first line
 pub begins : (script : List ℕ) (start : WorldState) (contents : Option (List ℕ)) → ((n : ℕ) → is_there start n ≡ false) → IsUnderWay script script 0 (scene start no_notes) (scene start no_notes) contents contents
@@ -148,7 +151,7 @@ ends_untold script line number old new n clear begun = record { line = line; the
 
 -- a run ends behind the lines that were done
 ends_behind : (script rest closing : List ℕ) (number : ℕ) (start now : WorldState) (old : Scene) (before between after : Option (List ℕ)) (s : Status) (u : IsRunning script rest number start old before between) → Grows old.world now
-    → Ends s script number old now closing → WritesReport s before after (u.report ++ closing) → Reports script s start now before after
+    → Ends s script number old now closing → WritesReport s before after u.report closing → Reports script s start now before after
 ends_behind script rest closing number start now old before between after s u grown ends written = record {
   done = number;
   few = u.few;
@@ -182,7 +185,7 @@ halted script rest line behind number start old new before between after u next 
 cut_short : (script rest line behind : List ℕ) (number : ℕ) (start : WorldState) (old new : Scene) (before between after : Option (List ℕ)) → IsRunning script rest number start old before between → Next rest line behind
     → IsCut (number + 1) line old new between after → Reports script status.WriteFault start new.world before after
 cut_short script rest line behind number start old new before between after u next cut =
-    let written : AppendsFront before after (u.report ++ cut.text) = front_more before between after u.report cut.text u.written cut.written in
+    let written : AppendsPart before after (u.report ++ cut.text) = part_more before between after u.report cut.text u.written cut.written in
     let n = comes_next script rest line behind number (scene start no_notes) old before between u next in
     elim cut.told [
       | inl shown ↦
@@ -197,7 +200,7 @@ cut_short script rest line behind number start old new before between after u ne
             grown = grows_same new.world;
             closing = [];
             ends = inl (refl, refl);
-            written = subst (AppendsFront before after) (sym (append-nil (u.report ++ cut.text))) written;
+            written = subst (AppendsPart before after) (sym (append-nil (u.report ++ cut.text))) written;
           }
       | inr other ↦ elim other [
         | inl told ↦
@@ -214,7 +217,8 @@ untold : (script rest line behind : List ℕ) (number : ℕ) (start : WorldState
 untold script rest line behind number start old new before between after u next none =
     let n = comes_next script rest line behind number (scene start no_notes) old before between u next in
     let ends_so : Ends status.NoMemory script number old new.world [] → Grows old.world new.world → Reports script status.NoMemory start new.world before after =
-    λ ends grown. ends_behind script rest [] number start new.world old before between after status.NoMemory u grown ends (front_more before between after u.report [] u.written none.written)
+    λ ends grown. ends_behind script rest [] number start new.world old before between after status.NoMemory u grown ends
+    (inr (refl, subst (Appends before after) (append-nil u.report) (Appends-trans before between after u.report [] u.written none.written)))
     in
     elim none.begun [
       | inl same ↦ ends_so (inr (inl (refl, same))) (grows_equal old.world new.world same)
@@ -232,7 +236,7 @@ stops script rest line behind number start old new before between after status.N
       | inl none ↦ untold script rest line behind number start old new before between after u next none
       | inr cut ↦
           let r = cut_short script rest line behind number start old new before between after u next cut in
-          record { done = r.done; few = r.few; sound = r.sound; left = r.left; report = r.report; runs = r.runs; grown = r.grown; closing = r.closing; ends = inr r.ends; written = r.written }
+          record { done = r.done; few = r.few; sound = r.sound; left = r.left; report = r.report; runs = r.runs; grown = r.grown; closing = r.closing; ends = inr r.ends; written = inl r.written }
     ]
 stops script rest line behind number start old new before between after status.Ok u next run = absurd run
 stops script rest line behind number start old new before between after status.Usage u next run = absurd run
@@ -240,14 +244,14 @@ stops script rest line behind number start old new before between after status.R
 
 -- what telling a limit comes to
 pub limit_told : (number : ℕ) (line : List ℕ) (old new : Scene) (before after : Option (List ℕ)) (text : List ℕ) (s : Status) → TellsLimit number line old new text → IsLimitStatus s → (s ≡ status.Limit → Appends before after text)
-    → AppendsFront before after text → LineRuns (Err s) number line old new before after
-limit_told number line old new before after text status.Limit told is whole front = record { text = text; told = told; written = whole refl }
-limit_told number line old new before after text status.WriteFault told is whole front = record { text = text; told = inr (inr told); written = front }
-limit_told number line old new before after text status.NoMemory told is whole front = inr (record { text = text; told = inr (inr told); written = front })
-limit_told number line old new before after text status.Ok told is whole front = absurd is
-limit_told number line old new before after text status.Usage told is whole front = absurd is
-limit_told number line old new before after text status.BadLine told is whole front = absurd is
-limit_told number line old new before after text status.ReadFault told is whole front = absurd is
+    → ((s ≡ status.Limit → ⊥) → AppendsPart before after text) → LineRuns (Err s) number line old new before after
+limit_told number line old new before after text status.Limit told is whole part = record { text = text; told = told; written = whole refl }
+limit_told number line old new before after text status.WriteFault told is whole part = record { text = text; told = inr (inr told); written = part (λ e. cc) }
+limit_told number line old new before after text status.NoMemory told is whole part = inr (record { text = text; told = inr (inr told); written = part (λ e. cc) })
+limit_told number line old new before after text status.Ok told is whole part = absurd is
+limit_told number line old new before after text status.Usage told is whole part = absurd is
+limit_told number line old new before after text status.BadLine told is whole part = absurd is
+limit_told number line old new before after text status.ReadFault told is whole part = absurd is
 
 -- a script that was run to its end is without fault
 pub sound_at_end : (script : List ℕ) (start now : WorldState) (before after : Option (List ℕ)) (s : Status) → s ≡ status.Ok → Reports script s start now before after → AreSound (lines_of script)
@@ -256,8 +260,8 @@ sound_at_end script start now before after s ok reports =
     let all : take r.done (lines_of script) ≡ lines_of script = take_all r.done (lines_of script) (omega (arith, r.ends.0)) in
     subst AreSound all r.sound
 
--- a closing line alone was written, or a front of it
-only_closing : (script closing : List ℕ) (start : WorldState) (before after : Option (List ℕ)) (s : Status) → Ends s script 0 (scene start no_notes) start closing → WritesReport s before after closing → Reports script s start start before after
+-- a closing line alone was written, or a part of it
+only_closing : (script closing : List ℕ) (start : WorldState) (before after : Option (List ℕ)) (s : Status) → Ends s script 0 (scene start no_notes) start closing → WritesReport s before after [] closing → Reports script s start start before after
 only_closing script closing start before after s ends written = record {
   done = 0;
   few = omega arith;
@@ -273,26 +277,27 @@ only_closing script closing start before after s ends written = record {
 
 -- the source wasn't read: nothing was done or written
 pub unread : (script : List ℕ) (start : WorldState) (before : Option (List ℕ)) → Reports script status.ReadFault start start before before
-unread script start before = only_closing script [] start before before status.ReadFault (inl (refl, refl)) (0, Appends-nil before)
+unread script start before = only_closing script [] start before before status.ReadFault (inl (refl, refl)) (inr (refl, Appends-nil before))
 
 -- the words aren't a form: nothing was done or written
 pub unused : (script : List ℕ) (start : WorldState) (before : Option (List ℕ)) → Reports script status.Usage start start before before
-unused script start before = only_closing script [] start before before status.Usage (inl (refl, refl)) (0, Appends-nil before)
+unused script start before = only_closing script [] start before before status.Usage (inl (refl, refl)) (inr (refl, Appends-nil before))
 
 -- memory ran out first: nothing was done or written
 pub unwritten : (script : List ℕ) (start : WorldState) (before : Option (List ℕ)) → Reports script status.NoMemory start start before before
-unwritten script start before = only_closing script [] start before before status.NoMemory (inr (inl (refl, refl))) (0, Appends-nil before)
+unwritten script start before = only_closing script [] start before before status.NoMemory (inr (inl (refl, refl))) (inr (refl, Appends-nil before))
 
 -- a script that is too long
-pub too_long : (script closing : List ℕ) (start : WorldState) (before after : Option (List ℕ)) (s : Status) → EndsOver script 0 closing → IsLimitStatus s → (s ≡ status.Limit → Appends before after closing) → AppendsFront before after closing
+pub too_long : (script closing : List ℕ) (start : WorldState) (before after : Option (List ℕ)) (s : Status) → EndsOver script 0 closing → IsLimitStatus s → (s ≡ status.Limit → Appends before after closing)
+    → ((s ≡ status.Limit → ⊥) → AppendsPart before after closing)
     → Reports script s start start before after
-too_long script closing start before after status.Limit over is whole front = only_closing script closing start before after status.Limit (inl (over, refl)) (whole refl)
-too_long script closing start before after status.WriteFault over is whole front = only_closing script closing start before after status.WriteFault (inr (inr (inl (over, refl)))) front
-too_long script closing start before after status.NoMemory over is whole front = only_closing script closing start before after status.NoMemory (inr (inr (inr (inl (over, refl))))) front
-too_long script closing start before after status.Ok over is whole front = absurd is
-too_long script closing start before after status.Usage over is whole front = absurd is
-too_long script closing start before after status.BadLine over is whole front = absurd is
-too_long script closing start before after status.ReadFault over is whole front = absurd is
+too_long script closing start before after status.Limit over is whole part = only_closing script closing start before after status.Limit (inl (over, refl)) (whole refl)
+too_long script closing start before after status.WriteFault over is whole part = only_closing script closing start before after status.WriteFault (inr (inr (inl (over, refl)))) (part (λ e. cc))
+too_long script closing start before after status.NoMemory over is whole part = only_closing script closing start before after status.NoMemory (inr (inr (inr (inl (over, refl))))) (inl (part (λ e. cc)))
+too_long script closing start before after status.Ok over is whole part = absurd is
+too_long script closing start before after status.Usage over is whole part = absurd is
+too_long script closing start before after status.BadLine over is whole part = absurd is
+too_long script closing start before after status.ReadFault over is whole part = absurd is
 
 -- what follows for a value follows for a value that may be known
 pub known : {A : Type 0} (o : Option A) (P Q : A → Type 0) → ((x : A) → P x → Q x) → IfSome o P → IfSome o Q

@@ -1,7 +1,7 @@
--- What a sink holds after a text was written, or a front of it.
-use Rattle.std.specs.Prelude.{ℕ, List, Option, take}
+-- What a sink holds after a part of a text was written.
+use Rattle.std.specs.Prelude.{ℕ, ◌<◌, List, Option, length, take}
 use Rattle.std.specs.Io.KnownBytes.{Appends}
 
--- some front of a text was written
-abbrev pub AppendsFront : Option (List ℕ) → Option (List ℕ) → List ℕ → Type 0
-AppendsFront before after text = (count : ℕ) × Appends before after (take count text)
+-- a front of a text was written, and not all of it
+abbrev pub AppendsPart : Option (List ℕ) → Option (List ℕ) → List ℕ → Type 0
+AppendsPart before after text = (count : ℕ) × (count < length text) × Appends before after (take count text)

@@ -14,7 +14,7 @@ use Rattle.tipc_sim.specs.Happenings.{IsBegun, IsLimited, Runs, Scene, scene, wh
 use Rattle.tipc_sim.specs.Lines.{lines_of}
 use Rattle.tipc_sim.specs.Nodes.{AreSound, IsFirstBad, fault_where, made_by}
 use Rattle.tipc_sim.specs.Noted.{no_notes}
-use Rattle.tipc_sim.specs.Output.{AppendsFront}
+use Rattle.tipc_sim.specs.Output.{AppendsPart}
 
 -- the closing line tells the first bad line, which follows the lines that were done
 abbrev pub EndsBadly : List ℕ → ℕ → List ℕ → Type 0
@@ -61,12 +61,15 @@ Ends status.Limit script done left now closing = (EndsOver script done closing �
 Ends status.NoMemory script done left now closing = EndsUntold script done left now closing ⊎ EndsEarly script done left now closing
 Ends other script done left now closing = EndsEarly script done left now closing
 
--- the whole text was written at these statuses, and a front of it at the others
-abbrev pub WritesReport : Status → Option (List ℕ) → Option (List ℕ) → List ℕ → Type 0
-WritesReport status.Ok before after text = Appends before after text
-WritesReport status.BadLine before after text = Appends before after text
-WritesReport status.Limit before after text = Appends before after text
-WritesReport other before after text = AppendsFront before after text
+-- what was written of a report and its closing line: all at these statuses, a part at WriteFault, and at the others a part, or all of a
+-- report that has no closing line
+abbrev pub WritesReport : Status → Option (List ℕ) → Option (List ℕ) → List ℕ → List ℕ → Type 0
+WritesReport status.Ok before after report closing = Appends before after (report ++ closing)
+WritesReport status.BadLine before after report closing = Appends before after (report ++ closing)
+WritesReport status.Limit before after report closing = Appends before after (report ++ closing)
+WritesReport status.WriteFault before after report closing = AppendsPart before after (report ++ closing)
+WritesReport other before after report closing = AppendsPart before after (report ++ closing)
+    ⊎ ((closing ≡ []) × Appends before after report)
 
 -- What a run of a script came to: its first lines were done, they are without fault, and what was written is their report
 -- and a closing line. The world only grew after them.
@@ -80,7 +83,7 @@ pub record Reports (script : List ℕ) (s : Status) (start now : WorldState) (be
   pub grown : Grows left.world now
   pub closing : List ℕ
   pub ends : Ends s script done left now closing
-  pub written : WritesReport s before after (report ++ closing)
+  pub written : WritesReport s before after report closing
 
 -- a limit of the world stopped a line of a script
 pub record ReachesLimit (script : List ℕ) (start now : WorldState) : Type 0 where

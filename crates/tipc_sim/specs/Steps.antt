@@ -13,7 +13,7 @@ use Rattle.tipc_sim.specs.declared.status.Status.TheVariants as status
 use Rattle.tipc_sim.specs.Happenings.{Happens, IsBegun, IsLimited, Runs, Scene, which_of}
 use Rattle.tipc_sim.specs.Lines.{lines_of}
 use Rattle.tipc_sim.specs.Nodes.{AreSound, fault_where, made_by}
-use Rattle.tipc_sim.specs.Output.{AppendsFront}
+use Rattle.tipc_sim.specs.Output.{AppendsPart}
 
 -- a line was done, and a text is the printed line of what is told of it
 pub record IsAnswered (number : ℕ) (line : Line) (old new : Scene) (text : List ℕ) : Type 0 where
@@ -55,18 +55,18 @@ pub record IsHalted (number : ℕ) (line : List ℕ) (old new : Scene) (before a
   pub told : TellsLimit number line old new text
   pub written : Appends before after text
 
--- only a front was written of what a line comes to
+-- what a line comes to was written in part
 pub record IsCut (number : ℕ) (line : List ℕ) (old new : Scene) (before after : Option (List ℕ)) : Type 0 where
   pub text : List ℕ
   pub told : TellsAnswer number line old new text
       ⊎ (TellsFault number line old new text ⊎ TellsLimit number line old new text)
-  pub written : AppendsFront before after text
+  pub written : AppendsPart before after text
 
 -- nothing was written of it: nothing of it happened, or it is without fault and was begun
 pub record IsUntold (line : List ℕ) (old new : Scene) (before after : Option (List ℕ)) : Type 0 where
   pub begun : (new.world ≡ old.world)
       ⊎ ((fault_where (is_there old.world) line ≡ None) × IsBegun (asked line) old new.world)
-  pub written : AppendsFront before after []
+  pub written : Appends before after []
 
 -- what a line comes to, by what its run answers
 abbrev pub LineRuns : Result (Unit {0}) Status → ℕ → List ℕ → Scene → Scene → Option (List ℕ) → Option (List ℕ)

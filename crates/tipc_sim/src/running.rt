@@ -14,7 +14,7 @@ ghost use Rattle.tipc_sim.specs.Words.{is_run};
 ghost use Rattle.tipc_script.specs.Faults.{Fault};
 ghost use Rattle.tipc_sim.specs.Happenings.{scene, which_of};
 ghost use Rattle.tipc_sim.specs.Reports.{ReachesLimit, Reports};
-ghost use Rattle.tipc_sim.specs.Output.{AppendsFront};
+ghost use Rattle.tipc_sim.specs.Output.{AppendsPart};
 ghost use Rattle.tipc_sim.specs.Steps.{LineRuns, IsWriteStatus, IsBadStatus, IsLinesStatus, IsLimitStatus};
 
 use crate::lines::{do_line, line_in};
@@ -37,7 +37,7 @@ const MOST_LINES: usize = 65_536;
 /// Writes a text, or answers the status of what stopped it.
 fn write_text<K: Sink>(sink: &mut K, text: &[u8]) -> Result<(), Status>
     ensures ok { OnOk result (Appends (K.contents sink.old) (K.contents sink.new) text.now) }
-    ensures front { AppendsFront (K.contents sink.old) (K.contents sink.new) text.now }
+    ensures part { OnErr result (AppendsPart (K.contents sink.old) (K.contents sink.new) text.now) }
     ensures status { IfErr result IsWriteStatus }
     ensures failed { IsErrOf result Status.WriteFault → Rose (K.faults sink.old) (K.faults sink.new) ⊎
         Rose (K.stalls sink.old) (K.stalls sink.new) }
@@ -64,7 +64,8 @@ fn bad_text(alloc: Global, number: u32, place: u32, why: LineWhy) -> Result<Vec<
 fn refuse<K: Sink>(alloc: Global, number: u32, place: u32, why: LineWhy, sink: &mut K) -> Status
     ensures bad { result ≡ Status.BadLine → Appends (K.contents sink.old) (K.contents sink.new)
         (bad_line number place why) }
-    ensures front { AppendsFront (K.contents sink.old) (K.contents sink.new) (bad_line number place why) }
+    ensures part { (result ≡ Status.BadLine → ⊥) → AppendsPart (K.contents sink.old) (K.contents sink.new)
+        (bad_line number place why) }
     ensures status { IsBadStatus result }
     ensures failed { result ≡ Status.WriteFault → Rose (K.faults sink.old) (K.faults sink.new) ⊎
         Rose (K.stalls sink.old) (K.stalls sink.new) }
@@ -93,7 +94,8 @@ fn limit_text(alloc: Global, number: u32, which: Which) -> Result<Vec<u8>, NoMem
 fn tell_limit<K: Sink>(alloc: Global, number: u32, which: Which, sink: &mut K) -> Status
     ensures limit { result ≡ Status.Limit → Appends (K.contents sink.old) (K.contents sink.new)
         (limit_line number which) }
-    ensures front { AppendsFront (K.contents sink.old) (K.contents sink.new) (limit_line number which) }
+    ensures part { (result ≡ Status.Limit → ⊥) → AppendsPart (K.contents sink.old) (K.contents sink.new)
+        (limit_line number which) }
     ensures status { IsLimitStatus result }
     ensures failed { result ≡ Status.WriteFault → Rose (K.faults sink.old) (K.faults sink.new) ⊎
         Rose (K.stalls sink.old) (K.stalls sink.new) }
@@ -234,7 +236,8 @@ pub fn run<S: Source, K: Sink, P: Pick>(
     // Whatever the status, the messages delivered are a front of those accepted.
     ensures good { IsGood P.gives world.new }
 
-    // What is written: a front of the script's report, and the whole of it at Ok, BadLine and Limit.
+    // What is written: a front of the script's report, and the whole of it at Ok, BadLine and Limit. A closing line is
+    // written whole at its own status alone.
     ensures report { IfSome (S.left source.old) (λ script. Reports script result world.old.state world.new.state
         (K.contents sink.old) (K.contents sink.new)) }
 

@@ -28,7 +28,7 @@ returns-in-Err-TooLong-clause-report g c =
     let told = c.tell_limit.ensures in
     known (g.S.Source.left c.args.source.now) (λ bytes. 16777216 < length bytes) _
     (λ script long. too_long script (limit_line 0 which.Bytes) c.args.world.now.state (g.K.Sink.contents c.args.sink.now) (g.K.Sink.contents c.tell_limit.new.sink) c.tell_limit.result
-    (refl, inl (long, refl)) told.status told.limit told.front)
+    (refl, inl (long, refl)) told.status told.limit told.part)
     (c.in-Err-TooLong.ensures.long (ap (λ e. Err e) c.in-Err-TooLong.field-0-is))
 
 pub returns-then-line_count-gt-MOST_LINES-clause-report : goal.returns-then-line_count-gt-MOST_LINES-clause-report
@@ -40,7 +40,7 @@ returns-then-line_count-gt-MOST_LINES-clause-report g c =
     known (g.S.Source.left c.args.source.now) (λ bytes. script ≡ bytes) _
     (λ bytes same. subst (λ bs. Reports bs stop.result c.args.world.now.state c.args.world.now.state (g.K.Sink.contents c.args.sink.now) (g.K.Sink.contents stop.new.sink)) same
     (too_long script (limit_line 0 which.Lines) c.args.world.now.state (g.K.Sink.contents c.args.sink.now) (g.K.Sink.contents stop.new.sink) stop.result
-    (refl, inr (read.short, many, refl)) stop.ensures.status stop.ensures.limit stop.ensures.front))
+    (refl, inr (read.short, many, refl)) stop.ensures.status stop.ensures.limit stop.ensures.part))
     read.all
 
 pub run_lines-requires-clause-good : goal.run_lines-requires-clause-good
