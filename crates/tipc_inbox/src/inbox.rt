@@ -98,8 +98,8 @@ impl Inbox {
     ///
     /// # Errors
     ///
-    /// The message comes back only where 128 were held at some moment of the call. So many more were offered then than the
-    /// giver heard that were taken.
+    /// The message comes back only where 128 were held at some moment of the call. So the giver offered at least 128 more than
+    /// it heard that were taken.
     pub fn offer<R: Wait>(&self, rt: &R, giver: &mut Giver, message: Message) -> Result<(), Message>
         requires { giver.old.of_inbox ≡ self.now }
         ensures { MatchResult result (λ _. giver.new ≡ gave giver.old message) (λ back. (back ≡ message)
@@ -111,8 +111,8 @@ impl Inbox {
     /// Takes the first message that is held. It takes no memory. It may wait for the thread that gives, while that is in the
     /// middle of a call.
     ///
-    /// None comes only where none was held at some moment of the call. All that the taker heard that were offered were taken
-    /// then.
+    /// None comes only where none was held at some moment of the call. So the taker took at least as many as it heard that were
+    /// offered.
     pub fn take<R: Wait>(&self, rt: &R, taker: &mut Taker) -> Option<Message>
         requires { taker.old.of_inbox ≡ self.now }
         ensures { MatchOption result ((taker.new ≡ taker.old) × (taker.old.offers ≤ length taker.old.taken))
