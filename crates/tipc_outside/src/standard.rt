@@ -1,12 +1,15 @@
-//! Readers and writers of the standard library as sources and sinks.
+//! Readers, writers and the clock of the standard library as sources, sinks and a clock.
 
-ghost use Rattle.std.specs.Prelude.{◌≡◌, ◌<◌, ◌≤◌, ◌==◌, ◌&&◌, if◌then◌else◌, nat_lt, length, Err, IfOk, IsErrOf, OnErr, OnOk};
+ghost use Rattle.std.specs.Prelude.{◌≡◌, ◌<◌, ◌≤◌, ◌==◌, ◌&&◌, if◌then◌else◌, nat_lt, ◌-◌, ◌/◌, ◌^◌, None, Some, min, max, length, Err, IfSome, MatchOption, IfOk, IsErrOf, OnErr, OnOk};
+ghost use Rattle.std.specs.Duration.{as_nanos};
 ghost use Rattle.std.specs.Io.{ReadsAtMost};
 ghost use Rattle.std.specs.Io.KnownBytes.{ReadConsumes, WriteAppends};
 ghost use Rattle.tipc_outside.specs.Causes.{HasCause, Rose, counted};
 
+use crate::pacing::Clock;
 use crate::streams::{Failed, Sink, SinkFault, Source};
-use std::io;
+use std::time::Duration;
+use std::{io, time};
 
 /// Input from a standard reader, as standard input. Trusted edge: what it gives is the system's word.
 #[derive(Drop)]
@@ -106,4 +109,59 @@ impl<W: io::Write + Drop> Sink for StdSink<W> {
             }
         }
     }
+}
+
+/// The time since its first look in hundredths of a second, by the system's clock that doesn't go back. Where that can't
+/// be read it tells the last time again. Trusted edge: what the clock tells is the system's word.
+#[derive(Drop)]
+pub struct StdClock<R: time::Clock + Drop> {
+    rt: R,
+    start: Option<Duration>,
+    last: u64,
+}
+
+impl<R: time::Clock + Drop> StdClock<R> {
+    /// A clock that tells 0 at its first look.
+    pub fn new(rt: R) -> StdClock<R>
+        ensures start { result.start ≡ None }
+        ensures last { result.last ≡ 0 }
+    {
+        StdClock {
+            rt,
+            start: None,
+            last: 0,
+        }
+    }
+
+    /// Goes on to the time of a reading of the system's clock; the first one is where its time starts.
+    fn advance(&mut self, reading: Duration)
+        ensures start { MatchOption self.old.start (self.new.start ≡ Some reading) (λ start. self.new.start ≡ Some start) }
+        ensures last { IfSome self.new.start (λ start.
+            self.new.last ≡ max self.old.last (min ((as_nanos reading - as_nanos start) / 10_000_000) (2 ^ 64 - 1))) }
+    {
+        let start = *self.start.get_or_insert(reading);
+        self.last = self.last.max(hundredths(start, reading));
+    }
+}
+
+impl<R: time::Clock + Drop> Clock for StdClock<R> {
+    ghost last = { λ c. c.last };
+
+    fn now(&mut self) -> u64
+        ensures told { self.new.last ≡ result }
+        ensures later { self.old.last ≤ result }
+    {
+        if let Ok(reading) = self.rt.monotonic() {
+            self.advance(reading);
+        }
+        self.last
+    }
+}
+
+/// How many whole hundredths of a second lie between two readings of a clock; 0 where the second is the earlier one.
+fn hundredths(start: Duration, time: Duration) -> u64
+    ensures { result ≡ min ((as_nanos time - as_nanos start) / 10_000_000) (2 ^ 64 - 1) }
+{
+    let passed = time.saturating_sub(start).as_millis() / 10;
+    u64::try_from(passed).unwrap_or(u64::MAX)
 }

@@ -2,6 +2,8 @@
 #![tactic(auto)]
 
 #[cfg(test)]
+mod bearers;
+#[cfg(test)]
 mod outside;
 #[cfg(test)]
 mod report;

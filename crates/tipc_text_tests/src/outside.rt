@@ -4,11 +4,13 @@ ghost use Rattle.std.specs.Prelude.{◌<◌, length, IsTrue};
 ghost use Rattle.tipc_outside.specs.Causes.{Rose};
 
 use std::alloc::Global;
-use std::io;
+use std::cell::Cell;
 use std::test::Fail;
+use std::time::Duration;
+use std::{io, time};
 use tipc_outside::{
-    Clock, Failed, MemorySink, MemorySource, Outbox, Sink, SinkFault, Source, StdSink, StdSource,
-    StepClock,
+    Clock, Failed, MemorySink, MemorySource, Outbox, Sink, SinkFault, Source, StdClock, StdSink,
+    StdSource, StepClock,
 };
 use tipc_types::{Addr, Bytes, To};
 
@@ -165,4 +167,52 @@ fn the_clock_tells_1_first(rt: HostRuntime) {
     assert_eq!(rt; (clock.now(), clock.now()), (1, 2));
     let mut last = StepClock { time: u64::MAX };
     assert_eq!(rt; last.now(), u64::MAX);
+}
+
+/// Readings of a clock, one after the other; it can't be read at the others.
+#[derive(Drop)]
+struct Readings {
+    nanoseconds: Vec<Option<u64>>,
+    looks: Cell<usize>,
+}
+
+impl time::Clock for Readings {
+    fn monotonic(&self) -> io::Result<Duration> {
+        let look = self.looks.get();
+        self.looks.set(look.saturating_add(1));
+        match self.nanoseconds.get(look) {
+            Some(Some(reading)) => Ok(Duration::from_nanos(*reading)),
+            _ => Err(io::Error::from(io::ErrorKind::Other)),
+        }
+    }
+
+    fn since_1970(&self) -> io::Result<Duration> {
+        self.monotonic()
+    }
+}
+
+#[test]
+fn the_standard_clock_tells_hundredths_and_never_falls(rt: HostRuntime) -> Result<(), Fail> {
+    let table = [
+        (None, 0),
+        (Some(5_000_000_000), 0),
+        (Some(5_009_999_999), 0),
+        (Some(5_010_000_000), 1),
+        (Some(6_000_000_000), 100),
+        (Some(5_500_000_000), 100),
+        (None, 100),
+        (Some(4_000_000_000), 100),
+        (Some(66_000_000_000), 6_100),
+    ];
+    let mut nanoseconds = Vec::new(rt.alloc());
+    for (reading, _) in table {
+        nanoseconds.push(reading)?;
+    }
+    let looks = Cell::new(0);
+    let mut clock = StdClock::new(Readings { nanoseconds, looks });
+    for (_, time) in table {
+        assert_eq!(rt; clock.now(), time);
+    }
+    assert_eq!(rt; clock.now(), 6_100);
+    Ok(())
 }
