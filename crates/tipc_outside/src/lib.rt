@@ -16,4 +16,4 @@ pub use outgoing::{Outbox, Outgoing};
 pub use pacing::{Clock, FreeGate, Gate, StepClock};
 pub use standard::{StdClock, StdSink, StdSource};
 pub use streams::{Failed, MemorySink, MemorySource, Sink, SinkFault, Source};
-pub use transport::{Bearer, BearerFault, Heard};
+pub use transport::{Bearer, BearerFault, Heard, is_for};

@@ -1,14 +1,14 @@
 //! A medium in memory, over which the nodes of one program hear each other.
 
 ghost use Rattle.std.specs.Prelude.{◌≡◌, ◌+◌, ◌-◌, ◌^◌, ◌<◌, ◌≤◌, ◌++◌, ◌∷◌, ℕ, Ok, [], vec_len, option_to_list, All, IfOk, OnOk, OnErr};
-ghost use Rattle.tipc_outside.specs.Carried.{Reaches, is_for, waiting_for, with_frame};
+ghost use Rattle.tipc_outside.specs.Carried.{Reaches, waiting_for, with_frame};
 
-use crate::transport::Heard;
+use crate::transport::{Heard, is_for};
 use std::alloc::Global;
 use std::collections::VecDeque;
 use std::marker::Model;
 use std::sync::{Mutex, Wait};
-use tipc_types::{Addr, Body, NoMemory, To};
+use tipc_types::{Body, NoMemory, To};
 
 /// How many nodes a cluster has at most (this project's profile).
 const MOST_NODES: u8 = 32;
@@ -118,17 +118,6 @@ impl Queues {
         ensures unchanged { (result ≡ Ok Heard.Frame → ⊥) → (self.new ≡ self.old) × (into.new.items ≡ into.old.items) }
     {
         self.queues[usize::from(node - 1)].take(alloc, into)
-    }
-}
-
-/// Whether a frame from one node comes to another: one to all comes to each but its sender.
-fn is_for(from: u8, to: To, node: u8) -> bool
-    requires { (1 ≤ node) × (node ≤ 32) }
-    ensures { result ≡ is_for from to node }
-{
-    match to {
-        To::Node(addr) => addr == Addr::node(node),
-        To::All => from != node,
     }
 }
 

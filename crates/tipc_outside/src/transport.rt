@@ -1,9 +1,10 @@
 //! What a node asks of a bearer: to send a frame and to hear one.
 
 ghost use Rattle.std.specs.Prelude.{◌≡◌, ◌+◌, ◌-◌, ◌^◌, ◌≤◌, ℕ, Ok, IsErrOf};
+ghost use Rattle.tipc_outside.specs.Carried.{is_for};
 ghost use Rattle.tipc_outside.specs.Causes.{Rose, counted};
 
-use tipc_types::To;
+use tipc_types::{Addr, To};
 
 /// Why a bearer didn't send or receive.
 #[derive(Clone, Copy, Debug, PartialEq, Eq)]
@@ -49,4 +50,15 @@ pub trait Bearer {
         ensures tried { tried self.new ≡ tried self.old }
         ensures frame { result ≡ Ok Heard.Frame → given self.new ≡ counted (given self.old) }
         ensures other { (result ≡ Ok Heard.Frame → ⊥) → given self.new ≡ given self.old };
+}
+
+/// Whether a frame from the node of one number comes to that of another: one to all comes to each but its sender.
+pub fn is_for(from: u8, to: To, node: u8) -> bool
+    requires { (1 ≤ node) × (node ≤ 32) }
+    ensures { result ≡ is_for from to node }
+{
+    match to {
+        To::Node(addr) => addr == Addr::node(node),
+        To::All => from != node,
+    }
 }
