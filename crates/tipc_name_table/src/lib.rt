@@ -8,3 +8,4 @@ mod publications;
 
 pub use names::{MOST_PUBLICATIONS, NameFault, Names, Unknown};
 pub use plain::NameTable;
+pub use publications::{covering, is_held, named, remove_node, sharing};

@@ -53,7 +53,7 @@ fn stands_before(p: &Publication, other: &Publication) -> bool
 }
 
 /// Whether one of that node and key is among them.
-pub(crate) fn is_held(table: &[Publication], node: Addr, key: u32) -> bool
+pub fn is_held(table: &[Publication], node: Addr, key: u32) -> bool
     ensures { result ≡ list_any (is_named node.word key) table.now }
 {
     table.iter().any(|p| is_named(p, node, key))
@@ -67,7 +67,7 @@ pub(crate) fn count_of(table: &[Publication], node: Addr) -> usize
 }
 
 /// The first of that node and key.
-pub(crate) fn named(table: &[Publication], node: Addr, key: u32) -> Option<Publication>
+pub fn named(table: &[Publication], node: Addr, key: u32) -> Option<Publication>
     ensures { result ≡ find (is_named node.word key) table.now }
 {
     table.iter().copied().find(|p| is_named(p, node, key))
@@ -86,7 +86,7 @@ pub(crate) fn place_for(table: &[Publication], p: &Publication) -> usize
 }
 
 /// Those that cover an instance.
-pub(crate) fn covering(
+pub fn covering(
     alloc: Global,
     table: &[Publication],
     kind: u32,
@@ -102,7 +102,7 @@ pub(crate) fn covering(
 }
 
 /// Those that share an instance with a range.
-pub(crate) fn sharing(
+pub fn sharing(
     alloc: Global,
     table: &[Publication],
     range: &ServiceRange,
@@ -124,7 +124,7 @@ pub(crate) fn remove_named(table: &mut Vec<Publication>, node: Addr, key: u32)
 }
 
 /// Takes those of a node out.
-pub(crate) fn remove_node(table: &mut Vec<Publication>, node: Addr)
+pub fn remove_node(table: &mut Vec<Publication>, node: Addr)
     ensures { table.new.items ≡ without_node node.word table.old.items }
 {
     table.retain(|p| !is_of(p, node));

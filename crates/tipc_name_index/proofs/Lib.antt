@@ -1,0 +1,4 @@
+pub mod Indexed
+pub mod Order
+pub mod Places
+pub mod Same

@@ -1,0 +1,16 @@
+use Rattle.std.proofs.Common.{List, ◌∷◌, ◌++◌, filter, not, sym, ap, ap₂, ◌∙◌}
+use Rattle.std.specs.Prelude.{insert}
+use Rattle.tipc_types.specs.declared.services.Publication.{Publication}
+use Rattle.tipc_name_table.specs.Tables.{stands_before}
+use Rattle.tipc_name_index.proofs.Places.{put_is}
+use Rattle.tipc_name_index.proofs.changes.put_both.Goals as goal
+
+pub returns-clause-held : goal.returns-clause-held
+returns-clause-held c =
+    let p = c.args.p.now in
+    let ps = c.args.held.now.items in
+    let at = c.place_for-at.result in
+    c.in_ok-insert.ensures.items ∙ ap (λ (qs : List Publication). insert qs at p) (sym c.as_slice.ensures.value)
+    ∙ ap₂ (λ (xs ys : List Publication). xs ++ p ∷ ys) c.place_for-at.ensures.before c.place_for-at.ensures.behind
+    ∙ ap (λ (qs : List Publication). filter (λ q. stands_before q p) qs ++ p ∷ filter (λ q. not (stands_before q p)) qs) c.as_slice.ensures.value
+    ∙ put_is p ps c.requires.held

@@ -1,0 +1,13 @@
+use Rattle.std.proofs.Common.{not, sym, subst₂}
+use Rattle.tipc_types.specs.declared.services.Publication.{Publication}
+use Rattle.tipc_name_table.specs.Tables.{is_of}
+use Rattle.tipc_name_index.specs.Ranges.{IsIndex}
+use Rattle.tipc_name_index.proofs.Indexed.{index_kept}
+use Rattle.tipc_name_index.proofs.index.NameIndexNames.purge.Goals as goal
+
+pub invariant_of-self : goal.invariant_of-self
+invariant_of-self c = subst₂ IsIndex (sym c.remove_node.ensures) (sym c.remove_node-2.ensures)
+    (index_kept (λ (p : Publication). not (is_of c.args.node.word p)) c.self.inside.held.items c.self.inside.ranges.items c.self.invariant)
+
+pub returns-clause-sound : goal.returns-clause-sound
+returns-clause-sound c = (invariant_of-self c).table

@@ -1,0 +1,35 @@
+-- Publications in order of the ranges that they offer, and the same publications in order of node, port and key.
+use Rattle.std.specs.Prelude.{ℕ, ◌≡◌, ◌==◌, ◌&&◌, Bool, nat_le, List, ◌∷◌, count_by}
+use Rattle.std.specs.List.Sorted.{IsStrictlySortedBy}
+use Rattle.std.specs.Ordering.{is_lt, nat_cmp}
+use Rattle.std.specs.declared.cmp.Ordering.{Ordering}
+use Rattle.std.specs.Cmp.Lexicographic.{slice_cmp}
+use Rattle.tipc_types.specs.declared.services.Publication.{Publication}
+use Rattle.tipc_name_table.specs.Tables.{place_of, AreOfCluster, IsTable}
+
+-- what publications stand in the order of ranges by: service type, lower and upper bound, node, port and key
+abbrev pub range_of : Publication → List ℕ
+range_of p = p.range.kind ∷ p.range.lower ∷ p.range.upper ∷ place_of p
+
+-- how two publications stand to each other in the order of ranges
+abbrev pub range_cmp : Publication → Publication → Ordering
+range_cmp p q = slice_cmp nat_cmp (range_of p) (range_of q)
+
+-- whether p stands before q in the order of ranges
+abbrev pub begins_before : Publication → Publication → Bool
+begins_before p q = is_lt (range_cmp p q)
+
+-- whether a publication is of a service type and begins no later than at an instance: only such a one can have the instance
+abbrev pub may_reach : ℕ → ℕ → Publication → Bool
+may_reach kind instance p = (p.range.kind == kind) && nat_le p.range.lower instance
+
+-- The same publications, in whatever order: of the ones as many pass each test as of the others.
+abbrev pub AreSame : List Publication → List Publication → Type 0
+AreSame ps qs = (test : Publication → Bool) → count_by test ps ≡ count_by test qs
+
+-- what an index holds: a table, and the same publications in the order of ranges
+pub record IsIndex (held ranges : List Publication) : Type 0 where
+  pub table : IsTable held
+  pub cluster : AreOfCluster held
+  pub same : AreSame held ranges
+  pub ordered : IsStrictlySortedBy range_cmp ranges
