@@ -1,9 +1,13 @@
-//! Tests that every name table passes: tables of calls and of what they answer.
+//! Tests that every name table passes: tables of calls and of what they answer, and drawn calls that both forms answer alike.
+
+ghost use Rattle.std.specs.Prelude.{◌<◌};
+ghost use Rattle.tipc_types.specs.Address.{IsNodeWord};
 
 use crate::places::{keys_are, node, range};
 use std::alloc::Global;
 use std::process::Abort;
 use std::test::Fail;
+use tipc_name_index::NameIndex;
 use tipc_name_table::*;
 use tipc_types::{PortId, Publication, Scope};
 
@@ -23,16 +27,11 @@ enum Call {
     Overlaps((u32, u32), &'static [u32]),
 }
 
-/// A range is published with a key at a port of a node: this is the answer.
-fn publishes(
-    rt: &impl Abort,
-    names: &mut NameTable,
-    key: u32,
-    bounds: (u32, u32),
-    at: (u8, u32),
-    answer: Result<(), NameFault>,
-) {
-    let told = names.publish(Publication {
+/// A range that is offered with a key at a port of a node.
+fn publication(rt: &impl Abort, key: u32, bounds: (u32, u32), at: (u8, u32)) -> Publication
+    ensures { IsNodeWord result.at.node.word }
+{
+    Publication {
         range: range(rt, bounds),
         scope: Scope::Cluster,
         at: PortId {
@@ -40,28 +39,40 @@ fn publishes(
             port: at.1,
         },
         key,
-    });
+    }
+}
+
+/// A range is published with a key at a port of a node: this is the answer.
+fn publishes<N: Names>(
+    rt: &impl Abort,
+    names: &mut N,
+    key: u32,
+    bounds: (u32, u32),
+    at: (u8, u32),
+    answer: Result<(), NameFault>,
+) {
+    let told = names.publish(publication(rt, key, bounds, at));
     assert!(rt; told == answer, "key {key}");
 }
 
 /// 1,024 ranges are published at a port of node 1, with the keys 0 to 1,023.
-fn fills(rt: &impl Abort, names: &mut NameTable) {
+fn fills<N: Names>(rt: &impl Abort, names: &mut N) {
     for key in 0..1_024 {
         publishes(rt, names, key, (7, 7), (1, 1), Ok(()));
     }
 }
 
 /// The publication of node 1 with this key is withdrawn, or there is none.
-fn withdraws(rt: &impl Abort, names: &mut NameTable, key: u32, is_there: bool) {
+fn withdraws<N: Names>(rt: &impl Abort, names: &mut N, key: u32, is_there: bool) {
     let taken = names.withdraw(node(1), key);
     assert!(rt; taken.is_ok() == is_there);
 }
 
 /// The keys of what is looked up to an instance of service type 100 are these.
-fn finds(
+fn finds<N: Names>(
     rt: &impl Abort,
     alloc: Global,
-    names: &NameTable,
+    names: &N,
     instance: u32,
     keys: &[u32],
 ) -> Result<(), Fail> {
@@ -71,10 +82,10 @@ fn finds(
 }
 
 /// The keys of what overlaps a range are these.
-fn overlap(
+fn overlap<N: Names>(
     rt: &impl Abort,
     alloc: Global,
-    names: &NameTable,
+    names: &N,
     bounds: (u32, u32),
     keys: &[u32],
 ) -> Result<(), Fail> {
@@ -84,7 +95,12 @@ fn overlap(
 }
 
 /// One call answers as it should.
-fn answers(rt: &impl Abort, alloc: Global, names: &mut NameTable, call: &Call) -> Result<(), Fail> {
+fn answers<N: Names>(
+    rt: &impl Abort,
+    alloc: Global,
+    names: &mut N,
+    call: &Call,
+) -> Result<(), Fail> {
     match call {
         Call::Fill => fills(rt, names),
         Call::Publish(key, bounds, at, answer) => {
@@ -99,10 +115,10 @@ fn answers(rt: &impl Abort, alloc: Global, names: &mut NameTable, call: &Call) -
 }
 
 /// These calls, one after another, answer as they should.
-fn all_answer(
+fn all_answer<N: Names>(
     rt: &impl Abort,
     alloc: Global,
-    names: &mut NameTable,
+    names: &mut N,
     calls: &[Call],
 ) -> Result<(), Fail> {
     for call in calls {
@@ -111,19 +127,8 @@ fn all_answer(
     Ok(())
 }
 
-/// These calls, one after another, answer as they should at a copy of names.
-fn all_answer_at_a_copy(
-    rt: &impl Abort,
-    alloc: Global,
-    names: &NameTable,
-    calls: &[Call],
-) -> Result<(), Fail> {
-    let mut copy = names.copy()?;
-    all_answer(rt, alloc, &mut copy, calls)
-}
-
-/// Calls at new names, at a copy of them, and then at the names, answer as they should.
-fn go_on(
+/// Calls at a new plain list, at a copy of it, and then at the list, answer as they should.
+fn go_on_in_a_list(
     rt: &impl Abort,
     alloc: Global,
     first: &[Call],
@@ -132,8 +137,34 @@ fn go_on(
 ) -> Result<(), Fail> {
     let mut names = NameTable::new(alloc);
     all_answer(rt, alloc, &mut names, first)?;
-    all_answer_at_a_copy(rt, alloc, &names, at_a_copy)?;
+    all_answer(rt, alloc, &mut names.copy()?, at_a_copy)?;
     all_answer(rt, alloc, &mut names, then)
+}
+
+/// Calls at a new index, at a copy of it, and then at the index, answer as they should.
+fn go_on_in_an_index(
+    rt: &impl Abort,
+    alloc: Global,
+    first: &[Call],
+    at_a_copy: &[Call],
+    then: &[Call],
+) -> Result<(), Fail> {
+    let mut names = NameIndex::new(alloc);
+    all_answer(rt, alloc, &mut names, first)?;
+    all_answer(rt, alloc, &mut names.copy()?, at_a_copy)?;
+    all_answer(rt, alloc, &mut names, then)
+}
+
+/// The calls answer as they should in both forms.
+fn go_on(
+    rt: &impl Abort,
+    alloc: Global,
+    first: &[Call],
+    at_a_copy: &[Call],
+    then: &[Call],
+) -> Result<(), Fail> {
+    go_on_in_a_list(rt, alloc, first, at_a_copy, then)?;
+    go_on_in_an_index(rt, alloc, first, at_a_copy, then)
 }
 
 /// A range is published, and published again.
@@ -190,4 +221,94 @@ static FULL: [Call; 5] = [
 #[test]
 fn a_node_has_at_most_1024(rt: HostRuntime) -> Result<(), Fail> {
     go_on(&rt, rt.alloc(), &FULL, &[], &[])
+}
+
+/// Draws numbers, the same in each run, by a linear congruence.
+#[derive(Drop)]
+struct Draws {
+    last: u32,
+}
+
+impl Draws {
+    /// A number below a bound.
+    fn below(&mut self, bound: u32) -> u32
+        requires { 0 < bound }
+        ensures { result < bound }
+    {
+        self.last = self
+            .last
+            .wrapping_mul(1_664_525)
+            .wrapping_add(1_013_904_223);
+        (self.last >> 16) % bound
+    }
+
+    /// A range of up to 10 of 30 instances.
+    fn bounds(&mut self) -> (u32, u32) {
+        let lower = self.below(21);
+        let more = self.below(10);
+        (lower, lower + more)
+    }
+}
+
+/// Both forms find the same for an instance and for a range.
+fn find_alike(
+    rt: &impl Abort,
+    alloc: Global,
+    list: &NameTable,
+    index: &NameIndex,
+    draws: &mut Draws,
+) -> Result<(), Fail> {
+    let instance = draws.below(31);
+    let bounds = draws.bounds();
+    let listed = list.matches(alloc, 100, instance)?;
+    let indexed = index.matches(alloc, 100, instance)?;
+    assert!(rt;
+        listed.as_slice() == indexed.as_slice(),
+        "instance {instance}"
+    );
+    let listed = list.overlapping(alloc, range(rt, bounds))?;
+    let indexed = index.overlapping(alloc, range(rt, bounds))?;
+    assert!(rt; listed.as_slice() == indexed.as_slice());
+    Ok(())
+}
+
+/// Both forms answer a drawn call alike: most publish, and few purge.
+fn answer_alike(
+    rt: &impl Abort,
+    alloc: Global,
+    list: &mut NameTable,
+    index: &mut NameIndex,
+    draws: &mut Draws,
+) -> Result<(), Fail> {
+    let at = (1 + draws.below(2) as u8, draws.below(4));
+    let key = draws.below(64);
+    match draws.below(64) {
+        0 => {
+            list.purge(node(at.0));
+            index.purge(node(at.0));
+        }
+        1..=15 => {
+            let taken = list.withdraw(node(at.0), key);
+            assert!(rt; index.withdraw(node(at.0), key) == taken, "key {key}");
+        }
+        16..=31 => return find_alike(rt, alloc, list, index, draws),
+        _ => {
+            let p = publication(rt, key, draws.bounds(), at);
+            let told = list.publish(p);
+            assert!(rt; index.publish(p) == told, "key {key}");
+        }
+    }
+    Ok(())
+}
+
+#[test]
+fn both_forms_answer_2000_calls_alike(rt: HostRuntime) -> Result<(), Fail> {
+    let mut list = NameTable::new(rt.alloc());
+    let mut index = NameIndex::new(rt.alloc());
+    let mut draws = Draws { last: 1 };
+    for call in 0..2_000 {
+        answer_alike(&rt, rt.alloc(), &mut list, &mut index, &mut draws)?;
+        assert!(&rt; list.as_slice() == index.as_slice(), "call {call}");
+    }
+    Ok(())
 }
