@@ -24,7 +24,8 @@ use crate::queues::{Queue, Queues, has_room, put, put_each};
 use std::alloc::Global;
 use std::marker::Model;
 use tipc_journal::PortList;
-use tipc_name_table::{MOST_PUBLICATIONS, NameFault, NameTable, Names, Unknown as UnknownName};
+use tipc_name_index::NameIndex;
+use tipc_name_table::{MOST_PUBLICATIONS, NameFault, Names, Unknown as UnknownName};
 use tipc_ports::{MOST_MADE, MOST_PORTS, PortFault, Ports, Unknown};
 use tipc_topology::{
     Leaving, SubscriptionNumbers, Topology, TopologyFault, Unknown as UnknownSubscription,
@@ -44,7 +45,7 @@ const NO_PORT: u8 = 2;
 const OVERLOAD: u8 = 4;
 
 /// The form in which the names are held.
-pub type Table = NameTable;
+pub type Table = NameIndex;
 
 /// The sockets of a node in one boot: the publications that it knows, its ports, the messages that wait at each of
 /// them, and the subscriptions, which are told of each change of the publications as it is made.
