@@ -7,6 +7,7 @@ pub mod Keeping
 pub mod Kept
 pub mod Order
 pub mod Placing
+pub mod Ranks
 pub mod Removable
 pub mod Removing
 pub mod Telling
