@@ -16,6 +16,11 @@ facing_far bearer x differs = ap (λ b. if b then x else turned x) differs
 pub turned_back : (x : PairEnds) → x.bearer ≤ 1 → turned (turned x) ≡ x
 turned_back x two = let back : 1 - (1 - x.bearer) ≡ x.bearer = omega arith in ap (λ b. record x { bearer = b }) back
 
+-- a pair has two bearers, from whichever it is seen
+pub facing_two : (bearer : ℕ) (x : PairEnds) → x.bearer ≤ 1 → (facing bearer x).bearer ≤ 1
+unfolding facing
+facing_two bearer x two = elim (x.bearer == bearer) as (λ b. (if b then x else turned x).bearer ≤ 1) [ true ↦ two | false ↦ omega arith ]
+
 -- and back again
 pub facing_back : (bearer : ℕ) (x : PairEnds) → bearer ≤ 1 → x.bearer ≤ 1 → facing x.bearer (facing bearer x) ≡ x
 unfolding facing

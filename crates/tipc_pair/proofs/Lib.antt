@@ -21,3 +21,4 @@ pub mod Openings
 pub mod Quietly
 pub mod HeldLaws
 pub mod ArrivalLaws
+pub mod acts
