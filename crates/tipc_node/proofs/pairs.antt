@@ -9,7 +9,6 @@ pub mod LinkMoves
 pub mod LinkSteps
 pub mod Moves
 pub mod Packed
-pub mod PairKept
 pub mod PairPuts
 pub mod PairTells
 pub mod PairEvents

@@ -22,3 +22,4 @@ pub mod Quietly
 pub mod HeldLaws
 pub mod ArrivalLaws
 pub mod acts
+pub mod turns

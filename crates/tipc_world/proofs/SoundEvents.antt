@@ -13,7 +13,7 @@ use Rattle.tipc_node.specs.Nodes.{neighbour_of}
 use Rattle.tipc_node.specs.Telling.{AreAbreast}
 use Rattle.tipc_node.specs.Turns.{PeerTurn, pair_in}
 use Rattle.tipc_node.proofs.pairs.PairEvents.{Any, On, OnBearer, closed_on}
-use Rattle.tipc_node.proofs.pairs.PairKept.{both_facing, turn_kept, turn_own}
+use Rattle.tipc_pair.proofs.turns.PairKept.{both_facing, turn_kept, turn_own}
 use Rattle.tipc_world.specs.Skies.{AirState}
 use Rattle.tipc_world.specs.declared.events.WorldEvent.{WorldEvent}
 use Rattle.tipc_world.specs.declared.events.WorldEvent.TheVariants.{Know, Restart, Call, Arrive}

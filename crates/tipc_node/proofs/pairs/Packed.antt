@@ -22,7 +22,7 @@ use Rattle.tipc_node.specs.declared.neighbours.Neighbour.{Neighbour}
 use Rattle.tipc_node.specs.Nodes.{NodeState, acquaintance, is_mended_on, known_neighbour, known_node, neighbour_of}
 use Rattle.tipc_node.specs.Telling.{AreAbreast, ArePacked, IsPacked, IsPackedEnd, IsPackedPair, IsTold}
 use Rattle.tipc_node.specs.Turns.{NodeTurn}
-use Rattle.tipc_node.proofs.pairs.PairKept.{Both, Closed, both_facing, happened_kept, turn_kept}
+use Rattle.tipc_pair.proofs.turns.PairKept.{Both, Closed, both_facing, happened_kept, turn_kept}
 use Rattle.tipc_node.proofs.Places.{set_cases}
 
 -- ---- a session

@@ -47,7 +47,7 @@ use Rattle.tipc_pair.proofs.EndSteps.{cut_quiet, fsm_after, fsm_arrived}
 use Rattle.tipc_pair.proofs.HeldLaws.{near_goes, outcome_holds, reset_quiet, tick_quiet}
 use Rattle.tipc_node.specs.Neighbours.{begins, ends, is_beginning, is_ending, is_of_contact}
 use Rattle.tipc_node.proofs.pairs.LinkSteps.{Steps, cut_steps, outcome_steps, reset_steps, tick_steps, tunnel_steps}
-use Rattle.tipc_node.proofs.pairs.PairKept.{Both, Closed, both_facing, both_turned, cut_at_kept, given_kept, hears_kept, down_kept, opens_kept, risen_kept, tick_on}
+use Rattle.tipc_pair.proofs.turns.PairKept.{Both, Closed, both_facing, both_turned, cut_at_kept, given_kept, hears_kept, down_kept, opens_kept, risen_kept, tick_on}
 use Rattle.tipc_node.proofs.pairs.PairPuts.{meets_facing}
 use Rattle.tipc_node.proofs.pairs.PairTells.{AlikeAt, AreOn, CanFollow, Follows, IsFall, Means, Still, Story, Tells, alike_itself, at_tells, epochs_at, epochs_by, began, contact_changes, ended, ends_tells, falls_follow, far_tells, following_tells, join, join_falls, released_tells, same_alike, stays, stays_alike, stays_follows, still_tells, tells_then}
 
@@ -161,7 +161,7 @@ cut_at_falls x (Some e) near h =
 
 pub cut_falls : (x : PairEnds) → On x → Falls x (cut_near x)
 cut_falls x h =
-    let kept = cut_at_kept OnBearer Any closed_on x x.near h.near h in
+    let kept = cut_at_kept OnBearer Any closed_on x h in
     let b = kept.both in
     falls_then x (cut_at x x.near) released (cut_at_falls x x.near refl h) (released_falls (cut_at x x.near).pair b.two)
 
@@ -224,7 +224,7 @@ reset_falls es shown x h = by (is_down (reset_change es (is_up_at x.far) x.near)
     one = given_falls es (is_up_at x.far) shown x x.near refl h
 
     there : On first.pair
-    there = let k = given_kept OnBearer Any closed_on es (is_up_at x.far) shown x x.near h.near h in k.both
+    there = let k = given_kept OnBearer Any closed_on es (is_up_at x.far) shown x h in k.both
 
     by : (b : Bool) → Falls x (if b then behind first again else reset_given es (is_up_at x.far) shown x x.near).course
     by true = falls_then x first (λ y. (again y).course) one (given_falls es false shown first.pair first.pair.near refl there)

@@ -15,7 +15,7 @@ use Rattle.tipc_link.specs.Links.{LinkEnd, answered_with, followed, follow_frame
 use Rattle.tipc_link.specs.Sessions.{Content, IsPut, Shows, Carries, Nothing, SessionEnd, answered, arrived, flush_frames, flushed, given_up, heard, is_due, moved_frames, again_frames, packet_frame, packet_frames, put, released, repeat_frames, repeated, spoke, told, waiting_given, with_broadcast, with_record}
 use Rattle.tipc_link.specs.Sessions.IsPut.{joins, waits}
 use Rattle.tipc_node.specs.Turns.{IsEndTo}
-use Rattle.tipc_node.proofs.pairs.PairKept.{Closed}
+use Rattle.tipc_pair.proofs.turns.PairKept.{Closed}
 
 -- a frame is for the node with that address word; and so is each of these
 abbrev pub IsFor : ℕ → Outgoing → Type 0

@@ -14,7 +14,7 @@ use Rattle.tipc_node.specs.declared.neighbours.Neighbour.{Neighbour}
 use Rattle.tipc_node.specs.Nodes.{NodeState, acquaintance, is_mended_on, known_neighbour, known_node, neighbour_of}
 use Rattle.tipc_node.specs.Turns.{AreNamed, IsEndTo, Names, NodeTurn}
 use Rattle.tipc_node.proofs.turns.Addressing.{AreFor, IsFor, all_for, for_both, keeps_to}
-use Rattle.tipc_node.proofs.pairs.PairKept.{Both, Kept, both_facing, facing_peer, happened_kept, put_kept, replied_kept, turn_kept}
+use Rattle.tipc_pair.proofs.turns.PairKept.{Both, Kept, both_facing, facing_peer, happened_kept, put_kept, replied_kept, turn_kept}
 use Rattle.tipc_node.proofs.Places.{set_either}
 
 -- a pair is for that node, and so are these frames

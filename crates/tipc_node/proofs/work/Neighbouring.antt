@@ -18,7 +18,7 @@ use Rattle.tipc_node.specs.declared.neighbours.Neighbour.{Neighbour}
 use Rattle.tipc_node.specs.Neighbours.{HearsAt, begins, ends, heard_neighbour, is_given, is_state, making, neighbour, no_broadcast, stays_in_step}
 use Rattle.tipc_node.specs.Nodes.{active_load}
 use Rattle.tipc_node.proofs.pairs.PairEvents.{begins_once, begins_there, happened_so, pair_on}
-use Rattle.tipc_node.proofs.pairs.PairKept.{facing_bearer}
+use Rattle.tipc_pair.proofs.turns.PairKept.{facing_bearer}
 use Rattle.tipc_node.proofs.pairs.PairPuts.{active_there}
 
 -- ---- an end is made

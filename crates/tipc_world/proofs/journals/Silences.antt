@@ -42,7 +42,7 @@ use Rattle.tipc_pair.proofs.HeldLaws.{tick_quiet}
 use Rattle.tipc_node.specs.Telling.{silence_in, silence_of}
 use Rattle.tipc_node.specs.Turns.{IsOnOne, IsTakenBy}
 use Rattle.tipc_node.proofs.pairs.Moves.{down_silence, tested}
-use Rattle.tipc_node.proofs.pairs.PairKept.{facing_bearer}
+use Rattle.tipc_pair.proofs.turns.PairKept.{facing_bearer}
 use Rattle.tipc_node.proofs.pairs.TurnMoves.{MakesNone}
 use Rattle.tipc_world.proofs.journals.Steady.{AreSteady, Ends, Steady, are_steady_itself, cut_near_steady, ends_facing, ends_here, ends_then, ends_there, facing_two, mended_steady, met_steady, opens_steady, released_steady, risen_down, risen_steady, states_in, steady_facing, steady_then, stepped_steady, tick_near_steady}
 

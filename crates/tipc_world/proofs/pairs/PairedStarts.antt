@@ -20,7 +20,7 @@ use Rattle.tipc_node.specs.declared.neighbours.Neighbour.{Neighbour}
 use Rattle.tipc_node.specs.Nodes.{acquaintance, end_with, is_mended_on, known_course, known_frames, known_neighbour, neighbour_of}
 use Rattle.tipc_node.specs.Turns.{IsEndTo, frames_to, pair_in}
 use Rattle.tipc_node.proofs.turns.Addressing.{AreFor, mend_for}
-use Rattle.tipc_node.proofs.pairs.PairKept.{facing_own, facing_peer}
+use Rattle.tipc_pair.proofs.turns.PairKept.{facing_own, facing_peer}
 use Rattle.tipc_node.proofs.turns.Shares.{frames_to-other, frames_to-own}
 use Rattle.tipc_world.specs.Members.{IsRestarted, known_member}
 use Rattle.tipc_world.specs.Numbers.{begun_of, end_on}

@@ -1,0 +1,2 @@
+-- What a course of a pair, and a whole turn of it, leaves true.
+pub mod PairKept
