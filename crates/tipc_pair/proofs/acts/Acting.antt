@@ -431,13 +431,16 @@ module _ (A : PairEnds → Act → Type 0) where
       let a = put_one_ran x (pieces_for m) between first two (All-head P m messages may) one in
       goes_on x c (λ w. record (nothing last) { numbered = frames }) a (puts_ran between messages frames last (ran_two A x c a two) (All-tail P m messages may) all)
 
+  pub answered_ran : (taken : ℕ) (asks : Bool) (shown : BroadcastState) (x : PairEnds) → A x (answering taken asks shown) → Ran A x (answered_near taken asks shown x)
+  answered_ran taken asks shown x may = at x.near refl
+    where
+      at : (o : Option LinkEnd) → x.near ≡ o → Ran A x (answered_at x o taken asks shown)
+      at None near = stays x
+      at (Some e) near = acts x (answering taken asks shown) _ may (answered x e taken asks shown near)
+
   pub replied_ran : (reply : Option Reply) (x : PairEnds) → x.bearer ≤ 1 → ((r : Reply) → reply ≡ Some r → (y : PairEnds) → A y (answering 0 false r.shown)) → Ran A x (replied reply x)
   replied_ran None x two may = stays x
-  replied_ran (Some r) x two may = at_ran A r.bearer x (answered_near 0 false r.shown) two (at (facing r.bearer x) (facing r.bearer x).near refl)
-    where
-      at : (y : PairEnds) (o : Option LinkEnd) → y.near ≡ o → Ran A y (answered_at y o 0 false r.shown)
-      at y None near = stays y
-      at y (Some e) near = acts y (answering 0 false r.shown) _ (may r refl y) (answered y e 0 false r.shown near)
+  replied_ran (Some r) x two may = at_ran A r.bearer x (answered_near 0 false r.shown) two (answered_ran 0 false r.shown (facing r.bearer x) (may r refl (facing r.bearer x)))
 
 -- the course of a whole turn
 abbrev pub turn_course : {x x' : PairEnds} {first : Opening} {messages : List (List ℕ)} {reply : Option Reply} {frames : List Outgoing} → PairTurn x first messages reply x' frames → Course
