@@ -1,5 +1,4 @@
--- What follows when a link of a pair goes up or down is as it tells: the contact begins or ends, the other link takes the traffic over, or an end
--- that was held is released.
+-- What follows when a link of a pair goes up or down is as it tells: the contact begins or ends, or the other link takes the traffic over.
 use Rattle.std.proofs.Common.{◌≡◌, ◌≤◌, ◌+◌, ◌==◌, ◌||◌, ◌⊎◌, ℕ, Bool, true, false, List, [], ◌∷◌, ◌++◌, Option, Some, None, fold, if◌then◌else◌, is_some, option_map, inl, inr, refl, sym, ap, ◌∙◌, subst, arith}
 use Rattle.std.specs.Prelude.{IfSome}
 use Rattle.std.specs.List.{flat_map}
@@ -15,15 +14,15 @@ use Rattle.tipc_link.specs.Links.{LinkEnd, handed_over, known, without_waiting}
 use Rattle.tipc_link.specs.Sessions.{SessionEnd, given_up, waiting_given}
 use Rattle.tipc_pair.specs.declared.transitions.Transition.{Transition}
 use Rattle.tipc_pair.specs.declared.transitions.Transition.TheVariants.{ContactDown, ContactUp, LinkDown, LinkUp}
-use Rattle.tipc_pair.specs.Changeovers.{at_far, contact_begins, contact_ends, ended_with, fail_over, fail_over_to, failing, following, forgetting, forgotten, is_clear, let_go, loaded, parted, parted_end, release_near, released, risen, shown_with, switch, switch_from, switching}
+use Rattle.tipc_pair.specs.Changeovers.{contact_begins, contact_ends, ended_with, fail_over, fail_over_to, failing, following, forgetting, forgotten, loaded, parted, parted_end, risen, shown_with, switch, switch_from, switching}
 use Rattle.tipc_pair.specs.Courses.{Course, rests}
-use Rattle.tipc_pair.specs.Facing.{PairEnds, contact_between, ends_of, facing, in_contact, is_up_at, made_of, other, states_of, turned, with_far, with_near}
+use Rattle.tipc_pair.specs.Facing.{PairEnds, contact_between, ends_of, facing, in_contact, is_up_at, made_of, other, states_of, with_far, with_near}
 use Rattle.tipc_pair.specs.Runs.{left_by, taken_over}
 use Rattle.tipc_pair.proofs.Followings.{far_down, near_down}
 use Rattle.tipc_pair.proofs.Facings.{facing_far, facing_near, facing_one}
 use Rattle.tipc_node.specs.Telling.{epochs_of}
-use Rattle.tipc_node.proofs.pairs.LinkMoves.{MovesTo, ended_unknown, forgotten_unknown, release_moves, unknown_end}
-use Rattle.tipc_node.proofs.pairs.Moves.{AreOnTwo, AreSo, Goes, IsApt, IsEndOn, IsStill, Runs, by_far, by_near, by_neither, contact_by, contact_gone, contact_there, down_at, down_epochs, epochs_at, epochs_by, goes_then, goes_turned, mapped_some, runs_on, same_contact, so_more, stays_itself, still_goes, tested, turned_apt, two_more, up_epochs_are}
+use Rattle.tipc_node.proofs.pairs.LinkMoves.{MovesTo, ended_unknown, forgotten_unknown, unknown_end}
+use Rattle.tipc_node.proofs.pairs.Moves.{AreOnTwo, AreSo, Goes, IsApt, IsEndOn, IsStill, Runs, by_far, by_near, by_neither, contact_by, contact_gone, contact_there, down_at, down_epochs, epochs_at, epochs_by, goes_then, mapped_some, same_contact, so_more, still_goes, tested, two_more, up_epochs_are}
 
 -- ---- one link moves
 
@@ -98,7 +97,7 @@ still_near x e e' h is fsm on some = record {
 }
 
 -- the far end
-pub still_far : (x : PairEnds) (e e' : LinkEnd) → IsApt x → x.far ≡ Some e → e'.fsm ≡ e.fsm → e'.bearer ≡ e.bearer → (is_some e.session ≡ true → is_some e'.session ≡ true) → IsStill x (with_far x e')
+still_far : (x : PairEnds) (e e' : LinkEnd) → IsApt x → x.far ≡ Some e → e'.fsm ≡ e.fsm → e'.bearer ≡ e.bearer → (is_some e.session ≡ true → is_some e'.session ≡ true) → IsStill x (with_far x e')
 still_far x e e' h is fsm on some = record {
   apt = record { two = h.two; near = h.near; far = same_end (other x.bearer) e e' (far_of x e h is) fsm on some };
   bearer = refl;
@@ -336,27 +335,3 @@ follows x e e' (Down because) epoch h is m =
 follows x e e' Stay epoch h is m = quiet_runs x (rests (with_near x e')) (moved_still x e e' h is m.end m.moved)
 follows x e e' (Answer back) epoch h is m = quiet_runs x (rests (with_near x e')) (moved_still x e e' h is m.end m.moved)
 follows x e e' (Ignore reason) epoch h is m = quiet_runs x (rests (with_near x e')) (moved_still x e e' h is m.end m.moved)
-
--- ---- release
-
-let_go_at : (b : ℕ) (o : Option LinkEnd) → IfSome o (IsEndOn b) → IfSome (option_map let_go o) (IsEndOn b) × (is_up_at (option_map let_go o) ≡ is_up_at o) × (epochs_at (option_map let_go o) ≡ epochs_at o)
-let_go_at b None h = (tt, refl, refl)
-let_go_at b (Some e) h = release_moves b e h
-
-pub release_runs : (x : PairEnds) → IsApt x → Runs x (release_near x)
-release_runs x h = tested (Runs x) (is_clear x.far) _ _
-    (λ _. let gone = let_go_at x.bearer x.near h.near in still_goes x (record x { near = option_map let_go x.near }) (record {
-      apt = record { two = h.two; near = gone.0; far = h.far };
-      bearer = refl;
-      contact = same_contact x (record x { near = option_map let_go x.near }) (ap (λ b. b || is_up_at x.far) gone.1) refl refl;
-      near = gone.2;
-      far = refl;
-    }))
-    (λ _. stays_itself x h)
-
-pub far_runs : (step : PairEnds → Course) (x : PairEnds) → IsApt x → ((y : PairEnds) → IsApt y → Runs y (step y)) → Runs x (at_far step x)
-far_runs step x h runs = goes_turned x (step (turned x)).pair (step (turned x)).changes h.two (runs (turned x) (turned_apt x h))
-
-pub released_runs : (x : PairEnds) → IsApt x → Runs x (released x)
-unfolding released
-released_runs x h = let first = release_runs x h in runs_on x (release_near x) (at_far release_near) first (far_runs release_near (release_near x).pair first.apt release_runs)
