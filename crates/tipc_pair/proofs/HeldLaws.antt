@@ -230,7 +230,7 @@ switch_shape x (Some n) (Some f) near far = switching_shape x n f n.session f.se
 switch_shape x (Some n) None near far = same_shape x
 switch_shape x None p near far = same_shape x
 
-gone_up_shape : (x : PairEnds) → Shape x (gone_up x).pair
+pub gone_up_shape : (x : PairEnds) → Shape x (gone_up x).pair
 gone_up_shape x = elim (is_up_at x.far) as (λ b. Shape x (if b then (if x.bearer == 0 then switch x else rests x) else contact_begins x).pair) [
   | true ↦ elim (x.bearer == 0) as (λ b. Shape x (if b then switch x else rests x).pair) [ true ↦ switch_shape x x.near x.far refl refl | false ↦ same_shape x ]
   | false ↦ record { near_up = refl; far_up = refl; near_held = refl; far_held = refl; contact = refl; seen = refl }
@@ -338,7 +338,7 @@ near_quietly x e new o epoch near fsm holds quiet = record {
 
 -- ---- either end may be released
 
-let_go_up : (end : Option LinkEnd) → is_up_at (option_map let_go end) ≡ is_up_at end
+pub let_go_up : (end : Option LinkEnd) → is_up_at (option_map let_go end) ≡ is_up_at end
 unfolding release
 let_go_up None = refl
 let_go_up (Some e) = cases_on (λ o. is_up o.after.state ≡ is_up e.fsm.state) (is_held e.fsm.state) _ _ (λ held. sym (is_up_held e.fsm.state held)) (λ other. refl)
@@ -370,7 +370,7 @@ released_goes x =
     let one = (release_near x).pair in quietly_then x one (turned (release_near (turned one)).pair) (release_goes x) (quietly_turned one (release_near (turned one)).pair (release_goes (turned one)))
 
 -- and then an end that is still held has a carrier
-far_stays : (x : PairEnds) → (release_near x).pair.far ≡ x.far
+pub far_stays : (x : PairEnds) → (release_near x).pair.far ≡ x.far
 far_stays x = elim (is_clear x.far) as (λ b. (if b then record (rests (record x { near = option_map let_go x.near })) { states = let_go_frames x.near } else rests x).pair.far ≡ x.far) [ true ↦ refl | false ↦ refl ]
 
 held_unclear : (x : PairEnds) → is_held_at (release_near x).pair.near ≡ true → (is_clear x.far ≡ false) × (is_held_at x.near ≡ true)

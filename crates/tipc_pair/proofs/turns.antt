@@ -1,2 +1,3 @@
 -- What a course of a pair, and a whole turn of it, leaves true.
 pub mod PairKept
+pub mod StatesHeard
