@@ -34,7 +34,7 @@ pub turn_moves : (x y : PairEnds) (opening : Opening) (messages : List (List ℕ
     → TurnMoves x y t.first
 turn_moves x y opening messages reply frames abreast none t =
     let apt = abreast_apt x abreast in
-    let may : MayTurn Unmade x opening messages reply = record { happens = may_happen x opening none; puts = λ i d within z. tt; answers = λ r is z. tt } in
+    let may : MayTurn Unmade x opening messages reply = record { happens = may_happen x opening none; puts = λ i d within z up. tt; answers = λ r is z. tt } in
     let run = turn_ran Unmade (λ z. tt) x y opening messages reply frames apt.two may t in
     let goes : Goes x y t.first.course.changes =
     subst (λ z. Goes x z t.first.course.changes) (sym (turn_pair x y opening messages reply frames t)) (subst (Goes x (turn_course t).pair) (turn_changes x y opening messages reply frames t) (ran_runs x (turn_course t) apt run)) in

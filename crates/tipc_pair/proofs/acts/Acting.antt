@@ -1,5 +1,5 @@
 -- Each call of a pair, and so a whole turn of it, is a run of acts. What a call asks of its acts is a record: each is asked for only where it is done.
-use Rattle.std.specs.Prelude.{All, nat_lt, not, ◌&&◌, ◌==◌, ◌-◌}
+use Rattle.std.specs.Prelude.{All, if◌then◌else◌, nat_lt, not, ◌&&◌, ◌==◌, ◌-◌}
 use Rattle.std.proofs.Common.{◌≡◌, ◌≤◌, ◌<◌, ◌∙◌, ℕ, Bool, true, false, List, [], ◌∷◌, ◌++◌, Option, Some, None, option_map, refl, sym, subst, ap, arith, append-nil}
 use Rattle.std.proofs.lemmas.Bool.Decides.{nat_tests}
 use Rattle.std.proofs.lemmas.List.Elements.{All-append, All-from_recursion, All-head, All-tail, recursion_from_All}
@@ -24,7 +24,7 @@ use Rattle.tipc_link.specs.Sessions.{flush_frames, flushed}
 use Rattle.tipc_pair.specs.declared.changes.PairOutcome.{PairOutcome}
 use Rattle.tipc_pair.specs.Changeovers.{following, is_clear, let_go, let_go_frames, release_near, released, risen}
 use Rattle.tipc_pair.specs.Courses.{Course, going_on, rests as nothing}
-use Rattle.tipc_pair.specs.Facing.{PairEnds, facing, in_contact, is_up_at, other, turned, with_far, with_made, with_near}
+use Rattle.tipc_pair.specs.Facing.{PairEnds, active, facing, in_contact, is_up_at, other, turned, with_far, with_made, with_near}
 use Rattle.tipc_pair.specs.Messages.{pieces_for}
 use Rattle.tipc_pair.specs.PairArrivals.{Arrives, Heard, OpensInto, SpeaksOfFar, Unwraps, activates, as_it_is, behind, by_number, deferred, hears as heard_by, ignored, inner_at, inner_taken, met_at, met_near, none_taken, opens, passing, reset_change, reset_given, reset_near, taken_down, tunnel, tunnelled_at, with_begun, with_bytes}
 use Rattle.tipc_pair.specs.PairCalls.{answered_at, answered_near, at_bearer, cut_at, cut_near, mended, mended_frames, mended_near, tick_at, tick_near, ticked}
@@ -70,12 +70,12 @@ lasting A = record {
   makes = λ x may. same x _ refl refl refl refl;
   mends = λ x e near. same x _ refl refl refl refl;
   steps = λ x a e o e' states numbered epoch near may step. same x _ refl refl refl refl;
-  begins = λ x down. same x _ refl refl refl refl;
+  begins = λ x here down. same x _ refl refl refl refl;
   ends = λ x contact shown. same x _ refl refl refl refl;
   counts = λ x number may. counting_so x number may (record x { seen = number }) refl refl refl;
   forgets = λ x number may. counting_so x number may _ refl refl refl;
   hands_over = λ x near far lost s one two first second up. same x _ refl refl refl refl;
-  takes_over = λ x near far s old one two first second up. same x _ refl refl refl refl;
+  takes_over = λ x near far s old one two first second here up. same x _ refl refl refl refl;
   lets_go = λ x e near may clear. same x _ refl refl refl refl;
   carries = λ x e t by near may. same x _ refl refl refl refl;
   opens = λ x packets given last may brings. same x _ refl refl refl refl;
@@ -156,7 +156,7 @@ MayHappen A x (hears bearer es er p by shown) = MayArrive A (facing bearer x) es
 -- a whole turn
 pub record MayTurn (A : PairEnds → Act → Type 0) (x : PairEnds) (first : Opening) (messages : List (List ℕ)) (reply : Option Reply) : Type 0 where
   pub happens : MayHappen A x first
-  pub puts : All (λ message. (y : PairEnds) → A y (putting (pieces_for message))) messages
+  pub puts : All (λ message. (y : PairEnds) → is_up_at y.near ≡ true → A y (putting (pieces_for message))) messages
   pub answers : (r : Reply) → reply ≡ Some r → (y : PairEnds) → A y (answering 0 false r.shown)
 
 -- where an act may be done wherever a packet lets it be done
@@ -410,23 +410,32 @@ module _ (A : PairEnds → Act → Type 0) (go : (y : PairEnds) → A y letting)
 
 -- ---- messages, and the answer
 
+-- the active link is up
+active_up : (x : PairEnds) (bearer : ℕ) → active x ≡ Some bearer → is_up_at (facing bearer x).near ≡ true
+active_up x bearer is = case (is_up_at (facing 0 x).near) (is_up_at (facing 1 x).near) refl refl is
+  where
+    case : (b d : Bool) → is_up_at (facing 0 x).near ≡ b → is_up_at (facing 1 x).near ≡ d → (if b then Some 0 else (if d then Some 1 else None)) ≡ Some bearer → is_up_at (facing bearer x).near ≡ true
+    case true d one two at = let here : 0 ≡ bearer = cc in subst (λ n. is_up_at (facing n x).near ≡ true) here one
+    case false true one two at = let here : 1 ≡ bearer = cc in subst (λ n. is_up_at (facing n x).near ≡ true) here two
+    case false false one two at = absurd (let wrong : ⊥ = cc in wrong)
+
 module _ (A : PairEnds → Act → Type 0) where
-  pub put_one_ran : (x : PairEnds) (pieces : List (List ℕ)) (y : PairEnds) (frames : List Outgoing) → x.bearer ≤ 1 → ((z : PairEnds) → A z (putting pieces)) → PutsOne x pieces y frames
+  pub put_one_ran : (x : PairEnds) (pieces : List (List ℕ)) (y : PairEnds) (frames : List Outgoing) → x.bearer ≤ 1 → ((z : PairEnds) → is_up_at z.near ≡ true → A z (putting pieces)) → PutsOne x pieces y frames
       → Ran A x (record (nothing y) { numbered = frames })
   put_one_ran x pieces y frames two may h =
       let p = h.puts in
       let z = facing h.bearer x in
       let c = near_course z (with_session p.end (flushed p.put)) [] (flush_frames p.put) in
-      let there : Ran A z c = acts z (putting pieces) c (may z) (put z p.end p.session pieces p.put p.end_is p.session_is p.is_put) in
+      let there : Ran A z c = acts z (putting pieces) c (may z (active_up x h.bearer h.active_is)) (put z p.end p.session pieces p.put p.end_is p.session_is p.is_put) in
       subst (λ fs. Ran A x (record (nothing y) { numbered = fs })) (sym p.frames_are)
       (subst (λ w. Ran A x (record (nothing w) { numbered = flush_frames p.put })) (sym (h.after ∙ ap (facing x.bearer) p.after)) (at_ran A h.bearer x (λ w. c) two there))
 
-  pub puts_ran : (x : PairEnds) (messages : List (List ℕ)) (frames : List Outgoing) (y : PairEnds) → x.bearer ≤ 1 → All (λ message. (z : PairEnds) → A z (putting (pieces_for message))) messages
+  pub puts_ran : (x : PairEnds) (messages : List (List ℕ)) (frames : List Outgoing) (y : PairEnds) → x.bearer ≤ 1 → All (λ message. (z : PairEnds) → is_up_at z.near ≡ true → A z (putting (pieces_for message))) messages
       → PutsAll x messages frames y → Ran A x (record (nothing y) { numbered = frames })
   unfolding going_on
   puts_ran x _ _ _ two may (none_put _) = stays x
   puts_ran x _ _ last two may (puts_one _ between _ m messages first frames one all) =
-      let P : List ℕ → Type 0 = λ message. (z : PairEnds) → A z (putting (pieces_for message)) in
+      let P : List ℕ → Type 0 = λ message. (z : PairEnds) → is_up_at z.near ≡ true → A z (putting (pieces_for message)) in
       let c : Course = record (nothing between) { numbered = first } in
       let a = put_one_ran x (pieces_for m) between first two (All-head P m messages may) one in
       goes_on x c (λ w. record (nothing last) { numbered = frames }) a (puts_ran between messages frames last (ran_two A x c a two) (All-tail P m messages may) all)

@@ -207,7 +207,7 @@ module _ (S : Type 0) (show : S → BroadcastState) (Q : ℕ → LinkEnd → Typ
     mends = λ x e near h. let q = near_so x e near h in near_keeps x _ _ [] h (k.mends x.bearer e q) (k.mend_frames x.bearer e q) (All-nil F);
     steps = λ x a e o e' states numbered epoch near may step h.
         let s = steps_keep x a e o e' states numbered epoch (near_so x e near h) may step in record { both = record { two = h.two; near = s.0; far = h.far }; states = s.1; numbered = s.2 };
-    begins = λ x down h. record { both = record { two = h.two; near = h.near; far = h.far }; states = All-nil F; numbered = All-nil F };
+    begins = λ x here down h. record { both = record { two = h.two; near = h.near; far = h.far }; states = All-nil F; numbered = All-nil F };
     ends = λ x contact shown h.
         let there = mapped_both (parted_end (x.contact + 1) x.seen) x (parted x) (λ b e. k.parts b e (x.contact + 1) x.seen) refl refl refl h in
         record { both = there; states = reset_all (parted x) there; numbered = All-nil F };
@@ -216,7 +216,7 @@ module _ (S : Type 0) (show : S → BroadcastState) (Q : ℕ → LinkEnd → Typ
     hands_over = λ x near far lost s one two first second up h.
         let q = far_so x far two h in
         record { both = record { two = h.two; near = k.hands x.bearer near (near_so x near one h); far = k.loads (other x.bearer) far s _ second q }; states = All-nil F; numbered = k.load_frames (other x.bearer) far s _ second q };
-    takes_over = λ x near far s old one two first second up h.
+    takes_over = λ x near far s old one two first second here up h.
         let q = near_so x near one h in
         record { both = record { two = h.two; near = k.loads x.bearer near s _ first q; far = k.empties (other x.bearer) far (far_so x far two h) }; states = All-nil F; numbered = k.load_frames x.bearer near s _ first q };
     lets_go = λ x e near may clear h. let q = near_so x e near h in near_keeps x _ _ [] h (k.lets_go x.bearer e q) (k.go_frames x.bearer e q) (All-nil F);
@@ -287,8 +287,8 @@ turn_kept_by S show Q F k x y opening messages reply fs made h first last t =
       turn_frames F x y opening messages reply fs t r.states r.numbered,
     )
   where
-    all_puts : (messages : List (List ℕ)) → All (λ message. (z : PairEnds) → MayKeep S show Q z (putting (pieces_for message))) messages
-    all_puts messages = λ i d within z. tt
+    all_puts : (messages : List (List ℕ)) → All (λ message. (z : PairEnds) → is_up_at z.near ≡ true → MayKeep S show Q z (putting (pieces_for message))) messages
+    all_puts messages = λ i d within z up. tt
 
 -- ---- whatever a STATE shows
 
@@ -336,7 +336,7 @@ module _ (Q : ℕ → LinkEnd → Type 0) (F : Outgoing → Type 0) (k : Closed 
   happened_kept x opening o made h is = runs x o.course h (happened_ran (Freely Q) (λ y. tt) x opening o h.two (may_happen BroadcastState Shows Q x opening made (any_first opening)) is)
 
   pub put_kept : (x : PairEnds) (pieces : List (List ℕ)) (y : PairEnds) (fs : List Outgoing) → PutsOne x pieces y fs → Both Q x → Kept Q F x (record (nothing y) { numbered = fs })
-  put_kept x pieces y fs put h = runs x _ h (put_one_ran (Freely Q) x pieces y fs h.two (λ z. tt) put)
+  put_kept x pieces y fs put h = runs x _ h (put_one_ran (Freely Q) x pieces y fs h.two (λ z up. tt) put)
 
   pub replied_kept : (reply : Option Reply) (x : PairEnds) → Both Q x → Kept Q F x (replied reply x)
   replied_kept reply x h = runs x _ h (replied_ran (Freely Q) reply x h.two (λ r is y. may_answer BroadcastState Shows Q reply (any_last reply) r is))

@@ -42,12 +42,12 @@ pub record IsHeardState (x : PairEnds) (es er : ℕ) (c : Course) (opened : List
   pub none : opened ≡ []
 
 -- what the link states make of it: the link is up then, or it is ignored
-record IsTraffic (f : Fsm) (es er : ℕ) (o : Outcome) : Type 0 where
-  session : is_session f es er ≡ true
-  taken : (o.change ≡ Up) ⊎ (o.change ≡ Stay)
-  up : is_up o.after.state ≡ true
+pub record IsTraffic (f : Fsm) (es er : ℕ) (o : Outcome) : Type 0 where
+  pub session : is_session f es er ≡ true
+  pub taken : (o.change ≡ Up) ⊎ (o.change ≡ Stay)
+  pub up : is_up o.after.state ≡ true
 
-traffic : (f : Fsm) (es er : ℕ) → IsTraffic f es er (on_traffic f es er) ⊎ ((on_traffic f es er).change ≡ Ignore why.Epoch)
+pub traffic : (f : Fsm) (es er : ℕ) → IsTraffic f es er (on_traffic f es er) ⊎ ((on_traffic f es er).change ≡ Ignore why.Epoch)
 unfolding on_traffic
 traffic f es er =
     let P : Outcome → Type 0 = λ o. IsTraffic f es er o ⊎ (o.change ≡ Ignore why.Epoch) in

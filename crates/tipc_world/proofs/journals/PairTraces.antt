@@ -110,7 +110,7 @@ module _ (P : ℕ → List ℕ → Type 0) where
     makes = λ x may h. record { near = λ s has. absurd cc; far = h.far; begun = h.begun };
     mends = λ x e near h. near_by x _ h (some_by x.near e near h.near);
     steps = λ x a e o e' states numbered epoch near may step h. near_by x e' h (steps_by x a e o e' states numbered epoch (some_by x.near e near h.near) may step);
-    begins = λ x down h. record { near = h.near; far = h.far; begun = begun_none P };
+    begins = λ x here down h. record { near = h.near; far = h.far; begun = begun_none P };
     ends = λ x contact shown h. record { near = mapped_by (parted_end _ _) x.near (λ e k. k) h.near; far = mapped_by (parted_end _ _) x.far (λ e k. k) h.far; begun = begun_none P };
     counts = λ x number may h. record { near = h.near; far = h.far; begun = h.begun };
     forgets = λ x number may h. record { near = mapped_by (forgetting number) x.near (λ e k. k) h.near; far = mapped_by (forgetting number) x.far (λ e k. k) h.far; begun = h.begun };
@@ -119,7 +119,7 @@ module _ (P : ℕ → List ℕ → Type 0) where
       far = flushed_by P far s (put s _) second refl (some_by x.far far two h.far);
       begun = h.begun;
     };
-    takes_over = λ x near far s old one two first second up h. record {
+    takes_over = λ x near far s old one two first second here up h. record {
       near = flushed_by P near s (put s _) first refl (some_by x.near near one h.near);
       far = mapped_held P waiting_given far.session (λ t k. k) (some_by x.far far two h.far);
       begun = h.begun;
