@@ -1,7 +1,7 @@
 -- A STATE that is given was heard by a link that is up, in the session that its frame names; and that link is still up after the arrival.
 use Rattle.std.specs.Prelude.{◌&&◌, not, if◌then◌else◌}
 use Rattle.std.proofs.lemmas.Bool.{and_parts}
-use Rattle.std.proofs.Common.{◌≡◌, ◌⊎◌, ◌∙◌, ℕ, true, List, [], Option, Some, None, refl, sym, subst, ap, inl, inr}
+use Rattle.std.proofs.Common.{◌≡◌, ◌≤◌, ◌⊎◌, ◌∙◌, ℕ, true, List, [], Option, Some, None, refl, sym, subst, ap, arith, inl, inr}
 use Rattle.tipc_types.specs.LinkStates.{is_up}
 use Rattle.tipc_types.specs.declared.link_words.BroadcastState.{BroadcastState}
 use Rattle.tipc_types.specs.declared.link_words.Why.{Why}
@@ -24,13 +24,18 @@ use Rattle.tipc_link.specs.Sessions.{SessionEnd, content_of}
 use Rattle.tipc_pair.specs.declared.changes.PairOutcome.{PairOutcome}
 use Rattle.tipc_pair.specs.Changeovers.{following, is_clear, release_near, released}
 use Rattle.tipc_pair.specs.Courses.{Course, going_on}
-use Rattle.tipc_pair.specs.Facing.{PairEnds, is_up_at, turned, with_near}
+use Rattle.tipc_pair.specs.Facing.{PairEnds, facing, is_up_at, turned, with_near}
+use Rattle.tipc_pair.specs.PairTurns.{Happened, Opening, Outset}
 use Rattle.tipc_pair.specs.PairArrivals.{Arrives, OpensInto, Unwraps, as_it_is, deferred, ignored, linked, met_at, none_taken, opens, tunnel, with_bytes}
 use Rattle.tipc_pair.proofs.ArrivalLaws.{arrived_pair}
 use Rattle.tipc_pair.proofs.CourseLaws.{then_pair}
 use Rattle.tipc_pair.proofs.EndSteps.{fsm_arrived}
 use Rattle.tipc_pair.proofs.HeldLaws.{far_stays, gone_up_shape, let_go_up}
+use Rattle.tipc_pair.proofs.Facings.{facing_back, facing_two}
+use Rattle.tipc_pair.proofs.acts.Acts.{Act}
+use Rattle.tipc_pair.proofs.acts.Acting.{MayArrive, arrives_ran, hears_may, opens_may, ran_bearer}
 use Rattle.tipc_pair.proofs.acts.Walks.{tested}
+use Rattle.tipc_pair.proofs.turns.PairKept.{facing_bearer}
 
 -- The end of the near link, as it was before, heard it in its session; and the link is up after the arrival.
 pub record IsHeardState (x : PairEnds) (es er : ℕ) (c : Course) (opened : List Opened) : Type 0 where
@@ -156,3 +161,41 @@ module _ (x : PairEnds) (es er : ℕ) (q : Fields) (said : State) (by : ℕ) (sh
 pub state_heard : (x : PairEnds) (es er : ℕ) (p : Fields) (by : ℕ) (shown : BroadcastState) (c : Course) (opened : List Opened) (said : State) → p.header ≡ header.State said → Arrives x es er p by shown c (PairOutcome.Took opened)
     → IsHeardState x es er c opened
 state_heard x es er p by shown c opened said is a = heard_so x es er p said by shown c opened (subst (λ q. Arrives x es er q by shown c (PairOutcome.Took opened)) (ap (λ h. record p { header = h }) is) a)
+
+-- ---- in a turn
+
+-- The link of this bearer heard it in its session, as it was before, and is up after what happened first.
+pub record HeardFirst (x : PairEnds) (bearer es er : ℕ) (o : Outset) (opened : List Opened) : Type 0 where
+  pub end : LinkEnd
+  pub near : (facing bearer x).near ≡ Some end
+  pub session : is_session end.fsm es er ≡ true
+  pub up : is_up_at (facing bearer o.course.pair).near ≡ true
+  pub none : opened ≡ []
+
+-- an act may be done wherever it is
+abbrev Anyhow : PairEnds → Act → Type 0
+Anyhow y a = Unit {0}
+
+pub state_heard_first : (x : PairEnds) (bearer es er : ℕ) (p : Fields) (by : ℕ) (shown : BroadcastState) (o : Outset) (opened : List Opened) (said : State) → x.bearer ≤ 1 → bearer ≤ 1
+    → p.header ≡ header.State said → Happened x (Opening.hears bearer es er p by shown) o → o.given ≡ PairOutcome.Took opened → HeardFirst x bearer es er o opened
+state_heard_first x bearer es er p by shown o opened said two one is happened took =
+    let c = happened.0 in
+    let given : happened.1 ≡ PairOutcome.Took opened = ap (λ (u : Outset). u.given) (sym happened.3) ∙ took in
+    let h = state_heard (facing bearer x) es er p by shown c opened said is (subst (λ g. Arrives (facing bearer x) es er p by shown c g) given happened.2) in
+    let y = facing bearer x in
+    let may : MayArrive Anyhow y es er p by shown = record {
+      hears = hears_may Anyhow p.header es er p by shown y (λ number. tt) (λ z. tt) (λ z. tt);
+      opens = opens_may Anyhow _ _ (λ z epoch. tt) (λ z t by'. tt) (λ z packets got. tt);
+    } in
+    let at = facing_two bearer x two in
+    let run = arrives_ran Anyhow (λ z. tt) y es er p by shown c happened.1 at may happened.2 in
+    let on : c.pair.bearer ≡ bearer = ran_bearer Anyhow y c run at ∙ facing_bearer bearer x one two in
+    let there : o.course.pair ≡ facing x.bearer c.pair = ap (λ (u : Outset). u.course.pair) happened.3 in
+    let back : facing bearer (facing x.bearer c.pair) ≡ c.pair = ap (λ n. facing n (facing x.bearer c.pair)) (sym on) ∙ facing_back x.bearer c.pair two (omega (arith, on, one)) in
+    record {
+      end = h.end;
+      near = h.near;
+      session = h.session;
+      up = ap (λ z. is_up_at (facing bearer z).near) there ∙ (ap (λ (z : PairEnds). is_up_at z.near) back ∙ h.up);
+      none = h.none;
+    }
