@@ -4,7 +4,7 @@ use Rattle.std.proofs.lemmas.Bool.{cases_lt}
 use Rattle.tipc_broadcast_law.specs.Groups.{Accepted, Caster, Group, length_now, mark, Member, numbered_now, packets, place, put, queue, window}
 use Rattle.tipc_broadcast_law.specs.Events.{booted_again, line_with, numbered_to, without_contact}
 use Rattle.tipc_broadcast_law.specs.Law.{Keeps}
-use Rattle.tipc_broadcast_law.specs.Events.{accepting, accepts, changes, empties, go_on, Happens, none, numbers, restarts, Runs}
+use Rattle.tipc_broadcast_law.specs.Events.{accepting_entry, accepts, changes, empties, go_on, Happens, none, numbers, restarts, Runs}
 use Rattle.tipc_broadcast_law.specs.Law.{IsGroup}
 use Rattle.tipc_broadcast_law.proofs.MemberEvents.{changed_keeps, ends}
 use Rattle.tipc_broadcast_law.proofs.Places.{mark-cases, mark-kept, mark-new, mark-none, packets-none, packets-old, put_other, put_same, same_or_not}
@@ -194,7 +194,7 @@ numbered_group g n h more within near =
 pub event_keeps : (g after : Group) → Happens g after → IsGroup g → IsGroup after
 event_keeps g _ (accepts packet room) h =
     let a = g.caster in
-    let x = accepting g packet in
+    let x = accepting_entry g packet in
     record {
       counted = λ f. let old = h.counted f in omega (arith, longer a x f, old);
       waiting = λ f. elim (same_or_not f a.boot) [

@@ -7,7 +7,7 @@ use Rattle.std.proofs.lemmas.List.Elements.{All-from_get_or, All-head, All-tail,
 use Rattle.std.proofs.lemmas.Option.{same_Some, slice_get-get_or}
 use Rattle.tipc_types.specs.Prefixes.{IsPrefixOf}
 use Rattle.tipc_broadcast_law.specs.Groups.{Accepted, accepted_for, Caster, Group, is_contact, mark, mark_in, Member, numbered_now, packets, place, queue, window}
-use Rattle.tipc_broadcast_law.specs.Events.{accepting, IsBegin, IsNewMember, Runs}
+use Rattle.tipc_broadcast_law.specs.Events.{accepting_entry, IsBegin, IsNewMember, Runs}
 use Rattle.tipc_broadcast_law.specs.Law.{IsGroup, Keeps}
 use Rattle.tipc_broadcast_law.specs.Promises.{ReleasesInOrder}
 use Rattle.tipc_broadcast_law.proofs.CasterEvents.{run_keeps}
@@ -133,17 +133,17 @@ takes_a_prefix g after start runs m c = taken_front after.caster m (after.member
 -- ---- the packets of one message
 
 -- the packets of a message that are for a member
-for_member : (g : Group) (message : List (List ℕ)) (m c : ℕ) (b : Bool) → is_contact c (g.members m).joined ≡ b → map (λ (a : Accepted). a.packet) (filter (is_for m c) (map (accepting g) message)) ≡ cond b message []
+for_member : (g : Group) (message : List (List ℕ)) (m c : ℕ) (b : Bool) → is_contact c (g.members m).joined ≡ b → map (λ (a : Accepted). a.packet) (filter (is_for m c) (map (accepting_entry g) message)) ≡ cond b message []
 for_member g [] m c true is = refl
 for_member g [] m c false is = refl
 for_member g (p ∷ ps) m c true is = rw is (ap (λ qs. p ∷ qs) (for_member g ps m c true is))
 for_member g (p ∷ ps) m c false is = rw is (for_member g ps m c false is)
 
-pub stands_together : (g : Group) (line : List Accepted) (message : List (List ℕ)) (m c : ℕ) → accepted_for m c (line ++ map (accepting g) message) ≡ accepted_for m c line ++ cond (is_contact c (g.members m).joined) message []
+pub stands_together : (g : Group) (line : List Accepted) (message : List (List ℕ)) (m c : ℕ) → accepted_for m c (line ++ map (accepting_entry g) message) ≡ accepted_for m c line ++ cond (is_contact c (g.members m).joined) message []
 unfolding accepted_for
 stands_together g line message m c =
-    let split : filter (is_for m c) (line ++ map (accepting g) message) ≡ filter (is_for m c) line ++ filter (is_for m c) (map (accepting g) message) = filter-append (is_for m c) line (map (accepting g) message) in
-    ap (map (λ (a : Accepted). a.packet)) split ∙ map-append (λ (a : Accepted). a.packet) (filter (is_for m c) line) (filter (is_for m c) (map (accepting g) message))
+    let split : filter (is_for m c) (line ++ map (accepting_entry g) message) ≡ filter (is_for m c) line ++ filter (is_for m c) (map (accepting_entry g) message) = filter-append (is_for m c) line (map (accepting_entry g) message) in
+    ap (map (λ (a : Accepted). a.packet)) split ∙ map-append (λ (a : Accepted). a.packet) (filter (is_for m c) line) (filter (is_for m c) (map (accepting_entry g) message))
     ∙ ap (λ qs. map (λ (a : Accepted). a.packet) (filter (is_for m c) line) ++ qs) (for_member g message m c (is_contact c (g.members m).joined) refl)
 
 -- ---- acknowledgement and release

@@ -2,3 +2,4 @@ pub mod CasterEvents
 pub mod Consequences
 pub mod MemberEvents
 pub mod Places
+pub mod calls

@@ -6,16 +6,16 @@ use Rattle.tipc_broadcast_law.specs.Groups.{Accepted, Caster, Group, length_now,
 -- ---- at the caster
 
 -- a packet is accepted for the members in contact
-abbrev pub accepting : Group → List ℕ → Accepted
-accepting g packet = record { packet = packet; members = λ m. (g.members m).joined }
+abbrev pub accepting_entry : Group → List ℕ → Accepted
+accepting_entry g packet = record { packet = packet; members = λ m. (g.members m).joined }
 
 -- the caster with one more accepted packet in its present boot
 abbrev pub line_with : Caster → Accepted → Caster
-line_with a x = record { boot = a.boot; line = put a.boot (a.line a.boot ++ x ∷ []) a.line; numbered = a.numbered }
+line_with a x = record a { line = put a.boot (a.line a.boot ++ x ∷ []) a.line }
 
 -- so many packets of the present boot have numbers
 abbrev pub numbered_to : Caster → ℕ → Caster
-numbered_to a n = record { boot = a.boot; line = a.line; numbered = put a.boot n a.numbered }
+numbered_to a n = record a { numbered = put a.boot n a.numbered }
 
 -- the caster in its next boot, in which nothing was accepted yet
 abbrev pub booted_again : Caster → Caster
@@ -81,7 +81,7 @@ IsAlone g = (m : ℕ) → (g.members m).joined ≡ None
 -- caster is restarted, or something happens to one member.
 pub data Happens (g : Group) : Group → Type 0 where
   accepts : (packet : List ℕ) → length_now g.caster < numbered_now g.caster + queue
-      → Happens g (record { caster = line_with g.caster (accepting g packet); members = g.members })
+      → Happens g (record { caster = line_with g.caster (accepting_entry g packet); members = g.members })
   numbers : numbered_now g.caster < length_now g.caster → ((m c : ℕ) → (g.members m).joined ≡ Some c → numbered_now g.caster < (g.members m).acked + window)
       → Happens g (record { caster = numbered_to g.caster (numbered_now g.caster + 1); members = g.members })
   -- with nobody in contact everything that waits is passed over

@@ -2,7 +2,7 @@
 use Rattle.std.specs.Prelude.{◌≡◌, ℕ, ◌+◌, ◌<◌, ◌≤◌, List, [], ◌++◌, map, Some, if◌then◌else◌}
 use Rattle.tipc_types.specs.Prefixes.{IsPrefixOf}
 use Rattle.tipc_broadcast_law.specs.Groups.{Accepted, accepted_for, Group, is_contact, mark, numbered_now, place, queue, window}
-use Rattle.tipc_broadcast_law.specs.Events.{accepting, Happens, IsBegin, Runs}
+use Rattle.tipc_broadcast_law.specs.Events.{accepting_entry, Happens, IsBegin, Runs}
 use Rattle.tipc_broadcast_law.specs.Law.{IsGroup}
 
 -- what is always true of a group is true at the beginning
@@ -26,7 +26,7 @@ TakesAPrefix = (g after : Group) → IsBegin g → Runs g after → (m c : ℕ)
 -- contact, and none where it isn't: no packet of another message stands between them.
 abbrev pub MessagesStandTogether : Type 0
 MessagesStandTogether = (g : Group) (line : List Accepted) (message : List (List ℕ)) (m c : ℕ)
-    → accepted_for m c (line ++ map (accepting g) message) ≡ accepted_for m c line ++ (if is_contact c (g.members m).joined then message else [])
+    → accepted_for m c (line ++ map (accepting_entry g) message) ≡ accepted_for m c line ++ (if is_contact c (g.members m).joined then message else [])
 
 -- a packet for the member in its present contact, which it acknowledged, was taken
 abbrev pub AcknowledgedIsTaken : Type 0

@@ -2,9 +2,9 @@
 use Rattle.std.proofs.Common.{◌≡◌, ℕ, ◌+◌, ◌<◌, ◌≤◌, Bool, true, false, List, [], ◌∷◌, ◌++◌, Some, length, sym, ap, ◌∙◌, subst, inl, inr, arith}
 use Rattle.std.proofs.lemmas.Bool.{cases_lt}
 use Rattle.std.proofs.lemmas.List.{append-nil}
-use Rattle.tipc_changeover.specs.Slots.{at, duplicates, Plain, Slot, Tunnel}
+use Rattle.tipc_changeover.specs.Slots.{at, duplicates, Plain, LinkSlot, Tunnel}
 use Rattle.tipc_changeover.specs.Links.{slots, Bearer, EndState, Past, Receiver, Reset, Sender, State, Up}
-use Rattle.tipc_changeover.specs.Events.{acted, after_next, gone_up, opened, told, window, with_waiting, Acknowledge, Deferred, Late, LinkUp, MayAct, Next, Old, Opening, Passed, Put, Record, Release, Switch, TakePlain, TakeTunnel}
+use Rattle.tipc_changeover.specs.Events.{acted, after_next, gone_up, opened, session_told, window, with_waiting, Acknowledge, Deferred, Late, LinkUp, MayAct, Next, Old, Opening, Passed, Put, Record, Release, Switch, TakePlain, TakeTunnel}
 use Rattle.tipc_changeover.specs.Parts.{IsTarget}
 use Rattle.tipc_changeover.specs.Sound.{Sound}
 use Rattle.tipc_changeover.specs.Distances.{Bounded, Bounds, Close, Near, Window}
@@ -41,7 +41,7 @@ bounds_fresh x y r e h less shown = record {
   close = close_grown x y r (fresh e) h.close (λ f q past. fresh_past r e f q less past);
 }
 
-bounds_told : (x y : Sender) (r : Receiver) (f q : ℕ) → Bounds x y r → IsTarget x f q → Bounds x y (told r f)
+bounds_told : (x y : Sender) (r : Receiver) (f q : ℕ) → Bounds x y r → IsTarget x f q → Bounds x y (session_told r f)
 bounds_told x y r f q h target = elim (cases_lt r.session f) [
   | inl less ↦ subst (λ z. Bounds x y z) (sym (told_fresh r f less)) (bounds_fresh x y r f h less target.shown)
   | inr high ↦ subst (λ z. Bounds x y z) (sym (told_none r f high)) h
@@ -63,7 +63,7 @@ take_plain_bounded b s i w = record { near = bounds_next s.near s.far s.near_rec
 pub take_tunnel_bounded : (b : Bearer) (s : State) (f q : ℕ) (full : Bool) (opening : Opening) → Sound b s → Bounded s → MayAct b s (TakeTunnel f q full opening) → Bounded (acted s (TakeTunnel f q full opening))
 take_tunnel_bounded b s f q full opening h w may = record {
   near = bounds_next s.near s.far s.near_record w.near;
-  far = bounds_opened s.far s.near (told s.far_record f) opening (bounds_told s.far s.near s.far_record f q w.far (h.near.target.lines s.near_record.session (s.near_record.taken + 1) f q full may.0));
+  far = bounds_opened s.far s.near (session_told s.far_record f) opening (bounds_told s.far s.near s.far_record f q w.far (h.near.target.lines s.near_record.session (s.near_record.taken + 1) f q full may.0));
 }
 
 -- ---- a change of the ends alone
@@ -71,7 +71,7 @@ take_tunnel_bounded b s f q full opening h w may = record {
 close_same : (x y : Sender) (r : Receiver) (st su : EndState) (a c : ℕ) → Close x y r → Close (over x.line x.session st x.waiting a) (over y.line y.session su y.waiting c) r
 close_same x y r st su a c h = record { both_present = h.both_present; target_ended = h.target_ended; own_ended = h.own_ended; both_ended = h.both_ended }
 
-near_same : (x : Sender) (r : Receiver) (st : EndState) (waiting : List Slot) (a : ℕ) → Near x r → Near (over x.line x.session st waiting a) r
+near_same : (x : Sender) (r : Receiver) (st : EndState) (waiting : List LinkSlot) (a : ℕ) → Near x r → Near (over x.line x.session st waiting a) r
 near_same x r st waiting a h = record { recorded = h.recorded; unrecorded = h.unrecorded }
 
 pub put_bounded : (b : Bearer) (s : State) → Bounded s → Bounded (acted s Put)
@@ -131,7 +131,7 @@ release_bounded b s w = record {
 }
 
 -- nothing is in flight on a link that goes up
-up_window : (b : Bearer) (s : State) (waiting : List Slot) → Sound b s → s.near.state ≡ Reset → Window (gone_up s.near waiting)
+up_window : (b : Bearer) (s : State) (waiting : List LinkSlot) → Sound b s → s.near.state ≡ Reset → Window (gone_up s.near waiting)
 up_window b s waiting h reset = record {
   in_flight = λ _. (let none : length (s.near.line s.near.session) ≡ 0 = ap length (h.near.ends.down (not_up reset reset_down)).0 in omega arith);
 }

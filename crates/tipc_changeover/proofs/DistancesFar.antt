@@ -2,8 +2,8 @@
 use Rattle.std.proofs.Common.{◌≡◌, ◌≢◌, ◌⊎◌, ℕ, ◌+◌, ◌-◌, ◌<◌, ◌≤◌, Bool, false, List, [], ◌∷◌, ◌++◌, Some, length, refl, sym, ap, ◌∙◌, subst, inl, inr, arith}
 use Rattle.std.proofs.lemmas.Bool.{cases_eq, cases_lt}
 use Rattle.std.proofs.lemmas.List.{length-append, length_push}
-use Rattle.tipc_changeover.specs.Slots.{at, is_plain, plain_slots, Plain, Slot, Tunnel}
-use Rattle.tipc_changeover.specs.Links.{leads, other, slots, turned, Bearer, EndState, First, Held, Past, Receiver, Reset, Second, Sender, State, Up}
+use Rattle.tipc_changeover.specs.Slots.{at, is_plain, plain_slots, Plain, LinkSlot, Tunnel}
+use Rattle.tipc_changeover.specs.Links.{leads, other, slots, turned_state, Bearer, EndState, First, Held, Past, Receiver, Reset, Second, Sender, State, Up}
 use Rattle.tipc_changeover.specs.Events.{acted, extended, lost_slots, gone_down, window, with_number, Failover, MayAct, Number}
 use Rattle.tipc_changeover.specs.Parts.{Ends}
 use Rattle.tipc_changeover.specs.Sound.{Sound}
@@ -30,14 +30,14 @@ not_both_first : (b : Bearer) → other b ≡ First → b ≡ First → ⊥
 not_both_first First is e = cc
 not_both_first Second is e = cc
 
-nothing_waits : (b : Bearer) (s : State) → Sound b s → s.near.state ≡ Up → s.far.state ≡ Up → other b ≡ First → (p : ℕ) (z : Slot) → at s.near.waiting p ≡ Some z → ⊥
+nothing_waits : (b : Bearer) (s : State) → Sound b s → s.near.state ≡ Up → s.far.state ≡ Up → other b ≡ First → (p : ℕ) (z : LinkSlot) → at s.near.waiting p ≡ Some z → ⊥
 nothing_waits b s h up beside is p (Plain i) there = plains-none s.near.waiting p i (h.near.homes.none_waits (not_leading b s.near.state s.far.state up beside is)) there
 nothing_waits b s h up beside is p (Tunnel f q full) there =
     let some = (at_within s.near.waiting p (Tunnel f q full) there).0 in
     let acked = h.near.ends.acked in
     not_both_first b is (h.near.carrier.present beside (length (s.near.line s.near.session) + p) f q full (at_back (s.near.line s.near.session) s.near.waiting p (Tunnel f q full) there) (omega arith)).1
 
-no_length : (zs : List Slot) → ((p : ℕ) (z : Slot) → at zs p ≡ Some z → ⊥) → length zs ≡ 0
+no_length : (zs : List LinkSlot) → ((p : ℕ) (z : LinkSlot) → at zs p ≡ Some z → ⊥) → length zs ≡ 0
 no_length zs none = elim (cases_lt 0 (length zs)) [
   | inl some ↦ absurd (let slot = at_there zs 1 (omega arith) (omega arith) in none 1 slot.0 slot.1)
   | inr no_more ↦ omega arith
@@ -64,7 +64,7 @@ acked_none x r h less = elim (cases_lt 0 x.acked) [
   | inr none ↦ omega arith
 ]
 
-pub number_bounded : (b : Bearer) (s : State) (z : Slot) (rest : List Slot) → Sound b s → Bounded s → MayAct b s (Number z rest) → Bounded (acted s (Number z rest))
+pub number_bounded : (b : Bearer) (s : State) (z : LinkSlot) (rest : List LinkSlot) → Sound b s → Bounded s → MayAct b s (Number z rest) → Bounded (acted s (Number z rest))
 number_bounded b s z rest h w may =
     let x = s.near in
     let y = s.far in
@@ -134,7 +134,7 @@ new_placeholder b s p f q full h w may there low open_still is =
     let first : b ≡ First = (h.near.carrier.present may.1 p f q full in_slots live).1 in
     let close : length (y.line f) + p ≤ q + window = w.near.close.both_present p f q full in_slots low open_still is in
     let close' : length (y.line y.session) + p ≤ q + window = subst (λ n. length (y.line n) + p ≤ q + window) is close in
-    let none : length y.waiting ≡ 0 = no_length y.waiting (nothing_waits (other b) (turned s) (turn b s h) may.1 may.0 (other_other b ∙ first)) in
+    let none : length y.waiting ≡ 0 = no_length y.waiting (nothing_waits (other b) (turned_state s) (turn b s h) may.1 may.0 (other_other b ∙ first)) in
     let whole : length (slots y) ≡ length (y.line y.session) + length y.waiting = length-append (y.line y.session) y.waiting in
     record {
       where_it_stands = length (slots y) + (p - x.acked);

@@ -2,7 +2,7 @@
 use Rattle.std.proofs.Common.{◌≡◌, ◌≢◌, ◌⊎◌, ℕ, ◌+◌, ◌-◌, ◌<◌, ◌≤◌, true, false, List, [], ◌++◌, Some, length, refl, sym, ap, ◌∙◌, subst, inl, inr, arith, append_assoc}
 use Rattle.std.proofs.lemmas.Bool.{cases_eq, cases_lt, true≢false}
 use Rattle.std.proofs.lemmas.List.{append-nil, length-append}
-use Rattle.tipc_changeover.specs.Slots.{at, counted, is_plain, leading, originals, plain_slots, plains, Plain, Slot, Tunnel}
+use Rattle.tipc_changeover.specs.Slots.{at, counted, is_plain, leading, originals, plain_slots, plains, Plain, LinkSlot, Tunnel}
 use Rattle.tipc_changeover.specs.Links.{front, leads, other, slots, Bearer, First, Held, Past, Receiver, Reset, Second, Sender, State, Tunnels, Up}
 use Rattle.tipc_changeover.specs.Events.{lost_slots, acted, gone_down, with_waiting, Failover, MayAct}
 use Rattle.tipc_changeover.specs.Parts.{HoldsPlain, HoldsTunnel, Homes, InnerIn, IsTarget, RunsIn, TargetIn}
@@ -18,7 +18,7 @@ held_down e = cc
 -- ---- what the other link gets
 
 -- the run for what wasn't acknowledged
-abbrev pub lost_run : Sender → List Slot
+abbrev pub lost_run : Sender → List LinkSlot
 lost_run x = originals x.session x.acked (x.line x.session)
 
 abbrev pub taking : Sender → Sender → Sender
@@ -43,7 +43,7 @@ taken_plains x y = plains-append y.waiting (lost_slots x) ∙ ap (λ is. plains 
     (plains-append (lost_run x) (plain_slots x.waiting) ∙ (ap (λ is. is ++ plains (plain_slots x.waiting)) (plains-run is_plain x.session x.acked (x.line x.session)) ∙ plains-plain_slots (plains x.waiting)))
 
 -- a place that isn't acknowledged is spoken of in the run
-pub spoken : (x : Sender) (q : ℕ) (z : Slot) → at (x.line x.session) q ≡ Some z → x.acked < q → at (lost_run x) (q - x.acked) ≡ Some (Tunnel x.session q (is_plain z))
+pub spoken : (x : Sender) (q : ℕ) (z : LinkSlot) → at (x.line x.session) q ≡ Some z → x.acked < q → at (lost_run x) (q - x.acked) ≡ Some (Tunnel x.session q (is_plain z))
 spoken x q z there live = in_run is_plain x.session x.acked (x.line x.session) q z there live
 
 -- what stands in the run
@@ -73,11 +73,11 @@ run_inner b s h may = record {
   ];
 }
   where
-    full_plain : (w : Slot) (q : ℕ) → at (s.near.line s.near.session) q ≡ Some w → true ≡ is_plain w → HoldsPlain s.near.line s.near.session q
+    full_plain : (w : LinkSlot) (q : ℕ) → at (s.near.line s.near.session) q ≡ Some w → true ≡ is_plain w → HoldsPlain s.near.line s.near.session q
     full_plain (Plain i) q there is = record { index = i; there = there }
     full_plain (Tunnel f place full) q there is = absurd (let wrong : ⊥ = cc in wrong)
 
-    placeholder_tunnel : (w : Slot) (q p : ℕ) → at (s.near.line s.near.session) q ≡ Some w → false ≡ is_plain w → s.near.acked < q → 1 ≤ p → HoldsTunnel s.near.line s.near.session q s.far.session (length (slots s.far) + p)
+    placeholder_tunnel : (w : LinkSlot) (q p : ℕ) → at (s.near.line s.near.session) q ≡ Some w → false ≡ is_plain w → s.near.acked < q → 1 ≤ p → HoldsTunnel s.near.line s.near.session q s.far.session (length (slots s.far) + p)
     placeholder_tunnel (Plain i) q p there is live some = absurd (let wrong : ⊥ = cc in wrong)
     placeholder_tunnel (Tunnel f place full) q p there is live some =
         let present : f ≡ s.far.session = (h.near.carrier.present may.1 q f place full (at_front (s.near.line s.near.session) s.near.waiting q (Tunnel f place full) there) live).0 in
@@ -86,7 +86,7 @@ run_inner b s h may = record {
         record { place = place; full = full; there = there ∙ ap (λ n. Some (Tunnel n place full)) present; earlier = omega arith }
 
 -- what the other link's front gets
-front_lost : (x y : Sender) (p : ℕ) (z : Slot) → plains y.waiting ≡ [] → at (lost_run x) p ≡ Some z → at (front (taking x y)) (length (slots y) + p) ≡ Some z
+front_lost : (x y : Sender) (p : ℕ) (z : LinkSlot) → plains y.waiting ≡ [] → at (lost_run x) p ≡ Some z → at (front (taking x y)) (length (slots y) + p) ≡ Some z
 front_lost x y p z none there =
     let ahead : leading (y.waiting ++ lost_slots x) ≡ y.waiting ++ (lost_run x ++ leading (plain_slots x.waiting)) =
     leading-none y.waiting (lost_slots x) none ∙ ap (λ zs. y.waiting ++ zs) (leading-none (lost_run x) (plain_slots x.waiting) (plains-run is_plain x.session x.acked (x.line x.session))) in
@@ -94,7 +94,7 @@ front_lost x y p z none there =
     append_assoc (y.line y.session) y.waiting (lost_run x ++ leading (plain_slots x.waiting)) ∙ ap (λ zs. y.line y.session ++ zs) (sym ahead) in
     ap (λ zs. at zs (length (slots y) + p)) (sym whole) ∙ at_back (slots y) (lost_run x ++ leading (plain_slots x.waiting)) p z (at_front (lost_run x) (leading (plain_slots x.waiting)) p z there)
 
-front_kept : (x y : Sender) (p : ℕ) (z : Slot) → at (front y) p ≡ Some z → at (front (taking x y)) p ≡ Some z
+front_kept : (x y : Sender) (p : ℕ) (z : LinkSlot) → at (front y) p ≡ Some z → at (front (taking x y)) p ≡ Some z
 front_kept x y p z there = elim (at_either (y.line y.session) (leading y.waiting) p z there) [
   | inl here ↦ at_front (y.line y.session) (leading (y.waiting ++ lost_slots x)) p z here
   | inr behind ↦ ap (λ n. at (front (taking x y)) n) behind.is ∙ at_back (y.line y.session) (leading (y.waiting ++ lost_slots x)) behind.place z (leading-more y.waiting (lost_slots x) behind.place z behind.there)

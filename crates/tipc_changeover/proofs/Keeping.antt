@@ -1,6 +1,6 @@
 -- What a change of the two senders' ends keeps that leaves the lines alone.
 use Rattle.std.proofs.Common.{◌≡◌, ◌≢◌, ℕ, ◌-◌, ◌≤◌, true, false, List, [], refl, sym, ap, ◌∙◌}
-use Rattle.tipc_changeover.specs.Slots.{counted, plains, Slot}
+use Rattle.tipc_changeover.specs.Slots.{counted, plains, LinkSlot}
 use Rattle.tipc_changeover.specs.Links.{leads, other, slots, Bearer, EndState, First, Held, Receiver, Reset, Second, Sender, State, Up}
 use Rattle.tipc_changeover.specs.Parts.{Carrier, Cover, Ends, InnerIn, Ready, RunsIn, TargetIn}
 use Rattle.tipc_changeover.specs.Sound.{Holds, Sound}
@@ -68,7 +68,7 @@ pub record Kept (b : Bearer) (x y : Sender) (r t : Receiver) (numbered put : ℕ
   pub carrier : Carrier b x y
   pub cover : Cover x y r
 
-abbrev pub over : (ℕ → List Slot) → ℕ → EndState → List Slot → ℕ → Sender
+abbrev pub over : (ℕ → List LinkSlot) → ℕ → EndState → List LinkSlot → ℕ → Sender
 over line session state waiting acked = record { session = session; state = state; line = line; waiting = waiting; acked = acked }
 
 kept : (b : Bearer) (x y x' y' : Sender) (r t : Receiver) (m n n' k : ℕ) → Holds b x y r t m n k → Kept b (over x.line x'.session x'.state x'.waiting x'.acked) (over y.line y'.session y'.state y'.waiting y'.acked) r t m n' →

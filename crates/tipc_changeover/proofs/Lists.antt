@@ -1,20 +1,20 @@
 -- Lists of slots and their places.
 use Rattle.std.proofs.Common.{◌≡◌, ◌⊎◌, ℕ, zero, suc, ◌+◌, ◌≤◌, Bool, List, [], ◌∷◌, ◌++◌, Some, length, map, drop, refl, sym, ap, inl, inr, arith}
-use Rattle.tipc_changeover.specs.Slots.{at, leading, plains, Plain, Slot, Tunnel}
+use Rattle.tipc_changeover.specs.Slots.{at, leading, plains, Plain, LinkSlot, Tunnel}
 
 pub some_same : {A : Type 0} {a b : A} → Some a ≡ Some b → a ≡ b
 some_same e = cc
 
 -- ---- places
 
-pub at_within : (zs : List Slot) (p : ℕ) (z : Slot) → at zs p ≡ Some z → (1 ≤ p) × (p ≤ length zs)
+pub at_within : (zs : List LinkSlot) (p : ℕ) (z : LinkSlot) → at zs p ≡ Some z → (1 ≤ p) × (p ≤ length zs)
 unfolding at
 at_within [] p z e = absurd (let wrong : ⊥ = cc in wrong)
 at_within (w ∷ zs) zero z e = absurd (let wrong : ⊥ = cc in wrong)
 at_within (w ∷ zs) (suc zero) z e = omega arith
 at_within (w ∷ zs) (suc (suc p)) z e = let more = at_within zs (suc p) z e in omega arith
 
-pub at_there : (zs : List Slot) (p : ℕ) → 1 ≤ p → p ≤ length zs → (z : Slot) × (at zs p ≡ Some z)
+pub at_there : (zs : List LinkSlot) (p : ℕ) → 1 ≤ p → p ≤ length zs → (z : LinkSlot) × (at zs p ≡ Some z)
 unfolding at
 at_there [] p low high = absurd (let wrong : ⊥ = omega arith in wrong)
 at_there (w ∷ zs) zero low high = absurd (let wrong : ⊥ = omega arith in wrong)
@@ -22,7 +22,7 @@ at_there (w ∷ zs) (suc zero) low high = (w, refl)
 at_there (w ∷ zs) (suc (suc p)) low high = at_there zs (suc p) (omega arith) (omega arith)
 
 -- what stands in a front stands in the whole
-pub at_front : (zs ws : List Slot) (p : ℕ) (z : Slot) → at zs p ≡ Some z → at (zs ++ ws) p ≡ Some z
+pub at_front : (zs ws : List LinkSlot) (p : ℕ) (z : LinkSlot) → at zs p ≡ Some z → at (zs ++ ws) p ≡ Some z
 unfolding at
 at_front [] ws p z e = absurd (let wrong : ⊥ = cc in wrong)
 at_front (w ∷ zs) ws zero z e = absurd (let wrong : ⊥ = cc in wrong)
@@ -30,7 +30,7 @@ at_front (w ∷ zs) ws (suc zero) z e = e
 at_front (w ∷ zs) ws (suc (suc p)) z e = at_front zs ws (suc p) z e
 
 -- what stands behind
-pub at_back : (zs ws : List Slot) (p : ℕ) (z : Slot) → at ws p ≡ Some z → at (zs ++ ws) (length zs + p) ≡ Some z
+pub at_back : (zs ws : List LinkSlot) (p : ℕ) (z : LinkSlot) → at ws p ≡ Some z → at (zs ++ ws) (length zs + p) ≡ Some z
 unfolding at
 at_back [] ws p z e = let same : 0 + p ≡ p = omega arith in rw same e
 at_back (w ∷ zs) ws zero z e = let low = at_within ws zero z e in absurd (let wrong : ⊥ = omega arith in wrong)
@@ -41,12 +41,12 @@ at_back (w ∷ zs) ws (suc p) z e =
     rw same (rw moved at inner)
 
 -- a place of two lists is one of either
-pub record Behind (zs ws : List Slot) (p : ℕ) (z : Slot) : Type 0 where
+pub record Behind (zs ws : List LinkSlot) (p : ℕ) (z : LinkSlot) : Type 0 where
   pub place : ℕ
   pub there : at ws place ≡ Some z
   pub is : p ≡ length zs + place
 
-pub at_either : (zs ws : List Slot) (p : ℕ) (z : Slot) → at (zs ++ ws) p ≡ Some z → (at zs p ≡ Some z) ⊎ Behind zs ws p z
+pub at_either : (zs ws : List LinkSlot) (p : ℕ) (z : LinkSlot) → at (zs ++ ws) p ≡ Some z → (at zs p ≡ Some z) ⊎ Behind zs ws p z
 unfolding at
 at_either [] ws p z e = inr (record { place = p; there = e; is = omega arith })
 at_either (w ∷ zs) ws zero z e = absurd (let wrong : ⊥ = cc in wrong)
@@ -57,22 +57,22 @@ at_either (w ∷ zs) ws (suc (suc p)) z e = elim (at_either zs ws (suc p) z e) [
 ]
 
 -- one slot is at place 1
-pub at_one : (z : Slot) → at (z ∷ []) 1 ≡ Some z
+pub at_one : (z : LinkSlot) → at (z ∷ []) 1 ≡ Some z
 unfolding at
 at_one z = refl
 
-pub at_only : (w : Slot) (p : ℕ) (z : Slot) → at (w ∷ []) p ≡ Some z → (p ≡ 1) × (z ≡ w)
+pub at_only : (w : LinkSlot) (p : ℕ) (z : LinkSlot) → at (w ∷ []) p ≡ Some z → (p ≡ 1) × (z ≡ w)
 unfolding at
 at_only w zero z e = absurd (let wrong : ⊥ = cc in wrong)
 at_only w (suc zero) z e = (refl, some_same (sym e))
 at_only w (suc (suc p)) z e = absurd (let wrong : ⊥ = cc in wrong)
 
-pub at_none : (p : ℕ) (z : Slot) → at [] p ≡ Some z → ⊥
+pub at_none : (p : ℕ) (z : LinkSlot) → at [] p ≡ Some z → ⊥
 unfolding at
 at_none p z e = cc
 
 -- what stands behind so many slots
-pub at_dropped : (n : ℕ) (zs : List Slot) (p : ℕ) (z : Slot) → at (drop n zs) p ≡ Some z → at zs (n + p) ≡ Some z
+pub at_dropped : (n : ℕ) (zs : List LinkSlot) (p : ℕ) (z : LinkSlot) → at (drop n zs) p ≡ Some z → at zs (n + p) ≡ Some z
 unfolding at
 at_dropped zero zs p z e = let same : 0 + p ≡ p = omega arith in rw same e
 at_dropped (suc n) [] p z e = absurd (let wrong : ⊥ = at_none p z e in wrong)
@@ -83,7 +83,7 @@ at_dropped (suc n) (w ∷ zs) (suc p) z e =
     let same : suc n + suc p ≡ suc (suc (n + p)) = omega arith in
     rw same (rw moved at inner)
 
-pub at_drop : (n : ℕ) (zs : List Slot) (p : ℕ) (z : Slot) → at zs (n + p) ≡ Some z → 1 ≤ p → at (drop n zs) p ≡ Some z
+pub at_drop : (n : ℕ) (zs : List LinkSlot) (p : ℕ) (z : LinkSlot) → at zs (n + p) ≡ Some z → 1 ≤ p → at (drop n zs) p ≡ Some z
 unfolding at
 at_drop zero zs p z e low = let same : 0 + p ≡ p = omega arith in rw same at e
 at_drop (suc n) [] p z e low = e
@@ -96,7 +96,7 @@ at_drop (suc n) (w ∷ zs) (suc p) z e low =
 
 -- ---- plain packets
 
-pub plains-append : (zs ws : List Slot) → plains (zs ++ ws) ≡ plains zs ++ plains ws
+pub plains-append : (zs ws : List LinkSlot) → plains (zs ++ ws) ≡ plains zs ++ plains ws
 unfolding plains
 plains-append [] ws = refl
 plains-append (Plain i ∷ zs) ws = ap (λ rest. i ∷ rest) (plains-append zs ws)
@@ -110,11 +110,11 @@ pub plains_of_plain : (i : ℕ) → plains (Plain i ∷ []) ≡ i ∷ []
 unfolding plains
 plains_of_plain i = refl
 
-pub plains-plain : (i : ℕ) (zs : List Slot) → plains (Plain i ∷ zs) ≡ i ∷ plains zs
+pub plains-plain : (i : ℕ) (zs : List LinkSlot) → plains (Plain i ∷ zs) ≡ i ∷ plains zs
 unfolding plains
 plains-plain i zs = refl
 
-pub plains-tunnel : (f q : ℕ) (full : Bool) (zs : List Slot) → plains (Tunnel f q full ∷ zs) ≡ plains zs
+pub plains-tunnel : (f q : ℕ) (full : Bool) (zs : List LinkSlot) → plains (Tunnel f q full ∷ zs) ≡ plains zs
 unfolding plains
 plains-tunnel f q full zs = refl
 
@@ -131,7 +131,7 @@ plain_slots-plain (i ∷ is) (suc zero) f q full e = cc
 plain_slots-plain (i ∷ is) (suc (suc p)) f q full e = plain_slots-plain is (suc p) f q full e
 
 -- a list with no plain packets has none at any place
-pub plains-none : (zs : List Slot) (p i : ℕ) → plains zs ≡ [] → at zs p ≡ Some (Plain i) → ⊥
+pub plains-none : (zs : List LinkSlot) (p i : ℕ) → plains zs ≡ [] → at zs p ≡ Some (Plain i) → ⊥
 unfolding at plains
 plains-none [] p i none e = cc
 plains-none (Plain j ∷ zs) p i none e = cc
@@ -141,13 +141,13 @@ plains-none (Tunnel f q full ∷ zs) (suc (suc p)) i none e = plains-none zs (su
 
 -- ---- what leads
 
-pub leading-plain : (zs : List Slot) (i : ℕ) → leading (zs ++ Plain i ∷ []) ≡ leading zs
+pub leading-plain : (zs : List LinkSlot) (i : ℕ) → leading (zs ++ Plain i ∷ []) ≡ leading zs
 unfolding leading
 leading-plain [] i = refl
 leading-plain (Plain j ∷ zs) i = refl
 leading-plain (Tunnel f q full ∷ zs) i = ap (λ rest. Tunnel f q full ∷ rest) (leading-plain zs i)
 
-pub leading-more : (zs ws : List Slot) (p : ℕ) (z : Slot) → at (leading zs) p ≡ Some z → at (leading (zs ++ ws)) p ≡ Some z
+pub leading-more : (zs ws : List LinkSlot) (p : ℕ) (z : LinkSlot) → at (leading zs) p ≡ Some z → at (leading (zs ++ ws)) p ≡ Some z
 unfolding leading at
 leading-more [] ws p z e = absurd (let wrong : ⊥ = cc in wrong)
 leading-more (Plain j ∷ zs) ws p z e = absurd (let wrong : ⊥ = cc in wrong)
@@ -156,16 +156,16 @@ leading-more (Tunnel f q full ∷ zs) ws (suc zero) z e = e
 leading-more (Tunnel f q full ∷ zs) ws (suc (suc p)) z e = leading-more zs ws (suc p) z e
 
 -- a list with no plain packets leads whole
-pub leading-none : (zs ws : List Slot) → plains zs ≡ [] → leading (zs ++ ws) ≡ zs ++ leading ws
+pub leading-none : (zs ws : List LinkSlot) → plains zs ≡ [] → leading (zs ++ ws) ≡ zs ++ leading ws
 unfolding leading plains
 leading-none [] ws none = refl
 leading-none (Plain j ∷ zs) ws none = absurd (let wrong : ⊥ = cc in wrong)
 leading-none (Tunnel f q full ∷ zs) ws none = ap (λ rest. Tunnel f q full ∷ rest) (leading-none zs ws none)
 
-pub leading-tunnel : (f q : ℕ) (full : Bool) (zs : List Slot) → leading (Tunnel f q full ∷ zs) ≡ Tunnel f q full ∷ leading zs
+pub leading-tunnel : (f q : ℕ) (full : Bool) (zs : List LinkSlot) → leading (Tunnel f q full ∷ zs) ≡ Tunnel f q full ∷ leading zs
 unfolding leading
 leading-tunnel f q full zs = refl
 
-pub leading-plain_first : (i : ℕ) (zs : List Slot) → leading (Plain i ∷ zs) ≡ []
+pub leading-plain_first : (i : ℕ) (zs : List LinkSlot) → leading (Plain i ∷ zs) ≡ []
 unfolding leading
 leading-plain_first i zs = refl

@@ -3,7 +3,7 @@ use Rattle.std.proofs.Common.{◌≡◌, ◌≢◌, ◌⊎◌, ℕ, ◌+◌, ◌
 use Rattle.std.proofs.lemmas.Bool.{cases_Bool, cases_eq, cases_lt, true≢false}
 use Rattle.std.proofs.lemmas.Bool.Decides.{nat_tests}
 use Rattle.std.proofs.lemmas.List.{append-nil, length_push}
-use Rattle.tipc_changeover.specs.Slots.{at, counted, leading, plains, Plain, Slot, Tunnel}
+use Rattle.tipc_changeover.specs.Slots.{at, counted, leading, plains, Plain, LinkSlot, Tunnel}
 use Rattle.tipc_changeover.specs.Links.{front, leads, other, slots, Bearer, Past, Receiver, Sender, State, Up}
 use Rattle.tipc_changeover.specs.Events.{acted, extended, plain_count, with_number, MayAct, Number}
 use Rattle.tipc_changeover.specs.Parts.{Barrier, Carrier, Cover, Delivered, Effect, Ends, Homes, Inner, InnerIn, IsTarget, Order, Ready, Runs, RunsIn, Target, TargetIn}
@@ -15,21 +15,21 @@ use Rattle.tipc_changeover.proofs.Keeping.{leads_one}
 
 -- ---- a longer line
 
-pub same_session : (line : ℕ → List Slot) (e : ℕ) (z : Slot) → extended line e z e ≡ line e ++ z ∷ []
+pub same_session : (line : ℕ → List LinkSlot) (e : ℕ) (z : LinkSlot) → extended line e z e ≡ line e ++ z ∷ []
 unfolding extended
 same_session line e z = let test : (e == e) ≡ true = grind (arith, nat_tests) in rw test refl
 
-pub other_session : (line : ℕ → List Slot) (e : ℕ) (z : Slot) (f : ℕ) → f ≢ e → extended line e z f ≡ line f
+pub other_session : (line : ℕ → List LinkSlot) (e : ℕ) (z : LinkSlot) (f : ℕ) → f ≢ e → extended line e z f ≡ line f
 unfolding extended
 other_session line e z f differ = let test : (f == e) ≡ false = grind (arith, nat_tests, differ) in rw test refl
 
 -- what stands in it stood in it before, or is new
-record IsNew (line : ℕ → List Slot) (e : ℕ) (z : Slot) (f p : ℕ) (w : Slot) : Type 0 where
+record IsNew (line : ℕ → List LinkSlot) (e : ℕ) (z : LinkSlot) (f p : ℕ) (w : LinkSlot) : Type 0 where
   session : f ≡ e
   place : p ≡ length (line e) + 1
   slot : w ≡ z
 
-old_or_new : (line : ℕ → List Slot) (e : ℕ) (z : Slot) (f p : ℕ) (w : Slot) → at (extended line e z f) p ≡ Some w → (at (line f) p ≡ Some w) ⊎ IsNew line e z f p w
+old_or_new : (line : ℕ → List LinkSlot) (e : ℕ) (z : LinkSlot) (f p : ℕ) (w : LinkSlot) → at (extended line e z f) p ≡ Some w → (at (line f) p ≡ Some w) ⊎ IsNew line e z f p w
 old_or_new line e z f p w there = elim (cases_eq f e) [
   | inl same ↦ (
       let there' : at (line e ++ z ∷ []) p ≡ Some w = ap (λ zs. at zs p) (sym (same_session line e z)) ∙ (ap (λ n. at (extended line e z n) p) (sym same) ∙ there) in
@@ -44,7 +44,7 @@ old_or_new line e z f p w there = elim (cases_eq f e) [
   | inr differ ↦ inl (ap (λ zs. at zs p) (sym (other_session line e z f differ)) ∙ there)
 ]
 
-still : (line : ℕ → List Slot) (e : ℕ) (z : Slot) (f p : ℕ) (w : Slot) → at (line f) p ≡ Some w → at (extended line e z f) p ≡ Some w
+still : (line : ℕ → List LinkSlot) (e : ℕ) (z : LinkSlot) (f p : ℕ) (w : LinkSlot) → at (line f) p ≡ Some w → at (extended line e z f) p ≡ Some w
 still line e z f p w there = elim (cases_eq f e) [
   | inl same ↦ (
       let there' : at (line e) p ≡ Some w = ap (λ n. at (line n) p) (sym same) ∙ there in
@@ -52,10 +52,10 @@ still line e z f p w there = elim (cases_eq f e) [
   | inr differ ↦ ap (λ zs. at zs p) (other_session line e z f differ) ∙ there
 ]
 
-new_there : (line : ℕ → List Slot) (e : ℕ) (z : Slot) → at (extended line e z e) (length (line e) + 1) ≡ Some z
+new_there : (line : ℕ → List LinkSlot) (e : ℕ) (z : LinkSlot) → at (extended line e z e) (length (line e) + 1) ≡ Some z
 new_there line e z = ap (λ zs. at zs (length (line e) + 1)) (same_session line e z) ∙ at_back (line e) (z ∷ []) 1 z (at_one z)
 
-no_shorter : (line : ℕ → List Slot) (e : ℕ) (z : Slot) (f : ℕ) → length (line f) ≤ length (extended line e z f)
+no_shorter : (line : ℕ → List LinkSlot) (e : ℕ) (z : LinkSlot) (f : ℕ) → length (line f) ≤ length (extended line e z f)
 no_shorter line e z f = elim (cases_eq f e) [
   | inl same ↦ (
       let longer : length (extended line e z e) ≡ length (line e) + 1 = ap length (same_session line e z) ∙ length_push (line e) z in
@@ -64,13 +64,13 @@ no_shorter line e z f = elim (cases_eq f e) [
 ]
 
 -- the slots that have a number and those that wait are the same, taken together
-pub same_slots : (x : Sender) (z : Slot) (rest : List Slot) → x.waiting ≡ z ∷ rest → slots (with_number x z rest) ≡ slots x
+pub same_slots : (x : Sender) (z : LinkSlot) (rest : List LinkSlot) → x.waiting ≡ z ∷ rest → slots (with_number x z rest) ≡ slots x
 same_slots x z rest waits = ap (λ zs. zs ++ rest) (same_session x.line x.session z) ∙ (append_assoc (x.line x.session) (z ∷ []) rest ∙ ap (λ zs. x.line x.session ++ zs) (sym waits))
 
 -- ---- what the new slot is
 
 -- a plain packet is the next to be numbered, and no tunnel packet waits before it
-record IsNumbered (b : Bearer) (x y : Sender) (z : Slot) (rest : List Slot) (m n m' : ℕ) : Type 0 where
+record IsNumbered (b : Bearer) (x y : Sender) (z : LinkSlot) (rest : List LinkSlot) (m n m' : ℕ) : Type 0 where
   grows : m ≤ m'
   fits : m' ≤ n
   number : (i : ℕ) → z ≡ Plain i → (i ≡ m + 1) × (m' ≡ m + 1)
@@ -82,7 +82,7 @@ record IsNumbered (b : Bearer) (x y : Sender) (z : Slot) (rest : List Slot) (m n
   other_waits : leads (other b) y.state x.state ≡ true → m' ≡ m
   more : (i : ℕ) → i ≤ m' → m < i → z ≡ Plain i
 
-number_is : (b : Bearer) (x y : Sender) (z : Slot) (rest : List Slot) (m n : ℕ) → Homes b x y m n → x.waiting ≡ z ∷ rest → m ≤ n → IsNumbered b x y z rest m n (m + plain_count z)
+number_is : (b : Bearer) (x y : Sender) (z : LinkSlot) (rest : List LinkSlot) (m n : ℕ) → Homes b x y m n → x.waiting ≡ z ∷ rest → m ≤ n → IsNumbered b x y z rest m n (m + plain_count z)
 number_is b x y (Plain j) rest m n h waits fits =
     let has_flow : leads b x.state y.state ≡ true = elim (cases_Bool (leads b x.state y.state)) [
       | inl is ↦ is
@@ -138,10 +138,10 @@ new_not_past x r h (inr here) =
     omega arith
 
 -- what is past of the longer line was past before
-past_at_new : (x : Sender) (r : Receiver) (z : Slot) (f p : ℕ) (w : Slot) → Ends x r → IsNew x.line x.session z f p w → Past r f p → ⊥
+past_at_new : (x : Sender) (r : Receiver) (z : LinkSlot) (f p : ℕ) (w : LinkSlot) → Ends x r → IsNew x.line x.session z f p w → Past r f p → ⊥
 past_at_new x r z f p w h new past = new_not_past x r h (subst (λ e. Past r e (length (x.line x.session) + 1)) new.session (subst (λ q. Past r f q) new.place past))
 
-number_ends : (x : Sender) (r : Receiver) (z : Slot) (rest : List Slot) → Ends x r → x.state ≡ Up → Ends (with_number x z rest) r
+number_ends : (x : Sender) (r : Receiver) (z : LinkSlot) (rest : List LinkSlot) → Ends x r → x.state ≡ Up → Ends (with_number x z rest) r
 number_ends x r z rest h up = record {
   session_begun = h.session_begun;
   record_shown = h.record_shown;
@@ -153,7 +153,7 @@ number_ends x r z rest h up = record {
   acked_past = h.acked_past;
 }
 
-number_homes : (b : Bearer) (x y : Sender) (z : Slot) (rest : List Slot) (m n m' : ℕ) → Homes b x y m n → Homes (other b) y x m n → IsNumbered b x y z rest m n m' → Homes b (with_number x z rest) y m' n
+number_homes : (b : Bearer) (x y : Sender) (z : LinkSlot) (rest : List LinkSlot) (m n m' : ℕ) → Homes b x y m n → Homes (other b) y x m n → IsNumbered b x y z rest m n m' → Homes b (with_number x z rest) y m' n
 number_homes b x y z rest m n m' h other_h new = record {
   within = λ e p i there. elim (old_or_new x.line x.session z e p (Plain i) there) [
     | inl old ↦ (let w = h.within e p i old in let low = w.0 in let high = w.1 in let grows = new.grows in (omega arith, omega arith))
@@ -177,7 +177,7 @@ number_homes b x y z rest m n m' h other_h new = record {
   none_waits = new.none_waits;
 }
 
-number_order : (b : Bearer) (x y : Sender) (z : Slot) (rest : List Slot) (m n m' : ℕ) → Homes b x y m n → Order x.line → IsNumbered b x y z rest m n m' → Order (extended x.line x.session z)
+number_order : (b : Bearer) (x y : Sender) (z : LinkSlot) (rest : List LinkSlot) (m n m' : ℕ) → Homes b x y m n → Order x.line → IsNumbered b x y z rest m n m' → Order (extended x.line x.session z)
 number_order b x y z rest m n m' h order new = record {
   rise = λ e p q i j here there less. elim (old_or_new x.line x.session z e p (Plain i) here) [
     | inl old ↦ elim (old_or_new x.line x.session z e q (Plain j) there) [
@@ -194,7 +194,7 @@ number_order b x y z rest m n m' h order new = record {
   ];
 }
 
-number_barrier : (b : Bearer) (x y : Sender) (r t : Receiver) (z : Slot) (rest : List Slot) (m n m' k : ℕ) → Holds b x y r t m n k → IsNumbered b x y z rest m n m' → Barrier (extended x.line x.session z) y.line r t
+number_barrier : (b : Bearer) (x y : Sender) (r t : Receiver) (z : LinkSlot) (rest : List LinkSlot) (m n m' k : ℕ) → Holds b x y r t m n k → IsNumbered b x y z rest m n m' → Barrier (extended x.line x.session z) y.line r t
 number_barrier b x y r t z rest m n m' k h new = record {
   same_link = λ e p f q i j here there less differ. elim (old_or_new x.line x.session z f q (Plain i) there) [
     | inl old ↦ elim (old_or_new x.line x.session z e p (Plain j) here) [
@@ -227,7 +227,7 @@ number_barrier b x y r t z rest m n m' k h new = record {
   ];
 }
 
-number_ready : (b : Bearer) (x y : Sender) (r t : Receiver) (z : Slot) (rest : List Slot) (m n m' k : ℕ) → Holds b x y r t m n k → IsNumbered b x y z rest m n m' → Ready b (with_number x z rest) y r t
+number_ready : (b : Bearer) (x y : Sender) (r t : Receiver) (z : LinkSlot) (rest : List LinkSlot) (m n m' k : ℕ) → Holds b x y r t m n k → IsNumbered b x y z rest m n m' → Ready b (with_number x z rest) y r t
 number_ready b x y r t z rest m n m' k h new = record {
   same_link = λ leading f q i there differ. elim (old_or_new x.line x.session z f q (Plain i) there) [
     | inl old ↦ h.ready.same_link leading f q i old differ
@@ -239,7 +239,7 @@ number_ready b x y r t z rest m n m' k h new = record {
   ];
 }
 
-number_runs : (x : Sender) (t : Receiver) (z : Slot) (rest : List Slot) → Runs x t → x.waiting ≡ z ∷ rest → Runs (with_number x z rest) t
+number_runs : (x : Sender) (t : Receiver) (z : LinkSlot) (rest : List LinkSlot) → Runs x t → x.waiting ≡ z ∷ rest → Runs (with_number x z rest) t
 number_runs x t z rest h waits = record {
   lines = λ e. elim (cases_eq e x.session) [
     | inl same ↦ subst (λ n. RunsIn (extended x.line x.session z n) t) (sym same) (runs_front (extended x.line x.session z x.session) rest t (subst (λ zs. RunsIn zs t) (sym (same_slots x z rest waits)) h.now))
@@ -248,7 +248,7 @@ number_runs x t z rest h waits = record {
   now = subst (λ zs. RunsIn zs t) (sym (same_slots x z rest waits)) h.now;
 }
 
-number_target : (x y : Sender) (z : Slot) (rest : List Slot) → Target x y → x.waiting ≡ z ∷ rest → Target (with_number x z rest) y
+number_target : (x y : Sender) (z : LinkSlot) (rest : List LinkSlot) → Target x y → x.waiting ≡ z ∷ rest → Target (with_number x z rest) y
 number_target x y z rest h waits = record {
   lines = λ e. elim (cases_eq e x.session) [
     | inl same ↦ subst (λ n. TargetIn (extended x.line x.session z n) y) (sym same) (target_front (extended x.line x.session z x.session) rest y (subst (λ zs. TargetIn zs y) (sym (same_slots x z rest waits)) h.now))
@@ -257,7 +257,7 @@ number_target x y z rest h waits = record {
   now = subst (λ zs. TargetIn zs y) (sym (same_slots x z rest waits)) h.now;
 }
 
-number_inner : (x : Sender) (line : ℕ → List Slot) (z : Slot) (rest : List Slot) → Inner x line → x.waiting ≡ z ∷ rest → Inner (with_number x z rest) line
+number_inner : (x : Sender) (line : ℕ → List LinkSlot) (z : LinkSlot) (rest : List LinkSlot) → Inner x line → x.waiting ≡ z ∷ rest → Inner (with_number x z rest) line
 number_inner x line z rest h waits = record {
   lines = λ e. elim (cases_eq e x.session) [
     | inl same ↦ subst (λ n. InnerIn (extended x.line x.session z n) n line) (sym same) (inner_front (extended x.line x.session z x.session) rest x.session line (subst (λ zs. InnerIn zs x.session line) (sym (same_slots x z rest waits)) h.now))
@@ -266,7 +266,7 @@ number_inner x line z rest h waits = record {
   now = subst (λ zs. InnerIn zs x.session line) (sym (same_slots x z rest waits)) h.now;
 }
 
-number_effect : (x : Sender) (r t : Receiver) (z : Slot) → Ends x r → Effect x.line r t → Effect (extended x.line x.session z) r t
+number_effect : (x : Sender) (r t : Receiver) (z : LinkSlot) → Ends x r → Effect x.line r t → Effect (extended x.line x.session z) r t
 number_effect x r t z ends h = record {
   done = λ e p f q full there low past. elim (old_or_new x.line x.session z e p (Tunnel f q full) there) [
     | inl old ↦ h.done e p f q full old low past
@@ -274,18 +274,18 @@ number_effect x r t z ends h = record {
   ];
 }
 
-number_carrier : (b : Bearer) (x y : Sender) (z : Slot) (rest : List Slot) → Carrier b x y → x.waiting ≡ z ∷ rest → Carrier b (with_number x z rest) y
+number_carrier : (b : Bearer) (x y : Sender) (z : LinkSlot) (rest : List LinkSlot) → Carrier b x y → x.waiting ≡ z ∷ rest → Carrier b (with_number x z rest) y
 number_carrier b x y z rest h waits = record {
   none = λ reset p f q full there. h.none reset p f q full (ap (λ zs. at zs p) (sym (same_slots x z rest waits)) ∙ there);
   present = λ up p f q full there live. h.present up p f q full (ap (λ zs. at zs p) (sym (same_slots x z rest waits)) ∙ there) live;
 }
 
-number_cover : (x y : Sender) (r : Receiver) (z : Slot) (rest : List Slot) → Cover x y r → Cover (with_number x z rest) y r
+number_cover : (x y : Sender) (r : Receiver) (z : LinkSlot) (rest : List LinkSlot) → Cover x y r → Cover (with_number x z rest) y r
 number_cover x y r z rest h = record {
   covered = λ e q ended low high. h.covered e q ended low (subst (λ zs. q ≤ length zs) (other_session x.line x.session z e (λ same. omega arith)) high);
 }
 
-number_delivered : (b : Bearer) (x y : Sender) (r : Receiver) (z : Slot) (rest : List Slot) (m n m' k : ℕ) → Ends x r → Delivered x.line r k → k ≤ m → IsNumbered b x y z rest m n m' → Delivered (extended x.line x.session z) r k
+number_delivered : (b : Bearer) (x y : Sender) (r : Receiver) (z : LinkSlot) (rest : List LinkSlot) (m n m' k : ℕ) → Ends x r → Delivered x.line r k → k ≤ m → IsNumbered b x y z rest m n m' → Delivered (extended x.line x.session z) r k
 number_delivered b x y r z rest m n m' k ends h within new = record {
   all = λ e p i there low. elim (old_or_new x.line x.session z e p (Plain i) there) [
     | inl old ↦ h.all e p i old low
@@ -299,7 +299,7 @@ number_delivered b x y r z rest m n m' k ends h within new = record {
 
 -- of the other link
 
-other_homes : (b : Bearer) (x y : Sender) (z : Slot) (rest : List Slot) (m n m' : ℕ) → Homes (other b) y x m n → IsNumbered b x y z rest m n m' → Homes (other b) y (with_number x z rest) m' n
+other_homes : (b : Bearer) (x y : Sender) (z : LinkSlot) (rest : List LinkSlot) (m n m' : ℕ) → Homes (other b) y x m n → IsNumbered b x y z rest m n m' → Homes (other b) y (with_number x z rest) m' n
 other_homes b x y z rest m n m' h new = record {
   within = λ e p i there. (let w = h.within e p i there in let low = w.0 in let high = w.1 in let grows = new.grows in (omega arith, omega arith));
   once = h.once;
@@ -311,7 +311,7 @@ other_homes b x y z rest m n m' h new = record {
   none_waits = h.none_waits;
 }
 
-other_barrier : (b : Bearer) (x y : Sender) (r t : Receiver) (z : Slot) (rest : List Slot) (m n m' k : ℕ) → Holds (other b) y x t r m n k → IsNumbered b x y z rest m n m' → Barrier y.line (extended x.line x.session z) t r
+other_barrier : (b : Bearer) (x y : Sender) (r t : Receiver) (z : LinkSlot) (rest : List LinkSlot) (m n m' k : ℕ) → Holds (other b) y x t r m n k → IsNumbered b x y z rest m n m' → Barrier y.line (extended x.line x.session z) t r
 other_barrier b x y r t z rest m n m' k h new = record {
   same_link = h.barrier.same_link;
   other_link = λ e p f q i j here there less. elim (old_or_new x.line x.session z f q (Plain i) there) [
@@ -320,7 +320,7 @@ other_barrier b x y r t z rest m n m' k h new = record {
   ];
 }
 
-other_ready : (b : Bearer) (x y : Sender) (r t : Receiver) (z : Slot) (rest : List Slot) (m n m' : ℕ) → Ready (other b) y x t r → IsNumbered b x y z rest m n m' → Ready (other b) y (with_number x z rest) t r
+other_ready : (b : Bearer) (x y : Sender) (r t : Receiver) (z : LinkSlot) (rest : List LinkSlot) (m n m' : ℕ) → Ready (other b) y x t r → IsNumbered b x y z rest m n m' → Ready (other b) y (with_number x z rest) t r
 other_ready b x y r t z rest m n m' h new = record {
   same_link = h.same_link;
   other_link = λ leading f q i there. elim (old_or_new x.line x.session z f q (Plain i) there) [
@@ -329,10 +329,10 @@ other_ready b x y r t z rest m n m' h new = record {
   ];
 }
 
-still_target : (x : Sender) (z : Slot) (rest : List Slot) (f q : ℕ) → IsTarget x f q → IsTarget (with_number x z rest) f q
+still_target : (x : Sender) (z : LinkSlot) (rest : List LinkSlot) (f q : ℕ) → IsTarget x f q → IsTarget (with_number x z rest) f q
 still_target x z rest f q w = record { begun = w.begun; shown = w.shown; up = w.up; numbered = (let old = w.numbered in let longer = no_shorter x.line x.session z f in omega arith) }
 
-still_inner : (zs : List Slot) (e : ℕ) (x : Sender) (z : Slot) → InnerIn zs e x.line → InnerIn zs e (extended x.line x.session z)
+still_inner : (zs : List LinkSlot) (e : ℕ) (x : Sender) (z : LinkSlot) → InnerIn zs e x.line → InnerIn zs e (extended x.line x.session z)
 still_inner zs e x z h = record {
   full = λ p f q there low. (let w = h.full p f q there low in record { index = w.index; there = still x.line x.session z f q (Plain w.index) w.there });
   placeholder = λ p f q there. (let w = h.placeholder p f q there in (w.0, record { place = w.1.place; full = w.1.full; there = still x.line x.session z f q (Tunnel e w.1.place w.1.full) w.1.there; earlier = w.1.earlier }));
@@ -340,7 +340,7 @@ still_inner zs e x z h = record {
 
 -- ---- the event
 
-pub number : (b : Bearer) (s : State) (z : Slot) (rest : List Slot) → Sound b s → MayAct b s (Number z rest) → Sound b (acted s (Number z rest))
+pub number : (b : Bearer) (s : State) (z : LinkSlot) (rest : List LinkSlot) → Sound b s → MayAct b s (Number z rest) → Sound b (acted s (Number z rest))
 number b s z rest h may =
     let x = s.near in
     let y = s.far in
@@ -358,7 +358,7 @@ number b s z rest h may =
       within = (let old = h.within in let grows = new.grows in omega arith);
       numbers = new.fits;
       found = λ i low high. elim (cases_lt m i) [
-        | inl more ↦ inl (record { session = x.session; place = length (x.line x.session) + 1; there = new_there x.line x.session z ∙ ap (λ (w : Slot). Some w) (new.more i high more) })
+        | inl more ↦ inl (record { session = x.session; place = length (x.line x.session) + 1; there = new_there x.line x.session z ∙ ap (λ (w : LinkSlot). Some w) (new.more i high more) })
         | inr old ↦ elim (h.found i low old) [
           | inl near ↦ inl (record { session = near.session; place = near.place; there = still x.line x.session z near.session near.place (Plain i) near.there })
           | inr far ↦ inr far

@@ -1,9 +1,9 @@
 -- Places stay near to one another, and what that gives of the numbers that frames and tunnel packets carry.
 use Rattle.std.proofs.Common.{◌≡◌, ℕ, ◌+◌, ◌<◌, ◌≤◌, Bool, false, Some, length, ap, ◌∙◌, subst, inl, inr, arith}
 use Rattle.std.proofs.lemmas.Bool.{cases_eq, cases_lt}
-use Rattle.tipc_changeover.specs.Slots.{at, Slot, Tunnel}
-use Rattle.tipc_changeover.specs.Links.{seen, slots, turned, Bearer, First, Past, Receiver, Second, State}
-use Rattle.tipc_changeover.specs.Events.{acted, happened, told, window, Acknowledge, Event, Failover, IsNext, LinkUp, MayAct, Number, Put, Record, Release, Switch, TakePlain, TakeTunnel}
+use Rattle.tipc_changeover.specs.Slots.{at, LinkSlot, Tunnel}
+use Rattle.tipc_changeover.specs.Links.{seen, slots, turned_state, Bearer, First, Past, Receiver, Second, State}
+use Rattle.tipc_changeover.specs.Events.{acted, happened, session_told, window, Acknowledge, Event, Failover, IsNext, LinkUp, MayAct, Number, Put, Record, Release, Switch, TakePlain, TakeTunnel}
 use Rattle.tipc_changeover.specs.Sound.{Sound}
 use Rattle.tipc_changeover.specs.Distances.{Bounded, Bounds}
 use Rattle.tipc_changeover.specs.Reached.{after, at_begin, begun, no_record, unused, IsReached}
@@ -43,7 +43,7 @@ acts_bounded b s LinkUp h w may = link_up_bounded b s h w may
 acts_bounded b s Switch h w may = switch_bounded b s h w may
 acts_bounded b s Failover h w may = failover_bounded b s h w may
 
-turn_bounded : (s : State) → Bounded s → Bounded (turned s)
+turn_bounded : (s : State) → Bounded s → Bounded (turned_state s)
 turn_bounded s w = record { near = w.far; far = w.near }
 
 pub seen_bounded : (b : Bearer) (s : State) → Bounded s → Bounded (seen b s)
@@ -52,7 +52,7 @@ seen_bounded Second s w = turn_bounded s w
 
 pub stays_bounded : (b : Bearer) (s : State) (event : Event) → Sound First s → Bounded s → MayAct b (seen b s) event → Bounded (happened b s event)
 stays_bounded First s event h w may = acts_bounded First s event h w may
-stays_bounded Second s event h w may = turn_bounded (acted (turned s) event) (acts_bounded Second (turned s) event (turn First s h) (turn_bounded s w) may)
+stays_bounded Second s event h w may = turn_bounded (acted (turned_state s) event) (acts_bounded Second (turned_state s) event (turn First s h) (turn_bounded s w) may)
 
 pub reached_bounded : (s : State) → IsReached s → Bounded s
 reached_bounded _ at_begin = begins_bounded
@@ -61,7 +61,7 @@ reached_bounded _ (after b s event reached may) = stays_bounded b s event (reach
 -- ---- what that gives
 
 -- a frame of the record's session
-pub frame_near : (b : Bearer) (s : State) (p : ℕ) (z : Slot) → Bounded s → at (s.near.line s.near_record.session) p ≡ Some z → p ≤ s.near_record.taken + window
+pub frame_near : (b : Bearer) (s : State) (p : ℕ) (z : LinkSlot) → Bounded s → at (s.near.line s.near_record.session) p ≡ Some z → p ≤ s.near_record.taken + window
 frame_near b s p z w there = let real = (at_within (s.near.line s.near_record.session) p z there).1 in let near = w.near.near.recorded in omega arith
 
 -- the tunnel packet at the next place, against a record of the session of which it speaks
@@ -103,11 +103,11 @@ same_session_close b s f q full h w here low recorded =
           ])
     ]
 
-pub tunnel_close : (b : Bearer) (s : State) (f q : ℕ) (full : Bool) → Sound b s → Bounded s → IsNext s (Tunnel f q full) → 1 ≤ q → s.far_record.session ≤ f → (told s.far_record f).taken < q + window
+pub tunnel_close : (b : Bearer) (s : State) (f q : ℕ) (full : Bool) → Sound b s → Bounded s → IsNext s (Tunnel f q full) → 1 ≤ q → s.far_record.session ≤ f → (session_told s.far_record f).taken < q + window
 tunnel_close b s f q full h w here low no_later = elim (cases_lt s.far_record.session f) [
-  | inl less ↦ (let none : (told s.far_record f).taken ≡ 0 = ap (λ (z : Receiver). z.taken) (told_fresh s.far_record f less) in omega arith)
+  | inl less ↦ (let none : (session_told s.far_record f).taken ≡ 0 = ap (λ (z : Receiver). z.taken) (told_fresh s.far_record f less) in omega arith)
   | inr high ↦ (
-      let same : (told s.far_record f).taken ≡ s.far_record.taken = ap (λ (z : Receiver). z.taken) (told_none s.far_record f high) in
+      let same : (session_told s.far_record f).taken ≡ s.far_record.taken = ap (λ (z : Receiver). z.taken) (told_none s.far_record f high) in
       let close = same_session_close b s f q full h w here low (let is : s.far_record.session ≡ f = omega arith in is) in
       omega arith)
 ]

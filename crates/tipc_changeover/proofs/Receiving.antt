@@ -3,9 +3,9 @@ use Rattle.std.proofs.Common.{◌≡◌, ℕ, ◌+◌, ◌<◌, ◌≤◌, nat_l
 use Rattle.std.proofs.lemmas.Bool.{cases_eq, cases_lt}
 use Rattle.std.proofs.lemmas.Bool.Decides.{nat_tests}
 use Rattle.std.proofs.lemmas.List.{append-nil}
-use Rattle.tipc_changeover.specs.Slots.{at, counted, Plain, Slot, Tunnel}
-use Rattle.tipc_changeover.specs.Links.{other, turned, Bearer, Past, Receiver, Sender, State}
-use Rattle.tipc_changeover.specs.Events.{acted, after_next, told, with_records, IsNext, MayAct, Deferred, Late, Next, Old, Opening, Passed, Record, TakePlain, TakeTunnel}
+use Rattle.tipc_changeover.specs.Slots.{at, counted, Plain, LinkSlot, Tunnel}
+use Rattle.tipc_changeover.specs.Links.{other, turned_state, Bearer, Past, Receiver, Sender, State}
+use Rattle.tipc_changeover.specs.Events.{acted, after_next, session_told, with_records, IsNext, MayAct, Deferred, Late, Next, Old, Opening, Passed, Record, TakePlain, TakeTunnel}
 use Rattle.tipc_changeover.specs.Parts.{Delivered, Effect, Homes, IsTarget}
 use Rattle.tipc_changeover.specs.Sound.{Sound}
 use Rattle.tipc_changeover.proofs.Lists.{at_within, some_same}
@@ -14,7 +14,7 @@ use Rattle.tipc_changeover.proofs.Records.{before_next, ends_next, grows_next, g
 
 -- ---- slots at one place, and packets taken
 
-same_slot : (line : ℕ → List Slot) (e f p q : ℕ) (z w : Slot) → e ≡ f → p ≡ q → at (line e) p ≡ Some z → at (line f) q ≡ Some w → z ≡ w
+same_slot : (line : ℕ → List LinkSlot) (e f p q : ℕ) (z w : LinkSlot) → e ≡ f → p ≡ q → at (line e) p ≡ Some z → at (line f) q ≡ Some w → z ≡ w
 same_slot line e f p q z w session place here there =
     let moved : at (line e) p ≡ at (line f) q = ap (λ n. at (line n) p) session ∙ ap (λ n. at (line f) n) place in
     some_same (sym here ∙ (moved ∙ there))
@@ -22,7 +22,7 @@ same_slot line e f p q z w session place here there =
 not_both : {i f q : ℕ} {full : Bool} → Plain i ≡ Tunnel f q full → ⊥
 not_both e = cc
 
-delivered_same : (line : ℕ → List Slot) (t t' : Receiver) (count : ℕ) → Delivered line t count →
+delivered_same : (line : ℕ → List LinkSlot) (t t' : Receiver) (count : ℕ) → Delivered line t count →
     ((e p i : ℕ) → at (line e) p ≡ Some (Plain i) → Past t e p → Past t' e p) → ((e p i : ℕ) → at (line e) p ≡ Some (Plain i) → Past t' e p → Past t e p) → Delivered line t' count
 delivered_same line t t' count h forth back = record {
   all = λ e p i there low. forth e p i there (h.all e p i there low);
@@ -30,7 +30,7 @@ delivered_same line t t' count h forth back = record {
 }
 
 -- the next packet was taken, and stands in no such line
-delivered_elsewhere : (line : ℕ → List Slot) (t t' : Receiver) (count : ℕ) → Delivered line t count → ((e p : ℕ) → at (line e) p ≡ Some (Plain (count + 1)) → ⊥) →
+delivered_elsewhere : (line : ℕ → List LinkSlot) (t t' : Receiver) (count : ℕ) → Delivered line t count → ((e p : ℕ) → at (line e) p ≡ Some (Plain (count + 1)) → ⊥) →
     ((e p i : ℕ) → at (line e) p ≡ Some (Plain i) → Past t e p → Past t' e p) → ((e p i : ℕ) → at (line e) p ≡ Some (Plain i) → Past t' e p → Past t e p) → Delivered line t' (count + 1)
 delivered_elsewhere line t t' count h absent forth back = record {
   all = λ e p i there low. elim (cases_eq i (count + 1)) [
@@ -58,14 +58,14 @@ delivered_here b x y r numbered put count homes h here = record {
 }
 
 -- no plain packet stands at the next place, where a tunnel packet stands
-next_tunnel_back : (line : ℕ → List Slot) (r : Receiver) (f q : ℕ) (full : Bool) → at (line r.session) (r.taken + 1) ≡ Some (Tunnel f q full) → (e p i : ℕ) → at (line e) p ≡ Some (Plain i) → Past (after_next r) e p → Past r e p
+next_tunnel_back : (line : ℕ → List LinkSlot) (r : Receiver) (f q : ℕ) (full : Bool) → at (line r.session) (r.taken + 1) ≡ Some (Tunnel f q full) → (e p i : ℕ) → at (line e) p ≡ Some (Plain i) → Past (after_next r) e p → Past r e p
 next_tunnel_back line r f q full here e p i there past = elim (next_past r e p past) [
   | inl old ↦ old
   | inr new ↦ absurd (not_both (same_slot line e r.session p (r.taken + 1) (Plain i) (Tunnel f q full) new.0 new.1 there here))
 ]
 
 -- what tunnel packets have done goes on, and holds of the one at the next place
-effect_next : (line : ℕ → List Slot) (r t t' : Receiver) (f q : ℕ) (full : Bool) → Effect line r t → at (line r.session) (r.taken + 1) ≡ Some (Tunnel f q full) → (1 ≤ q → Past t' f q) →
+effect_next : (line : ℕ → List LinkSlot) (r t t' : Receiver) (f q : ℕ) (full : Bool) → Effect line r t → at (line r.session) (r.taken + 1) ≡ Some (Tunnel f q full) → (1 ≤ q → Past t' f q) →
     ((e p : ℕ) → Past t e p → Past t' e p) → Effect line (after_next r) t'
 effect_next line r t t' f q full h here done grows = record {
   done = λ e p f' q' full' there low past. elim (next_past r e p past) [
@@ -79,7 +79,7 @@ effect_next line r t t' f q full h here done grows = record {
 }
 
 -- a plain packet at the next place asks nothing of the other link
-effect_plain : (line : ℕ → List Slot) (r t t' : Receiver) (i : ℕ) → Effect line r t → at (line r.session) (r.taken + 1) ≡ Some (Plain i) → ((e p : ℕ) → Past t e p → Past t' e p) → Effect line (after_next r) t'
+effect_plain : (line : ℕ → List LinkSlot) (r t t' : Receiver) (i : ℕ) → Effect line r t → at (line r.session) (r.taken + 1) ≡ Some (Plain i) → ((e p : ℕ) → Past t e p → Past t' e p) → Effect line (after_next r) t'
 effect_plain line r t t' i h here grows = record {
   done = λ e p f q full there low past. elim (next_past r e p past) [
     | inl old ↦ grows f q (h.done e p f q full there low old)
@@ -87,7 +87,7 @@ effect_plain line r t t' i h here grows = record {
   ];
 }
 
-effect_grows : (line : ℕ → List Slot) (r t t' : Receiver) → Effect line r t → ((e p : ℕ) → Past t e p → Past t' e p) → Effect line r t'
+effect_grows : (line : ℕ → List LinkSlot) (r t t' : Receiver) → Effect line r t → ((e p : ℕ) → Past t e p → Past t' e p) → Effect line r t'
 effect_grows line r t t' h grows = record { done = λ e p f q full there low past. grows f q (h.done e p f q full there low past) }
 
 -- ---- a plain packet is taken
@@ -158,25 +158,25 @@ begin_record b s e h may =
 -- ---- a tunnel packet is taken
 
 -- what it tells of its session
-pub told_none : (t : Receiver) (f : ℕ) → f ≤ t.session → told t f ≡ t
-unfolding told
+pub told_none : (t : Receiver) (f : ℕ) → f ≤ t.session → session_told t f ≡ t
+unfolding session_told
 told_none t f low = let test : nat_lt t.session f ≡ false = grind (arith, nat_tests) in rw test refl
 
-pub told_fresh : (t : Receiver) (f : ℕ) → t.session < f → told t f ≡ fresh f
-unfolding told
+pub told_fresh : (t : Receiver) (f : ℕ) → t.session < f → session_told t f ≡ fresh f
+unfolding session_told
 told_fresh t f less = let test : nat_lt t.session f ≡ true = grind (arith, nat_tests) in rw test refl
 
-pub told_session : (t : Receiver) (f : ℕ) → t.session ≤ f → (told t f).session ≡ f
+pub told_session : (t : Receiver) (f : ℕ) → t.session ≤ f → (session_told t f).session ≡ f
 told_session t f low = elim (cases_lt t.session f) [
   | inl less ↦ ap (λ (z : Receiver). z.session) (told_fresh t f less)
   | inr high ↦ ap (λ (z : Receiver). z.session) (told_none t f high) ∙ (let same : t.session ≡ f = omega arith in same)
 ]
 
 -- a record of a session of which a tunnel packet of the other link speaks may be begun
-pub told_sound : (b : Bearer) (s : State) (f q : ℕ) → Sound b s → IsTarget s.far f q → Sound b (with_records s s.near_record (told s.far_record f) s.delivered)
+pub told_sound : (b : Bearer) (s : State) (f q : ℕ) → Sound b s → IsTarget s.far f q → Sound b (with_records s s.near_record (session_told s.far_record f) s.delivered)
 told_sound b s f q h target = elim (cases_lt s.far_record.session f) [
   | inl less ↦ subst (λ t. Sound b (with_records s s.near_record t s.delivered)) (sym (told_fresh s.far_record f less))
-      (turn_back b (acted (turned s) (Record f)) (begin_record (other b) (turned s) f (turn b s h) (
+      (turn_back b (acted (turned_state s) (Record f)) (begin_record (other b) (turned_state s) f (turn b s h) (
         less,
         target.shown,
         (λ held. elim (cases_eq f s.far.session) [
@@ -240,7 +240,7 @@ pub take_inner : (b : Bearer) (s : State) (full : Bool) (index : ℕ) → Sound 
 take_inner b s full index h here there =
     let r = s.near_record in
     let t = s.far_record in
-    let number : index ≡ h.count + 1 = next_number (other b) (turned s) t.session (t.taken + 1) index (turn b s h) there (λ q low high. before_next t q high) (next_not_past t) in
+    let number : index ≡ h.count + 1 = next_number (other b) (turned_state s) t.session (t.taken + 1) index (turn b s h) there (λ q low high. before_next t q high) (next_not_past t) in
     let high : index ≤ s.numbered = (h.far.homes.within t.session (t.taken + 1) index there).1 in
     let there' : at (s.far.line t.session) (t.taken + 1) ≡ Some (Plain (h.count + 1)) = there ∙ ap (λ n. Some (Plain n)) number in
     moved b s (after_next r) (after_next t) (s.delivered ++ index ∷ []) (h.count + 1) h (record {
@@ -257,12 +257,12 @@ take_inner b s full index h here there =
 -- ---- all that may become of it
 
 abbrev after_told : State → ℕ → State
-after_told s f = with_records s s.near_record (told s.far_record f) s.delivered
+after_told s f = with_records s s.near_record (session_told s.far_record f) s.delivered
 
 tunnel_told : (b : Bearer) (s : State) (f q : ℕ) (full : Bool) → Sound b s → IsNext s (Tunnel f q full) → Sound b (after_told s f)
 tunnel_told b s f q full h here = told_sound b s f q h (h.near.target.lines s.near_record.session (s.near_record.taken + 1) f q full here)
 
-pub never_deferred : (b : Bearer) (s : State) (f q : ℕ) (full : Bool) → Sound b s → IsNext s (Tunnel f q full) → s.far_record.session ≤ f → q ≤ (told s.far_record f).taken + 1
+pub never_deferred : (b : Bearer) (s : State) (f q : ℕ) (full : Bool) → Sound b s → IsNext s (Tunnel f q full) → s.far_record.session ≤ f → q ≤ (session_told s.far_record f).taken + 1
 never_deferred b s f q full h here low = in_turn b (after_told s f) f q full (tunnel_told b s f q full h here) here (told_session s.far_record f low)
 
 pub take_tunnel : (b : Bearer) (s : State) (f q : ℕ) (full : Bool) (opening : Opening) → Sound b s → MayAct b s (TakeTunnel f q full opening) → Sound b (acted s (TakeTunnel f q full opening))
@@ -271,16 +271,16 @@ take_tunnel b s f q full Late h may = take_old b (after_told s f) f q full (tunn
 take_tunnel b s f q full Old h may = take_old b (after_told s f) f q full (tunnel_told b s f q full h may.0) may.0 (λ low. inr (told_session s.far_record f may.1.0, may.1.1))
 take_tunnel b s f q full Passed h may =
     let h' = tunnel_told b s f q full h may.0 in
-    let session : f ≡ (told s.far_record f).session = sym (told_session s.far_record f may.1.0) in
-    let next : Tunnel f q full ≡ Tunnel (told s.far_record f).session ((told s.far_record f).taken + 1) false =
-    ap (λ n. Tunnel n q full) session ∙ (ap (λ n. Tunnel (told s.far_record f).session n full) may.1.1 ∙ ap (λ z. Tunnel (told s.far_record f).session ((told s.far_record f).taken + 1) z) may.1.2) in
-    pass b (after_told s f) h' (may.0 ∙ ap (λ (z : Slot). Some z) next)
+    let session : f ≡ (session_told s.far_record f).session = sym (told_session s.far_record f may.1.0) in
+    let next : Tunnel f q full ≡ Tunnel (session_told s.far_record f).session ((session_told s.far_record f).taken + 1) false =
+    ap (λ n. Tunnel n q full) session ∙ (ap (λ n. Tunnel (session_told s.far_record f).session n full) may.1.1 ∙ ap (λ z. Tunnel (session_told s.far_record f).session ((session_told s.far_record f).taken + 1) z) may.1.2) in
+    pass b (after_told s f) h' (may.0 ∙ ap (λ (z : LinkSlot). Some z) next)
 take_tunnel b s f q full (Next i) h may =
     let h' = tunnel_told b s f q full h may.0 in
-    let session : f ≡ (told s.far_record f).session = sym (told_session s.far_record f may.1.0) in
-    let next : Tunnel f q full ≡ Tunnel (told s.far_record f).session ((told s.far_record f).taken + 1) full =
-    ap (λ n. Tunnel n q full) session ∙ ap (λ n. Tunnel (told s.far_record f).session n full) may.1.1 in
-    let there : at (s.far.line (told s.far_record f).session) ((told s.far_record f).taken + 1) ≡ Some (Plain i) =
-    ap (λ n. at (s.far.line n) ((told s.far_record f).taken + 1)) (sym session) ∙ (ap (λ n. at (s.far.line f) n) (sym may.1.1) ∙ may.1.3) in
-    take_inner b (after_told s f) full i h' (may.0 ∙ ap (λ (z : Slot). Some z) next) there
+    let session : f ≡ (session_told s.far_record f).session = sym (told_session s.far_record f may.1.0) in
+    let next : Tunnel f q full ≡ Tunnel (session_told s.far_record f).session ((session_told s.far_record f).taken + 1) full =
+    ap (λ n. Tunnel n q full) session ∙ ap (λ n. Tunnel (session_told s.far_record f).session n full) may.1.1 in
+    let there : at (s.far.line (session_told s.far_record f).session) ((session_told s.far_record f).taken + 1) ≡ Some (Plain i) =
+    ap (λ n. at (s.far.line n) ((session_told s.far_record f).taken + 1)) (sym session) ∙ (ap (λ n. at (s.far.line f) n) (sym may.1.1) ∙ may.1.3) in
+    take_inner b (after_told s f) full i h' (may.0 ∙ ap (λ (z : LinkSlot). Some z) next) there
 take_tunnel b s f q full Deferred h may = absurd (let low = never_deferred b s f q full h may.0 may.1.0 in let missing = may.1.1 in omega arith)

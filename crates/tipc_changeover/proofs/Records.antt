@@ -1,8 +1,8 @@
 -- What is past, and what a change of the two records keeps.
 use Rattle.std.proofs.Common.{◌≡◌, ◌⊎◌, ℕ, ◌+◌, ◌<◌, ◌≤◌, List, Some, length, refl, sym, ap, ◌∙◌, subst, inl, inr, arith}
 use Rattle.std.proofs.lemmas.Bool.{cases_eq, cases_lt}
-use Rattle.tipc_changeover.specs.Slots.{at, counted, Plain, Slot, Tunnel}
-use Rattle.tipc_changeover.specs.Links.{other, turned, slots, Bearer, First, Past, Receiver, Second, Sender, State}
+use Rattle.tipc_changeover.specs.Slots.{at, counted, Plain, LinkSlot, Tunnel}
+use Rattle.tipc_changeover.specs.Links.{other, turned_state, slots, Bearer, First, Past, Receiver, Second, Sender, State}
 use Rattle.tipc_changeover.specs.Events.{after_next, with_records}
 use Rattle.tipc_changeover.specs.Parts.{Delivered, Effect, Ends, Order, RunsIn, TargetIn}
 use Rattle.tipc_changeover.specs.Sound.{Holds, Sound}
@@ -18,7 +18,7 @@ pub other_other : (b : Bearer) → other (other b) ≡ b
 other_other First = refl
 other_other Second = refl
 
-abbrev pub turn : (b : Bearer) (s : State) → Sound b s → Sound (other b) (turned s)
+abbrev pub turn : (b : Bearer) (s : State) → Sound b s → Sound (other b) (turned_state s)
 turn b s h = record {
   count = h.count;
   taken = h.taken;
@@ -30,7 +30,7 @@ turn b s h = record {
   far = subst (λ c. Holds c s.near s.far s.near_record s.far_record s.numbered s.put h.count) (sym (other_other b)) h.near;
 }
 
-pub turn_back : (b : Bearer) (s : State) → Sound (other b) s → Sound b (turned s)
+pub turn_back : (b : Bearer) (s : State) → Sound (other b) s → Sound b (turned_state s)
 turn_back First s h = turn Second s h
 turn_back Second s h = turn First s h
 
@@ -57,7 +57,7 @@ next_not_past r (inr here) = let taken = here.1 in omega arith
 pub before_next : (r : Receiver) (q : ℕ) → q < r.taken + 1 → Past r r.session q
 before_next r q less = inr (refl, omega arith)
 
-pub ends_next : (x : Sender) (r : Receiver) (z : Slot) → Ends x r → at (x.line r.session) (r.taken + 1) ≡ Some z → Ends x (after_next r)
+pub ends_next : (x : Sender) (r : Receiver) (z : LinkSlot) → Ends x r → at (x.line r.session) (r.taken + 1) ≡ Some z → Ends x (after_next r)
 ends_next x r z h there = record {
   session_begun = h.session_begun;
   record_shown = h.record_shown;
@@ -72,19 +72,19 @@ ends_next x r z h there = record {
 -- ---- a change of the records
 
 -- what was past of real places goes on to be
-abbrev pub Grows : (ℕ → List Slot) → Receiver → Receiver → Type 0
+abbrev pub Grows : (ℕ → List LinkSlot) → Receiver → Receiver → Type 0
 Grows line r r' = (e q : ℕ) → 1 ≤ q → q ≤ length (line e) → Past r e q → Past r' e q
 
-pub grows_next : (line : ℕ → List Slot) (r : Receiver) → Grows line r (after_next r)
+pub grows_next : (line : ℕ → List LinkSlot) (r : Receiver) → Grows line r (after_next r)
 grows_next line r = λ e q low high past. past_next r e q past
 
-pub grows_same : (line : ℕ → List Slot) (r : Receiver) → Grows line r r
+pub grows_same : (line : ℕ → List LinkSlot) (r : Receiver) → Grows line r r
 grows_same line r = λ e q low high past. past
 
-grown : (line : ℕ → List Slot) (r r' : Receiver) (e q : ℕ) (z : Slot) → Grows line r r' → at (line e) q ≡ Some z → Past r e q → Past r' e q
+grown : (line : ℕ → List LinkSlot) (r r' : Receiver) (e q : ℕ) (z : LinkSlot) → Grows line r r' → at (line e) q ≡ Some z → Past r e q → Past r' e q
 grown line r r' e q z grows there past = let real = at_within (line e) q z there in grows e q real.0 real.1 past
 
-runs_grown : (zs : List Slot) (x y : Sender) (t t' : Receiver) → RunsIn zs t → TargetIn zs y → Grows y.line t t' → RunsIn zs t'
+runs_grown : (zs : List LinkSlot) (x y : Sender) (t t' : Receiver) → RunsIn zs t → TargetIn zs y → Grows y.line t t' → RunsIn zs t'
 runs_grown zs x y t t' runs target grows = λ p f q full q' there low less. elim (runs p f q full q' there low less) [
   | inl past ↦ inl (let most = (target p f q full there).numbered in grows f q' low (omega arith) past)
   | inr before ↦ inr before
@@ -151,7 +151,7 @@ moved b s r' t' delivered count h w taken within = record {
 
 -- ---- a plain packet whose turn it is
 
-in_order : (line : ℕ → List Slot) (e p q i j : ℕ) → Order line → at (line e) p ≡ Some (Plain j) → at (line e) q ≡ Some (Plain i) → i < j → q < p
+in_order : (line : ℕ → List LinkSlot) (e p q i j : ℕ) → Order line → at (line e) p ≡ Some (Plain j) → at (line e) q ≡ Some (Plain i) → i < j → q < p
 in_order line e p q i j h here there less = elim (cases_lt q p) [
   | inl before ↦ before
   | inr behind ↦ elim (cases_eq p q) [

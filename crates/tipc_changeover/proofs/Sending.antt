@@ -2,7 +2,7 @@
 -- longer.
 use Rattle.std.proofs.Common.{◌≡◌, ◌≢◌, ℕ, ◌+◌, ◌-◌, ◌<◌, ◌≤◌, Bool, true, false, [], ◌∷◌, ◌++◌, Some, length, sym, ap, ◌∙◌, subst, inl, inr, arith, append_assoc}
 use Rattle.std.proofs.lemmas.Bool.{cases_lt, true≢false}
-use Rattle.tipc_changeover.specs.Slots.{at, counted, plains, Plain, Slot, Tunnel}
+use Rattle.tipc_changeover.specs.Slots.{at, counted, plains, Plain, LinkSlot, Tunnel}
 use Rattle.tipc_changeover.specs.Links.{leads, other, slots, Bearer, Held, Reset, Sender, State, Up}
 use Rattle.tipc_changeover.specs.Events.{acted, with_acked, with_state, with_waiting, Acknowledge, MayAct, Put, Release}
 use Rattle.tipc_changeover.specs.Parts.{InnerIn, RunsIn, TargetIn}
@@ -18,7 +18,7 @@ one_plain : (i : ℕ) → HasNone (Plain i ∷ [])
 one_plain i p f q full there = let is = (at_only (Plain i) p (Tunnel f q full) there).1 in let wrong : ⊥ = cc in wrong
 
 -- the slots, with one that is put behind them
-pub put_slots : (x : Sender) (z : Slot) → slots x ++ z ∷ [] ≡ slots (with_waiting x (x.waiting ++ z ∷ []))
+pub put_slots : (x : Sender) (z : LinkSlot) → slots x ++ z ∷ [] ≡ slots (with_waiting x (x.waiting ++ z ∷ []))
 put_slots x z = append_assoc (x.line x.session) x.waiting (z ∷ [])
 
 -- the tunnel packets are the ones there were

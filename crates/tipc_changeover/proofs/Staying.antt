@@ -1,7 +1,7 @@
 -- The laws: the begin, each event, and what follows of what always holds.
 use Rattle.std.proofs.Common.{◌≡◌, ◌+◌, ◌-◌, true, false, ◌++◌, refl, sym, ap, ◌∙◌, arith}
 use Rattle.tipc_changeover.specs.Slots.{counted, Plain, Tunnel}
-use Rattle.tipc_changeover.specs.Links.{leads, seen, turned, Bearer, First, Reset, Second, State}
+use Rattle.tipc_changeover.specs.Links.{leads, seen, turned_state, Bearer, First, Reset, Second, State}
 use Rattle.tipc_changeover.specs.Events.{acted, happened, Acknowledge, Event, Failover, LinkUp, MayAct, Number, Put, Record, Release, Switch, TakePlain, TakeTunnel}
 use Rattle.tipc_changeover.specs.Sound.{Holds, Sound}
 use Rattle.tipc_changeover.specs.Reached.{after, at_begin, begun, no_record, unused, IsFront, IsReached}
@@ -94,7 +94,7 @@ acts b s Failover h may = failover b s h may
 
 pub stays : (b : Bearer) (s : State) (event : Event) → Sound First s → MayAct b (seen b s) event → Sound First (happened b s event)
 stays First s event h may = acts First s event h may
-stays Second s event h may = turn_back First (acted (turned s) event) (acts Second (turned s) event (turn First s h) may)
+stays Second s event h may = turn_back First (acted (turned_state s) event) (acts Second (turned_state s) event (turn First s h) may)
 
 pub reached_sound : (s : State) → IsReached s → Sound First s
 reached_sound _ at_begin = begins

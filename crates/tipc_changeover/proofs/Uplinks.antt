@@ -2,7 +2,7 @@
 use Rattle.std.proofs.Common.{◌≡◌, ◌≢◌, ℕ, ◌+◌, ◌-◌, ◌<◌, ◌≤◌, true, false, List, [], ◌++◌, Some, length, refl, sym, ap, ◌∙◌, subst, inl, inr, arith}
 use Rattle.std.proofs.lemmas.Bool.{cases_eq, cases_lt, true≢false}
 use Rattle.std.proofs.lemmas.List.{append-nil}
-use Rattle.tipc_changeover.specs.Slots.{at, counted, duplicates, leading, plains, Plain, Slot, Tunnel}
+use Rattle.tipc_changeover.specs.Slots.{at, counted, duplicates, leading, plains, Plain, LinkSlot, Tunnel}
 use Rattle.tipc_changeover.specs.Links.{front, leads, other, slots, Bearer, EndState, First, Held, Past, Receiver, Reset, Second, Sender, State, Up}
 use Rattle.tipc_changeover.specs.Events.{acted, gone_up, with_waiting, LinkUp, MayAct, Switch}
 use Rattle.tipc_changeover.specs.Parts.{Cover, Ends, HoldsPlain, InnerIn, IsTarget, RunsIn, TargetIn}
@@ -18,21 +18,21 @@ pub not_held : {st su : EndState} → st ≡ su → su ≢ Held → st ≢ Held
 not_held same free = λ held. free (sym same ∙ held)
 
 -- each place of an ended session is past
-pub ended_past : (x y : Sender) (r : Receiver) (f q : ℕ) (z : Slot) → Cover x y r → x.state ≢ Held → f < x.session → at (x.line f) q ≡ Some z → Past r f q
+pub ended_past : (x y : Sender) (r : Receiver) (f q : ℕ) (z : LinkSlot) → Cover x y r → x.state ≢ Held → f < x.session → at (x.line f) q ≡ Some z → Past r f q
 ended_past x y r f q z h free ended there = elim (h.covered f q ended (at_within (x.line f) q z there).0 (at_within (x.line f) q z there).1) [
   | inl past ↦ past
   | inr w ↦ absurd (free w.1)
 ]
 
 -- what stands in a session that isn't the present one stands in an ended one
-pub is_ended : (x : Sender) (r : Receiver) (f q : ℕ) (z : Slot) → Ends x r → x.session ≢ f → at (x.line f) q ≡ Some z → f < x.session
+pub is_ended : (x : Sender) (r : Receiver) (f q : ℕ) (z : LinkSlot) → Ends x r → x.session ≢ f → at (x.line f) q ≡ Some z → f < x.session
 is_ended x r f q z h differ there = elim (cases_lt f x.session) [
   | inl ended ↦ ended
   | inr later ↦ absurd (at_none q z (ap (λ zs. at zs q) (sym (h.later f (omega arith))) ∙ there))
 ]
 
 -- where an end is down, what stands in its lines stands in an ended session
-pub down_is_ended : (x : Sender) (r : Receiver) (f q : ℕ) (z : Slot) → Ends x r → x.state ≢ Up → at (x.line f) q ≡ Some z → f < x.session
+pub down_is_ended : (x : Sender) (r : Receiver) (f q : ℕ) (z : LinkSlot) → Ends x r → x.state ≢ Up → at (x.line f) q ≡ Some z → f < x.session
 down_is_ended x r f q z h down there = elim (cases_eq x.session f) [
   | inl same ↦ absurd (at_none q z (ap (λ zs. at zs q) (sym (h.down down).0) ∙ (ap (λ n. at (x.line n) q) same ∙ there)))
   | inr differ ↦ is_ended x r f q z h differ there
@@ -51,7 +51,7 @@ pub up_free : Up ≢ Held
 up_free e = cc
 
 -- an end that goes up from reset
-up_ends : (x : Sender) (r : Receiver) (waiting : List Slot) → Ends x r → x.state ≡ Reset → Ends (gone_up x waiting) r
+up_ends : (x : Sender) (r : Receiver) (waiting : List LinkSlot) → Ends x r → x.state ≡ Reset → Ends (gone_up x waiting) r
 up_ends x r waiting h reset = record {
   session_begun = h.session_begun;
   record_shown = h.record_shown;
@@ -63,10 +63,10 @@ up_ends x r waiting h reset = record {
   acked_past = h.acked_past;
 }
 
-up_target : (x : Sender) (waiting : List Slot) (f q : ℕ) → IsTarget x f q → IsTarget (gone_up x waiting) f q
+up_target : (x : Sender) (waiting : List LinkSlot) (f q : ℕ) → IsTarget x f q → IsTarget (gone_up x waiting) f q
 up_target x waiting f q w = record { begun = w.begun; shown = w.shown; up = λ _. refl; numbered = w.numbered }
 
-up_cover : (x y y' : Sender) (r : Receiver) (waiting : List Slot) → Cover x y r → x.state ≡ Reset → Cover (gone_up x waiting) y' r
+up_cover : (x y y' : Sender) (r : Receiver) (waiting : List LinkSlot) → Cover x y r → x.state ≡ Reset → Cover (gone_up x waiting) y' r
 up_cover x y y' r waiting h reset = record {
   covered = λ e q ended low high. elim (h.covered e q ended low high) [
     | inl past ↦ inl past
@@ -168,7 +168,7 @@ switch_first s h may =
     let within = h.far.ends.acked in
     omega arith)) in
     let stays : slots (with_waiting y []) ≡ y.line y.session = append-nil (y.line y.session) in
-    let live_plain : (p : ℕ) (w : Slot) → at xs (acked + p) ≡ Some w → 1 ≤ p → HoldsPlain y.line e (acked + p) = (λ p w there low. live_is_plain p w there low) in
+    let live_plain : (p : ℕ) (w : LinkSlot) → at xs (acked + p) ≡ Some w → 1 ≤ p → HoldsPlain y.line e (acked + p) = (λ p w there low. live_is_plain p w there low) in
     all_kept First s (gone_up x (dup ++ y.waiting)) (with_waiting y []) s.put h (record {
       ends = up_ends x s.near_record (dup ++ y.waiting) h.near.ends may.0;
       waits = λ _. plains-append dup y.waiting ∙ (ap (λ is. is ++ plains y.waiting) (plains-run (λ z. true) y.session y.acked (y.line y.session)) ∙ h.far.homes.waits (ap (λ z. leads Second z x.state) y_up ∙ ap (λ z. leads Second Up z) may.0));
@@ -253,12 +253,12 @@ switch_first s h may =
       };
     }) h.numbers (λ x_down. absurd (x_down refl))
   where
-    plain_or : (w : Slot) (q : ℕ) → at (s.far.line s.far.session) q ≡ Some w → s.far.acked < q → HoldsPlain s.far.line s.far.session q
+    plain_or : (w : LinkSlot) (q : ℕ) → at (s.far.line s.far.session) q ≡ Some w → s.far.acked < q → HoldsPlain s.far.line s.far.session q
     plain_or (Plain i) q there low = record { index = i; there = there }
     plain_or (Tunnel f place full) q there low = absurd (
         let acknowledged = h.far.carrier.none may.0 q f place full (at_front (s.far.line s.far.session) s.far.waiting q (Tunnel f place full) there) in omega arith)
 
-    live_is_plain : (p : ℕ) (w : Slot) → at (s.far.line s.far.session) (s.far.acked + p) ≡ Some w → 1 ≤ p → HoldsPlain s.far.line s.far.session (s.far.acked + p)
+    live_is_plain : (p : ℕ) (w : LinkSlot) → at (s.far.line s.far.session) (s.far.acked + p) ≡ Some w → 1 ≤ p → HoldsPlain s.far.line s.far.session (s.far.acked + p)
     live_is_plain p w there low = plain_or w (s.far.acked + p) there (omega arith)
 
 pub switch : (b : Bearer) (s : State) → Sound b s → MayAct b s Switch → Sound b (acted s Switch)

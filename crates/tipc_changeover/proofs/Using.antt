@@ -3,9 +3,9 @@
 use Rattle.std.proofs.Common.{◌≡◌, ◌≢◌, ℕ, zero, suc, ◌+◌, ◌-◌, ◌<◌, ◌≤◌, Bool, true, false, Some, length, get_or, refl, sym, ap, ◌∙◌, subst, inl, inr, arith}
 use Rattle.std.specs.List.{Contains}
 use Rattle.std.proofs.lemmas.Bool.{cases_lt}
-use Rattle.tipc_changeover.specs.Slots.{at, counted, Plain, Slot, Tunnel}
+use Rattle.tipc_changeover.specs.Slots.{at, counted, Plain, LinkSlot, Tunnel}
 use Rattle.tipc_changeover.specs.Links.{slots, Bearer, Held, Past, Reset, State, Up}
-use Rattle.tipc_changeover.specs.Events.{told, Deferred, IsNext, Late, MayOpen, Next, Old, Opening, Passed}
+use Rattle.tipc_changeover.specs.Events.{session_told, Deferred, IsNext, Late, MayOpen, Next, Old, Opening, Passed}
 use Rattle.tipc_changeover.specs.Parts.{HoldsPlain, HoldsTunnel}
 use Rattle.tipc_changeover.specs.Sound.{Sound}
 use Rattle.tipc_changeover.proofs.Receiving.{never_deferred}
@@ -34,7 +34,7 @@ taken_is_delivered b s e p i h there past = subst (λ is. Contains is i) (sym h.
 
 -- ---- an end that isn't held
 
-pub ended_session_past : (b : Bearer) (s : State) (e p : ℕ) (z : Slot) → Sound b s → s.near.state ≢ Held → e < s.near.session → at (s.near.line e) p ≡ Some z → Past s.near_record e p
+pub ended_session_past : (b : Bearer) (s : State) (e p : ℕ) (z : LinkSlot) → Sound b s → s.near.state ≢ Held → e < s.near.session → at (s.near.line e) p ≡ Some z → Past s.near_record e p
 ended_session_past b s e p z h free ended there = ended_past s.near s.far s.near_record e p z h.near.cover free ended there
 
 pub reset_delivered : (b : Bearer) (s : State) (e p i : ℕ) → Sound b s → s.near.state ≡ Reset → at (s.near.line e) p ≡ Some (Plain i) → Contains s.delivered i
@@ -52,14 +52,14 @@ placeholder_holds b s p f q h there = (h.near.inner.now.placeholder p f q there)
 
 -- ---- a tunnel packet at the next place
 
-opens_full : (s : State) (f q : ℕ) (full : Bool) → s.far_record.session ≤ f → q ≡ (told s.far_record f).taken + 1 → (full ≡ true → HoldsPlain s.far.line f q) → (o : Opening) × MayOpen s.far.line s.far_record f q full o × (o ≢ Deferred)
+opens_full : (s : State) (f q : ℕ) (full : Bool) → s.far_record.session ≤ f → q ≡ (session_told s.far_record f).taken + 1 → (full ≡ true → HoldsPlain s.far.line f q) → (o : Opening) × MayOpen s.far.line s.far_record f q full o × (o ≢ Deferred)
 opens_full s f q true low next holds = (let w = holds refl in (Next w.index, (low, next, refl, w.there), (λ (e : Next w.index ≡ Deferred). (let wrong : ⊥ = cc in wrong))))
 opens_full s f q false low next holds = (Passed, (low, next, refl), (λ (e : Passed ≡ Deferred). (let wrong : ⊥ = cc in wrong)))
 
 pub opens : (b : Bearer) (s : State) (f q : ℕ) (full : Bool) → Sound b s → IsNext s (Tunnel f q full) → (o : Opening) × MayOpen s.far.line s.far_record f q full o × (o ≢ Deferred)
 opens b s f q full h here = elim (cases_lt f s.far_record.session) [
   | inl late ↦ (Late, late, (λ (e : Late ≡ Deferred). (let wrong : ⊥ = cc in wrong)))
-  | inr low ↦ elim (cases_lt (told s.far_record f).taken q) [
+  | inr low ↦ elim (cases_lt (session_told s.far_record f).taken q) [
     | inl more ↦ (
         let most = never_deferred b s f q full h here low in
         opens_full s f q full low (omega arith) (λ is. (h.near.inner.lines s.near_record.session).full (s.near_record.taken + 1) f q (here ∙ ap (λ z. Some (Tunnel f q z)) is) (omega arith)))

@@ -2,7 +2,7 @@
 use Rattle.std.proofs.Common.{◌≡◌, ◌≢◌, [], ◌∷◌, ◌++◌, refl, sym, ap, ◌∙◌, arith}
 use Rattle.tipc_changeover.specs.Slots.{at, counted, or_marker, plains, tunnelled}
 use Rattle.tipc_changeover.specs.Links.{First, Held, Reset, Second, State, Up}
-use Rattle.tipc_changeover.specs.Events.{extended, told}
+use Rattle.tipc_changeover.specs.Events.{extended, session_told}
 use Rattle.tipc_changeover.specs.Reached.{at_begin, begun, IsFront}
 use Rattle.tipc_changeover.specs.Stories.{told_from, MayTell}
 use Rattle.tipc_changeover.specs.Weaker.{deferred, failed_waiting_first, failed_without_run, next_behind, next_on_first, next_on_second, nothing_given_back, one_carried, one_given_over, one_in_flight, one_on_second, one_taken, one_waits, recorded_anew, released_early, switched_without_run, taken_again, waiting_overtakes, Misleads}
@@ -60,7 +60,7 @@ taken_may = ((refl, up_first), (refl, ((refl, refl, omega arith), ((refl, λ e. 
 -- ---- and they mislead
 
 pub early_release : Misleads (told_from begun one_given_over) (released_early (told_from begun one_given_over)) nothing_given_back
-unfolding at extended told tunnelled or_marker plains
+unfolding at extended session_told tunnelled or_marker plains
 early_release = record {
   reached = reach begun one_given_over at_begin given_over_may;
   may = ((refl, λ e. up_second e), ((refl, refl), ((refl, refl, omega arith), (refl, ((refl, refl, omega arith), ((omega arith, omega arith, λ e. not_held e), ((refl, (omega arith, omega arith)), (refl, tt))))))));
@@ -68,7 +68,7 @@ early_release = record {
 }
 
 pub no_run : Misleads (told_from begun one_in_flight) (failed_without_run (told_from begun one_in_flight)) next_on_second
-unfolding at extended told tunnelled or_marker plains
+unfolding at extended session_told tunnelled or_marker plains
 no_run = record {
   reached = reach begun one_in_flight at_begin in_flight_may;
   may = (refl, ((refl, refl, omega arith), ((omega arith, omega arith, λ e. not_held e), (refl, tt))));
@@ -76,7 +76,7 @@ no_run = record {
 }
 
 pub waiting_first : Misleads (told_from begun one_waits) (failed_waiting_first (told_from begun one_waits)) waiting_overtakes
-unfolding at extended told tunnelled or_marker plains
+unfolding at extended session_told tunnelled or_marker plains
 waiting_first = record {
   reached = reach begun one_waits at_begin waits_may;
   may = ((refl, refl, omega arith), ((omega arith, omega arith, λ e. not_held e), (refl, tt)));
@@ -84,7 +84,7 @@ waiting_first = record {
 }
 
 pub no_duplicates : Misleads (told_from begun one_on_second) (switched_without_run (told_from begun one_on_second)) next_on_first
-unfolding at extended told tunnelled or_marker plains
+unfolding at extended session_told tunnelled or_marker plains
 no_duplicates = record {
   reached = reach begun one_on_second at_begin on_second_may;
   may = (refl, ((refl, refl, omega arith), ((omega arith, omega arith, λ e. not_held e), (refl, tt))));
@@ -92,7 +92,7 @@ no_duplicates = record {
 }
 
 pub record_anew : Misleads (told_from begun one_taken) (recorded_anew (told_from begun one_taken)) taken_again
-unfolding at extended told tunnelled or_marker plains
+unfolding at extended session_told tunnelled or_marker plains
 record_anew = record {
   reached = reach begun one_taken at_begin taken_may;
   may = (refl, tt);
@@ -100,7 +100,7 @@ record_anew = record {
 }
 
 pub put_off : Misleads (told_from begun one_carried) (deferred (told_from begun one_carried)) next_behind
-unfolding at extended told tunnelled or_marker plains
+unfolding at extended session_told tunnelled or_marker plains
 put_off = record {
   reached = reach begun one_carried at_begin carried_may;
   may = (refl, ((refl, refl, omega arith), (refl, tt)));

@@ -2,7 +2,7 @@
 -- Each part speaks of one link's end x and its record r, and where it must of the other's end y; what holds of two
 -- links has each part both ways.
 use Rattle.std.specs.Prelude.{◌≡◌, ℕ, ◌+◌, ◌<◌, ◌≤◌, Bool, false, List, Some, length}
-use Rattle.tipc_changeover.specs.Slots.{at, Slot, Tunnel}
+use Rattle.tipc_changeover.specs.Slots.{at, LinkSlot, Tunnel}
 use Rattle.tipc_changeover.specs.Links.{slots, Past, Receiver, Sender, State, Up}
 use Rattle.tipc_changeover.specs.Events.{window}
 
@@ -16,7 +16,7 @@ pub record Near (x : Sender) (r : Receiver) : Type 0 where
   pub unrecorded : (e : ℕ) → r.session < e → e ≤ x.session → length (x.line e) ≤ window
 
 -- a placeholder for a place of a session stands in the slots, no further than this
-pub record HasPlaceholder (zs : List Slot) (session place most : ℕ) : Type 0 where
+pub record HasPlaceholder (zs : List LinkSlot) (session place most : ℕ) : Type 0 where
   pub where_it_stands : ℕ
   pub there : at zs where_it_stands ≡ Some (Tunnel session place false)
   pub no_further : where_it_stands ≤ most

@@ -3,7 +3,7 @@
 -- only the one at the next place of its link's record is taken. A plain packet that comes early and is put by is
 -- taken when it is the next one.
 use Rattle.std.specs.Prelude.{◌≡◌, ◌≢◌, ℕ, ◌+◌, ◌<◌, ◌≤◌, ◌==◌, nat_lt, if◌then◌else◌, Bool, true, false, List, [], ◌∷◌, ◌++◌, Some, length}
-use Rattle.tipc_changeover.specs.Slots.{at, duplicates, originals, plain_slots, Plain, Slot, Tunnel}
+use Rattle.tipc_changeover.specs.Slots.{at, duplicates, originals, plain_slots, Plain, LinkSlot, Tunnel}
 use Rattle.tipc_changeover.specs.Links.{leads, seen, slots, Bearer, EndState, First, Held, Receiver, Reset, Sender, State, Up}
 
 -- What becomes of the packet inside a tunnel packet, against the record of the link of which it speaks.
@@ -24,7 +24,7 @@ pub data Event : Type 0 where
   -- a plain packet is put
   Put : Event
   -- the first slot that waits gets a number, and these go on to wait
-  Number : (slot : Slot) (rest : List Slot) → Event
+  Number : (slot : LinkSlot) (rest : List LinkSlot) → Event
   -- this many places are acknowledged
   Acknowledge : (places : ℕ) → Event
   -- the end is held no longer
@@ -50,11 +50,11 @@ window = 50
 -- ---- what an event changes
 
 -- one more slot in the line of a session
-unfoldable pub extended : (ℕ → List Slot) → ℕ → Slot → ℕ → List Slot
+unfoldable pub extended : (ℕ → List LinkSlot) → ℕ → LinkSlot → ℕ → List LinkSlot
 extended line session slot e = if e == session then line e ++ slot ∷ [] else line e
 
 -- how many plain packets a slot holds
-abbrev pub plain_count : Slot → ℕ
+abbrev pub plain_count : LinkSlot → ℕ
 plain_count (Plain i) = 1
 plain_count (Tunnel f q full) = 0
 
@@ -63,8 +63,8 @@ abbrev pub after_next : Receiver → Receiver
 after_next r = record { session = r.session; taken = r.taken + 1 }
 
 -- a tunnel packet tells of its session: a record of an earlier one is begun anew
-unfoldable pub told : Receiver → ℕ → Receiver
-told t session = if nat_lt t.session session then record { session = session; taken = 0 } else t
+unfoldable pub session_told : Receiver → ℕ → Receiver
+session_told t session = if nat_lt t.session session then record { session = session; taken = 0 } else t
 
 -- the record of the far link when a tunnel packet that speaks of it was opened so
 abbrev pub opened : Receiver → Opening → Receiver
@@ -84,85 +84,49 @@ taken_out Deferred = []
 
 -- the state with other senders' ends, of the near link and of the far one
 abbrev pub with_ends : State → Sender → Sender → State
-with_ends s x y = record {
-  near = x;
-  near_record = s.near_record;
-  far = y;
-  far_record = s.far_record;
-  put = s.put;
-  numbered = s.numbered;
-  delivered = s.delivered;
-}
+with_ends s x y = record s { near = x; far = y }
 
 -- the state with other receiver's records, of the near link and of the far one, and with this list of packets that were
 -- taken
 abbrev pub with_records : State → Receiver → Receiver → List ℕ → State
-with_records s r t delivered = record {
-  near = s.near;
-  near_record = r;
-  far = s.far;
-  far_record = t;
-  put = s.put;
-  numbered = s.numbered;
-  delivered = delivered;
-}
+with_records s r t delivered = record s { near_record = r; far_record = t; delivered = delivered }
 
 -- the end with other slots that wait
-abbrev pub with_waiting : Sender → List Slot → Sender
-with_waiting x waiting = record {
-  session = x.session;
-  state = x.state;
-  line = x.line;
-  waiting = waiting;
-  acked = x.acked;
-}
+abbrev pub with_waiting : Sender → List LinkSlot → Sender
+with_waiting x waiting = record x { waiting = waiting }
 
 -- the end in another state
 abbrev pub with_state : Sender → EndState → Sender
-with_state x state = record { session = x.session; state = state; line = x.line; waiting = x.waiting; acked = x.acked }
+with_state x state = record x { state = state }
 
 -- the end with so many places of its present session acknowledged
 abbrev pub with_acked : Sender → ℕ → Sender
-with_acked x acked = record { session = x.session; state = x.state; line = x.line; waiting = x.waiting; acked = acked }
+with_acked x acked = record x { acked = acked }
 
 -- the end when a slot has got the next number, and these go on to wait
-abbrev pub with_number : Sender → Slot → List Slot → Sender
-with_number x slot rest = record {
-  session = x.session;
-  state = x.state;
-  line = extended x.line x.session slot;
-  waiting = rest;
-  acked = x.acked;
-}
+abbrev pub with_number : Sender → LinkSlot → List LinkSlot → Sender
+with_number x slot rest = record x { line = extended x.line x.session slot; waiting = rest }
 
 -- the end when its link has gone up, with these slots to send
-abbrev pub gone_up : Sender → List Slot → Sender
-gone_up x waiting = record { session = x.session; state = Up; line = x.line; waiting = waiting; acked = x.acked }
+abbrev pub gone_up : Sender → List LinkSlot → Sender
+gone_up x waiting = record x { state = Up; waiting = waiting }
 
 -- the end when its link has gone down: it is held, and in its next session, of which nothing is sent yet
 abbrev pub gone_down : Sender → Sender
 gone_down x = record { session = x.session + 1; state = Held; line = x.line; waiting = []; acked = 0 }
 
 -- what takes the flow over sends of the other link: duplicates of what isn't acknowledged, then what waited
-abbrev pub switched_slots : Sender → List Slot
+abbrev pub switched_slots : Sender → List LinkSlot
 switched_slots y = duplicates y.session y.acked (y.line y.session) ++ y.waiting
 
 -- what the other link sends of one that goes down: originals of what isn't acknowledged, then the plain packets that
 -- waited
-abbrev pub lost_slots : Sender → List Slot
+abbrev pub lost_slots : Sender → List LinkSlot
 lost_slots x = originals x.session x.acked (x.line x.session) ++ plain_slots x.waiting
 
 -- the state after an event at the near link
 abbrev pub acted : State → Event → State
-acted s Put = record {
-  near = with_waiting s.near (s.near.waiting ++ Plain (s.put + 1) ∷ []);
-  near_record = s.near_record;
-  far = s.far;
-  far_record = s.far_record;
-  put = s.put + 1;
-  numbered = s.numbered;
-  delivered = s.delivered;
-}
+acted s Put = record s { near = with_waiting s.near (s.near.waiting ++ Plain (s.put + 1) ∷ []); put = s.put + 1 }
 acted s (Number slot rest) = record {
   near = with_number s.near slot rest;
   near_record = s.near_record;
@@ -177,7 +141,7 @@ acted s Release = with_ends s (with_state s.near Reset) s.far
 acted s (Record session) = with_records s (record { session = session; taken = 0 }) s.far_record s.delivered
 acted s (TakePlain index) = with_records s (after_next s.near_record) s.far_record (s.delivered ++ index ∷ [])
 acted s (TakeTunnel session place full opening) =
-    with_records s (after_next s.near_record) (opened (told s.far_record session) opening) (s.delivered ++ taken_out opening)
+    with_records s (after_next s.near_record) (opened (session_told s.far_record session) opening) (s.delivered ++ taken_out opening)
 acted s LinkUp = with_ends s (gone_up s.near s.near.waiting) s.far
 acted s Switch = with_ends s (gone_up s.near (switched_slots s.far)) (with_waiting s.far [])
 acted s Failover = with_ends s (gone_down s.near) (with_waiting s.far (s.far.waiting ++ lost_slots s.near))
@@ -185,19 +149,19 @@ acted s Failover = with_ends s (gone_down s.near) (with_waiting s.far (s.far.wai
 -- ---- when it may happen
 
 -- the slot at the next place of the near record
-abbrev pub IsNext : State → Slot → Type 0
+abbrev pub IsNext : State → LinkSlot → Type 0
 IsNext s slot = at (s.near.line s.near_record.session) (s.near_record.taken + 1) ≡ Some slot
 
 -- what a tunnel packet for a place of a session meets in the record of that link
-abbrev pub MayOpen : (ℕ → List Slot) → Receiver → (session place : ℕ) → Bool → Opening → Type 0
+abbrev pub MayOpen : (ℕ → List LinkSlot) → Receiver → (session place : ℕ) → Bool → Opening → Type 0
 MayOpen line t session place full Late = session < t.session
-MayOpen line t session place full Old = (t.session ≤ session) × (place ≤ (told t session).taken)
+MayOpen line t session place full Old = (t.session ≤ session) × (place ≤ (session_told t session).taken)
 MayOpen line t session place full Passed =
-    (t.session ≤ session) × (place ≡ (told t session).taken + 1) × (full ≡ false)
+    (t.session ≤ session) × (place ≡ (session_told t session).taken + 1) × (full ≡ false)
 MayOpen line t session place full (Next i) =
-    (t.session ≤ session) × (place ≡ (told t session).taken + 1) × (full ≡ true) ×
+    (t.session ≤ session) × (place ≡ (session_told t session).taken + 1) × (full ≡ true) ×
     (at (line session) place ≡ Some (Plain i))
-MayOpen line t session place full Deferred = (t.session ≤ session) × ((told t session).taken + 1 < place)
+MayOpen line t session place full Deferred = (t.session ≤ session) × ((session_told t session).taken + 1 < place)
 
 -- what may happen at the near link, which is on this bearer
 abbrev pub MayAct : Bearer → State → Event → Type 0

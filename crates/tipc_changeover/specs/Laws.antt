@@ -1,9 +1,9 @@
 -- The laws of two links and their tunnels. Each is promised by a public function of the crate. b is the bearer of the
 -- near link; e and f are sessions, p and q are places, and i is a plain packet.
 use Rattle.std.specs.Prelude.{◌≡◌, ◌≢◌, ℕ, ◌+◌, ◌<◌, ◌≤◌, Bool, true, false, Some, Contains}
-use Rattle.tipc_changeover.specs.Slots.{at, Plain, Slot, Tunnel}
+use Rattle.tipc_changeover.specs.Slots.{at, Plain, LinkSlot, Tunnel}
 use Rattle.tipc_changeover.specs.Links.{seen, slots, Bearer, First, Held, Past, Reset, State}
-use Rattle.tipc_changeover.specs.Events.{happened, told, window, Deferred, Event, IsNext, MayAct, MayOpen, Opening}
+use Rattle.tipc_changeover.specs.Events.{happened, session_told, window, Deferred, Event, IsNext, MayAct, MayOpen, Opening}
 use Rattle.tipc_changeover.specs.Parts.{HoldsPlain, HoldsTunnel}
 use Rattle.tipc_changeover.specs.Sound.{Sound}
 use Rattle.tipc_changeover.specs.Distances.{Bounded}
@@ -41,7 +41,7 @@ SoundTakeFront = (s : State) → Sound First s → IsFront s
 abbrev pub NoneMissing : Type 0
 NoneMissing =
     (b : Bearer) (s : State) (f q : ℕ) (full : Bool) → Sound b s → IsNext s (Tunnel f q full) →
-    s.far_record.session ≤ f → q ≤ (told s.far_record f).taken + 1
+    s.far_record.session ≤ f → q ≤ (session_told s.far_record f).taken + 1
 
 -- it may be opened, and isn't deferred
 abbrev pub IsOpened : Type 0
@@ -69,7 +69,7 @@ PlaceholderHoldsTunnel =
 -- each place of the ended sessions of an end that isn't held is past
 abbrev pub EndedArePast : Type 0
 EndedArePast =
-    (b : Bearer) (s : State) (e p : ℕ) (z : Slot) → Sound b s → s.near.state ≢ Held → e < s.near.session →
+    (b : Bearer) (s : State) (e p : ℕ) (z : LinkSlot) → Sound b s → s.near.state ≢ Held → e < s.near.session →
     at (s.near.line e) p ≡ Some z → Past s.near_record e p
 
 -- a plain packet whose place is past was taken
@@ -103,7 +103,7 @@ BoundedFromEither = (b : Bearer) (s : State) → Bounded s → Bounded (seen b s
 -- what has a number in the record's session is at most a window beyond what was taken
 abbrev pub FramesAreNear : Type 0
 FramesAreNear =
-    (b : Bearer) (s : State) (p : ℕ) (z : Slot) → Bounded s → at (s.near.line s.near_record.session) p ≡ Some z →
+    (b : Bearer) (s : State) (p : ℕ) (z : LinkSlot) → Bounded s → at (s.near.line s.near_record.session) p ≡ Some z →
     p ≤ s.near_record.taken + window
 
 -- the place of which the tunnel packet at the next place speaks is less than a window behind what was taken of its
@@ -111,4 +111,4 @@ FramesAreNear =
 abbrev pub TunnelsAreNear : Type 0
 TunnelsAreNear =
     (b : Bearer) (s : State) (f q : ℕ) (full : Bool) → Sound b s → Bounded s → IsNext s (Tunnel f q full) → 1 ≤ q →
-    s.far_record.session ≤ f → (told s.far_record f).taken < q + window
+    s.far_record.session ≤ f → (session_told s.far_record f).taken < q + window

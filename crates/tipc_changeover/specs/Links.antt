@@ -1,6 +1,6 @@
 -- The state of one direction between two nodes that have two links, on the first and on the second bearer.
 use Rattle.std.specs.Prelude.{◌≡◌, ℕ, ◌<◌, ◌≤◌, ◌⊎◌, Bool, true, false, List, ◌++◌, Some}
-use Rattle.tipc_changeover.specs.Slots.{at, leading, Slot, Tunnel}
+use Rattle.tipc_changeover.specs.Slots.{at, leading, LinkSlot, Tunnel}
 
 -- the two bearers; over the first one's link the flow goes where both links are up
 pub data Bearer : Type 0 where
@@ -25,9 +25,9 @@ pub record Sender : Type 0 where
   pub session : ℕ
   pub state : EndState
   -- the slots that have a number, of each session in order
-  pub line : ℕ → List Slot
+  pub line : ℕ → List LinkSlot
   -- the slots of the present session that wait for a number
-  pub waiting : List Slot
+  pub waiting : List LinkSlot
   -- how many places of the present session are acknowledged
   pub acked : ℕ
 
@@ -48,26 +48,18 @@ pub record State : Type 0 where
   pub delivered : List ℕ
 
 -- the same state, seen from the other link
-abbrev pub turned : State → State
-turned s = record {
-  near = s.far;
-  near_record = s.far_record;
-  far = s.near;
-  far_record = s.near_record;
-  put = s.put;
-  numbered = s.numbered;
-  delivered = s.delivered;
-}
+abbrev pub turned_state : State → State
+turned_state s = record s { near = s.far; near_record = s.far_record; far = s.near; far_record = s.near_record }
 
 -- the state is kept as it is seen from the first bearer's link; this is how it is seen from a bearer's link, and back
 abbrev pub seen : Bearer → State → State
 seen First s = s
-seen Second s = turned s
+seen Second s = turned_state s
 
 -- ---- what is read of a state
 
 -- the slots of the present session: those that have a number, and those that wait
-abbrev pub slots : Sender → List Slot
+abbrev pub slots : Sender → List LinkSlot
 slots x = x.line x.session ++ x.waiting
 
 -- the flow goes over the first bearer's link where that is up, else over the second one's
@@ -82,7 +74,7 @@ leads Second Reset there = false
 leads Second Held there = false
 
 -- the slots that come before any plain packet that hasn't a number yet
-abbrev pub front : Sender → List Slot
+abbrev pub front : Sender → List LinkSlot
 front x = x.line x.session ++ leading x.waiting
 
 -- A place of a session was taken, or a later session passed it wholly.
@@ -90,13 +82,13 @@ abbrev pub Past : Receiver → ℕ → ℕ → Type 0
 Past r e q = (e < r.session) ⊎ ((r.session ≡ e) × (q ≤ r.taken))
 
 -- one of the slots is a tunnel packet for a place of a session of the other link
-pub record Tunnels (zs : List Slot) (session place : ℕ) : Type 0 where
+pub record Tunnels (zs : List LinkSlot) (session place : ℕ) : Type 0 where
   pub where_it_stands : ℕ
   pub full : Bool
   pub there : at zs where_it_stands ≡ Some (Tunnel session place full)
 
 -- it stands before a place
-pub record TunnelsBefore (zs : List Slot) (before session place : ℕ) : Type 0 where
+pub record TunnelsBefore (zs : List LinkSlot) (before session place : ℕ) : Type 0 where
   pub where_it_stands : ℕ
   pub full : Bool
   pub there : at zs where_it_stands ≡ Some (Tunnel session place full)

@@ -3,7 +3,7 @@
 -- holds of two links has each part both ways. In all of them e and f are sessions, p and q are places, and i and j
 -- are plain packets.
 use Rattle.std.specs.Prelude.{◌≡◌, ◌≢◌, ℕ, ◌+◌, ◌-◌, ◌<◌, ◌≤◌, ◌⊎◌, Bool, true, false, List, [], Some, length}
-use Rattle.tipc_changeover.specs.Slots.{at, counted, plains, Plain, Slot, Tunnel}
+use Rattle.tipc_changeover.specs.Slots.{at, counted, plains, Plain, LinkSlot, Tunnel}
 use Rattle.tipc_changeover.specs.Links.{front, leads, slots, Bearer, First, Held, Past, Receiver, Reset, Sender, Tunnels, TunnelsBefore, TunnelsLive, Up}
 
 -- Ends: the record is of a session that has begun, and of an ended one where the end is held; just real places are
@@ -28,17 +28,17 @@ pub record Homes (b : Bearer) (x y : Sender) (numbered put : ℕ) : Type 0 where
   pub none_waits : leads b x.state y.state ≡ false → plains x.waiting ≡ []
 
 -- a plain packet stands in one of the lines
-pub record Stands (line : ℕ → List Slot) (i : ℕ) : Type 0 where
+pub record Stands (line : ℕ → List LinkSlot) (i : ℕ) : Type 0 where
   pub session : ℕ
   pub place : ℕ
   pub there : at (line session) place ≡ Some (Plain i)
 
 -- Order: in each line the plain packets rise.
-pub record Order (line : ℕ → List Slot) : Type 0 where
+pub record Order (line : ℕ → List LinkSlot) : Type 0 where
   pub rise : (e p q i j : ℕ) → at (line e) p ≡ Some (Plain i) → at (line e) q ≡ Some (Plain j) → p < q → i < j
 
 -- Barrier: an earlier packet of another session was taken, or a tunnel packet for it stands before the later one.
-pub record Barrier (x y : ℕ → List Slot) (r t : Receiver) : Type 0 where
+pub record Barrier (x y : ℕ → List LinkSlot) (r t : Receiver) : Type 0 where
   pub same_link : (e p f q i j : ℕ) → at (x e) p ≡ Some (Plain j) → at (x f) q ≡ Some (Plain i) → i < j → e ≢ f →
       Past r f q
   pub other_link : (e p f q i j : ℕ) → at (x e) p ≡ Some (Plain j) → at (y f) q ≡ Some (Plain i) → i < j →
@@ -52,7 +52,7 @@ pub record Ready (b : Bearer) (x y : Sender) (r t : Receiver) : Type 0 where
       Past t f q ⊎ Tunnels (front x) f q
 
 -- Runs: each place before one that is tunnelled was taken, or is tunnelled earlier in the same list.
-abbrev pub RunsIn : List Slot → Receiver → Type 0
+abbrev pub RunsIn : List LinkSlot → Receiver → Type 0
 RunsIn zs t =
     (p f q : ℕ) (full : Bool) (q' : ℕ) → at zs p ≡ Some (Tunnel f q full) → 1 ≤ q' → q' < q →
     Past t f q' ⊎ TunnelsBefore zs p f q'
@@ -72,7 +72,7 @@ pub record IsTarget (y : Sender) (f q : ℕ) : Type 0 where
   pub numbered : q ≤ length (y.line f)
 
 -- each tunnel packet of these slots speaks of such a place
-abbrev pub TargetIn : List Slot → Sender → Type 0
+abbrev pub TargetIn : List LinkSlot → Sender → Type 0
 TargetIn zs y = (p f q : ℕ) (full : Bool) → at zs p ≡ Some (Tunnel f q full) → IsTarget y f q
 
 -- each tunnel packet in the lines of an end, and in what it sends in its present session, speaks of such a place
@@ -82,29 +82,29 @@ pub record Target (x y : Sender) : Type 0 where
 
 -- Inner: a full tunnel packet holds a plain packet, but for the marker of an empty run; where a placeholder stands
 -- for a place, there is a tunnel packet, which speaks of an earlier place of the placeholder's own session.
-pub record HoldsPlain (line : ℕ → List Slot) (f q : ℕ) : Type 0 where
+pub record HoldsPlain (line : ℕ → List LinkSlot) (f q : ℕ) : Type 0 where
   pub index : ℕ
   pub there : at (line f) q ≡ Some (Plain index)
 
 -- at place q of session f there is a tunnel packet that speaks of a place of session e, which is before place p
-pub record HoldsTunnel (line : ℕ → List Slot) (f q e p : ℕ) : Type 0 where
+pub record HoldsTunnel (line : ℕ → List LinkSlot) (f q e p : ℕ) : Type 0 where
   pub place : ℕ
   pub full : Bool
   pub there : at (line f) q ≡ Some (Tunnel e place full)
   pub earlier : place < p
 
 -- what the tunnel packets among these slots of session e speak of, in the lines of the other link
-pub record InnerIn (zs : List Slot) (e : ℕ) (line : ℕ → List Slot) : Type 0 where
+pub record InnerIn (zs : List LinkSlot) (e : ℕ) (line : ℕ → List LinkSlot) : Type 0 where
   pub full : (p f q : ℕ) → at zs p ≡ Some (Tunnel f q true) → 1 ≤ q → HoldsPlain line f q
   pub placeholder : (p f q : ℕ) → at zs p ≡ Some (Tunnel f q false) → (1 ≤ q) × HoldsTunnel line f q e p
 
 -- what the tunnel packets in the lines of an end, and in what it sends in its present session, speak of
-pub record Inner (x : Sender) (line : ℕ → List Slot) : Type 0 where
+pub record Inner (x : Sender) (line : ℕ → List LinkSlot) : Type 0 where
   pub lines : (e : ℕ) → InnerIn (x.line e) e line
   pub now : InnerIn (slots x) x.session line
 
 -- Effect: what a tunnel packet speaks of was taken when the tunnel packet was.
-pub record Effect (line : ℕ → List Slot) (r t : Receiver) : Type 0 where
+pub record Effect (line : ℕ → List LinkSlot) (r t : Receiver) : Type 0 where
   pub done : (e p f q : ℕ) (full : Bool) → at (line e) p ≡ Some (Tunnel f q full) → 1 ≤ q → Past r e p → Past t f q
 
 -- Carrier: while the other link is reset nothing unacknowledged is a tunnel packet; while it is up such a one speaks
@@ -121,6 +121,6 @@ pub record Cover (x y : Sender) (r : Receiver) : Type 0 where
       Past r e q ⊎ ((x.session ≡ e + 1) × (x.state ≡ Held) × TunnelsLive y e q)
 
 -- Delivered: of the plain packets with a number just the first so many were taken.
-pub record Delivered (line : ℕ → List Slot) (r : Receiver) (count : ℕ) : Type 0 where
+pub record Delivered (line : ℕ → List LinkSlot) (r : Receiver) (count : ℕ) : Type 0 where
   pub all : (e p i : ℕ) → at (line e) p ≡ Some (Plain i) → i ≤ count → Past r e p
   pub only : (e p i : ℕ) → at (line e) p ≡ Some (Plain i) → Past r e p → i ≤ count

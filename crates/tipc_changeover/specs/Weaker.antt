@@ -3,7 +3,7 @@
 use Rattle.std.specs.Prelude.{true, List, [], ◌∷◌, ◌++◌}
 use Rattle.tipc_changeover.specs.Slots.{originals, plain_slots, Plain, Tunnel}
 use Rattle.tipc_changeover.specs.Links.{Second, State}
-use Rattle.tipc_changeover.specs.Events.{after_next, gone_down, gone_up, happened, told, with_ends, with_records, with_waiting, Failover, LinkUp, Number, Old, Put, Record, Release, Switch, TakePlain, TakeTunnel}
+use Rattle.tipc_changeover.specs.Events.{after_next, gone_down, gone_up, happened, session_told, with_ends, with_records, with_waiting, Failover, LinkUp, Number, Old, Put, Record, Release, Switch, TakePlain, TakeTunnel}
 use Rattle.tipc_changeover.specs.Reached.{IsFront, IsReached}
 use Rattle.tipc_changeover.specs.Stories.{first, second, told_from, MayTell, Step}
 
@@ -40,7 +40,7 @@ recorded_anew s = with_records s (record { session = s.near_record.session; take
 -- the tunnel packet at the next place of the second link is taken, and the packet inside, of the first session of the
 -- first link, is put off
 abbrev pub deferred : State → State
-deferred s = with_records s (told s.near_record 1) (after_next s.far_record) s.delivered
+deferred s = with_records s (session_told s.near_record 1) (after_next s.far_record) s.delivered
 
 -- ---- stories before them
 

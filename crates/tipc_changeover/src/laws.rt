@@ -5,7 +5,7 @@ ghost use Rattle.tipc_changeover.specs.Distances.{Bounded};
 ghost use Rattle.tipc_changeover.specs.Laws.{BoundedFromEither, EndedArePast, FramesAreNear, FullHoldsPlain, IsOpened, NoneMissing, PastAreTaken, PlaceholderHoldsTunnel, ReachedAreBounded, ReachedAreSound, ReachedTakeFront, ResetAreTaken, SoundFromEither, SoundTakeFront, StayBounded, StaySound, TunnelsAreNear};
 ghost use Rattle.tipc_changeover.specs.Links.{slots, First};
 ghost use Rattle.tipc_changeover.specs.Reached.{begun, IsReached};
-ghost use Rattle.tipc_changeover.specs.Slots.{Plain, Slot, Tunnel};
+ghost use Rattle.tipc_changeover.specs.Slots.{Plain, LinkSlot, Tunnel};
 ghost use Rattle.tipc_changeover.specs.Sound.{Sound};
 ghost use Rattle.tipc_changeover.specs.Stories.{failover_story, told_from};
 ghost use Rattle.tipc_changeover.specs.Weaker.{deferred, failed_waiting_first, failed_without_run, next_behind, next_on_first, next_on_second, nothing_given_back, one_carried, one_given_over, one_in_flight, one_on_second, one_taken, one_waits, recorded_anew, released_early, switched_without_run, taken_again, waiting_overtakes, Misleads};

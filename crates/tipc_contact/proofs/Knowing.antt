@@ -4,7 +4,7 @@ use Rattle.std.specs.Prelude.{slice_get}
 use Rattle.std.proofs.lemmas.Bool.{cases_eq}
 use Rattle.tipc_link_fsm.specs.Table.{Fsm, fresh}
 use Rattle.tipc_link_fsm.specs.Runs.{Call, ResetArrives, ActivateArrives, TrafficArrives, TickPasses, BearerIsCut, TunnelNames, Releases, ForgetsPeer, ContactEnds, outcome}
-use Rattle.tipc_contact.specs.Sides.{acted, after_call, alone, known, Action, ContactEnded, EndCalled, EndMade, HigherShown, IsSaid, IsTold, MayAct, MayCall, Notice, Restarted, Side}
+use Rattle.tipc_contact.specs.Sides.{acted, after_call, alone, known, Action, ContactEnded, EndCalled, EndMade, HigherShown, IsSaid, IsNoticed, MayAct, MayBeGiven, Notice, Restarted, Side}
 use Rattle.tipc_contact.specs.Peers.{Knows}
 use Rattle.tipc_contact.proofs.Calls.{ended_peer, forgotten_peer, keeps, forgets, takes, learns, shown_by}
 use Rattle.tipc_contact.proofs.Speaking.{at_same, at_other, called_end, one_of}
@@ -16,7 +16,7 @@ get_front [] new place m there = absurd (let wrong : ⊥ = cc in wrong)
 get_front (x ∷ heard) new zero m there = there
 get_front (x ∷ heard) new (suc k) m there = get_front heard new k m there
 
-told_more : (heard : List Notice) (new : Notice) (bearer epoch contact : ℕ) → IsTold heard bearer epoch contact → IsTold (heard ++ new ∷ []) bearer epoch contact
+told_more : (heard : List Notice) (new : Notice) (bearer epoch contact : ℕ) → IsNoticed heard bearer epoch contact → IsNoticed (heard ++ new ∷ []) bearer epoch contact
 told_more heard new bearer epoch contact t = record {
   place = t.place;
   notice = t.notice;
@@ -42,14 +42,14 @@ known_some (Some e) epoch is some = ap Some (sym is)
 pub knows_said : (s : Side) (said heard : List Notice) (new : Notice) → Knows s said heard → IsSaid s new → Knows s (said ++ new ∷ []) heard
 knows_said s said heard new h is = record {
   told = h.told;
-  named = λ place m there. one_of said new m place (λ n. n.er ≢ 0 → IsTold heard n.bearer n.er n.peer_contact) there (λ k old. h.named k m old)
-      (λ some. subst (λ c. IsTold heard new.bearer new.er c) (sym is.peer_contact) (h.told new.bearer new.er is.end is.there (known_some is.end.peer new.er is.er some)));
+  named = λ place m there. one_of said new m place (λ n. n.er ≢ 0 → IsNoticed heard n.bearer n.er n.peer_contact) there (λ k old. h.named k m old)
+      (λ some. subst (λ c. IsNoticed heard new.bearer new.er c) (sym is.peer_contact) (h.told new.bearer new.er is.end is.there (known_some is.end.peer new.er is.er some)));
 }
 
 -- ---- the side does something
 
 abbrev Told : Side → List Notice → Type 0
-Told s heard = (bearer epoch : ℕ) (end : Fsm) → s.ends bearer ≡ Some end → end.peer ≡ Some epoch → IsTold heard bearer epoch s.seen
+Told s heard = (bearer epoch : ℕ) (end : Fsm) → s.ends bearer ≡ Some end → end.peer ≡ Some epoch → IsNoticed heard bearer epoch s.seen
 
 made_told : (s : Side) (heard : List Notice) (bearer : ℕ) → Told s heard → Told (acted s (EndMade bearer)) heard
 made_told s heard bearer h x epoch end' is peer = elim (cases_eq x bearer) [
@@ -62,9 +62,9 @@ made_told s heard bearer h x epoch end' is peer = elim (cases_eq x bearer) [
 ]
 
 -- what a RESET or an ACTIVATE shows was told
-may_shown : (s : Side) (heard : List Notice) (bearer : ℕ) (call : Call) (epoch : ℕ) → MayCall s heard bearer call → shown_by call ≡ Some epoch → IsTold heard bearer epoch s.seen
-may_shown s heard bearer (ResetArrives es held) epoch may is = let same : es ≡ epoch = cc in subst (λ e. IsTold heard bearer e s.seen) same may
-may_shown s heard bearer (ActivateArrives es er) epoch may is = let same : es ≡ epoch = cc in subst (λ e. IsTold heard bearer e s.seen) same may
+may_shown : (s : Side) (heard : List Notice) (bearer : ℕ) (call : Call) (epoch : ℕ) → MayBeGiven s heard bearer call → shown_by call ≡ Some epoch → IsNoticed heard bearer epoch s.seen
+may_shown s heard bearer (ResetArrives es held) epoch may is = let same : es ≡ epoch = cc in subst (λ e. IsNoticed heard bearer e s.seen) same may
+may_shown s heard bearer (ActivateArrives es er) epoch may is = let same : es ≡ epoch = cc in subst (λ e. IsNoticed heard bearer e s.seen) same may
 may_shown s heard bearer (TrafficArrives es er) epoch may is = absurd (let wrong : ⊥ = cc in wrong)
 may_shown s heard bearer (TickPasses held) epoch may is = absurd (let wrong : ⊥ = cc in wrong)
 may_shown s heard bearer (BearerIsCut held) epoch may is = absurd (let wrong : ⊥ = cc in wrong)
@@ -73,17 +73,17 @@ may_shown s heard bearer Releases epoch may is = absurd (let wrong : ⊥ = cc in
 may_shown s heard bearer ForgetsPeer epoch may is = absurd may
 may_shown s heard bearer ContactEnds epoch may is = absurd may
 
-call_told : (s : Side) (heard : List Notice) (bearer : ℕ) (call : Call) → Told s heard → MayCall s heard bearer call → Told (acted s (EndCalled bearer call)) heard
+call_told : (s : Side) (heard : List Notice) (bearer : ℕ) (call : Call) → Told s heard → MayBeGiven s heard bearer call → Told (acted s (EndCalled bearer call)) heard
 call_told s heard bearer call h may x epoch end' is peer = elim (cases_eq x bearer) [
   | inl here ↦
       let found = called_end call (s.ends x) end' (sym (at_same x bearer (after_call call (s.ends x)) (s.ends x) here) ∙ is) in
       let now : (outcome found.0 call).after.peer ≡ Some epoch = ap (λ (e : Fsm). e.peer) found.2 ∙ peer in
-      elim (learns found.0 call) as (λ _. IsTold heard x epoch s.seen) [
+      elim (learns found.0 call) as (λ _. IsNoticed heard x epoch s.seen) [
         | keeps same ↦ h x epoch found.0 found.1 (sym same ∙ now)
         | forgets none ↦ absurd (let wrong : ⊥ = cc in wrong)
         | takes es shown took ↦
             let same : es ≡ epoch = (let both : Some es ≡ Some epoch = sym took ∙ now in cc) in
-            subst (λ b. IsTold heard b epoch s.seen) (sym here) (may_shown s heard bearer call epoch may (shown ∙ ap Some same))
+            subst (λ b. IsNoticed heard b epoch s.seen) (sym here) (may_shown s heard bearer call epoch may (shown ∙ ap Some same))
       ]
   | inr differ ↦ h x epoch end' (sym (at_other x bearer (after_call call (s.ends x)) (s.ends x) differ) ∙ is) peer
 ]

@@ -2,7 +2,7 @@
 use Rattle.std.proofs.Common.{◌≡◌, ℕ, false, List, [], ◌∷◌, ◌++◌, Some, sym, ap, ◌∙◌, subst, arith}
 use Rattle.std.specs.Prelude.{slice_get}
 use Rattle.tipc_link_fsm.specs.Table.{Fsm, is_last}
-use Rattle.tipc_contact.specs.Sides.{acted, alone, Action, IsSaid, IsTold, MayAct, Notice, Side}
+use Rattle.tipc_contact.specs.Sides.{acted, alone, Action, IsSaid, IsNoticed, MayAct, Notice, Side}
 use Rattle.tipc_contact.specs.Peers.{ArePeers, Speaks}
 use Rattle.tipc_contact.proofs.Knowing.{knows_alone, knows_heard, knows_on, knows_said}
 use Rattle.tipc_contact.proofs.Speaking.{speaks_alone, speaks_more, speaks_on}
@@ -30,7 +30,7 @@ pub turned : (a b : Side) (said_a said_b : List Notice) → ArePeers a said_a b 
 turned a b said_a said_b h = record { a_speaks = h.b_speaks; b_speaks = h.a_speaks; a_knows = h.b_knows; b_knows = h.a_knows }
 
 -- the contact number under which an epoch was told is that of the epoch
-told_contact : (s : Side) (said : List Notice) (bearer epoch contact : ℕ) (h : Speaks s said) → IsTold said bearer epoch contact → is_last epoch ≡ false → h.contact_of bearer epoch ≡ contact
+told_contact : (s : Side) (said : List Notice) (bearer epoch contact : ℕ) (h : Speaks s said) → IsNoticed said bearer epoch contact → is_last epoch ≡ false → h.contact_of bearer epoch ≡ contact
 told_contact s said bearer epoch contact h t goes_on =
     ap (λ b. h.contact_of b epoch) (sym t.bearer_is)
     ∙ ap (h.contact_of t.notice.bearer) (sym t.epoch_is)

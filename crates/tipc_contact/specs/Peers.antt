@@ -1,7 +1,7 @@
 -- What holds of two nodes at every moment, whatever either does and whatever it hears.
 use Rattle.std.specs.Prelude.{◌≡◌, ◌≢◌, ◌<◌, ◌≤◌, ℕ, false, List, Some, None, slice_get}
 use Rattle.tipc_link_fsm.specs.Table.{Fsm, is_last}
-use Rattle.tipc_contact.specs.Sides.{Side, Notice, IsTold, boot_of}
+use Rattle.tipc_contact.specs.Sides.{Side, Notice, IsNoticed, boot_of}
 
 -- A side and everything that it has said. A contact number belongs to an epoch: a link end had each of its epochs under one
 -- contact number, but for the last epoch of a boot, under which no link goes up.
@@ -23,8 +23,8 @@ pub record Speaks (s : Side) (said : List Notice) : Type 0 where
 -- contact number that is the highest seen; and so was each epoch of the peer that the side has named, under the number that was
 -- the highest then.
 pub record Knows (s : Side) (said heard : List Notice) : Type 0 where
-  pub told : (bearer epoch : ℕ) (end : Fsm) → s.ends bearer ≡ Some end → end.peer ≡ Some epoch → IsTold heard bearer epoch s.seen
-  pub named : (place : ℕ) (m : Notice) → slice_get said place ≡ Some m → m.er ≢ 0 → IsTold heard m.bearer m.er m.peer_contact
+  pub told : (bearer epoch : ℕ) (end : Fsm) → s.ends bearer ≡ Some end → end.peer ≡ Some epoch → IsNoticed heard bearer epoch s.seen
+  pub named : (place : ℕ) (m : Notice) → slice_get said place ≡ Some m → m.er ≢ 0 → IsNoticed heard m.bearer m.er m.peer_contact
 
 -- two sides and everything that they have said
 pub record ArePeers (a : Side) (said_a : List Notice) (b : Side) (said_b : List Notice) : Type 0 where

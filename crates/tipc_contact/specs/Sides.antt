@@ -49,7 +49,7 @@ pub record IsSaid (s : Side) (m : Notice) : Type 0 where
   pub peer_contact : m.peer_contact ≡ s.seen
 
 -- one of these notices shows the epoch on the bearer, under this contact number
-pub record IsTold (notices : List Notice) (bearer epoch contact : ℕ) : Type 0 where
+pub record IsNoticed (notices : List Notice) (bearer epoch contact : ℕ) : Type 0 where
   pub place : ℕ
   pub notice : Notice
   pub there : slice_get notices place ≡ Some notice
@@ -86,17 +86,17 @@ AreDown ends = (bearer : ℕ) (end : Fsm) → ends bearer ≡ Some end → is_up
 
 -- A RESET or an ACTIVATE is given to a link end only while the contact number that it shows is the highest seen; the calls
 -- that end a contact or forget the peer are made at all link ends.
-abbrev pub MayCall : Side → List Notice → ℕ → Call → Type 0
-MayCall s heard bearer (ResetArrives es held) = IsTold heard bearer es s.seen
-MayCall s heard bearer (ActivateArrives es er) = IsTold heard bearer es s.seen
-MayCall s heard bearer ForgetsPeer = ⊥
-MayCall s heard bearer ContactEnds = ⊥
-MayCall s heard bearer other = Unit {0}
+abbrev pub MayBeGiven : Side → List Notice → ℕ → Call → Type 0
+MayBeGiven s heard bearer (ResetArrives es held) = IsNoticed heard bearer es s.seen
+MayBeGiven s heard bearer (ActivateArrives es er) = IsNoticed heard bearer es s.seen
+MayBeGiven s heard bearer ForgetsPeer = ⊥
+MayBeGiven s heard bearer ContactEnds = ⊥
+MayBeGiven s heard bearer other = Unit {0}
 
 -- what a side may do that has heard these notices of the peer
 abbrev pub MayAct : Side → List Notice → Action → Type 0
 MayAct s heard (EndMade bearer) = s.ends bearer ≡ None
-MayAct s heard (EndCalled bearer call) = MayCall s heard bearer call
+MayAct s heard (EndCalled bearer call) = MayBeGiven s heard bearer call
 MayAct s heard (HigherShown number) = (s.seen < number) × AreDown s.ends
 MayAct s heard ContactEnded = is_last s.own ≡ false
 MayAct s heard (Restarted boot) = boot_of s.own < boot

@@ -11,7 +11,7 @@ use Rattle.tipc_header.specs.Frames.{sent_as}
 use Rattle.tipc_header.specs.Grammar.{Fits}
 use Rattle.tipc_header.specs.Spelling.{spelling}
 use Rattle.tipc_header.proofs.Again.{length-spelling}
-use Rattle.tipc_fragments.specs.Cutting.{count_of, packet_of, packets_of, Piece, piece_after, pieces_of}
+use Rattle.tipc_fragments.specs.Cutting.{count_of, fragment_fields, packets_of, Piece, piece_after, pieces_of}
 use Rattle.tipc_fragments.specs.Laws.{IsPiece}
 
 -- what is cut out of a message from a start to an end within it
@@ -42,16 +42,16 @@ pieces_from m a n = map (piece_after m) (range_with_len a n)
 
 -- the packets of the first n fragments
 abbrev pub first_packets : List ℕ → ℕ → List (List ℕ)
-first_packets m n = map (λ p. spelling (packet_of p)) (pieces_from m 0 n)
+first_packets m n = map (λ p. spelling (fragment_fields p)) (pieces_from m 0 n)
 
-first_packets-more : (m : List ℕ) (n : ℕ) → first_packets m (n + 1) ≡ first_packets m n ++ spelling (packet_of (piece_after m n)) ∷ []
+first_packets-more : (m : List ℕ) (n : ℕ) → first_packets m (n + 1) ≡ first_packets m n ++ spelling (fragment_fields (piece_after m n)) ∷ []
 first_packets-more m n =
-    ap (map (λ (p : Piece). spelling (packet_of p))) (map-range_with_len_more (piece_after m) 0 n n (omega arith))
-    ∙ map-append (λ (p : Piece). spelling (packet_of p)) (pieces_from m 0 n) (piece_after m n ∷ [])
+    ap (map (λ (p : Piece). spelling (fragment_fields p))) (map-range_with_len_more (piece_after m) 0 n n (omega arith))
+    ∙ map-append (λ (p : Piece). spelling (fragment_fields p)) (pieces_from m 0 n) (piece_after m n ∷ [])
 
 -- one more packet
 pub first_packets-push : (m : List ℕ) (n : ℕ) (old new : List (List ℕ)) (packet : List ℕ)
-    → new ≡ old ++ packet ∷ [] → old ≡ first_packets m n → packet ≡ spelling (packet_of (piece_after m n))
+    → new ≡ old ++ packet ∷ [] → old ≡ first_packets m n → packet ≡ spelling (fragment_fields (piece_after m n))
     → new ≡ first_packets m (n + 1)
 first_packets-push m n old new packet pushed so_far next =
     pushed
@@ -97,13 +97,13 @@ all_pieces P m each = λ k d h.
 
 -- ---- the packets
 
-pub length-packet : (p : Piece) → length (spelling (packet_of p)) ≡ 40 + length p.bytes
-length-packet p = length-spelling (packet_of p) ∙ omega arith
+pub length-packet : (p : Piece) → length (spelling (fragment_fields p)) ≡ 40 + length p.bytes
+length-packet p = length-spelling (fragment_fields p) ∙ omega arith
 
 pub sent_fits : (p : Piece) (acknowledgement sequence previous : ℕ)
     → 1 ≤ p.number → p.number < 2 ^ 16 → 1 ≤ length p.bytes → length p.bytes ≤ 1412
     → acknowledgement < 2 ^ 16 → sequence < 2 ^ 16 → previous < 2 ^ 32
-    → Fits (sent_as acknowledgement sequence previous (packet_of p))
+    → Fits (sent_as acknowledgement sequence previous (fragment_fields p))
 sent_fits p acknowledgement sequence previous one number some most low_a low_s low_p = record {
   acknowledgement = low_a;
   sequence = low_s;
@@ -117,17 +117,17 @@ sent_fits p acknowledgement sequence previous one number some most low_a low_s l
 -- every fragment of a message fits as it is sent
 pub all_fit : (m : List ℕ) (acknowledgement sequence previous : ℕ) → length m ≤ 66044
     → acknowledgement < 2 ^ 16 → sequence < 2 ^ 16 → previous < 2 ^ 32
-    → All (λ p. Fits (sent_as acknowledgement sequence previous (packet_of p))) (pieces_of m)
+    → All (λ p. Fits (sent_as acknowledgement sequence previous (fragment_fields p))) (pieces_of m)
 all_fit m acknowledgement sequence previous within low_a low_s low_p =
-    all_pieces (λ p. Fits (sent_as acknowledgement sequence previous (packet_of p))) m (λ before h.
+    all_pieces (λ p. Fits (sent_as acknowledgement sequence previous (fragment_fields p))) m (λ before h.
     let is = is_piece m before h in
     sent_fits (piece_after m before) acknowledgement sequence previous (omega arith) (omega arith) is.some is.most low_a low_s low_p
     )
 
 pub packets_are_short : (m : List ℕ) → All (λ packet. length packet ≤ 1452) (packets_of m)
 packets_are_short m =
-    All-map (λ packet. length packet ≤ 1452) (λ (p : Piece). spelling (packet_of p)) (pieces_of m)
-    (all_pieces (λ p. length (spelling (packet_of p)) ≤ 1452) m (λ before h.
+    All-map (λ packet. length packet ≤ 1452) (λ (p : Piece). spelling (fragment_fields p)) (pieces_of m)
+    (all_pieces (λ p. length (spelling (fragment_fields p)) ≤ 1452) m (λ before h.
     let is = is_piece m before h in
     let most = is.most in
     omega (arith, length-packet (piece_after m before))

@@ -45,8 +45,8 @@ abbrev pub pieces_of : List ℕ → List Piece
 pieces_of message = map (piece_after message) (range_with_len 0 (count_of message))
 
 -- the packet of a fragment as it waits to be sent, words 2 and 3 zero
-abbrev pub packet_of : Piece → Fields
-packet_of p = record {
+abbrev pub fragment_fields : Piece → Fields
+fragment_fields p = record {
   acknowledgement = 0;
   sequence = 0;
   previous = 0;
@@ -56,4 +56,4 @@ packet_of p = record {
 
 -- the packets of a message, in order
 abbrev pub packets_of : List ℕ → List (List ℕ)
-packets_of message = map (λ p. spelling (packet_of p)) (pieces_of message)
+packets_of message = map (λ p. spelling (fragment_fields p)) (pieces_of message)

@@ -1,7 +1,7 @@
 //! A long message is cut into fragments.
 
 ghost use Rattle.std.specs.Prelude.{◌≡◌, ◌+◌, ◌*◌, ◌/◌, ◌<◌, ◌≤◌, All, length, take, drop, IfOk};
-ghost use Rattle.tipc_fragments.specs.Cutting.{count_of, kind_of, packet_of, packets_of, piece_after};
+ghost use Rattle.tipc_fragments.specs.Cutting.{count_of, kind_of, fragment_fields, packets_of, piece_after};
 ghost use Rattle.tipc_header.specs.Spelling.{spelling};
 
 use std::alloc::Global;
@@ -47,7 +47,7 @@ fn bytes_after(message: &[u8], before: usize) -> &[u8]
 fn fragment(alloc: Global, message: &[u8], before: usize) -> Result<Bytes, NoMemory>
     requires within { length message.now ≤ 66044 }
     requires before { before < count_of message.now }
-    ensures { IfOk result (λ packet. packet ≡ spelling (packet_of (piece_after message.now before))) }
+    ensures { IfOk result (λ packet. packet ≡ spelling (fragment_fields (piece_after message.now before))) }
 {
     let fragment = Fragment {
         fragment_type: kind(message.len().div_ceil(FRAGMENT_BYTES), before),

@@ -7,7 +7,7 @@ ghost use Rattle.tipc_header.specs.Frames.{sent_as};
 ghost use Rattle.tipc_header.specs.Grammar.{Fits};
 ghost use Rattle.tipc_header.specs.Spelling.{spelling};
 ghost use Rattle.tipc_fragments.specs.declared.cutting.TheConstants.{FRAGMENT_BYTES, LEAST_CUT, MOST_CUT};
-ghost use Rattle.tipc_fragments.specs.Cutting.{count_of, packet_of, Piece, piece_after, pieces_of};
+ghost use Rattle.tipc_fragments.specs.Cutting.{count_of, fragment_fields, Piece, piece_after, pieces_of};
 ghost use Rattle.tipc_fragments.specs.Laws.{Came, IsBegun, IsLong, IsPiece, IsWhole, JoinsFront, pieces_in};
 ghost use Rattle.tipc_fragments.specs.Streams.{CameItem, GivesFront, IsMessage, items_in, items_of};
 
@@ -33,8 +33,8 @@ pub fn fragments_are_the_message()
 pub fn fragments_fit()
     ensures sent { (message : List ℕ) (acknowledgement sequence previous : ℕ) → length message ≤ 66044 →
         acknowledgement < 2 ^ 16 → sequence < 2 ^ 16 → previous < 2 ^ 32 →
-        All (λ p. Fits (sent_as acknowledgement sequence previous (packet_of p))) (pieces_of message) }
-    ensures size { (p : Piece) → length (spelling (packet_of p)) ≡ 40 + length p.bytes }
+        All (λ p. Fits (sent_as acknowledgement sequence previous (fragment_fields p))) (pieces_of message) }
+    ensures size { (p : Piece) → length (spelling (fragment_fields p)) ≡ 40 + length p.bytes }
 {}
 
 /// Fragments of one message that come in order to a joiner with none begun: as long as not every one came, more is

@@ -14,7 +14,7 @@ use Rattle.tipc_journal.specs.Licensed.{event_given, events_given, next_answer, 
 use Rattle.tipc_journal.specs.Prefixes.{each_behind, list_with}
 use Rattle.tipc_journal.specs.Refusals.{is_among, refusal}
 use Rattle.tipc_journal.specs.Steps.{IsInside, IsWhole, NodeStep, step_entries}
-use Rattle.tipc_journal.specs.Subscriptions.{subscriptions, told, transitions}
+use Rattle.tipc_journal.specs.Subscriptions.{subscriptions, told_by_entry, transitions}
 use Rattle.tipc_journal.proofs.CountLaws.{events_given_step}
 use Rattle.tipc_journal.proofs.PrefixLaws.{IsPrefixOf_grows}
 use Rattle.tipc_journal.proofs.SubscriptionLaws.{transitions_append}
@@ -60,7 +60,7 @@ pub given_front : (own : Addr) (J : List Entry) (s : NodeStep) (n : ℕ) → IsW
     → IsLicensed own (record { before = J; step = s }) → IsPrefixOf (events_given J n) (transitions J n)
     → IsPrefixOf (events_given (J ++ step_entries s) n) (transitions (J ++ step_entries s) n)
 given_front own J s n whole clean licensed front =
-    let more : List Event = each_behind (told n) J (step_entries s) in
+    let more : List Event = each_behind (told_by_entry n) J (step_entries s) in
     subst (λ (w : List Event). IsPrefixOf w (transitions (J ++ step_entries s) n)) (sym (events_given_step J s n whole clean))
     (subst (λ (w : List Event). IsPrefixOf (list_with (events_given J n) (event_given n s.event s.answer)) w) (sym (transitions_append J (step_entries s) n))
     (by (event_given n s.event s.answer) more refl))

@@ -24,19 +24,6 @@ AllBehind_more P before [] x all one = (subst (λ w. P w x) (append-nil before) 
 AllBehind_more {A} P before (y ∷ ys) x all one =
     (all.0, AllBehind_more P (before ++ y ∷ []) ys x all.1 (subst (λ (w : List A). P w x) (sym (append_assoc before (y ∷ []) ys)) one))
 
--- all but the last are as they have to be
-pub AllBehind_front : {A : Type 0} (P : List A → A → Type 0) (before xs : List A) (x : A)
-    → AllBehind P before (xs ++ x ∷ []) → AllBehind P before xs
-AllBehind_front P before [] x all = tt
-AllBehind_front P before (y ∷ ys) x all = (all.0, AllBehind_front P (before ++ y ∷ []) ys x all.1)
-
--- the last is as it has to be behind all before it
-pub AllBehind_last : {A : Type 0} (P : List A → A → Type 0) (before xs : List A) (x : A)
-    → AllBehind P before (xs ++ x ∷ []) → P (before ++ xs) x
-AllBehind_last P before [] x all = subst (λ w. P w x) (sym (append-nil before)) all.0
-AllBehind_last {A} P before (y ∷ ys) x all =
-    subst (λ (w : List A). P w x) (append_assoc before (y ∷ []) ys) (AllBehind_last P (before ++ y ∷ []) ys x all.1)
-
 -- at the beginning of a step all may stand
 pub AllMayStand_nil : (own : Addr) (J : List Entry) (d : Due) → AllMayStand own J d []
 AllMayStand_nil own J d = tt

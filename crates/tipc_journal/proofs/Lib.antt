@@ -12,8 +12,7 @@ pub mod PrefixLaws
 pub mod QueueLaws
 pub mod RoomLaws
 pub mod StepLaws
-pub mod StoryLaws
+pub mod StepRooms
 pub mod StreamLaws
 pub mod SubscriptionLaws
-pub mod VisitLaws
 pub mod WholeSteps

@@ -1,23 +1,21 @@
 -- The table in order, behind one more entry; and look-ups in it.
 use Rattle.std.specs.List.{AllByRecursion, cons_option, list_all, list_any}
-use Rattle.std.specs.Prelude.{option_to_list, ◌||◌, ◌&&◌, ◌==◌, not}
+use Rattle.std.specs.Prelude.{option_to_list, ◌||◌, ◌&&◌, ◌==◌, not, nat_eq}
 use Rattle.std.specs.Cmp.{nat_cmp_total, unsigned_ties, IsTotalOrder}
 use Rattle.std.specs.Cmp.Lexicographic.{lists_ties, lists_total, slice_cmp}
 use Rattle.std.specs.Ordering.{is_eq, is_gt, is_lt, nat_cmp, ordering_reverse}
 use Rattle.std.specs.declared.cmp.Ordering.{Ordering}
 use Rattle.std.specs.declared.cmp.Ordering.TheVariants.{Less, Equal, Greater}
 use Rattle.std.proofs.Common.{◌≡◌, ℕ, Bool, true, false, cond, List, [], ◌∷◌, ◌++◌, Option, Some, None, filter, fold, refl, sym, ◌∙◌, ap, true≢false, eqb-true, eq-eqb, arith, append_assoc, subst}
-use Rattle.std.specs.Prelude.{nat_eq}
 use Rattle.std.proofs.lemmas.Bool.{and_from, and_parts}
 use Rattle.std.proofs.lemmas.Bool.Decides.{nat_tests}
 use Rattle.std.proofs.lemmas.Cmp.{upto}
-use Rattle.std.proofs.lemmas.List.{append-nil}
 use Rattle.std.proofs.lemmas.List.Elements.{filter-append}
 use Rattle.std.proofs.lemmas.List.Folds.{list_all-append}
 use Rattle.std.proofs.lemmas.List.Sums.{fold-append}
 use Rattle.tipc_types.specs.declared.services.Publication.{Publication}
-use Rattle.tipc_name_table.specs.Tables.{is_named, is_of, place_cmp, place_of, put, stands_before, without, without_node}
-use Rattle.tipc_name_table.proofs.Places.{all_kept, all_put}
+use Rattle.tipc_types.specs.Tables.{is_named, is_of, place_cmp, place_of, put, stands_before, without, without_node}
+use Rattle.tipc_types.proofs.Places.{all_kept, all_put}
 use Rattle.tipc_types.specs.declared.identity.Addr.{Addr}
 use Rattle.tipc_journal.specs.declared.entries.Entry.{Entry}
 use Rattle.tipc_journal.specs.declared.entries.Entry.TheVariants.{Published, Withdrawn, Learned, Forgot, ContactDown}
@@ -77,10 +75,6 @@ put_arranged p (q ∷ qs) h = by (stands_before q p) refl (put_arranged p qs h.1
     by : (b : Bool) → stands_before q p ≡ b → AreArranged (put p qs) → AreArranged (cond b (q ∷ put p qs) (p ∷ q ∷ qs))
     by true e later = (all_put (λ r. stands_before r q ≡ false) p qs (before_one_way p q e) h.0, later)
     by false e later = (none_before p q qs e h, h)
-
-all_arranged : (acc ps : List Publication) → AreArranged acc → AreArranged (fold (λ sorted p. put p sorted) acc ps)
-all_arranged acc [] h = h
-all_arranged acc (p ∷ ps) h = all_arranged (put p acc) ps (put_arranged p acc h)
 
 -- ---- one more, and a look-up
 
@@ -372,12 +366,3 @@ names_more own J e home here = names_of _ _ _ (live_more J e) (learned_more J e)
 -- one more entry of this node
 pub AreAtHome_more : (own : Addr) (J : List Entry) (e : Entry) → AreAtHome own J → is_at_home own e ≡ true → AreAtHome own (J ++ e ∷ [])
 AreAtHome_more own J e home here = list_all-append (is_at_home own) J (e ∷ []) ∙ ap (λ b. b && (is_at_home own e && true)) home ∙ ap (λ b. b && true) here
-
--- the table in order behind later entries of this node
-pub names_append : (own : Addr) (J es : List Entry) → AreAtHome own J → AreAtHome own es → names (J ++ es) ≡ fold names_after (names J) es
-names_append own J [] home here = ap names (append-nil J)
-names_append own J (e ∷ es) home here =
-    let parts = and_parts (is_at_home own e) _ here in
-    ap names (sym (append_assoc J (e ∷ []) es))
-    ∙ names_append own (J ++ e ∷ []) es (AreAtHome_more own J e home parts.0) parts.1
-    ∙ ap (λ (w : List Publication). fold names_after w es) (names_more own J e home parts.0)

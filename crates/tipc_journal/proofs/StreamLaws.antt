@@ -8,9 +8,8 @@ use Rattle.std.proofs.lemmas.List.Elements.{filter_map-append}
 use Rattle.std.proofs.lemmas.List.Recursion.{is_count_by}
 use Rattle.tipc_types.specs.declared.message_forms.Flow.{Flow}
 use Rattle.tipc_types.specs.declared.message_forms.Flow.TheVariants.{Zero, One, Broadcast}
-use Rattle.tipc_types.specs.declared.message_forms.Message.{Message}
 use Rattle.tipc_journal.specs.declared.entries.Entry.{Entry}
-use Rattle.tipc_journal.specs.declared.entries.Entry.TheVariants.{Answered, Delivered}
+use Rattle.tipc_journal.specs.declared.entries.Entry.TheVariants.{Answered}
 use Rattle.tipc_journal.specs.Prefixes.{list_with}
 use Rattle.tipc_journal.specs.Steps.{NodeStep, step_entries}
 use Rattle.tipc_journal.specs.Streams.{Stream, flow_eq, stream_eq, accepted_message, accepted, delivered_message, delivered}
@@ -116,13 +115,6 @@ delivered_append xs ys s = filter_map-append (delivered_message s) xs ys
 pub delivered_more : (xs : List Entry) (e : Entry) (s : Stream) → delivered (xs ++ e ∷ []) s ≡ list_with (delivered xs s) (delivered_message s e)
 unfolding delivered
 delivered_more xs e s = filter_map_more (delivered_message s) xs e
-
--- a message that is delivered in the stream stands last
-pub delivered_same : (xs : List Entry) (s : Stream) (m : Message) (by : List ℕ)
-    → delivered (xs ++ Delivered s.peer s.contact s.flow m by ∷ []) s ≡ delivered xs s ++ m ∷ []
-delivered_same xs s m by =
-    delivered_more xs (Delivered s.peer s.contact s.flow m by) s
-    ∙ ap (λ b. list_with (delivered xs s) (cond b (Some m) None)) (stream_eq_refl s)
 
 -- as many messages were delivered as there are Delivered entries of the stream
 pub length_delivered : (entries : List Entry) (s : Stream) → length (delivered entries s) ≡ count_by (λ e. is_some (delivered_message s e)) entries

@@ -16,7 +16,7 @@ use Rattle.tipc_journal.specs.Steps.{NodeStep, step_entries}
 use Rattle.tipc_journal.proofs.NameLaws.{live_more, learned_more}
 use Rattle.tipc_journal.proofs.WholeSteps.{fold_step}
 use Rattle.tipc_journal.specs.Prefixes.{each_behind}
-use Rattle.tipc_journal.specs.Subscriptions.{events_at, timeout_events, watching_after, watching, subscriptions_after, subscriptions, told, transitions, ticks_after, ticks_since}
+use Rattle.tipc_journal.specs.Subscriptions.{events_at, timeout_events, watching_after, watching, subscriptions_after, subscriptions, told_by_entry, transitions, ticks_after, ticks_since}
 
 -- one more entry begins, ends or keeps a subscription, by its kind
 pub watching_more : (xs : List Entry) (e : Entry) (n : ℕ) → watching (xs ++ e ∷ []) n ≡ watching_after n (watching xs n) e
@@ -48,9 +48,9 @@ unfolding transitions
 transitions_nil n = refl
 
 -- one more entry adds what it tells the subscription
-pub transitions_more : (xs : List Entry) (e : Entry) (n : ℕ) → transitions (xs ++ e ∷ []) n ≡ transitions xs n ++ told n xs e
+pub transitions_more : (xs : List Entry) (e : Entry) (n : ℕ) → transitions (xs ++ e ∷ []) n ≡ transitions xs n ++ told_by_entry n xs e
 unfolding transitions
-transitions_more xs e n = each_behind_more (told n) [] xs e
+transitions_more xs e n = each_behind_more (told_by_entry n) [] xs e
 
 -- ---- whole steps
 
@@ -81,7 +81,7 @@ same_table : (n : ℕ) (J K : List Entry) → TellAlike n J K → table J ≡ ta
 same_table n J K alike = ap (λ w. w ++ learned J) alike.own ∙ ap (λ w. live K ++ w) alike.theirs
 
 -- they tell the same at an entry
-same_told : (n : ℕ) (J K : List Entry) (e : Entry) → TellAlike n J K → told n J e ≡ told n K e
+same_told : (n : ℕ) (J K : List Entry) (e : Entry) → TellAlike n J K → told_by_entry n J e ≡ told_by_entry n K e
 same_told n J K (Subscribed number s) alike =
     ap (λ w. cond (number == n) (additions s [] (in_order (filter (is_watched s) w))) []) (same_table n J K alike)
 same_told n J K (TimedOut number) alike = ap (λ w. cond (number == n) (timeout_events w) []) alike.watched
@@ -97,11 +97,11 @@ alike_more n J K e alike =
     }
 
 -- they tell the same at later entries
-same_told_all : (n : ℕ) (J K es : List Entry) → TellAlike n J K → each_behind (told n) J es ≡ each_behind (told n) K es
+same_told_all : (n : ℕ) (J K es : List Entry) → TellAlike n J K → each_behind (told_by_entry n) J es ≡ each_behind (told_by_entry n) K es
 same_told_all n J K [] alike = refl
 same_told_all n J K (e ∷ es) alike =
-    ap (λ w. w ++ each_behind (told n) (J ++ e ∷ []) es) (same_told n J K e alike)
-    ∙ ap (λ w. told n K e ++ w) (same_told_all n (J ++ e ∷ []) (K ++ e ∷ []) es (alike_more n J K e alike))
+    ap (λ w. w ++ each_behind (told_by_entry n) (J ++ e ∷ []) es) (same_told n J K e alike)
+    ∙ ap (λ w. told_by_entry n K e ++ w) (same_told_all n (J ++ e ∷ []) (K ++ e ∷ []) es (alike_more n J K e alike))
 
 -- what is told at later entries stands behind what was told before
 each_behind_append : {A B : Type 0} (f : List A → A → List B) (before xs ys : List A)
@@ -113,9 +113,9 @@ each_behind_append f before (x ∷ xs) ys =
     ∙ ap (λ w. (f before x ++ each_behind f (before ++ x ∷ []) xs) ++ each_behind f w ys) (append_assoc before (x ∷ []) xs)
 
 -- later entries put what they tell behind the transitions
-pub transitions_append : (J es : List Entry) (n : ℕ) → transitions (J ++ es) n ≡ transitions J n ++ each_behind (told n) J es
+pub transitions_append : (J es : List Entry) (n : ℕ) → transitions (J ++ es) n ≡ transitions J n ++ each_behind (told_by_entry n) J es
 unfolding transitions
-transitions_append J es n = each_behind_append (told n) [] J es
+transitions_append J es n = each_behind_append (told_by_entry n) [] J es
 
 -- neither a Step nor an Answered tells a subscription anything
 quiet_events : (o : Option Subscription) (there : List Publication) (by : By) (event : EventNote) → events_at o there (Step by event) ≡ []
@@ -130,7 +130,7 @@ quiet_end (Some s) there caller call answer = refl
 pub transitions_step : (J : List Entry) (s : NodeStep) (n : ℕ) → transitions (J ++ step_entries s) n ≡ transitions (J ++ s.inside) n
 unfolding transitions
 transitions_step J s n =
-    let f = told n in
+    let f = told_by_entry n in
     let begin : List Entry = Step s.by s.event ∷ [] in
     let end : List Entry = Answered s.caller s.call s.answer ∷ [] in
     let alike : TellAlike n (J ++ begin) J = record { watched = watching_more J (Step s.by s.event) n; own = live_more J (Step s.by s.event); theirs = learned_more J (Step s.by s.event) } in

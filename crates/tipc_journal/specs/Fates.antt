@@ -11,7 +11,7 @@ use Rattle.tipc_types.specs.declared.message_forms.Form.TheVariants.{Connected, 
 use Rattle.tipc_types.specs.declared.message_forms.Message.{Message}
 use Rattle.tipc_types.specs.declared.message_forms.Message.TheVariants.{Payload, Items}
 use Rattle.tipc_types.specs.declared.services.Publication.{Publication}
-use Rattle.tipc_name_table.specs.Matching.{covers, overlaps}
+use Rattle.tipc_types.specs.Matching.{covers, overlaps}
 use Rattle.tipc_journal.specs.declared.entries.Entry.{Entry}
 use Rattle.tipc_journal.specs.declared.entries.Entry.TheVariants.{Accepted, Queued, Returned, ReturnDropped, Dropped}
 use Rattle.tipc_journal.specs.Contacts.{contact}
@@ -51,8 +51,8 @@ pub record Scene : Type 0 where
   pub contact : Addr → Option (ℕ × ℕ)
 
 -- whether the inbox of a port has room
-abbrev pub has_room : Scene → ℕ → Bool
-has_room s port = nat_lt (s.queued port) inbox_size
+abbrev pub port_has_room : Scene → ℕ → Bool
+port_has_room s port = nat_lt (s.queued port) inbox_size
 
 -- whether a publication counts for a message: one of cluster or zone scope always, one of node scope where the message
 -- didn't arrive
@@ -72,20 +72,20 @@ is_named_by s kind instance port =
 -- the ports that a multicast is queued to: rising, each that it is aimed at and that has room
 pub record AreReached (s : Scene) (arrived : Bool) (range : Span) (ports : List ℕ) : Type 0 where
   pub rising : IsStrictlySortedBy nat_cmp ports
-  pub each : (port : ℕ) → list_any (λ q. q == port) ports ≡ (is_aimed_at s arrived range port && has_room s port)
+  pub each : (port : ℕ) → list_any (λ q. q == port) ports ≡ (is_aimed_at s arrived range port && port_has_room s port)
 
 -- why a named message isn't queued to its port, where it isn't: it arrived, and no live publication there that is
 -- seen in the cluster covers the instance; or the inbox is full
 abbrev pub why_not_named : Scene → Bool → ℕ → ℕ → ℕ → Option ℕ
 why_not_named s arrived kind instance port =
     if arrived && not (is_named_by s kind instance port) then Some no_name
-    else (if has_room s port then None else Some overload)
+    else (if port_has_room s port then None else Some overload)
 
 -- why a direct message isn't queued to its port, where it isn't: the port isn't there, or the inbox is full
 abbrev pub why_not_direct : Scene → ℕ → Option ℕ
 why_not_direct s port =
     if not (list_any (λ q. q == port) s.sockets) then Some no_port
-    else (if has_room s port then None else Some overload)
+    else (if port_has_room s port then None else Some overload)
 
 -- What becomes of a message that isn't queued, for the code: dropped where it may not come back; else returned,
 -- where it came from the node itself; else, where its origin is in contact, returned or, with that many packets

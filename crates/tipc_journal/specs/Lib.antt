@@ -10,7 +10,5 @@ pub mod Queues
 pub mod Refusals
 pub mod Room
 pub mod Steps
-pub mod Story
 pub mod Streams
 pub mod Subscriptions
-pub mod Visits

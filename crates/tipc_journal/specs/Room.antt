@@ -1,5 +1,5 @@
 -- The room of a journal: its limits of entries and of message bytes.
-use Rattle.std.specs.Prelude.{◌+◌, ◌-◌, ◌*◌, ◌<◌, ◌≤◌, ◌⊎◌, ℕ, List, [], ◌∷◌, ◌++◌, length, max, sum_by}
+use Rattle.std.specs.Prelude.{◌+◌, ◌-◌, ◌*◌, ◌<◌, ◌≤◌, ◌⊎◌, ℕ, List, [], ◌∷◌, ◌++◌, length, max, sum_by, Bool, nat_le, ◌&&◌}
 use Rattle.tipc_types.specs.declared.message_forms.Message.{Message}
 use Rattle.tipc_types.specs.declared.message_forms.Message.TheVariants.{Payload, Items}
 use Rattle.tipc_journal.specs.declared.entries.Entry.{Entry}
@@ -40,3 +40,15 @@ HasNoRoom entries entry = (1048576 ≤ length entries) ⊎ (67108864 < message_b
 -- the journal is below its limit of entries, and the entry takes it to no more than its limit of message bytes
 abbrev pub HasRoom : List Entry → Entry → Type 0
 HasRoom entries entry = (length entries < 1048576) × (message_bytes entries + entry_bytes entry ≤ 67108864)
+
+-- so many entries of the journal are free before a call
+abbrev pub free_entries : ℕ
+free_entries = 65536
+
+-- so many message bytes of the journal are free before a call
+abbrev pub free_message_bytes : ℕ
+free_message_bytes = 4194304
+
+-- as many entries and message bytes are free as a call needs
+unfoldable pub has_journal_room : List Entry → Bool
+has_journal_room entries = nat_le (length entries + free_entries) 1048576 && nat_le (message_bytes entries + free_message_bytes) 67108864

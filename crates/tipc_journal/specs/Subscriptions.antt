@@ -53,15 +53,15 @@ timeout_events (Some s) = timeout_of s ∷ []
 
 -- what an entry tells the subscription of a number, behind the journal before it: at its Subscribed the publications
 -- that are there, as additions in order; then each change of the table; at its TimedOut the timeout
-abbrev pub told : ℕ → List Entry → Entry → List Event
-told n before (Subscribed number s) =
+abbrev pub told_by_entry : ℕ → List Entry → Entry → List Event
+told_by_entry n before (Subscribed number s) =
     if number == n then additions s [] (in_order (filter (is_watched s) (table before))) else []
-told n before (TimedOut number) = if number == n then timeout_events (watching before n) else []
-told n before e = events_at (watching before n) (table before) e
+told_by_entry n before (TimedOut number) = if number == n then timeout_events (watching before n) else []
+told_by_entry n before e = events_at (watching before n) (table before) e
 
 -- the transitions of a subscription, in order
 unfoldable pub transitions : List Entry → ℕ → List Event
-transitions entries n = each_behind (told n) [] entries
+transitions entries n = each_behind (told_by_entry n) [] entries
 
 -- the ticks since a Subscribed of a number, after an entry
 abbrev pub ticks_after : ℕ → ℕ → Entry → ℕ

@@ -1,13 +1,13 @@
 //! Laws of what a journal is read for. Each says what one more entry, or one more step, changes, so that
 //! no caller has to look into a whole journal. They do nothing when they run.
 
-ghost use Rattle.std.specs.Prelude.{◌≡◌, ◌<◌, ◌+◌, ◌%◌, ◌&&◌, nat_lt, ℕ, Bool, true, false, not, List, [], ◌∷◌, ◌++◌, if◌then◌else◌, drop, filter, length};
+ghost use Rattle.std.specs.Prelude.{◌≡◌, ◌<◌, ◌+◌, ◌&&◌, nat_lt, ℕ, Bool, true, false, not, List, [], ◌∷◌, ◌++◌, if◌then◌else◌, drop, filter, length};
 ghost use Rattle.std.specs.List.{All, list_all, list_any};
 ghost use Rattle.tipc_types.specs.Prefixes.{IsPrefixOf};
 ghost use Rattle.tipc_types.specs.declared.message_forms.Flow.{Flow};
 ghost use Rattle.tipc_types.specs.declared.message_forms.Message.{Message};
 ghost use Rattle.tipc_types.specs.declared.services.Publication.{Publication};
-ghost use Rattle.tipc_name_table.specs.Tables.{is_of, put};
+ghost use Rattle.tipc_types.specs.Tables.{is_of, put};
 ghost use Rattle.tipc_journal.specs.declared.entries.Entry.TheVariants.{Delivered};
 ghost use Rattle.tipc_journal.specs.Contacts.{contact, contact_after, up_epochs, epochs_after};
 ghost use Rattle.tipc_journal.specs.Counting.{call_by, calls_of, is_sent_by_name, names_sent, names_sent_before, stamps, AllAnsweredToCallers, CallsCount, IsAnsweredToCaller, StampsRise};
@@ -21,10 +21,8 @@ ghost use Rattle.tipc_journal.specs.Queues.{ever_queued, step_queued, queued_by,
 ghost use Rattle.tipc_journal.specs.Refusals.{is_subscribed, made_by, sockets_made, subscriptions_made};
 ghost use Rattle.tipc_journal.specs.Room.{message_bytes, entry_bytes};
 ghost use Rattle.tipc_journal.specs.Steps.{NodeStep, PlacedStep, step_entries, steps, IsWhole, IsInside};
-ghost use Rattle.tipc_journal.specs.Story.{came_back, story, story_after, teller};
 ghost use Rattle.tipc_journal.specs.Streams.{Stream, accepted, accepted_message, delivered, delivered_message, is_items};
-ghost use Rattle.tipc_journal.specs.Subscriptions.{watching, watching_after, subscriptions, subscriptions_after, transitions, told};
-ghost use Rattle.tipc_journal.specs.Visits.{visits};
+ghost use Rattle.tipc_journal.specs.Subscriptions.{watching, watching_after, subscriptions, subscriptions_after, transitions, told_by_entry};
 
 use crate::entries::Entry;
 use tipc_types::Addr;
@@ -80,7 +78,7 @@ pub fn subscriptions_follow()
 
 /// One more entry adds what it tells a subscription behind the journal before it.
 pub fn transitions_follow()
-    ensures { (J : List Entry) (e : Entry) (n : ℕ) → transitions (J ++ e ∷ []) n ≡ transitions J n ++ told n J e }
+    ensures { (J : List Entry) (e : Entry) (n : ℕ) → transitions (J ++ e ∷ []) n ≡ transitions J n ++ told_by_entry n J e }
 {}
 
 /// One more whole step behind whole steps is the last step, beside the journal before it.
@@ -260,16 +258,4 @@ pub fn licences_follow()
     ensures told { (own : Addr) (J : List Entry) (s : NodeStep) (n : ℕ) → IsWhole J → IsInside s.inside →
         IsLicensed own (record { before = J; step = s }) → IsPrefixOf (events_given J n) (transitions J n) →
         IsPrefixOf (events_given (J ++ step_entries s) n) (transitions (J ++ step_entries s) n) }
-{}
-
-/// Two stories whose answers and fates are known: one node alone, and one with a peer. Each step is licensed, each
-/// message has its fate, the messages by name go to the matches in turn, and a message to a port that isn't there
-/// comes back.
-pub fn stories_are_licensed()
-    ensures alone { AllLicensed teller story }
-    ensures fates { AllHaveFates teller story }
-    ensures picked { AllPicked (λ turn count k. k ≡ turn % count) (names_sent_before story) teller story }
-    ensures returned { queue teller (story_after 12) 1 ≡ came_back ∷ [] }
-    ensures visited { AllLicensed teller visits }
-    ensures visitors { AllHaveFates teller visits }
 {}

@@ -14,5 +14,5 @@ pub use laws::{
     fates_follow, learned_follows, licences_follow, links_follow, live_follows,
     look_ups_are_arranged, names_follow, queues_follow, queues_follow_inside,
     readings_follow_inside, readings_follow_steps, stamps_and_calls_follow, steps_follow,
-    stories_are_licensed, subscriptions_follow, transitions_follow, what_is_due_stands_next,
+    subscriptions_follow, transitions_follow, what_is_due_stands_next,
 };

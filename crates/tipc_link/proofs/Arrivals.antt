@@ -12,7 +12,7 @@ use Rattle.tipc_link_fsm.specs.declared.changes.Change.{Change}
 use Rattle.tipc_link_fsm.specs.declared.changes.Change.TheVariants.{Stay, Up, Down, Answer, Ignore}
 use Rattle.tipc_link_fsm.specs.Table.{Fsm, Outcome}
 use Rattle.tipc_link.specs.Records.{Received}
-use Rattle.tipc_link.specs.Sessions.{SessionEnd, Content, Shows, Carries, Nothing, again_frames, arrival_frames, arrived, begun_with, content_of, due_with, flush_frames, heard, is_behind, moved_at, moved_frames, outcome, packet_frame, packet_frames, receiving, released, repeat_frames, repeated, room, spoke}
+use Rattle.tipc_link.specs.Sessions.{SessionEnd, Content, Shows, Carries, Nothing, again_frames, arrival_frames, arrived, begun_with, content_of, due_with, flush_frames, heard, is_behind, moved_at, moved_frames, outcome, packet_frame, packet_frames, receiving, after_acknowledgement, repeat_frames, repeated, room, spoke}
 use Rattle.tipc_link.specs.Links.{LinkEnd, after, followed, frames, heard_by, heard_frames, heard_outcome, is_heard, link_frames, link_outcome, newly_numbered, numbers_at, repeats_at, sent_again}
 use Rattle.tipc_link.specs.Hearings.{HearingState, IsArriving, IsHearing, IsWindowHearing, window_outcome}
 
@@ -67,7 +67,7 @@ spoke-sending e (x ∷ xs) = refl
 begun_sends_none : (own peer bearer epoch peer_epoch : ℕ) (r : Received) (by acknowledgement : ℕ) (c : Content) → arrival_frames (begun_with own peer bearer epoch peer_epoch r) by acknowledgement c ≡ []
 begun_sends_none own peer bearer epoch peer_epoch r by acknowledgement (Shows next gap probe) =
     let new = begun_with own peer bearer epoch peer_epoch r in
-    let e = released new acknowledgement in
+    let e = after_acknowledgement new acknowledgement in
     let again : repeat_frames e acknowledgement gap ≡ [] = repeats_none e acknowledgement gap (drop-none _) in
     let more : flush_frames (heard new by acknowledgement (Shows next gap probe)) ≡ [] =
     moves_none (heard new by acknowledgement (Shows next gap probe)) (ap (λ (s : Sending). s.waiting) (spoke-sending e (repeated e acknowledgement gap))) in

@@ -17,7 +17,7 @@ use Rattle.tipc_recv_window.specs.Receiving.{Receiving, arrived_at, filled, is_n
 use Rattle.tipc_recv_window.proofs.ArrivalLaws as by_position
 use Rattle.tipc_recv_window.proofs.Holding.{filled-other, filled-same, length-filled}
 use Rattle.tipc_recv_window.proofs.Runs.{run_leaves}
-use Rattle.tipc_link.specs.Sessions.{SessionEnd, Carries, IsPut, advanced, due_with, is_behind, joins, receiving, repeated, room, took, waits, window_with}
+use Rattle.tipc_link.specs.Sessions.{SessionEnd, Carries, advanced, due_with, is_behind, receiving, repeated, room, took, window_with}
 use Rattle.tipc_link.specs.Records.{standing}
 use Rattle.tipc_link.proofs.Standing.{arrived_early, standing_either}
 use Rattle.tipc_link.specs.Direction.{IsDirection, IsReceiver, Flight, IsCarried, IsFlight, IsFresh, packet_flight, state_flight}
@@ -60,10 +60,6 @@ offers s taken line pieces h = record { window = h.window; below = h.below; coun
 
 pub swaps : (s : Sending) (taken : ℕ) (line : List (List ℕ)) (packet : List ℕ) → IsDirection s taken line → IsDirection (swapped s packet) taken line
 swaps s taken line packet h = record { window = h.window; below = h.below; count = h.count; kept = h.kept; acked_taken = h.acked_taken; taken_numbered = h.taken_numbered }
-
-pub puts : (e put : SessionEnd) (pieces : List (List ℕ)) (taken : ℕ) (line : List (List ℕ)) → IsPut e pieces put → IsDirection e.sending taken line → IsDirection put.sending taken line
-puts e put pieces taken line (joins packets packet may) h = swaps e.sending taken line _ h
-puts e put pieces taken line (waits others alone) h = offers e.sending taken line others h
 
 -- the first n waiting packets are numbered, where the window has room for them
 pub advances : (s : Sending) (taken n : ℕ) (line : List (List ℕ)) → n ≤ length s.waiting → length s.unacked + n ≤ 50 → IsDirection s taken line → IsDirection (advanced n s) taken (line ++ take n s.waiting)

@@ -3,13 +3,13 @@ use Rattle.std.proofs.Common.{◌∙◌, ◌≡◌, None, Option, Some, ap, fals
 use Rattle.std.proofs.lemmas.Bool.{true≢false}
 use Rattle.tipc_types.specs.LinkStates.{is_up}
 use Rattle.tipc_types.specs.declared.link_words.Reply.TheVariants as reply
-use Rattle.tipc_link_fsm.specs.Table.{Fsm, Outcome, apart, contact_ended, forget_peer, forgotten, is_last}
+use Rattle.tipc_link_fsm.specs.Table.{Fsm, Outcome, apart, contact_ended, forget_peer, forgot_peer, is_last}
 use Rattle.tipc_link_fsm.specs.declared.changes.Change.{Change}
 use Rattle.tipc_link_fsm.specs.declared.changes.Change.TheVariants.{Answer, Up}
 use Rattle.tipc_link_fsm.proofs.Moves.{cases_on}
 use Rattle.tipc_link.specs.Links.{LinkEnd, after, followed, known, record_in, record_of, session_of, with_fsm}
 use Rattle.tipc_link.specs.Records.{Early, kept_for}
-use Rattle.tipc_link.specs.Sessions.{SessionEnd, receiving_record, told}
+use Rattle.tipc_link.specs.Sessions.{SessionEnd, receiving_record, after_state}
 use Rattle.tipc_link.proofs.KeptRecords.{session_again}
 use Rattle.tipc_link.specs.Parts.{is_quiet}
 use Rattle.tipc_link.proofs.EndsTurns.{Learns, Rises, Stays}
@@ -52,7 +52,7 @@ like-map g (Some t) alike = record {
 -- its session then
 abbrev pub followed_session : LinkEnd → Change → Option SessionEnd
 followed_session e Up = Some (session_of e)
-followed_session e (Answer (reply.State probe)) = option_map told e.session
+followed_session e (Answer (reply.State probe)) = option_map after_state e.session
 followed_session e other = e.session
 
 -- a session that begins takes the record of before with it
@@ -71,15 +71,12 @@ after-is e o = followed-is (with_fsm e o.after) o.change
 pub seen_after : (e : LinkEnd) (o : Outcome) → (after e o).peer_contact ≡ e.peer_contact
 seen_after e o = ap (λ (d : LinkEnd). d.peer_contact) (after-is e o)
 
-pub contact_after : (e : LinkEnd) (o : Outcome) → (after e o).contact ≡ e.contact
-contact_after e o = ap (λ (d : LinkEnd). d.contact) (after-is e o)
-
 quiet_session : (e : LinkEnd) (change : Change) → is_quiet change ≡ true → AreLike e.session (followed_session e change)
 quiet_session e Up quiet = absurd (let wrong : ⊥ = cc in wrong)
-quiet_session e (Answer (reply.State probe)) quiet = like-map told e.session (λ s. record { own = refl; peer = refl; bearer = refl; epoch = refl; peer_epoch = refl })
+quiet_session e (Answer (reply.State probe)) quiet = like-map after_state e.session (λ s. record { own = refl; peer = refl; bearer = refl; epoch = refl; peer_epoch = refl })
 quiet_session e other quiet = like-same e.session e.session refl
 
-told_record : (o : Option SessionEnd) (early : Option Early) → record_in (option_map told o) early ≡ record_in o early
+told_record : (o : Option SessionEnd) (early : Option Early) → record_in (option_map after_state o) early ≡ record_in o early
 told_record None early = refl
 told_record (Some s) early = refl
 
@@ -180,6 +177,6 @@ pub ended-is : (f : Fsm) → (contact_ended f).after ≡ apart f
 unfolding contact_ended
 ended-is f = cases_on (λ o. o.after ≡ apart f) (is_up f.state) _ _ (λ _. refl) (λ _. refl)
 
-pub forgotten-is : (f : Fsm) → is_up f.state ≡ false → (forget_peer f).after ≡ forgotten f
+pub forgotten-is : (f : Fsm) → is_up f.state ≡ false → (forget_peer f).after ≡ forgot_peer f
 unfolding forget_peer
-forgotten-is f down = cases_on (λ o. o.after ≡ forgotten f) (is_up f.state) _ _ (λ up. absurd (true≢false (sym up ∙ down))) (λ _. refl)
+forgotten-is f down = cases_on (λ o. o.after ≡ forgot_peer f) (is_up f.state) _ _ (λ up. absurd (true≢false (sym up ∙ down))) (λ _. refl)

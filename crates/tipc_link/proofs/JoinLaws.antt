@@ -13,7 +13,7 @@ use Rattle.tipc_bundle.specs.Bundles.{Carries as Waits, IsInner, bundle_of, may_
 use Rattle.tipc_bundle.specs.Splitting.{IsBundle}
 use Rattle.tipc_bundle.proofs.Bundling.{carries_itself, length-bundle, one_or_several}
 use Rattle.tipc_bundle.proofs.InnerLaws.{inner-least}
-use Rattle.tipc_tunnel.specs.Tunnels.{IsInner as MayStandInside, may_stand_inside as may_be_tunnelled}
+use Rattle.tipc_tunnel.specs.Tunnels.{IsTunnellable as MayStandInside, may_stand_in_tunnel as may_be_tunnelled}
 use Rattle.tipc_link.specs.Sessions.{SessionEnd, IsPut, IsWaiting, MayChangeOver, MayJoin, inside, joins, last_of, put, waits, with_last}
 use Rattle.tipc_link.specs.Hearings.{IsJoined}
 

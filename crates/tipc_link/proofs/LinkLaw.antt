@@ -8,7 +8,7 @@ use Rattle.std.proofs.Math.Seq.{take-add}
 use Rattle.tipc_types.specs.declared.packet_lists.Kept.{Kept}
 use Rattle.tipc_types.specs.declared.packet_lists.Taken.{Taken}
 use Rattle.tipc_send_window.specs.Sending.{Sending, acknowledged, fresh, kept_of}
-use Rattle.tipc_link.specs.Sessions.{SessionEnd, Unanswered, all_answered, Content, Shows, Carries, Nothing, IsPut, arrival_moving, arrived, brought, due_with, flushed, gap, is_due, joins, moving, noted, released, repeated, room, spoke, took, waits}
+use Rattle.tipc_link.specs.Sessions.{SessionEnd, Unanswered, all_answered, Content, Shows, Carries, Nothing, IsPut, arrival_moving, arrived, brought, due_with, flushed, gap, is_due, joins, moving, noted, after_acknowledgement, repeated, room, spoke, took, waits}
 use Rattle.tipc_link.specs.Direction.{IsDirection, Flight, IsFresh, IsFlight, packet_flight, state_flight}
 use Rattle.tipc_link.specs.Laws.{Side, AreJoined, arrival_flights, flush_flights, kept_flight, packet_flights, taken_from, AnswersStayJoined, ArrivalsStayJoined, BeginJoined, JoinedGivePrefix, PutsStayJoined, StatesStayJoined, TurnJoined}
 use Rattle.tipc_link.proofs.Directions.{arrives, holds_none, moves_up, offers, releases, swaps, repeated_from, slice_get-from_take, Extends-append, Extends-same, IsCarried-kept-later, IsCarried-stays, IsFlight-carried, IsFlight-packet, IsFlight-state, IsFlight-stays, IsReceiver-stays, IsTaken}
@@ -162,7 +162,7 @@ still_joined a b shown unanswered owes h = record {
 
 -- an acknowledgement is read
 released_joined : (a b : Side) (f : Flight) → AreJoined a b → IsFlight b.end.sending.numbered b.end.taken a.end.sending.numbered b.line f → IsFresh b.end.sending.numbered a.end.sending.numbered f
-    → AreJoined (record { end = released a.end f.acknowledgement; line = a.line; took = a.took; sent = a.sent }) b
+    → AreJoined (record { end = after_acknowledgement a.end f.acknowledgement; line = a.line; took = a.took; sent = a.sent }) b
 released_joined a b f h flies new =
     let told_recent = flies.told_recent in
     let recent = new.peer in
@@ -200,7 +200,7 @@ shows_joined a b (first ∷ others) next probe h from =
     (flush_flights-fly e b.end.sending b.end.taken a.line b.line joined.there.direction joined.back.direction))
 
 -- what a packet brings doesn't depend on what is acknowledged
-due_with-released : (e : SessionEnd) (acknowledgement : ℕ) (t : Taken) → due_with (released e acknowledgement) t ≡ due_with e t
+due_with-released : (e : SessionEnd) (acknowledgement : ℕ) (t : Taken) → due_with (after_acknowledgement e acknowledgement) t ≡ due_with e t
 unfolding due_with
 due_with-released e acknowledgement t = refl
 
@@ -236,14 +236,14 @@ content_joined : (a b : Side) (by : ℕ) (f : Flight) (c : Content) → f.conten
 content_joined a b by f Nothing is h flies new = rw (append-nil a.line, append-nil a.took, append-nil a.sent) h
 content_joined a b by f (Shows next gap probe) is h flies new =
     let joined = released_joined a b f h flies new in
-    let from : Each (λ k. (i : ℕ) × (slice_get (kept_of (released a.end f.acknowledgement).sending) i ≡ Some k)) (repeated (released a.end f.acknowledgement) f.acknowledgement gap) =
-    λ k kept there. repeated_from (released a.end f.acknowledgement) f.acknowledgement gap k kept there in
-    rw (append-nil a.took) (shows_joined _ b (repeated (released a.end f.acknowledgement) f.acknowledgement gap) next probe joined from)
+    let from : Each (λ k. (i : ℕ) × (slice_get (kept_of (after_acknowledgement a.end f.acknowledgement).sending) i ≡ Some k)) (repeated (after_acknowledgement a.end f.acknowledgement) f.acknowledgement gap) =
+    λ k kept there. repeated_from (after_acknowledgement a.end f.acknowledgement) f.acknowledgement gap k kept there in
+    rw (append-nil a.took) (shows_joined _ b (repeated (after_acknowledgement a.end f.acknowledgement) f.acknowledgement gap) next probe joined from)
 content_joined a b by f (Carries number packet) is h flies new =
     let t = brought number packet by in
     let joined = released_joined a b f h flies new in
-    let e = took (released a.end f.acknowledgement) t in
-    let now : Side = record { end = e; line = a.line; took = a.took ++ map (λ (d : Taken). d.packet) (due_with (released a.end f.acknowledgement) t); sent = a.sent } in
+    let e = took (after_acknowledgement a.end f.acknowledgement) t in
+    let now : Side = record { end = e; line = a.line; took = a.took ++ map (λ (d : Taken). d.packet) (due_with (after_acknowledgement a.end f.acknowledgement) t); sent = a.sent } in
     let all : AreJoined now b = took_joined _ b f t joined flies new is in
     subst (λ ds. AreJoined (record {
       end = flushed e;

@@ -4,14 +4,12 @@ use Rattle.std.proofs.lemmas.Bool.{cases_eq, cases_lt}
 use Rattle.std.proofs.lemmas.Bool.Decides.{nat_tests}
 use Rattle.std.proofs.lemmas.Option.{slice_get_within}
 use Rattle.tipc_types.specs.declared.packet_lists.Taken.{Taken}
-use Rattle.tipc_recv_window.specs.declared.outcomes.Place.TheVariants.{InOrder}
 use Rattle.tipc_link.specs.Direction.{IsCarried, IsReceiver}
 use Rattle.tipc_types.specs.Position.{number_of}
-use Rattle.tipc_recv_window.specs.Receiving.{Receiving, arrived_at, filled, held_at, is_new, past_wanted, place_at, run_of}
-use Rattle.tipc_recv_window.proofs.ArrivalLaws.{arrives, place_at-wanted}
+use Rattle.tipc_recv_window.specs.Receiving.{Receiving, arrived_at, filled, is_new, past_wanted, run_of}
+use Rattle.tipc_recv_window.proofs.ArrivalLaws.{arrives}
 use Rattle.tipc_recv_window.proofs.Holding.{filled-other, filled-same, length-filled}
-use Rattle.tipc_link.specs.Records.{standing}
-use Rattle.tipc_link.specs.Sessions.{SessionEnd, due_with, place_of, receiving, took, window_with}
+use Rattle.tipc_link.specs.Sessions.{SessionEnd, due_with, receiving, took, window_with}
 use Rattle.tipc_link.proofs.Standing.{arrived_early, standing_either}
 use Rattle.tipc_link.specs.Parts.{packets_in}
 
@@ -127,25 +125,3 @@ received s t line numbered h within c high low =
     ]
 
 -- ---- packets that free none
-
-first_in_order : (r : Receiving) (d : ℕ) → held_at r 0 ≡ None → (place_at r d ≡ InOrder → ⊥) → d ≡ 0 → ⊥
-first_in_order r d none other same = other (ap (λ k. place_at r k) same ∙ place_at-wanted r none)
-
-run_none : (held : List (Option Taken)) → slice_index_or held 0 None ≡ None → run_of held ≡ []
-run_none [] is = refl
-run_none (None ∷ held) is = refl
-run_none (Some packet ∷ held) is = absurd (let none : ⊥ = cc in none)
-
-still_none : (r : Receiving) (d : ℕ) (t : Taken) → held_at r 0 ≡ None → (d ≡ 0 → ⊥) → held_at (arrived_at r d t) 0 ≡ None
-still_none r d t none other =
-    elim (is_new r d) as (λ b. held_at (if b then record { wanted = r.wanted; held = filled r.held d t } else r) 0 ≡ None) [
-      | true ↦ filled-other r.held d 0 t (λ same. other (sym same)) ∙ none
-      | false ↦ none
-    ]
-
--- a packet that isn't in order frees none
-pub due_none : (s : SessionEnd) (t : Taken) → slice_index_or s.held 0 None ≡ None → (place_of s t ≡ InOrder → ⊥) → due_with s t ≡ []
-unfolding due_with
-due_none s t wants other =
-    let r = receiving s in
-    run_none (window_with s t).held (still_none r (standing r t) t wants (first_in_order r (standing r t) wants other))

@@ -15,7 +15,7 @@ use Rattle.tipc_recv_window.proofs.Runs.{run_leaves, run_none}
 use Rattle.tipc_recv_window.proofs.ArrivalLaws.{arrived_at-far, place_at-far, place_at-wanted}
 use Rattle.tipc_link.specs.Links.{record_in}
 use Rattle.tipc_link.specs.Records.{Received, advanced_by, early_of, freed, is_early_tunnel, is_next, named, standing, tunnelled, unheard, window_of, with_coming}
-use Rattle.tipc_link.specs.Sessions.{SessionEnd, Unanswered, all_answered, IsWaiting, due_with, is_deferred, is_only_deferred, past, receiving, receiving_record, released, took, with_record}
+use Rattle.tipc_link.specs.Sessions.{SessionEnd, Unanswered, all_answered, IsWaiting, due_with, is_deferred, is_only_deferred, past, receiving, receiving_record, after_acknowledgement, took, with_record}
 use Rattle.tipc_link.specs.Hearings.{HoldsNone, IsRecord, IsSession}
 use Rattle.tipc_link.proofs.Standing.{standing_early, standing_plain}
 
@@ -69,7 +69,7 @@ IsSession-offered (Ok done) bearer unanswered limit window after kept pieces all
 IsSession-offered (Err fault) bearer unanswered limit window after kept pieces all sending ok err h = rw err h
 
 -- what is acknowledged doesn't bear on what is taken
-pub took-released : (e : SessionEnd) (acknowledgement : ℕ) (t : Taken) → released (took e t) acknowledgement ≡ took (released e acknowledgement) t
+pub took-released : (e : SessionEnd) (acknowledgement : ℕ) (t : Taken) → after_acknowledgement (took e t) acknowledgement ≡ took (after_acknowledgement e acknowledgement) t
 unfolding due_with is_only_deferred
 took-released e acknowledgement t = refl
 

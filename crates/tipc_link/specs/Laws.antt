@@ -5,7 +5,7 @@ use Rattle.tipc_types.specs.Position.{number_of}
 use Rattle.tipc_types.specs.Prefixes.{IsPrefixOf}
 use Rattle.tipc_types.specs.declared.packet_lists.Kept.{Kept}
 use Rattle.tipc_types.specs.declared.packet_lists.Taken.{Taken}
-use Rattle.tipc_link.specs.Sessions.{SessionEnd, Content, Shows, Carries, Nothing, IsPut, answered, arrival_moving, arrived, begun, brought, due_with, flushed, gap, heard, is_due, moving, released, repeated, room, told}
+use Rattle.tipc_link.specs.Sessions.{SessionEnd, Content, Shows, Carries, Nothing, IsPut, answered, arrival_moving, arrived, begun, brought, due_with, flushed, gap, heard, is_due, moving, after_acknowledgement, repeated, room, after_state}
 use Rattle.tipc_link.specs.Direction.{Flight, IsDirection, IsFlight, IsFresh, IsReceiver, packet_flight, state_flight}
 
 -- one side: its end, every packet that it numbered, every packet that it took, and every frame that it sent
@@ -48,7 +48,7 @@ kept_flight taken numbered peer_numbered k =
 abbrev pub arrival_flights : SessionEnd → ℕ → ℕ → ℕ → Content → List Flight
 arrival_flights e peer_numbered by acknowledgement Nothing = []
 arrival_flights e peer_numbered by acknowledgement (Shows next gap probe) =
-    map (kept_flight e.taken (arrived e by acknowledgement (Shows next gap probe)).sending.numbered peer_numbered) (repeated (released e acknowledgement) acknowledgement gap)
+    map (kept_flight e.taken (arrived e by acknowledgement (Shows next gap probe)).sending.numbered peer_numbered) (repeated (after_acknowledgement e acknowledgement) acknowledgement gap)
     ++ flush_flights (heard e by acknowledgement (Shows next gap probe)) peer_numbered
 arrival_flights e peer_numbered by acknowledgement (Carries number packet) = flush_flights (heard e by acknowledgement (Carries number packet)) peer_numbered
 
@@ -71,7 +71,7 @@ puts a peer_numbered put = record {
 -- it sends a STATE
 abbrev pub tells : Side → ℕ → Bool → Side
 tells a peer_numbered probe = record {
-  end = told a.end;
+  end = after_state a.end;
   line = a.line;
   took = a.took;
   sent = a.sent ++ state_flight a.end.taken a.end.sending.numbered peer_numbered (gap a.end) probe ∷ [];

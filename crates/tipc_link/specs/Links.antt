@@ -22,7 +22,7 @@ use Rattle.tipc_link_fsm.specs.Table.{Fsm, Outcome, fresh, gives, on_activate, o
 use Rattle.tipc_send_window.specs.Sending.{kept_of}
 use Rattle.tipc_recv_window.specs.declared.outcomes.LinkOutcome.{LinkOutcome}
 use Rattle.tipc_link.specs.Records.{Early, Received, early_of, early_record, kept_for, named, tunnelled}
-use Rattle.tipc_link.specs.Sessions.{SessionEnd, Content, again_frames, answer_frames, answered, arrival_frames, arrival_moving, arrived, begun_with, content_of, given_up, heard, moved_frames, outcome, priority_of, receiving_record, state_frame, told, tunnel_count, waiting_given, with_broadcast, with_record}
+use Rattle.tipc_link.specs.Sessions.{SessionEnd, Content, again_frames, answer_frames, answered, arrival_frames, arrived, begun_with, content_of, given_up, heard, moved_frames, outcome, priority_of, receiving_record, state_frame, after_state, tunnel_count, waiting_given, with_broadcast, with_record}
 
 -- one end of a link to a peer on one bearer, as contracts see it
 pub record LinkEnd : Type 0 where
@@ -123,7 +123,7 @@ session_of e = begun_with e.own e.peer e.bearer e.fsm.own (known e.fsm.peer) (ke
 -- a link that goes up begins a session and sends a STATE; a STATE that is sent is the session's
 abbrev pub followed : LinkEnd → Change → LinkEnd
 followed e Up = record e { session = Some (session_of e); early = None }
-followed e (Answer (reply.State probe)) = record e { session = option_map told e.session }
+followed e (Answer (reply.State probe)) = record e { session = option_map after_state e.session }
 followed e other = e
 
 -- the frames that an end sends by a change of its link states; `shown` is what a STATE tells of the broadcast
@@ -238,8 +238,8 @@ abbrev pub numbers_of : Option SessionEnd → Option (ℕ × ℕ)
 numbers_of session = option_map (λ (s : SessionEnd). (s.sending.numbered, s.taken)) session
 
 -- how many packets are unacknowledged, and how many wait
-abbrev pub load_of : Option SessionEnd → Option (ℕ × ℕ)
-load_of session = option_map (λ (s : SessionEnd). (length s.sending.unacked, length s.sending.waiting)) session
+abbrev pub session_load : Option SessionEnd → Option (ℕ × ℕ)
+session_load session = option_map (λ (s : SessionEnd). (length s.sending.unacked, length s.sending.waiting)) session
 
 -- the own epoch of the session, and how many packets were numbered in it
 abbrev pub count_of : Option SessionEnd → Option (ℕ × ℕ)
@@ -250,10 +250,6 @@ abbrev pub numbered_in : Option SessionEnd → ℕ → Option ℕ
 numbered_in None epoch = None
 numbered_in (Some s) epoch = if s.epoch == epoch then Some s.sending.numbered else None
 
--- the STATE that is due after an arrival; nothing is sent where the link isn't up
-abbrev pub answered_end : LinkEnd → LinkEnd
-answered_end e = if is_up e.fsm.state then record e { session = option_map answered e.session } else e
-
 -- and where the arrival took so many broadcast packets, or asks for a STATE by what it shows or brings of the broadcast
 abbrev pub answered_with : LinkEnd → ℕ → Bool → LinkEnd
 answered_with e taken asks = if is_up e.fsm.state then record e { session = option_map (λ s. answered (with_broadcast s taken asks)) e.session } else e
@@ -262,10 +258,6 @@ answered_with e taken asks = if is_up e.fsm.state then record e { session = opti
 abbrev pub session_answer : Option SessionEnd → BroadcastState → List Outgoing
 session_answer None shown = []
 session_answer (Some s) shown = answer_frames s shown
-
--- the frames that an end sends as the answer to an arrival
-abbrev pub answered_frames : LinkEnd → BroadcastState → List Outgoing
-answered_frames e shown = if is_up e.fsm.state then session_answer e.session shown else []
 
 -- the frames that an end sends as the answer where the arrival brought or showed anything of the broadcast
 abbrev pub frames_with : LinkEnd → ℕ → Bool → BroadcastState → List Outgoing
@@ -315,11 +307,6 @@ sent_again (Some s) acknowledgement c = again_frames s acknowledgement c
 abbrev pub newly_numbered : Option SessionEnd → ℕ → ℕ → Content → List Outgoing
 newly_numbered None by acknowledgement c = []
 newly_numbered (Some s) by acknowledgement c = moved_frames c (heard s by acknowledgement c)
-
--- the packets that move up then
-abbrev pub moved_by : Option SessionEnd → ℕ → ℕ → Content → List (List ℕ)
-moved_by None by acknowledgement c = []
-moved_by (Some s) by acknowledgement c = arrival_moving s by acknowledgement c
 
 -- what a session sends that hears a packet; nothing waits on one that has just begun
 abbrev pub heard_frames : LinkEnd → Change → ℕ → ℕ → Content → List Outgoing

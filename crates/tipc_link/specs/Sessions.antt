@@ -19,7 +19,7 @@ use Rattle.tipc_recv_window.specs.Receiving.{Receiving, arrived_at, deferred_cou
 use Rattle.tipc_link.specs.Records.{Received, is_tunnel, standing, unheard}
 use Rattle.tipc_bundle.specs.Bundles.{Carries as Waits, IsInner, joined}
 use Rattle.tipc_bundle.specs.Splitting.{IsBundle}
-use Rattle.tipc_tunnel.specs.Tunnels.{IsInner as MayStandInside, IsTunnel, Tunnelled, tunnel_packet}
+use Rattle.tipc_tunnel.specs.Tunnels.{IsTunnellable as MayStandInside, IsTunnel, Tunnelled, tunnel_packet}
 
 -- what one end took since it last sent a frame: how many packets, and how many broadcast packets
 pub record Unanswered : Type 0 where
@@ -132,8 +132,8 @@ unfoldable pub content_of : Fields → Content
 content_of p = content_by p.header p.sequence (spelling (as_waiting p))
 
 -- the end after an acknowledgement with this number: the packets up to it are released
-abbrev pub released : SessionEnd → ℕ → SessionEnd
-released e acknowledgement = record e { sending = acknowledged e.sending acknowledgement }
+abbrev pub after_acknowledgement : SessionEnd → ℕ → SessionEnd
+after_acknowledgement e acknowledgement = record e { sending = acknowledged e.sending acknowledgement }
 
 -- a packet that was brought by this arrival
 abbrev pub brought : ℕ → List ℕ → ℕ → Taken
@@ -190,8 +190,8 @@ spoke e (first ∷ others) = record e { unanswered = all_answered }
 -- with those behind it, and one that is early is held, but for a tunnel packet, which is passed over then.
 abbrev pub heard : SessionEnd → ℕ → ℕ → Content → SessionEnd
 heard e by acknowledgement (Shows next gap probe) =
-    noted (spoke (released e acknowledgement) (repeated (released e acknowledgement) acknowledgement gap)) next probe
-heard e by acknowledgement (Carries number packet) = took (released e acknowledgement) (brought number packet by)
+    noted (spoke (after_acknowledgement e acknowledgement) (repeated (after_acknowledgement e acknowledgement) acknowledgement gap)) next probe
+heard e by acknowledgement (Carries number packet) = took (after_acknowledgement e acknowledgement) (brought number packet by)
 heard e by acknowledgement Nothing = e
 
 -- what an arrival answers; a packet that is taken is kept as it waited to be sent
@@ -335,12 +335,12 @@ arrived e by acknowledgement (Carries number packet) = flushed (heard e by ackno
 abbrev pub arrival_frames : SessionEnd → ℕ → ℕ → Content → List Outgoing
 arrival_frames e by acknowledgement Nothing = []
 arrival_frames e by acknowledgement (Shows next gap probe) =
-    repeat_frames (released e acknowledgement) acknowledgement gap ++ flush_frames (heard e by acknowledgement (Shows next gap probe))
+    repeat_frames (after_acknowledgement e acknowledgement) acknowledgement gap ++ flush_frames (heard e by acknowledgement (Shows next gap probe))
 arrival_frames e by acknowledgement (Carries number packet) = flush_frames (heard e by acknowledgement (Carries number packet))
 
 -- they are apart: what is sent again, and what then moves up on an end that has heard the packet; nothing moves up where it brought nothing
 abbrev pub again_frames : SessionEnd → ℕ → Content → List Outgoing
-again_frames e acknowledgement (Shows next gap probe) = repeat_frames (released e acknowledgement) acknowledgement gap
+again_frames e acknowledgement (Shows next gap probe) = repeat_frames (after_acknowledgement e acknowledgement) acknowledgement gap
 again_frames e acknowledgement other = []
 
 -- the end after packets moved up at an arrival that brought this
@@ -406,8 +406,8 @@ abbrev pub is_due : SessionEnd → Bool
 is_due e = e.owes || (nat_le 16 e.unanswered.packets || nat_le 16 e.unanswered.broadcasts)
 
 -- the end when it has sent a STATE
-abbrev pub told : SessionEnd → SessionEnd
-told e = record e { unanswered = all_answered }
+abbrev pub after_state : SessionEnd → SessionEnd
+after_state e = record e { unanswered = all_answered }
 
 -- the end when it has sent the STATE that was due
 abbrev pub answered : SessionEnd → SessionEnd

@@ -78,7 +78,7 @@ impl Model for Link {
 }
 
 impl Link {
-    ghost use Rattle.tipc_link.specs.Links.{activate_frames, after, answered_with, arrival_end, count_of, cut_end, ended_end, follow_frames, followed, forget_frames, frames, frames_with, heard_by, heard_end, heard_outcome, link_frames, link_outcome, load_of, made, mend_frames, mended_end, notice, numbers_of, on_bearer, record_of, reset_frames, session_of, shown_by, state_frames, with_fsm, with_session};
+    ghost use Rattle.tipc_link.specs.Links.{activate_frames, after, answered_with, arrival_end, count_of, cut_end, ended_end, follow_frames, followed, forget_frames, frames, frames_with, heard_by, heard_end, heard_outcome, link_frames, link_outcome, session_load, made, mend_frames, mended_end, notice, numbers_of, on_bearer, record_of, reset_frames, session_of, shown_by, state_frames, with_fsm, with_session};
 
     /// A link end in RESET_UNKNOWN under this epoch, on a bearer 0 or 1 that counts as cut.
     pub fn new(own: Addr, peer: Addr, bearer: u8, epoch: u64) -> Link
@@ -589,7 +589,7 @@ impl Link {
     /// The numbers of unacknowledged and of waiting packets of the present session, or the last one. None exactly where there was
     /// no session.
     pub fn load(&self) -> Option<(u32, u32)>
-        ensures { result ≡ load_of self.now.session }
+        ensures { result ≡ session_load self.now.session }
     {
         match &self.session {
             Some(session) => Some(session.load()),

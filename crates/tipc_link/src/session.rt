@@ -80,7 +80,7 @@ impl Model for Session {
 }
 
 impl Session {
-    ghost use Rattle.tipc_link.specs.Sessions.{ahead, all_answered, answer_frames, answered, begun_with, flush_frames, flushed, gap, given_up, highest, is_due, missing, noted, packet_frame, past, put, priority_of, receiving, receiving_record, released, repeat_frames, repeated, room, sent, shows_more, spoke, state_fields, state_frame, told, took, tunnel_count, waiting_given, wanted, with_broadcast, with_last, with_record, IsPut, IsWaiting, MayJoin, SessionEnd};
+    ghost use Rattle.tipc_link.specs.Sessions.{ahead, all_answered, answer_frames, answered, begun_with, flush_frames, flushed, gap, given_up, highest, is_due, missing, noted, packet_frame, past, put, priority_of, receiving, receiving_record, after_acknowledgement, repeat_frames, repeated, room, sent, shows_more, spoke, state_fields, state_frame, after_state, took, tunnel_count, waiting_given, wanted, with_broadcast, with_last, with_record, IsPut, IsWaiting, MayJoin, SessionEnd};
     ghost use Rattle.tipc_link.specs.Hearings.{coming_of, IsHearing, IsJoined};
 
     /// An end that is up, in the session of these two epochs, over a bearer 0 or 1, with this receiving record.
@@ -385,7 +385,7 @@ impl Session {
 
     /// Releases every packet up to the one with this number.
     pub(crate) fn acknowledge(&mut self, number: u16)
-        ensures { self.new ≡ released self.old number }
+        ensures { self.new ≡ after_acknowledgement self.old number }
     {
         self.window.acknowledge(number);
     }
@@ -618,7 +618,7 @@ impl Session {
         probe: bool,
         out: &mut Outbox,
     )
-        ensures after { self.new ≡ told self.old }
+        ensures after { self.new ≡ after_state self.old }
         ensures frames { Adds out.old out.new (state_frame self.old broadcast probe ∷ []) }
     {
         let frame = self.state_frame(alloc, broadcast, probe);

@@ -20,7 +20,7 @@ use tipc_recv_window::LinkOutcome;
 use tipc_types::{BroadcastState, NoMemory};
 
 impl Session {
-    ghost use Rattle.tipc_link.specs.Sessions.{again_frames, arrival_frames, arrived, heard, moved_at, moved_frames, outcome, receiving, released, took, Content};
+    ghost use Rattle.tipc_link.specs.Sessions.{again_frames, arrival_frames, arrived, heard, moved_at, moved_frames, outcome, receiving, after_acknowledgement, took, Content};
     ghost use Rattle.tipc_link.specs.Hearings.{coming_of};
 
     /// Takes a packet that arrived in this session, as it was prepared: the acknowledgement is read first, and packets that the
@@ -130,7 +130,7 @@ impl Session {
         requires { (t : Taken) × (hearing.window ≡ coming_of (receiving self.old) t) }
         ensures answer { result ≡ hearing.outcome }
         ensures after { (t : Taken) → hearing.window ≡ coming_of (receiving self.old) t →
-            self.new ≡ took (released self.old acknowledgement) t }
+            self.new ≡ took (after_acknowledgement self.old acknowledgement) t }
     {
         let Hearing {
             window,

@@ -4,7 +4,7 @@ use Rattle.tipc_types.specs.LinkStates.{is_up}
 use Rattle.tipc_types.specs.declared.link_words.LinkState.{LinkState}
 use Rattle.tipc_types.specs.declared.link_words.LinkState.TheVariants.{ResetUnknown, ResetReset, WorkingWorking, WorkingUnknown, Held}
 use Rattle.tipc_link_fsm.specs.Ends.{IsSound}
-use Rattle.tipc_link_fsm.specs.Table.{Fsm, Outcome, is_in_reset, is_reset_reset, is_held, is_peer, is_session, is_last, lowered, heard, told, apart, unheard, on_reset, on_activate, on_traffic, on_tick, tick_in, on_cut, on_peer_tunnel, release, forget_peer, contact_ended}
+use Rattle.tipc_link_fsm.specs.Table.{Fsm, Outcome, is_in_reset, is_reset_reset, is_held, is_peer, is_session, is_last, lowered, heard, took_epoch, apart, unheard, on_reset, on_activate, on_traffic, on_tick, tick_in, on_cut, on_peer_tunnel, release, forget_peer, contact_ended}
 use Rattle.tipc_link_fsm.specs.Runs.{Call, ResetArrives, ActivateArrives, TrafficArrives, TickPasses, BearerIsCut, TunnelNames, Releases, ForgetsPeer, ContactEnds, outcome}
 use Rattle.tipc_link_fsm.proofs.Moves.{cases_on, not_true, is_up_held, moves, stays, rises, falls}
 
@@ -118,12 +118,12 @@ counted_after s (ResetArrives es held) counted =
     let P : Outcome → Type 0 = λ o. IsCounted o.after in
     cases_on P (is_held s.state) _ _ (λ h. counted) (λ h.
     cases_on P (nat_lt es s.highest || (is_up s.state && is_peer s.peer es)) _ _ (λ h. counted) (λ h.
-    cases_on P (is_up s.state) _ _ (λ h. lowered_counted s held) (λ h. at_rest (told s es ResetReset) refl refl)))
+    cases_on P (is_up s.state) _ _ (λ h. lowered_counted s held) (λ h. at_rest (took_epoch s es ResetReset) refl refl)))
 counted_after s (ActivateArrives es er) counted =
     let P : Outcome → Type 0 = λ o. IsCounted o.after in
     cases_on P (is_held s.state) _ _ (λ h. counted) (λ h.
     cases_on P ((is_in_reset s.state && not (is_last s.own)) && ((er == s.own) && not (nat_lt es s.highest))) _ _
-    (λ h. at_rest (told s es WorkingWorking) refl refl)
+    (λ h. at_rest (took_epoch s es WorkingWorking) refl refl)
     (λ h. cases_on P (is_up s.state && is_session s es er) _ _ (λ h. at_rest (heard s) refl refl) (λ h. counted)))
 counted_after s (TrafficArrives es er) counted =
     let P : Outcome → Type 0 = λ o. IsCounted o.after in

@@ -80,8 +80,8 @@ abbrev pub heard : Fsm → Fsm
 heard s = record { own = s.own; peer = s.peer; highest = s.highest; state = WorkingWorking; silent = 0 }
 
 -- an end that took this epoch of its peer
-abbrev pub told : Fsm → ℕ → LinkState → Fsm
-told s es state = record { own = s.own; peer = Some es; highest = es; state = state; silent = 0 }
+abbrev pub took_epoch : Fsm → ℕ → LinkState → Fsm
+took_epoch s es state = record { own = s.own; peer = Some es; highest = es; state = state; silent = 0 }
 
 -- a RESET arrives. The rows, the first that fits:
 --   an end that is held ignores it
@@ -93,7 +93,7 @@ on_reset s es held =
     if is_held s.state then gives s (Ignore why.Held)
     else (if nat_lt es s.highest || (is_up s.state && is_peer s.peer es) then gives s (Ignore why.Epoch)
     else (if is_up s.state then gives (lowered s held) (Down cause.PeerReset)
-    else gives (told s es ResetReset) (Answer reply.Activate)))
+    else gives (took_epoch s es ResetReset) (Answer reply.Activate)))
 
 -- an ACTIVATE arrives. The rows, the first that fits:
 --   an end that is held ignores it
@@ -104,7 +104,7 @@ on_reset s es held =
 unfoldable pub on_activate : Fsm → ℕ → ℕ → Outcome
 on_activate s es er =
     if is_held s.state then gives s (Ignore why.Held)
-    else (if (is_in_reset s.state && not (is_last s.own)) && ((er == s.own) && not (nat_lt es s.highest)) then gives (told s es WorkingWorking) Up
+    else (if (is_in_reset s.state && not (is_last s.own)) && ((er == s.own) && not (nat_lt es s.highest)) then gives (took_epoch s es WorkingWorking) Up
     else (if is_up s.state && is_session s es er then gives (heard s) Stay
     else gives s (Ignore why.Epoch)))
 
@@ -169,8 +169,8 @@ abbrev pub apart : Fsm → Fsm
 apart s = record { own = next_epoch s.own; peer = None; highest = s.highest; state = ResetUnknown; silent = 0 }
 
 -- an end that forgets the peer's epoch
-abbrev pub forgotten : Fsm → Fsm
-forgotten s = record { own = s.own; peer = None; highest = s.highest; state = ResetUnknown; silent = s.silent }
+abbrev pub forgot_peer : Fsm → Fsm
+forgot_peer s = record { own = s.own; peer = None; highest = s.highest; state = ResetUnknown; silent = s.silent }
 
 -- the contact ended: the end goes down or stays down, and a RESET is to be sent in either case
 unfoldable pub contact_ended : Fsm → Outcome
@@ -180,4 +180,4 @@ contact_ended s = if is_up s.state then gives (apart s) (Down cause.ContactEnded
 -- RESET_UNKNOWN. An end that is up has a contact, so this ends it
 unfoldable pub forget_peer : Fsm → Outcome
 forget_peer s =
-    if is_up s.state then gives (apart s) (Down cause.ContactEnded) else gives (forgotten s) Stay
+    if is_up s.state then gives (apart s) (Down cause.ContactEnded) else gives (forgot_peer s) Stay

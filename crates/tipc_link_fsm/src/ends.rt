@@ -2,7 +2,7 @@
 
 ghost use Rattle.std.specs.Prelude.{◌≡◌, ◌&&◌, ◌≤◌, ◌↔◌, true, false, not};
 ghost use Rattle.tipc_types.specs.LinkStates.{is_up};
-ghost use Rattle.tipc_link_fsm.specs.Table.{fresh, is_in_reset, is_held, is_last, is_peer, is_session, next_epoch, lowered, apart, forgotten, heard, up_tick, on_reset, on_activate, on_traffic, on_tick, on_cut, on_peer_tunnel, release, forget_peer, contact_ended};
+ghost use Rattle.tipc_link_fsm.specs.Table.{fresh, is_in_reset, is_held, is_last, is_peer, is_session, next_epoch, lowered, apart, forgot_peer, heard, up_tick, on_reset, on_activate, on_traffic, on_tick, on_cut, on_peer_tunnel, release, forget_peer, contact_ended};
 ghost use Rattle.tipc_link_fsm.specs.Ends.{IsSound};
 
 use crate::changes::Change;
@@ -299,7 +299,7 @@ impl LinkFsm {
     /// Forgets the peer's epoch.
     fn forget(&mut self)
         requires { is_up self.old.state ≡ false }
-        ensures { self.new ≡ forgotten self.old }
+        ensures { self.new ≡ forgot_peer self.old }
     {
         self.peer = None;
         self.state = LinkState::ResetUnknown;

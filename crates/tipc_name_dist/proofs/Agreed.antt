@@ -8,7 +8,7 @@ use Rattle.tipc_types.specs.declared.message_forms.Item.{Item}
 use Rattle.tipc_types.specs.declared.message_forms.Message.{Message}
 use Rattle.tipc_types.specs.declared.message_forms.Message.TheVariants.{Items, Payload}
 use Rattle.tipc_types.specs.declared.services.Publication.{Publication}
-use Rattle.tipc_name_table.specs.Tables.{is_named, is_of, put, without, IsTable}
+use Rattle.tipc_types.specs.Tables.{is_named, is_of, put, without, IsTable}
 use Rattle.tipc_name_table.proofs.TableLaws.{filters_commute}
 use Rattle.tipc_journal.specs.Matches.{arranged}
 use Rattle.tipc_journal.specs.Names.{cluster_part, is_clusterwide}

@@ -9,8 +9,8 @@ use Rattle.std.proofs.lemmas.List.Folds.{list_all-append}
 use Rattle.std.proofs.lemmas.List.Sums.{count_by-le-length, length-filter, sum_by-append, sum_by-cons}
 use Rattle.tipc_types.specs.declared.services.Publication.{Publication}
 use Rattle.tipc_types.specs.declared.services.Scope.TheVariants.{Cluster}
-use Rattle.tipc_name_table.specs.Tables.{is_named, is_of, put, stands_before, IsTable}
-use Rattle.tipc_name_table.proofs.Places.{count_by-kept, filter-put}
+use Rattle.tipc_types.specs.Tables.{is_named, is_of, put, stands_before, IsTable}
+use Rattle.tipc_types.proofs.Places.{count_by-kept, filter-put}
 use Rattle.tipc_name_table.proofs.TableLaws.{table_put}
 use Rattle.tipc_journal.specs.Matches.{arranged}
 use Rattle.tipc_journal.proofs.MatchLaws.{arranged_more, list_any_arranged}

@@ -1,13 +1,12 @@
 -- What items one after the other come to, and how what was learned is taken back.
-use Rattle.std.proofs.Common.{◌≡◌, ℕ, ◌+◌, ◌≤◌, ◌<◌, ◌&&◌, ◌||◌, ◌==◌, Bool, true, false, not, List, [], ◌∷◌, ◌++◌, Option, Some, None, filter, find, length, if◌then◌else◌, refl, ap, ◌∙◌, sym, subst, drop, arith}
+use Rattle.std.proofs.Common.{◌≡◌, ℕ, ◌+◌, ◌≤◌, ◌<◌, ◌&&◌, ◌||◌, ◌==◌, Bool, true, false, not, List, [], ◌∷◌, ◌++◌, Option, Some, None, filter, find, length, if◌then◌else◌, refl, ap, ◌∙◌, sym, subst, drop, arith, Err, Ok, Result}
 use Rattle.std.specs.List.{list_any}
 use Rattle.std.specs.Result.{OnErr, OnOk}
-use Rattle.std.proofs.Common.{Err, Ok, Result}
 use Rattle.std.proofs.Math.ListN.{get_or}
 use Rattle.std.proofs.lemmas.List.{drop_all, drop_more, length-append}
 use Rattle.tipc_types.specs.declared.message_forms.Item.{Item}
 use Rattle.tipc_types.specs.declared.services.Publication.{Publication}
-use Rattle.tipc_name_table.specs.Tables.{is_named, put, stands_before, without}
+use Rattle.tipc_types.specs.Tables.{is_named, put, stands_before, without}
 use Rattle.tipc_name_dist.specs.Applying.{Applied, behind, can_be_put, forgotten_from, forgotten_if, held_as, is_new, is_ordered, learned_from, nothing_applied, told_by, undone}
 
 -- publications before what comes of the items behind them

@@ -1,5 +1,5 @@
 -- Messages one after the other, taken apart: a front of them, those behind it, and the part of the table that is their sender's.
-use Rattle.std.proofs.Common.{◌≡◌, ◌≢◌, ℕ, ◌&&◌, ◌||◌, ◌==◌, Bool, true, false, not, List, [], ◌∷◌, ◌++◌, Option, Some, None, filter, find, length, if◌then◌else◌, refl, sym, ap, ◌∙◌, true≢false, eqb-true, append_assoc}
+use Rattle.std.proofs.Common.{◌≡◌, ◌≢◌, ℕ, ◌&&◌, ◌||◌, ◌==◌, Bool, true, false, not, List, [], ◌∷◌, ◌++◌, Option, Some, None, filter, find, length, if◌then◌else◌, refl, sym, ap, ◌∙◌, true≢false, append_assoc}
 use Rattle.std.specs.Prelude.{count_by, is_none, nat_lt}
 use Rattle.std.specs.List.{flat_map, list_any}
 use Rattle.std.proofs.lemmas.Bool.{and_parts, ltb-true}
@@ -9,12 +9,12 @@ use Rattle.tipc_types.specs.declared.message_forms.Item.{Item}
 use Rattle.tipc_types.specs.declared.message_forms.Message.{Message}
 use Rattle.tipc_types.specs.declared.message_forms.Message.TheVariants.{Items, Payload}
 use Rattle.tipc_types.specs.declared.services.Publication.{Publication}
-use Rattle.tipc_name_table.specs.Tables.{is_named, is_of, put, without, IsTable}
-use Rattle.tipc_name_table.proofs.Places.{filter-put}
+use Rattle.tipc_types.specs.Tables.{is_named, is_of, put, without, IsTable}
+use Rattle.tipc_types.proofs.Places.{filter-put}
 use Rattle.tipc_name_table.proofs.TableLaws.{filters_commute, table_kept, table_put}
 use Rattle.tipc_name_dist.specs.Applying.{after_first, applied, applied_each, behind, can_be_put, forgotten_from, forgotten_if, held_after, held_as, is_new, is_ordered, learned_from, nothing_applied, told_by, Applied}
 use Rattle.tipc_name_dist.specs.Items.{items_in}
-use Rattle.tipc_name_dist.proofs.Applied.{put_out, same_number}
+use Rattle.tipc_name_dist.proofs.Applied.{same_number}
 
 -- ---- two after one another
 
@@ -55,14 +55,6 @@ held_by_front from table (m ∷ ms) fits =
     let now = (applied from table m).table in
     let h = both_fit (applied from table m) (applied_each from now ms) fits in
     held_by_front from now ms h.1 ∙ sym h.2
-
--- and each front of them fits
-pub front_fits : (from : ℕ) (table : List Publication) (xs rest : List Message) → (applied_each from table (xs ++ rest)).bad ≡ None → (applied_each from table xs).bad ≡ None
-front_fits from table [] rest fits = refl
-front_fits from table (m ∷ xs) rest fits =
-    let first = applied from table m in
-    let h = both_fit first (applied_each from first.table (xs ++ rest)) fits in
-    ap (λ (a : Applied). a.bad) (after_fitting first (applied_each from first.table xs) h.0) ∙ front_fits from first.table xs rest h.1
 
 pub applied_append : (from : ℕ) (table : List Publication) (xs ys : List Message)
     → applied_each from table (xs ++ ys) ≡ after_first (applied_each from table xs) (applied_each from (applied_each from table xs).table ys)
@@ -181,10 +173,6 @@ applied_table from table (Items true items) sound = forgotten_table from table i
 applied_table from table (Items false items) sound = learned_table from table items sound
 applied_table from table (Payload importance form at to kind lower upper code droppable body) sound = sound
 
-pub held_table : (from : ℕ) (table : List Publication) (ms : List Message) → IsTable table → IsTable (held_after from table ms)
-held_table from table [] sound = sound
-held_table from table (m ∷ ms) sound = held_table from (applied from table m).table ms (applied_table from table m sound)
-
 pub each_table : (from : ℕ) (table : List Publication) (ms : List Message) → IsTable table → IsTable (applied_each from table ms).table
 each_table from table [] sound = sound
 each_table from table (m ∷ ms) sound = by first.bad (applied_table from table m sound) (each_table from first.table ms (applied_table from table m sound))
@@ -291,66 +279,4 @@ part_applied from table (Payload importance form at to kind lower upper code dro
 pub applied_of_part : (from : ℕ) (table : List Publication) (m : Message) → IsTable table → filter (is_of from) (applied from table m).table ≡ (applied from (filter (is_of from) table) m).table
 applied_of_part from table m sound = ap (λ (a : Applied). a.table) (sym (part_applied from table m sound))
 
-pub held_of_part : (from : ℕ) (table : List Publication) (ms : List Message) → IsTable table → filter (is_of from) (held_after from table ms) ≡ held_after from (filter (is_of from) table) ms
-held_of_part from table [] sound = refl
-held_of_part from table (m ∷ ms) sound =
-    held_of_part from (applied from table m).table ms (applied_table from table m sound) ∙ ap (λ (ps : List Publication). held_after from ps ms) (applied_of_part from table m sound)
-
 -- ---- the others' parts
-
-another : (from other : ℕ) → other ≢ from → from == other ≡ false
-another from other apart = by (from == other) refl
-  where
-    by : (b : Bool) → from == other ≡ b → b ≡ false
-    by true is = absurd (apart (sym (eqb-true _ _ is)))
-    by false is = refl
-
-learned_others : (from other : ℕ) (table : List Publication) (items : List Item) → other ≢ from → filter (is_of other) (learned_from from table items).table ≡ filter (is_of other) table
-learned_others from other table [] apart = refl
-learned_others from other table (item ∷ items) apart =
-    by (is_new from table item) (learned_others from other (put p table) items apart ∙ put_out (is_of other) p table (another from other apart))
-  where
-    p : Publication
-    p = told_by from item
-
-    by : (b : Bool) → filter (is_of other) (learned_from from (put p table) items).table ≡ filter (is_of other) table
-        → filter (is_of other) (if b then behind p (learned_from from (put p table) items) else nothing_applied table (Some 0)).table ≡ filter (is_of other) table
-    by true later = later
-    by false later = refl
-
--- of another node's publications none is taken out
-left_others : (from other key : ℕ) (ps : List Publication) → other ≢ from → filter (is_of other) (without from key ps) ≡ filter (is_of other) ps
-left_others from other key [] apart = refl
-left_others from other key (p ∷ ps) apart = by (p.at.node.word == from) (p.key == key) refl (left_others from other key ps apart)
-  where
-    by : (b c : Bool) → p.at.node.word == from ≡ b → filter (is_of other) (without from key ps) ≡ filter (is_of other) ps
-        → filter (is_of other) (if not (b && c) then p ∷ without from key ps else without from key ps) ≡ filter (is_of other) (p ∷ ps)
-    by true true is later =
-        let here : p.at.node.word ≡ from = eqb-true _ _ is in
-        let not_other : is_of other p ≡ false = ap (λ (n : ℕ). n == other) here ∙ another from other apart in
-        later ∙ sym (ap (λ (b : Bool). if b then p ∷ filter (is_of other) ps else filter (is_of other) ps) not_other)
-    by true false is later = ap (λ (those : List Publication). if is_of other p then p ∷ those else those) later
-    by false c is later = ap (λ (those : List Publication). if is_of other p then p ∷ those else those) later
-
-forgotten_others : (from other : ℕ) (table : List Publication) (items : List Item) → other ≢ from → filter (is_of other) (forgotten_from from table items).table ≡ filter (is_of other) table
-forgotten_others from other table [] apart = refl
-forgotten_others from other table (item ∷ items) apart =
-    by (held_as from table item) (forgotten_others from other rest items apart ∙ left_others from other item.key table apart)
-  where
-    rest : List Publication
-    rest = without from item.key table
-
-    by : (o : Option Publication) → filter (is_of other) (forgotten_from from rest items).table ≡ filter (is_of other) table
-        → filter (is_of other) (forgotten_if o table (forgotten_from from rest items)).table ≡ filter (is_of other) table
-    by None later = refl
-    by (Some p) later = later
-
--- of another node's publications all are held as before
-pub applied_of_others : (from other : ℕ) (table : List Publication) (m : Message) → other ≢ from → filter (is_of other) (applied from table m).table ≡ filter (is_of other) table
-applied_of_others from other table (Items true items) apart = forgotten_others from other table items apart
-applied_of_others from other table (Items false items) apart = learned_others from other table items apart
-applied_of_others from other table (Payload importance form at to kind lower upper code droppable body) apart = refl
-
-pub held_of_others : (from other : ℕ) (table : List Publication) (ms : List Message) → other ≢ from → filter (is_of other) (held_after from table ms) ≡ filter (is_of other) table
-held_of_others from other table [] apart = refl
-held_of_others from other table (m ∷ ms) apart = held_of_others from other (applied from table m).table ms apart ∙ applied_of_others from other table m apart

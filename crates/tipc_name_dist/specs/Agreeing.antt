@@ -3,13 +3,13 @@ use Rattle.std.specs.Prelude.{◌≡◌, ◌≤◌, ℕ, ◌==◌, Bool, true, n
 use Rattle.std.specs.List.{list_all}
 use Rattle.tipc_types.specs.declared.services.Publication.{Publication}
 use Rattle.tipc_types.specs.declared.services.Scope.TheVariants.{Cluster}
-use Rattle.tipc_name_table.specs.Tables.{is_of}
+use Rattle.tipc_types.specs.Tables.{is_of}
 use Rattle.tipc_journal.specs.Matches.{arranged}
 use Rattle.tipc_journal.specs.Names.{cluster_part}
 
 -- a publication as a peer learns it: one of zone scope is treated as one of cluster scope
 abbrev pub as_learned : Publication → Publication
-as_learned p = record { range = p.range; scope = Cluster; at = p.at; key = p.key }
+as_learned p = record p { scope = Cluster }
 
 -- what a peer holds of a node's publications, in order of node, port and key
 abbrev pub shared : List Publication → List Publication

@@ -7,7 +7,7 @@ use Rattle.tipc_types.specs.declared.message_forms.Message.{Message}
 use Rattle.tipc_types.specs.declared.message_forms.Message.TheVariants.{Items, Payload}
 use Rattle.tipc_types.specs.declared.services.Publication.{Publication}
 use Rattle.tipc_types.specs.declared.services.Scope.TheVariants.{Cluster}
-use Rattle.tipc_name_table.specs.Tables.{is_named, is_of, put, without}
+use Rattle.tipc_types.specs.Tables.{is_named, is_of, put, without}
 use Rattle.tipc_journal.specs.declared.entries.Entry.{Entry}
 use Rattle.tipc_journal.specs.declared.entries.Entry.TheVariants as entry
 use Rattle.tipc_name_dist.specs.declared.applying.Learnt.{Learnt}

@@ -1,4 +1,5 @@
 -- Publications and withdrawals as they travel from node to node.
-pub mod Items
-pub mod Applying
 pub mod Agreeing
+pub mod Applying
+pub mod Items
+pub mod Told

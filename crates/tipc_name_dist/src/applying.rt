@@ -3,7 +3,7 @@
 ghost use Rattle.std.specs.Prelude.{◌≡◌, ◌≤◌, ℕ, Err, List, None, Some, false, true, length, if◌then◌else◌, IfNone, IfOk, IfSome, OnErr, OnOk};
 ghost use Rattle.tipc_types.specs.Address.{IsNodeWord};
 ghost use Rattle.tipc_types.specs.declared.services.Publication.{Publication};
-ghost use Rattle.tipc_name_table.specs.Tables.{put, without};
+ghost use Rattle.tipc_types.specs.Tables.{put, without};
 ghost use Rattle.tipc_name_dist.specs.Applying.{applied, forgotten_from, can_be_put, held_as, is_ordered, learned_from, learnt_of, told_by, undone};
 ghost use Rattle.tipc_name_dist.specs.Items.{items_in};
 

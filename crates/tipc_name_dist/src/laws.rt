@@ -4,7 +4,7 @@ ghost use Rattle.std.specs.Prelude.{◌≡◌, ◌<◌, ◌++◌, ◌∷◌, ℕ
 ghost use Rattle.std.specs.List.{list_any};
 ghost use Rattle.tipc_types.specs.declared.message_forms.Message.{Message};
 ghost use Rattle.tipc_types.specs.declared.services.Publication.{Publication};
-ghost use Rattle.tipc_name_table.specs.Tables.{is_of, IsTable};
+ghost use Rattle.tipc_types.specs.Tables.{is_of, IsTable};
 ghost use Rattle.tipc_journal.specs.Names.{is_clusterwide};
 ghost use Rattle.tipc_name_dist.specs.Agreeing.{Agrees, AreOwn, has_key, without_key};
 ghost use Rattle.tipc_name_dist.specs.Applying.{applied, applied_each};

@@ -14,9 +14,9 @@ use Rattle.std.proofs.lemmas.List.Sorted.{ranks_by, sorted_far}
 use Rattle.tipc_types.specs.Address.{IsNodeWord}
 use Rattle.tipc_types.specs.declared.services.Publication.{Publication}
 use Rattle.tipc_types.specs.Span.{Span}
-use Rattle.tipc_name_table.specs.Matching.{covers, overlaps}
-use Rattle.tipc_name_table.specs.Tables.{is_named, is_of, place_of, put, stands_before}
-use Rattle.tipc_name_table.proofs.Places.{all_kept, all_put, kept_in_order, none_counted as none_of, none_passes}
+use Rattle.tipc_types.specs.Matching.{covers, overlaps}
+use Rattle.tipc_types.specs.Tables.{is_named, is_of, place_of, put, stands_before}
+use Rattle.tipc_types.proofs.Places.{all_kept, all_put, kept_in_order, none_counted as none_of, none_passes}
 use Rattle.tipc_name_table.proofs.TableLaws.{table_kept, table_none, table_put}
 use Rattle.tipc_name_index.specs.Ranges.{begins_before, may_reach, range_cmp, range_of, IsIndex}
 use Rattle.tipc_name_index.proofs.Order.{filters_join, none_counted, sorted_with_one}

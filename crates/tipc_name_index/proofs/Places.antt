@@ -9,7 +9,7 @@ use Rattle.std.specs.declared.cmp.Ordering.TheVariants.{Less, Equal, Greater}
 use Rattle.std.proofs.lemmas.Bool.Decides.{nat_tests}
 use Rattle.std.proofs.lemmas.Cmp.{nat_list_cmp_total, on_total, ranked}
 use Rattle.tipc_types.specs.declared.services.Publication.{Publication}
-use Rattle.tipc_name_table.specs.Tables.{is_of, place_cmp, place_of, put, stands_before, IsInOrder}
+use Rattle.tipc_types.specs.Tables.{is_of, place_cmp, place_of, put, stands_before, IsInOrder}
 use Rattle.tipc_name_index.specs.Ranges.{may_reach, range_cmp, range_of}
 use Rattle.tipc_name_index.proofs.Order.{filter_none, filter_whole, all_negated, none_before}
 

@@ -13,8 +13,8 @@ use Rattle.std.proofs.lemmas.List.Sums.{sum_by-append, sum_by-cons}
 use Rattle.tipc_types.specs.declared.services.Publication.{Publication}
 use Rattle.tipc_types.specs.declared.services.Scope.{Scope}
 use Rattle.tipc_types.specs.declared.services.Scope.TheVariants.{Zone, Cluster, Node}
-use Rattle.tipc_name_table.specs.Tables.{is_named, is_of, place_cmp, put, stands_before}
-use Rattle.tipc_name_table.proofs.Places.{count_by-put}
+use Rattle.tipc_types.specs.Tables.{is_named, is_of, place_cmp, put, stands_before}
+use Rattle.tipc_types.proofs.Places.{count_by-put}
 use Rattle.tipc_name_index.specs.Ranges.{AreSame}
 
 counted : (test : Publication → Bool) (p : Publication) (ps : List Publication) → count_by test (p ∷ ps) ≡ cond (test p) 1 0 + count_by test ps

@@ -5,7 +5,7 @@ use Rattle.std.specs.Ordering.{is_lt, nat_cmp}
 use Rattle.std.specs.declared.cmp.Ordering.{Ordering}
 use Rattle.std.specs.Cmp.Lexicographic.{slice_cmp}
 use Rattle.tipc_types.specs.declared.services.Publication.{Publication}
-use Rattle.tipc_name_table.specs.Tables.{place_of, AreOfCluster, IsTable}
+use Rattle.tipc_types.specs.Tables.{place_of, AreOfCluster, IsTable}
 
 -- what publications stand in the order of ranges by: service type, lower and upper bound, node, port and key
 abbrev pub range_of : Publication → List ℕ

@@ -3,7 +3,7 @@
 ghost use Rattle.std.specs.Prelude.{◌≡◌, ◌≤◌, ◌↔◌, ◌++◌, ◌∷◌, Contains, Err, OnErr, OnOk, count_by, false, filter, find, not, true};
 ghost use Rattle.std.specs.List.{list_any};
 ghost use Rattle.std.specs.List.Sorted.{IsStrictlySortedBy};
-ghost use Rattle.tipc_name_table.specs.Tables.{is_named, is_of, put, without, IsInOrder};
+ghost use Rattle.tipc_types.specs.Tables.{is_named, is_of, put, without, IsInOrder};
 ghost use Rattle.tipc_name_index.specs.Ranges.{begins_before, range_cmp};
 
 use crate::searches::{place_for, range_place_for, those_of};

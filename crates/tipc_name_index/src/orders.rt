@@ -1,7 +1,7 @@
 //! The two orders in which publications are kept.
 
 ghost use Rattle.std.specs.Prelude.{◌≡◌, IsPermutation, IsSortedBy};
-ghost use Rattle.tipc_name_table.specs.Tables.{place_cmp, stands_before};
+ghost use Rattle.tipc_types.specs.Tables.{place_cmp, stands_before};
 ghost use Rattle.tipc_name_index.specs.Ranges.{range_cmp};
 
 use std::cmp::Ordering;

@@ -2,7 +2,7 @@
 
 ghost use Rattle.std.specs.Prelude.{◌≡◌, ◌≤◌, drop, filter, length, not, take};
 ghost use Rattle.std.specs.List.Sorted.{IsStrictlySortedBy};
-ghost use Rattle.tipc_name_table.specs.Tables.{is_of, stands_before, IsInOrder};
+ghost use Rattle.tipc_types.specs.Tables.{is_of, stands_before, IsInOrder};
 ghost use Rattle.tipc_name_index.specs.Ranges.{begins_before, may_reach, range_cmp};
 
 use crate::orders::{place_cmp, range_cmp};

@@ -5,8 +5,8 @@ use Rattle.std.specs.List.{AllByRecursion}
 use Rattle.std.proofs.lemmas.Bool.Decides.{nat_tests}
 use Rattle.std.proofs.lemmas.List.Sums.{count_by-le-length, length-filter, sum_by-cons}
 use Rattle.tipc_types.specs.declared.services.Publication.{Publication}
-use Rattle.tipc_name_table.specs.Tables.{is_of, AreOfCluster, IsTable}
-use Rattle.tipc_name_table.proofs.Places.{none_counted}
+use Rattle.tipc_types.specs.Tables.{is_of, AreOfCluster, IsTable}
+use Rattle.tipc_types.proofs.Places.{none_counted}
 
 -- whether a publication is of a node below an address word
 abbrev below : ℕ → Publication → Bool

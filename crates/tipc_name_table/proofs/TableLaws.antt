@@ -9,9 +9,9 @@ use Rattle.std.specs.List.{All, AllByRecursion, list_any}
 use Rattle.std.specs.List.Sorted.{IsStrictlySortedBy}
 use Rattle.std.proofs.lemmas.List.Elements.{All-filter, All-from_recursion, Contains-append_cases, Contains-append_left, Contains-append_right, Contains-get_or, Contains-push_cases, filter_passes}
 use Rattle.tipc_types.specs.declared.services.Publication.{Publication}
-use Rattle.tipc_name_table.specs.Matching.{closest, preferred}
-use Rattle.tipc_name_table.specs.Tables.{is_named, is_of, place_cmp, place_of, put, stands_before, IsInOrder, IsTable}
-use Rattle.tipc_name_table.proofs.Places.{count_by-kept, count_by-put, kept_in_order, none_counted, none_kept, none_passes, put_in_order}
+use Rattle.tipc_types.specs.Matching.{closest, preferred}
+use Rattle.tipc_types.specs.Tables.{is_named, is_of, place_cmp, place_of, put, stands_before, IsInOrder, IsTable}
+use Rattle.tipc_types.proofs.Places.{count_by-kept, count_by-put, kept_in_order, none_counted, none_kept, none_passes, put_in_order}
 
 pub table_none : IsTable []
 unfolding IsStrictlySortedBy

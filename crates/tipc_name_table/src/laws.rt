@@ -3,8 +3,8 @@
 
 ghost use Rattle.std.specs.Prelude.{◌≡◌, ◌⊎◌, ℕ, Bool, List, [], true, Contains, filter, if◌then◌else◌};
 ghost use Rattle.tipc_types.specs.declared.services.Publication.{Publication};
-ghost use Rattle.tipc_name_table.specs.Matching.{closest};
-ghost use Rattle.tipc_name_table.specs.Tables.{is_of, put, without, without_node, IsInOrder};
+ghost use Rattle.tipc_types.specs.Matching.{closest};
+ghost use Rattle.tipc_types.specs.Tables.{is_of, put, without, without_node, IsInOrder};
 
 /// Where one more is published, a look-up has it in its place where it passes, and is as before where it doesn't.
 pub fn one_more_is_published()

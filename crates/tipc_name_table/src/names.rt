@@ -4,8 +4,8 @@ ghost use Rattle.std.specs.Prelude.{◌≡◌, ◌<◌, ◌≤◌, ◌↔◌, �
 ghost use Rattle.std.specs.List.{list_any};
 ghost use Rattle.tipc_types.specs.Address.{IsNodeWord};
 ghost use Rattle.tipc_types.specs.declared.services.Publication.{Publication};
-ghost use Rattle.tipc_name_table.specs.Matching.{covers, overlaps};
-ghost use Rattle.tipc_name_table.specs.Tables.{is_named, is_of, put, without, without_node, IsTable};
+ghost use Rattle.tipc_types.specs.Matching.{covers, overlaps};
+ghost use Rattle.tipc_types.specs.Tables.{is_named, is_of, put, without, without_node, IsTable};
 
 use std::alloc::Global;
 use tipc_types::{Addr, List, NoMemory, Publication, ServiceRange};

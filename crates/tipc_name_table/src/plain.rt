@@ -19,7 +19,7 @@ pub struct NameTable {
 impl Model for NameTable {
     ghost use Rattle.std.specs.Prelude.{List};
     ghost use Rattle.tipc_types.specs.declared.services.Publication.{Publication};
-    ghost use Rattle.tipc_name_table.specs.Tables.{AreOfCluster, IsTable};
+    ghost use Rattle.tipc_types.specs.Tables.{AreOfCluster, IsTable};
 
     ghost Value = { List Publication };
 

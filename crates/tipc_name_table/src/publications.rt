@@ -2,8 +2,8 @@
 
 ghost use Rattle.std.specs.Prelude.{◌≡◌, ◌≤◌, length, insert, count_by, filter, find, IfOk};
 ghost use Rattle.std.specs.List.{list_any};
-ghost use Rattle.tipc_name_table.specs.Matching.{covers, overlaps};
-ghost use Rattle.tipc_name_table.specs.Tables.{is_named, is_of, place_of, put, stands_before, without, without_node};
+ghost use Rattle.tipc_types.specs.Matching.{covers, overlaps};
+ghost use Rattle.tipc_types.specs.Tables.{is_named, is_of, place_of, put, stands_before, without, without_node};
 
 use std::alloc::{AllocError, Global};
 use tipc_types::{Addr, Publication, ServiceRange};

@@ -1,5 +1,4 @@
 -- Each call and each arrival is a turn of the node: one recorded step, and what happens at each pair.
-pub mod Addressing
 pub mod Arrivals
 pub mod Entries
 pub mod MessageRuns
@@ -9,5 +8,4 @@ pub mod Performing
 pub mod Plain
 pub mod Runs
 pub mod Shares
-pub mod Sizes
 pub mod Turning

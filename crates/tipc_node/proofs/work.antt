@@ -4,12 +4,10 @@ pub mod Answering
 pub mod Changes
 pub mod Deliveries
 pub mod Delivering
-pub mod Faults
 pub mod Greeting
 pub mod Heard
 pub mod Hearings
 pub mod Homing
-pub mod Learning
 pub mod Leaving
 pub mod Loads
 pub mod Making
@@ -19,7 +17,6 @@ pub mod Reaching
 pub mod Refusals
 pub mod Restoring
 pub mod Returning
-pub mod Rooms
 pub mod Senders
 pub mod Sendings
 pub mod Stable

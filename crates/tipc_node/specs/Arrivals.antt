@@ -20,7 +20,8 @@ use Rattle.tipc_pair.specs.Courses.{sent_in}
 use Rattle.tipc_pair.specs.PairTurns.{Outset}
 use Rattle.tipc_node.specs.declared.neighbours.Neighbour.{Neighbour}
 use Rattle.tipc_node.specs.Calls.{CallTurn}
-use Rattle.tipc_node.specs.Neighbours.{HearsAt, answered_neighbour, answering, begins, heard_neighbour}
+use Rattle.tipc_node.specs.Neighbours.{HearsAt, answered_neighbour, answering, heard_neighbour}
+use Rattle.tipc_pair.specs.Contacts.{begins}
 use Rattle.tipc_node.specs.Nodes.{NodeState, arrival_answer, arrival_deliveries, change_entries, end_with, neighbour_of, stop_of, stopped_node}
 use Rattle.tipc_node.specs.Works.{DeliversAll, PutsEach, Work, concluded, noted}
 
@@ -53,7 +54,7 @@ Greets live changes ms = GreetsWhere (begins changes) live ms
 -- the neighbour of that number sends the STATE that is due on a bearer
 abbrev pub answered_work : Work → ℕ → ℕ → Neighbour → Work
 answered_work w peer bearer y =
-    record { neighbours = slice_set w.neighbours peer (Some (answered_neighbour bearer y)); sockets = w.sockets; inside = w.inside }
+    record w { neighbours = slice_set w.neighbours peer (Some (answered_neighbour bearer y)) }
 
 -- The frame of that number brought a packet of a peer on a bearer. Where a contact began by it, the peer was told of the live
 -- publications. What the links made of the packet was opened, and delivered one after the other, returns went back, and the STATE that

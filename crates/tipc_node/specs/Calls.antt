@@ -19,15 +19,15 @@ use Rattle.tipc_journal.specs.Refusals.{longest_body}
 use Rattle.tipc_name_dist.specs.Items.{telling}
 use Rattle.tipc_sockets.specs.Publishing.{own_publication}
 use Rattle.tipc_sockets.specs.SocketTables.{has_port, with_socket}
-use Rattle.tipc_node.specs.declared.neighbours.Deed.{Deed}
-use Rattle.tipc_node.specs.declared.neighbours.Deed.TheVariants as deed
+use Rattle.tipc_node.specs.declared.neighbours.Upkeep.{Upkeep}
+use Rattle.tipc_node.specs.declared.neighbours.Upkeep.TheVariants as upkeep
 use Rattle.tipc_node.specs.Messages.{destination_of, direct, limit_of, named}
-use Rattle.tipc_node.specs.Nodes.{NodeState, after_all, deed_note, entries_all, frames_all, mended_by, recorded, load_with, step_of, with_mended}
+use Rattle.tipc_node.specs.Nodes.{NodeState, after_all, upkeep_note, entries_all, frames_all, mended_by, recorded, load_with, step_of, with_mended}
 use Rattle.tipc_node.specs.Sockets.{cancelled_work, closed_work, crowd_refusal, first_answer, first_event, found_at, kept_answer, next_number, next_port, next_work, number_refusal, passed_work, port_refusal, publication_refusal, published_work, received_work, socket_refusal, subscribed_work, subscription_refusal, timeouts_of, told_closing, told_withdrawal, waiting_at, with_sockets_of, withdrawal_refusal, withdrawn_work}
 use Rattle.tipc_node.specs.Sharing.{SharesNames}
 use Rattle.tipc_node.specs.Telling.{IsTold}
 use Rattle.tipc_node.specs.Turns.{NodeTurn}
-use Rattle.tipc_node.specs.Works.{GoesAway, Settles, TellsPeers, Work, addr_of_word, begun, concluded, neighbour_at, noted}
+use Rattle.tipc_node.specs.Works.{GoesAway, GivesFate, TellsPeers, Work, addr_of_word, begun, concluded, neighbour_at, noted}
 
 -- A call that sends nothing is refused for this reason, where there is one; else it makes this of the node.
 abbrev pub Makes : NodeState → By → EventNote → Option Answer → Work → Answer → NodeState → List Outgoing → Answer → Type 0
@@ -61,7 +61,7 @@ way_refusal n node limit = if node.word == n.own then None else link_refusal (lo
 
 -- A message of the node's goes its way: for the own node it has its fate here, and for another one it is accepted.
 pub record Goes (own : ℕ) (w : Work) (m : Message) (w' : Work) (frames : List Outgoing) : Type 0 where
-  pub home : comes_home (addr_of_word own) m ≡ true → Settles own w false m w' frames
+  pub home : comes_home (addr_of_word own) m ≡ true → GivesFate own w false m w' frames
   pub away : comes_home (addr_of_word own) m ≡ false → GoesAway own w m w' frames
 
 -- a message that nothing speaks against but its way: it is refused there, or goes it
@@ -72,7 +72,7 @@ pub record SendsTo (n n' : NodeState) (by : By) (event : EventNote) (m : Message
       → (w : Work) × Goes n.own (begun n) m w frames × (n' ≡ concluded n by event w sent) × (answered ≡ sent)
 
 -- a message to a port
-pub record Sends (n n' : NodeState) (by : By) (port : ℕ) (to : PortId) (importance : Importance) (body : List ℕ) (frames : List Outgoing) (answered : Answer) : Type 0 where
+pub record SendsToPort (n n' : NodeState) (by : By) (port : ℕ) (to : PortId) (importance : Importance) (body : List ℕ) (frames : List Outgoing) (answered : Answer) : Type 0 where
   pub refused : (reason : Answer) → sender_refusal n port body ≡ Some reason
       → (n' ≡ recorded n by (SendPort port to importance body) [] reason) × (frames ≡ []) × (answered ≡ reason)
   pub sends : sender_refusal n port body ≡ None
@@ -101,22 +101,22 @@ IsPickedFrom gives turn n other answered = Unit {0}
 -- ---- a call of a user, of the clock, or of a bearer
 
 -- the work on what happens to all neighbours alike
-abbrev pub deed_work : Deed → NodeState → Work
-deed_work d n = noted (record { neighbours = after_all d n.neighbours; sockets = n.sockets; inside = [] }) (entries_all d 0 n.neighbours)
+abbrev pub upkeep_work : Upkeep → NodeState → Work
+upkeep_work d n = noted (record { neighbours = after_all d n.neighbours; sockets = n.sockets; inside = [] }) (entries_all d 0 n.neighbours)
 
 -- something happened to all neighbours alike
-abbrev pub TakesPart : NodeState → By → Deed → NodeState → List Outgoing → Answer → Type 0
-TakesPart n by d n' frames answered = (n' ≡ concluded (with_mended n (mended_by d n.mended)) by (deed_note d) (deed_work d n) answer.Done)
+abbrev pub TakesPart : NodeState → By → Upkeep → NodeState → List Outgoing → Answer → Type 0
+TakesPart n by d n' frames answered = (n' ≡ concluded (with_mended n (mended_by d n.mended)) by (upkeep_note d) (upkeep_work d n) answer.Done)
     × (frames ≡ frames_all d n.neighbours) × (answered ≡ answer.Done)
 
 -- the work on a tick: it happens to all neighbours; then subscriptions time out, and it passes for the others
 abbrev pub tick_work : NodeState → Work
-tick_work n = passed_work (noted (deed_work deed.Tick n) (timeouts_of n.sockets))
+tick_work n = passed_work (noted (upkeep_work upkeep.Tick n) (timeouts_of n.sockets))
 
 -- a tick passes
 abbrev pub Ticks : NodeState → By → NodeState → List Outgoing → Answer → Type 0
 Ticks n by n' frames answered =
-    (n' ≡ concluded n by Tick (tick_work n) answer.Done) × (frames ≡ frames_all deed.Tick n.neighbours) × (answered ≡ answer.Done)
+    (n' ≡ concluded n by Tick (tick_work n) answer.Done) × (frames ≡ frames_all upkeep.Tick n.neighbours) × (answered ≡ answer.Done)
 
 -- What a call makes of a node: the node before it, who made the call, the call, the node after it, the frames that
 -- leave, and the answer. A multicast and an arrival aren't performed.
@@ -131,7 +131,7 @@ Performs n by (Publish port range scope key) n' frames answered =
 Performs n by (Withdraw port key) n' frames answered =
     Tells n n' by (Withdraw port key) (withdrawal_refusal n.sockets port key) (withdrawn_work n port key) (told_withdrawal n.sockets port key) frames answered
 Performs n by (SendName port kind instance importance body) n' frames answered = SendsByName n n' by port kind instance importance body frames answered
-Performs n by (SendPort port to importance body) n' frames answered = Sends n n' by port to importance body frames answered
+Performs n by (SendPort port to importance body) n' frames answered = SendsToPort n n' by port to importance body frames answered
 Performs n by (Receive port) n' frames answered =
     Makes n by (Receive port) (port_refusal n.sockets port) (received_work n port) (first_answer (waiting_at n.sockets port)) n' frames answered
 Performs n by (Subscribe asked) n' frames answered =
@@ -141,8 +141,8 @@ Performs n by (Cancel number) n' frames answered =
 Performs n by (NextEvent number) n' frames answered =
     Makes n by (NextEvent number) (number_refusal n.sockets number) (next_work n number) (next_answer (first_event n.sockets number)) n' frames answered
 Performs n by Tick n' frames answered = Ticks n by n' frames answered
-Performs n by (Cut bearer) n' frames answered = TakesPart n by (deed.Cut bearer) n' frames answered
-Performs n by (Mend bearer) n' frames answered = TakesPart n by (deed.Mend bearer) n' frames answered
+Performs n by (Cut bearer) n' frames answered = TakesPart n by (upkeep.Cut bearer) n' frames answered
+Performs n by (Mend bearer) n' frames answered = TakesPart n by (upkeep.Mend bearer) n' frames answered
 Performs n by other n' frames answered = ⊥
 
 -- What a call needs of its arguments: what is mended or cut is one of the two bearers. A multicast isn't built yet, and an arrival isn't performed.

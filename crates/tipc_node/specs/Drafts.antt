@@ -6,7 +6,7 @@ use Rattle.tipc_outside.specs.Frames.{Adds, Out}
 use Rattle.tipc_sockets.specs.SocketTables.{SocketTable}
 use Rattle.tipc_node.specs.declared.drafts.Draft.{Draft}
 use Rattle.tipc_node.specs.declared.neighbours.Neighbour.{Neighbour}
-use Rattle.tipc_node.specs.Works.{PutsEach, TellsEach, Work, in_contact, is_in_contact, work_of}
+use Rattle.tipc_node.specs.Works.{PutsEach, TellsEach, Work, peers_in_contact, is_in_contact, work_of}
 
 -- each neighbour that was copied is as its copy, and the others are as they are
 unfoldable pub restored : List (Option Neighbour) → List (Option Neighbour) → List (Option Neighbour)
@@ -56,4 +56,4 @@ peer_in_contact xs peer = filter (is_in_contact xs) (peer ∷ [])
 
 -- every peer in contact was told by these messages
 abbrev pub ToldPeers : ℕ → Work → List Message → Work → Out → Out → Type 0
-ToldPeers own w ms w' box box' = ToldEach own w ms (in_contact w.neighbours) w' box box'
+ToldPeers own w ms w' box box' = ToldEach own w ms (peers_in_contact w.neighbours) w' box box'

@@ -20,10 +20,11 @@ use Rattle.tipc_node.specs.declared.arriving.Hearing.{Hearing}
 use Rattle.tipc_node.specs.declared.listening.HeardPacket.{HeardPacket}
 use Rattle.tipc_node.specs.declared.neighbours.Neighbour.{Neighbour}
 use Rattle.tipc_node.specs.Arrivals.{Greets, Hears, IsDue, answered_work}
-use Rattle.tipc_node.specs.Limits.{free_entries}
-use Rattle.tipc_node.specs.Neighbours.{HearsAt, answering, begins, ends, heard_neighbour, no_broadcast}
+use Rattle.tipc_journal.specs.Room.{free_entries}
+use Rattle.tipc_node.specs.Neighbours.{HearsAt, answering, heard_neighbour, no_broadcast}
+use Rattle.tipc_pair.specs.Contacts.{begins, ends}
 use Rattle.tipc_node.specs.Nodes.{NodeState, arrival_answer, arrival_deliveries, change_entries, end_with, is_met, neighbour_of}
-use Rattle.tipc_node.specs.Works.{Delivers, DeliversAll, DeliversTo, GoesAway, GoesBack, PutsEach, Settles, Work, noted, work_of}
+use Rattle.tipc_node.specs.Works.{Delivers, DeliversAll, DeliversTo, GoesAway, GoesBack, PutsEach, GivesFate, Work, noted, work_of}
 
 -- whether an entry is one of what an arrival delivers: a message, or a part of a packet that is dropped
 abbrev pub is_plain : Entry → Bool
@@ -48,7 +49,7 @@ pub record WentBack (own : ℕ) (w : Work) (m : Message) (w' : Work) (box box' :
 -- a message that arrived has its fate
 pub record Settled (own : ℕ) (w : Work) (m : Message) (w' : Work) (box box' : Out) : Type 0 where
   pub frames : List Outgoing
-  pub settles : Settles own w true m w' frames
+  pub settles : GivesFate own w true m w' frames
   pub adds : Adds box box' frames
 
 -- a message that arrived from a peer has its fate, or its items are applied

@@ -9,15 +9,15 @@ use Rattle.tipc_header.specs.declared.packet.Header.TheVariants as header
 use Rattle.tipc_header.specs.Spelling.{Fields}
 use Rattle.tipc_pair.specs.declared.changes.PairOutcome.{PairOutcome}
 use Rattle.tipc_pair.specs.declared.transitions.Transition.{Transition}
-use Rattle.tipc_pair.specs.declared.transitions.Transition.TheVariants.{ContactDown, ContactUp}
 use Rattle.tipc_pair.specs.Courses.{Course}
 use Rattle.tipc_pair.specs.Facing.{PairEnds, alone}
 use Rattle.tipc_pair.specs.PairCalls.{answered_near, at_bearer, cut_near, mended, ticked}
 use Rattle.tipc_pair.specs.PairTurns.{Happened, Outset, PutsOne, made_near}
 use Rattle.tipc_pair.specs.PairTurns.Opening.{hears}
 use Rattle.tipc_node.specs.declared.neighbours.Neighbour.{Neighbour}
-use Rattle.tipc_node.specs.declared.neighbours.Deed.{Deed}
-use Rattle.tipc_node.specs.declared.neighbours.Deed.TheVariants as deed
+use Rattle.tipc_node.specs.declared.neighbours.Upkeep.{Upkeep}
+use Rattle.tipc_node.specs.declared.neighbours.Upkeep.TheVariants as upkeep
+use Rattle.tipc_pair.specs.Contacts.{is_of_contact}
 
 -- what a STATE of a node that has broadcast nothing says of the broadcast
 abbrev pub no_broadcast : Bool → BroadcastState
@@ -31,30 +31,6 @@ neighbour pair in_step = record { pair = pair; in_step = in_step }
 abbrev pub stranger : ℕ → ℕ → ℕ → Neighbour
 stranger own peer boot = neighbour (alone own (node_word peer) boot) false
 
--- whether a contact began or ended
-abbrev pub is_of_contact : Transition → Bool
-is_of_contact (ContactUp contact) = true
-is_of_contact (ContactDown contact states shown) = true
-is_of_contact other = false
-
--- whether a contact began
-abbrev pub is_beginning : Transition → Bool
-is_beginning (ContactUp contact) = true
-is_beginning other = false
-
--- whether a contact began by one of these changes
-abbrev pub begins : List Transition → Bool
-begins changes = list_any is_beginning changes
-
--- whether a contact ended
-abbrev pub is_ending : Transition → Bool
-is_ending (ContactDown contact states shown) = true
-is_ending other = false
-
--- whether a contact ended by one of these changes
-abbrev pub ends : List Transition → Bool
-ends changes = list_any is_ending changes
-
 -- a node is in step with a peer from a STATE on that it took of it, for as long as the contact lasts
 abbrev pub stays_in_step : Bool → List Transition → Bool
 stays_in_step in_step changes = in_step && not (list_any is_of_contact changes)
@@ -66,16 +42,16 @@ making bearer is_mended x = at_bearer bearer x.pair (made_near is_mended)
 -- ---- what happens to all neighbours alike
 
 -- what is mended or cut is one of the two bearers
-abbrev pub IsOnBearer : Deed → Type 0
-IsOnBearer (deed.Mend bearer) = bearer ≤ 1
-IsOnBearer (deed.Cut bearer) = bearer ≤ 1
-IsOnBearer deed.Tick = Unit {0}
+abbrev pub IsOnBearer : Upkeep → Type 0
+IsOnBearer (upkeep.Mend bearer) = bearer ≤ 1
+IsOnBearer (upkeep.Cut bearer) = bearer ≤ 1
+IsOnBearer upkeep.Tick = Unit {0}
 
 -- what a bearer that is mended or cut, or a tick, makes of the pair to a neighbour, and the frames that leave for it
-abbrev pub course_of : Deed → Neighbour → Course
-course_of (deed.Mend bearer) x = at_bearer bearer x.pair mended
-course_of (deed.Cut bearer) x = at_bearer bearer x.pair cut_near
-course_of deed.Tick x = ticked (no_broadcast x.in_step) x.pair
+abbrev pub course_of : Upkeep → Neighbour → Course
+course_of (upkeep.Mend bearer) x = at_bearer bearer x.pair mended
+course_of (upkeep.Cut bearer) x = at_bearer bearer x.pair cut_near
+course_of upkeep.Tick x = ticked (no_broadcast x.in_step) x.pair
 
 -- a neighbour after a call, the frames that leave for it, and what is told
 pub record Done : Type 0 where
@@ -90,7 +66,7 @@ abbrev pub done_by : Neighbour → Course → Done
 done_by x c = record { after = neighbour c.pair (stays_in_step x.in_step c.changes); states = c.states; numbered = c.numbered; changes = c.changes }
 
 -- what a bearer that is mended or cut, or a tick, makes of a neighbour
-abbrev pub done : Deed → Neighbour → Done
+abbrev pub done : Upkeep → Neighbour → Done
 done d x = done_by x (course_of d x)
 
 -- ---- messages

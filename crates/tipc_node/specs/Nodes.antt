@@ -1,5 +1,5 @@
 -- A node, and what each call makes of it.
-use Rattle.std.specs.Prelude.{ℕ, ◌+◌, ◌-◌, ◌==◌, Bool, true, false, List, [], ◌∷◌, ◌++◌, Option, Some, None, drop, length, map, nat_le, nat_lt, not, is_some, option_and_then, option_map, slice_index_or, slice_set, sum_by, ◌&&◌, if◌then◌else◌}
+use Rattle.std.specs.Prelude.{ℕ, ◌+◌, ◌-◌, ◌==◌, Bool, true, false, List, [], ◌∷◌, ◌++◌, Option, Some, None, drop, length, map, nat_le, nat_lt, not, is_some, option_and_then, slice_index_or, slice_set, sum_by, ◌&&◌, if◌then◌else◌}
 use Rattle.std.specs.List.{flat_map}
 use Rattle.tipc_types.specs.Address.{node_word}
 use Rattle.tipc_types.specs.declared.link_words.Why.{Why}
@@ -16,7 +16,6 @@ use Rattle.tipc_types.specs.declared.node_calls.EventNote.TheVariants as event
 use Rattle.tipc_outside.specs.declared.outgoing.Outgoing.{Outgoing}
 use Rattle.tipc_journal.specs.declared.entries.Entry.{Entry}
 use Rattle.tipc_journal.specs.declared.entries.Entry.TheVariants as entry
-use Rattle.tipc_journal.specs.Room.{message_bytes}
 use Rattle.tipc_journal.specs.Steps.{NodeStep, step_entries}
 use Rattle.tipc_header.specs.declared.fault.HeaderFault.{HeaderFault}
 use Rattle.tipc_header.specs.Faults.{fault_of, number_of}
@@ -26,20 +25,20 @@ use Rattle.tipc_pair.specs.declared.transitions.Transition.{Transition}
 use Rattle.tipc_pair.specs.declared.transitions.Transition.TheVariants.{ContactDown, ContactUp, LinkDown, LinkUp}
 use Rattle.tipc_pair.specs.declared.changes.PairOutcome.{PairOutcome}
 use Rattle.tipc_pair.specs.Courses.{Course}
-use Rattle.tipc_pair.specs.Facing.{PairEnds, active, contact_between, facing, in_contact}
+use Rattle.tipc_pair.specs.Facing.{PairEnds, contact_between, facing, in_contact}
 use Rattle.tipc_pair.specs.PairCalls.{load_of as link_load}
 use Rattle.tipc_pair.specs.Messages.{opened_in}
 use Rattle.tipc_reassembly.specs.declared.opening.Opened.{Opened}
 use Rattle.tipc_sockets.specs.SocketTables.{SocketTable}
 use Rattle.tipc_reassembly.specs.declared.opening.Opened.TheVariants.{Whole, Passed}
-use Rattle.tipc_sockets.specs.SocketTables.{SocketTable}
 use Rattle.tipc_node.specs.declared.arriving.Delivery.{Delivery}
 use Rattle.tipc_node.specs.declared.neighbours.Neighbour.{Neighbour}
-use Rattle.tipc_node.specs.declared.neighbours.Deed.{Deed}
-use Rattle.tipc_node.specs.declared.neighbours.Deed.TheVariants as deed
-use Rattle.tipc_node.specs.Limits.{free_entries, free_message_bytes, most_frame_bytes}
+use Rattle.tipc_node.specs.declared.neighbours.Upkeep.{Upkeep}
+use Rattle.tipc_node.specs.declared.neighbours.Upkeep.TheVariants as upkeep
+use Rattle.tipc_node.specs.Limits.{most_frame_bytes}
 use Rattle.tipc_node.specs.Messages.{message_in}
 use Rattle.tipc_node.specs.Neighbours.{done, making, neighbour, stranger}
+use Rattle.tipc_pair.specs.LinkReadings.{active_load}
 
 -- a node: its address word, its boot number, whether bearer 0 is mended and whether bearer 1 is, its neighbours by number, its sockets, and its journal
 pub record NodeState : Type 0 where
@@ -65,17 +64,13 @@ end_with bearer (Some x) = (facing bearer x.pair).near
 
 -- the node with these neighbours in place of its own
 abbrev pub with_neighbours : NodeState → List (Option Neighbour) → NodeState
-with_neighbours n xs = record { own = n.own; boot = n.boot; mended = n.mended; neighbours = xs; sockets = n.sockets; journal = n.journal }
+with_neighbours n xs = record n { neighbours = xs }
 
 -- the node where these bearers are mended
 abbrev pub with_mended : NodeState → Bool × Bool → NodeState
-with_mended n mended = record { own = n.own; boot = n.boot; mended = mended; neighbours = n.neighbours; sockets = n.sockets; journal = n.journal }
+with_mended n mended = record n { mended = mended }
 
 -- ---- the journal
-
--- as many entries and message bytes are free as a call needs
-unfoldable pub has_room : List Entry → Bool
-has_room entries = nat_le (length entries + free_entries) 1048576 && nat_le (message_bytes entries + free_message_bytes) 67108864
 
 -- a call is recorded: who made it, the call itself, what happened in it, and its answer
 abbrev pub step_of : By → EventNote → List Entry → Answer → NodeStep
@@ -84,7 +79,7 @@ step_of by event inside answered = record { by = by; event = event; inside = ins
 -- a call that changes nothing else
 abbrev pub recorded : NodeState → By → EventNote → List Entry → Answer → NodeState
 recorded n by event inside answered =
-    record { own = n.own; boot = n.boot; mended = n.mended; neighbours = n.neighbours; sockets = n.sockets; journal = n.journal ++ step_entries (step_of by event inside answered) }
+    record n { journal = n.journal ++ step_entries (step_of by event inside answered) }
 
 -- what is recorded of a change of the links to a peer, or of the contact with it
 abbrev pub change_entry : ℕ → Transition → Entry
@@ -108,50 +103,46 @@ is_change other = false
 -- ---- what happens to all neighbours alike, in order of their numbers
 
 -- the neighbour at a place after that, where there is one
-abbrev pub after_one : Deed → Option Neighbour → Option Neighbour
+abbrev pub after_one : Upkeep → Option Neighbour → Option Neighbour
 after_one d None = None
 after_one d (Some x) = Some (done d x).after
 
 -- the frames of link states and of repeated packets that leave for the neighbour at a place
-abbrev pub states_one : Deed → Option Neighbour → List Outgoing
+abbrev pub states_one : Upkeep → Option Neighbour → List Outgoing
 states_one d None = []
 states_one d (Some x) = (done d x).states
 
 -- the frames of packets that are numbered then for the neighbour at a place
-abbrev pub numbered_one : Deed → Option Neighbour → List Outgoing
+abbrev pub numbered_one : Upkeep → Option Neighbour → List Outgoing
 numbered_one d None = []
 numbered_one d (Some x) = (done d x).numbered
 
 -- what is recorded of the links to the neighbour of that number, and of the contact with it
-abbrev pub entries_one : Deed → ℕ → Option Neighbour → List Entry
+abbrev pub entries_one : Upkeep → ℕ → Option Neighbour → List Entry
 entries_one d number None = []
 entries_one d number (Some x) = change_entries number (done d x).changes
 
 -- all neighbours after that
-unfoldable pub after_all : Deed → List (Option Neighbour) → List (Option Neighbour)
+unfoldable pub after_all : Upkeep → List (Option Neighbour) → List (Option Neighbour)
 after_all d xs = map (after_one d) xs
 
 -- the frames of link states and of repeated packets for all neighbours
-unfoldable pub states_all : Deed → List (Option Neighbour) → List Outgoing
+unfoldable pub states_all : Upkeep → List (Option Neighbour) → List Outgoing
 states_all d xs = flat_map (states_one d) xs
 
 -- the frames of packets that are numbered then, for all neighbours
-unfoldable pub numbered_all : Deed → List (Option Neighbour) → List Outgoing
+unfoldable pub numbered_all : Upkeep → List (Option Neighbour) → List Outgoing
 numbered_all d xs = flat_map (numbered_one d) xs
 
 -- all frames of link states and of repeated packets leave first, and then those of packets that are numbered, by peer
 -- both times
-abbrev pub frames_all : Deed → List (Option Neighbour) → List Outgoing
+abbrev pub frames_all : Upkeep → List (Option Neighbour) → List Outgoing
 frames_all d xs = states_all d xs ++ numbered_all d xs
 
 -- what is recorded of the links to all neighbours, of which the first has that number
-unfoldable pub entries_all : Deed → ℕ → List (Option Neighbour) → List Entry
+unfoldable pub entries_all : Upkeep → ℕ → List (Option Neighbour) → List Entry
 entries_all d number [] = []
 entries_all d number (x ∷ xs) = entries_one d number x ++ entries_all d (number + 1) xs
-
--- how many packets are unacknowledged and how many wait on the active link to a peer, where the node is in contact with it
-abbrev pub active_load : PairEnds → Option (ℕ × ℕ)
-active_load x = option_map (λ bearer. link_load (facing bearer x).near) (active x)
 
 -- the same of the peer at a place, where there is one
 abbrev pub load_with : Option Neighbour → Option (ℕ × ℕ)
@@ -182,8 +173,8 @@ unfoldable pub load_all : List (Option Neighbour) → ℕ × ℕ
 load_all xs = (sum_by (λ x. (load_on 0 x).0 + (load_on 1 x).0) xs, sum_by (λ x. (load_on 0 x).1 + (load_on 1 x).1) xs)
 
 -- how many packets are unacknowledged and how many wait on all links of a node together that are up
-abbrev pub load_of : NodeState → ℕ × ℕ
-load_of n = load_all n.neighbours
+abbrev pub node_load : NodeState → ℕ × ℕ
+node_load n = load_all n.neighbours
 
 -- the entry of a message that is accepted for a peer, to which this is the pair
 abbrev pub accepted_entry : ℕ → PairEnds → Message → Entry
@@ -192,10 +183,10 @@ accepted_entry peer x m = entry.Accepted (record { word = node_word peer }) (x.c
 -- ---- all neighbours at once
 
 -- what the journal keeps of a call that mends or cuts a bearer, or of a tick
-abbrev pub deed_note : Deed → EventNote
-deed_note (deed.Mend bearer) = event.Mend bearer
-deed_note (deed.Cut bearer) = event.Cut bearer
-deed_note deed.Tick = event.Tick
+abbrev pub upkeep_note : Upkeep → EventNote
+upkeep_note (upkeep.Mend bearer) = event.Mend bearer
+upkeep_note (upkeep.Cut bearer) = event.Cut bearer
+upkeep_note upkeep.Tick = event.Tick
 
 -- whether a bearer is mended; there are two: 0 and 1
 abbrev pub is_mended_on : Bool × Bool → ℕ → Bool
@@ -206,10 +197,10 @@ abbrev pub with_mended_on : Bool × Bool → ℕ → Bool → Bool × Bool
 with_mended_on mended bearer now = if bearer == 0 then (now, mended.1) else (mended.0, now)
 
 -- the bearers after a call that mends or cuts one; a tick changes none
-abbrev pub mended_by : Deed → Bool × Bool → Bool × Bool
-mended_by (deed.Mend bearer) mended = with_mended_on mended bearer true
-mended_by (deed.Cut bearer) mended = with_mended_on mended bearer false
-mended_by deed.Tick mended = mended
+abbrev pub mended_by : Upkeep → Bool × Bool → Bool × Bool
+mended_by (upkeep.Mend bearer) mended = with_mended_on mended bearer true
+mended_by (upkeep.Cut bearer) mended = with_mended_on mended bearer false
+mended_by upkeep.Tick mended = mended
 
 -- ---- a link end to a peer is made
 

@@ -3,29 +3,22 @@
 use Rattle.std.specs.Prelude.{◌≡◌, ◌<◌, ℕ, false, List, [], Some, None, filter}
 use Rattle.tipc_types.specs.Address.{node_word}
 use Rattle.tipc_types.specs.declared.message_forms.Flow.TheVariants.{Zero}
-use Rattle.tipc_types.specs.declared.message_forms.Message.{Message}
-use Rattle.tipc_types.specs.declared.services.Publication.{Publication}
-use Rattle.tipc_name_table.specs.Tables.{IsTable, is_of}
+use Rattle.tipc_types.specs.Tables.{is_of}
 use Rattle.tipc_journal.specs.declared.entries.Entry.{Entry}
 use Rattle.tipc_journal.specs.Contacts.{contact}
 use Rattle.tipc_journal.specs.Names.{live}
 use Rattle.tipc_journal.specs.Streams.{Stream, accepted, delivered}
-use Rattle.tipc_name_dist.specs.Agreeing.{Agrees, AreOwn}
-use Rattle.tipc_name_dist.specs.Applying.{applied_each, held_after}
+use Rattle.tipc_name_dist.specs.Agreeing.{AreOwn}
+use Rattle.tipc_name_dist.specs.Applying.{held_after}
 use Rattle.tipc_pair.specs.Facing.{in_contact}
 use Rattle.tipc_node.specs.declared.neighbours.Neighbour.{Neighbour}
 use Rattle.tipc_node.specs.Nodes.{NodeState, neighbour_of}
 use Rattle.tipc_node.specs.Turns.{addr_of}
+use Rattle.tipc_name_dist.specs.Told.{HasTold}
 
 -- the messages of one contact with a peer: the node's own number, then the peer's
 abbrev pub flow_with : ℕ → ℕ × ℕ → Stream
 flow_with peer numbers = record { peer = addr_of peer; contact = numbers; flow = Zero }
-
--- A peer that holds nothing of a node, and applies these messages of it, holds what the node has published. Each item fits.
-pub record HasTold (own : ℕ) (published : List Publication) (messages : List Message) : Type 0 where
-  pub fits : (applied_each own [] messages).bad ≡ None
-  pub table : IsTable (applied_each own [] messages).table
-  pub agrees : Agrees own published (applied_each own [] messages).table
 
 -- nothing was accepted for a peer, or delivered from it, in a contact of this own number
 abbrev pub IsUnused : List Entry → ℕ → ℕ → Type 0

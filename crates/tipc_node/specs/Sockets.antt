@@ -12,21 +12,21 @@ use Rattle.tipc_types.specs.declared.services.Scope.{Scope}
 use Rattle.tipc_journal.specs.declared.entries.Entry.{Entry}
 use Rattle.tipc_journal.specs.declared.entries.Entry.TheVariants.{Published, Withdrawn, Subscribed, Cancelled, TimedOut}
 use Rattle.tipc_journal.specs.Refusals.{most_publications, most_sockets, most_sockets_made, most_subscriptions, most_subscriptions_made}
-use Rattle.tipc_name_table.specs.Matching.{closest, covers}
+use Rattle.tipc_types.specs.Matching.{closest, covers}
 use Rattle.tipc_name_dist.specs.Items.{tellings}
 use Rattle.tipc_ports.specs.Numbers.{port_number}
-use Rattle.tipc_topology.specs.Changing.{due, events_left, is_filter, of_number, passed, taken_from as taken_one, with_kept}
+use Rattle.tipc_topology.specs.Changing.{due, events_left, is_filter, of_number, passed, with_event_taken as taken_one, with_kept}
 use Rattle.tipc_sockets.specs.declared.publishing.PublishFault.{PublishFault}
 use Rattle.tipc_sockets.specs.declared.publishing.PublishFault.TheVariants as fault
 use Rattle.tipc_sockets.specs.Publishing.{closed, is_at, own_publication, published_at, publish_refusal}
-use Rattle.tipc_sockets.specs.SocketTables.{has_port, queue_at, taken_from, with_queues, with_watchers, SocketTable}
+use Rattle.tipc_sockets.specs.SocketTables.{has_port, queue_at, with_first_taken, with_queues, with_watchers, SocketTable}
 use Rattle.tipc_node.specs.declared.neighbours.Neighbour.{Neighbour}
 use Rattle.tipc_node.specs.Nodes.{NodeState, load_with, waiting_in}
 use Rattle.tipc_node.specs.Works.{Work, begun, noted}
 
 -- the work on a step that changed the sockets so, and nothing else
 abbrev pub with_sockets_of : Work → SocketTable → Work
-with_sockets_of w sockets = record { neighbours = w.neighbours; sockets = sockets; inside = w.inside }
+with_sockets_of w sockets = record w { sockets = sockets }
 
 -- ---- a socket is made
 
@@ -61,7 +61,7 @@ kept_answer other = other
 
 -- the work where the first message that waits at a port is taken
 abbrev pub received_work : NodeState → ℕ → Work
-received_work n port = with_sockets_of (begun n) (with_queues n.sockets (taken_from n.sockets.queues port))
+received_work n port = with_sockets_of (begun n) (with_queues n.sockets (with_first_taken n.sockets.queues port))
 
 -- a port is closed, behind the withdrawals of what is published there
 abbrev pub closed_work : NodeState → ℕ → Work

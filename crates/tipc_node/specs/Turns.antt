@@ -1,8 +1,7 @@
 -- What a node does in one event, in one form for all of them: it records a step, and at the pair to each peer it takes a turn, of which the
 -- step tells. What else changes (sockets, say) is beside it.
-use Rattle.std.specs.Prelude.{◌≡◌, ◌≤◌, ◌<◌, ◌^◌, ℕ, ◌==◌, Bool, true, false, List, [], ◌∷◌, ◌++◌, Option, Some, None, filter, is_some, map, option_map}
+use Rattle.std.specs.Prelude.{◌≡◌, ◌<◌, ◌^◌, ℕ, ◌==◌, Bool, true, false, List, [], ◌∷◌, ◌++◌, Option, Some, None, filter, is_some, map, option_map}
 use Rattle.std.specs.List.{All, flat_map}
-use Rattle.std.specs.Prelude.{IfSome}
 use Rattle.tipc_types.specs.Address.{node_word}
 use Rattle.tipc_types.specs.declared.identity.Addr.{Addr}
 use Rattle.tipc_types.specs.declared.identity.To.{To}
@@ -12,8 +11,6 @@ use Rattle.tipc_types.specs.declared.message_forms.Message.{Message}
 use Rattle.tipc_types.specs.declared.node_calls.Answer.TheVariants as answer
 use Rattle.tipc_types.specs.declared.node_calls.Arrival.{Arrival}
 use Rattle.tipc_types.specs.declared.node_calls.Arrival.TheVariants as arrival
-use Rattle.tipc_types.specs.declared.node_calls.EventNote.{EventNote}
-use Rattle.tipc_types.specs.declared.node_calls.EventNote.TheVariants as event
 use Rattle.tipc_outside.specs.declared.outgoing.Outgoing.{Outgoing}
 use Rattle.tipc_header.specs.Frames.{frame_of}
 use Rattle.tipc_header.specs.Grammar.{Fits}
@@ -23,17 +20,15 @@ use Rattle.tipc_journal.specs.declared.entries.Entry.TheVariants as entry
 use Rattle.tipc_journal.specs.Steps.{IsInside, NodeStep, step_entries}
 use Rattle.tipc_reassembly.specs.declared.opening.Opened.{Opened}
 use Rattle.tipc_reassembly.specs.declared.opening.Opened.TheVariants.{Passed, Whole}
-use Rattle.tipc_link.specs.Links.{LinkEnd}
-use Rattle.tipc_link.specs.Sessions.{SessionEnd}
 use Rattle.tipc_pair.specs.declared.changes.PairOutcome.{PairOutcome}
-use Rattle.tipc_pair.specs.declared.changes.PairOutcome.TheVariants as outcome
 use Rattle.tipc_pair.specs.Facing.{PairEnds}
 use Rattle.tipc_pair.specs.Messages.{opened_in}
-use Rattle.tipc_pair.specs.PairTurns.{Opening, PairTurn, Reply, ShowsAtLast, ShowsIn}
-use Rattle.tipc_pair.specs.PairTurns.Opening.{rests, makes, mends, cuts, ticks, hears}
+use Rattle.tipc_pair.specs.PairTurns.{Opening, PairTurn, Reply, ShowsAtLast, ShowsIn, Suits, IsOnOne, IsTakenBy}
+use Rattle.tipc_pair.specs.PairTurns.Opening.{hears}
 use Rattle.tipc_node.specs.declared.neighbours.Neighbour.{Neighbour}
 use Rattle.tipc_node.specs.Messages.{IsSendable, bytes_of, message_in}
 use Rattle.tipc_node.specs.Nodes.{NodeState, accepted_entry, change_entries, neighbour_of, shown_contact}
+use Rattle.tipc_pair.specs.Addressed.{Names}
 
 -- the address of the node of that number
 abbrev pub addr_of : ℕ → Addr
@@ -64,13 +59,13 @@ is_delivered_from b (entry.Delivered peer numbers flow message by) = peer.word =
 is_delivered_from b other = false
 
 -- the entry of a message that came from node b in a contact: none where the packet carries none
-abbrev pub delivered_message : ℕ → ℕ × ℕ → Option Message → List ℕ → List Entry
-delivered_message b contact (Some m) by = entry.Delivered (addr_of b) contact Zero m by ∷ []
-delivered_message b contact None by = []
+abbrev pub delivered_entries : ℕ → ℕ × ℕ → Option Message → List ℕ → List Entry
+delivered_entries b contact (Some m) by = entry.Delivered (addr_of b) contact Zero m by ∷ []
+delivered_entries b contact None by = []
 
 -- the same of a member of what was given: a place that was passed has none
 abbrev pub delivered_of : ℕ → ℕ × ℕ → Opened → List Entry
-delivered_of b contact (Whole packet by) = delivered_message b contact (message_in packet) by
+delivered_of b contact (Whole packet by) = delivered_entries b contact (message_in packet) by
 delivered_of b contact (Passed place) = []
 
 -- the entries of all that was given by node b, in order: those of its messages
@@ -92,39 +87,11 @@ is_out_to b o = is_to b o.to
 abbrev pub frames_to : ℕ → List Outgoing → List Outgoing
 frames_to b frames = filter (is_out_to b) frames
 
--- a link end whose frames are for the node with that address word
-pub record IsEndTo (word : ℕ) (e : LinkEnd) : Type 0 where
-  pub peer : e.peer ≡ word
-  pub session : (s : SessionEnd) → e.session ≡ Some s → s.peer ≡ word
-
--- a pair, seen from bearer 0's link, whose frames are for it
-pub record Names (word : ℕ) (x : PairEnds) : Type 0 where
-  pub first : x.bearer ≡ 0
-  pub peer : x.peer ≡ word
-  pub near : IfSome x.near (IsEndTo word)
-  pub far : IfSome x.far (IsEndTo word)
-
 -- each pair of the node is for the peer under whose number it stands
 abbrev pub AreNamed : NodeState → Type 0
 AreNamed n = (b : ℕ) (x : Neighbour) → neighbour_of n b ≡ Some x → Names (node_word b) x.pair
 
 -- ---- the turn at one peer
-
--- what happened at the pair first is the event of the step
-abbrev pub Suits : EventNote → Opening → Type 0
-Suits note rests = Unit {0}
-Suits note (makes bearer is_mended) = ⊥
-Suits note (mends bearer) = note ≡ event.Mend bearer
-Suits note (cuts bearer) = note ≡ event.Cut bearer
-Suits note (ticks shown) = note ≡ event.Tick
-Suits note (hears bearer es er p by shown) = note ≡ event.Arrive bearer by
-
--- it happened on one of the two bearers
-abbrev pub IsOnOne : Opening → Type 0
-IsOnOne (mends bearer) = bearer ≤ 1
-IsOnOne (cuts bearer) = bearer ≤ 1
-IsOnOne (hears bearer es er p by shown) = bearer ≤ 1
-IsOnOne other = Unit {0}
 
 -- a frame brings this packet, which names node b as its sender, under an envelope of these two epochs
 pub record IsFrom (b : ℕ) (bytes : List ℕ) (es er : ℕ) (p : Fields) : Type 0 where
@@ -144,12 +111,6 @@ abbrev pub IsTakenIn : Arrival → Type 0
 IsTakenIn (arrival.Took messages) = Unit {0}
 IsTakenIn arrival.Deferred = Unit {0}
 IsTakenIn (arrival.Ignored reason) = ⊥
-
--- the pair heard what arrived, and didn't ignore it
-abbrev pub IsTakenBy : Opening → PairOutcome → Type 0
-IsTakenBy (hears bearer es er p by shown) (outcome.Took opened) = Unit {0}
-IsTakenBy (hears bearer es er p by shown) outcome.Deferred = Unit {0}
-IsTakenBy other given = ⊥
 
 -- The node's turn at the pair to node b in this step, in which these bytes arrived, where a frame did; all frames that left are these.
 pub record PeerTurn (own : ℕ) (bytes : List ℕ) (s : NodeStep) (frames : List Outgoing) (b : ℕ) (x x' : PairEnds) : Type 0 where

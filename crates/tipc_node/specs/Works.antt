@@ -39,14 +39,8 @@ begun n = record { neighbours = n.neighbours; sockets = n.sockets; inside = [] }
 
 -- the node when the step is recorded
 abbrev pub concluded : NodeState → By → EventNote → Work → Answer → NodeState
-concluded n by event w answered = record {
-  own = n.own;
-  boot = n.boot;
-  mended = n.mended;
-  neighbours = w.neighbours;
-  sockets = w.sockets;
-  journal = n.journal ++ step_entries (step_of by event w.inside answered);
-}
+concluded n by event w answered =
+    record n { neighbours = w.neighbours; sockets = w.sockets; journal = n.journal ++ step_entries (step_of by event w.inside answered) }
 
 -- the work that has these parts
 abbrev pub work_of : List (Option Neighbour) → SocketTable → List Entry → Work
@@ -115,8 +109,8 @@ abbrev pub is_in_contact : List (Option Neighbour) → ℕ → Bool
 is_in_contact xs peer = is_met (slice_index_or xs peer None)
 
 -- the peers with which there is contact, in order of their numbers
-unfoldable pub in_contact : List (Option Neighbour) → List ℕ
-in_contact xs = filter (is_in_contact xs) (range_with_len 1 32)
+unfoldable pub peers_in_contact : List (Option Neighbour) → List ℕ
+peers_in_contact xs = filter (is_in_contact xs) (range_with_len 1 32)
 
 -- the same messages are put for each of these peers, for one peer after the other
 pub data TellsEach (own : ℕ) (ms : List Message) : Work → List ℕ → Work → List Outgoing → Type 0 where
@@ -127,7 +121,7 @@ pub data TellsEach (own : ℕ) (ms : List Message) : Work → List ℕ → Work 
 
 -- every peer in contact is told by these messages
 abbrev pub TellsPeers : ℕ → Work → List Message → Work → List Outgoing → Type 0
-TellsPeers own w ms w' frames = TellsEach own ms w (in_contact w.neighbours) w' frames
+TellsPeers own w ms w' frames = TellsEach own ms w (peers_in_contact w.neighbours) w' frames
 
 -- ---- fates
 
@@ -151,8 +145,8 @@ Follows own w m (Returned back) w' frames = GoesBack own (fated w m (Returned ba
 Follows own w m f w' frames = (w' ≡ fated w m f) × (frames ≡ [])
 
 -- a message that arrived, or that the node sent to itself, has its fate
-abbrev pub Settles : ℕ → Work → Bool → Message → Work → List Outgoing → Type 0
-Settles own w arrived m w' frames = Follows own w m (fate_of w arrived m) w' frames
+abbrev pub GivesFate : ℕ → Work → Bool → Message → Work → List Outgoing → Type 0
+GivesFate own w arrived m w' frames = Follows own w m (fate_of w arrived m) w' frames
 
 -- ---- what is delivered
 
@@ -164,7 +158,7 @@ with_items peer w m = noted w (learnt_entries (node_word peer) w.sockets.names m
 abbrev pub DeliversTo : (own peer : ℕ) → Work → Option Message → Work → List Outgoing → Type 0
 DeliversTo own peer w None w' frames = (w' ≡ w) × (frames ≡ [])
 DeliversTo own peer w (Some (Items withdrawal items)) w' frames = (w' ≡ with_items peer w (Items withdrawal items)) × (frames ≡ [])
-DeliversTo own peer w (Some m) w' frames = Settles own w true m w' frames
+DeliversTo own peer w (Some m) w' frames = GivesFate own w true m w' frames
 
 -- what arrived is noted before
 abbrev pub Delivers : (own peer : ℕ) → Work → Delivery → Work → List Outgoing → Type 0

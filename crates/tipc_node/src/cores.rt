@@ -8,15 +8,16 @@ ghost use Rattle.tipc_journal.specs.Counting.{is_sent_by_name};
 ghost use Rattle.tipc_sockets.specs.SocketTables.{AreSockets, no_sockets};
 ghost use Rattle.tipc_node.specs.Calls.{CanPerform, IsPickedFrom, Performs, TakesPart, Ticks};
 ghost use Rattle.tipc_node.specs.Neighbours.{IsOnBearer};
-ghost use Rattle.tipc_node.specs.Nodes.{end_with, has_room, is_mended_on, known_frames, known_node, load_of, neighbour_of, recorded};
+ghost use Rattle.tipc_node.specs.Nodes.{end_with, is_mended_on, known_frames, known_node, node_load, neighbour_of, recorded};
+ghost use Rattle.tipc_journal.specs.Room.{has_journal_room};
 
 use crate::arriving::fits;
 use crate::drafts::leave;
 use crate::neighbours::{
-    Bearers, Deed, NUMBERS, Neighbour, Parting, acquaintance, deed_note, is_mended_on, load_all,
-    mended_by, part_of_all,
+    Bearers, NUMBERS, Neighbour, Parting, Upkeep, acquaintance, is_mended_on, load_all, mended_by,
+    part_of_all, upkeep_note,
 };
-use crate::recording::{NodeFault, has_room, note_timeouts, record};
+use crate::recording::{NodeFault, has_journal_room, note_timeouts, record};
 use crate::settling::purge_ended;
 use std::alloc::Global;
 use std::marker::Model;
@@ -121,7 +122,7 @@ impl Core {
 
     /// The numbers of packets unacknowledged and waiting, each on all its links together that are up.
     pub fn load(&self) -> (u64, u64)
-        ensures { result ≡ load_of self.now }
+        ensures { result ≡ node_load self.now }
     {
         load_all(self.neighbours.as_slice())
     }
@@ -187,12 +188,12 @@ impl Core {
           pick = chooser.old.pick;
           turn = if is_sent_by_name call a then (chooser.old.turn + 1) % 2 ^ 64 else chooser.old.turn;
         }) }
-        ensures room { OnOk result (has_room self.old.journal ≡ true) }
-        ensures full { has_room self.old.journal ≡ false → result ≡ Err NodeFault.JournalFull }
-        ensures only { result ≡ Err NodeFault.JournalFull → has_room self.old.journal ≡ false }
+        ensures room { OnOk result (has_journal_room self.old.journal ≡ true) }
+        ensures full { has_journal_room self.old.journal ≡ false → result ≡ Err NodeFault.JournalFull }
+        ensures only { result ≡ Err NodeFault.JournalFull → has_journal_room self.old.journal ≡ false }
         ensures err { OnErr result ((self.new ≡ self.old) × (out.new ≡ out.old) × (chooser.new ≡ chooser.old)) }
     {
-        if !has_room(&self.journal) {
+        if !has_journal_room(&self.journal) {
             return Err(NodeFault::JournalFull);
         }
         let answer = self.call(alloc, by, call, chooser, out)?;
@@ -209,7 +210,7 @@ impl Core {
         out: &mut Outbox,
     ) -> Result<Answer, NoMemory>
         requires can { CanPerform call }
-        requires room { has_room self.old.journal ≡ true }
+        requires room { has_journal_room self.old.journal ≡ true }
         ensures ok { IfOk result (λ a. (frames : List Outgoing) × Performs self.old by call self.new frames a ×
             Adds out.old out.new frames) }
         ensures picked { IfOk result (λ a. (turn : ℕ) → turn % 2 ^ 64 ≡ chooser.old.turn →
@@ -250,8 +251,8 @@ impl Core {
             EventNote::Cancel { number } => self.cancel(alloc, by, number),
             EventNote::NextEvent { number } => self.next_event(alloc, by, number),
             EventNote::Tick => self.tick(alloc, by, out),
-            EventNote::Cut { bearer } => self.take_part(alloc, by, Deed::Cut(bearer), out),
-            EventNote::Mend { bearer } => self.take_part(alloc, by, Deed::Mend(bearer), out),
+            EventNote::Cut { bearer } => self.take_part(alloc, by, Upkeep::Cut(bearer), out),
+            EventNote::Mend { bearer } => self.take_part(alloc, by, Upkeep::Mend(bearer), out),
             EventNote::Multicast { .. } | EventNote::Arrive { .. } => unreachable!(),
         }
     }
@@ -264,7 +265,7 @@ impl Core {
         note: EventNote,
         why: Answer,
     ) -> Result<Answer, NoMemory>
-        requires room { has_room self.old.journal ≡ true }
+        requires room { has_journal_room self.old.journal ≡ true }
         ensures ok { IfOk result (λ a. (a ≡ why) × (self.new ≡ recorded self.old by note [] why)) }
         ensures err { OnErr result (self.new ≡ self.old) }
     {
@@ -280,30 +281,30 @@ impl Core {
         &mut self,
         alloc: Global,
         by: By,
-        deed: Deed,
+        upkeep: Upkeep,
         out: &mut Outbox,
     ) -> Result<Answer, NoMemory>
-        requires deed { IsOnBearer deed }
-        requires room { has_room self.old.journal ≡ true }
-        ensures ok { IfOk result (λ a. (frames : List Outgoing) × TakesPart self.old by deed self.new frames a ×
+        requires upkeep { IsOnBearer upkeep }
+        requires room { has_journal_room self.old.journal ≡ true }
+        ensures ok { IfOk result (λ a. (frames : List Outgoing) × TakesPart self.old by upkeep self.new frames a ×
             Adds out.old out.new frames) }
         ensures err { OnErr result ((self.new ≡ self.old) × (out.new ≡ out.old)) }
     {
         let mut event = Parting::new(alloc);
-        let after = part_of_all(self.neighbours.as_slice(), alloc, deed, &mut event)?;
+        let after = part_of_all(self.neighbours.as_slice(), alloc, upkeep, &mut event)?;
         if !fits(event.inside.as_slice()) {
             return Err(NoMemory);
         }
         self.journal.reserve(event.inside.len() as u64 + 2)?;
         self.neighbours = after;
         purge_ended(&mut self.sockets, event.inside.as_slice());
-        self.mended = mended_by(deed, self.mended);
+        self.mended = mended_by(upkeep, self.mended);
         leave(event.states, out);
         leave(event.numbered, out);
         record(
             &mut self.journal,
             by,
-            deed_note(deed),
+            upkeep_note(upkeep),
             event.inside,
             Answer::Done,
         );
@@ -313,14 +314,14 @@ impl Core {
     /// Lets a tick pass: for all neighbours first, where the names of each peer with which the contact ends by it are
     /// forgotten; then subscriptions time out, rising, and it passes for the others.
     fn tick(&mut self, alloc: Global, by: By, out: &mut Outbox) -> Result<Answer, NoMemory>
-        requires room { has_room self.old.journal ≡ true }
+        requires room { has_journal_room self.old.journal ≡ true }
         ensures ok { IfOk result (λ a. (frames : List Outgoing) × Ticks self.old by self.new frames a ×
             Adds out.old out.new frames) }
         ensures err { OnErr result ((self.new ≡ self.old) × (out.new ≡ out.old)) }
     {
         let due = self.sockets.due(alloc)?;
         let mut event = Parting::new(alloc);
-        let after = part_of_all(self.neighbours.as_slice(), alloc, Deed::Tick, &mut event)?;
+        let after = part_of_all(self.neighbours.as_slice(), alloc, Upkeep::Tick, &mut event)?;
         let changed = event.inside.len();
         event.inside.reserve(due.as_slice().len())?;
         note_timeouts(&mut event.inside, due.as_slice());

@@ -7,8 +7,9 @@ ghost use Rattle.tipc_outside.specs.Frames.{Adds, Out};
 ghost use Rattle.tipc_journal.specs.Room.{entry_bytes};
 ghost use Rattle.tipc_journal.specs.Steps.{step_entries};
 ghost use Rattle.tipc_node.specs.Drafts.{restored, with_copy};
-ghost use Rattle.tipc_node.specs.Limits.{free_entries, free_message_bytes};
-ghost use Rattle.tipc_node.specs.Nodes.{has_room, step_of};
+ghost use Rattle.tipc_journal.specs.Room.{free_entries, free_message_bytes};
+ghost use Rattle.tipc_node.specs.Nodes.{step_of};
+ghost use Rattle.tipc_journal.specs.Room.{has_journal_room};
 
 use crate::neighbours::{NUMBERS, Neighbour};
 use crate::recording::record;
@@ -142,7 +143,7 @@ pub fn conclude(
     answer: Answer,
     out: &mut Outbox,
 )
-    requires room { has_room journal.old.entries ≡ true }
+    requires room { has_journal_room journal.old.entries ≡ true }
     requires few { length draft.inside.items ≤ free_entries - 2 }
     requires spare { length draft.inside.items + 2 ≤ journal.old.spare }
     requires bytes { sum_by entry_bytes draft.inside.items ≤ free_message_bytes }

@@ -6,15 +6,16 @@ ghost use Rattle.tipc_outside.specs.Frames.{Adds};
 ghost use Rattle.tipc_header.specs.Spelling.{view};
 ghost use Rattle.tipc_node.specs.Arrivals.{Arrives, IsDue};
 ghost use Rattle.tipc_node.specs.Hearings.{told_changes, HearsDue, IsDueAt, IsPrepared};
-ghost use Rattle.tipc_node.specs.Limits.{free_entries};
-ghost use Rattle.tipc_node.specs.Nodes.{has_room, message_count, neighbour_of, stop_of, stopped_node};
+ghost use Rattle.tipc_journal.specs.Room.{free_entries};
+ghost use Rattle.tipc_node.specs.Nodes.{message_count, neighbour_of, stop_of, stopped_node};
+ghost use Rattle.tipc_journal.specs.Room.{has_journal_room};
 ghost use Rattle.tipc_node.specs.Sure.{all_wait};
 
 use crate::arriving::{Due, Hearing, fits, look, message_count, prepare};
 use crate::cores::Core;
 use crate::drafts::{begin_draft, conclude, take_back};
 use crate::following::hear_in;
-use crate::recording::{NodeFault, begin, has_room, record};
+use crate::recording::{NodeFault, begin, has_journal_room, record};
 use crate::waiting::{all_wait, conclude_waiting, prepare_waiting};
 use std::alloc::Global;
 use tipc_outside::Outbox;
@@ -38,9 +39,9 @@ impl Core {
     ) -> Result<Arrival, NodeFault>
         ensures ok { IfOk result (λ a. (frames : List Outgoing)
             × Arrives self.old self.new by bearer number frame.now frames a × Adds out.old out.new frames) }
-        ensures room { OnOk result (has_room self.old.journal ≡ true) }
-        ensures full { has_room self.old.journal ≡ false → result ≡ Err NodeFault.JournalFull }
-        ensures only { result ≡ Err NodeFault.JournalFull → has_room self.old.journal ≡ false }
+        ensures room { OnOk result (has_journal_room self.old.journal ≡ true) }
+        ensures full { has_journal_room self.old.journal ≡ false → result ≡ Err NodeFault.JournalFull }
+        ensures only { result ≡ Err NodeFault.JournalFull → has_journal_room self.old.journal ≡ false }
         ensures err { OnErr result ((self.new ≡ self.old) × (out.new ≡ out.old)) }
     {
         match self.due(bearer, frame) {
@@ -80,9 +81,9 @@ impl Core {
         why: Why,
     ) -> Result<Arrival, NodeFault>
         ensures ok { IfOk result (λ a. (a ≡ Arrival.Ignored why) ×
-            (self.new ≡ stopped_node self.old by bearer number why) × (has_room self.old.journal ≡ true)) }
-        ensures full { has_room self.old.journal ≡ false → result ≡ Err NodeFault.JournalFull }
-        ensures only { result ≡ Err NodeFault.JournalFull → has_room self.old.journal ≡ false }
+            (self.new ≡ stopped_node self.old by bearer number why) × (has_journal_room self.old.journal ≡ true)) }
+        ensures full { has_journal_room self.old.journal ≡ false → result ≡ Err NodeFault.JournalFull }
+        ensures only { result ≡ Err NodeFault.JournalFull → has_journal_room self.old.journal ≡ false }
         ensures err { OnErr result (self.new ≡ self.old) }
     {
         begin(&mut self.journal, 0)?;
@@ -110,12 +111,12 @@ impl Core {
     ) -> Result<Arrival, NodeFault>
         requires due { IsDueAt self.old due }
         ensures heard { IfOk result (λ a. HearsDue self.old self.new by number due.entry out.old out.new a) }
-        ensures room { OnOk result (has_room self.old.journal ≡ true) }
-        ensures full { has_room self.old.journal ≡ false → result ≡ Err NodeFault.JournalFull }
-        ensures only { result ≡ Err NodeFault.JournalFull → has_room self.old.journal ≡ false }
+        ensures room { OnOk result (has_journal_room self.old.journal ≡ true) }
+        ensures full { has_journal_room self.old.journal ≡ false → result ≡ Err NodeFault.JournalFull }
+        ensures only { result ≡ Err NodeFault.JournalFull → has_journal_room self.old.journal ≡ false }
         ensures err { OnErr result ((self.new ≡ self.old) × (out.new ≡ out.old)) }
     {
-        if !has_room(&self.journal) {
+        if !has_journal_room(&self.journal) {
             return Err(NodeFault::JournalFull);
         }
         let arrived = self.take(alloc, by, number, due, out)?;
@@ -146,7 +147,7 @@ impl Core {
         out: &mut Outbox,
     ) -> Result<Arrival, NoMemory>
         requires due { IsDueAt self.old due }
-        requires room { has_room self.old.journal ≡ true }
+        requires room { has_journal_room self.old.journal ≡ true }
         ensures heard { IfOk result (λ a. HearsDue self.old self.new by number due.entry out.old out.new a) }
         ensures err { OnErr result ((self.new ≡ self.old) × (out.new ≡ out.old)) }
     {
@@ -172,7 +173,7 @@ impl Core {
         out: &mut Outbox,
     ) -> Result<Arrival, NoMemory>
         requires due { IsDueAt self.old due }
-        requires room { has_room self.old.journal ≡ true }
+        requires room { has_journal_room self.old.journal ≡ true }
         requires heard { IsPrepared (neighbour_of self.old due.peer) due heard }
         requires still { told_changes heard ≡ [] }
         requires sure { all_wait self.old.sockets (message_count heard.deliveries.items)
@@ -210,7 +211,7 @@ impl Core {
         out: &mut Outbox,
     ) -> Result<Arrival, NoMemory>
         requires due { IsDueAt self.old due }
-        requires room { has_room self.old.journal ≡ true }
+        requires room { has_journal_room self.old.journal ≡ true }
         requires prepared { IsPrepared (neighbour_of self.old due.peer) due heard }
         ensures heard { IfOk result (λ a. HearsDue self.old self.new by heard.number due.entry out.old out.new a) }
         ensures err { OnErr result ((self.new ≡ self.old) × (out.new ≡ out.old)) }

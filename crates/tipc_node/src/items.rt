@@ -2,10 +2,10 @@
 
 ghost use Rattle.std.specs.Prelude.{◌≡◌, ◌≤◌, ◌^◌, ◌++◌, ◌∷◌, [], Some, None, fold, find, if◌then◌else◌, option_map, option_to_list, IfOk, IsErr, OnOk};
 ghost use Rattle.tipc_types.specs.Address.{IsNodeWord};
-ghost use Rattle.tipc_name_table.specs.Tables.{is_named};
+ghost use Rattle.tipc_types.specs.Tables.{is_named};
 ghost use Rattle.tipc_name_dist.specs.Applying.{can_be_put, learnt_entries};
 ghost use Rattle.tipc_sockets.specs.Telling.{after_entry};
-ghost use Rattle.tipc_node.specs.Learning.{fitting, learnt_by};
+ghost use Rattle.tipc_sockets.specs.Learning.{fitting, learnt_by};
 
 use tipc_journal::Entry;
 use tipc_name_dist::told_by;

@@ -8,7 +8,8 @@ ghost use Rattle.tipc_pair.specs.Facing.{in_contact};
 ghost use Rattle.tipc_pair.specs.PairTurns.{Outset};
 ghost use Rattle.tipc_pair.specs.Preparing.{Prepares, changes_of};
 ghost use Rattle.tipc_node.specs.Hearings.{HasHeard, IsPrepared};
-ghost use Rattle.tipc_node.specs.Neighbours.{answered_neighbour, answering, begins, ends, heard_neighbour, is_given, is_state, no_broadcast, stays_in_step, HearsAt};
+ghost use Rattle.tipc_node.specs.Neighbours.{answered_neighbour, answering, heard_neighbour, is_given, is_state, no_broadcast, stays_in_step, HearsAt};
+ghost use Rattle.tipc_pair.specs.Contacts.{begins, ends};
 
 use crate::arriving::{Delivery, Due, Hearing};
 use crate::neighbours::{Neighbour, no_broadcast, stays_in_step};

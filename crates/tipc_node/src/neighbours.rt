@@ -8,8 +8,9 @@ ghost use Rattle.tipc_link.specs.Sessions.{SessionEnd};
 ghost use Rattle.tipc_pair.specs.Facing.{facing, in_contact};
 ghost use Rattle.tipc_pair.specs.PairCalls.{active_session};
 ghost use Rattle.tipc_pair.specs.Runs.{IsListed};
-ghost use Rattle.tipc_node.specs.Nodes.{accepted_entry, after_all, after_one, deed_note, entries_all, entries_one, load_all, load_on, load_with, mended_by, numbered_all, numbered_one, shown_contact, states_all, states_one, unacked_in, waiting_in, with_mended_on, is_mended_on};
-ghost use Rattle.tipc_node.specs.Neighbours.{course_of, done, is_of_contact, making, neighbour, no_broadcast, stays_in_step, stranger, IsOnBearer, PutsThere};
+ghost use Rattle.tipc_node.specs.Nodes.{accepted_entry, after_all, after_one, upkeep_note, entries_all, entries_one, load_all, load_on, load_with, mended_by, numbered_all, numbered_one, shown_contact, states_all, states_one, unacked_in, waiting_in, with_mended_on, is_mended_on};
+ghost use Rattle.tipc_node.specs.Neighbours.{course_of, done, making, neighbour, no_broadcast, stays_in_step, stranger, IsOnBearer, PutsThere};
+ghost use Rattle.tipc_pair.specs.Contacts.{is_of_contact};
 
 use crate::recording::note_changes;
 use std::alloc::Global;
@@ -33,7 +34,7 @@ pub struct Neighbour {
 
 /// What happens to all neighbours of a node alike.
 #[derive(Clone, Copy, Debug, PartialEq, Eq)]
-pub enum Deed {
+pub enum Upkeep {
     /// A bearer, 0 or 1, is mended.
     Mend(u8),
     /// A bearer, 0 or 1, is cut.
@@ -154,23 +155,23 @@ impl Neighbour {
     fn undergo(
         &mut self,
         alloc: Global,
-        deed: Deed,
+        upkeep: Upkeep,
         states: &mut Outbox,
         numbered: &mut Outbox,
     ) -> Result<TransitionList, NoMemory>
-        requires { IsOnBearer deed }
-        ensures after { OnOk result (self.new ≡ neighbour (course_of deed self.old).pair self.old.in_step) }
-        ensures changes { IfOk result (λ changes. changes ≡ (course_of deed self.old).changes) }
-        ensures states { OnOk result (Adds states.old states.new (course_of deed self.old).states) }
-        ensures numbered { OnOk result (Adds numbered.old numbered.new (course_of deed self.old).numbered) }
+        requires { IsOnBearer upkeep }
+        ensures after { OnOk result (self.new ≡ neighbour (course_of upkeep self.old).pair self.old.in_step) }
+        ensures changes { IfOk result (λ changes. changes ≡ (course_of upkeep self.old).changes) }
+        ensures states { OnOk result (Adds states.old states.new (course_of upkeep self.old).states) }
+        ensures numbered { OnOk result (Adds numbered.old numbered.new (course_of upkeep self.old).numbered) }
     {
-        match deed {
-            Deed::Mend(bearer) => {
+        match upkeep {
+            Upkeep::Mend(bearer) => {
                 self.pair.mend(alloc, bearer, states);
                 Ok(TransitionList::new(alloc))
             }
-            Deed::Cut(bearer) => self.pair.cut_apart(alloc, bearer, states, numbered),
-            Deed::Tick => {
+            Upkeep::Cut(bearer) => self.pair.cut_apart(alloc, bearer, states, numbered),
+            Upkeep::Tick => {
                 let shown = no_broadcast(self.in_step);
                 self.pair.tick_apart(alloc, shown, states, numbered)
             }
@@ -182,17 +183,17 @@ impl Neighbour {
     pub fn take_part(
         &mut self,
         alloc: Global,
-        deed: Deed,
+        upkeep: Upkeep,
         states: &mut Outbox,
         numbered: &mut Outbox,
     ) -> Result<TransitionList, NoMemory>
-        requires { IsOnBearer deed }
-        ensures after { OnOk result (self.new ≡ (done deed self.old).after) }
-        ensures changes { IfOk result (λ changes. changes ≡ (done deed self.old).changes) }
-        ensures states { OnOk result (Adds states.old states.new (done deed self.old).states) }
-        ensures numbered { OnOk result (Adds numbered.old numbered.new (done deed self.old).numbered) }
+        requires { IsOnBearer upkeep }
+        ensures after { OnOk result (self.new ≡ (done upkeep self.old).after) }
+        ensures changes { IfOk result (λ changes. changes ≡ (done upkeep self.old).changes) }
+        ensures states { OnOk result (Adds states.old states.new (done upkeep self.old).states) }
+        ensures numbered { OnOk result (Adds numbered.old numbered.new (done upkeep self.old).numbered) }
     {
-        let changes = self.undergo(alloc, deed, states, numbered)?;
+        let changes = self.undergo(alloc, upkeep, states, numbered)?;
         self.in_step = stays_in_step(self.in_step, changes.as_slice());
         Ok(changes)
     }
@@ -261,25 +262,25 @@ impl Neighbour {
 }
 
 /// What the journal keeps of a call that all neighbours take part in.
-pub fn deed_note(deed: Deed) -> EventNote
-    ensures { result ≡ deed_note deed }
+pub fn upkeep_note(upkeep: Upkeep) -> EventNote
+    ensures { result ≡ upkeep_note upkeep }
 {
-    match deed {
-        Deed::Mend(bearer) => EventNote::Mend { bearer },
-        Deed::Cut(bearer) => EventNote::Cut { bearer },
-        Deed::Tick => EventNote::Tick,
+    match upkeep {
+        Upkeep::Mend(bearer) => EventNote::Mend { bearer },
+        Upkeep::Cut(bearer) => EventNote::Cut { bearer },
+        Upkeep::Tick => EventNote::Tick,
     }
 }
 
 /// The bearers after a call that all neighbours take part in.
-pub fn mended_by(deed: Deed, mended: Bearers) -> Bearers
-    requires { IsOnBearer deed }
-    ensures { result ≡ mended_by deed mended }
+pub fn mended_by(upkeep: Upkeep, mended: Bearers) -> Bearers
+    requires { IsOnBearer upkeep }
+    ensures { result ≡ mended_by upkeep mended }
 {
-    match deed {
-        Deed::Mend(bearer) => with_mended_on(mended, bearer, true),
-        Deed::Cut(bearer) => with_mended_on(mended, bearer, false),
-        Deed::Tick => mended,
+    match upkeep {
+        Upkeep::Mend(bearer) => with_mended_on(mended, bearer, true),
+        Upkeep::Cut(bearer) => with_mended_on(mended, bearer, false),
+        Upkeep::Tick => mended,
     }
 }
 
@@ -315,23 +316,23 @@ impl Parting {
 fn part_of(
     place: &Option<Neighbour>,
     alloc: Global,
-    deed: Deed,
+    upkeep: Upkeep,
     number: u8,
     event: &mut Parting,
 ) -> Result<Option<Neighbour>, NoMemory>
-    requires deed { IsOnBearer deed }
+    requires upkeep { IsOnBearer upkeep }
     requires number { (1 ≤ number) × (number ≤ 32) }
-    ensures after { IfOk result (λ after. after ≡ after_one deed place.now) }
+    ensures after { IfOk result (λ after. after ≡ after_one upkeep place.now) }
     ensures entries { OnOk result (event.new.inside.items ≡ event.old.inside.items ++
-        entries_one deed number place.now) }
-    ensures states { OnOk result (Adds event.old.states event.new.states (states_one deed place.now)) }
-    ensures numbered { OnOk result (Adds event.old.numbered event.new.numbered (numbered_one deed place.now)) }
+        entries_one upkeep number place.now) }
+    ensures states { OnOk result (Adds event.old.states event.new.states (states_one upkeep place.now)) }
+    ensures numbered { OnOk result (Adds event.old.numbered event.new.numbered (numbered_one upkeep place.now)) }
 {
     let Some(neighbour) = place else {
         return Ok(None);
     };
     let mut after = neighbour.copy()?;
-    let changes = after.take_part(alloc, deed, &mut event.states, &mut event.numbered)?;
+    let changes = after.take_part(alloc, upkeep, &mut event.states, &mut event.numbered)?;
     event.inside.reserve(changes.len())?;
     note_changes(&mut event.inside, number, changes.as_slice());
     Ok(Some(after))
@@ -342,23 +343,23 @@ fn part_of(
 pub fn part_of_all(
     neighbours: &[Option<Neighbour>],
     alloc: Global,
-    deed: Deed,
+    upkeep: Upkeep,
     event: &mut Parting,
 ) -> Result<Vec<Option<Neighbour>>, NoMemory>
-    requires deed { IsOnBearer deed }
+    requires upkeep { IsOnBearer upkeep }
     requires wide { length neighbours.now ≡ 33 }
     requires nobody { slice_index_or neighbours.now 0 None ≡ None }
     requires empty { event.old.inside.items ≡ [] }
-    ensures after { IfOk result (λ after. after.items ≡ after_all deed neighbours.now) }
-    ensures entries { OnOk result (event.new.inside.items ≡ entries_all deed 0 neighbours.now) }
-    ensures states { OnOk result (Adds event.old.states event.new.states (states_all deed neighbours.now)) }
-    ensures numbered { OnOk result (Adds event.old.numbered event.new.numbered (numbered_all deed neighbours.now)) }
+    ensures after { IfOk result (λ after. after.items ≡ after_all upkeep neighbours.now) }
+    ensures entries { OnOk result (event.new.inside.items ≡ entries_all upkeep 0 neighbours.now) }
+    ensures states { OnOk result (Adds event.old.states event.new.states (states_all upkeep neighbours.now)) }
+    ensures numbered { OnOk result (Adds event.old.numbered event.new.numbered (numbered_all upkeep neighbours.now)) }
 {
     let mut after = Vec::new(alloc);
     after.push(None)?;
     for number in 1..NUMBERS {
         let place = &neighbours[number];
-        after.push(part_of(place, alloc, deed, number as u8, event)?)?;
+        after.push(part_of(place, alloc, upkeep, number as u8, event)?)?;
     }
     Ok(after)
 }

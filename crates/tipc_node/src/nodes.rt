@@ -11,13 +11,14 @@ ghost use Rattle.tipc_pair.specs.Facing.{state_of};
 ghost use Rattle.tipc_sockets.specs.SocketTables.{no_sockets};
 ghost use Rattle.tipc_node.specs.Arrivals.{Arrived};
 ghost use Rattle.tipc_node.specs.Calls.{CanPerform, HasInstances, Performed};
-ghost use Rattle.tipc_node.specs.Nodes.{contact_with, end_with, has_room, is_mended_on, known_frames, known_node, load_of, neighbour_of};
+ghost use Rattle.tipc_node.specs.Nodes.{contact_with, end_with, is_mended_on, known_frames, known_node, node_load, neighbour_of};
+ghost use Rattle.tipc_journal.specs.Room.{has_journal_room};
 ghost use Rattle.tipc_node.specs.Sharing.{SharesNames};
 ghost use Rattle.tipc_node.specs.Telling.{IsTold};
 
 use crate::cores::Core;
 use crate::neighbours::Neighbour;
-use crate::recording::{NodeFault, has_room};
+use crate::recording::{NodeFault, has_journal_room};
 use std::alloc::Global;
 use std::marker::Model;
 use tipc_journal::{Entry, Journal};
@@ -108,9 +109,9 @@ impl Node {
 
     /// Whether its journal has room for a call: 65,536 free entries and 4,194,304 free message bytes.
     pub fn has_room(&self) -> bool
-        ensures { result ≡ has_room self.now.journal }
+        ensures { result ≡ has_journal_room self.now.journal }
     {
-        has_room(self.core.journal())
+        has_journal_room(self.core.journal())
     }
 
     /// Its journal.
@@ -152,7 +153,7 @@ impl Node {
 
     /// The numbers of packets unacknowledged and waiting, each on all its links together that are up.
     pub fn load(&self) -> (u64, u64)
-        ensures { result ≡ load_of self.now }
+        ensures { result ≡ node_load self.now }
     {
         self.core.load()
     }
@@ -218,9 +219,9 @@ impl Node {
           pick = chooser.old.pick;
           turn = if is_sent_by_name call a then (chooser.old.turn + 1) % 2 ^ 64 else chooser.old.turn;
         }) }
-        ensures room { OnOk result (has_room self.old.journal ≡ true) }
-        ensures full { has_room self.old.journal ≡ false → result ≡ Err NodeFault.JournalFull }
-        ensures only { result ≡ Err NodeFault.JournalFull → has_room self.old.journal ≡ false }
+        ensures room { OnOk result (has_journal_room self.old.journal ≡ true) }
+        ensures full { has_journal_room self.old.journal ≡ false → result ≡ Err NodeFault.JournalFull }
+        ensures only { result ≡ Err NodeFault.JournalFull → has_journal_room self.old.journal ≡ false }
         ensures err { OnErr result ((self.new ≡ self.old) × (out.new ≡ out.old) × (chooser.new ≡ chooser.old)) }
     {
         ranged(&call);
@@ -247,9 +248,9 @@ impl Node {
         out: &mut Outbox,
     ) -> Result<Arrival, NodeFault>
         ensures ok { IfOk result (λ a. Arrived self.old by bearer number frame.now self.new out.old out.new a) }
-        ensures room { OnOk result (has_room self.old.journal ≡ true) }
-        ensures full { has_room self.old.journal ≡ false → result ≡ Err NodeFault.JournalFull }
-        ensures only { result ≡ Err NodeFault.JournalFull → has_room self.old.journal ≡ false }
+        ensures room { OnOk result (has_journal_room self.old.journal ≡ true) }
+        ensures full { has_journal_room self.old.journal ≡ false → result ≡ Err NodeFault.JournalFull }
+        ensures only { result ≡ Err NodeFault.JournalFull → has_journal_room self.old.journal ≡ false }
         ensures err { OnErr result ((self.new ≡ self.old) × (out.new ≡ out.old)) }
     {
         let arrival = self.core.arrive(alloc, by, bearer, number, frame, out);

@@ -10,11 +10,12 @@ ghost use Rattle.tipc_journal.specs.Refusals.{longest_body};
 ghost use Rattle.tipc_journal.specs.Room.{counted_bytes, entry_bytes};
 ghost use Rattle.tipc_message.specs.Wire.{IsPayload};
 ghost use Rattle.tipc_sockets.specs.Telling.{origin_of};
-ghost use Rattle.tipc_node.specs.Calls.{Sends, SendsByName, SendsTo, sender_refusal, way_refusal};
+ghost use Rattle.tipc_node.specs.Calls.{SendsToPort, SendsByName, SendsTo, sender_refusal, way_refusal};
 ghost use Rattle.tipc_node.specs.Messages.{destination_of};
-ghost use Rattle.tipc_node.specs.Nodes.{has_room, is_met};
+ghost use Rattle.tipc_node.specs.Nodes.{is_met};
+ghost use Rattle.tipc_journal.specs.Room.{has_journal_room};
 ghost use Rattle.tipc_node.specs.Sockets.{found_at};
-ghost use Rattle.tipc_node.specs.Works.{Work, begun, concluded, work_of, Puts, Settles};
+ghost use Rattle.tipc_node.specs.Works.{Work, begun, concluded, work_of, Puts, GivesFate};
 
 use crate::cores::Core;
 use crate::neighbours::Neighbour;
@@ -37,7 +38,7 @@ fn settle(
     inside: &mut Vec<Entry>,
 ) -> Result<(), NoMemory>
     requires origin { (origin_of m).word ≡ sockets.old.own }
-    ensures settles { OnOk result (Settles sockets.old.own
+    ensures settles { OnOk result (GivesFate sockets.old.own
         (work_of neighbours.now sockets.old inside.old.items) false m
         (work_of neighbours.now sockets.new inside.new.items) []) }
     ensures few { OnOk result (length inside.new.items ≤ length inside.old.items + 2) }
@@ -91,9 +92,9 @@ impl Core {
         m: Message,
         sent: Answer,
     ) -> Result<(), NoMemory>
-        requires room { has_room self.old.journal ≡ true }
+        requires room { has_journal_room self.old.journal ≡ true }
         requires origin { (origin_of m).word ≡ self.old.own }
-        ensures sent { OnOk result ((w : Work) × Settles self.old.own (begun self.old) false m w [] ×
+        ensures sent { OnOk result ((w : Work) × GivesFate self.old.own (begun self.old) false m w [] ×
             (self.new ≡ concluded self.old by note w sent)) }
         ensures err { OnErr result (self.new ≡ self.old) }
     {
@@ -121,7 +122,7 @@ impl Core {
         sent: Answer,
         out: &mut Outbox,
     ) -> Result<(), NoMemory>
-        requires room { has_room self.old.journal ≡ true }
+        requires room { has_journal_room self.old.journal ≡ true }
         requires peer { (1 ≤ peer) × (peer ≤ 32) }
         requires payload { IsPayload m }
         requires small { counted_bytes m ≤ longest_body }
@@ -152,7 +153,7 @@ impl Core {
         sent: Answer,
         out: &mut Outbox,
     ) -> Result<Option<Answer>, NoMemory>
-        requires room { has_room self.old.journal ≡ true }
+        requires room { has_journal_room self.old.journal ≡ true }
         requires origin { (origin_of m).word ≡ self.old.own }
         requires payload { IsPayload m }
         requires small { counted_bytes m ≤ longest_body }
@@ -191,9 +192,9 @@ impl Core {
         body: Body,
         out: &mut Outbox,
     ) -> Result<Answer, NoMemory>
-        requires room { has_room self.old.journal ≡ true }
+        requires room { has_journal_room self.old.journal ≡ true }
         ensures ok { IfOk result (λ a. (frames : List Outgoing)
-            × Sends self.old self.new by port to importance body frames a × Adds out.old out.new frames) }
+            × SendsToPort self.old self.new by port to importance body frames a × Adds out.old out.new frames) }
         ensures err { OnErr result ((self.new ≡ self.old) × (out.new ≡ out.old)) }
     {
         if let Some(why) = self.sender_refusal(port, &body) {
@@ -222,7 +223,7 @@ impl Core {
         chooser: &mut Chooser<P>,
         out: &mut Outbox,
     ) -> Result<Answer, NoMemory>
-        requires room { has_room self.old.journal ≡ true }
+        requires room { has_journal_room self.old.journal ≡ true }
         ensures ok { IfOk result (λ a. (frames : List Outgoing)
             × SendsByName self.old self.new by port kind instance importance body frames a
             × Adds out.old out.new frames) }

@@ -4,8 +4,9 @@ ghost use Rattle.std.specs.Prelude.{◌≡◌, ◌+◌, ◌-◌, ◌≤◌, ◌+
 ghost use Rattle.tipc_journal.specs.declared.entries.Entry.TheVariants.{TimedOut};
 ghost use Rattle.tipc_journal.specs.Room.{entry_bytes};
 ghost use Rattle.tipc_journal.specs.Steps.{step_entries};
-ghost use Rattle.tipc_node.specs.Limits.{free_entries, free_message_bytes};
-ghost use Rattle.tipc_node.specs.Nodes.{change_entries, change_entry, has_room, step_of};
+ghost use Rattle.tipc_journal.specs.Room.{free_entries, free_message_bytes};
+ghost use Rattle.tipc_node.specs.Nodes.{change_entries, change_entry, step_of};
+ghost use Rattle.tipc_journal.specs.Room.{has_journal_room};
 
 use std::alloc::{AllocError, AllocFailed};
 use std::collections::VecDeque;
@@ -60,9 +61,9 @@ impl<T: Drop> From<AllocFailed<T>> for NodeFault {
 }
 
 /// Whether a journal has room for a call.
-#[tactic(auto, unfolding(crate::specs::Nodes::has_room))]
-pub fn has_room(journal: &Journal) -> bool
-    ensures { result ≡ has_room journal.now.entries }
+#[tactic(auto, unfolding(tipc_journal::specs::Room::has_journal_room))]
+pub fn has_journal_room(journal: &Journal) -> bool
+    ensures { result ≡ has_journal_room journal.now.entries }
 {
     journal.len() <= MOST_ENTRIES - FREE_ENTRIES
         && journal.message_bytes() <= MOST_MESSAGE_BYTES - FREE_MESSAGE_BYTES
@@ -71,12 +72,12 @@ pub fn has_room(journal: &Journal) -> bool
 /// Makes a journal ready for a step with at most so many entries inside.
 pub fn begin(journal: &mut Journal, inside: u64) -> Result<(), NodeFault>
     requires { inside ≤ free_entries - 2 }
-    ensures ok { OnOk result ((inside + 2 ≤ journal.new.spare) × (has_room journal.old.entries ≡ true)) }
-    ensures full { has_room journal.old.entries ≡ false → result ≡ Err NodeFault.JournalFull }
-    ensures only { result ≡ Err NodeFault.JournalFull → has_room journal.old.entries ≡ false }
+    ensures ok { OnOk result ((inside + 2 ≤ journal.new.spare) × (has_journal_room journal.old.entries ≡ true)) }
+    ensures full { has_journal_room journal.old.entries ≡ false → result ≡ Err NodeFault.JournalFull }
+    ensures only { result ≡ Err NodeFault.JournalFull → has_journal_room journal.old.entries ≡ false }
     ensures journal { journal.new.entries ≡ journal.old.entries }
 {
-    if !has_room(journal) {
+    if !has_journal_room(journal) {
         return Err(NodeFault::JournalFull);
     }
     journal.reserve(inside + 2)?;
@@ -85,7 +86,7 @@ pub fn begin(journal: &mut Journal, inside: u64) -> Result<(), NodeFault>
 
 /// Records a step: who made the call, the call, what happened in it, and its answer.
 pub fn record(journal: &mut Journal, by: By, event: EventNote, inside: Vec<Entry>, answer: Answer)
-    requires room { has_room journal.old.entries ≡ true }
+    requires room { has_journal_room journal.old.entries ≡ true }
     requires few { length inside.items ≤ free_entries - 2 }
     requires spare { length inside.items + 2 ≤ journal.old.spare }
     requires bytes { sum_by entry_bytes inside.items ≤ free_message_bytes }

@@ -8,7 +8,7 @@ ghost use Rattle.tipc_journal.specs.declared.entries.Entry.TheVariants.{Withdraw
 ghost use Rattle.tipc_journal.specs.Licensed.{next_answer};
 ghost use Rattle.tipc_sockets.specs.Publishing.{own_publication, published};
 ghost use Rattle.tipc_node.specs.Calls.{Performs};
-ghost use Rattle.tipc_node.specs.Nodes.{has_room};
+ghost use Rattle.tipc_journal.specs.Room.{has_journal_room};
 ghost use Rattle.tipc_node.specs.Sockets.{first_answer, kept_answer, publication_refusal};
 
 use crate::cores::Core;
@@ -97,7 +97,7 @@ fn publish_allowed(
 impl Core {
     /// Makes a socket, and answers its port: Full exactly where 256 are there, or 1,048,575 were made in this boot.
     pub(crate) fn socket(&mut self, alloc: Global, by: By) -> Result<Answer, NoMemory>
-        requires room { has_room self.old.journal ≡ true }
+        requires room { has_journal_room self.old.journal ≡ true }
         ensures ok { IfOk result (Performs self.old by EventNote.Socket self.new []) }
         ensures err { OnErr result (self.new ≡ self.old) }
     {
@@ -131,7 +131,7 @@ impl Core {
         port: u32,
         out: &mut Outbox,
     ) -> Result<Answer, NoMemory>
-        requires room { has_room self.old.journal ≡ true }
+        requires room { has_journal_room self.old.journal ≡ true }
         ensures ok { IfOk result (λ a. (frames : List Outgoing) ×
             Performs self.old by (EventNote.Close port) self.new frames a × Adds out.old out.new frames) }
         ensures err { OnErr result ((self.new ≡ self.old) × (out.new ≡ out.old)) }
@@ -189,7 +189,7 @@ impl Core {
         key: u32,
         out: &mut Outbox,
     ) -> Result<Answer, NoMemory>
-        requires room { has_room self.old.journal ≡ true }
+        requires room { has_journal_room self.old.journal ≡ true }
         ensures ok { IfOk result (λ a. (frames : List Outgoing) ×
             Performs self.old by (EventNote.Publish port range scope key) self.new frames a ×
             Adds out.old out.new frames) }
@@ -253,7 +253,7 @@ impl Core {
         key: u32,
         out: &mut Outbox,
     ) -> Result<Answer, NoMemory>
-        requires room { has_room self.old.journal ≡ true }
+        requires room { has_journal_room self.old.journal ≡ true }
         ensures ok { IfOk result (λ a. (frames : List Outgoing) ×
             Performs self.old by (EventNote.Withdraw port key) self.new frames a × Adds out.old out.new frames) }
         ensures err { OnErr result ((self.new ≡ self.old) × (out.new ≡ out.old)) }
@@ -289,7 +289,7 @@ impl Core {
     /// Takes the first message that waits at a port: NoSocket exactly where the port isn't there, Empty exactly where none
     /// waits there.
     pub(crate) fn receive(&mut self, alloc: Global, by: By, port: u32) -> Result<Answer, NoMemory>
-        requires room { has_room self.old.journal ≡ true }
+        requires room { has_journal_room self.old.journal ≡ true }
         ensures ok { IfOk result (Performs self.old by (EventNote.Receive port) self.new []) }
         ensures err { OnErr result (self.new ≡ self.old) }
     {
@@ -315,7 +315,7 @@ impl Core {
         by: By,
         subscription: Subscription,
     ) -> Result<Answer, NoMemory>
-        requires room { has_room self.old.journal ≡ true }
+        requires room { has_journal_room self.old.journal ≡ true }
         ensures ok { IfOk result (Performs self.old by (EventNote.Subscribe subscription) self.new []) }
         ensures err { OnErr result (self.new ≡ self.old) }
     {
@@ -348,7 +348,7 @@ impl Core {
 
     /// Cancels a subscription: Unknown exactly where none of that number is there.
     pub(crate) fn cancel(&mut self, alloc: Global, by: By, number: u32) -> Result<Answer, NoMemory>
-        requires room { has_room self.old.journal ≡ true }
+        requires room { has_journal_room self.old.journal ≡ true }
         ensures ok { IfOk result (Performs self.old by (EventNote.Cancel number) self.new []) }
         ensures err { OnErr result (self.new ≡ self.old) }
     {
@@ -370,7 +370,7 @@ impl Core {
         by: By,
         number: u32,
     ) -> Result<Answer, NoMemory>
-        requires room { has_room self.old.journal ≡ true }
+        requires room { has_journal_room self.old.journal ≡ true }
         ensures ok { IfOk result (Performs self.old by (EventNote.NextEvent number) self.new []) }
         ensures err { OnErr result (self.new ≡ self.old) }
     {

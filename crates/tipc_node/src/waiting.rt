@@ -6,8 +6,9 @@ ghost use Rattle.tipc_journal.specs.declared.entries.Entry.{Entry};
 ghost use Rattle.tipc_journal.specs.Room.{entry_bytes};
 ghost use Rattle.tipc_journal.specs.Steps.{step_entries};
 ghost use Rattle.tipc_sockets.specs.Fates.{port_of};
-ghost use Rattle.tipc_node.specs.Limits.{free_entries, free_message_bytes};
-ghost use Rattle.tipc_node.specs.Nodes.{has_room, step_of};
+ghost use Rattle.tipc_journal.specs.Room.{free_entries, free_message_bytes};
+ghost use Rattle.tipc_node.specs.Nodes.{step_of};
+ghost use Rattle.tipc_journal.specs.Room.{has_journal_room};
 ghost use Rattle.tipc_node.specs.Sure.{all_wait, are_sure, message_of, messages_in, told_in, told_of, waits_surely, with_all_waiting};
 
 use crate::arriving::Delivery;
@@ -110,7 +111,7 @@ pub fn conclude_waiting(
     answer: Answer,
 )
     requires sure { are_sure sockets.old told.messages.items ≡ true }
-    requires room { has_room journal.old.entries ≡ true }
+    requires room { has_journal_room journal.old.entries ≡ true }
     requires few { length told.entries.items ≤ free_entries - 2 }
     requires spare { length told.entries.items + 2 ≤ journal.old.spare }
     requires bytes { sum_by entry_bytes told.entries.items ≤ free_message_bytes }

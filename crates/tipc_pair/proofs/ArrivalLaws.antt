@@ -79,7 +79,7 @@ reset_goes es shown x =
 
 -- ---- a higher contact number
 
-risen_seen : (x : PairEnds) (number : ℕ) → (risen x number).pair.seen ≡ number
+pub risen_seen : (x : PairEnds) (number : ℕ) → (risen x number).pair.seen ≡ number
 risen_seen x number = elim (in_contact x) as (λ b. (if b then contact_ends (record x { seen = number }) (x.contact, x.seen) number else rests (forgotten x number)).pair.seen ≡ number) [ true ↦ refl | false ↦ refl ]
 
 forgets_free : (more : ℕ) (end : Option LinkEnd) → is_up_at end ≡ false → is_held_at (option_map (forgetting more) end) ≡ false
@@ -152,7 +152,7 @@ down_goes : (k : ChangeoverType) (epoch : ℕ) (x : PairEnds) → GoesQuietly x 
 down_goes kind.Duplicate epoch x = quietly_same x x refl
 down_goes kind.Original epoch x = quietly_turned x (tunnelled_at epoch (turned x) x.far).pair (tunnelled_goes epoch (turned x) x.far refl)
 
-inner_fsm : (t : Tunnelled) (by : ℕ) (e : LinkEnd) → (inner_taken t by e).fsm ≡ e.fsm
+pub inner_fsm : (t : Tunnelled) (by : ℕ) (e : LinkEnd) → (inner_taken t by e).fsm ≡ e.fsm
 inner_fsm t by e = elim (t.count == 0) as (λ b. (if b then named_end e t.old.epoch else tunnelled_end e t.old.epoch (inside_of t by)).fsm ≡ e.fsm) [ true ↦ refl | false ↦ refl ]
 
 inner_goes : (t : Tunnelled) (by : ℕ) (x : PairEnds) (end : Option LinkEnd) → x.far ≡ end → GoesQuietly x (inner_at t by x end).pair

@@ -12,14 +12,14 @@ use Rattle.tipc_link.specs.Links.{LinkEnd, after, arrival_end, change_outcome, f
 use Rattle.tipc_pair.specs.Changeovers.{following}
 use Rattle.tipc_pair.specs.Courses.{AddsCourse, Course, LeavingState}
 use Rattle.tipc_pair.specs.Facing.{PairEnds, is_up_at, with_near}
-use Rattle.tipc_pair.specs.PairArrivals.{Does, Heard, behind, linked, met, met_at, reset_change, reset_given, reset_near}
+use Rattle.tipc_pair.specs.PairArrivals.{IsHeardAs, Heard, behind, linked, met, met_at, reset_change, reset_given, reset_near}
 use Rattle.tipc_pair.proofs.Steppings.{stepped_first}
 use Rattle.tipc_pair.proofs.CourseLaws.{then_adds, then_after}
 
 pub met_does : (x now last : PairEnds) (e new : LinkEnd) (o : Outcome) (p : Fields) (es by : ℕ) (shown : BroadcastState) (change : Change) (given : LinkOutcome) (a b c : LeavingState)
     → now ≡ with_near x new → new ≡ arrival_end e o p by → change ≡ o.change → given ≡ (met x e o p es by shown).outcome → b.changes ≡ a.changes
     → Adds a.states b.states (frames e o shown ++ repeats_at e o p) → Adds a.numbered b.numbered (numbers_at e o p by)
-    → last ≡ (following now change es).pair → AddsCourse b c (following now change es) → Does (met x e o p es by shown) last a c given
+    → last ≡ (following now change es).pair → AddsCourse b c (following now change es) → IsHeardAs (met x e o p es by shown) last a c given
 met_does x now last e new o p es by shown change given a b c now_is new_is change_is given_is changes states numbered last_is told =
     let first = linked x e o p by shown in
     let there : now ≡ first.pair = now_is ∙ ap (with_near x) new_is in
@@ -39,13 +39,13 @@ met_near_is es er p by shown x e held near_is held_is =
 pub reset_does : (x now last : PairEnds) (e new : LinkEnd) (es : ℕ) (held : Bool) (shown : BroadcastState) (change : Change) (given : LinkOutcome) (a b c : LeavingState) → x.near ≡ Some e
     → now ≡ with_near x new → new ≡ after e (on_reset e.fsm es held) → change ≡ (on_reset e.fsm es held).change → given ≡ change_outcome (on_reset e.fsm es held).change
     → last ≡ (following now change es).pair → AddsCourse b c (following now change es)
-    → b.changes ≡ a.changes → Adds a.states b.states (frames e (on_reset e.fsm es held) shown) → b.numbered ≡ a.numbered → Does (reset_given es held shown x x.near) last a c given
+    → b.changes ≡ a.changes → Adds a.states b.states (frames e (on_reset e.fsm es held) shown) → b.numbered ≡ a.numbered → IsHeardAs (reset_given es held shown x x.near) last a c given
 reset_does x now last e new es held shown change given a b c near_is now_is new_is change_is given_is last_is told changes states numbered =
     let o = on_reset e.fsm es held in
     let same : following now change es ≡ following now o.change es = ap (λ k. following now k es) change_is in
     let first = stepped_first x e o shown in
     let there : now ≡ first.pair = now_is ∙ ap (with_near x) new_is in
-    let does : Does (reset_given es held shown x (Some e)) last a c given = record {
+    let does : IsHeardAs (reset_given es held shown x (Some e)) last a c given = record {
       pair = then_after now last first (λ y. following y o.change es) there (last_is ∙ ap (λ (k : Course). k.pair) same);
       told = then_adds a b c now first (λ y. following y o.change es) there (record {
         changes = changes ∙ sym (append-nil a.changes);
@@ -54,11 +54,11 @@ reset_does x now last e new es held shown change given a b c near_is now_is new_
       }) (subst (AddsCourse b c) same told);
       gives = given_is;
     } in
-    subst (λ end. Does (reset_given es held shown x end) last a c given) (sym near_is) does
+    subst (λ end. IsHeardAs (reset_given es held shown x end) last a c given) (sym near_is) does
 
 -- one step behind another
 pub does_behind : (first : Course) (hear : PairEnds → Heard) (x last : PairEnds) (a b c : LeavingState) (outcome : LinkOutcome) → x ≡ first.pair → AddsCourse a b first
-    → Does (hear x) last b c outcome → Does (behind first hear) last a c outcome
+    → IsHeardAs (hear x) last b c outcome → IsHeardAs (behind first hear) last a c outcome
 does_behind first hear x last a b c outcome is told h = record {
   pair = then_after x last first (λ y. (hear y).course) is h.pair;
   told = then_adds a b c x first (λ y. (hear y).course) is told h.told;

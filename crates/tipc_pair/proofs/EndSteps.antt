@@ -10,30 +10,23 @@ use Rattle.tipc_header.specs.declared.packet.Header.TheVariants as header
 use Rattle.tipc_header.specs.Spelling.{Fields}
 use Rattle.tipc_link_fsm.specs.declared.changes.Change.{Change}
 use Rattle.tipc_link_fsm.specs.declared.changes.Change.TheVariants.{Answer, Down, Stay, Up}
-use Rattle.tipc_link_fsm.specs.Table.{Fsm, Outcome, apart, contact_ended, forget_peer, forgotten, gives, is_held, is_in_reset, is_last, is_peer, is_reset_reset, is_session, next_epoch, on_activate, on_cut, on_peer_tunnel, on_traffic}
+use Rattle.tipc_link_fsm.specs.Table.{Fsm, Outcome, apart, contact_ended, forget_peer, forgot_peer, gives, is_held, is_in_reset, is_last, is_peer, is_reset_reset, is_session, next_epoch, on_activate, on_cut, on_peer_tunnel, on_traffic}
 use Rattle.tipc_link_fsm.proofs.Moves.{Moves, cases_on, falls, is_going_up, on_activate_moves, on_cut_moves, on_peer_tunnel_moves, on_reset_moves, on_traffic_moves, rises, stays}
 use Rattle.tipc_contact.specs.Sides.{boot_of}
 use Rattle.tipc_link.specs.Links.{LinkEnd, after, arrival_end, cut_end, forget_frames, handed_over, heard_end, is_down, is_heard, known, outcome_of, record_of, reset_frames, tunnelled_down, with_fsm, with_session, without_waiting}
 use Rattle.tipc_link.specs.Records.{kept_for}
-use Rattle.tipc_link.specs.Sessions.{Content, SessionEnd, IsPut, arrived, content_of, flushed, given_up, put, told, waiting_given}
+use Rattle.tipc_link.specs.Sessions.{Content, SessionEnd, IsPut, arrived, content_of, flushed, given_up, put, after_state, waiting_given}
 use Rattle.tipc_pair.specs.Changeovers.{forgetting, loaded, parted_end}
 use Rattle.tipc_pair.specs.Facing.{PairEnds, other, with_near}
 use Rattle.tipc_pair.specs.PairFacts.{AreStatesOf, HasChanged, IsEndOf, IsPairOfEnds, IsSessionOn}
 use Rattle.tipc_pair.specs.Runs.{IsListed}
 use Rattle.tipc_pair.proofs.EndFacts.{session_kept, session_mapped, some_mapped}
 use Rattle.tipc_link.proofs.Ends.{after-is, ended-is, followed_session, forgotten-is}
-use Rattle.tipc_contact.proofs.Calls.{not_last}
+use Rattle.tipc_contact.proofs.Calls.{not_last, same_boot as more_boot, next_boot}
 use Rattle.tipc_pair.proofs.Falls.{Falls, on_reset_falls}
 use Rattle.tipc_pair.proofs.SessionFacts.{arrived_on, begun_on, flushed_on, given_up_on, put_listed, put_on, told_on, waiting_given_on}
 
 -- ---- epochs of a boot
-
-more_boot : (n : ℕ) → is_last n ≡ false → boot_of (n + 1) ≡ boot_of n
-unfolding is_last
-more_boot n going = let differs : n % 4294967296 ≢ 4294967295 = grind (arith, nat_tests) in omega arith
-
-next_boot : (n : ℕ) → boot_of (next_epoch n) ≡ boot_of n
-next_boot n = elim (is_last n) as (λ b. is_last n ≡ b → boot_of (if b then n else n + 1) ≡ boot_of n) [ true ↦ λ last. refl | false ↦ λ going. more_boot n going ] refl
 
 next_above : (n : ℕ) → n ≤ next_epoch n
 next_above n = elim (is_last n) as (λ b. n ≤ (if b then n else n + 1)) [ true ↦ omega arith | false ↦ omega arith ]
@@ -120,7 +113,7 @@ outcome_falls f (header.Changeover x) es er held = traffic_falls f es er
 outcome_falls f (header.NameDistributor x) es er held = traffic_falls f es er
 outcome_falls f (header.Fragmenter x) es er held = traffic_falls f es er
 
-up_part : (a b : Bool) → (a && b) ≡ true → a ≡ true
+pub up_part : (a b : Bool) → (a && b) ≡ true → a ≡ true
 up_part true b h = refl
 up_part false b h = cc
 
@@ -133,12 +126,12 @@ peer_tunnel_falls f epoch = cases_on (Falls f) (is_up f.state && is_peer f.peer 
 -- a session that has just begun
 follows_on : (bearer : ℕ) (e : LinkEnd) (change : Change) → e.bearer ≡ bearer → IfSome e.session (IsSessionOn bearer) → IfSome (followed_session e change) (IsSessionOn bearer)
 follows_on bearer e Up is h = begun_on bearer e.own e.peer e.bearer e.fsm.own (known e.fsm.peer) (kept_for (record_of e) (known e.fsm.peer)) is
-follows_on bearer e (Answer (reply.State probe)) is h = session_mapped bearer told e.session (told_on bearer) h
+follows_on bearer e (Answer (reply.State probe)) is h = session_mapped bearer after_state e.session (told_on bearer) h
 follows_on bearer e quiet is h = h
 
 follows_some : (e : LinkEnd) (change : Change) → (is_some e.session ≡ true) ⊎ (is_going_up change ≡ true) → is_some (followed_session e change) ≡ true
 follows_some e Up has = refl
-follows_some e (Answer (reply.State probe)) (inl is) = some_mapped told e.session is
+follows_some e (Answer (reply.State probe)) (inl is) = some_mapped after_state e.session is
 follows_some e (Answer (reply.State probe)) (inr is) = cc
 follows_some e quiet (inl is) = is
 follows_some e quiet (inr is) = cc
@@ -231,7 +224,7 @@ end_parted own peer contact seen more bearer e h going =
 
 pub end_forgets : (own peer contact seen more bearer : ℕ) (e : LinkEnd) → IsEndOf own peer contact seen bearer e → is_up e.fsm.state ≡ false → IsEndOf own peer contact more bearer (forgetting more e)
 end_forgets own peer contact seen more bearer e h down =
-    let is : (forget_peer e.fsm).after ≡ forgotten e.fsm = forgotten-is e.fsm down in
+    let is : (forget_peer e.fsm).after ≡ forgot_peer e.fsm = forgotten-is e.fsm down in
     record {
       own_is = h.own_is;
       peer_is = h.peer_is;
@@ -336,7 +329,7 @@ fsm_arrived e o p by = elim (is_heard p.header o.change) as (λ b. (if b then he
 -- an end that isn't up forgets the peer without a word
 forgets_quietly : (f : Fsm) → is_up f.state ≡ false → (forget_peer f).change ≡ Stay
 unfolding forget_peer
-forgets_quietly f down = ap (λ b. (if b then gives (apart f) (Down cause.ContactEnded) else gives (forgotten f) Stay).change) down
+forgets_quietly f down = ap (λ b. (if b then gives (apart f) (Down cause.ContactEnded) else gives (forgot_peer f) Stay).change) down
 
 pub forget_silent : (e : LinkEnd) → is_up e.fsm.state ≡ false → forget_frames e ≡ []
 forget_silent e down = ap (λ k. if is_down k then reset_frames (with_fsm e (forget_peer e.fsm).after) else []) (forgets_quietly e.fsm down)

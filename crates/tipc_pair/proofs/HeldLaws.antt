@@ -150,7 +150,7 @@ quietly_then x y z h k = record { goes = goes_then x y z h.goes k; stays = λ th
 pub quietly_same : (x y : PairEnds) → y ≡ x → GoesQuietly x y
 quietly_same x y same = subst (GoesQuietly x) (sym same) (record { goes = record { held = λ h. h; seen = refl; contact = λ there. refl }; stays = λ there. there })
 
-or_true : (a : Bool) → (a || true) ≡ true
+pub or_true : (a : Bool) → (a || true) ≡ true
 or_true true = refl
 or_true false = refl
 
@@ -238,7 +238,7 @@ gone_up_shape x = elim (is_up_at x.far) as (λ b. Shape x (if b then (if x.beare
 
 -- ---- the end of a contact
 
-parted_down : (contact seen : ℕ) (end : Option LinkEnd) → is_up_at (option_map (parted_end contact seen) end) ≡ false
+pub parted_down : (contact seen : ℕ) (end : Option LinkEnd) → is_up_at (option_map (parted_end contact seen) end) ≡ false
 parted_down contact seen None = refl
 parted_down contact seen (Some e) = ap (λ (f : Fsm). is_up f.state) (ended-is e.fsm)
 

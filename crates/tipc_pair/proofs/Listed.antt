@@ -9,7 +9,7 @@ use Rattle.tipc_header.specs.Spelling.{Fields, spelling}
 use Rattle.tipc_header.specs.Grammar.{Fits}
 use Rattle.tipc_header.proofs.Again.{again, no_fault}
 use Rattle.tipc_link.specs.Records.{is_changeover, is_tunnel}
-use Rattle.tipc_tunnel.specs.Tunnels.{IsInner, IsTunnel, Tunnelled, tunnel_packet}
+use Rattle.tipc_tunnel.specs.Tunnels.{IsTunnellable, IsTunnel, Tunnelled, tunnel_packet}
 use Rattle.tipc_tunnel.proofs.TunnelLaws.{tunnel_fits}
 use Rattle.tipc_types.specs.declared.link_words.OldSession.{OldSession}
 use Rattle.tipc_types.specs.declared.packet_lists.Kept.{Kept}
@@ -33,7 +33,7 @@ both_ways true h k = grind arith
 both_ways false h k = grind arith
 
 -- a packet that is no tunnel packet may stand in one
-pub listed_inner : (packet : List ℕ) → IsListed packet → is_tunnel packet ≡ false → IsInner packet
+pub listed_inner : (packet : List ℕ) → IsListed packet → is_tunnel packet ≡ false → IsTunnellable packet
 listed_inner packet (plain waits inner size) other = inner
 listed_inner packet (tunnel made) other = both_ways (is_tunnel packet) (packet_tunnel packet made) other
 

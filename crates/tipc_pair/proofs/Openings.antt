@@ -18,7 +18,7 @@ use Rattle.tipc_pair.specs.PairFacts.{IsEndOf, IsPairOfEnds}
 use Rattle.tipc_link.specs.Links.{LinkEnd, named_end, record_of, recorded, tunnelled_end}
 use Rattle.tipc_link.specs.Records.{Received, named, tunnelled}
 use Rattle.tipc_link.specs.Sessions.{SessionEnd, with_record}
-use Rattle.tipc_pair.specs.PairArrivals.{Arrives, Does, OpensInto, Unwraps, as_it_is, freed_at, freed_by, hears, inner_at, inner_taken, inside_of, none_taken, opens, taken_down, tunnel, tunnelled_through, with_begun, with_bytes}
+use Rattle.tipc_pair.specs.PairArrivals.{Arrives, IsHeardAs, OpensInto, Unwraps, as_it_is, freed_at, freed_by, hears, inner_at, inner_taken, inside_of, none_taken, opens, taken_down, tunnel, tunnelled_through, with_begun, with_bytes}
 use Rattle.tipc_pair.specs.PairOpenings.{Frees, IsCarriedIn, NoneCarriedIn, Opens, Unwrapped, told_by}
 use Rattle.tipc_pair.proofs.CourseLaws.{adds_course, then_adds, then_after, then_pair}
 use Rattle.tipc_pair.proofs.EndFacts.{session_mapped, some_mapped}
@@ -29,7 +29,7 @@ use Rattle.tipc_pair.proofs.Listed.{bytes_append}
 
 -- an arrival: what the near link made of the packet, what was opened, and either end released
 pub arrives_so : (x one two last : PairEnds) (es er : ℕ) (p : Fields) (by : ℕ) (shown : BroadcastState) (outcome : LinkOutcome) (given : PairOutcome) (a b c d : LeavingState)
-    → Does (hears p.header es er p by shown x) one a b outcome → Opens one outcome given two b c → last ≡ (released two).pair → AddsCourse c d (released two)
+    → IsHeardAs (hears p.header es er p by shown x) one a b outcome → Opens one outcome given two b c → last ≡ (released two).pair → AddsCourse c d (released two)
     → (k : Course) × Arrives x es er p by shown k given × (last ≡ k.pair) × AddsCourse a d k
 arrives_so x one two last es er p by shown outcome given a b c d heard opened last_is told =
     let first = (hears p.header es er p by shown x).course in

@@ -7,7 +7,7 @@ use Rattle.tipc_outside.specs.declared.outgoing.Outgoing.{Outgoing}
 use Rattle.tipc_link.specs.Links.{LinkEnd, with_session}
 use Rattle.tipc_link.specs.Sessions.{SessionEnd, IsPut, flush_frames, flushed}
 use Rattle.tipc_pair.specs.Facing.{PairEnds, active, active_of, facing, in_contact, is_up_at, other, turned, with_near}
-use Rattle.tipc_pair.specs.PairCalls.{Puts, Sends, active_session, session_at}
+use Rattle.tipc_pair.specs.PairCalls.{Puts, SendsWithin, active_session, session_at}
 use Rattle.tipc_pair.proofs.Facings.{facing_far, facing_near}
 use Rattle.tipc_pair.proofs.Followings.{some_there}
 
@@ -39,7 +39,7 @@ put_near (Ok done) x now e new pieces limit a b near_is some ok now_is =
 
 -- what the active link did
 abbrev pub PutActive : PairEnds → List (List ℕ) → ℕ → PairEnds → Out → Out → Type 0
-PutActive x pieces limit now a b = (frames : List Outgoing) × Sends x pieces limit now frames × Adds a b frames
+PutActive x pieces limit now a b = (frames : List Outgoing) × SendsWithin x pieces limit now frames × Adds a b frames
 
 active_first : (x : PairEnds) → x.bearer ≡ 0 → is_up_at x.near ≡ true → active x ≡ Some 0
 active_first x first up =
@@ -85,7 +85,7 @@ unfolding puts_facing
 put_first (Err fault) x now pieces limit a b first up h = tt
 put_first (Ok done) x now pieces limit a b first up h =
     let puts = h.1.0 in
-    let sends : Sends x pieces limit now h.0 = record {
+    let sends : SendsWithin x pieces limit now h.0 = record {
       bearer = 0;
       active_is = active_first x first up;
       near = now;
@@ -103,7 +103,7 @@ put_second (Ok done) x far near now pieces limit a b first down up far_is now_is
     let puts = h.1.0 in
     let is : near.bearer ≡ other x.bearer = bearer_stays far near pieces h.0 puts ∙ ap (λ (z : PairEnds). z.bearer) far_is in
     let differs : (near.bearer == x.bearer) ≡ false = grind (arith, nat_tests) in
-    let sends : Sends x pieces limit now h.0 = record {
+    let sends : SendsWithin x pieces limit now h.0 = record {
       bearer = 1;
       active_is = active_second x first down up;
       near = near;

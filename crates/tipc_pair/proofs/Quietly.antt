@@ -26,13 +26,12 @@ use Rattle.tipc_pair.specs.Courses.{AddsCourse, Course, LeavingState, going_on, 
 use Rattle.tipc_pair.specs.Facing.{PairEnds, facing, is_up_at, turned, with_near}
 use Rattle.tipc_pair.specs.PairFacts.{IsPairOfEnds}
 use Rattle.tipc_link.specs.Parts.{is_quiet}
-use Rattle.tipc_pair.specs.Messages.{OpensTo, took}
-use Rattle.tipc_pair.specs.Messages.{deferred as defers, ignored as ignores}
-use Rattle.tipc_pair.specs.PairArrivals.{Arrives, Does, Heard, by_number, deferred, hears, ignored, met, opens, passing, reset_change, reset_given, reset_near, with_begun, with_bytes}
+use Rattle.tipc_pair.specs.Messages.{OpensTo, took, deferred as defers, ignored as ignores}
+use Rattle.tipc_pair.specs.PairArrivals.{Arrives, IsHeardAs, Heard, by_number, deferred, hears, ignored, met, opens, passing, reset_change, reset_given, reset_near, with_begun, with_bytes}
 use Rattle.tipc_pair.specs.PairOpenings.{HearsAndOpens, IsQuiet, NoneCarriedIn, Opens, are_plain, is_plain, standing_of, standing_with}
 use Rattle.tipc_pair.proofs.Arrivings.{met_does, met_near_is}
 use Rattle.tipc_pair.proofs.EndFacts.{near_changed}
-use Rattle.tipc_pair.proofs.EndSteps.{end_arrived}
+use Rattle.tipc_pair.proofs.EndSteps.{end_arrived, up_part as first_of}
 use Rattle.tipc_pair.proofs.Followings.{adds_rests}
 use Rattle.tipc_pair.proofs.Listed.{both_ways, spelled_tunnel}
 use Rattle.tipc_pair.proofs.Openings.{arrives_so, none_unwrapped, rests_open}
@@ -141,11 +140,7 @@ hears_quietly (header.Fragmenter said) es er p by shown x e is standing near qui
 
 -- ---- what is taken is plain
 
-first_of : (a b : Bool) → (a && b) ≡ true → a ≡ true
-first_of true b is = refl
-first_of false b is = is
-
-second_of : (a b : Bool) → (a && b) ≡ true → b ≡ true
+pub second_of : (a b : Bool) → (a && b) ≡ true → b ≡ true
 second_of true b is = is
 second_of false b is = absurd (let wrong : ⊥ = cc in wrong)
 
@@ -211,12 +206,12 @@ hears_and_opens x last e new es er p by shown a given begun old b q standing nea
     let states_so = subst (λ (k : Outcome). Adds old.states b.states (frames e k shown ++ repeats_at e k p)) o_is states in
     let numbered_so = subst (λ n. Adds old.numbered b.numbered (numbers_at e o p n)) q.by_is (subst (λ (k : Outcome). Adds old.numbered b.numbered (numbers_at e k p a.hearing.by)) o_is numbered) in
     let rested = quiet_follows one o.change es quiet in
-    let met_it : Does (met x e o p es by shown) one old b a.hearing.outcome =
+    let met_it : IsHeardAs (met x e o p es by shown) one old b a.hearing.outcome =
     met_does x one one e new o p es by shown o.change a.hearing.outcome old b b refl new_so refl gives changes states_so numbered_so (sym (ap (λ (c : Course). c.pair) rested)) (subst (AddsCourse b b) (sym rested) (adds_rests b one)) in
     record {
       one = one;
       outcome = a.hearing.outcome;
-      does = subst (λ (h : Heard). Does h one old b a.hearing.outcome) (sym (hears_quietly p.header es er p by shown x e refl standing near quiet)) met_it;
+      does = subst (λ (h : Heard). IsHeardAs h one old b a.hearing.outcome) (sym (hears_quietly p.header es er p by shown x e refl standing near quiet)) met_it;
       opens = subst (λ y. Opens one a.hearing.outcome given y b b) (sym last_is) (plain_opens one a.hearing.outcome given begun b q.plain opened);
     }
 
@@ -229,7 +224,7 @@ quietly_arrives x two last es er p by shown given a b d h last_is told = arrives
 pub lower_arrives : (x last : PairEnds) (es er : ℕ) (p : Fields) (by : ℕ) (shown : BroadcastState) (a d : LeavingState) → standing_with x p.header ≡ Lower → last ≡ (released x).pair → AddsCourse a d (released x)
     → (k : Course) × Arrives x es er p by shown k (PairOutcome.Ignored why.Contact) × (last ≡ k.pair) × AddsCourse a d k
 lower_arrives x last es er p by shown a d lower last_is told =
-    let does : Does (passing x why.Contact) x a a (LinkOutcome.Ignored why.Contact) = record { pair = refl; told = adds_rests a x; gives = refl } in
+    let does : IsHeardAs (passing x why.Contact) x a a (LinkOutcome.Ignored why.Contact) = record { pair = refl; told = adds_rests a x; gives = refl } in
     arrives_so x x x last es er p by shown (LinkOutcome.Ignored why.Contact) (PairOutcome.Ignored why.Contact) a a a d
-    (subst (λ (h : Heard). Does h x a a (LinkOutcome.Ignored why.Contact)) (sym (lower_passes p.header es er p by shown x lower)) does)
+    (subst (λ (h : Heard). IsHeardAs h x a a (LinkOutcome.Ignored why.Contact)) (sym (lower_passes p.header es er p by shown x lower)) does)
     (rests_open x a (LinkOutcome.Ignored why.Contact) (PairOutcome.Ignored why.Contact) ignored) last_is told

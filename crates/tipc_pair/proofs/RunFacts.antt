@@ -1,6 +1,6 @@
 -- Runs of tunnel packets stand in the lists of a link, and before what follows them.
 use Rattle.std.specs.Prelude.{All, IfOk, filter, not}
-use Rattle.std.proofs.Common.{◌≡◌, ◌≤◌, ◌<◌, ◌+◌, ◌^◌, ◌∙◌, ℕ, List, [], ◌∷◌, ◌++◌, Result, Ok, Err, length, suc, refl, subst, ap, arith}
+use Rattle.std.proofs.Common.{◌≡◌, ◌≤◌, ◌<◌, ◌+◌, ◌^◌, ◌∙◌, ℕ, List, [], ◌∷◌, ◌++◌, Result, Ok, Err, length, refl, subst, ap, arith}
 use Rattle.std.proofs.lemmas.List.Elements.{All-append, All-cons, All-filter, All-head, All-nil, All-tail, All-weaker}
 use Rattle.tipc_types.specs.Position.{number_of}
 use Rattle.tipc_types.specs.declared.link_words.OldSession.{OldSession}
@@ -41,10 +41,6 @@ kept_listed before [] h = All-nil (λ (k : Kept). IsListed k.packet)
 kept_listed before (p ∷ ps) h =
     All-cons (λ (k : Kept). IsListed k.packet) (record { number = number_of (before + 1); packet = p }) (kept_after (before + 1) ps) (All-head IsListed p ps h)
     (kept_listed (before + 1) ps (All-tail IsListed p ps h))
-
-pub kept_length : (before : ℕ) (packets : List (List ℕ)) → length (kept_after before packets) ≡ length packets
-kept_length before [] = refl
-kept_length before (p ∷ ps) = ap suc (kept_length (before + 1) ps)
 
 pub run_some : (kind : ChangeoverType) (old : OldSession) (own : ℕ) (kept : List Kept) → 0 < length (run_of kind old own kept)
 unfolding run_of

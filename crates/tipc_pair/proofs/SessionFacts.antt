@@ -5,13 +5,13 @@ use Rattle.std.proofs.lemmas.List.{length-take}
 use Rattle.std.proofs.lemmas.List.Elements.{All-append, All-drop, All-nil, All-take, All-weaker}
 use Rattle.tipc_header.specs.declared.packet.Header.{Header}
 use Rattle.tipc_header.specs.declared.packet.Header.TheVariants as header
-use Rattle.tipc_tunnel.specs.Tunnels.{IsInner, may_stand_inside, tunnel_packet}
+use Rattle.tipc_tunnel.specs.Tunnels.{IsTunnellable, may_stand_in_tunnel, tunnel_packet}
 use Rattle.tipc_tunnel.proofs.TunnelLaws.{tunnel_fits}
 use Rattle.tipc_bundle.specs.Bundles.{Carries as Waits, IsInner as IsBundled, bundle_of, joined, may_stand_inside as may_be_bundled}
 use Rattle.tipc_bundle.proofs.Bundling.{one_or_several}
 use Rattle.tipc_send_window.specs.Sending.{release_count}
 use Rattle.tipc_link.specs.Records.{Received}
-use Rattle.tipc_link.specs.Sessions.{SessionEnd, Content, Carries, Nothing, Shows, IsPut, IsWaiting, MayJoin, arrived, begun_with, flushed, given_up, heard, joins, noted, put, released, repeated, room, spoke, told, waiting_given, waits, with_record, tunnel as over_tunnel}
+use Rattle.tipc_link.specs.Sessions.{SessionEnd, Content, Carries, Nothing, Shows, IsPut, IsWaiting, MayJoin, arrived, begun_with, flushed, given_up, heard, joins, noted, put, after_acknowledgement, repeated, room, spoke, after_state, waiting_given, waits, with_record, tunnel as over_tunnel}
 use Rattle.tipc_link.proofs.JoinLaws.{carried_waits, other_waits}
 use Rattle.tipc_pair.specs.PairFacts.{IsSessionOn}
 use Rattle.tipc_pair.specs.Runs.{IsListed, plain, tunnel}
@@ -28,12 +28,12 @@ pub all_wait : (packets : List (List ℕ)) → All IsListed packets → All IsWa
 all_wait packets h = All-weaker IsListed IsWaiting listed_waits packets h
 
 -- what may stand in a bundle may stand in a tunnel packet
-inside_too : (h : Header) → may_be_bundled h ≡ true → may_stand_inside h ≡ true
+inside_too : (h : Header) → may_be_bundled h ≡ true → may_stand_in_tunnel h ≡ true
 inside_too (header.Payload m) e = refl
 inside_too (header.NameDistributor n) e = refl
 inside_too other e = cc
 
-inner_carried : (bundle : List ℕ) (packets : List (List ℕ)) → Waits bundle packets → IsInner bundle
+inner_carried : (bundle : List ℕ) (packets : List (List ℕ)) → Waits bundle packets → IsTunnellable bundle
 inner_carried bundle packets h = elim (one_or_several bundle packets h) [
   | inl one ↦ record { packet = one.0.packet; fits = one.0.fits; spelled = one.0.spelled; inside = inside_too one.0.packet.header one.0.inside }
   | inr several ↦ record { packet = bundle_of packets; fits = several.1; spelled = several.2; inside = refl }
@@ -93,7 +93,7 @@ flushed_on bearer s h =
       unacked = All-append IsListed s.sending.unacked (take n s.sending.waiting) h.unacked (All-take IsListed n s.sending.waiting h.waiting);
     }
 
-released_on : (bearer : ℕ) (s : SessionEnd) (acknowledgement : ℕ) → IsSessionOn bearer s → IsSessionOn bearer (released s acknowledgement)
+released_on : (bearer : ℕ) (s : SessionEnd) (acknowledgement : ℕ) → IsSessionOn bearer s → IsSessionOn bearer (after_acknowledgement s acknowledgement)
 released_on bearer s acknowledgement h =
     let n : ℕ = release_count s.sending acknowledgement in
     let few = h.few in
@@ -114,14 +114,14 @@ noted_on bearer s next probe h = record { bearer_is = h.bearer_is; few = h.few; 
 pub arrived_on : (bearer : ℕ) (s : SessionEnd) (by acknowledgement : ℕ) (c : Content) → IsSessionOn bearer s → IsSessionOn bearer (arrived s by acknowledgement c)
 arrived_on bearer s by acknowledgement Nothing h = h
 arrived_on bearer s by acknowledgement (Shows next gap probe) h =
-    let sent = repeated (released s acknowledgement) acknowledgement gap in
+    let sent = repeated (after_acknowledgement s acknowledgement) acknowledgement gap in
     flushed_on bearer (heard s by acknowledgement (Shows next gap probe))
-    (noted_on bearer (spoke (released s acknowledgement) sent) next probe (spoke_on bearer (released s acknowledgement) sent (released_on bearer s acknowledgement h)))
+    (noted_on bearer (spoke (after_acknowledgement s acknowledgement) sent) next probe (spoke_on bearer (after_acknowledgement s acknowledgement) sent (released_on bearer s acknowledgement h)))
 arrived_on bearer s by acknowledgement (Carries number packet) h =
     let now = released_on bearer s acknowledgement h in
     flushed_on bearer (heard s by acknowledgement (Carries number packet)) (record { bearer_is = now.bearer_is; few = now.few; waiting = now.waiting; unacked = now.unacked })
 
-pub told_on : (bearer : ℕ) (s : SessionEnd) → IsSessionOn bearer s → IsSessionOn bearer (told s)
+pub told_on : (bearer : ℕ) (s : SessionEnd) → IsSessionOn bearer s → IsSessionOn bearer (after_state s)
 told_on bearer s h = record { bearer_is = h.bearer_is; few = h.few; waiting = h.waiting; unacked = h.unacked }
 
 pub record_on : (bearer : ℕ) (r : Received) (s : SessionEnd) → IsSessionOn bearer s → IsSessionOn bearer (with_record s r)

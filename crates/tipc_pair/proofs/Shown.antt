@@ -9,7 +9,7 @@ use Rattle.tipc_header.proofs.Again.{again, length-spelling}
 use Rattle.tipc_header.proofs.FrameWords.{stamped-spelling}
 use Rattle.tipc_link.specs.Records.{is_tunnel}
 use Rattle.tipc_link.specs.Sessions.{previous_waiting}
-use Rattle.tipc_tunnel.specs.Tunnels.{IsInner, MayBeWrapped, numbered}
+use Rattle.tipc_tunnel.specs.Tunnels.{IsTunnellable, MayBeWrapped, numbered}
 use Rattle.tipc_pair.specs.PairArrivals.{restored}
 use Rattle.tipc_pair.specs.Runs.{IsListed, as_sent, previous_sent, shown_by}
 use Rattle.tipc_pair.proofs.Listed.{listed_inner, listed_size}
@@ -59,7 +59,7 @@ short_spelled own p fits = shown_spelled own p fits ∙ sym (spelled_bits p.ackn
 
 -- ---- what may stand inside
 
-pub shown_inner : (own : ℕ) (packet : List ℕ) → IsInner packet → IsInner (shown_by own packet)
+pub shown_inner : (own : ℕ) (packet : List ℕ) → IsTunnellable packet → IsTunnellable (shown_by own packet)
 shown_inner own packet h = record {
   packet = short_sent own h.packet;
   fits = short_fits own h.packet h.fits;
@@ -67,7 +67,7 @@ shown_inner own packet h = record {
   inside = h.inside;
 }
 
-pub length-shown : (own : ℕ) (packet : List ℕ) → IsInner packet → length (shown_by own packet) ≡ length packet
+pub length-shown : (own : ℕ) (packet : List ℕ) → IsTunnellable packet → length (shown_by own packet) ≡ length packet
 length-shown own packet h =
     ap (λ xs. length (shown_by own xs)) h.spelled
     ∙ (ap length (shown_spelled own h.packet h.fits)
@@ -90,7 +90,7 @@ waits_bits (header.Fragmenter f) previous small own = refl
 waits_bits other previous small own = omega arith
 
 -- taken as it waits, it is the packet
-pub restored_shown : (own : ℕ) (packet : List ℕ) → IsInner packet → restored (shown_by own packet) ≡ restored packet
+pub restored_shown : (own : ℕ) (packet : List ℕ) → IsTunnellable packet → restored (shown_by own packet) ≡ restored packet
 restored_shown own packet h =
     let p = h.packet in
     ap (λ xs. restored (shown_by own xs)) h.spelled
@@ -100,5 +100,5 @@ restored_shown own packet h =
     ∙ (sym (restored_spelled p h.fits) ∙ ap restored (sym h.spelled)))))
 
 -- also under its own number, as it stands inside a tunnel packet
-pub restored_inside : (own : ℕ) (packet : List ℕ) (number : ℕ) → IsInner packet → number < 2 ^ 16 → restored (numbered number (shown_by own packet)) ≡ restored packet
+pub restored_inside : (own : ℕ) (packet : List ℕ) (number : ℕ) → IsTunnellable packet → number < 2 ^ 16 → restored (numbered number (shown_by own packet)) ≡ restored packet
 restored_inside own packet number h below = restored_numbered (shown_by own packet) number (inr (shown_inner own packet h)) below ∙ restored_shown own packet h

@@ -1,6 +1,29 @@
--- What a course of a pair, and a whole turn of it, leaves true.
+-- Laws of one pair's turn: what it makes of links and contact, and what is told of it.
+pub mod Addressing
+pub mod ArrivalMoves
+pub mod Causes
+pub mod ContactLoads
+pub mod CourseMoves
 pub mod EndEpochs
+pub mod EndTraces
+pub mod EndsLast
+pub mod Faults
+pub mod FirstTaken
 pub mod FrameEpochs
 pub mod FrameKinds
+pub mod HeardReasons
+pub mod LinkMoves
+pub mod LinkSteps
+pub mod Moves
+pub mod PairEvents
 pub mod PairKept
+pub mod PairPuts
+pub mod PairTells
+pub mod PairTraces
+pub mod Reasons
+pub mod Silences
 pub mod StatesHeard
+pub mod Steady
+pub mod TurnMeans
+pub mod TurnMoves
+pub mod TurnReasons

@@ -1,5 +1,5 @@
 -- What a pair makes of messages: the packets in which one is sent, and what an arrival gives and leaves begun.
-use Rattle.std.specs.Prelude.{◌≡◌, ℕ, true, List, [], ◌∷◌, length, nat_le, if◌then◌else◌}
+use Rattle.std.specs.Prelude.{◌≡◌, ℕ, true, List, [], ◌∷◌, length, nat_le, if◌then◌else◌, None}
 use Rattle.tipc_types.specs.declared.link_words.Why.{Why}
 use Rattle.tipc_types.specs.declared.packet_lists.Taken.{Taken}
 use Rattle.tipc_header.specs.Frames.{sent_as}
@@ -12,6 +12,8 @@ use Rattle.tipc_recv_window.specs.declared.outcomes.LinkOutcome.{LinkOutcome}
 use Rattle.tipc_reassembly.specs.declared.opening.Opened.{Opened}
 use Rattle.tipc_reassembly.specs.Opening.{BringsAll}
 use Rattle.tipc_pair.specs.declared.changes.PairOutcome.{PairOutcome}
+use Rattle.tipc_header.specs.Faults.{fault_of}
+use Rattle.tipc_reassembly.specs.declared.opening.Opened.TheVariants.{Whole, Passed}
 
 -- ---- what an arrival gives
 
@@ -25,6 +27,11 @@ pub data OpensTo (begun : Joining) : LinkOutcome → PairOutcome → Joining →
 abbrev pub opened_in : PairOutcome → List Opened
 opened_in (PairOutcome.Took opened) = opened
 opened_in other = []
+
+-- a whole packet breaks no rule of the header
+abbrev pub HasNoFault : Opened → Type 0
+HasNoFault (Whole packet by) = fault_of packet ≡ None
+HasNoFault (Passed place) = Unit {0}
 
 -- ---- messages
 

@@ -120,7 +120,7 @@ hears (header.Activate said) es er p by shown x = activate_shown said.contact (m
 hears other es er p by shown x = met_near es er p by shown x
 
 -- the pair is as after this, and so is what was told and sent, and the outcome
-pub record Does (h : Heard) (after : PairEnds) (old new : LeavingState) (outcome : LinkOutcome) : Type 0 where
+pub record IsHeardAs (h : Heard) (after : PairEnds) (old new : LeavingState) (outcome : LinkOutcome) : Type 0 where
   pub pair : after ≡ h.course.pair
   pub told : AddsCourse old new h.course
   pub gives : outcome ≡ h.outcome

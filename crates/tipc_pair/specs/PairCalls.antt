@@ -87,7 +87,7 @@ abbrev pub active_session : PairEnds → Option SessionEnd
 active_session x = if is_up_at (facing 0 x).near then session_at (facing 0 x).near else session_at (facing 1 x).near
 
 -- they are put on the active link, where fewer packets than the limit wait
-pub record Sends (x : PairEnds) (pieces : List (List ℕ)) (limit : ℕ) (x' : PairEnds) (frames : List Outgoing) : Type 0 where
+pub record SendsWithin (x : PairEnds) (pieces : List (List ℕ)) (limit : ℕ) (x' : PairEnds) (frames : List Outgoing) : Type 0 where
   pub bearer : ℕ
   pub active_is : active x ≡ Some bearer
   pub near : PairEnds

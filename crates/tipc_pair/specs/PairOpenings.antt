@@ -17,7 +17,7 @@ use Rattle.tipc_pair.specs.declared.changes.PairOutcome.{PairOutcome}
 use Rattle.tipc_pair.specs.declared.link_arrivals.Carried.{Carried}
 use Rattle.tipc_pair.specs.Courses.{AddsCourse, Course, LeavingState}
 use Rattle.tipc_pair.specs.Facing.{PairEnds, is_up_at, other}
-use Rattle.tipc_pair.specs.PairArrivals.{Does, Heard, OpensInto, SpeaksOfFar, Unwraps, freed_at, taken_down, tunnelled_through, with_bytes}
+use Rattle.tipc_pair.specs.PairArrivals.{IsHeardAs, Heard, OpensInto, SpeaksOfFar, Unwraps, freed_at, taken_down, tunnelled_through, with_bytes}
 use Rattle.tipc_link.specs.Parts.{is_quiet}
 
 -- what a tunnel packet told and carried, where its old session was on this bearer
@@ -93,5 +93,5 @@ pub record IsQuiet (x : PairEnds) (es er : ℕ) (p : Fields) (by : ℕ) (a : Arr
 pub record HearsAndOpens (h : Heard) (given : PairOutcome) (after : PairEnds) (old new : LeavingState) : Type 0 where
   pub one : PairEnds
   pub outcome : LinkOutcome
-  pub does : Does h one old new outcome
+  pub does : IsHeardAs h one old new outcome
   pub opens : Opens one outcome given after new new

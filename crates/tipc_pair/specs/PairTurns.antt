@@ -1,6 +1,6 @@
 -- What a node does at a pair in one event: one thing happens there first, then messages are put, and last the STATE that is
 -- due is sent. Each call of a node is such a turn at each of its pairs; at most of them nothing happens and no message is put.
-use Rattle.std.specs.Prelude.{◌≡◌, ℕ, Bool, true, false, List, [], ◌∷◌, ◌++◌, Option, Some, None}
+use Rattle.std.specs.Prelude.{◌≡◌, ℕ, Bool, true, false, List, [], ◌∷◌, ◌++◌, Option, Some, None, ◌≤◌}
 use Rattle.tipc_types.specs.declared.link_words.BroadcastState.{BroadcastState}
 use Rattle.tipc_outside.specs.declared.outgoing.Outgoing.{Outgoing}
 use Rattle.tipc_header.specs.Spelling.{Fields}
@@ -11,6 +11,9 @@ use Rattle.tipc_pair.specs.Facing.{PairEnds, active, facing, with_made}
 use Rattle.tipc_pair.specs.PairArrivals.{Arrives}
 use Rattle.tipc_pair.specs.PairCalls.{Puts, answered_near, at_bearer, cut_near, mended, ticked}
 use Rattle.tipc_pair.specs.Messages.{pieces_for}
+use Rattle.tipc_types.specs.declared.node_calls.EventNote.{EventNote}
+use Rattle.tipc_types.specs.declared.node_calls.EventNote.TheVariants as event
+use Rattle.tipc_pair.specs.declared.changes.PairOutcome.TheVariants as outcome
 
 -- ---- what happens first
 
@@ -109,3 +112,25 @@ ShowsIn other = Unit {0}
 abbrev pub ShowsAtLast : Option Reply → Type 0
 ShowsAtLast None = Unit {0}
 ShowsAtLast (Some r) = IsShowable r.shown
+
+-- what happened at the pair first is the event of the step
+abbrev pub Suits : EventNote → Opening → Type 0
+Suits note rests = Unit {0}
+Suits note (makes bearer is_mended) = ⊥
+Suits note (mends bearer) = note ≡ event.Mend bearer
+Suits note (cuts bearer) = note ≡ event.Cut bearer
+Suits note (ticks shown) = note ≡ event.Tick
+Suits note (hears bearer es er p by shown) = note ≡ event.Arrive bearer by
+
+-- it happened on one of the two bearers
+abbrev pub IsOnOne : Opening → Type 0
+IsOnOne (mends bearer) = bearer ≤ 1
+IsOnOne (cuts bearer) = bearer ≤ 1
+IsOnOne (hears bearer es er p by shown) = bearer ≤ 1
+IsOnOne other = Unit {0}
+
+-- the pair heard what arrived, and didn't ignore it
+abbrev pub IsTakenBy : Opening → PairOutcome → Type 0
+IsTakenBy (hears bearer es er p by shown) (outcome.Took opened) = Unit {0}
+IsTakenBy (hears bearer es er p by shown) outcome.Deferred = Unit {0}
+IsTakenBy other given = ⊥

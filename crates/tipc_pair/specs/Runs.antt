@@ -9,7 +9,7 @@ use Rattle.tipc_header.specs.declared.packet.Header.TheVariants as header
 use Rattle.tipc_header.specs.Frames.{sent_as}
 use Rattle.tipc_header.specs.Reading.{fields_at}
 use Rattle.tipc_header.specs.Spelling.{Fields, spelling}
-use Rattle.tipc_tunnel.specs.Tunnels.{IsInner, IsTunnel, Tunnelled, numbered, tunnel_packet}
+use Rattle.tipc_tunnel.specs.Tunnels.{IsTunnellable, IsTunnel, Tunnelled, numbered, tunnel_packet}
 use Rattle.tipc_send_window.specs.Sending.{kept_of}
 use Rattle.tipc_link.specs.Records.{is_tunnel}
 use Rattle.tipc_link.specs.Sessions.{IsWaiting, SessionEnd}
@@ -76,5 +76,5 @@ pub record IsTunnelPacket (packet : List ℕ) : Type 0 where
 
 -- a packet that waits or is unacknowledged may stand inside a tunnel packet, or is a tunnel packet
 pub data IsListed (packet : List ℕ) : Type 0 where
-  plain : IsWaiting packet → IsInner packet → length packet ≤ 1452 → IsListed packet
+  plain : IsWaiting packet → IsTunnellable packet → length packet ≤ 1452 → IsListed packet
   tunnel : IsTunnelPacket packet → IsListed packet

@@ -2,6 +2,7 @@
 #![tactic(auto)]
 
 mod changes;
+pub mod laws;
 mod leaving;
 mod link_arrivals;
 mod link_changes;

@@ -37,7 +37,7 @@ impl LinkEnds {
     ghost use Rattle.tipc_pair.specs.Changeovers.{risen};
     ghost use Rattle.tipc_pair.specs.Courses.{AddsCourse, Course};
     ghost use Rattle.tipc_pair.specs.Facing.{other};
-    ghost use Rattle.tipc_pair.specs.PairArrivals.{activate_higher, activate_shown, behind, hears, met_near, reset_change, reset_given, reset_near, reset_shown, taken_down, tunnelled_at, Arrives, Does};
+    ghost use Rattle.tipc_pair.specs.PairArrivals.{activate_higher, activate_shown, behind, hears, met_near, reset_change, reset_given, reset_near, reset_shown, taken_down, tunnelled_at, Arrives, IsHeardAs};
     ghost use Rattle.tipc_pair.specs.PairOpenings.{Frees, IsCarriedIn, NoneCarriedIn, Opens, Unwrapped};
 
     /// Takes a packet that arrived on the near link.
@@ -72,7 +72,7 @@ impl LinkEnds {
     ) -> Result<LinkOutcome, NoMemory>
         requires fits { Fits (view incoming.now.packet) }
         ensures { IfOk result (λ outcome.
-            Does (hears incoming.now.packet.header incoming.now.sender_epoch incoming.now.receiver_epoch
+            IsHeardAs (hears incoming.now.packet.header incoming.now.sender_epoch incoming.now.receiver_epoch
             (view incoming.now.packet) incoming.now.by incoming.now.shown self.old)
             self.new event.old event.new outcome) }
     {
@@ -104,7 +104,7 @@ impl LinkEnds {
     ) -> Result<LinkOutcome, NoMemory>
         requires fits { Fits (view incoming.now.packet) }
         ensures { IfOk result (λ outcome.
-            Does (met_near incoming.now.sender_epoch incoming.now.receiver_epoch
+            IsHeardAs (met_near incoming.now.sender_epoch incoming.now.receiver_epoch
             (view incoming.now.packet) incoming.now.by incoming.now.shown self.old)
             self.new event.old event.new outcome) }
     {
@@ -137,7 +137,7 @@ impl LinkEnds {
     ) -> Result<LinkOutcome, NoMemory>
         requires fits { Fits (view incoming.now.packet) }
         ensures { IfOk result (λ outcome.
-            Does (activate_shown number
+            IsHeardAs (activate_shown number
             (met_near incoming.now.sender_epoch incoming.now.receiver_epoch
             (view incoming.now.packet) incoming.now.by incoming.now.shown) self.old)
             self.new event.old event.new outcome) }
@@ -159,7 +159,7 @@ impl LinkEnds {
     ) -> Result<LinkOutcome, NoMemory>
         requires fits { Fits (view incoming.now.packet) }
         ensures { IfOk result (λ outcome.
-            Does (activate_higher number
+            IsHeardAs (activate_higher number
             (met_near incoming.now.sender_epoch incoming.now.receiver_epoch
             (view incoming.now.packet) incoming.now.by incoming.now.shown) self.old)
             self.new event.old event.new outcome) }
@@ -182,7 +182,7 @@ impl LinkEnds {
         event: &mut Leaving,
     ) -> Result<LinkOutcome, NoMemory>
         ensures { IfOk result
-            (λ outcome. Does (reset_shown number es shown self.old) self.new event.old event.new outcome) }
+            (λ outcome. IsHeardAs (reset_shown number es shown self.old) self.new event.old event.new outcome) }
     {
         match self.standing(number) {
             Standing::Lower => Ok(LinkOutcome::Ignored(Why::Contact)),
@@ -201,7 +201,7 @@ impl LinkEnds {
         event: &mut Leaving,
     ) -> Result<LinkOutcome, NoMemory>
         ensures { IfOk result (λ outcome.
-            Does (behind (risen self.old number) (reset_near es shown)) self.new event.old event.new outcome) }
+            IsHeardAs (behind (risen self.old number) (reset_near es shown)) self.new event.old event.new outcome) }
     {
         self.rise(alloc, number, event)?;
         self.take_reset(alloc, es, shown, event)
@@ -216,7 +216,7 @@ impl LinkEnds {
         shown: BroadcastState,
         event: &mut Leaving,
     ) -> Result<LinkOutcome, NoMemory>
-        ensures { IfOk result (λ outcome. Does (reset_near es shown self.old) self.new event.old event.new outcome) }
+        ensures { IfOk result (λ outcome. IsHeardAs (reset_near es shown self.old) self.new event.old event.new outcome) }
     {
         let held = self.far_is_up();
         let (change, outcome) = self.give_reset(alloc, es, held, shown, event)?;
@@ -237,7 +237,7 @@ impl LinkEnds {
     ) -> Result<(Change, LinkOutcome), NoMemory>
         ensures change { IfOk result (λ given. given.0 ≡ reset_change es held self.old.near) }
         ensures does { IfOk result (λ given.
-            Does (reset_given es held shown self.old self.old.near) self.new event.old event.new given.1) }
+            IsHeardAs (reset_given es held shown self.old self.old.near) self.new event.old event.new given.1) }
     {
         let Some(link) = &mut self.near else {
             return Ok((Change::Stay, LinkOutcome::Ignored(Why::Unknown)));

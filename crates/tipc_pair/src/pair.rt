@@ -81,7 +81,7 @@ impl Pair {
     ghost use Rattle.tipc_pair.specs.Facing.{active, alone, contact_between, facing, in_contact, state_of, with_made};
     ghost use Rattle.tipc_pair.specs.PairArrivals.{Arrives};
     ghost use Rattle.tipc_pair.specs.Courses.{IsToldOf};
-    ghost use Rattle.tipc_pair.specs.PairCalls.{active_session, answered_near, at_bearer, cut_near, last_count_of, load_of, mended, numbered_of, ticked, Sends};
+    ghost use Rattle.tipc_pair.specs.PairCalls.{active_session, answered_near, at_bearer, cut_near, last_count_of, load_of, mended, numbered_of, ticked, SendsWithin};
     ghost use Rattle.tipc_pair.specs.PairFacts.{AreHeldRightly, IsPairOfEnds};
     ghost use Rattle.tipc_pair.specs.Preparing.{changes_of, Prepares};
     ghost use Rattle.tipc_pair.specs.Runs.{IsListed};
@@ -281,7 +281,7 @@ impl Pair {
     ) -> Result<(), OfferFault>
         requires contact { in_contact self.old ≡ true }
         requires pieces { All IsListed pieces }
-        ensures ok { OnOk result ((frames : List Outgoing) × Sends self.old pieces limit self.new frames ×
+        ensures ok { OnOk result ((frames : List Outgoing) × SendsWithin self.old pieces limit self.new frames ×
             Adds out.old out.new frames) }
         ensures congested { (s : SessionEnd) → active_session self.old ≡ Some s → limit ≤ length s.sending.waiting →
             result ≡ Err (OfferFault.Congested (length s.sending.unacked) (length s.sending.waiting)) }

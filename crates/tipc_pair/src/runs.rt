@@ -4,7 +4,7 @@ ghost use Rattle.std.specs.Prelude.{◌≡◌, ◌≤◌, ◌<◌, ◌^◌, ◌+
 ghost use Rattle.tipc_types.specs.declared.packet_lists.Kept.{Kept};
 ghost use Rattle.tipc_link.specs.Records.{is_tunnel};
 ghost use Rattle.tipc_header.specs.Spelling.{spelling};
-ghost use Rattle.tipc_tunnel.specs.Tunnels.{numbered, tunnel_packet, IsInner, IsRun, MayBeWrapped};
+ghost use Rattle.tipc_tunnel.specs.Tunnels.{numbered, tunnel_packet, IsTunnellable, IsRun, MayBeWrapped};
 ghost use Rattle.tipc_pair.specs.Runs.{previous_sent, run_of, shown_by, wrapped, IsListed, IsTunnelPacket};
 
 use std::alloc::{AllocError, Global};
@@ -32,7 +32,7 @@ fn previous_sent(own: u32, packet: &Packet<'_>) -> u32
 
 /// A packet of this node as it was sent: it shows its sender.
 fn shown_by(alloc: Global, own: u32, packet: &[u8]) -> Result<Vec<u8>, AllocError>
-    requires { IsInner packet.now }
+    requires { IsTunnellable packet.now }
     ensures { IfOk result (λ bytes. bytes.items ≡ shown_by own packet.now) }
 {
     let mut bytes = Vec::new(alloc);

@@ -8,7 +8,7 @@ use Rattle.tipc_header.specs.Grammar.{Fits}
 use Rattle.tipc_header.specs.Spelling.{Fields, spelling}
 use Rattle.tipc_message.specs.Wire.{packet_of, payload_of, payload_packet}
 use Rattle.tipc_bundle.specs.Bundles.{may_stand_inside}
-use Rattle.tipc_tunnel.specs.Tunnels.{may_stand_inside as may_be_tunnelled}
+use Rattle.tipc_tunnel.specs.Tunnels.{may_stand_in_tunnel as may_be_tunnelled}
 use Rattle.tipc_link.proofs.JoinLaws.{inner_waits}
 use Rattle.tipc_pair.specs.Runs.{IsListed, plain}
 

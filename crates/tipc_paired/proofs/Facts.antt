@@ -8,7 +8,7 @@ use Rattle.tipc_send_window.specs.Sending.{acked_of}
 use Rattle.tipc_link.specs.Direction.{IsReceiver}
 use Rattle.tipc_link.specs.Links.{LinkEnd, after, early_with, record_in, record_of}
 use Rattle.tipc_link.specs.Records.{Early, Received, advanced_by, early_of, early_record, freed, named, unheard}
-use Rattle.tipc_link.specs.Sessions.{SessionEnd, receiving_record, released, with_record}
+use Rattle.tipc_link.specs.Sessions.{SessionEnd, receiving_record, after_acknowledgement, with_record}
 use Rattle.tipc_link.proofs.Directions.{holds_none, releases as direction_releases}
 use Rattle.tipc_link.proofs.Outliving.{frees}
 use Rattle.tipc_link_fsm.specs.Runs.{outcome}
@@ -32,7 +32,7 @@ heard_taken x y b e s p h up a =
     let fresh = a.own_fresh in
     let near = o.told_recent in
     let d = direction_releases s.sending (length ((y.wires b).got s.epoch)) ((x.wires b).line s.epoch) o.told g.sends o.told_taken (omega arith) in
-    subst (λ n. acked_of (released s n).sending ≤ length ((y.wires b).got s.epoch)) (sym o.told_is) d.acked_taken
+    subst (λ n. acked_of (after_acknowledgement s n).sending ≤ length ((y.wires b).got s.epoch)) (sym o.told_is) d.acked_taken
 
 -- ---- under which epochs a link goes up
 

@@ -13,7 +13,7 @@ use Rattle.tipc_paired.proofs.sessions.SessionDeeds.{notes_paired, puts_paired, 
 use Rattle.tipc_paired.proofs.sessions.SessionPackets.{numbers_paired, takes_paired}
 use Rattle.tipc_paired.proofs.contacts.TellDeeds.{tells_paired}
 use Rattle.tipc_paired.proofs.wires.Wires.{none_some, prefix_same, session_of_none}
-use Rattle.tipc_paired.specs.Deeds.{Besides, Changes, Does, DoesAll, Works, besides, calls, changes, counts, falls, falls_beside, follows, hands_over, makes, nothing, notes, numbers, parts, puts, releases, restarts, rises, rises_beside, shows, takes, tells, turns, works}
+use Rattle.tipc_paired.specs.Deeds.{Besides, Changes, DoesDeed, DoesAll, Works, besides, calls, changes, counts, falls, falls_beside, follows, hands_over, makes, nothing, notes, numbers, parts, puts, releases, restarts, rises, rises_beside, shows, takes, tells, turns, works}
 use Rattle.tipc_paired.specs.Paired.{ArePaired, IsEpochs, IsHalf, IsNew, IsRecords, IsWire, untaken}
 use Rattle.tipc_paired.specs.Views.{Node, View, Wire, fsm_in, notice_of, said_by, side_of, unused}
 
@@ -39,7 +39,7 @@ besides_paired x y _ h (falls_beside b e call cause is may down beside) = falls_
 besides_paired x y _ h (hands_over b e is down) = hands_over_paired x y b e h is down
 besides_paired x y _ h (counts b e r more m) = counts_paired x y b e r more h m
 
-pub does_paired : (x y x' : View) → ArePaired x y → Does x y x' → ArePaired x' y
+pub does_paired : (x y x' : View) → ArePaired x y → DoesDeed x y x' → ArePaired x' y
 does_paired x y x' h (works _ w) = works_paired x y x' h w
 does_paired x y x' h (changes _ c) = changes_paired x y x' h c
 does_paired x y x' h (besides _ c) = besides_paired x y x' h c

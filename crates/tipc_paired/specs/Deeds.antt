@@ -15,11 +15,11 @@ use Rattle.tipc_send_window.specs.Sending.{kept_of}
 use Rattle.tipc_link_fsm.specs.declared.changes.Change.TheVariants.{Up, Down}
 use Rattle.tipc_link_fsm.specs.Runs.{Call, ActivateArrives, ContactEnds, ForgetsPeer, ResetArrives, TrafficArrives, outcome}
 use Rattle.tipc_link_fsm.specs.Table.{contact_ended, forget_peer, is_held}
-use Rattle.tipc_contact.specs.Sides.{IsTold, first_number}
+use Rattle.tipc_contact.specs.Sides.{IsNoticed, first_number}
 use Rattle.tipc_link.specs.Direction.{IsReceiver}
 use Rattle.tipc_link.specs.Links.{LinkEnd, after, handed_over, is_traffic, known, made, notice, record_of, recorded, shown_by, with_session}
 use Rattle.tipc_link.specs.Records.{Received}
-use Rattle.tipc_link.specs.Sessions.{Carries, SessionEnd, Unanswered, brought, content_of, due_with, flushed, moving, packet_frame, released, state_frame, took}
+use Rattle.tipc_link.specs.Sessions.{Carries, SessionEnd, Unanswered, brought, content_of, due_with, flushed, moving, packet_frame, after_acknowledgement, state_frame, took}
 use Rattle.tipc_link.specs.Parts.{is_quiet, packets_in}
 use Rattle.tipc_link.specs.Parts.{IsShowable}
 use Rattle.tipc_paired.specs.Paired.{IsPacket, IsShown}
@@ -40,7 +40,7 @@ pub record IsOfBegun (y : View) (bearer es er : ℕ) : Type 0 where
 -- What makes a call of a link end lawful: a RESET or an ACTIVATE is given to it only while the contact number that it shows is the
 -- highest seen, and what is said to arrive was told; the calls that end a contact or forget the peer are made at all link ends.
 abbrev pub MayCall : View → View → ℕ → Call → Type 0
-MayCall x y bearer (ResetArrives es held) = IsTold (said_by y) bearer es x.node.seen
+MayCall x y bearer (ResetArrives es held) = IsNoticed (said_by y) bearer es x.node.seen
 MayCall x y bearer (ActivateArrives es er) = IsShown y.told bearer es er x.node.seen
 MayCall x y bearer (TrafficArrives es er) = IsOfBegun y bearer es er
 MayCall x y bearer ForgetsPeer = ⊥
@@ -53,7 +53,7 @@ begun_by n e = record { peer_epoch = known e.fsm.peer; contact = n.contact; peer
 
 -- the wire when the session of this end, whose link went up, has begun
 abbrev pub with_begun : Node → Wire → LinkEnd → Wire
-with_begun n w e = record { end = Some e; begun = put_at w.begun e.fsm.own (Some (begun_by n e)); line = w.line; got = w.got }
+with_begun n w e = record w { end = Some e; begun = put_at w.begun e.fsm.own (Some (begun_by n e)) }
 
 -- ---- contacts
 
@@ -62,8 +62,8 @@ abbrev pub ended_with : ℕ → LinkEnd → LinkEnd
 ended_with contact e = record e { fsm = (contact_ended e.fsm).after; contact = contact }
 
 -- the node when its contact has ended
-abbrev pub parted : View → View
-parted x = record {
+abbrev pub parted_view : View → View
+parted_view x = record {
   node = record x.node { contact = x.node.contact + 1 };
   wires = λ b. record (x.wires b) { end = option_map (ended_with (x.node.contact + 1)) (x.wires b).end };
   told = x.told;
@@ -74,8 +74,8 @@ abbrev pub forgot_with : ℕ → LinkEnd → LinkEnd
 forgot_with seen e = record e { fsm = (forget_peer e.fsm).after; peer_contact = seen }
 
 -- the node without contact when the peer has shown this contact number
-abbrev pub risen : View → ℕ → View
-risen x number = record {
+abbrev pub risen_view : View → ℕ → View
+risen_view x number = record {
   node = record x.node { seen = number };
   wires = λ b. record (x.wires b) { end = option_map (forgot_with number) (x.wires b).end };
   told = x.told;
@@ -149,10 +149,10 @@ pub data Works (x y : View) : View → Type 0 where
   calls : (b : ℕ) (e : LinkEnd) (call : Call) → (x.wires b).end ≡ Some e → MayCall x y b call
       → is_quiet (outcome e.fsm call).change ≡ true
       → Works x y (with_wire x b (with_end (x.wires b) (after e (outcome e.fsm call))))
-  shows : (number : ℕ) → x.node.seen < number → number < 2 ^ 64 → IsApart x → Works x y (risen x number)
+  shows : (number : ℕ) → x.node.seen < number → number < 2 ^ 64 → IsApart x → Works x y (risen_view x number)
   -- a session reads an acknowledgement, keeps something for its answers, and numbers packets that wait
   releases : (b : ℕ) (e : LinkEnd) (s : SessionEnd) (p : Fields) → IsUp (x.wires b) e s → Hears x y b s p
-      → Works x y (with_wire x b (with_going (x.wires b) e (released s p.acknowledgement)))
+      → Works x y (with_wire x b (with_going (x.wires b) e (after_acknowledgement s p.acknowledgement)))
   notes : (b : ℕ) (e : LinkEnd) (s : SessionEnd) (shown : ℕ) (unanswered : Unanswered) (owes : Bool) → IsUp (x.wires b) e s
       → Works x y (with_wire x b (with_going (x.wires b) e (record s { shown = shown; unanswered = unanswered; owes = owes })))
   numbers : (b : ℕ) (e : LinkEnd) (s : SessionEnd) → IsUp (x.wires b) e s
@@ -168,8 +168,8 @@ pub data Changes (x y : View) : View → Type 0 where
       → Changes x y (with_wire x b (with_begun x.node (x.wires b) (after e (outcome e.fsm call))))
   falls : (b : ℕ) (e : LinkEnd) (call : Call) (cause : Cause) → (x.wires b).end ≡ Some e → MayCall x y b call
       → (outcome e.fsm call).change ≡ Down cause
-      → Changes x y (parted (with_wire x b (with_end (x.wires b) (after e (outcome e.fsm call)))))
-  parts : (b : ℕ) (e : LinkEnd) → (x.wires b).end ≡ Some e → is_up e.fsm.state ≡ true → Changes x y (parted x)
+      → Changes x y (parted_view (with_wire x b (with_end (x.wires b) (after e (outcome e.fsm call)))))
+  parts : (b : ℕ) (e : LinkEnd) → (x.wires b).end ≡ Some e → is_up e.fsm.state ≡ true → Changes x y (parted_view x)
   restarts : (boot : ℕ) → x.node.boot < boot → boot < 2 ^ 32 → Changes x y (restarted x boot)
 
 -- ---- two links
@@ -200,12 +200,7 @@ pub record Counts (x y : View) (bearer : ℕ) (e : LinkEnd) (r : Received) (more
 
 -- the wire when its receiving record has become r, as so many packets more were taken of the record's session
 abbrev pub with_counted : Wire → LinkEnd → Received → List (List ℕ) → Wire
-with_counted w e r more = record {
-  end = Some (recorded e r);
-  begun = w.begun;
-  line = w.line;
-  got = put_at w.got r.epoch (w.got r.epoch ++ more);
-}
+with_counted w e r more = record w { end = Some (recorded e r); got = put_at w.got r.epoch (w.got r.epoch ++ more) }
 
 -- A deed of x, beside y, with which no contact begins or ends, at one of two links.
 pub data Besides (x y : View) : View → Type 0 where
@@ -224,27 +219,23 @@ pub data Besides (x y : View) : View → Type 0 where
 
 -- the wire whose session takes what a packet frees
 abbrev pub with_taken : Wire → LinkEnd → SessionEnd → Taken → Wire
-with_taken w e s t = record {
-  end = Some (with_session e (took s t));
-  begun = w.begun;
-  line = w.line;
-  got = put_at w.got s.peer_epoch (w.got s.peer_epoch ++ packets_in (due_with s t));
-}
+with_taken w e s t =
+    record w { end = Some (with_session e (took s t)); got = put_at w.got s.peer_epoch (w.got s.peer_epoch ++ packets_in (due_with s t)) }
 
 -- one deed of x
-pub data Does (x y : View) : View → Type 0 where
-  works : (x' : View) → Works x y x' → Does x y x'
-  changes : (x' : View) → Changes x y x' → Does x y x'
-  besides : (x' : View) → Besides x y x' → Does x y x'
+pub data DoesDeed (x y : View) : View → Type 0 where
+  works : (x' : View) → Works x y x' → DoesDeed x y x'
+  changes : (x' : View) → Changes x y x' → DoesDeed x y x'
+  besides : (x' : View) → Besides x y x' → DoesDeed x y x'
   -- other packets wait; and what a packet frees is taken
   puts : (b : ℕ) (e : LinkEnd) (s : SessionEnd) (waiting : List (List ℕ)) → IsUp (x.wires b) e s
       → ((k : ℕ) (bytes : List ℕ) → slice_get waiting k ≡ Some bytes → IsPacket x.node.own bytes)
-      → Does x y (with_wire x b (with_going (x.wires b) e (record s { sending = record s.sending { waiting = waiting } })))
+      → DoesDeed x y (with_wire x b (with_going (x.wires b) e (record s { sending = record s.sending { waiting = waiting } })))
   takes : (b : ℕ) (e : LinkEnd) (s : SessionEnd) (p : Fields) (number by : ℕ) (packet : List ℕ) → IsUp (x.wires b) e s
       → Hears x y b s p → content_of p ≡ Carries number packet
-      → Does x y (with_wire x b (with_taken (x.wires b) e s (brought number packet by)))
+      → DoesDeed x y (with_wire x b (with_taken (x.wires b) e s (brought number packet by)))
 
 -- one deed after the other
 pub data DoesAll (x y : View) : View → Type 0 where
   nothing : DoesAll x y x
-  follows : (x' x'' : View) → DoesAll x y x' → Does x' y x'' → DoesAll x y x''
+  follows : (x' x'' : View) → DoesAll x y x' → DoesDeed x' y x'' → DoesAll x y x''

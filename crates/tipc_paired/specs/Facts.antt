@@ -7,7 +7,7 @@ use Rattle.tipc_header.specs.Spelling.{Fields}
 use Rattle.tipc_send_window.specs.Sending.{acked_of}
 use Rattle.tipc_link.specs.Links.{LinkEnd, after, record_of, recorded}
 use Rattle.tipc_link.specs.Records.{Received, advanced_by, freed, named}
-use Rattle.tipc_link.specs.Sessions.{SessionEnd, released}
+use Rattle.tipc_link.specs.Sessions.{SessionEnd, after_acknowledgement}
 use Rattle.tipc_link_fsm.specs.declared.changes.Change.TheVariants.{Up}
 use Rattle.tipc_link_fsm.specs.Runs.{Call, outcome}
 use Rattle.tipc_link_fsm.specs.Table.{is_held}
@@ -18,7 +18,7 @@ use Rattle.tipc_paired.specs.Views.{Begun, View}
 -- an acknowledgement that is heard names no more than what the peer took of the session
 abbrev pub HeardWasTaken : Type 0
 HeardWasTaken = (x y : View) (b : ℕ) (e : LinkEnd) (s : SessionEnd) (p : Fields) → ArePaired x y → IsUp (x.wires b) e s
-    → Hears x y b s p → acked_of (released s p.acknowledgement).sending ≤ length ((y.wires b).got s.epoch)
+    → Hears x y b s p → acked_of (after_acknowledgement s p.acknowledgement).sending ≤ length ((y.wires b).got s.epoch)
 
 -- An epoch of the peer under which the link end of x on a bearer can be up: the peer told it under the contact number that x has seen, it is
 -- the peer's present one there or a lower one, and lower where the peer's end is Held; and x has no record of a higher one.

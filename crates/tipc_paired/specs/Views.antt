@@ -109,12 +109,12 @@ put_at f place value k = if k == place then value else f k
 
 -- the node with another wire on this bearer
 abbrev pub with_wire : View → ℕ → Wire → View
-with_wire x b w = record { node = x.node; wires = put_at x.wires b w; told = x.told }
+with_wire x b w = record x { wires = put_at x.wires b w }
 
 -- the wire with another link end
 abbrev pub with_end : Wire → LinkEnd → Wire
-with_end w e = record { end = Some e; begun = w.begun; line = w.line; got = w.got }
+with_end w e = record w { end = Some e }
 
 -- the node when it has told one more frame
 abbrev pub with_told : View → Frame → View
-with_told x f = record { node = x.node; wires = x.wires; told = x.told ++ f ∷ [] }
+with_told x f = record x { told = x.told ++ f ∷ [] }

@@ -7,7 +7,7 @@
 
 ghost use Rattle.std.specs.Prelude.{ℕ};
 ghost use Rattle.tipc_types.specs.Prefixes.{IsPrefixOf};
-ghost use Rattle.tipc_paired.specs.Deeds.{Does, DoesAll};
+ghost use Rattle.tipc_paired.specs.Deeds.{DoesDeed, DoesAll};
 ghost use Rattle.tipc_paired.specs.Facts.{BegunWasNamed, HeardWasTaken, NamesCount, RisesAreOfPeer, SameRecordsStay, TunnelsCount, UpIsOnRecord};
 ghost use Rattle.tipc_paired.specs.Paired.{ArePaired, IsNew};
 ghost use Rattle.tipc_paired.specs.Views.{View};
@@ -17,7 +17,7 @@ ghost use Rattle.tipc_paired.specs.Views.{View};
 pub fn two_nodes_stay_paired()
     ensures start { (x y : View) → IsNew x → IsNew y → ArePaired x y }
     ensures turned { (x y : View) → ArePaired x y → ArePaired y x }
-    ensures does { (x y next : View) → ArePaired x y → Does x y next → ArePaired next y }
+    ensures does { (x y next : View) → ArePaired x y → DoesDeed x y next → ArePaired next y }
     ensures all { (x y next : View) → ArePaired x y → DoesAll x y next → ArePaired next y }
 {}
 

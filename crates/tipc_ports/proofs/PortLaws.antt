@@ -10,7 +10,7 @@ use Rattle.std.proofs.lemmas.List.Quantifiers.{all_pairs_push}
 use Rattle.std.proofs.lemmas.Map.Made.{IsDistinct-from_AllPairs}
 use Rattle.std.proofs.lemmas.Map.Views.{Contains-from_any, list_any-from_Contains}
 use Rattle.indexmap.specs.IndexSet.{insert_key, remove_key}
-use Rattle.tipc_ports.specs.Numbers.{port_number, without, ArePresent, PortTable}
+use Rattle.tipc_ports.specs.Numbers.{port_number, without_port, ArePresent, PortTable}
 
 -- ---- none of these numbers is this one
 
@@ -26,7 +26,7 @@ new_port_last boot made n ports h is =
 
 -- ---- a port that is closed
 
-others_kept : (n : ℕ) (ks : List ℕ) → AllByRecursion (λ k. nat_eq n k ≡ false) ks → without n ks ≡ ks
+others_kept : (n : ℕ) (ks : List ℕ) → AllByRecursion (λ k. nat_eq n k ≡ false) ks → without_port n ks ≡ ks
 others_kept n [] h = refl
 others_kept n (k ∷ ks) h = rw h.0 (ap (λ (xs : List ℕ). k ∷ xs) (others_kept n ks h.1))
 
@@ -34,19 +34,19 @@ taken_out : (b : Bool) (k : ℕ) (ks rest kept : List ℕ) → (b ≡ true → k
 taken_out true k ks rest kept here later = here refl
 taken_out false k ks rest kept here later = ap (λ (xs : List ℕ). k ∷ xs) later
 
-removed_once : (n : ℕ) (ks : List ℕ) → IsDistinct nat_eq ks → remove_key (nat_eq n) ks ≡ without n ks
+removed_once : (n : ℕ) (ks : List ℕ) → IsDistinct nat_eq ks → remove_key (nat_eq n) ks ≡ without_port n ks
 unfolding IsDistinct
 removed_once n [] h = refl
 removed_once n (k ∷ ks) h =
-    taken_out (nat_eq n k) k ks (remove_key (nat_eq n) ks) (without n ks)
+    taken_out (nat_eq n k) k ks (remove_key (nat_eq n) ks) (without_port n ks)
     (λ e. sym (others_kept n ks (subst (λ (i : ℕ). AllByRecursion (λ j. nat_eq i j ≡ false) ks) (sym (eqb-true _ _ e)) h.0)))
     (removed_once n ks h.1)
 
-pub port_removed : (boot made n : ℕ) (ports : List ℕ) → ArePresent boot made ports → remove_key (nat_eq n) ports ≡ without n ports
+pub port_removed : (boot made n : ℕ) (ports : List ℕ) → ArePresent boot made ports → remove_key (nat_eq n) ports ≡ without_port n ports
 port_removed boot made n ports h =
     removed_once n ports (IsDistinct-from_AllPairs Decides-eqb ports (λ i j d first last e. omega (arith, h.rising i j d first last, e)))
 
-pub present_without : (boot made n : ℕ) (ports : List ℕ) → ArePresent boot made ports → ArePresent boot made (without n ports)
+pub present_without : (boot made n : ℕ) (ports : List ℕ) → ArePresent boot made ports → ArePresent boot made (without_port n ports)
 present_without boot made n ports h = record {
   above = All-filter _ (λ (port : ℕ). port_number boot 1 ≤ port) ports h.above;
   below = All-filter _ (λ (port : ℕ). port ≤ port_number boot made) ports h.below;

@@ -13,8 +13,8 @@ pub record PortTable : Type 0 where
   pub present : List ℕ
 
 -- the others
-abbrev pub without : ℕ → List ℕ → List ℕ
-without port ports = filter (λ other. not (port == other)) ports
+abbrev pub without_port : ℕ → List ℕ → List ℕ
+without_port port ports = filter (λ other. not (port == other)) ports
 
 -- These ports are among the first so many of the boot, in the order in which they were made.
 pub record ArePresent (boot made : ℕ) (ports : List ℕ) : Type 0 where

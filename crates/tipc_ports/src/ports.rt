@@ -1,7 +1,7 @@
 //! The ports of a node in one boot, with what each holds.
 
 ghost use Rattle.std.specs.Prelude.{◌≡◌, ◌+◌, ◌*◌, ◌≤◌, ◌<◌, ◌⊎◌, ◌↔◌, ◌++◌, ◌∷◌, [], Err, length, Contains, IfOk, IsErr, IsTrue, OnErr, OnOk};
-ghost use Rattle.tipc_ports.specs.Numbers.{port_number, without, ArePresent, PortTable};
+ghost use Rattle.tipc_ports.specs.Numbers.{port_number, without_port, ArePresent, PortTable};
 
 use indexmap::IndexSet;
 use std::alloc::{AllocError, AllocFailed, Global};
@@ -111,7 +111,7 @@ impl Ports {
     /// `Unknown` exactly where it isn't there.
     pub fn close(&mut self, port: u32) -> Result<(), Unknown>
         ensures ok { OnOk result (self.new ≡
-            record { boot = self.old.boot; made = self.old.made; present = without port self.old.present }) }
+            record { boot = self.old.boot; made = self.old.made; present = without_port port self.old.present }) }
         ensures there { OnOk result (Contains self.old.present port) }
         ensures unknown { OnErr result (Contains self.old.present port → ⊥) }
         ensures err { OnErr result (self.new ≡ self.old) }

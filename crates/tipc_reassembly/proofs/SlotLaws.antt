@@ -6,7 +6,7 @@ use Rattle.std.proofs.lemmas.List.{append-nil, map-append}
 use Rattle.std.proofs.lemmas.List.Elements.{All-head, All-tail}
 use Rattle.tipc_types.specs.declared.packet_lists.Taken.{Taken}
 use Rattle.tipc_header.specs.Spelling.{spelling}
-use Rattle.tipc_fragments.specs.Cutting.{packet_of, Piece}
+use Rattle.tipc_fragments.specs.Cutting.{fragment_fields, Piece}
 use Rattle.tipc_fragments.specs.Joining.{answer_of, Joining}
 use Rattle.tipc_fragments.specs.Streams.{CameItem, Item, item_after, item_after_all, items_in, Part}
 use Rattle.tipc_fragments.proofs.CutLaws.{sent_fits}
@@ -86,9 +86,9 @@ group_brings s (first ∷ second ∷ others) by opened last is brings =
     (are_bundle packets is.inner (omega arith) size) (are_inside packets is.inner (omega arith) size) brings
 
 -- a fragment
-pub cut_is_fragment : (piece : Piece) → IsCut piece → IsFragment (spelling (packet_of piece)) piece
+pub cut_is_fragment : (piece : Piece) → IsCut piece → IsFragment (spelling (fragment_fields piece)) piece
 cut_is_fragment piece is = record {
-  packet = packet_of piece;
+  packet = fragment_fields piece;
   fragment = record { fragment_type = piece.kind; broadcast_acknowledgement = 0; number = piece.number };
   fits = sent_fits piece 0 0 0 is.first is.number is.some is.most (omega arith) (omega arith) (omega arith);
   spelled = refl;
@@ -112,7 +112,7 @@ fragment_brings s bytes piece by opened last is (other inner bundled cut) = absu
 pub slot_brings : (slot : Slot) (s : Joining) (by : ℕ) (opened : List Opened) (last : Joining) → IsSlot slot → Brings s (slot_bytes slot) by opened last
     → BringsItems s (came_by by slot) opened last
 slot_brings (Group packets) s by opened last is brings = group_brings s packets by opened last is brings
-slot_brings (Fragment piece) s by opened last is brings = fragment_brings s (spelling (packet_of piece)) piece by opened last (cut_is_fragment piece is) brings
+slot_brings (Fragment piece) s by opened last is brings = fragment_brings s (spelling (fragment_fields piece)) piece by opened last (cut_is_fragment piece is) brings
 
 -- ---- packets that are taken one after the other
 

@@ -4,7 +4,7 @@ use Rattle.std.specs.List.{flat_map}
 use Rattle.tipc_types.specs.Prefixes.{IsPrefixOf}
 use Rattle.tipc_types.specs.declared.packet_lists.Taken.{Taken}
 use Rattle.tipc_header.specs.Spelling.{spelling}
-use Rattle.tipc_fragments.specs.Cutting.{packet_of, Piece}
+use Rattle.tipc_fragments.specs.Cutting.{fragment_fields, Piece}
 use Rattle.tipc_fragments.specs.Joining.{answer_of, fresh, Joining}
 use Rattle.tipc_fragments.specs.Laws.{arrived}
 use Rattle.tipc_fragments.specs.Streams.{CameItem, Item, item_after, item_after_all, item_answers, items_in, items_of, Part, Single}
@@ -21,7 +21,7 @@ pub data Slot : Type 0 where
 -- the packet as it waits to be sent
 abbrev pub slot_bytes : Slot → List ℕ
 slot_bytes (Group packets) = joined packets
-slot_bytes (Fragment piece) = spelling (packet_of piece)
+slot_bytes (Fragment piece) = spelling (fragment_fields piece)
 
 -- what is sent in it
 abbrev pub slot_items : Slot → List Item

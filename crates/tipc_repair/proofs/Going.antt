@@ -4,14 +4,14 @@ use Rattle.std.proofs.lemmas.List.{length-take}
 use Rattle.tipc_send_window.specs.Sending.{Sending, acked_of}
 use Rattle.tipc_send_window.specs.Sending as window
 use Rattle.tipc_link.specs.Records.{advanced_by, is_next}
-use Rattle.tipc_link.specs.Sessions.{SessionEnd, Carries, Nothing, Shows, advanced, flushed, highest, joins, noted, receiving_record, released, room, spoke, waits, with_record}
+use Rattle.tipc_link.specs.Sessions.{SessionEnd, Carries, Nothing, Shows, advanced, flushed, highest, joins, noted, receiving_record, after_acknowledgement, room, spoke, waits, with_record}
 use Rattle.tipc_repair.specs.Laws.{AnswersGoOn, FlushesGoOn, GoesOn, HearingsGoOn, PutsGoOn, RecordsGoOn, TellingsGoOn}
 
 stays : (e : SessionEnd) → GoesOn e e
 stays e = record { acked = omega arith; taken = omega arith; shown = omega arith }
 
 -- packets are released from the front
-releases : (e : SessionEnd) (acknowledgement : ℕ) → GoesOn e (released e acknowledgement)
+releases : (e : SessionEnd) (acknowledgement : ℕ) → GoesOn e (after_acknowledgement e acknowledgement)
 releases e acknowledgement =
     let fewer = length-drop (window.release_count e.sending acknowledgement) e.sending.unacked in
     record { acked = omega (arith, fewer); taken = omega arith; shown = omega arith }
@@ -31,7 +31,7 @@ shows_on e after (x ∷ xs) next probe h =
     record { acked = h.acked; taken = h.taken; shown = omega (arith, shown, more) }
 
 pub hearings : HearingsGoOn
-hearings e by acknowledgement (Shows next gap probe) = shows_on e (released e acknowledgement) _ next probe (releases e acknowledgement)
+hearings e by acknowledgement (Shows next gap probe) = shows_on e (after_acknowledgement e acknowledgement) _ next probe (releases e acknowledgement)
 hearings e by acknowledgement (Carries number packet) =
     let h = releases e acknowledgement in
     record { acked = h.acked; taken = omega arith; shown = omega arith }

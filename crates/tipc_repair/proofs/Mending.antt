@@ -17,7 +17,7 @@ use Rattle.tipc_recv_window.specs.Receiving.{Receiving, arrived_at, gap_of, past
 use Rattle.tipc_recv_window.proofs.ArrivalLaws.{place_at-wanted}
 use Rattle.tipc_recv_window.proofs.Comings.{due_in_order}
 use Rattle.tipc_link.specs.Records.{is_early_tunnel, is_tunnel, standing}
-use Rattle.tipc_link.specs.Sessions.{SessionEnd, Carries, ahead, brought, content_of, due_with, gap, highest, is_behind, missing, past, receiving, released, repeated, spoke, state_fields}
+use Rattle.tipc_link.specs.Sessions.{SessionEnd, Carries, ahead, brought, content_of, due_with, gap, highest, is_behind, missing, past, receiving, after_acknowledgement, repeated, spoke, state_fields}
 use Rattle.tipc_link.specs.Direction.{IsDirection, IsReceiver}
 use Rattle.tipc_link.proofs.Directions.{taken_recently}
 use Rattle.tipc_repair.specs.Laws.{GapsAreRepeated, GapsAreTold, RepeatsAreTaken, SendsTo, StatesRelease, StatesShow}
@@ -41,7 +41,7 @@ highest_is r numbered from near shown =
     let test : nat_le (numbered + 1 - (r.taken + 1)) 32767 ≡ true = grind (arith, nat_tests) in
     rw far (rw test (omega arith))
 
-highest_released : (r : SessionEnd) (acknowledgement number : ℕ) → highest (released r acknowledgement) number ≡ highest r number
+highest_released : (r : SessionEnd) (acknowledgement number : ℕ) → highest (after_acknowledgement r acknowledgement) number ≡ highest r number
 unfolding highest ahead
 highest_released r acknowledgement number = refl
 
@@ -51,7 +51,7 @@ states_show s r line broadcast probe by h =
     let d = h.direction in
     let recent = taken_recently s.sending r.taken line d in
     let all = d.taken_numbered in
-    spoke_highest (released r (number_of s.taken)) (repeated (released r (number_of s.taken)) (number_of s.taken) (gap s)) _
+    spoke_highest (after_acknowledgement r (number_of s.taken)) (repeated (after_acknowledgement r (number_of s.taken)) (number_of s.taken) (gap s)) _
     ∙ highest_released r (number_of s.taken) _ ∙ highest_is r s.sending.numbered all recent h.shown
 
 -- ---- a gap is told
@@ -124,7 +124,7 @@ acked_is s taken line h =
 pub states_release : StatesRelease
 unfolding content_of state_fields
 states_release s r line broadcast probe by h =
-    ap acked_of (spoke_sending (released s (number_of r.taken)) (repeated (released s (number_of r.taken)) (number_of r.taken) (gap r))) ∙ acked_is s.sending r.taken line h.direction
+    ap acked_of (spoke_sending (after_acknowledgement s (number_of r.taken)) (repeated (after_acknowledgement s (number_of r.taken)) (number_of r.taken) (gap r))) ∙ acked_is s.sending r.taken line h.direction
 
 -- ---- a gap is repeated
 
@@ -196,6 +196,6 @@ repeats_are_taken s r line by acknowledgement position packet h near = elim (cas
   | inl before ↦ let on = (hearings r by acknowledgement (Carries (number_of position) packet)).taken in omega (arith, before, on)
   | inr from ↦
       let same : number_of position ≡ number_of (r.taken + 1) = ap number_of (let is : position ≡ r.taken + 1 = omega arith in is) in
-      let one = taken_now (released r acknowledgement) (brought (number_of position) packet by) h.receiver.wants same in
+      let one = taken_now (after_acknowledgement r acknowledgement) (brought (number_of position) packet by) h.receiver.wants same in
       omega (arith, near, one)
 ]

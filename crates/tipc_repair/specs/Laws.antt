@@ -7,7 +7,7 @@ use Rattle.tipc_types.specs.declared.packet_lists.Taken.{Taken}
 use Rattle.tipc_header.specs.Spelling.{Fields}
 use Rattle.tipc_send_window.specs.Sending.{acked_of}
 use Rattle.tipc_link.specs.Records.{tunnelled}
-use Rattle.tipc_link.specs.Sessions.{SessionEnd, Content, Carries, IsPut, Shows, answered, content_of, flushed, gap, heard, receiving_record, released, repeated, state_fields, told, with_record}
+use Rattle.tipc_link.specs.Sessions.{SessionEnd, Content, Carries, IsPut, Shows, answered, content_of, flushed, gap, heard, receiving_record, after_acknowledgement, repeated, state_fields, after_state, with_record}
 use Rattle.tipc_link.specs.Direction.{IsDirection, IsReceiver}
 
 -- the packets of the sender s were numbered in this line, the receiver r holds some of them behind those that it took, and was shown no
@@ -23,7 +23,7 @@ hears e by p = heard e by p.acknowledgement (content_of p)
 
 -- the packets that an end sends again when it hears what a packet brings under this acknowledgement
 abbrev pub repeated_at : SessionEnd → ℕ → Content → List Kept
-repeated_at e acknowledgement (Shows next gap probe) = repeated (released e acknowledgement) acknowledgement gap
+repeated_at e acknowledgement (Shows next gap probe) = repeated (after_acknowledgement e acknowledgement) acknowledgement gap
 repeated_at e acknowledgement other = []
 
 -- ---- what an end does takes nothing back
@@ -48,7 +48,7 @@ PutsGoOn = (e after : SessionEnd) (pieces : List (List ℕ)) → IsPut e pieces 
 
 -- when it sends a STATE
 abbrev pub TellingsGoOn : Type 0
-TellingsGoOn = (e : SessionEnd) → GoesOn e (told e)
+TellingsGoOn = (e : SessionEnd) → GoesOn e (after_state e)
 
 -- or the STATE that is due
 abbrev pub AnswersGoOn : Type 0

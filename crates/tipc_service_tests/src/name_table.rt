@@ -293,9 +293,10 @@ fn answer_alike(
         }
         16..=31 => return find_alike(rt, alloc, list, index, draws),
         _ => {
-            let p = publication(rt, key, draws.bounds(), at);
-            let told = list.publish(p);
-            assert!(rt; index.publish(p) == told, "key {key}");
+            let bounds = draws.bounds();
+            let told = list.publish(publication(rt, key, bounds, at));
+            let again = index.publish(publication(rt, key, bounds, at));
+            assert!(rt; again == told, "key {key}");
         }
     }
     Ok(())

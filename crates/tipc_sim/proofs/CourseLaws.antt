@@ -1,14 +1,12 @@
 -- What becomes of an air by a course, and a link that is stopped.
-use Rattle.std.proofs.Common.{◌≡◌, ℕ, ◌≤◌, max, Bool, Option, Some, None, List, Ok, Err, length, ap, subst, sym, ◌∙◌, arith, inl, false}
+use Rattle.std.proofs.Common.{◌≡◌, ℕ, ◌≤◌, max, Bool, Option, Some, None, List, Ok, Err, length, ap, subst, sym, ◌∙◌, arith, false}
 use Rattle.tipc_types.specs.declared.node_calls.Answer.{Answer}
 use Rattle.tipc_world.specs.declared.events.WorldEvent.{WorldEvent}
 use Rattle.tipc_world.specs.declared.events.WorldFault.{WorldFault}
-use Rattle.tipc_world.specs.declared.events.WorldFault.TheVariants as fault
 use Rattle.tipc_world.specs.Courses.{Asks, Maybe, Takes}
 use Rattle.tipc_world.specs.Skies.{air_on}
 use Rattle.tipc_world.specs.States.{WorldState, is_mended_at}
-use Rattle.tipc_world.proofs.CourseLaws.{takes_early}
-use Rattle.tipc_sim.specs.Meanings.{know_asked, JoinsFrom, Links, Mends, MendsCut, MendsIf}
+use Rattle.tipc_sim.specs.Meanings.{JoinsFrom, Links, Mends, MendsCut, MendsIf}
 use Rattle.tipc_sim.proofs.WorldLaws.{answered_few}
 
 -- ---- the air
@@ -37,7 +35,3 @@ mends_cut_halts named node bearer start now stop mended is cut h = subst (λ b. 
 pub links_halt : (named : List (ℕ × ℕ)) (first second bearer place : ℕ) (start now : WorldState) (f : WorldFault) → place ≡ length (air_on bearer start.air)
     → JoinsFrom place named first second bearer start (Err f) now → Links named first second bearer start (Err f) now
 links_halt named first second bearer place start now stop is came = subst (λ k. JoinsFrom k named first second bearer start (Err stop) now) is came
-
--- memory ran out before the first event of a link
-pub links_early : (named : List (ℕ × ℕ)) (first second bearer : ℕ) (start : WorldState) → Links named first second bearer start (Err fault.NoMemory) start
-links_early named first second bearer start = inl (inl (takes_early (know_asked named first bearer) second start))

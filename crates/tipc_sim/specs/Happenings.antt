@@ -33,7 +33,7 @@ use Rattle.tipc_world.specs.Steps.{IsJoined}
 use Rattle.tipc_world.specs.declared.places.Places.{Places}
 use Rattle.tipc_world.specs.Courses.{Course, IsEarly, Once}
 use Rattle.tipc_world.specs.Ends.{ends_of, place_on}
-use Rattle.tipc_sim.specs.Meanings.{Mends, Links as LinksUp, Pumps, Settles}
+use Rattle.tipc_sim.specs.Meanings.{Mends, Links as LinksUp, Pumps, SettlesLine}
 use Rattle.tipc_sim.specs.Messages.{low_message, Bursts, ReceivesAll, SendsAgain}
 use Rattle.tipc_sim.specs.Nodes.{makes}
 use Rattle.tipc_sim.specs.Noted.{NotesState, marked, naming, pumped, pumped_to, with_named}
@@ -99,13 +99,13 @@ abbrev pub Outcome : Type 0
 Outcome = Told × NotesState
 
 -- what is told is the answer of a course
-abbrev pub IsTold : Course Answer → Told → WorldState → WorldState → Type 0
-IsTold comes (told.Answer answer) start now = comes start (Ok answer) now
-IsTold comes other start now = ⊥
+abbrev pub IsAnswerOf : Course Answer → Told → WorldState → WorldState → Type 0
+IsAnswerOf comes (told.Answer answer) start now = comes start (Ok answer) now
+IsAnswerOf comes other start now = ⊥
 
 -- a course's answer is told, and this is noted
 abbrev pub Answered : Course Answer → NotesState → Course Outcome
-Answered comes noted start (Ok given) now = IsTold comes given.0 start now × (given.1 ≡ noted)
+Answered comes noted start (Ok given) now = IsAnswerOf comes given.0 start now × (given.1 ≡ noted)
 Answered comes noted start (Err stop) now = comes start (Err stop) now
 
 -- what is told is how many messages were sent, and the last answer
@@ -167,7 +167,7 @@ Composed (Link first second bearer) notes start came now =
     Answered (LinksUp (naming notes.named first second) first second bearer) (with_named notes (naming notes.named first second)) start came now
 Composed Mark notes start came now = Stays (told.Answer answer.Done) (marked notes (ends_of now.air)) start came now
 Composed (Pump bearer) notes start came now = Answered (Pumps bearer (place_on bearer notes.places)) (pumped notes bearer (length (air_on bearer now.air))) start came now
-Composed (Settle rounds) notes start came now = Answered (Settles rounds) notes start came now
+Composed (Settle rounds) notes start came now = Answered (SettlesLine rounds) notes start came now
 Composed other notes start came now = Conversed other notes start came now
 
 -- what becomes of a world by a line that is this event, or by one that is no event or several

@@ -7,7 +7,7 @@ use Rattle.tipc_world.specs.declared.events.WorldEvent.TheVariants as event
 use Rattle.tipc_world.specs.declared.settling.Settled.{Settled}
 use Rattle.tipc_world.specs.declared.settling.Settled.TheVariants as settled
 use Rattle.tipc_world.specs.Skies.{air_on}
-use Rattle.tipc_world.specs.States.{MemberState, is_mended_at, is_there, is_up_at, knows}
+use Rattle.tipc_world.specs.States.{MemberState, is_mended_at, is_there, is_link_up_at, knows}
 use Rattle.tipc_world.specs.declared.settling.Receivers.TheVariants.{Any, Both}
 use Rattle.tipc_world.specs.Courses.{Course, Asks, Once, Takes, TakesAll, Drains, Then}
 use Rattle.tipc_world.specs.Settling.{arrival_asked, Settles as SettlesWorld}
@@ -47,7 +47,7 @@ Joins named first second bearer =
 -- both link ends on a bearer are up, or one isn't
 abbrev pub link_answer : List (Option MemberState) → ℕ → ℕ → ℕ → Answer
 link_answer members first second bearer =
-    if is_up_at members first second bearer && is_up_at members second first bearer then Up else Down
+    if is_link_up_at members first second bearer && is_link_up_at members second first bearer then Up else Down
 
 -- two nodes are joined on a bearer, and then the frames of its air from a place on arrive that are for one of the two
 abbrev pub JoinsFrom : ℕ → List (ℕ × ℕ) → ℕ → ℕ → ℕ → Course ℕ
@@ -77,6 +77,6 @@ settled_answer settled.Quiet = Quiet
 settled_answer (settled.Unsettled unacked waiting) = Unsettled unacked waiting
 
 -- so many rounds are made, and it is told whether packets are under way then
-abbrev pub Settles : ℕ → Course Answer
-Settles rounds start (Ok answer) now = (settled : Settled) × SettlesWorld rounds start (Ok settled) now × (answer ≡ settled_answer settled)
-Settles rounds start (Err stop) now = SettlesWorld rounds start (Err stop) now
+abbrev pub SettlesLine : ℕ → Course Answer
+SettlesLine rounds start (Ok answer) now = (settled : Settled) × SettlesWorld rounds start (Ok settled) now × (answer ≡ settled_answer settled)
+SettlesLine rounds start (Err stop) now = SettlesWorld rounds start (Err stop) now

@@ -29,7 +29,7 @@ naming named a b = if (a == b) || is_named named a b then named else named ++ (a
 
 -- the notes with these pairs in place of those that were named
 abbrev pub with_named : NotesState → List (ℕ × ℕ) → NotesState
-with_named s named = record { bases = s.bases; places = s.places; named = named }
+with_named s named = record s { named = named }
 
 -- frames are counted, and pumped, from these places on
 abbrev pub marked : NotesState → Places → NotesState
@@ -37,7 +37,7 @@ marked s ends = record { bases = ends; places = ends; named = s.named }
 
 -- the frames before these places were pumped
 abbrev pub pumped_to : NotesState → Places → NotesState
-pumped_to s places = record { bases = s.bases; places = places; named = s.named }
+pumped_to s places = record s { places = places }
 
 -- the frames of a bearer before this place were pumped
 abbrev pub pumped : NotesState → ℕ → ℕ → NotesState

@@ -4,7 +4,7 @@ ghost use Rattle.std.specs.Prelude.{◌≡◌, ◌≤◌};
 ghost use Rattle.tipc_world.specs.Calls.{CanHappen};
 ghost use Rattle.tipc_world.specs.Courses.{Continues, Drains, Once};
 ghost use Rattle.tipc_world.specs.Settling.{arrival_asked};
-ghost use Rattle.tipc_sim.specs.Meanings.{settled_answer, Pumps, Settles};
+ghost use Rattle.tipc_sim.specs.Meanings.{settled_answer, Pumps, SettlesLine};
 
 use std::alloc::Global;
 use tipc_pick::Pick;
@@ -79,7 +79,7 @@ pub fn settle<P: Pick>(
     rounds: u32,
     world: &mut World<P>,
 ) -> Result<Answer, WorldFault>
-    ensures comes { Settles rounds world.old.state result world.new.state }
+    ensures comes { SettlesLine rounds world.old.state result world.new.state }
     ensures continues { Continues P.gives world.old world.new }
 {
     let settled = world.settle(alloc, rounds)?;

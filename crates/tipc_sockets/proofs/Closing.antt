@@ -10,7 +10,7 @@ use Rattle.std.proofs.lemmas.List.Sums.{fold-append}
 use Rattle.std.proofs.lemmas.Map.Views.{any-filter_same}
 use Rattle.tipc_types.specs.declared.services.Publication.{Publication}
 use Rattle.tipc_types.specs.Watching.{is_same_name}
-use Rattle.tipc_name_table.specs.Tables.{is_named, is_of, without, IsTable}
+use Rattle.tipc_types.specs.Tables.{is_named, is_of, without, IsTable}
 use Rattle.tipc_topology.specs.Changing.{with_kept, with_loss, Watchers}
 use Rattle.tipc_topology.specs.Transitions.{left_by, AreRemovable}
 use Rattle.tipc_topology.specs.Watchers.{removed, Watcher}

@@ -10,8 +10,8 @@ use Rattle.tipc_types.specs.declared.message_forms.Message.{Message}
 use Rattle.tipc_types.specs.declared.services.Publication.{Publication}
 use Rattle.tipc_types.specs.declared.node_calls.Subscription.{Subscription}
 use Rattle.tipc_types.specs.Watching.{in_order, is_same_name, is_watched}
-use Rattle.tipc_name_table.specs.Tables.{is_named, is_of, without, without_node}
-use Rattle.tipc_name_table.proofs.Places.{count_by-kept}
+use Rattle.tipc_types.specs.Tables.{is_named, is_of, without, without_node}
+use Rattle.tipc_types.proofs.Places.{count_by-kept}
 use Rattle.tipc_journal.specs.declared.entries.Entry.{Entry}
 use Rattle.tipc_journal.specs.declared.entries.Entry.TheVariants.{Published, Withdrawn, Learned, Forgot, ContactDown, Subscribed, Cancelled, TimedOut, Step}
 use Rattle.tipc_journal.specs.Dues.{Due, due_behind}
@@ -29,13 +29,13 @@ use Rattle.tipc_journal.proofs.QueueLaws.{queue_nil, sockets_nil, IsFed_nil}
 use Rattle.tipc_journal.proofs.SubscriptionLaws.{transitions_nil}
 use Rattle.tipc_topology.specs.declared.changes.TableChange.TheVariants.{Added, Removed, Purged}
 use Rattle.tipc_topology.specs.Changing.{changed, subscribed, with_loss, with_room_for, Watchers}
-use Rattle.tipc_topology.specs.Entries.{change_of}
+use Rattle.tipc_sockets.specs.Entries.{change_of}
 use Rattle.tipc_topology.specs.Transitions.{left_by, AreRemovable}
 use Rattle.tipc_topology.specs.Watchers.{added, removed}
 use Rattle.tipc_topology.proofs.Keeping.{changed_kept, loss_kept, none_kept}
 use Rattle.tipc_topology.proofs.Counts.{count_parted}
 use Rattle.tipc_topology.proofs.Following.{count_in_order}
-use Rattle.tipc_topology.proofs.Placing.{in_order_arranged}
+use Rattle.tipc_sockets.proofs.Placing.{in_order_arranged}
 use Rattle.tipc_topology.proofs.Removable.{counted_without, found_only, part_removable, AreNamed}
 use Rattle.tipc_topology.proofs.Removing.{counted_left}
 use Rattle.tipc_sockets.specs.SocketTables.{has_port, no_sockets, with_publications, AreSockets, SocketTable}

@@ -25,18 +25,17 @@ use Rattle.tipc_types.specs.declared.services.Publication.{Publication}
 use Rattle.tipc_journal.specs.declared.entries.Entry.{Entry}
 use Rattle.tipc_journal.specs.declared.entries.Entry.TheVariants as entry
 use Rattle.tipc_journal.specs.Contacts.{contact}
-use Rattle.tipc_journal.specs.Dues.{Due, FateDue, due_behind}
-use Rattle.tipc_journal.specs.Dues.{returned_message}
-use Rattle.tipc_journal.specs.Fates.{counts_for, has_room as room_at, inbox_size, is_aimed_at, is_named_by, no_name, no_port, overload, return_limit, scene_at, why_not_direct, why_not_named, AreReached, IsFate, IsSettled, IsUnqueued, Scene}
+use Rattle.tipc_journal.specs.Dues.{Due, FateDue, due_behind, returned_message}
+use Rattle.tipc_journal.specs.Fates.{counts_for, port_has_room as room_at, inbox_size, is_aimed_at, is_named_by, no_name, no_port, overload, return_limit, scene_at, why_not_direct, why_not_named, AreReached, IsFate, IsSettled, IsUnqueued, Scene}
 use Rattle.tipc_journal.specs.Names.{is_clusterwide}
 use Rattle.tipc_journal.specs.Queues.{queued_by, queue_inside, sockets}
 use Rattle.tipc_journal.proofs.DueLaws.{queue_inside_more}
 use Rattle.tipc_journal.proofs.Insides.{live_inside, names_inside}
 use Rattle.tipc_ports.specs.Numbers.{port_number}
-use Rattle.tipc_name_table.specs.Matching.{covers, overlaps}
+use Rattle.tipc_types.specs.Matching.{covers, overlaps}
 use Rattle.tipc_sockets.specs.declared.fates.Fate.{Fate}
 use Rattle.tipc_sockets.specs.declared.fates.Fate.TheVariants.{Queued, Returned, ReturnDropped, Dropped}
-use Rattle.tipc_sockets.specs.Fates.{after_fate, aimed_at, fate, has_room, hearers, is_by_name, is_offered, one_port_fate, refusal, return_fate, room_refusal, unqueued_fate}
+use Rattle.tipc_sockets.specs.Fates.{after_fate, aimed_at, fate, may_wait, hearers, is_by_name, is_offered, one_port_fate, refusal, return_fate, room_refusal, unqueued_fate}
 use Rattle.tipc_sockets.specs.Publishing.{is_at}
 use Rattle.tipc_sockets.specs.SocketTables.{has_port, queue_at, queued, queued_at_each, with_queues, AreSockets, SocketTable}
 use Rattle.tipc_sockets.specs.Telling.{fate_entry, is_for_one_there, is_payload, origin_of, AreTold}
@@ -60,13 +59,9 @@ lookup_here port (q ∷ qs) waiting = by (nat_eq port q.0) refl (lookup_here por
 abbrev pub coming : Message → List ℕ → ℕ → List Message
 coming m ports port = if list_any (λ q. q == port) ports then m ∷ [] else []
 
-appended : (found : Option (List Message)) (m : Message) → option_map (λ _. unwrap_or found [] ++ m ∷ []) found ≡ option_map (λ (ms : List Message). ms ++ m ∷ []) found
+pub appended : (found : Option (List Message)) (m : Message) → option_map (λ _. unwrap_or found [] ++ m ∷ []) found ≡ option_map (λ (ms : List Message). ms ++ m ∷ []) found
 appended None m = refl
 appended (Some ms) m = refl
-
-twice : (found : Option (List Message)) (ms ns : List Message) → option_map (λ (xs : List Message). xs ++ ns) (option_map (λ (xs : List Message). xs ++ ms) found) ≡ option_map (λ (xs : List Message). (xs ++ ms) ++ ns) found
-twice None ms ns = refl
-twice (Some xs) ms ns = refl
 
 none_more : (found : Option (List Message)) → option_map (λ (xs : List Message). xs ++ []) found ≡ found
 none_more None = refl
@@ -210,7 +205,7 @@ module _ (own : Addr) (J : List Entry) (d : Due) (front : List Entry) (s : Socke
   -- ---- multicast
 
   abbrev pub hears : Bool → Span → ℕ → Bool
-  hears arrived range port = list_any (is_at port) (aimed_at s.live arrived range) && has_room (queue_at s port)
+  hears arrived range port = list_any (is_at port) (aimed_at s.live arrived range) && may_wait (queue_at s port)
 
   heard : (arrived : Bool) (range : Span) (port : ℕ) → list_any (is_at port) (aimed_at s.live arrived range) ≡ is_aimed_at scene arrived range port
   heard arrived range port = list_any_filtered (is_at port) (λ p. overlaps range p && counts_for arrived p) s.live ∙ ap (λ (ps : List Publication). list_any (λ p. is_at port p && (overlaps range p && counts_for arrived p)) ps) h.live
@@ -224,7 +219,7 @@ module _ (own : Addr) (J : List Entry) (d : Due) (front : List Entry) (s : Socke
       aimed : ℕ → Bool
       aimed n = list_any (is_at n) (aimed_at s.live arrived range)
 
-      by : (found : Option (List Message)) → queue_at s port ≡ found → (aimed port && has_room found) && is_some found ≡ (is_aimed_at scene arrived range port && room_at scene port)
+      by : (found : Option (List Message)) → queue_at s port ≡ found → (aimed port && may_wait found) && is_some found ≡ (is_aimed_at scene arrived range port && room_at scene port)
       by None e =
           and_false (aimed port && false)
           ∙ sym (ap (λ (b : Bool). b && room_at scene port) (sym (heard arrived range port) ∙ list_any_filtered (is_at port) (λ p. overlaps range p && counts_for arrived p) s.live ∙ none_at port (λ p. overlaps range p && counts_for arrived p) s.live h.placed (ap is_some e)))

@@ -13,8 +13,8 @@ use Rattle.indexmap.specs.IndexSet.{remove_key}
 use Rattle.indexmap.proofs.CallerLemmas.{keys-shift_remove_entry}
 use Rattle.tipc_types.specs.declared.message_forms.Message.{Message}
 use Rattle.tipc_types.specs.declared.services.Publication.{Publication}
-use Rattle.tipc_name_table.specs.Tables.{is_named, is_of, put, without, IsTable}
-use Rattle.tipc_name_table.proofs.Places.{count_by-put, filter-put}
+use Rattle.tipc_types.specs.Tables.{is_named, is_of, put, without, IsTable}
+use Rattle.tipc_types.proofs.Places.{count_by-put, filter-put}
 use Rattle.tipc_name_table.proofs.TableLaws.{table_kept}
 use Rattle.tipc_ports.specs.Numbers.{port_number}
 use Rattle.tipc_ports.proofs.PortLaws.{found_there, port_removed, present_new, present_without}

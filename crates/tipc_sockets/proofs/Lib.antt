@@ -4,7 +4,11 @@ pub mod Counting
 pub mod Entries
 pub mod FatesTold
 pub mod Keeping
+pub mod Learning
+pub mod LearntNames
+pub mod Placing
 pub mod StepsTold
 pub mod Subscribers
+pub mod ToldNames
 pub mod Waiting
 pub mod Watched

@@ -14,7 +14,7 @@ use Rattle.tipc_types.specs.declared.message_forms.Message.{Message}
 use Rattle.tipc_types.specs.declared.node_calls.Event.{Event}
 use Rattle.tipc_types.specs.declared.node_calls.EventNote.TheVariants.{Tick}
 use Rattle.tipc_types.specs.declared.services.Publication.{Publication}
-use Rattle.tipc_name_table.specs.Tables.{is_of}
+use Rattle.tipc_types.specs.Tables.{is_of}
 use Rattle.tipc_journal.specs.declared.entries.Entry.{Entry}
 use Rattle.tipc_journal.specs.declared.entries.Entry.TheVariants.{Answered}
 use Rattle.tipc_journal.specs.Dues.{Due, first_due}
@@ -30,9 +30,9 @@ use Rattle.tipc_journal.proofs.DueLaws.{queue_inside_nil}
 use Rattle.tipc_journal.proofs.QueueLaws.{queue_step, sockets_step, IsFed_step}
 use Rattle.tipc_journal.proofs.WholeSteps.{live_step, names_step}
 use Rattle.tipc_ports.specs.Numbers.{port_number}
-use Rattle.tipc_topology.specs.Changing.{due, events_left, of_number, passed, taken_from as taken_one, with_kept, with_loss, Watchers}
+use Rattle.tipc_topology.specs.Changing.{due, events_left, of_number, passed, with_event_taken as taken_one, with_kept, with_loss, Watchers}
 use Rattle.tipc_sockets.specs.Publishing.{closed, is_at}
-use Rattle.tipc_sockets.specs.SocketTables.{has_port, queue_at, taken_from, with_queues, with_socket, with_watchers, AreSockets, SocketTable}
+use Rattle.tipc_sockets.specs.SocketTables.{has_port, queue_at, with_first_taken, with_queues, with_socket, with_watchers, AreSockets, SocketTable}
 use Rattle.tipc_sockets.specs.Telling.{is_tick, AreTold}
 use Rattle.tipc_sockets.specs.Watched.{AreWatchersTold}
 use Rattle.tipc_sockets.proofs.Closing.{eq_turned, no_loss, or_parts}
@@ -244,8 +244,8 @@ module _ (own : Addr) (J : List Entry) (st : NodeStep) (s : SocketTable) (later 
   -- the first message of a port is taken
   pub told_taken : (port : ℕ) → 0 < length (unwrap_or (queue_at s port) [])
       → ((ports : List ℕ) → sockets_after ports st.event st.answer ≡ ports) → made_by st.event st.answer ≡ None → ((other : ℕ) → is_taking other st.event st.answer ≡ nat_eq port other)
-      → is_tick st.event ≡ false → ((n : ℕ) → event_given n st.event st.answer ≡ None) → AreTold own (J ++ step_entries st) later [] (with_queues s (taken_from s.queues port))
-  told_taken port some stay none takes still nothing = told_step (with_queues s (taken_from s.queues port)) (record {
+      → is_tick st.event ≡ false → ((n : ℕ) → event_given n st.event st.answer ≡ None) → AreTold own (J ++ step_entries st) later [] (with_queues s (with_first_taken s.queues port))
+  told_taken port some stay none takes still nothing = told_step (with_queues s (with_first_taken s.queues port)) (record {
     node = refl;
     live = refl;
     names = refl;
@@ -261,8 +261,8 @@ module _ (own : Addr) (J : List Entry) (st : NodeStep) (s : SocketTable) (later 
       rest : List Message
       rest = drop 1 (unwrap_or (lookup (nat_eq port) s.queues) [])
 
-      port_stays : (other : ℕ) → has_port (with_queues s (taken_from s.queues port)) other ≡ has_port s other
-      port_stays other = queue_there other (taken_from s.queues port) ∙ ap (λ (ks : List ℕ). list_any (nat_eq other) ks) (keys-set_value (nat_eq port) s.queues rest) ∙ sym (queue_there other s.queues)
+      port_stays : (other : ℕ) → has_port (with_queues s (with_first_taken s.queues port)) other ≡ has_port s other
+      port_stays other = queue_there other (with_first_taken s.queues port) ∙ ap (λ (ks : List ℕ). list_any (nat_eq other) ks) (keys-set_value (nat_eq port) s.queues rest) ∙ sym (queue_there other s.queues)
 
       inside : ℕ → List Message
       inside other = queue_inside own J (first_due own st.event st.answer) st.inside other

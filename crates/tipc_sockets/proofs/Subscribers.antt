@@ -22,11 +22,11 @@ use Rattle.tipc_journal.specs.Subscriptions.{is_due_at, subscriptions, subscript
 use Rattle.tipc_journal.proofs.CountLaws.{events_given_step, subscriptions_made_step}
 use Rattle.tipc_journal.proofs.SubscriptionLaws.{subscriptions_step, transitions_step, watching_step}
 use Rattle.tipc_journal.proofs.WholeSteps.{table_step}
-use Rattle.tipc_topology.specs.Changing.{due, events_left, has_number, of_number, passed, taken_from, with_kept, Watchers}
+use Rattle.tipc_topology.specs.Changing.{due, events_left, has_number, of_number, passed, with_event_taken, with_kept, Watchers}
 use Rattle.tipc_topology.specs.Transitions.{Knows}
 use Rattle.tipc_topology.specs.Watchers.{is_due, one_less, without_first, Watcher}
 use Rattle.tipc_topology.proofs.Keeping.{passed_kept, rising_from, taken_kept, AreRising}
-use Rattle.tipc_topology.proofs.Entries.{next_taken}
+use Rattle.tipc_topology.proofs.Taken.{next_taken}
 use Rattle.tipc_sockets.specs.Telling.{is_of_subscriptions, is_tick}
 use Rattle.tipc_sockets.specs.Watched.{asked_of, AreWatchersTold, IsLeft, IsWatcherTold}
 use Rattle.tipc_sockets.proofs.Closing.{eq_turned}
@@ -137,12 +137,12 @@ told_quiet J st t whole inner quiet none h =
 abbrev pub gave_first : ℕ → Event → ℕ → Option Event
 gave_first number e n = if number == n then Some e else None
 
-taken_numbers : (number : ℕ) (ws : List Watcher) → map (λ (w : Watcher). w.number) (taken_from number ws) ≡ map (λ (w : Watcher). w.number) ws
+taken_numbers : (number : ℕ) (ws : List Watcher) → map (λ (w : Watcher). w.number) (with_event_taken number ws) ≡ map (λ (w : Watcher). w.number) ws
 taken_numbers number [] = refl
 taken_numbers number (w ∷ ws) = by (has_number number w) (taken_numbers number ws)
   where
-    by : (b : Bool) → map (λ (v : Watcher). v.number) (taken_from number ws) ≡ map (λ (v : Watcher). v.number) ws
-        → map (λ (v : Watcher). v.number) (if b then without_first w ∷ ws else w ∷ taken_from number ws) ≡ w.number ∷ map (λ (v : Watcher). v.number) ws
+    by : (b : Bool) → map (λ (v : Watcher). v.number) (with_event_taken number ws) ≡ map (λ (v : Watcher). v.number) ws
+        → map (λ (v : Watcher). v.number) (if b then without_first w ∷ ws else w ∷ with_event_taken number ws) ≡ w.number ∷ map (λ (v : Watcher). v.number) ws
     by true later = refl
     by false later = ap (λ (ns : List ℕ). w.number ∷ ns) later
 
@@ -176,13 +176,13 @@ module _ (entries : List Entry) (given gave : ℕ → List Event) (number : ℕ)
         left = h.left;
       })
 
-  each_told : (ws : List Watcher) → AreRising ws → slice_get (events_left (find (has_number number) ws)) 0 ≡ Some e → AllByRecursion Told ws → AllByRecursion Gave (taken_from number ws)
+  each_told : (ws : List Watcher) → AreRising ws → slice_get (events_left (find (has_number number) ws)) 0 ≡ Some e → AllByRecursion Told ws → AllByRecursion Gave (with_event_taken number ws)
   each_told [] rising first h = tt
   each_told (w ∷ ws) rising first h = by (has_number number w) refl first (each_told ws rising.1)
     where
       by : (b : Bool) → has_number number w ≡ b → slice_get (events_left (cond b (Some w) (find (has_number number) ws))) 0 ≡ Some e
-          → (slice_get (events_left (find (has_number number) ws)) 0 ≡ Some e → AllByRecursion Told ws → AllByRecursion Gave (taken_from number ws))
-          → AllByRecursion Gave (if b then without_first w ∷ ws else w ∷ taken_from number ws)
+          → (slice_get (events_left (find (has_number number) ws)) 0 ≡ Some e → AllByRecursion Told ws → AllByRecursion Gave (with_event_taken number ws))
+          → AllByRecursion Gave (if b then without_first w ∷ ws else w ∷ with_event_taken number ws)
       by true is first later = (
         first_told w (eq_turned number w.number ∙ is) first h.0,
         all_both (λ (v : Watcher). w.number < v.number) Told Gave ws
@@ -201,7 +201,7 @@ module _ (entries : List Entry) (given gave : ℕ → List Event) (number : ℕ)
       by false is first later = later first
 
   pub told_given : (t : Watchers) → slice_get (events_left (of_number t number)) 0 ≡ Some e → AreWatchersTold entries given t
-      → AreWatchersTold entries gave (with_kept t (taken_from number t.kept))
+      → AreWatchersTold entries gave (with_kept t (with_event_taken number t.kept))
   told_given t first h = record {
     kept = taken_kept number t h.kept;
     made = h.made;
@@ -217,14 +217,14 @@ module _ (entries : List Entry) (given gave : ℕ → List Event) (number : ℕ)
 pub told_next : (J : List Entry) (st : NodeStep) (t : Watchers) (number : ℕ) (e : Event) → IsWhole J → IsInside st.inside → is_tick st.event ≡ false
     → ((n : ℕ) → event_given n st.event st.answer ≡ gave_first number e n) → slice_get (events_left (of_number t number)) 0 ≡ Some e
     → AreWatchersTold (J ++ st.inside) (events_given J) t
-    → AreWatchersTold (J ++ step_entries st) (events_given (J ++ step_entries st)) (with_kept t (taken_from number t.kept))
+    → AreWatchersTold (J ++ step_entries st) (events_given (J ++ step_entries st)) (with_kept t (with_event_taken number t.kept))
 told_next J st t number e whole inner quiet gives first h =
     told_given (J ++ step_entries st) (events_given J) (events_given (J ++ step_entries st)) number e
     (λ n. events_given_step J st n whole inner ∙ ap (λ (o : Option Event). list_with (events_given J n) o) (gives n)) t first
     (told_alike (J ++ st.inside) (J ++ step_entries st) (events_given J) (events_given J) t (step_alike J st quiet) (λ n. refl) h)
 
 -- where none is left, nothing is taken
-pub none_taken : (number : ℕ) (ws : List Watcher) → slice_get (events_left (find (has_number number) ws)) 0 ≡ None → taken_from number ws ≡ ws
+pub none_taken : (number : ℕ) (ws : List Watcher) → slice_get (events_left (find (has_number number) ws)) 0 ≡ None → with_event_taken number ws ≡ ws
 none_taken number [] none = refl
 none_taken number (w ∷ ws) none = by (has_number number w) none (none_taken number ws)
   where
@@ -233,7 +233,7 @@ none_taken number (w ∷ ws) none = by (has_number number w) none (none_taken nu
     empty (x ∷ es) e = absurd cc
 
     by : (b : Bool) → slice_get (events_left (cond b (Some w) (find (has_number number) ws))) 0 ≡ None
-        → (slice_get (events_left (find (has_number number) ws)) 0 ≡ None → taken_from number ws ≡ ws) → (if b then without_first w ∷ ws else w ∷ taken_from number ws) ≡ w ∷ ws
+        → (slice_get (events_left (find (has_number number) ws)) 0 ≡ None → with_event_taken number ws ≡ ws) → (if b then without_first w ∷ ws else w ∷ with_event_taken number ws) ≡ w ∷ ws
     by true none later = ap (λ (es : List Event). record { number = w.number; asked = w.asked; left = w.left; ended = w.ended; counts = w.counts; known = w.known; events = es; room = w.room } ∷ ws) (sym (empty w.events none))
     by false none later = ap (λ (vs : List Watcher). w ∷ vs) (later none)
 

@@ -8,9 +8,9 @@ use Rattle.tipc_types.specs.declared.message_forms.Message.{Message}
 use Rattle.tipc_types.specs.declared.message_forms.Message.TheVariants.{Payload, Items}
 use Rattle.tipc_journal.specs.Fates.{inbox_size, no_name}
 use Rattle.tipc_sockets.specs.declared.fates.Fate.TheVariants.{Queued}
-use Rattle.tipc_sockets.specs.Fates.{fate, has_places, has_room, is_offered, one_port_fate, port_of, refusal, room_refusal, surely_waits, with_waiting}
+use Rattle.tipc_sockets.specs.Fates.{fate, has_places, is_offered, one_port_fate, port_of, refusal, room_refusal, surely_waits, with_waiting}
 use Rattle.tipc_sockets.specs.SocketTables.{queue_at, queued, SocketTable}
-use Rattle.tipc_sockets.proofs.FatesTold.{lookup_here}
+use Rattle.tipc_sockets.proofs.FatesTold.{lookup_here, appended}
 use Rattle.tipc_sockets.proofs.Keeping.{lookup_elsewhere}
 
 -- ---- places
@@ -19,14 +19,6 @@ use Rattle.tipc_sockets.proofs.Keeping.{lookup_elsewhere}
 room_in : (count : ℕ) (found : Option (List Message)) → 1 ≤ count → has_places count found ≡ true → room_refusal found ≡ None
 room_in count None some h = absurd cc
 room_in count (Some waiting) some h = grind (arith, nat_tests)
-
-pub room_there : (found : Option (List Message)) → has_places 1 found ≡ true → has_room found ≡ true
-room_there None h = h
-room_there (Some waiting) h = grind (arith, nat_tests)
-
-appended : (found : Option (List Message)) (m : Message) → option_map (λ _. unwrap_or found [] ++ m ∷ []) found ≡ option_map (λ (ms : List Message). ms ++ m ∷ []) found
-appended None m = refl
-appended (Some ms) m = refl
 
 behind_one : (count : ℕ) (found : Option (List Message)) (m : Message) → has_places (count + 1) found ≡ true → has_places count (option_map (λ (ms : List Message). ms ++ m ∷ []) found) ≡ true
 behind_one count None m h = h

@@ -9,25 +9,25 @@ use Rattle.tipc_types.specs.declared.node_calls.Event.{Event}
 use Rattle.tipc_types.specs.declared.node_calls.Subscription.{Subscription}
 use Rattle.tipc_types.specs.declared.services.Publication.{Publication}
 use Rattle.tipc_types.specs.Watching.{additions, in_order, is_same_range, is_watched, timeout_of}
-use Rattle.tipc_name_table.specs.Tables.{put}
-use Rattle.tipc_name_table.proofs.Places.{count_by-put}
+use Rattle.tipc_types.specs.Tables.{put}
+use Rattle.tipc_types.proofs.Places.{count_by-put}
 use Rattle.tipc_journal.specs.declared.entries.Entry.{Entry}
 use Rattle.tipc_journal.specs.declared.entries.Entry.TheVariants as entry
+use Rattle.tipc_journal.specs.declared.entries.Entry.TheVariants.{Published, Withdrawn, Learned, Forgot, ContactDown}
 use Rattle.tipc_journal.specs.Matches.{arranged}
 use Rattle.tipc_journal.specs.Names.{live, learned, live_after, learned_after, table}
 use Rattle.tipc_journal.specs.Refusals.{is_subscribed, subscriptions_made}
-use Rattle.tipc_journal.specs.Subscriptions.{change_events as entry_events, events_at, subscriptions, subscriptions_after, ticks_after, ticks_since, timeout_events, told as told_at, transitions, watching, watching_after}
+use Rattle.tipc_journal.specs.Subscriptions.{change_events as entry_events, events_at, subscriptions, subscriptions_after, ticks_after, ticks_since, timeout_events, told_by_entry as told_at, transitions, watching, watching_after}
 use Rattle.tipc_journal.proofs.CountLaws.{subscriptions_made_more}
 use Rattle.tipc_journal.proofs.NameLaws.{learned_more, live_more}
 use Rattle.tipc_journal.proofs.SubscriptionLaws.{subscriptions_more, ticks_since_more, transitions_more, watching_more}
 use Rattle.tipc_topology.specs.declared.changes.TableChange.{TableChange}
 use Rattle.tipc_topology.specs.declared.changes.TableChange.TheVariants.{Added, Removed, Purged}
-use Rattle.tipc_topology.specs.Changing.{as_told, cancelled, ended_at, has_number, subscribed, told, with_room_for, without, AreKept, Watchers}
-use Rattle.tipc_topology.specs.Entries.{change_of, events_where}
-use Rattle.tipc_topology.specs.Transitions.{change_events, there_after, IsPossible, Knows}
+use Rattle.tipc_topology.specs.Changing.{as_told, cancelled, ended_at, has_number, subscribed, after_change, with_room_for, without_number, AreKept, Watchers}
+use Rattle.tipc_sockets.specs.Entries.{change_of, events_where}
+use Rattle.tipc_topology.specs.Transitions.{table_events, there_after, IsPossible, Knows}
 use Rattle.tipc_topology.specs.Watchers.{began, blank, ended_now, with_room, Watcher}
 use Rattle.tipc_topology.proofs.Keeping.{added_ended, added_leaves, all_added_leave, all_removed_ended, all_removed_leave, cancelled_kept, ended_kept, rising_from, room_kept, subscribed_kept, AreRising, Leaves}
-use Rattle.tipc_topology.proofs.Entries.{entry_change}
 use Rattle.tipc_topology.proofs.Following.{began_told, change_told}
 use Rattle.tipc_topology.proofs.Kept.{began_takes, kept_as}
 use Rattle.tipc_topology.proofs.Telling.{Tells}
@@ -35,6 +35,17 @@ use Rattle.tipc_sockets.specs.Watched.{asked_of, AreWatchersTold, IsLeft, IsWatc
 use Rattle.tipc_sockets.proofs.Closing.{eq_turned}
 use Rattle.tipc_sockets.proofs.Counting.{counted}
 use Rattle.tipc_sockets.proofs.Keeping.{eq_itself}
+
+-- ---- entries
+
+-- an entry that tells of a change has its events, and another has none
+pub entry_change : (s : Subscription) (there : List Publication) (e : Entry) → entry_events s there e ≡ events_where s there (change_of there e)
+entry_change s there (Published p) = refl
+entry_change s there (Learned p) = refl
+entry_change s there (Withdrawn p) = refl
+entry_change s there (Forgot p) = refl
+entry_change s there (ContactDown peer numbers states shown) = refl
+entry_change s there _ = refl
 
 -- ---- lists
 
@@ -104,13 +115,13 @@ same_left : (s t : Subscription) (ticks later left less : ℕ) → t ≡ s → l
 same_left s t ticks later left less asked passed stays h =
     subst (λ (a : Subscription). IsLeft a later less) (sym asked) (subst (λ (n : ℕ). IsLeft s n less) (sym passed) (subst (λ (n : ℕ). IsLeft s ticks n) (sym stays) h))
 
-told_leaves : (c : TableChange) (w : Watcher) → Leaves w (told c w)
+told_leaves : (c : TableChange) (w : Watcher) → Leaves w (after_change c w)
 told_leaves (Added p) w = added_leaves w p
 told_leaves (Removed p) w = all_removed_leave w (p ∷ [])
 told_leaves (Purged ps) w = all_removed_leave w ps
 
 -- one that ended is told of no change
-told_over : (c : TableChange) (w : Watcher) → w.ended ≡ true → (told c w).events ≡ w.events
+told_over : (c : TableChange) (w : Watcher) → w.ended ≡ true → (after_change c w).events ≡ w.events
 told_over (Added p) w over = ap (λ (v : Watcher). v.events) (added_ended w p over) ∙ append-nil w.events
 told_over (Removed p) w over = ap (λ (v : Watcher). v.events) (all_removed_ended w (p ∷ []) over)
 told_over (Purged ps) w over = ap (λ (v : Watcher). v.events) (all_removed_ended w ps over)
@@ -118,11 +129,11 @@ told_over (Purged ps) w over = ap (λ (v : Watcher). v.events) (all_removed_ende
 -- what a subscription was told of a change of the table is what the entry tells
 pub watcher_changed : (entries : List Entry) (e : Entry) (c : TableChange) (n : ℕ) (given : List Event) (w : Watcher) → IsQuiet e
     → change_of (table entries) e ≡ Some c → IsPossible (table entries) c → SameCounts (there_after (table entries) c) (table (entries ++ e ∷ []))
-    → IsWatcherTold entries n given w → IsWatcherTold (entries ++ e ∷ []) n given (told (as_told c) w)
+    → IsWatcherTold entries n given w → IsWatcherTold (entries ++ e ∷ []) n given (after_change (as_told c) w)
 watcher_changed entries e c n given w q is may same h = by w.ended refl
   where
     v : Watcher
-    v = told (as_told c) w
+    v = after_change (as_told c) w
 
     leaves : Leaves w v
     leaves = told_leaves (as_told c) w
@@ -140,7 +151,7 @@ watcher_changed entries e c n given w q is may same h = by w.ended refl
     by : (b : Bool) → w.ended ≡ b → IsWatcherTold (entries ++ e ∷ []) n given v
     by false lasts =
         let tells = change_told w.asked w c (table entries) refl lasts may (h.knows lasts) in
-        let news : told_at n entries e ≡ change_events w.asked (table entries) c =
+        let news : told_at n entries e ≡ table_events w.asked (table entries) c =
         q.tells n entries
         ∙ ap (λ (o : Option Subscription). events_at o (table entries) e) (h.asked ∙ asked_lasting w lasts)
         ∙ entry_change w.asked (table entries) e
@@ -150,7 +161,7 @@ watcher_changed entries e c n given w q is may same h = by w.ended refl
           events =
               transitions_more entries e n
               ∙ (λ i. h.events i ++ news i)
-              ∙ append_assoc given w.events (change_events w.asked (table entries) c)
+              ∙ append_assoc given w.events (table_events w.asked (table entries) c)
               ∙ ap (λ (es : List Event). given ++ es) (sym tells.events);
           knows = λ later. subst (λ (a : Subscription). Knows a v (table (entries ++ e ∷ []))) (sym leaves.asked) (knows_same w.asked v _ _ same tells.knows);
           left = λ later. left lasts;
@@ -211,19 +222,19 @@ told_mapped entries given t f room e h kept plain numbers unmade one same = reco
   kept = kept;
   made = h.made ∙ omega arith ∙ sym (subscriptions_made_more entries e ∙ ap (λ b. subscriptions_made entries + cond b 1 0) plain);
   numbers = map_numbers f t.kept same ∙ h.numbers ∙ sym (subscriptions_more entries e ∙ numbers (subscriptions entries));
-  each = all_map _ _ f t.kept (λ w told. subst (λ (n : ℕ). IsWatcherTold (entries ++ e ∷ []) n (given n) (f w)) (sym (same w)) (one w told)) h.each;
+  each = all_map _ _ f t.kept (λ w after_change. subst (λ (n : ℕ). IsWatcherTold (entries ++ e ∷ []) n (given n) (f w)) (sym (same w)) (one w after_change)) h.each;
   later = λ n above. unmade n (h.later n above);
 }
 
 -- an entry that changes the table
 pub told_changed : (entries : List Entry) (given : ℕ → List Event) (t : Watchers) (f : Watcher → Watcher) (room : ℕ) (e : Entry) (c : TableChange)
-    → AreWatchersTold entries given t → AreKept (kept_as t.made room (map f t.kept)) → ((w : Watcher) → f w ≡ told (as_told c) w) → IsQuiet e
+    → AreWatchersTold entries given t → AreKept (kept_as t.made room (map f t.kept)) → ((w : Watcher) → f w ≡ after_change (as_told c) w) → IsQuiet e
     → change_of (table entries) e ≡ Some c → IsPossible (table entries) c → SameCounts (there_after (table entries) c) (table (entries ++ e ∷ []))
     → AreWatchersTold (entries ++ e ∷ []) given (kept_as t.made room (map f t.kept))
 told_changed entries given t f room e c h kept told_as q is may same =
     told_mapped entries given t f room e h kept q.plain q.numbers
     (λ n. nothing_silent entries e n (given n) (q.keeps n None) (λ none. q.tells n entries ∙ ap (λ (o : Option Subscription). events_at o (table entries) e) none))
-    (λ w told. subst (λ (v : Watcher). IsWatcherTold (entries ++ e ∷ []) w.number (given w.number) v) (sym (told_as w)) (watcher_changed entries e c w.number (given w.number) w q is may same told))
+    (λ w after_change. subst (λ (v : Watcher). IsWatcherTold (entries ++ e ∷ []) w.number (given w.number) v) (sym (told_as w)) (watcher_changed entries e c w.number (given w.number) w q is may same after_change))
     (λ w. ap (λ (v : Watcher). v.number) (told_as w) ∙ (told_leaves (as_told c) w).number)
 
 no_events : (o : Option Subscription) (there : List Publication) (e : Entry) → ((s : Subscription) → entry_events s there e ≡ []) → events_at o there e ≡ []
@@ -242,7 +253,7 @@ told_plainly entries given t e h q none own theirs =
     subst (λ (ws : List Watcher). AreWatchersTold (entries ++ e ∷ []) given (kept_as t.made t.room ws)) (id_map t.kept)
     (told_mapped entries given t (λ w. w) t.room e h (subst (λ (ws : List Watcher). AreKept (kept_as t.made t.room ws)) (sym (id_map t.kept)) h.kept) q.plain q.numbers
     (λ n. nothing_silent entries e n (given n) (q.keeps n None) (λ unmade. silent n))
-    (λ w told. watcher_silent entries e w.number (given w.number) w (record { keeps = q.keeps w.number _; tells = silent w.number; ticks = q.ticks w.number _; own = own; theirs = theirs }) told)
+    (λ w after_change. watcher_silent entries e w.number (given w.number) w (record { keeps = q.keeps w.number _; tells = silent w.number; ticks = q.ticks w.number _; own = own; theirs = theirs }) after_change)
     (λ w. refl))
   where
     silent : (n : ℕ) → told_at n entries e ≡ []
@@ -266,7 +277,7 @@ told_roomed entries given n t h = roomed (room_kept n t h.kept)
       kept = kept;
       made = h.made;
       numbers = map_numbers (with_room (max t.room n)) t.kept (λ w. refl) ∙ h.numbers;
-      each = all_map _ _ (with_room (max t.room n)) t.kept (λ w told. each (max t.room n) w w.number (given w.number) told) h.each;
+      each = all_map _ _ (with_room (max t.room n)) t.kept (λ w after_change. each (max t.room n) w w.number (given w.number) after_change) h.each;
       later = h.later;
     }
 
@@ -345,7 +356,7 @@ told_subscribed entries given t asked there h order = more (subscribed_kept aske
 
     others : AllByRecursion (λ (w : Watcher). IsWatcherTold (entries ++ entry.Subscribed n asked ∷ []) w.number (given w.number) w) t.kept
     others = all_both (λ (w : Watcher). w.number ≤ t.made) (λ (w : Watcher). IsWatcherTold entries w.number (given w.number) w) _ t.kept
-        (λ w below told. watcher_silent entries (entry.Subscribed n asked) w.number (given w.number) w (other_subscribed entries n w.number asked (other_number w.number n (omega (arith, below)))) told)
+        (λ w below after_change. watcher_silent entries (entry.Subscribed n asked) w.number (given w.number) w (other_subscribed entries n w.number asked (other_number w.number n (omega (arith, below)))) after_change)
         (recursion_from_All (λ (w : Watcher). w.number ≤ t.made) t.kept h.kept.made) h.each
 
     later : (m : ℕ) → n < m → TellsNothing (entries ++ entry.Subscribed n asked ∷ []) m (given m)
@@ -380,12 +391,12 @@ other_cancelled entries number n other = record {
 
 -- those that are left have other numbers
 others_left : (number : ℕ) (P : Watcher → Type 0) (ws : List Watcher) → AreRising ws → AllByRecursion P ws
-    → AllByRecursion (λ (w : Watcher). P w × ((number == w.number) ≡ false)) (without number ws)
+    → AllByRecursion (λ (w : Watcher). P w × ((number == w.number) ≡ false)) (without_number number ws)
 others_left number P [] rising h = tt
 others_left number P (w ∷ ws) rising h = by (has_number number w) refl (others_left number P ws rising.1 h.1)
   where
-    by : (b : Bool) → has_number number w ≡ b → AllByRecursion (λ (v : Watcher). P v × ((number == v.number) ≡ false)) (without number ws)
-        → AllByRecursion (λ (v : Watcher). P v × ((number == v.number) ≡ false)) (if b then ws else w ∷ without number ws)
+    by : (b : Bool) → has_number number w ≡ b → AllByRecursion (λ (v : Watcher). P v × ((number == v.number) ≡ false)) (without_number number ws)
+        → AllByRecursion (λ (v : Watcher). P v × ((number == v.number) ≡ false)) (if b then ws else w ∷ without_number number ws)
     by true is later =
         let same : w.number ≡ number = eqb-true _ _ is in
         all_both (λ (v : Watcher). w.number < v.number) P _ ws
@@ -400,12 +411,12 @@ numbers_above number (w ∷ ws) above =
     (λ i. cond (not (here i)) (w.number ∷ numbers_above number ws above.1 i) (numbers_above number ws above.1 i))
 
 numbers_left : (number : ℕ) (ws : List Watcher) → AreRising ws
-    → map (λ (w : Watcher). w.number) (without number ws) ≡ filter (λ n. not (n == number)) (map (λ (w : Watcher). w.number) ws)
+    → map (λ (w : Watcher). w.number) (without_number number ws) ≡ filter (λ n. not (n == number)) (map (λ (w : Watcher). w.number) ws)
 numbers_left number [] rising = refl
 numbers_left number (w ∷ ws) rising = by (has_number number w) refl (numbers_left number ws rising.1)
   where
-    by : (b : Bool) → has_number number w ≡ b → map (λ (v : Watcher). v.number) (without number ws) ≡ filter (λ n. not (n == number)) (map (λ (v : Watcher). v.number) ws)
-        → map (λ (v : Watcher). v.number) (if b then ws else w ∷ without number ws)
+    by : (b : Bool) → has_number number w ≡ b → map (λ (v : Watcher). v.number) (without_number number ws) ≡ filter (λ n. not (n == number)) (map (λ (v : Watcher). v.number) ws)
+        → map (λ (v : Watcher). v.number) (if b then ws else w ∷ without_number number ws)
         ≡ cond (not b) (w.number ∷ filter (λ n. not (n == number)) (map (λ (v : Watcher). v.number) ws)) (filter (λ n. not (n == number)) (map (λ (v : Watcher). v.number) ws))
     by true is later = sym (numbers_above number ws (subst (λ (n : ℕ). AllByRecursion (λ (v : Watcher). n < v.number) ws) (eqb-true w.number number is) rising.0))
     by false is later = ap (λ (ns : List ℕ). w.number ∷ ns) later
@@ -422,7 +433,7 @@ told_cancelled entries given t number h =
       kept = cancelled_kept number t h.kept;
       made = h.made ∙ omega arith ∙ sym (subscriptions_made_more entries (entry.Cancelled number));
       numbers = numbers_left number t.kept rising ∙ ap (λ (ns : List ℕ). filter (λ n. not (n == number)) ns) h.numbers ∙ sym (subscriptions_more entries (entry.Cancelled number));
-      each = all_each _ _ (without number t.kept)
+      each = all_each _ _ (without_number number t.kept)
           (λ w both. watcher_silent entries (entry.Cancelled number) w.number (given w.number) w (other_cancelled entries number w.number both.1) both.0)
           (others_left number (λ (w : Watcher). IsWatcherTold entries w.number (given w.number) w) t.kept rising h.each);
       later = λ n above. nothing_silent entries (entry.Cancelled number) n (given n) (none_either (number == n)) (λ unmade. no_events (watching entries n) (table entries) (entry.Cancelled number) (λ s. refl)) (h.later n above);
@@ -485,7 +496,7 @@ pub told_ended : (entries : List Entry) (given : ℕ → List Event) (t : Watche
 told_ended entries given t number h =
     told_mapped entries given t (end_if number) t.room (entry.TimedOut number) h (ended_kept number t h.kept) refl (λ ns. refl)
     (λ n nothing. nothing_silent entries (entry.TimedOut number) n (given n) (none_either (number == n)) (λ unmade. (twice_ended entries number n unmade).tells) nothing)
-    (λ w told. watcher_ended entries number (given w.number) w told)
+    (λ w after_change. watcher_ended entries number (given w.number) w after_change)
     (λ w. numbered (has_number number w && not w.ended) w)
   where
     numbered : (b : Bool) (w : Watcher) → (if b then ended_now w else w).number ≡ w.number

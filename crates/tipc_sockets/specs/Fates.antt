@@ -7,7 +7,7 @@ use Rattle.tipc_types.specs.declared.message_forms.Form.TheVariants.{Connected, 
 use Rattle.tipc_types.specs.declared.message_forms.Message.{Message}
 use Rattle.tipc_types.specs.declared.message_forms.Message.TheVariants.{Payload, Items}
 use Rattle.tipc_types.specs.declared.services.Publication.{Publication}
-use Rattle.tipc_name_table.specs.Matching.{covers, overlaps}
+use Rattle.tipc_types.specs.Matching.{covers, overlaps}
 use Rattle.tipc_journal.specs.Dues.{returned_message}
 use Rattle.tipc_journal.specs.Fates.{counts_for, inbox_size, no_name, no_port, overload, return_limit}
 use Rattle.tipc_journal.specs.Names.{is_clusterwide}
@@ -26,14 +26,14 @@ abbrev pub aimed_at : List Publication → Bool → Span → List Publication
 aimed_at live arrived range = filter (λ p. overlaps range p && counts_for arrived p) live
 
 -- whether one more message may wait at a port where these wait: the port is there, and its inbox isn't full
-abbrev pub has_room : Option (List Message) → Bool
-has_room None = false
-has_room (Some waiting) = nat_lt (length waiting) inbox_size
+abbrev pub may_wait : Option (List Message) → Bool
+may_wait None = false
+may_wait (Some waiting) = nat_lt (length waiting) inbox_size
 
 -- the ports to which a multicast is queued, rising
 abbrev pub hearers : SocketTable → Bool → Span → List ℕ
 hearers s arrived range =
-    filter (λ port. list_any (is_at port) (aimed_at s.live arrived range) && has_room (queue_at s port)) s.ports.present
+    filter (λ port. list_any (is_at port) (aimed_at s.live arrived range) && may_wait (queue_at s port)) s.ports.present
 
 -- whether messages of this form are sent by name, to the port that was picked
 abbrev pub is_by_name : Form → Bool

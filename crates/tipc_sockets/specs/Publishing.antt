@@ -7,9 +7,9 @@ use Rattle.tipc_types.specs.Span.{Span}
 use Rattle.tipc_types.specs.declared.services.Publication.{Publication}
 use Rattle.tipc_types.specs.declared.services.Scope.{Scope}
 use Rattle.tipc_types.specs.Watching.{in_order}
-use Rattle.tipc_name_table.specs.Tables.{is_named, is_of, put, without as without_named, without_node}
+use Rattle.tipc_types.specs.Tables.{is_named, is_of, put, without as without_named, without_node}
 use Rattle.tipc_journal.specs.Refusals.{first_free_type, most_publications}
-use Rattle.tipc_ports.specs.Numbers.{without}
+use Rattle.tipc_ports.specs.Numbers.{without_port}
 use Rattle.tipc_sockets.specs.declared.publishing.PublishFault.{PublishFault}
 use Rattle.tipc_sockets.specs.declared.publishing.PublishFault.TheVariants as refused
 use Rattle.tipc_topology.specs.declared.changes.TableChange.TheVariants.{Added}
@@ -75,7 +75,7 @@ closed s port =
       own = s.own;
       names = filter (λ p. not (is_of s.own p && is_at port p)) s.names;
       live = filter (λ p. not (is_at port p)) s.live;
-      ports = record { boot = s.ports.boot; made = s.ports.made; present = without port s.ports.present };
+      ports = record { boot = s.ports.boot; made = s.ports.made; present = without_port port s.ports.present };
       queues = remove_entry (nat_eq port) s.queues;
       watchers = with_loss (filter (is_at port) s.live) s.watchers;
     }

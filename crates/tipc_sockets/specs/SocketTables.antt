@@ -5,7 +5,7 @@ use Rattle.std.specs.Map.{keys_of, lookup, set_value}
 use Rattle.tipc_types.specs.Address.{IsNodeWord}
 use Rattle.tipc_types.specs.declared.message_forms.Message.{Message}
 use Rattle.tipc_types.specs.declared.services.Publication.{Publication}
-use Rattle.tipc_name_table.specs.Tables.{is_of, IsTable}
+use Rattle.tipc_types.specs.Tables.{is_of, IsTable}
 use Rattle.tipc_ports.specs.Numbers.{ArePresent, PortTable}
 use Rattle.tipc_topology.specs.Changing.{no_watchers, Watchers}
 
@@ -41,13 +41,11 @@ has_port s port = is_some (queue_at s port)
 
 -- the same sockets with other queues
 abbrev pub with_queues : SocketTable → List (ℕ × List Message) → SocketTable
-with_queues s queues =
-    record { own = s.own; names = s.names; live = s.live; ports = s.ports; queues = queues; watchers = s.watchers }
+with_queues s queues = record s { queues = queues }
 
 -- the same sockets with other publications, and subscriptions that were told so
 abbrev pub with_publications : SocketTable → List Publication → List Publication → Watchers → SocketTable
-with_publications s names live watchers =
-    record { own = s.own; names = names; live = live; ports = s.ports; queues = s.queues; watchers = watchers }
+with_publications s names live watchers = record s { names = names; live = live; watchers = watchers }
 
 -- the same sockets with other subscriptions
 abbrev pub with_watchers : SocketTable → Watchers → SocketTable
@@ -74,8 +72,8 @@ abbrev pub queued_at_each : Message → List (ℕ × List Message) → List ℕ 
 queued_at_each m queues ports = fold (λ those port. queued m those port) queues ports
 
 -- the queues where the first message at a port was taken
-abbrev pub taken_from : List (ℕ × List Message) → ℕ → List (ℕ × List Message)
-taken_from queues port = set_value (nat_eq port) queues (drop 1 (unwrap_or (lookup (nat_eq port) queues) []))
+abbrev pub with_first_taken : List (ℕ × List Message) → ℕ → List (ℕ × List Message)
+with_first_taken queues port = set_value (nat_eq port) queues (drop 1 (unwrap_or (lookup (nat_eq port) queues) []))
 
 -- What always holds of a node's sockets: each port was made in this boot and has its queue; the names are in order;
 -- and of the own ones among them as many pass any test as of the live ones, so these are the same publications.

@@ -17,12 +17,14 @@ ghost use Rattle.tipc_journal.specs.Names.{is_at_home};
 ghost use Rattle.tipc_journal.specs.Queues.{is_taking, queued_by, sockets_after};
 ghost use Rattle.tipc_journal.specs.Refusals.{is_among, is_subscribed, made_by, subscriptions_made};
 ghost use Rattle.tipc_journal.specs.Steps.{NodeStep, step_entries, IsInside, IsWhole};
-ghost use Rattle.tipc_journal.specs.Subscriptions.{subscriptions, timeouts, transitions};
+ghost use Rattle.tipc_journal.specs.Subscriptions.{change_events as entry_events, subscriptions, timeouts, transitions};
+ghost use Rattle.tipc_types.specs.declared.node_calls.Subscription.{Subscription};
+ghost use Rattle.tipc_sockets.specs.Entries.{change_of, events_where};
 ghost use Rattle.tipc_ports.specs.Numbers.{port_number};
-ghost use Rattle.tipc_topology.specs.Changing.{due, events_left, of_number, passed, taken_from as taken_one, with_kept};
+ghost use Rattle.tipc_topology.specs.Changing.{due, events_left, of_number, passed, with_event_taken as taken_one, with_kept};
 ghost use Rattle.tipc_sockets.specs.Fates.{after_fate, fate};
 ghost use Rattle.tipc_sockets.specs.Publishing.{closed, is_at, withdrawn_each};
-ghost use Rattle.tipc_sockets.specs.SocketTables.{no_sockets, queue_at, taken_from, with_queues, with_socket, with_watchers, AreSockets, SocketTable};
+ghost use Rattle.tipc_sockets.specs.SocketTables.{no_sockets, queue_at, with_first_taken, with_queues, with_socket, with_watchers, AreSockets, SocketTable};
 ghost use Rattle.tipc_sockets.specs.Telling.{after_entry, fate_entry, is_for_one_there, is_payload, is_of_subscriptions, is_placed, is_tick, origin_of, AreTold, MayFollow};
 
 /// An empty journal tells what new sockets hold.
@@ -79,7 +81,7 @@ pub fn steps_tell_of_sockets()
     ensures taken { (own : Addr) (J : List Entry) (st : NodeStep) (s : SocketTable) (later : Due) (port : ℕ) →
         IsWhole J → IsInside st.inside → AreTold own J (first_due own st.event st.answer) st.inside s →
         st.event ≡ Receive port → st.answer ≡ Got → 0 < length (unwrap_or (queue_at s port) []) →
-        AreTold own (J ++ step_entries st) later [] (with_queues s (taken_from s.queues port)) }
+        AreTold own (J ++ step_entries st) later [] (with_queues s (with_first_taken s.queues port)) }
     ensures others { (own : Addr) (J : List Entry) (st : NodeStep) (s : SocketTable) (later : Due) →
         IsWhole J → IsInside st.inside → AreTold own J (first_due own st.event st.answer) st.inside s →
         ((ports : List ℕ) → sockets_after ports st.event st.answer ≡ ports) → made_by st.event st.answer ≡ None →
@@ -112,4 +114,10 @@ pub fn subscriptions_are_told()
         slice_get (events_left (of_number s.watchers number)) 0 }
     ensures due { (own : Addr) (J : List Entry) (d : Due) (front : List Entry) (s : SocketTable) →
         AreTold own J d front s → list_any is_of_subscriptions front ≡ false → due s.watchers.kept ≡ timeouts J }
+{}
+
+/// The events of a subscriber at an entry of a journal are those at the change of the table that the entry tells of.
+pub fn entries_are_changes()
+    ensures { (s : Subscription) (there : List Publication) (e : Entry) →
+        entry_events s there e ≡ events_where s there (change_of there e) }
 {}

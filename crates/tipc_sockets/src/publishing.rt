@@ -3,8 +3,8 @@
 ghost use Rattle.std.specs.Prelude.{◌≡◌, ◌≤◌, ◌&&◌, ◌==◌, ◌++◌, ◌∷◌, [], if◌then◌else◌, find, filter, not, IfOk, OnErr, OnOk};
 ghost use Rattle.std.specs.List.{list_any};
 ghost use Rattle.tipc_types.specs.Span.{Span};
-ghost use Rattle.tipc_name_table.specs.Tables.{is_of, without as without_named, without_node};
-ghost use Rattle.tipc_name_table.specs.Matching.{covers, overlaps};
+ghost use Rattle.tipc_types.specs.Tables.{is_of, without as without_named, without_node};
+ghost use Rattle.tipc_types.specs.Matching.{covers, overlaps};
 ghost use Rattle.tipc_journal.specs.Names.{is_clusterwide};
 ghost use Rattle.tipc_sockets.specs.Fates.{aimed_at, is_offered};
 ghost use Rattle.tipc_topology.specs.declared.changes.TableChange.{TableChange};

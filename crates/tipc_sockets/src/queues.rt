@@ -3,7 +3,7 @@
 ghost use Rattle.std.specs.Prelude.{◌≡◌, true, nat_eq, All, ◌<◌, ◌≤◌, ◌+◌, ◌++◌, ◌∷◌, [], length, drop, slice_get, nat_le, nat_lt, replicate, IfOk, OnErr, OnOk};
 ghost use Rattle.std.specs.List.{AllPairs};
 ghost use Rattle.std.specs.Map.{lookup};
-ghost use Rattle.tipc_sockets.specs.Fates.{has_room};
+ghost use Rattle.tipc_sockets.specs.Fates.{may_wait};
 ghost use Rattle.tipc_sockets.specs.SocketTables.{queued, queued_at_each};
 
 use indexmap::IndexMap;
@@ -99,8 +99,8 @@ impl Queue {
 pub(crate) type Queues = IndexMap<u32, Queue>;
 
 /// Whether one more message may wait at a port: it is there, and fewer than 128 wait.
-pub(crate) fn has_room(queues: &Queues, port: u32) -> bool
-    ensures { result ≡ has_room (lookup (nat_eq port) queues.now.entries) }
+pub(crate) fn may_wait(queues: &Queues, port: u32) -> bool
+    ensures { result ≡ may_wait (lookup (nat_eq port) queues.now.entries) }
 {
     match queues.get(&port) {
         Some(queue) => queue.has_room(),
@@ -110,7 +110,7 @@ pub(crate) fn has_room(queues: &Queues, port: u32) -> bool
 
 /// Puts a message last at a port that has room. It takes no memory.
 pub(crate) fn put(queues: &mut Queues, port: u32, message: Message)
-    requires { has_room (lookup (nat_eq port) queues.old.entries) ≡ true }
+    requires { may_wait (lookup (nat_eq port) queues.old.entries) ≡ true }
     ensures { queues.new.entries ≡ queued message queues.old.entries port }
 {
     if let Some(queue) = queues.get_mut(&port) {
@@ -137,7 +137,7 @@ pub(crate) fn put_each(
     message: &Message,
 ) -> Result<(), NoMemory>
     requires rising { AllPairs (λ port later. port < later) ports.now }
-    requires room { All (λ port. has_room (lookup (nat_eq port) queues.old.entries) ≡ true) ports.now }
+    requires room { All (λ port. may_wait (lookup (nat_eq port) queues.old.entries) ≡ true) ports.now }
     ensures ok { OnOk result (queues.new.entries ≡ queued_at_each message.now queues.old.entries ports.now) }
     ensures err { OnErr result (queues.new ≡ queues.old) }
 {

@@ -5,14 +5,14 @@ ghost use Rattle.std.specs.List.{list_any};
 ghost use Rattle.tipc_types.specs.Address.{IsNodeWord};
 ghost use Rattle.tipc_types.specs.declared.message_forms.Message.{Message};
 ghost use Rattle.tipc_types.specs.declared.services.Publication.{Publication};
-ghost use Rattle.tipc_name_table.specs.Matching.{closest, covers, overlaps};
-ghost use Rattle.tipc_name_table.specs.Tables.{is_named, is_of, put, without, without_node, IsTable};
+ghost use Rattle.tipc_types.specs.Matching.{closest, covers, overlaps};
+ghost use Rattle.tipc_types.specs.Tables.{is_named, is_of, put, without, without_node, IsTable};
 ghost use Rattle.tipc_ports.specs.Numbers.{port_number, ArePresent};
-ghost use Rattle.tipc_sockets.specs.Fates.{after_fate, fate, has_places, has_room, hearers, refusal, surely_waits, with_waiting};
+ghost use Rattle.tipc_sockets.specs.Fates.{after_fate, fate, has_places, may_wait, hearers, refusal, surely_waits, with_waiting};
 ghost use Rattle.tipc_sockets.specs.Publishing.{closed, is_at, own_publication, published_at, publish_refusal, published, purged, withdrawn};
-ghost use Rattle.tipc_topology.specs.Changing.{cancelled, due, ended_at, events_left, is_filter, of_number, passed, subscribed, taken_from as taken_from_one, with_kept};
+ghost use Rattle.tipc_topology.specs.Changing.{cancelled, due, ended_at, events_left, is_filter, of_number, passed, subscribed, with_event_taken as taken_from_one, with_kept};
 ghost use Rattle.tipc_topology.specs.Watchers.{ticked};
-ghost use Rattle.tipc_sockets.specs.SocketTables.{has_port, no_sockets, queue_at, queued, queued_at_each, taken_from, with_queues, with_socket, with_watchers, AreSockets};
+ghost use Rattle.tipc_sockets.specs.SocketTables.{has_port, no_sockets, queue_at, queued, queued_at_each, with_first_taken, with_queues, with_socket, with_watchers, AreSockets};
 
 use crate::fates::{Fate, port_of, unqueued};
 use crate::publishing::{
@@ -20,7 +20,7 @@ use crate::publishing::{
     is_offered, lose, lose_those_at, note_added, remove_at, remove_named, remove_node, those_of,
     withdraw_those_at,
 };
-use crate::queues::{Queue, Queues, has_room, put, put_each};
+use crate::queues::{Queue, Queues, may_wait, put, put_each};
 use std::alloc::Global;
 use std::marker::Model;
 use tipc_journal::PortList;
@@ -170,7 +170,7 @@ impl Sockets {
     /// `Unknown` exactly where the port isn't there. It changes nothing.
     pub fn receive(&mut self, port: u32) -> Result<Option<Message>, Unknown>
         ensures first { IfOk result (λ m. m ≡ slice_get (unwrap_or (queue_at self.old port) []) 0) }
-        ensures ok { OnOk result (self.new ≡ with_queues self.old (taken_from self.old.queues port)) }
+        ensures ok { OnOk result (self.new ≡ with_queues self.old (with_first_taken self.old.queues port)) }
         ensures unknown { IsErr result ↔ (has_port self.old port ≡ false) }
         ensures err { OnErr result (self.new ≡ self.old) }
     {
@@ -346,7 +346,7 @@ impl Sockets {
     /// The ports of these publications that have room, rising.
     fn hearers(&self, alloc: Global, aimed: &[Publication]) -> Result<PortList, NoMemory>
         ensures { IfOk result (λ ports. ports ≡
-            filter (λ port. list_any (is_at port) aimed.now && has_room
+            filter (λ port. list_any (is_at port) aimed.now && may_wait
             (queue_at self.now port)) self.now.ports.present) }
     {
         let ports = self
@@ -354,14 +354,14 @@ impl Sockets {
             .as_slice()
             .iter()
             .copied()
-            .filter(|port| is_any_at(aimed, *port) && has_room(&self.queues, *port))
+            .filter(|port| is_any_at(aimed, *port) && may_wait(&self.queues, *port))
             .collect(alloc)?;
         Ok(PortList::from_vec(ports))
     }
 
     /// Queues a message to a port that has room.
     fn queue_to(&mut self, alloc: Global, port: u32, m: Message) -> Result<Fate, NoMemory>
-        requires { has_room (queue_at self.old port) ≡ true }
+        requires { may_wait (queue_at self.old port) ≡ true }
         ensures fate { IfOk result (λ f. f ≡ Fate.Queued (port ∷ [])) }
         ensures ok { OnOk result (self.new ≡ with_queues self.old (queued m self.old.queues port)) }
         ensures err { OnErr result (self.new ≡ self.old) }

@@ -10,8 +10,8 @@ use Rattle.tipc_types.specs.Watching.{additions, in_order, is_before, is_same_ra
 use Rattle.tipc_topology.specs.declared.changes.TableChange.{TableChange}
 use Rattle.tipc_topology.specs.declared.changes.TableChange.TheVariants.{Added, Removed, Purged}
 use Rattle.tipc_topology.specs.Watchers.{added, began, blank, removed, Watcher}
-use Rattle.tipc_topology.specs.Changing.{as_told, told}
-use Rattle.tipc_topology.specs.Transitions.{change_events, events_of_changes, left_by, there_after, told_all, transitions, AreRemovable, ArePossible, IsPossible, Knows}
+use Rattle.tipc_topology.specs.Changing.{as_told, after_change}
+use Rattle.tipc_topology.specs.Transitions.{table_events, events_of_changes, left_by, there_after, told_all, transitions, AreRemovable, ArePossible, IsPossible, Knows}
 use Rattle.tipc_topology.proofs.Removing.{removed_tells}
 use Rattle.tipc_topology.proofs.Telling.{added_tells, same_watched, Tells}
 
@@ -74,7 +74,7 @@ all_removed s w (p ∷ ps) there asked lasts alone knows =
 
 -- one change
 pub change_told : (s : Subscription) (w : Watcher) (c : TableChange) (there : List Publication) → w.asked ≡ s → w.ended ≡ false → IsPossible there c
-    → Knows s w there → Tells s w (told (as_told c) w) (change_events s there c) (there_after there c)
+    → Knows s w there → Tells s w (after_change (as_told c) w) (table_events s there c) (there_after there c)
 change_told s w (Added p) there asked lasts may knows = one_added s w p there asked lasts knows
 change_told s w (Removed p) there asked lasts may knows = one_removed s w p there asked lasts may knows
 change_told s w (Purged ps) there asked lasts may knows = all_removed s w (in_order ps) there asked lasts may knows
@@ -85,9 +85,9 @@ changes_told : (s : Subscription) (w : Watcher) (cs : List TableChange) (there :
 changes_told s w [] there asked lasts may knows = sym (append-nil w.events)
 changes_told s w (c ∷ cs) there asked lasts may knows =
     let one = change_told s w c there asked lasts may.0 knows in
-    changes_told s (told (as_told c) w) cs (there_after there c) one.asked one.lasts may.1 one.knows
+    changes_told s (after_change (as_told c) w) cs (there_after there c) one.asked one.lasts may.1 one.knows
     ∙ ap (λ (es : List Event). es ++ events_of_changes s (there_after there c) cs) one.events
-    ∙ append_assoc w.events (change_events s there c) (events_of_changes s (there_after there c) cs)
+    ∙ append_assoc w.events (table_events s there c) (events_of_changes s (there_after there c) cs)
 
 -- ---- publications in order
 

@@ -11,7 +11,7 @@ use Rattle.tipc_types.specs.Watching.{event_of, in_order, is_watched}
 use Rattle.tipc_topology.specs.declared.changes.TableChange.{TableChange}
 use Rattle.tipc_topology.specs.declared.changes.TableChange.TheVariants.{Added, Removed, Purged}
 use Rattle.tipc_topology.specs.Watchers.{added, after_addition, after_removal, bounds_of, concerns, count_at, ended_now, is_due, is_per_port, loses, one_fewer, one_less, one_more, removed, ticked, with_room, without_first, Counts, Watcher}
-use Rattle.tipc_topology.specs.Changing.{changed, due, ended_at, has_number, no_watchers, passed, subscribed, taken_from, with_addition, with_kept, with_loss, with_room_for, without, AreKept, Watchers}
+use Rattle.tipc_topology.specs.Changing.{changed, due, ended_at, has_number, no_watchers, passed, subscribed, with_event_taken, with_addition, with_kept, with_loss, with_room_for, without_number, AreKept, Watchers}
 use Rattle.tipc_topology.proofs.Kept.{added_takes, all_removed_keep, began_takes, kept_as, like_kept, mapped_kept, pushed_kept, removed_kept, Keeps}
 
 -- ---- what always holds
@@ -58,42 +58,42 @@ ended_kept number t h =
 pub passed_kept : (t : Watchers) → AreKept t → AreKept (passed t)
 passed_kept t h = mapped_kept one_less t.made t.room t.room t.kept (λ w has. (refl, has)) h
 
-taken_like : (number : ℕ) (ws : List Watcher) (i : ℕ) (d : Watcher) → Keeps (get_or ws i d) (get_or (taken_from number ws) i d)
+taken_like : (number : ℕ) (ws : List Watcher) (i : ℕ) (d : Watcher) → Keeps (get_or ws i d) (get_or (with_event_taken number ws) i d)
 taken_like number [] i d = (refl, refl)
 taken_like number (w ∷ ws) i d = by (has_number number w) i (λ k. taken_like number ws k d)
   where
-    by : (b : Bool) (k : ℕ) → ((j : ℕ) → Keeps (get_or ws j d) (get_or (taken_from number ws) j d))
-        → Keeps (get_or (w ∷ ws) k d) (get_or (if b then without_first w ∷ ws else w ∷ taken_from number ws) k d)
+    by : (b : Bool) (k : ℕ) → ((j : ℕ) → Keeps (get_or ws j d) (get_or (with_event_taken number ws) j d))
+        → Keeps (get_or (w ∷ ws) k d) (get_or (if b then without_first w ∷ ws else w ∷ with_event_taken number ws) k d)
     by true zero later = (refl, refl)
     by true (suc k) later = (refl, refl)
     by false zero later = (refl, refl)
     by false (suc k) later = later k
 
-taken_length : (number : ℕ) (ws : List Watcher) → length (taken_from number ws) ≡ length ws
+taken_length : (number : ℕ) (ws : List Watcher) → length (with_event_taken number ws) ≡ length ws
 taken_length number [] = refl
 taken_length number (w ∷ ws) = by (has_number number w) (taken_length number ws)
   where
-    by : (b : Bool) → length (taken_from number ws) ≡ length ws → length (if b then without_first w ∷ ws else w ∷ taken_from number ws) ≡ length (w ∷ ws)
+    by : (b : Bool) → length (with_event_taken number ws) ≡ length ws → length (if b then without_first w ∷ ws else w ∷ with_event_taken number ws) ≡ length (w ∷ ws)
     by true later = refl
     by false later = omega (arith, later)
 
-pub taken_kept : (number : ℕ) (t : Watchers) → AreKept t → AreKept (with_kept t (taken_from number t.kept))
+pub taken_kept : (number : ℕ) (t : Watchers) → AreKept t → AreKept (with_kept t (with_event_taken number t.kept))
 taken_kept number t h =
-    like_kept t.made t.room t.room t.kept (taken_from number t.kept) (taken_length number t.kept)
+    like_kept t.made t.room t.room t.kept (with_event_taken number t.kept) (taken_length number t.kept)
     (λ i d within. let same = taken_like number t.kept i d in (same.0, same.1 ∙ h.room i d within)) h
 
-without_is : (number : ℕ) (ws : List Watcher) → (without number ws ≡ ws) ⊎ ((i : ℕ) × (i < length ws) × (without number ws ≡ remove ws i))
+without_is : (number : ℕ) (ws : List Watcher) → (without_number number ws ≡ ws) ⊎ ((i : ℕ) × (i < length ws) × (without_number number ws ≡ remove ws i))
 without_is number [] = inl refl
 without_is number (w ∷ ws) = by (has_number number w) (without_is number ws)
   where
-    by : (b : Bool) → (without number ws ≡ ws) ⊎ ((i : ℕ) × (i < length ws) × (without number ws ≡ remove ws i))
-        → ((if b then ws else w ∷ without number ws) ≡ w ∷ ws) ⊎ ((i : ℕ) × (i < length (w ∷ ws)) × ((if b then ws else w ∷ without number ws) ≡ remove (w ∷ ws) i))
+    by : (b : Bool) → (without_number number ws ≡ ws) ⊎ ((i : ℕ) × (i < length ws) × (without_number number ws ≡ remove ws i))
+        → ((if b then ws else w ∷ without_number number ws) ≡ w ∷ ws) ⊎ ((i : ℕ) × (i < length (w ∷ ws)) × ((if b then ws else w ∷ without_number number ws) ≡ remove (w ∷ ws) i))
     by true later = inr (0, omega arith, refl)
     by false (inl same) = inl (ap (λ (vs : List Watcher). w ∷ vs) same)
     by false (inr at) = inr (suc at.0, omega (arith, at.1), ap (λ (vs : List Watcher). w ∷ vs) at.2)
 
-pub cancelled_kept : (number : ℕ) (t : Watchers) → AreKept t → AreKept (with_kept t (without number t.kept))
-cancelled_kept number t h = elim (without_is number t.kept) as (λ _. AreKept (kept_as t.made t.room (without number t.kept))) [
+pub cancelled_kept : (number : ℕ) (t : Watchers) → AreKept t → AreKept (with_kept t (without_number number t.kept))
+cancelled_kept number t h = elim (without_is number t.kept) as (λ _. AreKept (kept_as t.made t.room (without_number number t.kept))) [
   | inl same ↦ subst (λ (ws : List Watcher). AreKept (kept_as t.made t.room ws)) (sym same) h
   | inr at ↦ subst (λ (ws : List Watcher). AreKept (kept_as t.made t.room ws)) (sym at.2) (removed_kept t.made t.room at.0 t.kept at.1 h)
 ]

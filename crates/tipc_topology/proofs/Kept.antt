@@ -14,9 +14,9 @@ use Rattle.tipc_types.specs.declared.node_calls.Event.{Event}
 use Rattle.tipc_types.specs.declared.node_calls.Subscription.{Subscription}
 use Rattle.tipc_types.specs.Span.{Span}
 use Rattle.tipc_types.specs.Watching.{event_of, in_order, is_watched}
-use Rattle.tipc_name_table.specs.Matching.{overlaps}
+use Rattle.tipc_types.specs.Matching.{overlaps}
 use Rattle.tipc_topology.specs.Watchers.{added, after_addition, after_removal, began, blank, bounds_of, concerns, count_at, ended_now, is_due, is_per_port, loses, one_fewer, one_less, one_more, removed, ticked, with_room, without_first, Counts, Watcher}
-use Rattle.tipc_topology.specs.Changing.{due, has_number, subscribed, taken_from, with_room_for, without, AreKept, Watchers}
+use Rattle.tipc_topology.specs.Changing.{due, has_number, subscribed, with_event_taken, with_room_for, without_number, AreKept, Watchers}
 
 -- so many made, so much room, and these kept
 abbrev pub kept_as : ℕ → ℕ → List Watcher → Watchers
@@ -50,24 +50,24 @@ no_place number ws e = find_at (has_number number) ws ∙ none_past ws (position
 
 -- the first event of the one at the place is taken
 pub taken_at : (number : ℕ) (ws : List Watcher) (d : Watcher)
-    → set ws (position_or_len (has_number number) ws) (without_first (get_or ws (position_or_len (has_number number) ws) d)) ≡ taken_from number ws
+    → set ws (position_or_len (has_number number) ws) (without_first (get_or ws (position_or_len (has_number number) ws) d)) ≡ with_event_taken number ws
 taken_at number [] d = refl
 taken_at number (w ∷ ws) d =
     elim (has_number number w) as (λ b. set (w ∷ ws) (cond (not b) (1 + position_or_len (has_number number) ws) 0)
-    (without_first (get_or (w ∷ ws) (cond (not b) (1 + position_or_len (has_number number) ws) 0) d)) ≡ (if b then without_first w ∷ ws else w ∷ taken_from number ws)) [
+    (without_first (get_or (w ∷ ws) (cond (not b) (1 + position_or_len (has_number number) ws) 0) d)) ≡ (if b then without_first w ∷ ws else w ∷ with_event_taken number ws)) [
       | true ↦ refl
       | false ↦ let next : 1 + position_or_len (has_number number) ws ≡ suc (position_or_len (has_number number) ws) = omega arith in rw next (ap (λ vs. w ∷ vs) (taken_at number ws d))
     ]
 
 -- the one at the place is taken out
 pub without_at : (number : ℕ) (ws : List Watcher) → position_or_len (has_number number) ws < length ws
-    → remove ws (position_or_len (has_number number) ws) ≡ without number ws
+    → remove ws (position_or_len (has_number number) ws) ≡ without_number number ws
 without_at number [] within = absurd (omega (arith, within))
 without_at number (w ∷ ws) within = by (has_number number w) within (without_at number ws)
   where
     by : (b : Bool) → cond (not b) (1 + position_or_len (has_number number) ws) 0 < length (w ∷ ws)
-        → (position_or_len (has_number number) ws < length ws → remove ws (position_or_len (has_number number) ws) ≡ without number ws)
-        → remove (w ∷ ws) (cond (not b) (1 + position_or_len (has_number number) ws) 0) ≡ (if b then ws else w ∷ without number ws)
+        → (position_or_len (has_number number) ws < length ws → remove ws (position_or_len (has_number number) ws) ≡ without_number number ws)
+        → remove (w ∷ ws) (cond (not b) (1 + position_or_len (has_number number) ws) 0) ≡ (if b then ws else w ∷ without_number number ws)
     by true within later = refl
     by false within later = let next : 1 + position_or_len (has_number number) ws ≡ suc (position_or_len (has_number number) ws) = omega arith in rw next (ap (λ vs. w ∷ vs) (later (omega (arith, within))))
 

@@ -40,12 +40,6 @@ counted_last : (test : Publication → Bool) (ps : List Publication) (p : Public
 counted_last test ps p =
     sum_by-append (λ x. cond (test x) 1 0) ps (p ∷ []) ∙ rw (sum_by-cons (λ x. cond (test x) 1 0) p []) (omega arith)
 
--- the count of a range after another count of one
-count_more : (q r : ℕ × ℕ) (v : ℕ) (counts : Counts) (same : Bool) → bounds_eq q r ≡ same
-    → unwrap_or (cond (bounds_eq q r) (Some v) (lookup (bounds_eq q) counts)) 0 ≡ cond same v (count_at counts q)
-count_more q r v counts true is = rw is refl
-count_more q r v counts false is = rw is refl
-
 -- the counts know of one more that isn't watched
 counted_other : (s : Subscription) (counts : Counts) (there : List Publication) (p : Publication) → is_watched s p ≡ false
     → IsCounted s counts there → IsCounted s counts (there ++ p ∷ [])

@@ -32,10 +32,10 @@ as_told (Removed p) = Removed p
 as_told (Purged ps) = Purged (in_order ps)
 
 -- a subscription after a change whose publications go one after another
-abbrev pub told : TableChange → Watcher → Watcher
-told (Added p) w = added w p
-told (Removed p) w = removed w p
-told (Purged ps) w = fold removed w ps
+abbrev pub after_change : TableChange → Watcher → Watcher
+after_change (Added p) w = added w p
+after_change (Removed p) w = removed w p
+after_change (Purged ps) w = fold removed w ps
 
 -- the subscriptions with room for so many additions, or with more where they have it
 unfoldable pub with_room_for : ℕ → Watchers → Watchers
@@ -48,7 +48,7 @@ with_addition p t = record { made = t.made; room = t.room - 1; kept = map (λ w.
 
 -- the subscriptions where each is told of removed publications, one after another
 abbrev pub with_loss : List Publication → Watchers → Watchers
-with_loss ps t = record { made = t.made; room = t.room; kept = map (λ w. fold removed w ps) t.kept }
+with_loss ps t = record t { kept = map (λ w. fold removed w ps) t.kept }
 
 -- the subscriptions after a change of the table
 abbrev pub changed : TableChange → Watchers → Watchers
@@ -79,14 +79,14 @@ events_left None = []
 events_left (Some w) = w.events
 
 -- the subscriptions where the first event of one was taken
-abbrev pub taken_from : ℕ → List Watcher → List Watcher
-taken_from number [] = []
-taken_from number (w ∷ ws) = if has_number number w then without_first w ∷ ws else w ∷ taken_from number ws
+abbrev pub with_event_taken : ℕ → List Watcher → List Watcher
+with_event_taken number [] = []
+with_event_taken number (w ∷ ws) = if has_number number w then without_first w ∷ ws else w ∷ with_event_taken number ws
 
 -- the subscriptions without that of a number
-abbrev pub without : ℕ → List Watcher → List Watcher
-without number [] = []
-without number (w ∷ ws) = if has_number number w then ws else w ∷ without number ws
+abbrev pub without_number : ℕ → List Watcher → List Watcher
+without_number number [] = []
+without_number number (w ∷ ws) = if has_number number w then ws else w ∷ without_number number ws
 
 -- whether a subscription has one of the two filters
 abbrev pub is_filter : Subscription → Bool
@@ -94,11 +94,11 @@ is_filter s = (s.filter == 1) || (s.filter == 2)
 
 -- the same with other subscriptions
 abbrev pub with_kept : Watchers → List Watcher → Watchers
-with_kept t kept = record { made = t.made; room = t.room; kept = kept }
+with_kept t kept = record t { kept = kept }
 
 -- the subscriptions where that of a number was cancelled
 abbrev pub cancelled : ℕ → Watchers → Watchers
-cancelled number t = with_kept t (without number t.kept)
+cancelled number t = with_kept t (without_number number t.kept)
 
 -- the subscriptions where that of a number, if it lasts, timed out
 abbrev pub ended_at : ℕ → Watchers → Watchers

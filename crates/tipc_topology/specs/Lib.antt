@@ -1,4 +1,3 @@
 pub mod Changing
-pub mod Entries
 pub mod Transitions
 pub mod Watchers

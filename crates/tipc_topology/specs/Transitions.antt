@@ -8,7 +8,7 @@ use Rattle.tipc_types.specs.Watching.{additions, in_order, is_same_name, is_same
 use Rattle.tipc_topology.specs.declared.changes.TableChange.{TableChange}
 use Rattle.tipc_topology.specs.declared.changes.TableChange.TheVariants.{Added, Removed, Purged}
 use Rattle.tipc_topology.specs.Watchers.{bounds_eq, bounds_of, count_at, Counts, Watcher}
-use Rattle.tipc_topology.specs.Changing.{as_told, told}
+use Rattle.tipc_topology.specs.Changing.{as_told, after_change}
 
 -- the others where a publication is removed
 abbrev pub left_by : List Publication → Publication → List Publication
@@ -21,15 +21,15 @@ there_after there (Removed p) = left_by there p
 there_after there (Purged ps) = fold left_by there (in_order ps)
 
 -- the events of a subscriber at a change of these publications
-abbrev pub change_events : Subscription → List Publication → TableChange → List Event
-change_events s there (Added p) = additions s there (p ∷ [])
-change_events s there (Removed p) = removals s there (p ∷ [])
-change_events s there (Purged ps) = removals s there (in_order ps)
+abbrev pub table_events : Subscription → List Publication → TableChange → List Event
+table_events s there (Added p) = additions s there (p ∷ [])
+table_events s there (Removed p) = removals s there (p ∷ [])
+table_events s there (Purged ps) = removals s there (in_order ps)
 
 -- the events of a subscriber at several changes, one after another
 abbrev pub events_of_changes : Subscription → List Publication → List TableChange → List Event
 events_of_changes s there [] = []
-events_of_changes s there (c ∷ cs) = change_events s there c ++ events_of_changes s (there_after there c) cs
+events_of_changes s there (c ∷ cs) = table_events s there c ++ events_of_changes s (there_after there c) cs
 
 -- the transitions of a subscription: the publications that are there as additions in order, then each change
 abbrev pub transitions : Subscription → List Publication → List TableChange → List Event
@@ -71,4 +71,4 @@ pub record Knows (s : Subscription) (w : Watcher) (there : List Publication) : T
 
 -- a subscription that was told of several changes, one after another
 abbrev pub told_all : Watcher → List TableChange → Watcher
-told_all w cs = fold (λ v c. told (as_told c) v) w cs
+told_all w cs = fold (λ v c. after_change (as_told c) v) w cs

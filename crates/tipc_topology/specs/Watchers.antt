@@ -63,16 +63,7 @@ concerns w p = not w.ended && is_watched w.asked p
 -- the subscription after an addition, with these counts, so many more that it knows of, and these further events
 abbrev pub after_addition : Watcher → Counts → ℕ → List Event → Watcher
 after_addition w counts more events =
-    record {
-      number = w.number;
-      asked = w.asked;
-      left = w.left;
-      ended = w.ended;
-      counts = counts;
-      known = w.known + more;
-      events = w.events ++ events;
-      room = w.room - 1;
-    }
+    record w { counts = counts; known = w.known + more; events = w.events ++ events; room = w.room - 1 }
 
 -- An added publication is told of where each is; else where it is the first of its range.
 unfoldable pub added : Watcher → Publication → Watcher
@@ -90,17 +81,7 @@ loses w p =
 
 -- the subscription after it lost one that it knew of, with these counts and these further events
 abbrev pub after_removal : Watcher → Counts → List Event → Watcher
-after_removal w counts events =
-    record {
-      number = w.number;
-      asked = w.asked;
-      left = w.left;
-      ended = w.ended;
-      counts = counts;
-      known = w.known - 1;
-      events = w.events ++ events;
-      room = w.room;
-    }
+after_removal w counts events = record w { counts = counts; known = w.known - 1; events = w.events ++ events }
 
 -- A removed publication is told of where each is; else where it was the last of its range.
 unfoldable pub removed : Watcher → Publication → Watcher
@@ -134,31 +115,11 @@ is_due w = not w.ended && (not (w.asked.timeout == 4294967295) && nat_le w.left 
 
 -- the subscription that timed out: this is its last event
 abbrev pub ended_now : Watcher → Watcher
-ended_now w =
-    record {
-      number = w.number;
-      asked = w.asked;
-      left = 0;
-      ended = true;
-      counts = w.counts;
-      known = w.known;
-      events = w.events ++ timeout_of w.asked ∷ [];
-      room = w.room;
-    }
+ended_now w = record w { left = 0; ended = true; events = w.events ++ timeout_of w.asked ∷ [] }
 
 -- the subscription with one tick less to last, where it doesn't last for ever
 abbrev pub one_less : Watcher → Watcher
-one_less w =
-    record {
-      number = w.number;
-      asked = w.asked;
-      left = w.left - (if w.asked.timeout == 4294967295 then 0 else 1);
-      ended = w.ended;
-      counts = w.counts;
-      known = w.known;
-      events = w.events;
-      room = w.room;
-    }
+one_less w = record w { left = w.left - (if w.asked.timeout == 4294967295 then 0 else 1) }
 
 -- the subscription after a tick
 unfoldable pub ticked : Watcher → Watcher
@@ -166,28 +127,8 @@ ticked w = if is_due w then ended_now w else one_less w
 
 -- the subscription with room for so many additions
 abbrev pub with_room : ℕ → Watcher → Watcher
-with_room room w =
-    record {
-      number = w.number;
-      asked = w.asked;
-      left = w.left;
-      ended = w.ended;
-      counts = w.counts;
-      known = w.known;
-      events = w.events;
-      room = room;
-    }
+with_room room w = record w { room = room }
 
 -- the subscription where its first event was taken
 abbrev pub without_first : Watcher → Watcher
-without_first w =
-    record {
-      number = w.number;
-      asked = w.asked;
-      left = w.left;
-      ended = w.ended;
-      counts = w.counts;
-      known = w.known;
-      events = drop 1 w.events;
-      room = w.room;
-    }
+without_first w = record w { events = drop 1 w.events }

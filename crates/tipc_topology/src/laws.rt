@@ -5,10 +5,7 @@ ghost use Rattle.tipc_types.specs.declared.node_calls.Event.{Event};
 ghost use Rattle.tipc_types.specs.declared.node_calls.Subscription.{Subscription};
 ghost use Rattle.tipc_types.specs.declared.services.Publication.{Publication};
 ghost use Rattle.tipc_types.specs.Watching.{in_order, is_watched};
-ghost use Rattle.tipc_journal.specs.declared.entries.Entry.{Entry};
-ghost use Rattle.tipc_journal.specs.Subscriptions.{change_events as entry_events};
 ghost use Rattle.tipc_topology.specs.declared.changes.TableChange.{TableChange};
-ghost use Rattle.tipc_topology.specs.Entries.{change_of, events_where};
 ghost use Rattle.tipc_topology.specs.Transitions.{told_all, transitions, ArePossible};
 ghost use Rattle.tipc_topology.specs.Changing.{due, ended_at, passed, with_kept, AreKept, Watchers};
 ghost use Rattle.tipc_topology.specs.Watchers.{began, ticked, without_first, Watcher};
@@ -30,12 +27,6 @@ pub fn taken_events_are_a_front()
         all ≡ (taken ++ e ∷ []) ++ (without_first w).events }
     ensures last { (all taken : List Event) (w : Watcher) →
         all ≡ taken ++ w.events → slice_get w.events 0 ≡ None → all ≡ taken }
-{}
-
-/// The events of a subscriber at an entry of a journal are those at the change of the table that the entry tells of.
-pub fn entries_are_changes()
-    ensures { (s : Subscription) (there : List Publication) (e : Entry) →
-        entry_events s there e ≡ events_where s there (change_of there e) }
 {}
 
 /// In a tick the subscriptions that are due end, one after another; none is due then, and the tick passes for all.

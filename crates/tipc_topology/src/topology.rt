@@ -4,7 +4,7 @@ ghost use Rattle.std.specs.Prelude.{◌≡◌, ◌≤◌, ◌<◌, ◌+◌, ◌+
 ghost use Rattle.std.specs.List.{AllPairs};
 ghost use Rattle.tipc_topology.specs.Watchers.{added, is_due, removed, ticked, with_room, Watcher};
 ghost use Rattle.tipc_types.specs.declared.services.Publication.{Publication};
-ghost use Rattle.tipc_topology.specs.Changing.{changed, due, ended_at, events_left, has_number, no_watchers, of_number, passed, subscribed, taken_from, with_addition, with_kept, with_loss, with_room_for, without, is_filter, is_of_one};
+ghost use Rattle.tipc_topology.specs.Changing.{changed, due, ended_at, events_left, has_number, no_watchers, of_number, passed, subscribed, with_event_taken, with_addition, with_kept, with_loss, with_room_for, without_number, is_filter, is_of_one};
 
 use crate::changes::{TableChange, in_order};
 use crate::watch::{PORTS, SERVICE, Watch};
@@ -325,7 +325,7 @@ impl Topology {
     /// `Unknown` exactly where no subscription of the number is there. It changes nothing.
     pub fn next_event(&mut self, number: u32) -> Result<Option<Event>, Unknown>
         ensures first { IfOk result (λ event. event ≡ slice_get (events_left (of_number self.old number)) 0) }
-        ensures ok { OnOk result (self.new ≡ with_kept self.old (taken_from number self.old.kept)) }
+        ensures ok { OnOk result (self.new ≡ with_kept self.old (with_event_taken number self.old.kept)) }
         ensures unknown { IsErr result ↔ (of_number self.old number ≡ None) }
         ensures err { OnErr result (self.new ≡ self.old) }
     {
@@ -341,7 +341,7 @@ impl Topology {
     ///
     /// `Unknown` exactly where no subscription of the number is there. It changes nothing.
     pub fn cancel(&mut self, number: u32) -> Result<(), Unknown>
-        ensures ok { OnOk result (self.new ≡ with_kept self.old (without number self.old.kept)) }
+        ensures ok { OnOk result (self.new ≡ with_kept self.old (without_number number self.old.kept)) }
         ensures unknown { IsErr result ↔ (of_number self.old number ≡ None) }
         ensures err { OnErr result (self.new ≡ self.old) }
     {

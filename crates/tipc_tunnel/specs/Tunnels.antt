@@ -10,28 +10,28 @@ use Rattle.tipc_header.specs.Reading.{fields_at}
 use Rattle.tipc_header.specs.Grammar.{Fits}
 
 -- Payload, bundles, name items and fragments may stand inside a tunnel packet.
-abbrev pub may_stand_inside : Header → Bool
-may_stand_inside (header.Payload m) = true
-may_stand_inside (header.Bundler b) = true
-may_stand_inside (header.NameDistributor n) = true
-may_stand_inside (header.Fragmenter f) = true
-may_stand_inside _ = false
+abbrev pub may_stand_in_tunnel : Header → Bool
+may_stand_in_tunnel (header.Payload m) = true
+may_stand_in_tunnel (header.Bundler b) = true
+may_stand_in_tunnel (header.NameDistributor n) = true
+may_stand_in_tunnel (header.Fragmenter f) = true
+may_stand_in_tunnel _ = false
 
 -- a packet that may stand inside a tunnel packet
-pub record IsInner (bytes : List ℕ) : Type 0 where
+pub record IsTunnellable (bytes : List ℕ) : Type 0 where
   pub packet : Fields
   pub fits : Fits packet
   pub spelled : bytes ≡ spelling packet
-  pub inside : may_stand_inside packet.header ≡ true
+  pub inside : may_stand_in_tunnel packet.header ≡ true
 
 -- such a packet with this sequence number
 pub record IsNumbered (number : ℕ) (bytes : List ℕ) : Type 0 where
-  pub inner : IsInner bytes
+  pub inner : IsTunnellable bytes
   pub sequence : inner.packet.sequence ≡ number
 
 -- what may be put into a tunnel packet: nothing, or such a packet under any numbers
 abbrev pub MayBeWrapped : List ℕ → Type 0
-MayBeWrapped bytes = (bytes ≡ []) ⊎ IsInner bytes
+MayBeWrapped bytes = (bytes ≡ []) ⊎ IsTunnellable bytes
 
 -- A run of no packets has the inner number 0 and carries nothing.
 abbrev pub IsRun : ℕ → ℕ → List ℕ → Type 0

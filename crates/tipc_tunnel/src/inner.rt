@@ -1,14 +1,14 @@
 //! The packet inside a tunnel packet.
 
 ghost use Rattle.std.specs.Prelude.{◌≡◌, ◌^◌, ◌<◌, ◌↔◌, [], IfOk, IsTrue};
-ghost use Rattle.tipc_tunnel.specs.Tunnels.{may_stand_inside, numbered, IsInner, IsNumbered, MayBeWrapped};
+ghost use Rattle.tipc_tunnel.specs.Tunnels.{may_stand_in_tunnel, numbered, IsTunnellable, IsNumbered, MayBeWrapped};
 
 use std::alloc::{AllocError, Global};
 use tipc_header::{Header, Packet, decode, encode};
 
 /// Whether a packet with this header may stand inside a tunnel packet.
-fn may_stand_inside(header: &Header) -> bool
-    ensures { result ≡ may_stand_inside header.now }
+fn may_stand_in_tunnel(header: &Header) -> bool
+    ensures { result ≡ may_stand_in_tunnel header.now }
 {
     matches!(
         header,
@@ -19,10 +19,10 @@ fn may_stand_inside(header: &Header) -> bool
 /// Whether the bytes are a packet that may stand inside a tunnel packet: payload, a bundle, name items or a fragment.
 /// (This project's profile.)
 pub fn may_be_tunnelled(bytes: &[u8]) -> bool
-    ensures { IsTrue result ↔ IsInner bytes.now }
+    ensures { IsTrue result ↔ IsTunnellable bytes.now }
 {
     match decode(bytes) {
-        Ok(packet) => may_stand_inside(&packet.header),
+        Ok(packet) => may_stand_in_tunnel(&packet.header),
         Err(_) => false,
     }
 }
@@ -32,7 +32,7 @@ pub(crate) fn is_numbered(number: u16, bytes: &[u8]) -> bool
     ensures { IsTrue result ↔ IsNumbered number bytes.now }
 {
     match decode(bytes) {
-        Ok(packet) => may_stand_inside(&packet.header) && packet.sequence == number,
+        Ok(packet) => may_stand_in_tunnel(&packet.header) && packet.sequence == number,
         Err(_) => false,
     }
 }

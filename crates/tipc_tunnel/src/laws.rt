@@ -4,7 +4,7 @@ ghost use Rattle.std.specs.Prelude.{◌≡◌, ◌+◌, ◌≤◌, ◌<◌, ◌^
 ghost use Rattle.tipc_header.specs.Frames.{sent_as, stamped};
 ghost use Rattle.tipc_header.specs.Grammar.{Fits};
 ghost use Rattle.tipc_header.specs.Spelling.{Fields, renumbered, spelling};
-ghost use Rattle.tipc_tunnel.specs.Tunnels.{may_stand_inside, numbered, tunnel_packet, Carries, IsInner, IsNumbered, IsTunnel, Tunnelled};
+ghost use Rattle.tipc_tunnel.specs.Tunnels.{may_stand_in_tunnel, numbered, tunnel_packet, Carries, IsTunnellable, IsNumbered, IsTunnel, Tunnelled};
 
 /// A tunnel packet is a packet of the grammar, as it waits and as it is sent under whatever numbers and by whatever node. It has
 /// 48 bytes more than it carries.
@@ -37,8 +37,8 @@ pub fn one_tunnel_a_packet()
 pub fn inner_packets_keep_all_but_the_number()
     ensures packet { (p : Fields) → (number : ℕ) → Fits p →
         numbered number (spelling p) ≡ spelling (renumbered p p.acknowledgement number) }
-    ensures inside { (bytes : List ℕ) → (number : ℕ) → IsInner bytes → number < 2 ^ 16 →
+    ensures inside { (bytes : List ℕ) → (number : ℕ) → IsTunnellable bytes → number < 2 ^ 16 →
         IsNumbered number (numbered number bytes) }
     ensures same { (bytes : List ℕ) → (number : ℕ) → IsNumbered number bytes → numbered number bytes ≡ bytes }
-    ensures size { (bytes : List ℕ) → (number : ℕ) → IsInner bytes → length (numbered number bytes) ≡ length bytes }
+    ensures size { (bytes : List ℕ) → (number : ℕ) → IsTunnellable bytes → length (numbered number bytes) ≡ length bytes }
 {}

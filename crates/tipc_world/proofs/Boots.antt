@@ -7,7 +7,7 @@ use Rattle.tipc_world.specs.Skies.{AirState}
 use Rattle.tipc_world.specs.declared.events.WorldEvent.{WorldEvent}
 use Rattle.tipc_world.specs.declared.events.WorldEvent.TheVariants.{Know, Restart, Call, Arrive}
 use Rattle.tipc_world.specs.Calls.{counts_at}
-use Rattle.tipc_world.specs.Deeds.{Does}
+use Rattle.tipc_world.specs.Effects.{HasEffect}
 use Rattle.tipc_world.specs.Due.{unarrived}
 use Rattle.tipc_world.specs.Events.{AreSettled, IsSteady, JoinsAt}
 use Rattle.tipc_world.specs.Sound.{IsSound}
@@ -29,7 +29,7 @@ IsNext m m' = m'.node.boot ≤ m.node.boot + 1
 stays : (m m' : MemberState) → m'.node.boot ≡ m.node.boot → IsNext m m'
 stays m m' same = omega (arith, same)
 
-does_boot : (stamp : ℕ) (event : WorldEvent) (bytes : List ℕ) (m m' : MemberState) (frames : List Outgoing) (answered : Answer) → Does stamp event bytes m m' frames answered → IsNext m m'
+does_boot : (stamp : ℕ) (event : WorldEvent) (bytes : List ℕ) (m m' : MemberState) (frames : List Outgoing) (answered : Answer) → HasEffect stamp event bytes m m' frames answered → IsNext m m'
 does_boot stamp (Know node peer bearer) bytes m m' frames answered h = stays m m' (ap (λ (x : MemberState). x.node.boot) h.0)
 does_boot stamp (Restart node) bytes m m' frames answered h = let next = h.0.node.boot_is in omega (arith, next)
 does_boot stamp (Call node call) bytes m m' frames answered h = stays m m' h.turn.turn.boot

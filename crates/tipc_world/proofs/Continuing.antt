@@ -1,22 +1,12 @@
 -- Worlds that grow and go on, one after the other.
-use Rattle.std.proofs.Common.{◌≡◌, ℕ, ◌≤◌, List, [], ◌++◌, length, refl, sym, ap, subst, ◌∙◌, arith, append-nil, append_assoc, length-append}
-use Rattle.tipc_types.specs.Prefixes.{IsPrefixOf}
+use Rattle.std.proofs.Common.{◌≡◌, ℕ, ◌≤◌, length, refl, sym, subst, ◌∙◌, arith}
 use Rattle.tipc_world.specs.declared.places.Places.{Places}
 use Rattle.tipc_world.specs.Courses.{Continues}
 use Rattle.tipc_world.specs.Ends.{ends_of, AreBefore}
 use Rattle.tipc_world.specs.Growth.{Grows}
 use Rattle.tipc_world.specs.Skies.{air_on}
 use Rattle.tipc_world.specs.States.{WorldState, WorldView, history_at}
-
-prefix_same : {A : Type 0} (xs : List A) → IsPrefixOf xs xs
-prefix_same xs = ([], sym (append-nil xs))
-
-prefix_more : {A : Type 0} (xs ys zs : List A) → IsPrefixOf xs ys → IsPrefixOf ys zs → IsPrefixOf xs zs
-prefix_more xs ys zs p q = (p.0 ++ q.0, q.1 ∙ ap (λ ws. ws ++ q.0) p.1 ∙ append_assoc xs p.0 q.0)
-
--- a world is as long as it was, at least
-prefix_longer : {A : Type 0} (xs ys : List A) → IsPrefixOf xs ys → length xs ≤ length ys
-prefix_longer xs ys p = omega (arith, ap length p.1, length-append xs p.0)
+use Rattle.tipc_paired.proofs.wires.Wires.{prefix_same, prefix_trans as prefix_more, prefix_long as prefix_longer}
 
 pub grows_same : (w : WorldState) → Grows w w
 grows_same w = record { air = λ bearer. prefix_same (air_on bearer w.air); histories = λ n. prefix_same (history_at w.members n) }

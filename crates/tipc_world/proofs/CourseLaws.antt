@@ -1,27 +1,13 @@
 -- Courses of events, step by step.
-use Rattle.std.proofs.Common.{◌≡◌, ℕ, ◌<◌, Option, Some, None, Result, Ok, Err, refl, sym, subst, inl, inr, false}
-use Rattle.tipc_world.specs.declared.events.WorldEvent.{WorldEvent}
+use Rattle.std.proofs.Common.{◌≡◌, ℕ, ◌<◌, Result, Ok, Err, subst, inl, inr}
 use Rattle.tipc_world.specs.declared.events.WorldFault.{WorldFault}
-use Rattle.tipc_world.specs.declared.events.WorldFault.TheVariants as fault
 use Rattle.tipc_world.specs.declared.places.Places.{Places}
-use Rattle.tipc_world.specs.Courses.{Asks, Course, Drains, Goes, Maybe, Takes, TakesAll, Then}
+use Rattle.tipc_world.specs.Courses.{Asks, Course, Drains, Goes, Takes, TakesAll, Then}
 use Rattle.tipc_world.specs.Ends.{ends_of}
 use Rattle.tipc_world.specs.Settling.{Arrivals, Delivers, Round, Rounds, Settles}
 use Rattle.tipc_world.specs.States.{WorldState}
 
 -- ---- one number
-
--- a number asks for nothing
-pub takes_none : (asks : Asks) (number : ℕ) (now : WorldState) → asks now number ≡ None → Takes asks number now (Ok false) now
-takes_none asks number now e = let P : Option WorldEvent → Type 0 = λ o. Maybe o now (Ok false) now in subst P (sym e) (refl, refl)
-
--- memory ran out before what it asks for
-maybe_early : (asked : Option WorldEvent) (start : WorldState) → Maybe asked start (Err fault.NoMemory) start
-maybe_early None start = refl
-maybe_early (Some event) start = record { stops = refl; recorded = refl }
-
-pub takes_early : (asks : Asks) (number : ℕ) (start : WorldState) → Takes asks number start (Err fault.NoMemory) start
-takes_early asks number start = maybe_early (asks start number) start
 
 -- ---- numbers in order
 

@@ -10,7 +10,7 @@ use Rattle.tipc_world.specs.declared.events.WorldEvent.TheVariants.{Know, Restar
 use Rattle.tipc_world.specs.Air.{Leaves, leaving_on, with_leaving}
 use Rattle.tipc_world.specs.Skies.{AirState, air_on}
 use Rattle.tipc_world.specs.Calls.{node_of}
-use Rattle.tipc_world.specs.Deeds.{Does}
+use Rattle.tipc_world.specs.Effects.{HasEffect}
 use Rattle.tipc_world.specs.Due.{unarrived}
 use Rattle.tipc_world.specs.Growth.{Grows}
 use Rattle.tipc_world.specs.States.{MemberState, WorldState, contact_at, history, history_at}
@@ -25,7 +25,7 @@ pub prefix_same : {A : Type 0} (xs ys : List A) → ys ≡ xs → IsPrefixOf xs 
 prefix_same xs ys same = ([], same ∙ sym (append-nil xs))
 
 -- all that ever happened at a node
-does_grow : (stamp : ℕ) (event : WorldEvent) (bytes : List ℕ) (m m' : MemberState) (frames : List Outgoing) (answered : Answer) → Does stamp event bytes m m' frames answered → IsPrefixOf (history m) (history m')
+does_grow : (stamp : ℕ) (event : WorldEvent) (bytes : List ℕ) (m m' : MemberState) (frames : List Outgoing) (answered : Answer) → HasEffect stamp event bytes m m' frames answered → IsPrefixOf (history m) (history m')
 does_grow stamp (Know node peer bearer) bytes m m' frames answered h = prefix_same (history m) (history m') (history_same m m' (ap (λ (n : MemberState). n.past) h.0) (ap (λ (n : MemberState). n.node.journal) h.0))
 does_grow stamp (Restart node) bytes m m' frames answered h = prefix_same (history m) (history m') (history_restarted m m' h.0)
 does_grow stamp (Call node call) bytes m m' frames answered h = (step_entries (made_step stamp call m m' frames answered h), turn_history m m' [] _ frames (made_turn stamp call m m' frames answered h))

@@ -46,10 +46,6 @@ same_emits air air' met met' members a box lost same emits = record {
   lost_is = emits.lost_is;
 }
 
--- a box in which nothing is, and which tells of no loss
-pub empty_box : (box : Out) → box.frames ≡ [] → box.lost ≡ false → box ≡ no_frames
-empty_box box frames lost = λ i. record { frames = frames i; lost = lost i }
-
 -- Beside each frame stands the contact before the event, of those contacts that may end in it.
 pub happens_of : (old new : List (Option MemberState)) (air air' : AirState) (met : Met) (stamp : ℕ) (event : WorldEvent) (bytes : List ℕ) (box box' : Out) (answered : Answer) (lost : Bool)
     → ((b : ℕ) → StandsFor old new (node_of event) met b) → box ≡ no_frames → DidAt old new stamp event bytes box box' answered → Emits air air' (met_in met) new (node_of event) box' lost → Happens (stage old air) (stage new air') stamp event bytes answered lost

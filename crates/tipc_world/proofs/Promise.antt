@@ -7,7 +7,7 @@ use Rattle.tipc_types.specs.declared.message_forms.Flow.TheVariants.{Zero, One, 
 use Rattle.tipc_types.specs.declared.message_forms.Message.{Message}
 use Rattle.tipc_journal.specs.declared.entries.Entry.TheVariants as entry
 use Rattle.tipc_link.proofs.LinkLaw.{Each}
-use Rattle.tipc_twins.proofs.sights.Sights.{front}
+use Rattle.tipc_two_nodes.proofs.sights.Sights.{front}
 use Rattle.tipc_world.specs.Skies.{AirState}
 use Rattle.tipc_world.specs.Answered.{AreOrderly}
 use Rattle.tipc_world.specs.Good.{IsGood}

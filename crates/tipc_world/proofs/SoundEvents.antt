@@ -1,5 +1,5 @@
 -- Every event keeps a world sound.
-use Rattle.std.proofs.Common.{◌≡◌, ◌≢◌, ℕ, Bool, true, List, [], Option, Some, None, option_map, slice_index_or, refl, sym, ap, ◌∙◌, subst, inl, inr, get_or-set_same, get_or-set_other, ◌≤◌, ◌<◌, false, length, arith}
+use Rattle.std.proofs.Common.{◌≡◌, ◌≢◌, ℕ, Bool, true, List, [], Option, Some, None, option_map, slice_index_or, refl, sym, ap, ◌∙◌, subst, inl, inr, get_or-set_same, get_or-set_other, ◌≤◌, ◌<◌, false, length}
 use Rattle.std.specs.Prelude.{IfSome, is_some}
 use Rattle.std.proofs.lemmas.Bool.{cases_eq}
 use Rattle.tipc_types.specs.Address.{node_word}
@@ -7,18 +7,17 @@ use Rattle.tipc_types.specs.declared.node_calls.Answer.{Answer}
 use Rattle.tipc_outside.specs.declared.outgoing.Outgoing.{Outgoing}
 use Rattle.tipc_journal.specs.Steps.{NodeStep}
 use Rattle.tipc_node.specs.declared.neighbours.Neighbour.{Neighbour}
-use Rattle.tipc_link.specs.Links.{LinkEnd}
 use Rattle.tipc_pair.specs.Facing.{PairEnds, facing, other, with_made}
 use Rattle.tipc_node.specs.Nodes.{neighbour_of}
-use Rattle.tipc_node.specs.Telling.{AreAbreast}
+use Rattle.tipc_pair.specs.LinkReadings.{AreAbreast}
 use Rattle.tipc_node.specs.Turns.{PeerTurn, pair_in}
-use Rattle.tipc_node.proofs.pairs.PairEvents.{Any, On, OnBearer, closed_on}
+use Rattle.tipc_pair.proofs.turns.PairEvents.{Any, On, OnBearer, closed_on}
 use Rattle.tipc_pair.proofs.turns.PairKept.{both_facing, turn_kept, turn_own}
 use Rattle.tipc_world.specs.Skies.{AirState}
 use Rattle.tipc_world.specs.declared.events.WorldEvent.{WorldEvent}
 use Rattle.tipc_world.specs.declared.events.WorldEvent.TheVariants.{Know, Restart, Call, Arrive}
 use Rattle.tipc_world.specs.Calls.{node_of}
-use Rattle.tipc_world.specs.Deeds.{Does}
+use Rattle.tipc_world.specs.Effects.{HasEffect}
 use Rattle.tipc_world.specs.Members.{IsRestarted, known_member}
 use Rattle.tipc_world.specs.Sound.{IsNumber, IsPairOf, IsSound}
 use Rattle.tipc_world.specs.States.{MemberState, contact_at, knows, member_at, pair_at}
@@ -36,8 +35,8 @@ use Rattle.tipc_world.proofs.frames.Routes.{air_flies}
 use Rattle.tipc_world.proofs.pairs.Standing.{pair_between}
 use Rattle.tipc_world.proofs.streams.StreamsKept.{StreamsSound, streams_of, streams_same, turn_streams}
 use Rattle.tipc_world.proofs.pairs.Turning.{is_there, others_stay, was_there}
-
 -- ---- the node
+use Rattle.tipc_pair.proofs.turns.TurnMeans.{on_bearers}
 
 -- the peer that a node comes to know in an event
 abbrev pub comes_to_know : WorldEvent → Option ℕ
@@ -64,13 +63,6 @@ the_neighbour None x is = absurd cc
 the_neighbour (Some y) x is = (y, refl, (let same : y.pair ≡ x = cc in same))
 
 -- ---- the pair after a turn
-
-on_bearers : (x : PairEnds) → AreAbreast x → On x
-on_bearers x h = record {
-  two = let first = h.first in omega (arith, first);
-  near = subst (λ k. IfSome x.near (λ (e : LinkEnd). e.bearer ≡ k)) (sym h.first) h.near_on;
-  far = subst (λ k. IfSome x.far (λ (e : LinkEnd). e.bearer ≡ other k)) (sym h.first) h.far_on;
-}
 
 made_on : (x : PairEnds) → On x → (bearer : ℕ) → On (with_made (facing bearer x))
 made_on x h bearer = let there = both_facing OnBearer bearer x h in record { two = there.two; near = refl; far = there.far }
@@ -130,7 +122,7 @@ keeps_know s a peer bearer before after sound there was low unknown is within = 
 }
 
 keeps : (s : Stage) (stamp : ℕ) (event : WorldEvent) (bytes : List ℕ) (before after : MemberState) (frames : List Outgoing) (answered : Answer) → IsSound s.members s.air → slice_index_or s.members (node_of event) None ≡ Some before
-    → member_at s.members (node_of event) ≡ Some before → IsReady s.members s.air event bytes before → Does stamp event bytes before after frames answered → KeepsNode (node_of event) (comes_to_know event) before after
+    → member_at s.members (node_of event) ≡ Some before → IsReady s.members s.air event bytes before → HasEffect stamp event bytes before after frames answered → KeepsNode (node_of event) (comes_to_know event) before after
 keeps s stamp (Know a peer bearer) bytes before after frames answered sound there was ready h =
     keeps_know s a peer bearer before after sound there was ready.2 ready.3 h.0 h.3
 keeps s stamp (Restart a) bytes before after frames answered sound there was ready h = keeps_restart a before after h.0
@@ -201,7 +193,7 @@ taken_streams old new a before after bytes step frames lost sound t turn out =
     turn_streams old.members new.members old.air a before after bytes step frames sound t.was t.members (turn_history before after bytes step frames turn) turn.turn (are_brought old a before after bytes step frames sound t.was turn.turn out)
 
 streams_after : (old new : Stage) (stamp : ℕ) (event : WorldEvent) (bytes : List ℕ) (before after : MemberState) (frames : List Outgoing) (answered : Answer) (lost : Bool) → IsSound old.members old.air
-    → Turns old new (node_of event) before after frames lost → IsReady old.members old.air event bytes before → Does stamp event bytes before after frames answered → StreamsSound new.members
+    → Turns old new (node_of event) before after frames lost → IsReady old.members old.air event bytes before → HasEffect stamp event bytes before after frames answered → StreamsSound new.members
 streams_after old new stamp (Know a peer bearer) bytes before after frames answered lost sound t ready h =
     streams_same old.members new.members a before after (streams_of old.members old.air sound) t.was t.members (history_same before after (ap (λ (m : MemberState). m.past) h.0) (ap (λ (m : MemberState). m.node.journal) h.0))
 streams_after old new stamp (Restart a) bytes before after frames answered lost sound t ready h =

@@ -1,15 +1,14 @@
 -- A world is sound at the beginning, when a node comes in, and after every step.
-use Rattle.std.proofs.Common.{◌≡◌, ◌==◌, ◌<◌, ℕ, Bool, List, [], ◌++◌, Option, Some, None, map, option_map, option_and_then, slice_index_or, unwrap_or, refl, sym, ap, ◌∙◌, subst, inl, inr, arith}
+use Rattle.std.proofs.Common.{◌≡◌, ◌==◌, ◌<◌, ℕ, Bool, List, [], Option, Some, None, map, option_map, option_and_then, slice_index_or, unwrap_or, refl, sym, ap, ◌∙◌, subst, inl, inr, arith}
 use Rattle.std.specs.Prelude.{if◌then◌else◌, slice_get}
-use Rattle.std.specs.List.{flat_map}
 use Rattle.std.specs.Map.{lookup}
 use Rattle.std.proofs.lemmas.Bool.{cases_eq}
 use Rattle.tipc_types.specs.Address.{node_word}
 use Rattle.tipc_types.specs.declared.message_forms.Flow.TheVariants.{Zero}
 use Rattle.tipc_types.specs.declared.node_calls.Answer.{Answer}
 use Rattle.tipc_journal.proofs.StreamLaws.{accepted_nil, delivered_nil}
-use Rattle.tipc_twins.specs.Sights.{AreSeen, IsNew}
-use Rattle.tipc_twins.proofs.sights.Sights.{starts}
+use Rattle.tipc_two_nodes.specs.Sights.{AreSeen, IsNew}
+use Rattle.tipc_two_nodes.proofs.sights.Sights.{starts}
 use Rattle.tipc_node.specs.declared.neighbours.Neighbour.{Neighbour}
 use Rattle.tipc_world.specs.declared.air.Sent.{Sent}
 use Rattle.tipc_world.specs.declared.events.WorldEvent.{WorldEvent}
@@ -29,7 +28,7 @@ use Rattle.tipc_world.specs.Views.{given_in, put_in, sight_at, sight_from}
 use Rattle.tipc_world.proofs.pairs.Counts.{count_alone}
 use Rattle.tipc_world.proofs.LookUps.{boot_at-is, boot_at-same, count_at-is, count_at-same, either_way, history_at-is, history_at-same, member_at-is, pair_at-is, pair_at-same}
 use Rattle.tipc_world.proofs.SoundEvents.{happens_sound}
-use Rattle.tipc_world.proofs.streams.StreamsEvents.{joined_keeps_streams, streams_start}
+use Rattle.tipc_world.proofs.streams.StreamsEvents.{joined_keeps_streams, streams_start, no_history as new_history, member_alike}
 use Rattle.tipc_world.proofs.streams.StreamsKept.{streams_of}
 
 -- ---- after an event
@@ -65,17 +64,13 @@ absent_history : (members : List (Option MemberState)) (n : ℕ) → slice_index
 unfolding history_at member_at
 absent_history members n none = ap (λ o. unwrap_or (option_map history o) []) none
 
-absent_pair : (members : List (Option MemberState)) (n b : ℕ) → slice_index_or members n None ≡ None → pair_at members n b ≡ None
+pub absent_pair : (members : List (Option MemberState)) (n b : ℕ) → slice_index_or members n None ≡ None → pair_at members n b ≡ None
 unfolding pair_at member_at
 absent_pair members n b none = ap (λ o. option_and_then (λ (m : MemberState). pair_in m.node b) o) none
 
 absent_count : (members : List (Option MemberState)) (n b bearer epoch : ℕ) → slice_index_or members n None ≡ None → count_at members n b bearer epoch ≡ 0
 unfolding count_at member_at
 absent_count members n b bearer epoch none = ap (λ o. unwrap_or (option_map (λ (m : MemberState). count_of m b bearer epoch) o) 0) none
-
-new_history : (m : MemberState) (n : ℕ) → IsNewcomer m n → history m ≡ []
-unfolding history
-new_history m n c = ap (λ p. flat_map (λ entries. entries) p ++ m.node.journal) c.past ∙ c.node.no_history
 
 no_count : (counts : List Tally) (b bearer epoch : ℕ) → counts ≡ [] → count_in counts b bearer epoch ≡ 0
 unfolding count_in
@@ -101,10 +96,6 @@ newcomer_same members members' n m none there c =
       entries = history_at-is members' n m is ∙ new_history m n c ∙ sym (absent_history members n none);
       numbered = λ b bearer epoch. count_at-is members' n b bearer epoch m is ∙ new_count m n b bearer epoch c ∙ sym (absent_count members n b bearer epoch none);
     }
-
-member_alike : (members members' : List (Option MemberState)) (n : ℕ) → slice_index_or members' n None ≡ slice_index_or members n None → member_at members' n ≡ member_at members n
-unfolding member_at
-member_alike members members' n same = same
 
 all_same : (old new : WorldState) (n : ℕ) → slice_index_or old.members n None ≡ None → IsJoined old new n → (a : ℕ) → IsSame old.members new.members a
 all_same old new n none j a = elim (cases_eq a n) [

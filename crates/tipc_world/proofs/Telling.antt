@@ -4,15 +4,16 @@ use Rattle.std.specs.Prelude.{if◌then◌else◌, is_some, nat_le}
 use Rattle.tipc_journal.specs.Contacts.{contact, up_epochs}
 use Rattle.tipc_journal.proofs.ContactLaws.{contact_nil, up_epochs_nil}
 use Rattle.tipc_pair.specs.Facing.{PairEnds, contact_between, facing, is_up_at as is_up_in}
-use Rattle.tipc_node.specs.Telling.{epochs_of, epochs_on}
+use Rattle.tipc_pair.specs.LinkReadings.{epochs_of, epochs_on}
 use Rattle.tipc_node.specs.Turns.{addr_of, pair_in}
 use Rattle.tipc_world.specs.Numbers.{end_on}
 use Rattle.tipc_world.specs.Shared.{AreShared}
-use Rattle.tipc_world.specs.States.{MemberState, contact_at, member_at, pair_at}
+use Rattle.tipc_world.specs.States.{MemberState, contact_at, pair_at}
 use Rattle.tipc_world.specs.Told.{IsToldOf}
 use Rattle.tipc_world.proofs.journals.Kept.{up_some}
 use Rattle.tipc_world.proofs.LookUps.{member_at-is, pair_at-is}
 use Rattle.tipc_world.proofs.names.Agreed.{journal_is, no_journal}
+use Rattle.tipc_world.proofs.SoundWorlds.{absent_pair as no_pair}
 
 -- the link of a bearer is up exactly where it is told by its epochs
 up_told : (o : Option PairEnds) (bearer : ℕ) → is_up_in (end_on bearer o) ≡ is_some (option_and_then (epochs_on bearer) o)
@@ -26,10 +27,6 @@ up_told (Some x) bearer = by (nat_le bearer 1)
 contact_of : (members : List (Option MemberState)) (a b : ℕ) (o : Option PairEnds) → pair_at members a b ≡ o → contact_at members a b ≡ option_and_then contact_between o
 unfolding contact_at
 contact_of members a b o is = ap (option_and_then contact_between) is
-
-no_pair : (members : List (Option MemberState)) (a b : ℕ) → slice_index_or members a None ≡ None → pair_at members a b ≡ None
-unfolding pair_at member_at
-no_pair members a b none = ap (λ o. option_and_then (λ (m : MemberState). pair_in m.node b) o) none
 
 -- of every two nodes
 pub journals_tell : (members : List (Option MemberState)) → AreShared members → (a b : ℕ) → IsToldOf members a b

@@ -18,7 +18,7 @@ use Rattle.tipc_header.specs.Spelling.{Fields, spelling}
 use Rattle.tipc_journal.specs.declared.entries.Entry.TheVariants as entry
 use Rattle.tipc_journal.specs.Steps.{NodeStep, PlacedStep}
 use Rattle.tipc_pair.specs.Facing.{other}
-use Rattle.tipc_node.specs.Telling.{is_reset, shown_contact}
+use Rattle.tipc_pair.specs.Contacts.{is_reset, shown_contact}
 use Rattle.tipc_node.specs.Turns.{IsTakenIn}
 use Rattle.tipc_world.specs.declared.air.Arrived.{Arrived}
 use Rattle.tipc_world.specs.declared.air.Sent.{Sent}

@@ -21,13 +21,13 @@ IsPickedIn gives turn m (Call node call) answered = IsPicked gives turn (addr_of
 IsPickedIn gives turn m other answered = Unit {0}
 
 -- a chooser goes to its next turn where a message was sent by name
-abbrev pub turned : {P : Type 0} → Choosing P → Bool → Choosing P
-turned c sent = record { pick = c.pick; turn = if sent then (c.turn + 1) % 2 ^ 64 else c.turn }
+abbrev pub after_choice : {P : Type 0} → Choosing P → Bool → Choosing P
+after_choice c sent = record { pick = c.pick; turn = if sent then (c.turn + 1) % 2 ^ 64 else c.turn }
 
 -- what an event at a node made of the chooser, where it was answered so
 pub record Chooses {P : Type 0} (gives : P → ℕ → ℕ → ℕ → Type 0) (m : MemberState) (event : WorldEvent) (answered : Answer) (old new : Choosing P) : Type 0 where
   pub picked : (turn : ℕ) → turn % 2 ^ 64 ≡ old.turn → IsPickedIn (gives old.pick) turn m event answered
-  pub turns : new ≡ turned old (is_named_send event answered)
+  pub turns : new ≡ after_choice old (is_named_send event answered)
 
 -- the same of the node at which it happened
 abbrev pub ChoosesAt : {P : Type 0} → (P → ℕ → ℕ → ℕ → Type 0) → List (Option MemberState) → WorldEvent → Answer → Choosing P → Choosing P → Type 0

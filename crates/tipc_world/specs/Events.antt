@@ -6,7 +6,7 @@ use Rattle.tipc_outside.specs.Frames.{Out}
 use Rattle.tipc_node.specs.Nodes.{neighbour_of}
 use Rattle.tipc_world.specs.declared.events.WorldEvent.{WorldEvent}
 use Rattle.tipc_world.specs.Calls.{node_of}
-use Rattle.tipc_world.specs.Deeds.{Did}
+use Rattle.tipc_world.specs.Effects.{Did}
 use Rattle.tipc_world.specs.Members.{IsNewcomer}
 use Rattle.tipc_world.specs.States.{MemberState}
 

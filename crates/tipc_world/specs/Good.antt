@@ -10,7 +10,7 @@ use Rattle.tipc_header.specs.Frames.{frame_of}
 use Rattle.tipc_header.specs.Grammar.{Fits}
 use Rattle.tipc_header.specs.Spelling.{Fields, spelling}
 use Rattle.tipc_node.specs.Turns.{addr_of}
-use Rattle.tipc_twins.specs.Truth.{AreTrue}
+use Rattle.tipc_two_nodes.specs.Truth.{AreTrue}
 use Rattle.tipc_world.specs.declared.air.Sent.{Sent}
 use Rattle.tipc_world.specs.Lawful.{AreLawful, HasBegun}
 use Rattle.tipc_world.specs.Answered.{AreOrderly}

@@ -5,7 +5,7 @@ pub mod Air
 pub mod Due
 pub mod Calls
 pub mod Members
-pub mod Deeds
+pub mod Effects
 pub mod Steps
 pub mod Growth
 pub mod Limits

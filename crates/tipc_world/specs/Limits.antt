@@ -1,7 +1,7 @@
 -- When a limit of a world is reached, and what an event makes of the world then.
 use Rattle.std.specs.Prelude.{◌≡◌, ◌≤◌, ◌<◌, ℕ, Bool, true, false, List, Option, None, option_map, unwrap_or, slice_index_or}
 use Rattle.tipc_types.specs.declared.node_calls.Answer.{Answer}
-use Rattle.tipc_node.specs.Nodes.{has_room}
+use Rattle.tipc_journal.specs.Room.{has_journal_room}
 use Rattle.tipc_world.specs.declared.events.Limit.TheVariants as limit
 use Rattle.tipc_world.specs.declared.events.WorldEvent.{WorldEvent}
 use Rattle.tipc_world.specs.declared.events.WorldFault.{WorldFault}
@@ -13,7 +13,7 @@ use Rattle.tipc_world.specs.Steps.{IsStep}
 
 -- whether the journal of a node has room for a call
 abbrev pub has_room_at : List (Option MemberState) → ℕ → Bool
-has_room_at members n = unwrap_or (option_map (λ m. has_room m.node.journal) (slice_index_or members n None)) true
+has_room_at members n = unwrap_or (option_map (λ m. has_journal_room m.node.journal) (slice_index_or members n None)) true
 
 -- no limit keeps an event from happening: it counts, and fewer than 300,000 have happened; it is a call, and the node's journal has room
 pub record IsFree (members : List (Option MemberState)) (air : AirState) (events : ℕ) (event : WorldEvent) : Type 0 where

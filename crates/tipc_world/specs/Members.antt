@@ -20,7 +20,7 @@ by_in stamp m = record { stamp = stamp; caller = 0; call = m.calls }
 
 -- the node recorded a call, which left it so
 abbrev pub called : MemberState → NodeState → MemberState
-called m n = record { node = n; past = m.past; calls = m.calls + 1; arrivals = m.arrivals; counts = m.counts }
+called m n = record m { node = n; calls = m.calls + 1 }
 
 -- ---- how many packets were numbered in sessions that are over
 
@@ -83,8 +83,7 @@ arrived_member m n sender bearer frame = record {
 
 -- the node has come to know a peer on a bearer
 abbrev pub known_member : MemberState → ℕ → ℕ → MemberState
-known_member m peer bearer =
-    record { node = known_node m.node peer bearer; past = m.past; calls = m.calls; arrivals = m.arrivals; counts = m.counts }
+known_member m peer bearer = record m { node = known_node m.node peer bearer }
 
 -- a node at the beginning of a boot: it knows nobody, and has no sockets and no history, which is what its journal tells
 pub record IsFresh (n : NodeState) (own boot : ℕ) : Type 0 where

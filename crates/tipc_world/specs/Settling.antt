@@ -11,7 +11,7 @@ use Rattle.tipc_world.specs.declared.settling.Settled.{Settled}
 use Rattle.tipc_world.specs.declared.settling.Settled.TheVariants.{Quiet, Unsettled}
 use Rattle.tipc_world.specs.Courses.{Course, Asks, TakesAll, Then}
 use Rattle.tipc_world.specs.Ends.{ends_of}
-use Rattle.tipc_world.specs.Readers.{load_of, receiver_at}
+use Rattle.tipc_world.specs.Readers.{world_load, receiver_at}
 use Rattle.tipc_world.specs.States.{WorldState, is_there}
 
 -- ---- what is asked for
@@ -72,5 +72,5 @@ settled_by load = if (load.0 == 0) && (load.1 == 0) then Quiet else Unsettled lo
 -- so many rounds are made
 abbrev pub Settles : ℕ → Course Settled
 Settles rounds start (Ok settled) now = (places : Places) × Rounds start rounds places now
-    × (settled ≡ settled_by (load_of now.members))
+    × (settled ≡ settled_by (world_load now.members))
 Settles rounds start (Err stop) now = RoundHalts rounds start stop now

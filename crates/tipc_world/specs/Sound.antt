@@ -5,7 +5,7 @@ use Rattle.tipc_types.specs.declared.message_forms.Flow.{Flow}
 use Rattle.tipc_types.specs.declared.message_forms.Flow.TheVariants.{Zero}
 use Rattle.tipc_types.specs.declared.message_forms.Message.{Message}
 use Rattle.tipc_pair.specs.Facing.{PairEnds}
-use Rattle.tipc_twins.specs.Sights.{AreSeen}
+use Rattle.tipc_two_nodes.specs.Sights.{AreSeen}
 use Rattle.tipc_world.specs.declared.air.Sent.{Sent}
 use Rattle.tipc_node.specs.Messages.{IsSendable}
 use Rattle.tipc_node.specs.Nodes.{is_frame_size}

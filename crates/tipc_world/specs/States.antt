@@ -163,8 +163,8 @@ abbrev pub knows : List (Option MemberState) → ℕ → ℕ → ℕ → Bool
 knows members a b bearer = is_some (link_at members a b bearer)
 
 -- whether there is one, and it is up
-abbrev pub is_up_at : List (Option MemberState) → ℕ → ℕ → ℕ → Bool
-is_up_at members a b bearer = is_up_in (link_at members a b bearer)
+abbrev pub is_link_up_at : List (Option MemberState) → ℕ → ℕ → ℕ → Bool
+is_link_up_at members a b bearer = is_up_in (link_at members a b bearer)
 
 -- whether a bearer is mended at a node
 abbrev pub is_mended_at : List (Option MemberState) → ℕ → ℕ → Bool

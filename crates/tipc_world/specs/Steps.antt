@@ -7,7 +7,7 @@ use Rattle.tipc_world.specs.declared.events.WorldEvent.{WorldEvent}
 use Rattle.tipc_world.specs.declared.events.WorldEvent.TheVariants.{Arrive}
 use Rattle.tipc_world.specs.Air.{Leaves}
 use Rattle.tipc_world.specs.Calls.{counts, is_call, node_of}
-use Rattle.tipc_world.specs.Deeds.{Does}
+use Rattle.tipc_world.specs.Effects.{HasEffect}
 use Rattle.tipc_world.specs.Due.{frame_for, unarrived}
 use Rattle.tipc_world.specs.Members.{IsNewcomer}
 use Rattle.tipc_world.specs.Skies.{AirState}
@@ -33,7 +33,7 @@ pub record Happens (old new : Stage) (stamp : ℕ) (event : WorldEvent) (bytes :
   pub before : MemberState
   pub after : MemberState
   pub frames : List Outgoing
-  pub does : Does stamp event bytes before after frames answered
+  pub does : HasEffect stamp event bytes before after frames answered
   pub turns : Turns old new (node_of event) before after frames lost
 
 -- the frame of that place in a bearer's air arrives at a node, or there is none that does

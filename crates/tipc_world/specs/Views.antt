@@ -6,7 +6,7 @@ use Rattle.tipc_journal.specs.declared.entries.Entry.{Entry}
 use Rattle.tipc_journal.specs.Streams.{accepted, delivered}
 use Rattle.tipc_pair.specs.Facing.{PairEnds}
 use Rattle.tipc_paired.specs.Views.{Frame, Node}
-use Rattle.tipc_twins.specs.Sights.{Sight}
+use Rattle.tipc_two_nodes.specs.Sights.{Sight}
 use Rattle.tipc_node.specs.Messages.{bytes_of}
 use Rattle.tipc_world.specs.Air.{sent_between}
 use Rattle.tipc_world.specs.Numbers.{begun_of, end_on, own_in, seen_in}

@@ -1,34 +1,21 @@
 -- What every world keeps besides: each journal is lawful, and each link as silent as the steps of its node tell.
-use Rattle.std.specs.Prelude.{◌≡◌, ℕ, All, IfSome, List, Option, Some, None, slice_index_or}
+use Rattle.std.specs.Prelude.{◌≡◌, ℕ, List, Option, Some, None, slice_index_or}
 use Rattle.tipc_journal.specs.declared.entries.Entry.{Entry}
 use Rattle.tipc_journal.specs.Steps.{steps}
-use Rattle.tipc_reassembly.specs.Tracing.{IsBegunBy}
-use Rattle.tipc_link.specs.Links.{LinkEnd, record_of}
-use Rattle.tipc_link.specs.Records.{Received}
-use Rattle.tipc_pair.specs.Facing.{PairEnds}
-use Rattle.tipc_pair.specs.Held.{CameBy}
+use Rattle.tipc_link.specs.Links.{LinkEnd}
 use Rattle.tipc_node.specs.declared.neighbours.Neighbour.{Neighbour}
-use Rattle.tipc_node.specs.Telling.{silence_in}
+use Rattle.tipc_pair.specs.LinkReadings.{silence_in}
 use Rattle.tipc_node.specs.Turns.{addr_of}
 use Rattle.tipc_world.specs.Causes.{HasTicked, Seen}
 use Rattle.tipc_world.specs.Lawful.{AreLawful}
 use Rattle.tipc_world.specs.Spelled.{HasBrought}
 use Rattle.tipc_world.specs.Skies.{AirState}
 use Rattle.tipc_world.specs.States.{MemberState, link_in}
+use Rattle.tipc_pair.specs.Traces.{KeepsBy}
 
 -- for each node p at least so many ticks stand in a journal as the link to p on a bearer was silent, since it was last heard there
 abbrev pub AreTicked : Seen → List Entry → (ℕ → ℕ → Option LinkEnd) → Type 0
 AreTicked seen journal links = (p bearer : ℕ) → HasTicked seen (steps journal) (addr_of p) bearer (silence_in (links p bearer))
-
--- each packet that a link end holds came by its arrival
-abbrev pub HoldsBy : (ℕ → List ℕ → Type 0) → Option LinkEnd → Type 0
-HoldsBy P end = IfSome end (λ e. (r : Received) → record_of e ≡ Some r → All (CameBy P) r.held)
-
--- and so did each fragment of the message that is begun
-pub record KeepsBy (P : ℕ → List ℕ → Type 0) (x : PairEnds) : Type 0 where
-  pub near : HoldsBy P x.near
-  pub far : HoldsBy P x.far
-  pub begun : IsBegunBy P x.begun
 
 -- what a node has of its peers and hasn't delivered yet was brought by frames that they sent
 abbrev pub AreTraced : Seen → List (Option Neighbour) → Type 0

@@ -9,11 +9,12 @@ ghost use Rattle.tipc_link.specs.Links.{numbered_in};
 ghost use Rattle.tipc_pair.specs.Facing.{contact_between, is_up_at, state_of, states_of};
 ghost use Rattle.tipc_pair.specs.PairCalls.{last_count_of};
 ghost use Rattle.tipc_node.specs.Calls.{CanPerform};
-ghost use Rattle.tipc_node.specs.Nodes.{contact_with, end_with, has_room, is_mended_on, load_of, neighbour_of};
+ghost use Rattle.tipc_node.specs.Nodes.{contact_with, end_with, is_mended_on, node_load, neighbour_of};
+ghost use Rattle.tipc_journal.specs.Room.{has_journal_room};
 ghost use Rattle.tipc_node.specs.Turns.{pair_in};
 ghost use Rattle.tipc_world.specs.Choices.{Chooses};
 ghost use Rattle.tipc_world.specs.Calls.{is_recorded, CallStops, CanDo, RecordStops};
-ghost use Rattle.tipc_world.specs.Deeds.{Did};
+ghost use Rattle.tipc_world.specs.Effects.{Did};
 ghost use Rattle.tipc_world.specs.Events.{IsSettledAt};
 ghost use Rattle.tipc_world.specs.Members.{by_in, last_in, noted, noted_both, over_in, over_with, sender_of, AreNoted, IsNewcomer, IsRestarted};
 ghost use Rattle.tipc_world.specs.Numbers.{own_in, seen_in};
@@ -277,9 +278,9 @@ impl Member {
     /// The limit of the journal, exactly where it has no room for a call.
     #[tactic(auto, using(crate::proofs::calls::Calls::call_fits))]
     fn begin(&self) -> Result<u64, WorldFault>
-        ensures ok { IfOk result (λ calls. (calls ≡ self.now.calls + 1) × (has_room self.now.node.journal ≡ true)) }
+        ensures ok { IfOk result (λ calls. (calls ≡ self.now.calls + 1) × (has_journal_room self.now.node.journal ≡ true)) }
         ensures full { IfErr result (λ fault.
-            (fault ≡ WorldFault.Limit Limit.Journal) × (has_room self.now.node.journal ≡ false)) }
+            (fault ≡ WorldFault.Limit Limit.Journal) × (has_journal_room self.now.node.journal ≡ false)) }
     {
         if self.node.has_room() {
             Ok(self.calls + 1)
@@ -364,7 +365,7 @@ impl Member {
 
     /// The numbers of packets unacknowledged and waiting on all its links that are up.
     pub fn load(&self) -> (u64, u64)
-        ensures { result ≡ load_of self.now.node }
+        ensures { result ≡ node_load self.now.node }
     {
         self.node.load()
     }
@@ -402,8 +403,8 @@ impl Member {
             Did stamp (WorldEvent.Call node call) [] self.old self.new out.old out.new a) }
         ensures chose { IfOk result (λ a. (node : ℕ) →
             Chooses P.gives self.old (WorldEvent.Call node call) a chooser.old chooser.new) }
-        ensures room { OnOk result (has_room self.old.node.journal ≡ true) }
-        ensures full { IfErr result (λ fault. RecordStops (has_room self.old.node.journal) fault) }
+        ensures room { OnOk result (has_journal_room self.old.node.journal ≡ true) }
+        ensures full { IfErr result (λ fault. RecordStops (has_journal_room self.old.node.journal) fault) }
         ensures err { OnErr result ((self.new ≡ self.old) × (out.new ≡ out.old) × (chooser.new ≡ chooser.old)) }
     {
         let calls = self.begin()?;
@@ -457,8 +458,8 @@ impl Member {
     ) -> Result<Answer, WorldFault>
         ensures did { IfOk result (λ a. (node : ℕ) →
             Did stamp (WorldEvent.Arrive node bearer place) frame.now self.old self.new out.old out.new a) }
-        ensures room { OnOk result (has_room self.old.node.journal ≡ true) }
-        ensures full { IfErr result (λ fault. RecordStops (has_room self.old.node.journal) fault) }
+        ensures room { OnOk result (has_journal_room self.old.node.journal ≡ true) }
+        ensures full { IfErr result (λ fault. RecordStops (has_journal_room self.old.node.journal) fault) }
         ensures err { OnErr result ((self.new ≡ self.old) × (out.new ≡ out.old)) }
     {
         let calls = self.begin()?;
@@ -490,8 +491,8 @@ impl Member {
         requires settled { (n : ℕ) × IsSettledAt self.old n }
         ensures did { IfOk result (λ a. Did stamp event [] self.old self.new out.old out.new a) }
         ensures chose { IfOk result (λ a. Chooses P.gives self.old event a chooser.old chooser.new) }
-        ensures room { is_recorded event ≡ true → OnOk result (has_room self.old.node.journal ≡ true) }
-        ensures full { IfErr result (λ fault. CallStops event (has_room self.old.node.journal) fault) }
+        ensures room { is_recorded event ≡ true → OnOk result (has_journal_room self.old.node.journal ≡ true) }
+        ensures full { IfErr result (λ fault. CallStops event (has_journal_room self.old.node.journal) fault) }
         ensures err { OnErr result ((self.new ≡ self.old) × (out.new ≡ out.old) × (chooser.new ≡ chooser.old)) }
     {
         match event {

@@ -4,9 +4,9 @@ ghost use Rattle.std.specs.Prelude.{◌≡◌, ◌≤◌, ◌+◌, ◌++◌, [],
 ghost use Rattle.std.specs.Option.{option_copied};
 ghost use Rattle.tipc_pair.specs.Facing.{state_of, states_of};
 ghost use Rattle.tipc_types.specs.declared.message_forms.Flow.TheVariants.{Zero};
-ghost use Rattle.tipc_world.specs.Readers.{link_shown, links_of, load_of, node_number, receiver_at, receiver_number, sender_at, table_of, unacked_in, waiting_in};
+ghost use Rattle.tipc_world.specs.Readers.{link_shown, links_of, world_load, node_number, receiver_at, receiver_number, sender_at, table_of, unacked_in, waiting_in};
 ghost use Rattle.tipc_world.specs.Skies.{air_on};
-ghost use Rattle.tipc_world.specs.States.{accepted_at, arrivals_at, counted, delivered_at, flow_of, is_mended_at, is_there, is_up_at, knows, link_at, node_at, pair_at, past_at};
+ghost use Rattle.tipc_world.specs.States.{accepted_at, arrivals_at, counted, delivered_at, flow_of, is_mended_at, is_there, is_link_up_at, knows, link_at, node_at, pair_at, past_at};
 
 use crate::air::{Air, Arrived, Sent};
 use crate::flying::contact_at;
@@ -68,9 +68,9 @@ fn load_at(member: &Option<Member>) -> (u64, u64)
 }
 
 /// The numbers of packets unacknowledged and waiting at all nodes.
-#[tactic(auto, unfolding(crate::specs::Readers::load_of))]
+#[tactic(auto, unfolding(crate::specs::Readers::world_load))]
 fn load_all(members: &[Option<Member>]) -> (u64, u64)
-    ensures { result ≡ load_of members.now }
+    ensures { result ≡ world_load members.now }
 {
     let mut unacked = 0_u64;
     let mut waiting = 0_u64;
@@ -274,7 +274,7 @@ impl<P: Pick> World<P> {
 
     /// Whether the link end at node `a` to node `b` on a bearer is up.
     pub fn is_up(&self, a: u8, b: u8, bearer: u8) -> bool
-        ensures { result ≡ is_up_at self.now.state.members a b bearer }
+        ensures { result ≡ is_link_up_at self.now.state.members a b bearer }
     {
         match link_at(&self.members, a, b, bearer) {
             Some(state) => state.is_up(),
@@ -321,7 +321,7 @@ impl<P: Pick> World<P> {
 
     /// The numbers of packets unacknowledged and waiting at all nodes. Each stops at the last number of 64 bits.
     pub fn load(&self) -> (u64, u64)
-        ensures { result ≡ load_of self.now.state.members }
+        ensures { result ≡ world_load self.now.state.members }
     {
         load_all(&self.members)
     }

@@ -3,7 +3,7 @@
 ghost use Rattle.std.specs.Prelude.{◌≡◌, ◌≤◌, IfOk};
 ghost use Rattle.tipc_world.specs.Courses.{Continues, Takes, TakesAll};
 ghost use Rattle.tipc_world.specs.Ends.{ends_of, AreBefore};
-ghost use Rattle.tipc_world.specs.Readers.{load_of};
+ghost use Rattle.tipc_world.specs.Readers.{world_load};
 ghost use Rattle.tipc_world.specs.Settling.{arrival_asked, is_among, settled_by, tick_asked, Arrivals, Delivers, Round, Settles};
 
 use crate::events::{WorldEvent, WorldFault};
@@ -143,7 +143,7 @@ fn round<P: Pick>(alloc: Global, places: Places, world: &mut World<P>) -> Result
 
 /// Whether packets are under way, and how many.
 fn settled_by<P: Pick>(world: &World<P>) -> Settled
-    ensures { result ≡ settled_by (load_of world.now.state.members) }
+    ensures { result ≡ settled_by (world_load world.now.state.members) }
 {
     let (unacked, waiting) = world.load();
     if unacked == 0 && waiting == 0 {

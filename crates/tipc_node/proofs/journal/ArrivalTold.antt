@@ -30,7 +30,8 @@ use Rattle.tipc_node.specs.declared.neighbours.Neighbour.{Neighbour}
 use Rattle.tipc_node.specs.Arrivals.{Arrives, Hears, answered_work, heard_work}
 use Rattle.tipc_node.specs.Neighbours.{HearsAt, heard_neighbour, no_broadcast}
 use Rattle.tipc_node.specs.Nodes.{NodeState, arrival_deliveries, change_entries, delivery_of, neighbour_of, shown_contact, step_of, stop_of}
-use Rattle.tipc_node.specs.Telling.{AreAbreast, IsTold}
+use Rattle.tipc_node.specs.Telling.{IsTold}
+use Rattle.tipc_pair.specs.LinkReadings.{AreAbreast}
 use Rattle.tipc_node.specs.Turns.{NodeTurn, addr_of}
 use Rattle.tipc_node.specs.Works.{Work, addr_of_word, begun}
 use Rattle.tipc_node.proofs.journal.Calling.{done_answered}
@@ -38,17 +39,16 @@ use Rattle.tipc_node.proofs.journal.Concluding.{IsCall, call_told, others_kept}
 use Rattle.tipc_node.proofs.journal.Fating.{IsDone, IsLinked, contact_at}
 use Rattle.tipc_node.proofs.work.Greeting.{greets_items}
 use Rattle.tipc_node.proofs.journal.Happening.{changes_quiet}
-use Rattle.tipc_node.proofs.pairs.Knowing.{contact_is_some}
-use Rattle.tipc_node.proofs.pairs.Moves.{contact_by}
+use Rattle.tipc_pair.proofs.turns.Moves.{contact_is_some, contact_by}
 use Rattle.tipc_node.proofs.journal.Noting.{IsWorked, all_noted, begun_worked, worked_beside}
-use Rattle.tipc_node.proofs.pairs.PairEvents.{HappenedSo, happened_so}
-use Rattle.tipc_node.proofs.pairs.PairTells.{Tells}
+use Rattle.tipc_pair.proofs.turns.PairEvents.{HappenedSo, happened_so}
+use Rattle.tipc_pair.proofs.turns.PairTells.{Tells}
 use Rattle.tipc_node.proofs.journal.PeersTold.{puts_each_linked, puts_each_worked}
 use Rattle.tipc_node.proofs.Places.{set_either, set_there}
 use Rattle.tipc_node.proofs.journal.Putting.{IsInContact, all_delivered, all_given, not_nobody, still_in_contact}
 use Rattle.tipc_node.proofs.work.Senders.{sender_other}
 use Rattle.tipc_node.proofs.journal.SendsTold.{begun_linked}
-use Rattle.tipc_node.proofs.names.SharingEnds.{contact_by_story, on_bearers, told_by_story}
+use Rattle.tipc_pair.proofs.turns.TurnMeans.{contact_by_story, on_bearers, told_by_story}
 use Rattle.tipc_node.proofs.journal.Telling.{contact_goes}
 
 -- ---- what was heard, before anything is delivered

@@ -21,7 +21,7 @@ use Rattle.tipc_journal.specs.Refusals.{first_holding, is_among, made_by, refusa
 use Rattle.tipc_journal.specs.Steps.{IsInside, step_entries}
 use Rattle.tipc_journal.proofs.CountLaws.{sockets_made_step}
 use Rattle.tipc_journal.proofs.DueLaws.{queue_inside_nil}
-use Rattle.tipc_sockets.specs.SocketTables.{AreSockets, SocketTable, has_port, queue_at, taken_from, with_queues, with_socket}
+use Rattle.tipc_sockets.specs.SocketTables.{AreSockets, SocketTable, has_port, queue_at, with_first_taken, with_queues, with_socket}
 use Rattle.tipc_sockets.specs.Telling.{is_tick}
 use Rattle.tipc_sockets.proofs.StepsTold.{told_made, told_taken}
 use Rattle.tipc_node.specs.Calls.{Makes}
@@ -180,14 +180,14 @@ received_as [] = refl
 received_as (x ∷ xs) = refl
 
 pub receive_call : (n : NodeState) (by : By) (port : ℕ) → IsTold n → refusal (addr_of_word n.own) n.journal (event.Receive port) ≡ None → IsInside []
-    → IsCall n by (event.Receive port) (kept_answer (first_answer (waiting_at n.sockets port))) (begun n) (with_queues n.sockets (taken_from n.sockets.queues port))
+    → IsCall n by (event.Receive port) (kept_answer (first_answer (waiting_at n.sockets port))) (begun n) (with_queues n.sockets (with_first_taken n.sockets.queues port))
 receive_call n by port h none inner = of (queue_at n.sockets port) refl (there_is n port h none)
   where
     own : Addr
     own = addr_of_word n.own
 
     after : SocketTable
-    after = with_queues n.sockets (taken_from n.sockets.queues port)
+    after = with_queues n.sockets (with_first_taken n.sockets.queues port)
 
     goal : Answer → Type 0
     goal given = IsCall n by (event.Receive port) given (begun n) after

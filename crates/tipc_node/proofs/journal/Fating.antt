@@ -26,7 +26,7 @@ use Rattle.tipc_node.specs.declared.neighbours.Neighbour.{Neighbour}
 use Rattle.tipc_node.specs.Nodes.{NodeState, load_with}
 use Rattle.tipc_node.specs.Telling.{is_in_reach}
 use Rattle.tipc_node.specs.Works.{Work, addr_of_word, fate_of, fated, neighbour_at, waiting_to}
-use Rattle.tipc_node.proofs.pairs.ContactLoads.{load_contact}
+use Rattle.tipc_pair.proofs.turns.ContactLoads.{load_contact}
 use Rattle.tipc_node.proofs.journal.Noting.{IsWorked, reached_same, sent_by, worked_on}
 
 -- ---- contacts
@@ -82,7 +82,7 @@ fate_ports s m (Returned back) = refl
 fate_ports s m (ReturnDropped waiting) = refl
 fate_ports s m Dropped = refl
 
-fate_names : (s : SocketTable) (m : Message) (f : Fate) → (after_fate s m f).names ≡ s.names
+pub fate_names : (s : SocketTable) (m : Message) (f : Fate) → (after_fate s m f).names ≡ s.names
 fate_names s m (Queued ports) = refl
 fate_names s m (Returned back) = refl
 fate_names s m (ReturnDropped waiting) = refl

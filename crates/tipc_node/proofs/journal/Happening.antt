@@ -16,20 +16,22 @@ use Rattle.tipc_pair.specs.Facing.{contact_between}
 use Rattle.tipc_pair.specs.PairTurns.{quietly}
 use Rattle.tipc_sockets.specs.SocketTables.{AreSockets}
 use Rattle.tipc_node.specs.declared.neighbours.Neighbour.{Neighbour}
-use Rattle.tipc_node.specs.declared.neighbours.Deed.{Deed}
-use Rattle.tipc_node.specs.declared.neighbours.Deed.TheVariants as deed
-use Rattle.tipc_node.specs.Calls.{TakesPart, deed_work}
-use Rattle.tipc_node.specs.Neighbours.{begins, course_of, done}
-use Rattle.tipc_node.specs.Nodes.{NodeState, after_all, change_entries, deed_note, entries_all, entries_one, neighbour_of, step_of}
+use Rattle.tipc_node.specs.declared.neighbours.Upkeep.{Upkeep}
+use Rattle.tipc_node.specs.declared.neighbours.Upkeep.TheVariants as upkeep
+use Rattle.tipc_node.specs.Calls.{TakesPart, upkeep_work}
+use Rattle.tipc_node.specs.Neighbours.{course_of, done}
+use Rattle.tipc_pair.specs.Contacts.{begins}
+use Rattle.tipc_node.specs.Nodes.{NodeState, after_all, change_entries, upkeep_note, entries_all, entries_one, neighbour_of, step_of}
 use Rattle.tipc_node.specs.Sockets.{kept_answer}
-use Rattle.tipc_node.specs.Telling.{AreAbreast, IsTold}
+use Rattle.tipc_node.specs.Telling.{IsTold}
+use Rattle.tipc_pair.specs.LinkReadings.{AreAbreast}
 use Rattle.tipc_node.specs.Turns.{NodeTurn}
 use Rattle.tipc_node.specs.Works.{addr_of_word}
 use Rattle.tipc_node.proofs.journal.Calling.{done_answered}
 use Rattle.tipc_node.proofs.journal.Concluding.{IsCall, call_told, others_kept}
-use Rattle.tipc_node.proofs.pairs.Calm.{deed_happens, opening_of, own_calm}
-use Rattle.tipc_node.proofs.pairs.Moves.{AreSo, Goes, abreast_apt}
-use Rattle.tipc_node.proofs.pairs.TurnMoves.{first_runs}
+use Rattle.tipc_node.proofs.pairs.Calm.{upkeep_happens, opening_of, own_calm}
+use Rattle.tipc_pair.proofs.turns.Moves.{AreSo, Goes, abreast_apt}
+use Rattle.tipc_pair.proofs.turns.TurnMoves.{first_runs}
 use Rattle.tipc_node.proofs.journal.Noting.{AreQuiet, IsWorked, all_noted, begun_worked, worked_beside}
 
 -- ---- the entries of a change are quiet
@@ -60,31 +62,31 @@ apart_quiet own peer (ContactUp numbers ∷ cs) so calm = absurd cc
 apart_quiet own peer (ContactDown numbers states shown ∷ cs) so calm = absurd (let wrong : None ≡ Some numbers = so.0 in cc)
 
 -- so its entries are quiet, also those of the node itself
-deed_quiet : (n : NodeState) (b : ℕ) (d : Deed) (x : Neighbour) → IsTold n → neighbour_of n b ≡ Some x → AreAbreast x.pair → AreQuiet n.own (change_entries b (done d x).changes)
-deed_quiet n b d x h there abreast = by (node_word b == n.own) refl
+upkeep_quiet : (n : NodeState) (b : ℕ) (d : Upkeep) (x : Neighbour) → IsTold n → neighbour_of n b ≡ Some x → AreAbreast x.pair → AreQuiet n.own (change_entries b (done d x).changes)
+upkeep_quiet n b d x h there abreast = by (node_word b == n.own) refl
   where
     cs : List Transition
     cs = (done d x).changes
 
     goes : Goes x.pair (course_of d x).pair cs
-    goes = first_runs x.pair (opening_of d x) (quietly (course_of d x)) (abreast_apt x.pair abreast) (deed_happens d x).2 (deed_happens d x).0
+    goes = first_runs x.pair (opening_of d x) (quietly (course_of d x)) (abreast_apt x.pair abreast) (upkeep_happens d x).2 (upkeep_happens d x).0
 
     by : (mine : Bool) → (node_word b == n.own) ≡ mine → AreQuiet n.own (change_entries b cs)
     by false other = changes_quiet n.own b cs other
-    by true same = apart_quiet n.own b cs (subst (λ z. AreSo z cs) (self_apart n b x h there same) goes.so) (own_calm x.pair (opening_of d x) (quietly (course_of d x)) (deed_happens d x).1 (deed_happens d x).0).0
+    by true same = apart_quiet n.own b cs (subst (λ z. AreSo z cs) (self_apart n b x h there same) goes.so) (own_calm x.pair (opening_of d x) (quietly (course_of d x)) (upkeep_happens d x).1 (upkeep_happens d x).0).0
 
 -- the neighbours from a number on are those of the node
 abbrev AreOf : NodeState → ℕ → List (Option Neighbour) → Type 0
 AreOf n first xs = (k : ℕ) (x : Neighbour) → slice_index_or xs k None ≡ Some x → neighbour_of n (first + k) ≡ Some x
 
-first_quiet : (n : NodeState) (d : Deed) (first : ℕ) (x : Option Neighbour) (xs : List (Option Neighbour)) → IsTold n → AreOf n first (x ∷ xs) → AreQuiet n.own (entries_one d first x)
+first_quiet : (n : NodeState) (d : Upkeep) (first : ℕ) (x : Option Neighbour) (xs : List (Option Neighbour)) → IsTold n → AreOf n first (x ∷ xs) → AreQuiet n.own (entries_one d first x)
 first_quiet n d first None xs h all = tt
 first_quiet n d first (Some x) xs h all =
     let there : neighbour_of n first ≡ Some x = subst (λ k. neighbour_of n k ≡ Some x) (omega arith) (all 0 x refl) in
     let abreast = subst (λ o. IfSome o AreAbreast) (ap (option_map (λ (y : Neighbour). y.pair)) there) (h.links first).abreast in
-    deed_quiet n first d x h there abreast
+    upkeep_quiet n first d x h there abreast
 
-all_quiet : (n : NodeState) (d : Deed) (first : ℕ) (xs : List (Option Neighbour)) → IsTold n → AreOf n first xs → AreQuiet n.own (entries_all d first xs)
+all_quiet : (n : NodeState) (d : Upkeep) (first : ℕ) (xs : List (Option Neighbour)) → IsTold n → AreOf n first xs → AreQuiet n.own (entries_all d first xs)
 unfolding entries_all
 all_quiet n d first [] h all = tt
 all_quiet n d first (x ∷ xs) h all =
@@ -94,8 +96,8 @@ all_quiet n d first (x ∷ xs) h all =
 -- ---- the call
 
 -- the work on what happens to all neighbours, whose entries are quiet
-pub deed_worked : (n : NodeState) (d : Deed) → IsTold n → IsWorked n NothingDue NothingDue [] [] (deed_work d n) × AreQuiet n.own (entries_all d 0 n.neighbours)
-deed_worked n d h =
+pub upkeep_worked : (n : NodeState) (d : Upkeep) → IsTold n → IsWorked n NothingDue NothingDue [] [] (upkeep_work d n) × AreQuiet n.own (entries_all d 0 n.neighbours)
+upkeep_worked n d h =
     let es = entries_all d 0 n.neighbours in
     let quiet : AreQuiet n.own es = all_quiet n d 0 n.neighbours h (λ k x there. subst (λ j. neighbour_of n j ≡ Some x) (omega arith) there) in (
       all_noted n NothingDue [] [] (record { neighbours = after_all d n.neighbours; sockets = n.sockets; inside = [] }) es
@@ -104,33 +106,33 @@ deed_worked n d h =
     )
 
 -- a tick is another call
-abbrev pub IsNoTick : Deed → Type 0
-IsNoTick deed.Tick = ⊥
+abbrev pub IsNoTick : Upkeep → Type 0
+IsNoTick upkeep.Tick = ⊥
 IsNoTick d = Unit {0}
 
-deed_call : (n : NodeState) (by : By) (d : Deed) → IsTold n → IsNoTick d → IsInside (deed_work d n).inside → IsCall n by (deed_note d) answer.Done (deed_work d n) (deed_work d n).sockets
-deed_call n by d h other inner = of d refl
+upkeep_call : (n : NodeState) (by : By) (d : Upkeep) → IsTold n → IsNoTick d → IsInside (upkeep_work d n).inside → IsCall n by (upkeep_note d) answer.Done (upkeep_work d n) (upkeep_work d n).sockets
+upkeep_call n by d h other inner = of d refl
   where
-    worked : IsWorked n NothingDue NothingDue [] [] (deed_work d n)
-    worked = (deed_worked n d h).0
+    worked : IsWorked n NothingDue NothingDue [] [] (upkeep_work d n)
+    worked = (upkeep_worked n d h).0
 
-    of : (kind : Deed) → d ≡ kind → IsCall n by (deed_note d) answer.Done (deed_work d n) (deed_work d n).sockets
-    of (deed.Mend bearer) is = subst (λ k. IsCall n by (deed_note k) answer.Done (deed_work d n) (deed_work d n).sockets) (sym is) (record {
-      answered = done_answered (addr_of_word n.own) n.journal by (deed_note (deed.Mend bearer)) (deed_work d n).inside answer.Done refl refl;
+    of : (kind : Upkeep) → d ≡ kind → IsCall n by (upkeep_note d) answer.Done (upkeep_work d n) (upkeep_work d n).sockets
+    of (upkeep.Mend bearer) is = subst (λ k. IsCall n by (upkeep_note k) answer.Done (upkeep_work d n) (upkeep_work d n).sockets) (sym is) (record {
+      answered = done_answered (addr_of_word n.own) n.journal by (upkeep_note (upkeep.Mend bearer)) (upkeep_work d n).inside answer.Done refl refl;
       worked = worked;
-      kept = others_kept n by (deed_note (deed.Mend bearer)) answer.Done NothingDue [] [] (deed_work d n) h inner worked (record { stays = λ ports. refl; none = refl; quiet = λ q. refl; still = refl; nothing = λ number. refl });
+      kept = others_kept n by (upkeep_note (upkeep.Mend bearer)) answer.Done NothingDue [] [] (upkeep_work d n) h inner worked (record { stays = λ ports. refl; none = refl; quiet = λ q. refl; still = refl; nothing = λ number. refl });
       full = tt;
     })
-    of (deed.Cut bearer) is = subst (λ k. IsCall n by (deed_note k) answer.Done (deed_work d n) (deed_work d n).sockets) (sym is) (record {
-      answered = done_answered (addr_of_word n.own) n.journal by (deed_note (deed.Cut bearer)) (deed_work d n).inside answer.Done refl refl;
+    of (upkeep.Cut bearer) is = subst (λ k. IsCall n by (upkeep_note k) answer.Done (upkeep_work d n) (upkeep_work d n).sockets) (sym is) (record {
+      answered = done_answered (addr_of_word n.own) n.journal by (upkeep_note (upkeep.Cut bearer)) (upkeep_work d n).inside answer.Done refl refl;
       worked = worked;
-      kept = others_kept n by (deed_note (deed.Cut bearer)) answer.Done NothingDue [] [] (deed_work d n) h inner worked (record { stays = λ ports. refl; none = refl; quiet = λ q. refl; still = refl; nothing = λ number. refl });
+      kept = others_kept n by (upkeep_note (upkeep.Cut bearer)) answer.Done NothingDue [] [] (upkeep_work d n) h inner worked (record { stays = λ ports. refl; none = refl; quiet = λ q. refl; still = refl; nothing = λ number. refl });
       full = tt;
     })
-    of deed.Tick is = absurd (subst IsNoTick is other)
+    of upkeep.Tick is = absurd (subst IsNoTick is other)
 
-pub deed_told : (n n' : NodeState) (by : By) (d : Deed) (inside : List Entry) (frames : List Outgoing) (answered : Answer) → IsTold n → IsNoTick d → NodeTurn n n' [] (step_of by (deed_note d) inside (kept_answer answered)) frames
+pub upkeep_told : (n n' : NodeState) (by : By) (d : Upkeep) (inside : List Entry) (frames : List Outgoing) (answered : Answer) → IsTold n → IsNoTick d → NodeTurn n n' [] (step_of by (upkeep_note d) inside (kept_answer answered)) frames
     → AreSockets n'.sockets → TakesPart n by d n' frames answered → IsTold n'
-deed_told n n' by d inside frames answered h other t sound takes =
-    call_told n n' [] by (deed_note d) inside (kept_answer answered) answer.Done frames (deed_work d n) (deed_work d n).sockets h t (ap (λ (x : NodeState). x.journal) takes.0) (ap (λ (x : NodeState). x.sockets) takes.0) sound
-    (deed_call n by d h other)
+upkeep_told n n' by d inside frames answered h other t sound takes =
+    call_told n n' [] by (upkeep_note d) inside (kept_answer answered) answer.Done frames (upkeep_work d n) (upkeep_work d n).sockets h t (ap (λ (x : NodeState). x.journal) takes.0) (ap (λ (x : NodeState). x.sockets) takes.0) sound
+    (upkeep_call n by d h other)

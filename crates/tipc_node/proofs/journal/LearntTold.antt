@@ -13,31 +13,27 @@ use Rattle.tipc_journal.specs.declared.entries.Entry.TheVariants as entry
 use Rattle.tipc_journal.specs.Contacts.{contact}
 use Rattle.tipc_journal.specs.Dues.{Due, NothingDue}
 use Rattle.tipc_journal.proofs.Insides.{contact_inside}
-use Rattle.tipc_name_table.specs.Tables.{is_named, is_of, put, without}
+use Rattle.tipc_types.specs.Tables.{is_named, is_of, put, without}
 use Rattle.tipc_name_table.proofs.TableLaws.{table_kept, table_put}
 use Rattle.tipc_name_dist.specs.Applying.{applied, can_be_put, is_new, is_ordered, told_by}
 use Rattle.tipc_sockets.specs.Telling.{after_entry}
 use Rattle.tipc_sockets.specs.Publishing.{published, withdrawn}
 use Rattle.tipc_sockets.proofs.Entries.{told_entry}
 use Rattle.tipc_sockets.proofs.Keeping.{sockets_kept, sockets_published}
-use Rattle.tipc_node.specs.Learning.{fitting, learnt_by}
+use Rattle.tipc_sockets.specs.Learning.{fitting, learnt_by}
 use Rattle.tipc_node.specs.Nodes.{NodeState}
 use Rattle.tipc_node.specs.Telling.{is_in_reach}
 use Rattle.tipc_node.specs.Works.{Work, addr_of_word, noted, with_items, work_of}
 use Rattle.tipc_node.proofs.journal.Fating.{IsDone, linked_more}
-use Rattle.tipc_node.proofs.work.Learning.{all_told, fits_next, fits_not, found_named, held_found, names_after, names_with, none_told, told_from}
+use Rattle.tipc_sockets.proofs.Learning.{all_told, fits_next, fits_not, found_named, held_found, names_after, names_with, none_told, told_from}
 use Rattle.tipc_node.proofs.journal.Noting.{IsNext, IsWorked, all_kept, all_put, queues_none, quiet_worked, reach_same, reached_same, worked_on}
-
 -- ---- one publication
+use Rattle.tipc_link_fsm.proofs.Moves.{not_true as not_so}
 
 -- a peer: another node than this one, and in contact with it
 pub record IsPeer (n : NodeState) (inside : List Entry) (word : ℕ) : Type 0 where
   pub other : (word == n.own) ≡ false
   pub contact : is_some (contact (n.journal ++ inside) (addr_of_word word)) ≡ true
-
-not_so : (b : Bool) → not b ≡ true → b ≡ false
-not_so true h = absurd cc
-not_so false h = refl
 
 -- one that can be put stands in a table with those that are there
 placed : (table : List Publication) (p : Publication) → can_be_put table p ≡ true → (list_any (is_named p.at.node.word p.key) table ≡ false) × (count_by (is_of p.at.node.word) table < 1024)

@@ -22,8 +22,8 @@ use Rattle.tipc_journal.specs.Matches.{matches}
 use Rattle.tipc_journal.specs.Names.{table}
 use Rattle.tipc_journal.specs.Refusals.{is_nothing, refusal}
 use Rattle.tipc_journal.specs.Steps.{step_entries}
-use Rattle.tipc_name_table.specs.Matching.{covers, preferred}
-use Rattle.tipc_name_table.specs.Tables.{is_of}
+use Rattle.tipc_types.specs.Matching.{covers, preferred}
+use Rattle.tipc_types.specs.Tables.{is_of}
 use Rattle.tipc_sockets.specs.SocketTables.{AreSockets, has_port}
 use Rattle.tipc_sockets.proofs.Closing.{or_parts}
 use Rattle.tipc_sockets.proofs.Counting.{counts_none, none_counts}

@@ -18,7 +18,7 @@ use Rattle.tipc_journal.specs.Dues.{NothingDue}
 use Rattle.tipc_journal.specs.Refusals.{is_offer, refusal}
 use Rattle.tipc_journal.specs.Steps.{IsInside, step_entries}
 use Rattle.tipc_journal.proofs.MatchLaws.{live_at_home}
-use Rattle.tipc_name_table.specs.Tables.{is_named, is_of}
+use Rattle.tipc_types.specs.Tables.{is_named, is_of}
 use Rattle.tipc_name_dist.specs.Items.{telling}
 use Rattle.tipc_sockets.specs.declared.publishing.PublishFault.TheVariants as fault
 use Rattle.tipc_sockets.specs.Publishing.{closed, has_key, is_at, own_publication, published, published_at, withdrawn, withdrawn_each}
@@ -32,7 +32,7 @@ use Rattle.tipc_sockets.proofs.StepsTold.{told_closed}
 use Rattle.tipc_node.specs.Nodes.{NodeState, step_of}
 use Rattle.tipc_node.specs.Sockets.{closed_work, published_work, publication_refusal, refused_publication, told_closing, told_withdrawal, withdrawn_entries, withdrawn_work}
 use Rattle.tipc_node.specs.Telling.{IsTold, is_in_reach}
-use Rattle.tipc_node.specs.Works.{TellsPeers, Work, addr_of_word, begun, in_contact, noted, work_of}
+use Rattle.tipc_node.specs.Works.{TellsPeers, Work, addr_of_word, begun, peers_in_contact, noted, work_of}
 use Rattle.tipc_node.proofs.journal.Calling.{done_answered}
 use Rattle.tipc_node.proofs.journal.Concluding.{IsCall, others_kept, same_made}
 use Rattle.tipc_node.proofs.journal.Noting.{IsWorked, all_kept, all_put, begun_worked, queues_none, reach_same, reached_same, worked_more}
@@ -96,7 +96,7 @@ close_call n by port last frames h none tells inner =
     let mine : list_all (is_of n.own) ps ≡ true = all_kept (is_of n.own) (is_of n.own) (is_at port) (λ p at is. is) n.sockets.live (live_mine n h) in
     let s = fold after_entry n.sockets es in
     let withdrawn = all_withdrawn n [] [] (begun n) ps (begun_worked n NothingDue h) mine (closing_removable n.sockets h.sockets.sound port) in
-    let worked = tells_each_worked n NothingDue [] es s (told_closing n.sockets port) (closed_work n port) (in_contact n.neighbours) last frames withdrawn (tellings_items true ps) tells in
+    let worked = tells_each_worked n NothingDue [] es s (told_closing n.sockets port) (closed_work n port) (peers_in_contact n.neighbours) last frames withdrawn (tellings_items true ps) tells in
     let each = folded_each n.sockets ps in
     let bare : list_any (is_at port) s.live ≡ false = ap (λ (x : SocketTable). list_any (is_at port) x.live) each ∙ none_left_at n.sockets h.sockets.sound port in
     let same : closed s port ≡ closed n.sockets port = ap (λ x. closed x port) each ∙ withdrawn_then_closed n.sockets h.sockets.sound port in
@@ -139,7 +139,7 @@ withdraw_call n by port key last frames h none tells inner =
     let mine = found_mine n.own (is_offer port key) n.sockets.live (live_mine n h) in
     let one = all_withdrawn n [] [] (begun n) (option_to_list o) (begun_worked n NothingDue h) mine (offer_removable n.sockets h.sockets.sound port key) in
     let two = subst (λ es. IsWorked n NothingDue NothingDue [] (map entry.Withdrawn (option_to_list o)) (noted (begun n) es)) (sym (entries_of o)) one in
-    let three = tells_each_worked n NothingDue [] (map entry.Withdrawn (option_to_list o)) w.sockets (told_withdrawal n.sockets port key) w (in_contact n.neighbours) last frames two (tellings_items true (option_to_list o)) tells in
+    let three = tells_each_worked n NothingDue [] (map entry.Withdrawn (option_to_list o)) w.sockets (told_withdrawal n.sockets port key) w (peers_in_contact n.neighbours) last frames two (tellings_items true (option_to_list o)) tells in
     let after = work_of last.neighbours w.sockets last.inside in
     let worked = subst (λ es. IsWorked n NothingDue NothingDue [] es after) (ap (λ (ps : List Publication). map entry.Withdrawn (option_to_list (find (is_offer port key) ps))) (told_live n h)) three in
     record {
@@ -180,7 +180,7 @@ publish_call n by port range scope key last frames h none there sound tells inne
       stands = tt;
       leaves = λ z. refl;
     }) in
-    let worked = tells_each_worked n NothingDue [] (e ∷ []) w.sockets (telling false p) w (in_contact n.neighbours) last frames one (telling_items false p) tells in
+    let worked = tells_each_worked n NothingDue [] (e ∷ []) w.sockets (telling false p) w (peers_in_contact n.neighbours) last frames one (telling_items false p) tells in
     let after = work_of last.neighbours w.sockets last.inside in
     record {
       answered = done_answered own n.journal by (event.Publish port range scope key) last.inside answer.Done none refl;

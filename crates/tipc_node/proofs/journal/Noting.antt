@@ -20,7 +20,7 @@ use Rattle.tipc_journal.proofs.DueLaws.{due_behind_more, due_behind_nil}
 use Rattle.tipc_journal.proofs.FateLaws.{AllMayStand_more, AllMayStand_nil}
 use Rattle.tipc_journal.proofs.Insides.{contact_inside}
 use Rattle.tipc_journal.proofs.LicenceLaws.{sends_in_more, sends_in_nil}
-use Rattle.tipc_name_table.specs.Tables.{is_of, put, stands_before, without_node}
+use Rattle.tipc_types.specs.Tables.{is_of, put, stands_before, without_node}
 use Rattle.tipc_name_table.proofs.TableLaws.{table_kept}
 use Rattle.tipc_sockets.specs.SocketTables.{AreSockets, SocketTable}
 use Rattle.tipc_sockets.specs.Publishing.{purged}
@@ -34,7 +34,7 @@ use Rattle.tipc_node.specs.declared.neighbours.Neighbour.{Neighbour}
 use Rattle.tipc_node.specs.Nodes.{NodeState}
 use Rattle.tipc_node.specs.Telling.{IsTold, is_in_reach}
 use Rattle.tipc_node.specs.Works.{Work, addr_of_word, begun, noted}
-use Rattle.tipc_node.proofs.pairs.Moves.{tested}
+use Rattle.tipc_pair.proofs.acts.Walks.{tested}
 
 -- ---- the work so far
 

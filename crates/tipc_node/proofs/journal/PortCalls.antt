@@ -19,7 +19,7 @@ use Rattle.tipc_journal.specs.Licensed.{IsAnswered, is_reached}
 use Rattle.tipc_journal.specs.Refusals.{refusal}
 use Rattle.tipc_journal.specs.Steps.{step_entries}
 use Rattle.tipc_sockets.specs.SocketTables.{AreSockets, has_port}
-use Rattle.tipc_node.specs.Calls.{Sends, sender_refusal, way_refusal}
+use Rattle.tipc_node.specs.Calls.{SendsToPort, sender_refusal, way_refusal}
 use Rattle.tipc_node.specs.Messages.{direct, limit_of}
 use Rattle.tipc_node.specs.Nodes.{NodeState, step_of}
 use Rattle.tipc_node.specs.Sockets.{kept_answer}
@@ -94,7 +94,7 @@ port_way n n' by port to importance body _ kept inside frames h t sound journal 
     refused_told n n' by note reason kept inside frames h refl t sound journal same tt (subst (IsAnswered (addr_of_word n.own) n.journal (step_of by note [] reason)) (sym is) (inl (refl, refl))) (fifty, most)
 
 pub port_told : (n n' : NodeState) (by : By) (port : ℕ) (to : PortId) (importance : Importance) (body : List ℕ) (answered : Answer) (inside : List Entry) (frames : List Outgoing) → IsTold n → ArePacked n
-    → NodeTurn n n' [] (step_of by (event.SendPort port to importance body) inside (kept_answer answered)) frames → AreSockets n'.sockets → Sends n n' by port to importance body frames answered → IsTold n'
+    → NodeTurn n n' [] (step_of by (event.SendPort port to importance body) inside (kept_answer answered)) frames → AreSockets n'.sockets → SendsToPort n n' by port to importance body frames answered → IsTold n'
 port_told n n' by port to importance body answered inside frames h packed t sound sends = by_sender (sender_refusal n port body) refl
   where
     own : Addr

@@ -16,7 +16,7 @@ use Rattle.tipc_journal.specs.Dues.{Due, FateDue, NothingDue, ReturnDue, comes_h
 use Rattle.tipc_journal.specs.Fates.{MayStand, scene_at}
 use Rattle.tipc_journal.specs.Queues.{queued_by}
 use Rattle.tipc_journal.proofs.Insides.{contact_inside}
-use Rattle.tipc_pair.specs.Facing.{PairEnds, contact_between, facing, turned}
+use Rattle.tipc_pair.specs.Facing.{PairEnds, contact_between}
 use Rattle.tipc_pair.specs.PairTurns.{PutsOne}
 use Rattle.tipc_pair.specs.Messages.{pieces_for}
 use Rattle.tipc_reassembly.specs.declared.opening.Opened.{Opened}
@@ -30,17 +30,17 @@ use Rattle.tipc_node.specs.declared.arriving.Delivery.{Delivery}
 use Rattle.tipc_node.specs.declared.neighbours.Neighbour.{Neighbour}
 use Rattle.tipc_node.specs.Messages.{bytes_of, destination_of, message_in}
 use Rattle.tipc_node.specs.Nodes.{NodeState, accepted_entry, deliveries_of, delivered_by, delivery_of, shown_contact}
-use Rattle.tipc_node.specs.Works.{DeliversAll, DeliversTo, Follows, GoesAway, GoesBack, Puts, PutsEach, Settles, Work, addr_of_word, fate_of, fated, noted, waiting_to}
+use Rattle.tipc_node.specs.Works.{DeliversAll, DeliversTo, Follows, GoesAway, GoesBack, Puts, PutsEach, GivesFate, Work, addr_of_word, fate_of, fated, noted, waiting_to}
 use Rattle.tipc_node.specs.Works.DeliversAll.{none_left, one_more}
 use Rattle.tipc_node.proofs.journal.Fating.{IsDone, IsLinked, IsReturn, contact_at, fate_leaves, fated_worked, linked_more, returned_is}
 use Rattle.tipc_node.proofs.journal.LearntTold.{IsPeer, dropped_done, with_items_done}
 use Rattle.tipc_node.proofs.journal.Noting.{IsNext, IsWorked, delivered_worked, reached_same, sent_by, worked_more, worked_on}
-use Rattle.tipc_node.proofs.pairs.Moves.{contact_there}
-use Rattle.tipc_node.proofs.pairs.PairPuts.{active_there, meets_contact, put_meets}
+use Rattle.tipc_pair.proofs.turns.Moves.{contact_there}
+use Rattle.tipc_pair.proofs.turns.PairPuts.{active_there, meets_contact, put_meets}
 use Rattle.tipc_node.proofs.Places.{set_either, set_there}
 use Rattle.tipc_node.proofs.work.Stable.{IsStable, delivers_stable, puts_stable}
-
 -- ---- what is put leaves each contact
+use Rattle.tipc_pair.proofs.Facings.{facing_two}
 
 contact_set : (xs : List (Option Neighbour)) (peer : ℕ) (x y : Neighbour) → slice_index_or xs peer None ≡ Some x → contact_between y.pair ≡ contact_between x.pair → (a : Addr)
     → contact_at (slice_set xs peer (Some y)) a ≡ contact_at xs a
@@ -57,11 +57,6 @@ contact_set xs peer x y was same a = by (cases_eq (a.word - node_word 0) peer)
 -- a neighbour that is there has no number 0
 pub not_nobody : (xs : List (Option Neighbour)) (peer : ℕ) (x : Neighbour) → slice_index_or xs 0 None ≡ None → slice_index_or xs peer None ≡ Some x → 0 ≡ peer → ⊥
 not_nobody xs peer x none was is = (let wrong : None ≡ Some x = sym none ∙ ap (λ k. slice_index_or xs k None) is ∙ was in cc)
-
--- a pair is seen from one of its two links still
-facing_two : (bearer : ℕ) (x : PairEnds) → x.bearer ≤ 1 → (facing bearer x).bearer ≤ 1
-unfolding facing
-facing_two bearer x two = elim (x.bearer == bearer) as (λ b. (if b then x else turned x).bearer ≤ 1) [ true ↦ two | false ↦ omega arith ]
 
 put_two : (x : PairEnds) (pieces : List (List ℕ)) (y : PairEnds) (frames : List Outgoing) → PutsOne x pieces y frames → x.bearer ≤ 1 → y.bearer ≤ 1
 put_two x pieces y frames h two =
@@ -195,7 +190,7 @@ goes_back n d sends asked w m arrived back w' frames h linked r goes = by (comes
         (passed_worked n d sends asked w back w' frames now linked r.payload (goes.away is), puts_linked n w _ back w' frames linked (goes.away is))
 
 pub settles_worked : (n : NodeState) (d : Due) (sends asked : List Entry) (w : Work) (arrived : Bool) (m : Message) (w' : Work) (frames : List Outgoing) → IsWorked n d (FateDue m arrived) sends asked w → IsLinked n w
-    → is_payload m ≡ true → (arrived ≡ false → is_for_one_there w.sockets m ≡ true) → Settles n.own w arrived m w' frames → IsDone n d sends asked w'
+    → is_payload m ≡ true → (arrived ≡ false → is_for_one_there w.sockets m ≡ true) → GivesFate n.own w arrived m w' frames → IsDone n d sends asked w'
 settles_worked n d sends asked w arrived m w' frames h linked payload there settles = by (fate_of w arrived m) refl settles
   where
     own : Addr

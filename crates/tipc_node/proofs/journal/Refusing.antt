@@ -21,7 +21,7 @@ use Rattle.tipc_journal.specs.Queues.{sockets}
 use Rattle.tipc_journal.specs.Refusals.{first_free_type, first_holding, is_among, is_offer, no_socket, refusal, subscriptions_made, too_long}
 use Rattle.tipc_journal.specs.Subscriptions.{subscriptions, transitions}
 use Rattle.tipc_topology.specs.Changing.{is_filter, of_number}
-use Rattle.tipc_name_table.specs.Matching.{closest, covers}
+use Rattle.tipc_types.specs.Matching.{closest, covers}
 use Rattle.tipc_sockets.specs.declared.publishing.PublishFault.TheVariants as fault
 use Rattle.tipc_sockets.specs.Publishing.{has_key}
 use Rattle.tipc_sockets.specs.SocketTables.{has_port}

@@ -26,7 +26,8 @@ use Rattle.tipc_node.specs.declared.neighbours.Neighbour.{Neighbour}
 use Rattle.tipc_node.specs.Calls.{Goes, link_refusal, way_refusal}
 use Rattle.tipc_node.specs.Messages.{destination_of}
 use Rattle.tipc_node.specs.Nodes.{NodeState, neighbour_of, load_with, shown_contact}
-use Rattle.tipc_node.specs.Telling.{ArePacked, IsPacked, IsPackedEnd, IsPackedPair, IsTold}
+use Rattle.tipc_node.specs.Telling.{ArePacked, IsTold}
+use Rattle.tipc_pair.specs.LinkReadings.{IsPacked, IsPackedEnd, IsPackedPair}
 use Rattle.tipc_node.specs.Works.{Work, addr_of_word, begun, neighbour_at}
 use Rattle.tipc_node.proofs.journal.Fating.{IsLinked, contact_at, load_some}
 use Rattle.tipc_node.proofs.journal.Noting.{IsWorked, begun_worked}

@@ -13,7 +13,7 @@ use Rattle.tipc_journal.specs.Licensed.{events_given, next_answer}
 use Rattle.tipc_journal.specs.Refusals.{refusal}
 use Rattle.tipc_journal.specs.Steps.{IsInside}
 use Rattle.tipc_journal.specs.Subscriptions.{transitions}
-use Rattle.tipc_topology.specs.Changing.{cancelled, of_number, subscribed, taken_from, with_kept}
+use Rattle.tipc_topology.specs.Changing.{cancelled, of_number, subscribed, with_event_taken, with_kept}
 use Rattle.tipc_topology.specs.Watchers.{Watcher}
 use Rattle.tipc_sockets.specs.SocketTables.{with_watchers, SocketTable}
 use Rattle.tipc_sockets.proofs.Entries.{told_entry}
@@ -85,7 +85,7 @@ cancel_call n by number h none inner =
 
 -- the sockets where the first event of one is taken
 abbrev taken_sockets : NodeState → ℕ → SocketTable
-taken_sockets n number = with_watchers n.sockets (with_kept n.sockets.watchers (taken_from number n.sockets.watchers.kept))
+taken_sockets n number = with_watchers n.sockets (with_kept n.sockets.watchers (with_event_taken number n.sockets.watchers.kept))
 
 unrefused : (n : NodeState) (number : ℕ) → IsTold n → refusal (addr_of_word n.own) n.journal (event.NextEvent number) ≡ None → is_some (of_number n.sockets.watchers number) ≡ true
 unrefused n number h none = by (is_some (of_number n.sockets.watchers number)) (number_refused n number h ∙ none)

@@ -14,9 +14,10 @@ use Rattle.tipc_pair.specs.declared.transitions.Transition.{Transition}
 use Rattle.tipc_pair.specs.declared.transitions.Transition.TheVariants.{ContactDown, ContactUp, LinkDown, LinkUp}
 use Rattle.tipc_pair.specs.Facing.{PairEnds, contact_between}
 use Rattle.tipc_node.specs.Nodes.{change_entries, change_entry}
-use Rattle.tipc_node.specs.Telling.{epochs_on}
+use Rattle.tipc_pair.specs.LinkReadings.{epochs_on}
 use Rattle.tipc_node.specs.Turns.{addr_of, is_change_of}
-use Rattle.tipc_node.proofs.pairs.Moves.{Tells, contact_by, epochs_by, tested}
+use Rattle.tipc_pair.proofs.turns.Moves.{Tells, contact_by, epochs_by}
+use Rattle.tipc_pair.proofs.acts.Walks.{tested}
 
 -- ---- the journal after a step
 

@@ -20,7 +20,7 @@ use Rattle.tipc_node.specs.Sockets.{crowd_refusal, crowded_answer, first_crowded
 use Rattle.tipc_sockets.specs.Telling.{is_tick}
 use Rattle.tipc_node.specs.Telling.{IsFull, IsTold}
 use Rattle.tipc_node.specs.Turns.{NodeTurn}
-use Rattle.tipc_node.specs.Works.{TellsPeers, Work, addr_of_word, in_contact, work_of}
+use Rattle.tipc_node.specs.Works.{TellsPeers, Work, addr_of_word, peers_in_contact, work_of}
 use Rattle.tipc_node.proofs.journal.Calling.{AreRefusals, IsRefusal, holding_refuses}
 use Rattle.tipc_node.proofs.journal.Concluding.{IsCall, call_told}
 use Rattle.tipc_node.proofs.journal.PeersTold.{tells_each_sockets}
@@ -65,7 +65,7 @@ tells_told n n' by note r w s told answered inside frames h still t sound is ref
     by_crowd None none crowd =
         let step = tells.tells none crowd in
         let last = step.0 in
-        let same : n'.sockets ≡ w.sockets = ap (λ (x : NodeState). x.sockets) step.2 ∙ tells_each_sockets n.own told w (in_contact w.neighbours) last frames step.1 in
+        let same : n'.sockets ≡ w.sockets = ap (λ (x : NodeState). x.sockets) step.2 ∙ tells_each_sockets n.own told w (peers_in_contact w.neighbours) last frames step.1 in
         call_told n n' [] by note inside (kept_answer answered) answer.Done frames (work_of last.neighbours s last.inside) w.sockets h t (ap (λ (x : NodeState). x.journal) step.2) same sound
         (λ inner. done last (sym is ∙ none) step.1 (subst AreSockets same sound) inner)
 

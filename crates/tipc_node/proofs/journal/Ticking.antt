@@ -11,7 +11,7 @@ use Rattle.tipc_types.specs.declared.node_calls.By.{By}
 use Rattle.tipc_types.specs.declared.node_calls.EventNote.TheVariants as event
 use Rattle.tipc_types.specs.Watching.{in_order}
 use Rattle.tipc_outside.specs.declared.outgoing.Outgoing.{Outgoing}
-use Rattle.tipc_name_table.specs.Tables.{is_of}
+use Rattle.tipc_types.specs.Tables.{is_of}
 use Rattle.tipc_journal.specs.declared.entries.Entry.{Entry}
 use Rattle.tipc_journal.specs.declared.entries.Entry.TheVariants as entry
 use Rattle.tipc_journal.specs.Dues.{NothingDue}
@@ -26,11 +26,11 @@ use Rattle.tipc_sockets.specs.SocketTables.{with_watchers, AreSockets, SocketTab
 use Rattle.tipc_sockets.specs.Telling.{after_entry}
 use Rattle.tipc_sockets.proofs.StepsTold.{told_passed}
 use Rattle.tipc_sockets.proofs.Subscribers.{timeouts_told}
-use Rattle.tipc_node.specs.declared.neighbours.Deed.{Deed}
-use Rattle.tipc_node.specs.declared.neighbours.Deed.TheVariants as deed
-use Rattle.tipc_node.specs.Calls.{Ticks, deed_work, tick_work}
+use Rattle.tipc_node.specs.declared.neighbours.Upkeep.{Upkeep}
+use Rattle.tipc_node.specs.declared.neighbours.Upkeep.TheVariants as upkeep
+use Rattle.tipc_node.specs.Calls.{Ticks, upkeep_work, tick_work}
 use Rattle.tipc_node.specs.declared.neighbours.Neighbour.{Neighbour}
-use Rattle.tipc_node.specs.Nodes.{NodeState, after_all, deed_note, entries_all, is_change, mended_by, step_of, with_mended}
+use Rattle.tipc_node.specs.Nodes.{NodeState, after_all, upkeep_note, entries_all, is_change, mended_by, step_of, with_mended}
 use Rattle.tipc_node.specs.Sockets.{kept_answer, timeouts_of}
 use Rattle.tipc_node.specs.Telling.{IsTold}
 use Rattle.tipc_node.specs.Turns.{NodeTurn}
@@ -38,7 +38,7 @@ use Rattle.tipc_node.specs.Works.{Work, addr_of_word, concluded, noted}
 use Rattle.tipc_node.proofs.journal.Calling.{done_answered}
 use Rattle.tipc_node.proofs.work.Changes.{all_changes}
 use Rattle.tipc_node.proofs.journal.Concluding.{IsCall, call_told, same_made}
-use Rattle.tipc_node.proofs.journal.Happening.{deed_worked}
+use Rattle.tipc_node.proofs.journal.Happening.{upkeep_worked}
 use Rattle.tipc_node.proofs.journal.Noting.{AreQuiet, IsQuiet, IsWorked, all_timed_out}
 
 -- ---- which are due
@@ -99,21 +99,21 @@ timeouts_unmade (number ∷ numbers) = timeouts_unmade numbers
 
 -- the work before the tick passes for the subscriptions
 abbrev before_pass : NodeState → Work
-before_pass n = noted (deed_work deed.Tick n) (timeouts_of n.sockets)
+before_pass n = noted (upkeep_work upkeep.Tick n) (timeouts_of n.sockets)
 
 tick_call : (n : NodeState) (by : By) → IsTold n → IsInside (tick_work n).inside → IsCall n by event.Tick answer.Done (before_pass n) (tick_work n).sockets
 tick_call n by h inner =
     let own = addr_of_word n.own in
-    let es = entries_all deed.Tick 0 n.neighbours in
+    let es = entries_all upkeep.Tick 0 n.neighbours in
     let numbers = due n.sockets.watchers.kept in
-    let first = deed_worked n deed.Tick h in
-    let s = (deed_work deed.Tick n).sockets in
-    let ends = all_timed_out n NothingDue [] [] (deed_work deed.Tick n) numbers first.0 in
+    let first = upkeep_worked n upkeep.Tick h in
+    let s = (upkeep_work upkeep.Tick n).sockets in
+    let ends = all_timed_out n NothingDue [] [] (upkeep_work upkeep.Tick n) numbers first.0 in
     let asked : timeouts_of n.sockets ≡ map entry.TimedOut (timeouts n.journal) =
     ap (λ (ns : List ℕ). map entry.TimedOut ns) (timeouts_told n.journal [] (events_given n.journal) n.sockets.watchers refl (h.sockets.told NothingDue).watchers) in
     let worked = subst (λ es. IsWorked n NothingDue NothingDue [] es (before_pass n)) asked ends in
     let st = step_of by event.Tick (before_pass n).inside answer.Done in
-    let changes : list_all is_change es ≡ true = all_changes deed.Tick 0 n.neighbours in
+    let changes : list_all is_change es ≡ true = all_changes upkeep.Tick 0 n.neighbours in
     let same : due s.watchers.kept ≡ numbers = due_changes n.sockets es changes in
     let ended : (before_pass n).sockets ≡ with_watchers s (fold (λ t number. ended_at number t) s.watchers (due s.watchers.kept)) =
     ends_each s numbers ∙ ap (λ (ns : List ℕ). with_watchers s (fold (λ t number. ended_at number t) s.watchers ns)) (sym same) in
@@ -143,16 +143,16 @@ tick_told n n' by inside frames answered h t sound ticks =
 -- ---- the node after it
 
 -- the parts of the node are those of the work on a tick
-pub ticks_from : (n : NodeState) (by : By) (xs : List (Option Neighbour)) (mid s : SocketTable) (journal : List Entry) → xs ≡ after_all deed.Tick n.neighbours
-    → mid ≡ fold after_entry n.sockets (entries_all deed.Tick 0 n.neighbours)
+pub ticks_from : (n : NodeState) (by : By) (xs : List (Option Neighbour)) (mid s : SocketTable) (journal : List Entry) → xs ≡ after_all upkeep.Tick n.neighbours
+    → mid ≡ fold after_entry n.sockets (entries_all upkeep.Tick 0 n.neighbours)
     → s ≡ with_watchers mid (passed (fold (λ t number. ended_at number t) mid.watchers (due mid.watchers.kept)))
-    → journal ≡ n.journal ++ step_entries (step_of by event.Tick (entries_all deed.Tick 0 n.neighbours ++ timeouts_of n.sockets) answer.Done)
+    → journal ≡ n.journal ++ step_entries (step_of by event.Tick (entries_all upkeep.Tick 0 n.neighbours ++ timeouts_of n.sockets) answer.Done)
     → record { own = n.own; boot = n.boot; mended = n.mended; neighbours = xs; sockets = s; journal = journal } ≡ concluded n by event.Tick (tick_work n) answer.Done
 ticks_from n by xs mid s journal neighbours between passes told =
     (λ i. record { own = n.own; boot = n.boot; mended = n.mended; neighbours = neighbours i; sockets = sockets i; journal = told i })
   where
     first : SocketTable
-    first = fold after_entry n.sockets (entries_all deed.Tick 0 n.neighbours)
+    first = fold after_entry n.sockets (entries_all upkeep.Tick 0 n.neighbours)
 
     numbers : List ℕ
     numbers = due n.sockets.watchers.kept
@@ -162,7 +162,7 @@ ticks_from n by xs mid s journal neighbours between passes told =
         passes
         ∙ ap (λ (x : SocketTable). with_watchers x (passed (fold (λ t number. ended_at number t) x.watchers (due x.watchers.kept)))) between
         ∙ ap (λ (ns : List ℕ). with_watchers first (passed (fold (λ t number. ended_at number t) first.watchers ns)))
-        (due_changes n.sockets (entries_all deed.Tick 0 n.neighbours) (all_changes deed.Tick 0 n.neighbours))
+        (due_changes n.sockets (entries_all upkeep.Tick 0 n.neighbours) (all_changes upkeep.Tick 0 n.neighbours))
         ∙ sym (ap (λ (x : SocketTable). with_watchers x (passed x.watchers)) (ends_each first numbers))
 
 -- what stands in front of what was added behind it
@@ -170,9 +170,9 @@ pub front_of : (told more all : List Entry) (count : ℕ) → all ≡ told ++ mo
 front_of told more all count is counted = (λ i. take (counted i) (is i)) ∙ take-append_seam told more
 
 -- the parts of the node are those of the work on all neighbours
-pub takes_from : (n : NodeState) (by : By) (d : Deed) (mended : Bool × Bool) (xs : List (Option Neighbour)) (s : SocketTable) (journal : List Entry) → mended ≡ mended_by d n.mended → xs ≡ after_all d n.neighbours
+pub takes_from : (n : NodeState) (by : By) (d : Upkeep) (mended : Bool × Bool) (xs : List (Option Neighbour)) (s : SocketTable) (journal : List Entry) → mended ≡ mended_by d n.mended → xs ≡ after_all d n.neighbours
     → s ≡ fold after_entry n.sockets (entries_all d 0 n.neighbours)
-    → journal ≡ n.journal ++ step_entries (step_of by (deed_note d) (entries_all d 0 n.neighbours) answer.Done)
-    → record { own = n.own; boot = n.boot; mended = mended; neighbours = xs; sockets = s; journal = journal } ≡ concluded (with_mended n (mended_by d n.mended)) by (deed_note d) (deed_work d n) answer.Done
+    → journal ≡ n.journal ++ step_entries (step_of by (upkeep_note d) (entries_all d 0 n.neighbours) answer.Done)
+    → record { own = n.own; boot = n.boot; mended = mended; neighbours = xs; sockets = s; journal = journal } ≡ concluded (with_mended n (mended_by d n.mended)) by (upkeep_note d) (upkeep_work d n) answer.Done
 takes_from n by d mended xs s journal repaired neighbours sockets told =
     (λ i. record { own = n.own; boot = n.boot; mended = repaired i; neighbours = neighbours i; sockets = sockets i; journal = told i })

@@ -12,7 +12,7 @@ use Rattle.tipc_name_dist.specs.Items.{telling}
 use Rattle.tipc_sockets.specs.Publishing.{own_publication}
 use Rattle.tipc_sockets.specs.SocketTables.{AreSockets, with_socket}
 use Rattle.tipc_sockets.specs.Telling.{after_entry}
-use Rattle.tipc_node.specs.declared.neighbours.Deed.TheVariants as deed
+use Rattle.tipc_node.specs.declared.neighbours.Upkeep.TheVariants as upkeep
 use Rattle.tipc_node.specs.Calls.{CanPerform, Performs}
 use Rattle.tipc_node.specs.Nodes.{NodeState, step_of}
 use Rattle.tipc_node.specs.Sockets.{cancelled_work, closed_work, first_answer, first_event, kept_answer, next_number, next_port, next_work, number_refusal, port_refusal, publication_refusal, published_work, received_work, socket_refusal, subscribed_work, subscription_refusal, told_closing, told_withdrawal, waiting_at, with_sockets_of, withdrawal_refusal, withdrawn_work}
@@ -20,7 +20,7 @@ use Rattle.tipc_node.specs.Telling.{ArePacked, IsTold}
 use Rattle.tipc_node.specs.Turns.{NodeTurn}
 use Rattle.tipc_node.specs.Works.{begun}
 use Rattle.tipc_node.proofs.journal.Calling.{makes_told, receive_call, socket_call}
-use Rattle.tipc_node.proofs.journal.Happening.{deed_told}
+use Rattle.tipc_node.proofs.journal.Happening.{upkeep_told}
 use Rattle.tipc_node.proofs.journal.NameCalls.{name_told}
 use Rattle.tipc_node.proofs.journal.Naming.{close_call, publish_call, published_there, withdraw_call}
 use Rattle.tipc_node.proofs.journal.PortCalls.{port_told}
@@ -68,7 +68,7 @@ performs_told n n' by (event.NextEvent number) frames answered h packed can perf
     (number_refused n number h) (tt, tt) (λ reason. tt) refl (λ none after inner. next_call n by number h none inner) performs
 performs_told n n' by event.Tick frames answered h packed can performs inside t sound = tick_told n n' by inside frames answered h t sound performs
 performs_told n n' by (event.Cut bearer) frames answered h packed can performs inside t sound =
-    deed_told n n' by (deed.Cut bearer) inside frames answered h tt t sound performs
+    upkeep_told n n' by (upkeep.Cut bearer) inside frames answered h tt t sound performs
 performs_told n n' by (event.Mend bearer) frames answered h packed can performs inside t sound =
-    deed_told n n' by (deed.Mend bearer) inside frames answered h tt t sound performs
+    upkeep_told n n' by (upkeep.Mend bearer) inside frames answered h tt t sound performs
 performs_told n n' by call frames answered h packed can performs inside t sound = absurd performs

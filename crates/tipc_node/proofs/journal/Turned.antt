@@ -5,24 +5,22 @@ use Rattle.std.proofs.lemmas.Bool.{cases_eq}
 use Rattle.std.proofs.lemmas.Bool.Decides.{nat_tests}
 use Rattle.tipc_types.specs.Address.{node_word}
 use Rattle.tipc_types.specs.declared.identity.Addr.{Addr}
-use Rattle.tipc_types.specs.declared.node_calls.EventNote.{EventNote}
 use Rattle.tipc_outside.specs.declared.outgoing.Outgoing.{Outgoing}
 use Rattle.tipc_journal.specs.declared.entries.Entry.{Entry}
 use Rattle.tipc_journal.specs.declared.entries.Entry.TheVariants as entry
 use Rattle.tipc_journal.specs.Steps.{IsWhole, NodeStep, step_entries}
 use Rattle.tipc_journal.proofs.StepLaws.{IsWhole_more}
 use Rattle.tipc_pair.specs.Facing.{PairEnds, contact_between}
-use Rattle.tipc_pair.specs.PairTurns.{Opening}
-use Rattle.tipc_pair.specs.PairTurns.Opening.{cuts, hears, makes, mends, rests, ticks}
 use Rattle.tipc_node.specs.declared.neighbours.Neighbour.{Neighbour}
 use Rattle.tipc_node.specs.Nodes.{NodeState, neighbour_of}
-use Rattle.tipc_node.specs.Telling.{AreAbreast, IsTold, TellsOf, epochs_on}
-use Rattle.tipc_node.specs.Turns.{IsPlaced, NodeTurn, PeerTurn, Suits, is_change_of, pair_in}
+use Rattle.tipc_node.specs.Telling.{IsTold, TellsOf}
+use Rattle.tipc_pair.specs.LinkReadings.{AreAbreast, epochs_on}
+use Rattle.tipc_node.specs.Turns.{IsPlaced, NodeTurn, PeerTurn, is_change_of, pair_in}
 use Rattle.tipc_node.proofs.Filters.{filter-none}
 use Rattle.tipc_node.proofs.journal.Telling.{contact_changed, contact_told, epochs_changed, epochs_told}
-use Rattle.tipc_node.proofs.pairs.TurnMoves.{MakesNone, TurnMoves, turn_moves}
-
+use Rattle.tipc_pair.proofs.turns.TurnMoves.{TurnMoves, turn_moves}
 -- ---- a peer that is no neighbour
+use Rattle.tipc_pair.proofs.turns.TurnReasons.{makes_none as suits_none}
 
 pub other_word : (n : NodeState) (b : ℕ) (word : ℕ) → neighbour_of n b ≡ None → (c : ℕ) → is_some (neighbour_of n c) ≡ true → word ≡ node_word c → (word == node_word b) ≡ false
 other_word n b word none c there is = ap (λ w. w == node_word b) is ∙ by (cases_eq c b)
@@ -39,15 +37,6 @@ none_placed n b none (entry.ContactDown peer numbers states shown) h = other_wor
 none_placed n b none other h = refl
 
 -- ---- a turn
-
--- an event of a node makes no end at a pair
-pub suits_none : (note : EventNote) (opening : Opening) → Suits note opening → MakesNone opening
-suits_none note rests suits = tt
-suits_none note (makes bearer is_mended) suits = suits
-suits_none note (mends bearer) suits = tt
-suits_none note (cuts bearer) suits = tt
-suits_none note (ticks shown) suits = tt
-suits_none note (hears bearer es er p by shown) suits = tt
 
 -- what a neighbour's turn does to its pair
 pub peer_moves : (own : ℕ) (bytes : List ℕ) (s : NodeStep) (frames : List Outgoing) (b : ℕ) (x x' : PairEnds) → AreAbreast x → (t : PeerTurn own bytes s frames b x x') → TurnMoves x x' t.turn.first

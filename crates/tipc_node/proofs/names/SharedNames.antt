@@ -15,7 +15,7 @@ use Rattle.tipc_journal.proofs.NameLaws.{live_nil}
 use Rattle.tipc_sockets.specs.Publishing.{own_publication}
 use Rattle.tipc_sockets.specs.SocketTables.{with_socket}
 use Rattle.tipc_name_dist.specs.Items.{telling}
-use Rattle.tipc_node.specs.declared.neighbours.Deed.TheVariants as deed
+use Rattle.tipc_node.specs.declared.neighbours.Upkeep.TheVariants as upkeep
 use Rattle.tipc_node.specs.Calls.{CanPerform, HasInstances, Performs}
 use Rattle.tipc_node.specs.Nodes.{NodeState, end_with, known_node, neighbour_of}
 use Rattle.tipc_node.specs.Sharing.{SharesNames}
@@ -24,7 +24,7 @@ use Rattle.tipc_node.specs.Sockets.{cancelled_work, closed_work, first_answer, f
 use Rattle.tipc_node.specs.Telling.{IsTold}
 use Rattle.tipc_node.specs.Turns.{addr_of}
 use Rattle.tipc_node.specs.Works.{begun}
-use Rattle.tipc_node.proofs.names.SharingCalls.{IsTurnOf, deed_shares, makes_shares, name_shares, port_shares, tick_shares}
+use Rattle.tipc_node.proofs.names.SharingCalls.{IsTurnOf, upkeep_shares, makes_shares, name_shares, port_shares, tick_shares}
 use Rattle.tipc_node.proofs.names.SharingNaming.{closing_is, publishing_is, tells_shares, withdrawal_is}
 use Rattle.tipc_node.proofs.names.SharingUnused.{known_unused, new_unused}
 
@@ -81,7 +81,7 @@ performs_shares n n' by (event.NextEvent number) frames answered h shares can pe
     makes_shares n n' by (event.NextEvent number) (number_refusal n.sockets number) (next_work n number) (next_answer (first_event n.sockets number)) inside frames answered h h' shares t tt refl performs
 performs_shares n n' by event.Tick frames answered h shares can performs inside t h' ranges wide = tick_shares n n' by inside frames answered h h' shares t performs
 performs_shares n n' by (event.Cut bearer) frames answered h shares can performs inside t h' ranges wide =
-    deed_shares n n' by (deed.Cut bearer) inside frames answered h h' shares t performs
+    upkeep_shares n n' by (upkeep.Cut bearer) inside frames answered h h' shares t performs
 performs_shares n n' by (event.Mend bearer) frames answered h shares can performs inside t h' ranges wide =
-    deed_shares n n' by (deed.Mend bearer) inside frames answered h h' shares t performs
+    upkeep_shares n n' by (upkeep.Mend bearer) inside frames answered h h' shares t performs
 performs_shares n n' by call frames answered h shares can performs inside t h' ranges wide = absurd performs

@@ -14,7 +14,7 @@ use Rattle.tipc_types.specs.declared.node_calls.EventNote.{EventNote}
 use Rattle.tipc_types.specs.declared.node_calls.EventNote.TheVariants.{Arrive}
 use Rattle.tipc_types.specs.declared.services.Publication.{Publication}
 use Rattle.tipc_outside.specs.declared.outgoing.Outgoing.{Outgoing}
-use Rattle.tipc_name_table.specs.Tables.{is_of}
+use Rattle.tipc_types.specs.Tables.{is_of}
 use Rattle.tipc_name_dist.specs.Agreeing.{AreOwn}
 use Rattle.tipc_name_dist.specs.Applying.{held_after}
 use Rattle.tipc_name_dist.specs.Items.{IsBulk}
@@ -33,22 +33,23 @@ use Rattle.tipc_sockets.specs.SocketTables.{SocketTable}
 use Rattle.tipc_sockets.specs.Telling.{after_entry}
 use Rattle.tipc_node.specs.declared.neighbours.Neighbour.{Neighbour}
 use Rattle.tipc_node.specs.Arrivals.{Arrives, GreetsWhere, Hears}
-use Rattle.tipc_node.specs.Neighbours.{begins, is_of_contact}
+use Rattle.tipc_pair.specs.Contacts.{begins, is_of_contact}
 use Rattle.tipc_node.specs.Nodes.{NodeState, change_entries, change_entry, neighbour_of, shown_contact, step_of, stop_of}
-use Rattle.tipc_node.specs.Sharing.{HasTold, IsUnused, SharesNames, flow_with}
+use Rattle.tipc_node.specs.Sharing.{IsUnused, SharesNames, flow_with}
+use Rattle.tipc_name_dist.specs.Told.{HasTold}
 use Rattle.tipc_node.specs.Telling.{IsTold, is_in_reach}
 use Rattle.tipc_node.specs.Turns.{NodeTurn, addr_of, is_change_of, is_delivered_from}
 use Rattle.tipc_node.specs.Works.{addr_of_word}
-use Rattle.tipc_node.proofs.pairs.Moves.{contact_by, contact_gone}
+use Rattle.tipc_pair.proofs.turns.Moves.{contact_by, contact_gone}
 use Rattle.tipc_node.proofs.journal.Noting.{all_from}
 use Rattle.tipc_node.proofs.names.SharingDelivered.{filter_apart, is_delivery_of}
-use Rattle.tipc_node.proofs.pairs.PairTells.{Means, Story, began, contact_changes, ended, stays}
-use Rattle.tipc_node.proofs.names.SharingEnds.{begins_by_story, contact_by_story}
+use Rattle.tipc_pair.proofs.turns.PairTells.{Means, Story, began, contact_changes, ended, stays}
+use Rattle.tipc_pair.proofs.turns.TurnMeans.{begins_by_story, contact_by_story}
 use Rattle.tipc_node.proofs.names.SharingEntries.{is_beside, is_plain_for, keeps_live, live_then, names_stay, plain_accepted, same_live, sockets_live}
 use Rattle.tipc_node.proofs.names.SharingFlows.{accepted_then, delivered_of_peer, delivered_then}
 use Rattle.tipc_node.proofs.names.SharingHeard.{IsHeardAt, all_of_arrival, delivery_plain, heard_accepts, heard_at, heard_changes, heard_delivers, is_arrival_of, no_change, no_delivery, no_naming, none_learned, none_told}
 use Rattle.tipc_node.proofs.names.SharingSteps.{SharesAt, contact_there, other_than, shares_from, shown_by}
-use Rattle.tipc_node.proofs.names.SharingTold.{told_bulk, told_users}
+use Rattle.tipc_sockets.proofs.ToldNames.{told_bulk, told_users}
 use Rattle.tipc_node.proofs.journal.Telling.{contact_goes, contact_told}
 
 -- ---- a peer beside the arrival

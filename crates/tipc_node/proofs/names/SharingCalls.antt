@@ -27,15 +27,16 @@ use Rattle.tipc_pair.specs.declared.transitions.Transition.TheVariants.{ContactD
 use Rattle.tipc_sockets.specs.declared.fates.Fate.{Fate}
 use Rattle.tipc_sockets.specs.declared.fates.Fate.TheVariants.{Dropped, Queued, ReturnDropped, Returned}
 use Rattle.tipc_sockets.specs.Telling.{fate_entry, is_payload}
-use Rattle.tipc_node.specs.declared.neighbours.Deed.{Deed}
-use Rattle.tipc_node.specs.declared.neighbours.Deed.TheVariants as deed
+use Rattle.tipc_node.specs.declared.neighbours.Upkeep.{Upkeep}
+use Rattle.tipc_node.specs.declared.neighbours.Upkeep.TheVariants as upkeep
 use Rattle.tipc_node.specs.declared.neighbours.Neighbour.{Neighbour}
 use Rattle.tipc_topology.specs.Changing.{due}
-use Rattle.tipc_node.specs.Calls.{Makes, Sends, SendsByName, SendsTo, TakesPart, Ticks, sender_refusal, way_refusal}
+use Rattle.tipc_node.specs.Calls.{Makes, SendsToPort, SendsByName, SendsTo, TakesPart, Ticks, sender_refusal, way_refusal}
 use Rattle.tipc_node.specs.Messages.{destination_of, direct, limit_of, named}
 use Rattle.tipc_node.specs.Neighbours.{done}
-use Rattle.tipc_node.specs.Nodes.{NodeState, change_entries, deed_note, entries_all, entries_one, step_of}
-use Rattle.tipc_node.specs.Sharing.{HasTold, SharesNames, flow_with}
+use Rattle.tipc_node.specs.Nodes.{NodeState, change_entries, upkeep_note, entries_all, entries_one, step_of}
+use Rattle.tipc_node.specs.Sharing.{SharesNames, flow_with}
+use Rattle.tipc_name_dist.specs.Told.{HasTold}
 use Rattle.tipc_node.specs.Sockets.{found_at, kept_answer, timeouts_of}
 use Rattle.tipc_node.specs.Telling.{IsTold}
 use Rattle.tipc_node.specs.Turns.{NodeTurn, addr_of}
@@ -45,7 +46,7 @@ use Rattle.tipc_node.proofs.journal.Noting.{all_from}
 use Rattle.tipc_node.proofs.names.SharingEntries.{is_beside, is_end_of, is_plain_for, keeps_live, live_then, names_stay, plain_accepted, same_live}
 use Rattle.tipc_node.proofs.names.SharingFlows.{accepted_then, delivered_then}
 use Rattle.tipc_node.proofs.names.SharingSteps.{IsOwnCall, SharesAt, call_steady, other_than, shares_from}
-use Rattle.tipc_node.proofs.names.SharingTold.{told_users}
+use Rattle.tipc_sockets.proofs.ToldNames.{told_users}
 use Rattle.tipc_node.proofs.names.SharingWork.{IsOpen, all_both, goes_adds}
 
 -- ---- a call that changes no names
@@ -171,7 +172,7 @@ sends_to_shares n n' by note m limit sent inside frames answered h h' shares t o
         record_shares n n' by note inside g.0.inside sent frames answered h h' shares t own (ap JournalOf g.2) (subst (λ es. list_all is_usual es ≡ true) (sym a.inside) a.all)
 
 pub port_shares : (n n' : NodeState) (by : By) (port : ℕ) (to : PortId) (importance : Importance) (body : List ℕ) (inside : List Entry) (frames : List Outgoing) (answered : Answer) → IsTold n → IsTold n' → SharesNames n
-    → IsTurnOf n n' by (event.SendPort port to importance body) inside frames answered → Sends n n' by port to importance body frames answered → SharesNames n'
+    → IsTurnOf n n' by (event.SendPort port to importance body) inside frames answered → SendsToPort n n' by port to importance body frames answered → SharesNames n'
 port_shares n n' by port to importance body inside frames answered h h' shares t sends = case (sender_refusal n port body) refl
   where
     note : EventNote
@@ -207,24 +208,24 @@ changes_usual b (LinkDown bearer because shown ∷ cs) = changes_usual b cs
 changes_usual b (ContactUp numbers ∷ cs) = changes_usual b cs
 changes_usual b (ContactDown numbers states shown ∷ cs) = changes_usual b cs
 
-one_usual : (d : Deed) (first : ℕ) (o : Option Neighbour) → list_all is_usual (entries_one d first o) ≡ true
+one_usual : (d : Upkeep) (first : ℕ) (o : Option Neighbour) → list_all is_usual (entries_one d first o) ≡ true
 one_usual d first None = refl
 one_usual d first (Some x) = changes_usual first (done d x).changes
 
-all_usual : (d : Deed) (first : ℕ) (xs : List (Option Neighbour)) → list_all is_usual (entries_all d first xs) ≡ true
+all_usual : (d : Upkeep) (first : ℕ) (xs : List (Option Neighbour)) → list_all is_usual (entries_all d first xs) ≡ true
 unfolding entries_all
 all_usual d first [] = refl
 all_usual d first (x ∷ xs) = all_both is_usual (entries_one d first x) (entries_all d (first + 1) xs) (one_usual d first x) (all_usual d (first + 1) xs)
 
-own_deed : (d : Deed) → IsOwnCall (deed_note d)
-own_deed (deed.Mend bearer) = tt
-own_deed (deed.Cut bearer) = tt
-own_deed deed.Tick = tt
+own_upkeep : (d : Upkeep) → IsOwnCall (upkeep_note d)
+own_upkeep (upkeep.Mend bearer) = tt
+own_upkeep (upkeep.Cut bearer) = tt
+own_upkeep upkeep.Tick = tt
 
-pub deed_shares : (n n' : NodeState) (by : By) (d : Deed) (inside : List Entry) (frames : List Outgoing) (answered : Answer) → IsTold n → IsTold n' → SharesNames n → IsTurnOf n n' by (deed_note d) inside frames answered
+pub upkeep_shares : (n n' : NodeState) (by : By) (d : Upkeep) (inside : List Entry) (frames : List Outgoing) (answered : Answer) → IsTold n → IsTold n' → SharesNames n → IsTurnOf n n' by (upkeep_note d) inside frames answered
     → TakesPart n by d n' frames answered → SharesNames n'
-deed_shares n n' by d inside frames answered h h' shares t takes =
-    record_shares n n' by (deed_note d) inside (entries_all d 0 n.neighbours) answer.Done frames answered h h' shares t (own_deed d) (ap JournalOf takes.0) (all_usual d 0 n.neighbours)
+upkeep_shares n n' by d inside frames answered h h' shares t takes =
+    record_shares n n' by (upkeep_note d) inside (entries_all d 0 n.neighbours) answer.Done frames answered h h' shares t (own_upkeep d) (ap JournalOf takes.0) (all_usual d 0 n.neighbours)
 
 -- ---- a tick
 
@@ -235,7 +236,7 @@ timed_usual (number ∷ numbers) = timed_usual numbers
 pub tick_shares : (n n' : NodeState) (by : By) (inside : List Entry) (frames : List Outgoing) (answered : Answer) → IsTold n → IsTold n' → SharesNames n → IsTurnOf n n' by event.Tick inside frames answered
     → Ticks n by n' frames answered → SharesNames n'
 tick_shares n n' by inside frames answered h h' shares t ticks =
-    let es = entries_all deed.Tick 0 n.neighbours in
+    let es = entries_all upkeep.Tick 0 n.neighbours in
     let ts = timeouts_of n.sockets in
     record_shares n n' by event.Tick inside (es ++ ts) answer.Done frames answered h h' shares t tt (ap JournalOf ticks.0)
-    (all_both is_usual es ts (all_usual deed.Tick 0 n.neighbours) (timed_usual (due n.sockets.watchers.kept)))
+    (all_both is_usual es ts (all_usual upkeep.Tick 0 n.neighbours) (timed_usual (due n.sockets.watchers.kept)))

@@ -9,7 +9,7 @@ use Rattle.tipc_types.specs.declared.message_forms.Message.{Message}
 use Rattle.tipc_types.specs.declared.message_forms.Message.TheVariants.{Items, Payload}
 use Rattle.tipc_types.specs.declared.services.Publication.{Publication}
 use Rattle.tipc_outside.specs.declared.outgoing.Outgoing.{Outgoing}
-use Rattle.tipc_name_table.specs.Tables.{IsTable, is_of}
+use Rattle.tipc_types.specs.Tables.{IsTable, is_of}
 use Rattle.tipc_name_dist.specs.Applying.{applied, held_after, learnt_entries, learnt_entry, misfit_entries}
 use Rattle.tipc_name_dist.proofs.Applied.{same_number}
 use Rattle.tipc_name_dist.proofs.Fronts.{applied_of_part, applied_table, held_append}
@@ -30,7 +30,7 @@ use Rattle.tipc_node.specs.Turns.{addr_of, is_delivered_from}
 use Rattle.tipc_node.specs.Works.{Delivers, DeliversAll, DeliversTo, Work, noted, with_items}
 use Rattle.tipc_node.specs.Works.DeliversAll.{none_left, one_more}
 use Rattle.tipc_node.proofs.journal.Noting.{all_from}
-use Rattle.tipc_node.proofs.names.SharingLearnt.{applied_of, learnt_names}
+use Rattle.tipc_sockets.proofs.LearntNames.{applied_of, learnt_names}
 use Rattle.tipc_node.proofs.names.SharingFlows.{delivered_of_peer}
 use Rattle.tipc_node.proofs.names.SharingWork.{AddsOf, IsOpen, all_both, settles_adds, settles_names}
 

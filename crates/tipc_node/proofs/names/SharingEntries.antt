@@ -6,7 +6,7 @@ use Rattle.std.proofs.lemmas.List.Elements.{filter-append}
 use Rattle.tipc_types.specs.Address.{node_word}
 use Rattle.tipc_types.specs.declared.message_forms.Message.{Message}
 use Rattle.tipc_types.specs.declared.services.Publication.{Publication}
-use Rattle.tipc_name_table.specs.Tables.{is_of}
+use Rattle.tipc_types.specs.Tables.{is_of}
 use Rattle.tipc_journal.specs.declared.entries.Entry.{Entry}
 use Rattle.tipc_journal.specs.declared.entries.Entry.TheVariants as entry
 use Rattle.tipc_journal.specs.Dues.{NothingDue}
@@ -21,15 +21,15 @@ use Rattle.tipc_sockets.specs.Telling.{is_payload}
 use Rattle.tipc_sockets.proofs.Closing.{eq_turned}
 use Rattle.tipc_pair.specs.declared.transitions.Transition.{Transition}
 use Rattle.tipc_pair.specs.declared.transitions.Transition.TheVariants.{ContactDown, ContactUp, LinkDown, LinkUp}
-use Rattle.tipc_node.specs.Neighbours.{is_of_contact}
+use Rattle.tipc_pair.specs.Contacts.{is_of_contact}
 use Rattle.tipc_node.specs.Nodes.{NodeState, change_entries}
 use Rattle.tipc_node.specs.Sharing.{flow_with}
 use Rattle.tipc_node.specs.Telling.{IsTold}
 use Rattle.tipc_node.specs.Turns.{is_change_of}
 use Rattle.tipc_node.specs.Works.{addr_of_word}
 use Rattle.tipc_node.proofs.names.SharingFlows.{accepted_elsewhere}
-
 -- ---- the node's own publications
+use Rattle.tipc_link_fsm.proofs.Moves.{not_true as not_so}
 
 -- an entry that doesn't publish and doesn't withdraw
 abbrev pub keeps_live : Entry → Bool
@@ -106,10 +106,6 @@ kept_both test kept all (p ∷ ps) = by (test p) (kept p) refl refl (kept_both t
     by true false hit keeps later = absurd (true≢false (sym (all p hit) ∙ keeps))
     by false true hit keeps later = ap (λ t. if t then p ∷ filter test (filter kept ps) else filter test (filter kept ps)) hit ∙ later
     by false false hit keeps later = later
-
-not_so : (b : Bool) → not b ≡ true → b ≡ false
-not_so true h = absurd (true≢false (sym h))
-not_so false h = refl
 
 -- a publication of one node isn't of another
 other_node : (word other : ℕ) (p : Publication) → (other == word) ≡ false → is_of word p ≡ true → (other == p.at.node.word) ≡ false

@@ -19,7 +19,7 @@ use Rattle.tipc_pair.specs.Messages.{opened_in}
 use Rattle.tipc_node.specs.Messages.{message_in}
 use Rattle.tipc_node.specs.Nodes.{accepted_entry, shown_contact}
 use Rattle.tipc_node.specs.Sharing.{flow_with}
-use Rattle.tipc_node.specs.Turns.{addr_of, delivered_message as given_message, delivered_of, given_entries, is_accepted_for, is_delivered_from}
+use Rattle.tipc_node.specs.Turns.{addr_of, delivered_entries as given_message, delivered_of, given_entries, is_accepted_for, is_delivered_from}
 
 -- ---- entries that concern a peer
 

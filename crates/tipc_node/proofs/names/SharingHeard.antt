@@ -8,7 +8,7 @@ use Rattle.tipc_types.specs.declared.message_forms.Message.{Message}
 use Rattle.tipc_types.specs.declared.node_calls.Arrival.{Arrival}
 use Rattle.tipc_types.specs.declared.node_calls.By.{By}
 use Rattle.tipc_outside.specs.declared.outgoing.Outgoing.{Outgoing}
-use Rattle.tipc_name_table.specs.Tables.{IsTable, is_of}
+use Rattle.tipc_types.specs.Tables.{IsTable, is_of}
 use Rattle.tipc_name_table.proofs.TableLaws.{table_kept}
 use Rattle.tipc_name_dist.specs.Applying.{held_after}
 use Rattle.tipc_name_dist.proofs.Applied.{same_number}
@@ -28,19 +28,21 @@ use Rattle.tipc_sockets.specs.SocketTables.{SocketTable}
 use Rattle.tipc_sockets.specs.Telling.{after_entry, is_payload}
 use Rattle.tipc_node.specs.declared.neighbours.Neighbour.{Neighbour}
 use Rattle.tipc_node.specs.Arrivals.{Greets, Hears, heard_work}
-use Rattle.tipc_node.specs.Neighbours.{heard_neighbour, is_of_contact, no_broadcast}
+use Rattle.tipc_node.specs.Neighbours.{heard_neighbour, no_broadcast}
+use Rattle.tipc_pair.specs.Contacts.{is_of_contact}
 use Rattle.tipc_node.specs.Nodes.{NodeState, change_entries, deliveries_of, neighbour_of, shown_contact}
 use Rattle.tipc_node.specs.Sharing.{flow_with}
-use Rattle.tipc_node.specs.Telling.{AreAbreast, IsTold}
+use Rattle.tipc_node.specs.Telling.{IsTold}
+use Rattle.tipc_pair.specs.LinkReadings.{AreAbreast}
 use Rattle.tipc_node.specs.Turns.{is_accepted_for, is_change_of, is_delivered_from}
 use Rattle.tipc_node.specs.Works.{DeliversAll}
 use Rattle.tipc_node.proofs.turns.Entries.{changes_accept, changes_deliver, changes_own, other_word}
 use Rattle.tipc_node.proofs.journal.Noting.{all_from}
-use Rattle.tipc_node.proofs.pairs.PairEvents.{happened_so}
-use Rattle.tipc_node.proofs.pairs.PairTells.{Means, Story, contact_changes}
+use Rattle.tipc_pair.proofs.turns.PairEvents.{happened_so}
+use Rattle.tipc_pair.proofs.turns.PairTells.{Means, Story, contact_changes}
 use Rattle.tipc_node.proofs.Places.{set_there}
 use Rattle.tipc_node.proofs.names.SharingDelivered.{delivers_hears, filter_apart, is_delivery_of}
-use Rattle.tipc_node.proofs.names.SharingEnds.{on_bearers}
+use Rattle.tipc_pair.proofs.turns.TurnMeans.{on_bearers}
 use Rattle.tipc_node.proofs.names.SharingEntries.{is_beside, is_plain_for, keeps_live}
 use Rattle.tipc_node.proofs.names.SharingFlows.{accepted_in, accepted_of, delivered_of_peer, puts_accepted}
 use Rattle.tipc_node.proofs.names.SharingPeers.{numbers_at, numbers_of, puts_accepts, puts_pass}

@@ -31,15 +31,16 @@ use Rattle.tipc_sockets.specs.Publishing.{has_key, is_at, own_publication, publi
 use Rattle.tipc_sockets.specs.SocketTables.{has_port}
 use Rattle.tipc_sockets.proofs.Counting.{count_by-one}
 use Rattle.tipc_sockets.proofs.Keeping.{not_refused}
-use Rattle.tipc_name_table.proofs.Places.{count_by-kept}
+use Rattle.tipc_types.proofs.Places.{count_by-kept}
 use Rattle.tipc_node.specs.declared.neighbours.Neighbour.{Neighbour}
 use Rattle.tipc_node.specs.Calls.{Tells}
 use Rattle.tipc_node.specs.Nodes.{NodeState, is_met, neighbour_of, shown_contact, step_of}
-use Rattle.tipc_node.specs.Sharing.{HasTold, SharesNames, flow_with}
+use Rattle.tipc_node.specs.Sharing.{SharesNames, flow_with}
+use Rattle.tipc_name_dist.specs.Told.{HasTold}
 use Rattle.tipc_node.specs.Sockets.{closed_work, crowd_refusal, key_refusal, kept_answer, publication_refusal, published_work, refused_publication, told_closing, told_withdrawal, withdrawal_refusal, withdrawn_entries, withdrawn_work}
 use Rattle.tipc_node.specs.Telling.{IsTold}
 use Rattle.tipc_node.specs.Turns.{addr_of}
-use Rattle.tipc_node.specs.Works.{Work, in_contact}
+use Rattle.tipc_node.specs.Works.{Work, peers_in_contact}
 use Rattle.tipc_node.proofs.journal.Concluding.{same_turn}
 use Rattle.tipc_node.proofs.Places.{is_within}
 use Rattle.tipc_node.proofs.names.SharingCalls.{CallShares, IsTurnOf, call_shares, record_shares}
@@ -47,7 +48,7 @@ use Rattle.tipc_node.proofs.names.SharingEntries.{is_beside, is_end_of, keeps_li
 use Rattle.tipc_node.proofs.names.SharingFlows.{accepted_in}
 use Rattle.tipc_node.proofs.names.SharingPeers.{numbers_at, puts_pass, tells_accepts, told_entries, told_once}
 use Rattle.tipc_node.proofs.names.SharingSteps.{IsOwnCall, linked_by}
-use Rattle.tipc_node.proofs.names.SharingTold.{AreFound, all_found, found_kept, found_one, own_left, own_more, told_publication, told_withdrawals}
+use Rattle.tipc_sockets.proofs.ToldNames.{AreFound, all_found, found_kept, found_one, own_left, own_more, told_publication, told_withdrawals}
 
 -- ---- the entries of the change itself
 
@@ -98,18 +99,18 @@ accepted_beside b peer c m = refl
 
 -- in this step all peers in contact were told
 naming_call : (n : NodeState) (journal es : List Entry) (told : List Message) → IsTold n → ((b : ℕ) (x : Neighbour) → neighbour_of n b ≡ Some x → b ≤ 32) → SharesNames n → IsNaming n.own (live n.journal) es told
-    → live journal ≡ fold live_after (live n.journal) (es ++ told_entries n.neighbours told (in_contact n.neighbours)) → CallShares n journal (es ++ told_entries n.neighbours told (in_contact n.neighbours))
+    → live journal ≡ fold live_after (live n.journal) (es ++ told_entries n.neighbours told (peers_in_contact n.neighbours)) → CallShares n journal (es ++ told_entries n.neighbours told (peers_in_contact n.neighbours))
 naming_call n journal es told h within shares k is = record { own = subst (AreOwn n.own) (sym lives) k.are; beside = beside; told = telling_of }
   where
     more : List Entry
-    more = told_entries n.neighbours told (in_contact n.neighbours)
+    more = told_entries n.neighbours told (peers_in_contact n.neighbours)
 
     lives : live journal ≡ fold live_after (live n.journal) es
-    lives = is ∙ fold-append live_after (live n.journal) es more ∙ same_live (fold live_after (live n.journal) es) more (told_pass keeps_live n.neighbours told (in_contact n.neighbours) accepted_keeps)
+    lives = is ∙ fold-append live_after (live n.journal) es more ∙ same_live (fold live_after (live n.journal) es) more (told_pass keeps_live n.neighbours told (peers_in_contact n.neighbours) accepted_keeps)
 
     beside : (b : ℕ) → (node_word b == n.own) ≡ false → filter (is_end_of b) (es ++ more) ≡ [] → list_all (is_beside b) (es ++ more) ≡ true
     beside b apart none =
-        list_all-append (is_beside b) es more ∙ ap (λ t. t && list_all (is_beside b) more) (all_naming b es k.named) ∙ told_pass (is_beside b) n.neighbours told (in_contact n.neighbours) (accepted_beside b)
+        list_all-append (is_beside b) es more ∙ ap (λ t. t && list_all (is_beside b) more) (all_naming b es k.named) ∙ told_pass (is_beside b) n.neighbours told (peers_in_contact n.neighbours) (accepted_beside b)
 
     telling_of : (b : ℕ) (numbers : ℕ × ℕ) → contact n.journal (addr_of b) ≡ Some numbers → HasTold n.own (live journal) (accepted n.journal (flow_with b numbers) ++ accepted (es ++ more) (flow_with b numbers))
     telling_of b numbers met =
@@ -141,10 +142,10 @@ tells_shares n n' by note reason w told inside frames answered h h' shares t own
     told_all none free =
         let g = tells.tells none free in
         let last = g.0 in
-        let accepts = tells_accepts n.own told w (in_contact w.neighbours) last frames g.1 in
-        let es : last.inside ≡ w.inside ++ told_entries n.neighbours told (in_contact n.neighbours) = accepts.inside ∙ ap (λ xs. w.inside ++ told_entries xs told (in_contact xs)) same in
-        let journal : n'.journal ≡ n.journal ++ step_entries (step_of by note (w.inside ++ told_entries n.neighbours told (in_contact n.neighbours)) answer.Done) = ap (λ (x : NodeState). x.journal) g.2 ∙ ap (λ xs. n.journal ++ step_entries (step_of by note xs answer.Done)) es in
-        let s = step_of by note (w.inside ++ told_entries n.neighbours told (in_contact n.neighbours)) answer.Done in
+        let accepts = tells_accepts n.own told w (peers_in_contact w.neighbours) last frames g.1 in
+        let es : last.inside ≡ w.inside ++ told_entries n.neighbours told (peers_in_contact n.neighbours) = accepts.inside ∙ ap (λ xs. w.inside ++ told_entries xs told (peers_in_contact xs)) same in
+        let journal : n'.journal ≡ n.journal ++ step_entries (step_of by note (w.inside ++ told_entries n.neighbours told (peers_in_contact n.neighbours)) answer.Done) = ap (λ (x : NodeState). x.journal) g.2 ∙ ap (λ xs. n.journal ++ step_entries (step_of by note xs answer.Done)) es in
+        let s = step_of by note (w.inside ++ told_entries n.neighbours told (peers_in_contact n.neighbours)) answer.Done in
         let turn = same_turn n n' [] by note inside s.inside (kept_answer answered) answer.Done frames t journal in
         call_shares n n' [] s frames h h' shares turn own (naming_call n n'.journal w.inside told h within shares (named none) (live_then n.journal n'.journal s journal))
 

@@ -17,13 +17,14 @@ use Rattle.tipc_node.specs.declared.neighbours.Neighbour.{Neighbour}
 use Rattle.tipc_node.specs.Messages.{bytes_of}
 use Rattle.tipc_node.specs.Nodes.{is_met, shown_contact}
 use Rattle.tipc_node.specs.Sharing.{flow_with}
-use Rattle.tipc_node.specs.Works.{Puts, PutsEach, TellsEach, Work, in_contact}
+use Rattle.tipc_node.specs.Works.{Puts, PutsEach, TellsEach, Work, peers_in_contact}
 use Rattle.tipc_node.specs.Works.PutsEach.{none_left, one_more}
 use Rattle.tipc_node.specs.Works.TellsEach.{all_told, one_told}
 use Rattle.tipc_node.proofs.turns.Entries.{other_word}
-use Rattle.tipc_node.proofs.pairs.PairPuts.{put_meets}
+use Rattle.tipc_pair.proofs.turns.PairPuts.{put_meets}
 use Rattle.tipc_node.proofs.Places.{set_there}
 use Rattle.tipc_node.proofs.names.SharingFlows.{accepted_in, puts_accepted, puts_to_other}
+use Rattle.tipc_sockets.proofs.Closing.{and_false as and_none}
 
 -- the contact numbers that the pair to a peer shows; where there is none, some numbers
 abbrev pub numbers_at : List (Option Neighbour) → ℕ → ℕ × ℕ
@@ -183,13 +184,9 @@ range_once b first (suc count) low high = by (cases_eq first b) (range_once b (f
         let rest = later (grind (arith, low, other)) (omega (arith, high)) in
         omega (arith, none, rest, whole)
 
-and_none : (t : Bool) → t && false ≡ false
-and_none true = refl
-and_none false = refl
-
 -- a peer in contact is told once
-contact_once : (xs : List (Option Neighbour)) (b : ℕ) → 1 ≤ b → b ≤ 32 → is_met (slice_index_or xs b None) ≡ true → count_by (λ p. p == b) (in_contact xs) ≡ 1
-unfolding in_contact
+contact_once : (xs : List (Option Neighbour)) (b : ℕ) → 1 ≤ b → b ≤ 32 → is_met (slice_index_or xs b None) ≡ true → count_by (λ p. p == b) (peers_in_contact xs) ≡ 1
+unfolding peers_in_contact
 contact_once xs b low high there =
     count_by-filter (λ p. p == b) (λ p. is_met (slice_index_or xs p None)) (range_with_len 1 32)
     ∙ count_by-agree (λ p. is_met (slice_index_or xs p None) && (p == b)) (λ p. p == b) same (range_with_len 1 32)
@@ -203,5 +200,5 @@ contact_once xs b low high there =
         by false is = ap (λ t. is_met (slice_index_or xs p None) && t) is ∙ and_none (is_met (slice_index_or xs p None)) ∙ sym is
 
 pub told_once : (xs : List (Option Neighbour)) (ms : List Message) (b : ℕ) → 1 ≤ b → b ≤ 32 → is_met (slice_index_or xs b None) ≡ true
-    → accepted (told_entries xs ms (in_contact xs)) (flow_with b (numbers_at xs b)) ≡ ms
-told_once xs ms b low high there = told_times xs ms b (in_contact xs) ∙ once ms b (in_contact xs) (contact_once xs b low high there)
+    → accepted (told_entries xs ms (peers_in_contact xs)) (flow_with b (numbers_at xs b)) ≡ ms
+told_once xs ms b low high there = told_times xs ms b (peers_in_contact xs) ∙ once ms b (peers_in_contact xs) (contact_once xs b low high there)

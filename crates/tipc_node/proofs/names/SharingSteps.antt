@@ -5,7 +5,7 @@ use Rattle.tipc_types.specs.Address.{node_word}
 use Rattle.tipc_types.specs.declared.node_calls.EventNote.{EventNote}
 use Rattle.tipc_types.specs.declared.node_calls.EventNote.TheVariants as event
 use Rattle.tipc_outside.specs.declared.outgoing.Outgoing.{Outgoing}
-use Rattle.tipc_name_table.specs.Tables.{is_of}
+use Rattle.tipc_types.specs.Tables.{is_of}
 use Rattle.tipc_name_dist.specs.Agreeing.{AreOwn}
 use Rattle.tipc_name_dist.specs.Applying.{held_after}
 use Rattle.tipc_journal.specs.Contacts.{contact}
@@ -14,18 +14,20 @@ use Rattle.tipc_journal.specs.Steps.{NodeStep}
 use Rattle.tipc_journal.specs.Streams.{accepted, delivered}
 use Rattle.tipc_pair.specs.Facing.{PairEnds, contact_between, in_contact}
 use Rattle.tipc_pair.specs.Messages.{opened_in}
-use Rattle.tipc_pair.specs.PairTurns.{Happened, Opening, Outset}
+use Rattle.tipc_pair.specs.PairTurns.{Happened, Opening, Outset, Suits}
 use Rattle.tipc_pair.specs.PairTurns.Opening.{cuts, hears, makes, mends, rests, ticks}
 use Rattle.tipc_node.specs.declared.neighbours.Neighbour.{Neighbour}
-use Rattle.tipc_node.specs.Neighbours.{is_of_contact}
+use Rattle.tipc_pair.specs.Contacts.{is_of_contact}
 use Rattle.tipc_node.specs.Nodes.{NodeState, neighbour_of, shown_contact}
-use Rattle.tipc_node.specs.Sharing.{HasTold, SharesNames, flow_with}
-use Rattle.tipc_node.specs.Telling.{AreAbreast, IsTold}
-use Rattle.tipc_node.specs.Turns.{NodeTurn, PeerTurn, Suits, addr_of}
+use Rattle.tipc_node.specs.Sharing.{SharesNames, flow_with}
+use Rattle.tipc_name_dist.specs.Told.{HasTold}
+use Rattle.tipc_node.specs.Telling.{IsTold}
+use Rattle.tipc_pair.specs.LinkReadings.{AreAbreast}
+use Rattle.tipc_node.specs.Turns.{NodeTurn, PeerTurn, addr_of}
 use Rattle.tipc_node.specs.Works.{addr_of_word}
-use Rattle.tipc_node.proofs.pairs.Moves.{same_contact}
-use Rattle.tipc_node.proofs.pairs.PairEvents.{is_arrival}
-use Rattle.tipc_node.proofs.pairs.PairTells.{IsFall, Means, Story, began, contact_changes, ended, stays}
+use Rattle.tipc_pair.proofs.turns.Moves.{same_contact}
+use Rattle.tipc_pair.proofs.turns.PairEvents.{is_arrival}
+use Rattle.tipc_pair.proofs.turns.PairTells.{IsFall, Means, Story, began, contact_changes, ended, stays}
 use Rattle.tipc_node.proofs.names.SharingEntries.{is_end_of, none_ends}
 use Rattle.tipc_node.proofs.names.SharingFlows.{delivered_of_peer, given_nothing}
 use Rattle.tipc_node.proofs.names.SharingUnused.{peer_means, turn_unused, was_there}

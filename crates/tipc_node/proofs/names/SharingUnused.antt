@@ -13,22 +13,23 @@ use Rattle.tipc_journal.specs.Steps.{NodeStep, step_entries}
 use Rattle.tipc_journal.specs.Streams.{accepted, delivered}
 use Rattle.tipc_journal.proofs.StreamLaws.{accepted_nil, delivered_nil}
 use Rattle.tipc_pair.specs.Facing.{PairEnds, in_contact}
-use Rattle.tipc_pair.specs.PairTurns.{Opening, PutsAll}
+use Rattle.tipc_pair.specs.PairTurns.{Opening, PutsAll, Suits}
 use Rattle.tipc_pair.specs.PairTurns.Opening.{cuts, hears, makes, mends, rests, ticks}
 use Rattle.tipc_pair.specs.PairTurns.PutsAll.{puts_one}
 use Rattle.tipc_node.specs.declared.neighbours.Neighbour.{Neighbour}
 use Rattle.tipc_node.specs.Messages.{bytes_of}
 use Rattle.tipc_node.specs.Nodes.{NodeState, accepted_entry, acquaintance, end_with, known_neighbour, known_node, neighbour_of, shown_contact}
 use Rattle.tipc_node.specs.Sharing.{AreUnused, IsUnused, flow_with}
-use Rattle.tipc_node.specs.Telling.{AreAbreast, IsTold}
-use Rattle.tipc_node.specs.Turns.{IsPlaced, NodeTurn, PeerTurn, Suits, is_accepted_for, is_delivered_from}
+use Rattle.tipc_node.specs.Telling.{IsTold}
+use Rattle.tipc_pair.specs.LinkReadings.{AreAbreast}
+use Rattle.tipc_node.specs.Turns.{IsPlaced, NodeTurn, PeerTurn, is_accepted_for, is_delivered_from}
 use Rattle.tipc_node.proofs.Filters.{filter-none}
 use Rattle.tipc_node.proofs.journal.FirstTold.{no_place}
 use Rattle.tipc_node.proofs.pairs.Knowing.{kept_of, known_contact}
-use Rattle.tipc_node.proofs.pairs.PairEvents.{is_making}
-use Rattle.tipc_node.proofs.pairs.PairPuts.{active_there}
+use Rattle.tipc_pair.proofs.turns.PairEvents.{is_making}
+use Rattle.tipc_pair.proofs.turns.PairPuts.{active_there}
 use Rattle.tipc_node.proofs.Places.{set_cases}
-use Rattle.tipc_node.proofs.names.SharingEnds.{TurnMeans, down, down_none, least, meets_after, turn_means}
+use Rattle.tipc_pair.proofs.turns.TurnMeans.{TurnMeans, down, down_none, least, meets_after, turn_means}
 use Rattle.tipc_node.proofs.names.SharingFlows.{accepted_of, accepted_then, delivered_of_peer, delivered_then, entries_in, given_elsewhere, given_nothing, puts_elsewhere}
 use Rattle.tipc_node.proofs.journal.Turned.{other_word}
 

@@ -12,12 +12,10 @@ use Rattle.tipc_journal.specs.declared.entries.Entry.TheVariants as entry
 use Rattle.tipc_journal.specs.Dues.{comes_home}
 use Rattle.tipc_sockets.specs.declared.fates.Fate.{Fate}
 use Rattle.tipc_sockets.specs.declared.fates.Fate.TheVariants.{Dropped, Queued, ReturnDropped, Returned}
-use Rattle.tipc_sockets.specs.Fates.{after_fate}
-use Rattle.tipc_sockets.specs.SocketTables.{SocketTable}
 use Rattle.tipc_sockets.specs.Telling.{fate_entry, is_payload}
 use Rattle.tipc_node.specs.Calls.{Goes}
-use Rattle.tipc_node.specs.Works.{Follows, GoesBack, Puts, Settles, Work, addr_of_word, fate_of, fated}
-use Rattle.tipc_node.proofs.journal.Fating.{returned_is}
+use Rattle.tipc_node.specs.Works.{Follows, GoesBack, Puts, GivesFate, Work, addr_of_word, fate_of, fated}
+use Rattle.tipc_node.proofs.journal.Fating.{returned_is, fate_names}
 
 -- ---- entries that pass a test
 
@@ -71,7 +69,7 @@ follows_adds test own w m (Queued ports) w' frames free user h = adds_as test w 
 follows_adds test own w m (ReturnDropped waiting) w' frames free user h = adds_as test w (fated w m (ReturnDropped waiting)) w' h.0 (fated_adds test w m (ReturnDropped waiting) free)
 follows_adds test own w m Dropped w' frames free user h = adds_as test w (fated w m Dropped) w' h.0 (fated_adds test w m Dropped free)
 
-pub settles_adds : (test : Entry → Bool) (own : ℕ) (w : Work) (arrived : Bool) (m : Message) (w' : Work) (frames : List Outgoing) → IsOpen test → Settles own w arrived m w' frames → AddsOf test w w'
+pub settles_adds : (test : Entry → Bool) (own : ℕ) (w : Work) (arrived : Bool) (m : Message) (w' : Work) (frames : List Outgoing) → IsOpen test → GivesFate own w arrived m w' frames → AddsOf test w w'
 settles_adds test own w arrived m w' frames free h =
     follows_adds test own w m (fate_of w arrived m) w' frames free (λ back is. (let r = returned_is (addr_of_word own) w.sockets arrived _ m back is in r.payload)) h
 
@@ -83,12 +81,6 @@ goes_adds test own w m w' frames free user h = by (comes_home (addr_of_word own)
     by false is = put_adds test own w _ m w' frames free user (h.away is)
 
 -- ---- the names that the sockets hold
-
-fate_names : (s : SocketTable) (m : Message) (f : Fate) → (after_fate s m f).names ≡ s.names
-fate_names s m (Queued ports) = refl
-fate_names s m (Returned back) = refl
-fate_names s m (ReturnDropped waiting) = refl
-fate_names s m Dropped = refl
 
 names_as : (w v : Work) → w ≡ v → w.sockets.names ≡ v.sockets.names
 names_as w v is = ap (λ (u : Work). u.sockets.names) is
@@ -106,5 +98,5 @@ follows_names own w m (Queued ports) w' frames h = names_as w' (fated w m (Queue
 follows_names own w m (ReturnDropped waiting) w' frames h = names_as w' (fated w m (ReturnDropped waiting)) h.0
 follows_names own w m Dropped w' frames h = names_as w' (fated w m Dropped) h.0
 
-pub settles_names : (own : ℕ) (w : Work) (arrived : Bool) (m : Message) (w' : Work) (frames : List Outgoing) → Settles own w arrived m w' frames → w'.sockets.names ≡ w.sockets.names
+pub settles_names : (own : ℕ) (w : Work) (arrived : Bool) (m : Message) (w' : Work) (frames : List Outgoing) → GivesFate own w arrived m w' frames → w'.sockets.names ≡ w.sockets.names
 settles_names own w arrived m w' frames h = follows_names own w m (fate_of w arrived m) w' frames h

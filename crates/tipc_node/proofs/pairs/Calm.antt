@@ -20,12 +20,13 @@ use Rattle.tipc_pair.specs.Messages.{opened_in}
 use Rattle.tipc_pair.specs.PairTurns.{Happened, Opening, Outset, quietly}
 use Rattle.tipc_pair.specs.PairTurns.Opening.{cuts, hears, makes, mends, rests, ticks}
 use Rattle.tipc_pair.proofs.EndSteps.{cut_quiet}
-use Rattle.tipc_node.specs.declared.neighbours.Deed.{Deed}
-use Rattle.tipc_node.specs.declared.neighbours.Deed.TheVariants as deed
+use Rattle.tipc_node.specs.declared.neighbours.Upkeep.{Upkeep}
+use Rattle.tipc_node.specs.declared.neighbours.Upkeep.TheVariants as upkeep
 use Rattle.tipc_node.specs.declared.neighbours.Neighbour.{Neighbour}
-use Rattle.tipc_node.specs.Neighbours.{begins, course_of, is_beginning, no_broadcast}
-use Rattle.tipc_node.proofs.pairs.Moves.{tested}
-use Rattle.tipc_node.proofs.pairs.TurnMoves.{MakesNone}
+use Rattle.tipc_node.specs.Neighbours.{course_of, no_broadcast}
+use Rattle.tipc_pair.specs.Contacts.{begins, is_beginning}
+use Rattle.tipc_pair.proofs.acts.Walks.{tested}
+use Rattle.tipc_pair.proofs.turns.TurnMoves.{MakesNone}
 
 -- a course by which no contact begins
 abbrev pub IsCalm : Course → Type 0
@@ -117,13 +118,13 @@ own_calm x (hears bearer es er p by shown) o own is = absurd own
 
 -- ---- what happens to all neighbours alike
 
-abbrev pub opening_of : Deed → Neighbour → Opening
-opening_of (deed.Mend bearer) x = mends bearer
-opening_of (deed.Cut bearer) x = cuts bearer
-opening_of deed.Tick x = ticks (no_broadcast x.in_step)
+abbrev pub opening_of : Upkeep → Neighbour → Opening
+opening_of (upkeep.Mend bearer) x = mends bearer
+opening_of (upkeep.Cut bearer) x = cuts bearer
+opening_of upkeep.Tick x = ticks (no_broadcast x.in_step)
 
 -- it happens first at the pair to a neighbour
-pub deed_happens : (d : Deed) (x : Neighbour) → Happened x.pair (opening_of d x) (quietly (course_of d x)) × IsOwn (opening_of d x) × MakesNone (opening_of d x)
-deed_happens (deed.Mend bearer) x = (refl, tt, tt)
-deed_happens (deed.Cut bearer) x = (refl, tt, tt)
-deed_happens deed.Tick x = (refl, tt, tt)
+pub upkeep_happens : (d : Upkeep) (x : Neighbour) → Happened x.pair (opening_of d x) (quietly (course_of d x)) × IsOwn (opening_of d x) × MakesNone (opening_of d x)
+upkeep_happens (upkeep.Mend bearer) x = (refl, tt, tt)
+upkeep_happens (upkeep.Cut bearer) x = (refl, tt, tt)
+upkeep_happens upkeep.Tick x = (refl, tt, tt)

@@ -6,15 +6,16 @@ use Rattle.tipc_types.specs.LinkStates.{is_up}
 use Rattle.tipc_types.specs.declared.link_words.LinkState.TheVariants.{ResetUnknown}
 use Rattle.tipc_link.specs.Links.{LinkEnd}
 use Rattle.tipc_pair.specs.Courses.{rests as nothing}
-use Rattle.tipc_pair.specs.Facing.{PairEnds, alone, contact_between, facing, in_contact, is_up_at, turned, with_made, with_near}
+use Rattle.tipc_pair.specs.Facing.{PairEnds, alone, facing, in_contact, is_up_at, turned, with_made, with_near}
 use Rattle.tipc_pair.specs.PairCalls.{at_bearer, mended}
 use Rattle.tipc_pair.specs.PairTurns.{made_near}
 use Rattle.tipc_pair.proofs.CourseLaws.{then_pair}
 use Rattle.tipc_pair.proofs.Facings.{facing_contact}
 use Rattle.tipc_node.specs.declared.neighbours.Neighbour.{Neighbour}
 use Rattle.tipc_node.specs.Nodes.{NodeState, acquaintance, end_with, is_mended_on, known_neighbour, neighbour_of}
-use Rattle.tipc_node.specs.Telling.{AreAbreast, IsTold, TellsOf, epochs_on}
-use Rattle.tipc_node.proofs.pairs.Moves.{Goes, IsApt, IsStill, abreast_apt, apt_abreast, down_epochs, epochs_at, goes_facing, goes_tells, same_contact, still_goes, unknown_abreast}
+use Rattle.tipc_node.specs.Telling.{IsTold, TellsOf}
+use Rattle.tipc_pair.specs.LinkReadings.{AreAbreast, epochs_on}
+use Rattle.tipc_pair.proofs.turns.Moves.{contact_is_some, Goes, IsApt, IsStill, abreast_apt, apt_abreast, down_epochs, epochs_at, goes_facing, goes_tells, same_contact, still_goes, unknown_abreast}
 
 -- ---- a pair
 
@@ -99,9 +100,6 @@ known_tells n peer bearer none told =
     }
 
 -- ---- whether there is contact
-
-pub contact_is_some : (x : PairEnds) → is_some (contact_between x) ≡ in_contact x
-contact_is_some x = elim (in_contact x) as (λ b. is_some {T = ℕ × ℕ} (if b then Some (x.contact, x.seen) else None) ≡ b) [ true ↦ refl | false ↦ refl ]
 
 -- there is contact with a peer to which an end is made where there was before, under the same number
 pub known_contact : (n : NodeState) (peer bearer : ℕ) → end_with bearer (neighbour_of n peer) ≡ None → IsTold n

@@ -13,14 +13,15 @@ use Rattle.tipc_link_fsm.specs.declared.changes.Change.TheVariants.{Answer, Up}
 use Rattle.tipc_link_fsm.specs.Table.{Fsm}
 use Rattle.tipc_link.specs.Links.{LinkEnd, answered_with, followed, recorded, with_fsm}
 use Rattle.tipc_link.specs.Records.{Received}
-use Rattle.tipc_link.specs.Sessions.{Carries, Content, IsPut, Nothing, SessionEnd, Shows, answered, arrived, flushed, given_up, heard, joins, put, released, repeated, room, spoke, told, waiting_given, waits, with_broadcast, with_record}
+use Rattle.tipc_link.specs.Sessions.{Carries, Content, IsPut, Nothing, SessionEnd, Shows, answered, arrived, flushed, given_up, heard, joins, put, after_acknowledgement, repeated, room, spoke, after_state, waiting_given, waits, with_broadcast, with_record}
 use Rattle.tipc_pair.specs.Facing.{PairEnds, facing, with_made}
 use Rattle.tipc_pair.specs.PairTurns.{made_near, quietly}
 use Rattle.tipc_pair.specs.PairTurns.Opening.{makes}
 use Rattle.tipc_pair.specs.PairCalls.{at_bearer}
 use Rattle.tipc_node.specs.declared.neighbours.Neighbour.{Neighbour}
 use Rattle.tipc_node.specs.Nodes.{NodeState, acquaintance, is_mended_on, known_neighbour, known_node, neighbour_of}
-use Rattle.tipc_node.specs.Telling.{AreAbreast, ArePacked, IsPacked, IsPackedEnd, IsPackedPair, IsTold}
+use Rattle.tipc_node.specs.Telling.{ArePacked, IsTold}
+use Rattle.tipc_pair.specs.LinkReadings.{AreAbreast, IsPacked, IsPackedEnd, IsPackedPair}
 use Rattle.tipc_node.specs.Turns.{NodeTurn}
 use Rattle.tipc_pair.proofs.turns.PairKept.{Both, Closed, both_facing, happened_kept, turn_kept}
 use Rattle.tipc_node.proofs.Places.{set_cases}
@@ -45,7 +46,7 @@ flushed_packed s within =
       ],
     )
 
-released_within : (s : SessionEnd) (acknowledgement : ℕ) → IsWithin s → IsWithin (released s acknowledgement)
+released_within : (s : SessionEnd) (acknowledgement : ℕ) → IsWithin s → IsWithin (after_acknowledgement s acknowledgement)
 released_within s acknowledgement within =
     let left : length (drop (release_count s.sending acknowledgement) s.sending.unacked) ≡ length s.sending.unacked - release_count s.sending acknowledgement = length-drop (release_count s.sending acknowledgement) s.sending.unacked in
     omega (arith, left, within)
@@ -56,7 +57,7 @@ spoke_within s (x ∷ xs) within = within
 
 arrived_packed : (s : SessionEnd) (by acknowledgement : ℕ) (c : Content) → IsPacked s → IsPacked (arrived s by acknowledgement c)
 arrived_packed s by acknowledgement (Shows next gap probe) h =
-    let clear = released s acknowledgement in
+    let clear = after_acknowledgement s acknowledgement in
     flushed_packed (heard s by acknowledgement (Shows next gap probe)) (spoke_within clear (repeated clear acknowledgement gap) (released_within s acknowledgement h.0))
 arrived_packed s by acknowledgement (Carries number packet) h = flushed_packed (heard s by acknowledgement (Carries number packet)) (released_within s acknowledgement h.0)
 arrived_packed s by acknowledgement Nothing h = h
@@ -84,7 +85,7 @@ any_frames fs = λ k d within. tt
 
 followed_packed : (e : LinkEnd) (f : Fsm) (c : Change) → IsPackedEnd e → IsPackedEnd (followed (with_fsm e f) c)
 followed_packed e f Up h = (omega arith, inl refl)
-followed_packed e f (Answer (reply.State probe)) h = mapped told e.session (λ s p. p) h
+followed_packed e f (Answer (reply.State probe)) h = mapped after_state e.session (λ s p. p) h
 followed_packed e f other h = h
 
 recorded_packed : (e : LinkEnd) (r : Received) → IsPackedEnd e → IsPackedEnd (recorded e r)

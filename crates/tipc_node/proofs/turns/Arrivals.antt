@@ -29,9 +29,11 @@ use Rattle.tipc_node.specs.declared.neighbours.Neighbour.{Neighbour}
 use Rattle.tipc_node.specs.Arrivals.{Arrives, Hears, heard_work}
 use Rattle.tipc_node.specs.Neighbours.{answered_neighbour, answering, heard_neighbour, no_broadcast}
 use Rattle.tipc_node.specs.Nodes.{NodeState, arrival_answer, arrival_deliveries, change_entries, entries_in, neighbour_of, shown_contact, step_of, stop_of, stopped_node}
-use Rattle.tipc_node.specs.Turns.{AreNamed, IsFrom, IsPlaced, IsRouted, IsTakenBy, IsTakenIn, Names, NeighbourTurn, NodeTurn, PeerTurn, frames_to, is_accepted_for, is_change_of, is_delivered_from, is_out_to}
+use Rattle.tipc_node.specs.Turns.{AreNamed, IsFrom, IsPlaced, IsRouted, IsTakenIn, NeighbourTurn, NodeTurn, PeerTurn, frames_to, is_accepted_for, is_change_of, is_delivered_from, is_out_to}
+use Rattle.tipc_pair.specs.PairTurns.{IsTakenBy}
+use Rattle.tipc_pair.specs.Addressed.{Names}
 use Rattle.tipc_node.specs.Works.{Work, begun}
-use Rattle.tipc_node.proofs.turns.Addressing.{AreFor}
+use Rattle.tipc_pair.proofs.turns.Addressing.{AreFor}
 use Rattle.tipc_node.proofs.turns.Entries.{changes_accept, changes_deliver, changes_inside, changes_other, changes_own, changes_placed, given_in, given_other, given_own, inside_both, routed_to}
 use Rattle.tipc_node.proofs.turns.MessageRuns.{delivers_all_run, idle_run}
 use Rattle.tipc_node.proofs.turns.Named.{IsNamed, first_named, replied_named}

@@ -13,20 +13,18 @@ use Rattle.tipc_reassembly.specs.declared.opening.Opened.{Opened}
 use Rattle.tipc_reassembly.specs.declared.opening.Opened.TheVariants.{Passed, Whole}
 use Rattle.tipc_pair.specs.declared.transitions.Transition.{Transition}
 use Rattle.tipc_pair.specs.declared.transitions.Transition.TheVariants.{ContactDown, ContactUp, LinkDown, LinkUp}
-use Rattle.tipc_node.specs.declared.neighbours.Deed.{Deed}
+use Rattle.tipc_node.specs.declared.neighbours.Upkeep.{Upkeep}
 use Rattle.tipc_node.specs.declared.neighbours.Neighbour.{Neighbour}
 use Rattle.tipc_node.specs.Neighbours.{done}
 use Rattle.tipc_node.specs.Messages.{message_in}
 use Rattle.tipc_node.specs.Nodes.{NodeState, change_entries, change_entry, delivered_by, deliveries_of, entries_all, entries_in, entries_one, frames_all, neighbour_of, numbered_all, numbered_one, states_all, states_one}
-use Rattle.tipc_node.specs.Turns.{IsOfNeighbour, IsPlaced, IsRouted, addr_of, delivered_message, delivered_of, is_accepted_for, is_change_of, is_delivered_from}
-use Rattle.tipc_node.proofs.turns.Addressing.{AreFor}
+use Rattle.tipc_node.specs.Turns.{IsOfNeighbour, IsPlaced, IsRouted, addr_of, delivered_entries, delivered_of, is_accepted_for, is_change_of, is_delivered_from}
+use Rattle.tipc_pair.proofs.turns.Addressing.{AreFor}
+use Rattle.tipc_node.proofs.journal.Telling.{same_word as own_word}
 
 flat_map_same : {A B : Type 0} (f g : A → List B) (xs : List A) → ((x : A) → f x ≡ g x) → flat_map f xs ≡ flat_map g xs
 flat_map_same f g [] same = refl
 flat_map_same f g (x ∷ xs) same = ap (λ ys. ys ++ flat_map f xs) (same x) ∙ ap (λ ys. g x ++ ys) (flat_map_same f g xs same)
-
-pub own_word : (b : ℕ) → (node_word b == node_word b) ≡ true
-own_word b = grind (arith, nat_tests)
 
 pub other_word : (b c : ℕ) → c ≢ b → (node_word c == node_word b) ≡ false
 other_word b c apart = grind (arith, nat_tests, apart)
@@ -110,7 +108,7 @@ pub given_own : (b : ℕ) (contact : ℕ × ℕ) (opened : List Opened) → filt
 given_own b contact [] = refl
 given_own b contact (Passed place ∷ opened) = given_own b contact opened
 given_own b contact (Whole packet by ∷ opened) =
-    elim (message_in packet) as (λ m. filter (is_delivered_from b) (delivered_by b contact m by ∷ given_in b contact opened) ≡ delivered_message b contact m by ++ flat_map (delivered_of b contact) opened) [
+    elim (message_in packet) as (λ m. filter (is_delivered_from b) (delivered_by b contact m by ∷ given_in b contact opened) ≡ delivered_entries b contact m by ++ flat_map (delivered_of b contact) opened) [
       | None ↦ given_own b contact opened
       | Some m ↦ rw (own_word b) (ap (λ es. delivered_by b contact (Some m) by ∷ es) (given_own b contact opened))
     ]
@@ -125,15 +123,15 @@ given_other b peer contact (Whole packet by ∷ opened) apart = elim (message_in
 
 -- ---- the entries of what happens to all neighbours; the first of them has that number
 
-one_own : (d : Deed) (b : ℕ) (x : Option Neighbour) → filter (is_change_of b) (entries_one d b x) ≡ entries_one d b x
+one_own : (d : Upkeep) (b : ℕ) (x : Option Neighbour) → filter (is_change_of b) (entries_one d b x) ≡ entries_one d b x
 one_own d b None = refl
 one_own d b (Some x) = changes_own b (done d x).changes
 
-one_other : (d : Deed) (b c : ℕ) (x : Option Neighbour) → c ≢ b → filter (is_change_of b) (entries_one d c x) ≡ []
+one_other : (d : Upkeep) (b c : ℕ) (x : Option Neighbour) → c ≢ b → filter (is_change_of b) (entries_one d c x) ≡ []
 one_other d b c None apart = refl
 one_other d b c (Some x) apart = changes_other b c (done d x).changes apart
 
-none_below : (d : Deed) (first : ℕ) (xs : List (Option Neighbour)) (b : ℕ) → b < first → filter (is_change_of b) (entries_all d first xs) ≡ []
+none_below : (d : Upkeep) (first : ℕ) (xs : List (Option Neighbour)) (b : ℕ) → b < first → filter (is_change_of b) (entries_all d first xs) ≡ []
 unfolding entries_all
 none_below d first [] b below = refl
 none_below d first (x ∷ xs) b below =
@@ -141,7 +139,7 @@ none_below d first (x ∷ xs) b below =
     ∙ ap (λ es. es ++ filter (is_change_of b) (entries_all d (first + 1) xs)) (one_other d b first x (λ e. omega (arith, below, e)))
     ∙ none_below d (first + 1) xs b (omega (arith, below))
 
-one_of : (d : Deed) (first k : ℕ) (xs : List (Option Neighbour)) (b : ℕ) → first + k ≡ b → filter (is_change_of b) (entries_all d first xs) ≡ entries_one d b (slice_index_or xs k None)
+one_of : (d : Upkeep) (first k : ℕ) (xs : List (Option Neighbour)) (b : ℕ) → first + k ≡ b → filter (is_change_of b) (entries_all d first xs) ≡ entries_one d b (slice_index_or xs k None)
 unfolding entries_all
 one_of d first k [] b is = refl
 one_of d first zero (x ∷ xs) b is =
@@ -154,36 +152,36 @@ one_of d first (suc k) (x ∷ xs) b is =
     ∙ ap (λ es. es ++ filter (is_change_of b) (entries_all d (first + 1) xs)) (one_other d b first x (λ e. omega (arith, is, e)))
     ∙ one_of d (first + 1) k xs b (omega (arith, is))
 
-pub all_changes : (d : Deed) (xs : List (Option Neighbour)) (b : ℕ) → filter (is_change_of b) (entries_all d 0 xs) ≡ entries_one d b (slice_index_or xs b None)
+pub all_changes : (d : Upkeep) (xs : List (Option Neighbour)) (b : ℕ) → filter (is_change_of b) (entries_all d 0 xs) ≡ entries_one d b (slice_index_or xs b None)
 all_changes d xs b = one_of d 0 b xs b (omega arith)
 
-one_accept : (d : Deed) (b c : ℕ) (x : Option Neighbour) → filter (is_accepted_for b) (entries_one d c x) ≡ []
+one_accept : (d : Upkeep) (b c : ℕ) (x : Option Neighbour) → filter (is_accepted_for b) (entries_one d c x) ≡ []
 one_accept d b c None = refl
 one_accept d b c (Some x) = changes_accept b c (done d x).changes
 
-pub all_accept : (d : Deed) (b first : ℕ) (xs : List (Option Neighbour)) → filter (is_accepted_for b) (entries_all d first xs) ≡ []
+pub all_accept : (d : Upkeep) (b first : ℕ) (xs : List (Option Neighbour)) → filter (is_accepted_for b) (entries_all d first xs) ≡ []
 unfolding entries_all
 all_accept d b first [] = refl
 all_accept d b first (x ∷ xs) =
     filter-append (is_accepted_for b) (entries_one d first x) (entries_all d (first + 1) xs)
     ∙ ap (λ es. es ++ filter (is_accepted_for b) (entries_all d (first + 1) xs)) (one_accept d b first x) ∙ all_accept d b (first + 1) xs
 
-one_deliver : (d : Deed) (b c : ℕ) (x : Option Neighbour) → filter (is_delivered_from b) (entries_one d c x) ≡ []
+one_deliver : (d : Upkeep) (b c : ℕ) (x : Option Neighbour) → filter (is_delivered_from b) (entries_one d c x) ≡ []
 one_deliver d b c None = refl
 one_deliver d b c (Some x) = changes_deliver b c (done d x).changes
 
-pub all_deliver : (d : Deed) (b first : ℕ) (xs : List (Option Neighbour)) → filter (is_delivered_from b) (entries_all d first xs) ≡ []
+pub all_deliver : (d : Upkeep) (b first : ℕ) (xs : List (Option Neighbour)) → filter (is_delivered_from b) (entries_all d first xs) ≡ []
 unfolding entries_all
 all_deliver d b first [] = refl
 all_deliver d b first (x ∷ xs) =
     filter-append (is_delivered_from b) (entries_one d first x) (entries_all d (first + 1) xs)
     ∙ ap (λ es. es ++ filter (is_delivered_from b) (entries_all d (first + 1) xs)) (one_deliver d b first x) ∙ all_deliver d b (first + 1) xs
 
-one_inside : (d : Deed) (c : ℕ) (x : Option Neighbour) → IsInside (entries_one d c x)
+one_inside : (d : Upkeep) (c : ℕ) (x : Option Neighbour) → IsInside (entries_one d c x)
 one_inside d c None = refl
 one_inside d c (Some x) = changes_inside c (done d x).changes
 
-pub all_inside : (d : Deed) (first : ℕ) (xs : List (Option Neighbour)) → IsInside (entries_all d first xs)
+pub all_inside : (d : Upkeep) (first : ℕ) (xs : List (Option Neighbour)) → IsInside (entries_all d first xs)
 unfolding entries_all
 all_inside d first [] = refl
 all_inside d first (x ∷ xs) = inside_both (entries_one d first x) (entries_all d (first + 1) xs) (one_inside d first x) (all_inside d (first + 1) xs)
@@ -198,11 +196,11 @@ first_of n first x xs all = subst (λ k. is_some (neighbour_of n k) ≡ true) (o
 later_of : (n : NodeState) (first : ℕ) (x : Option Neighbour) (xs : List (Option Neighbour)) → AreOf n first (x ∷ xs) → AreOf n (first + 1) xs
 later_of n first x xs all k y is = subst (λ j. is_some (neighbour_of n j) ≡ true) (omega arith) (all (suc k) y is)
 
-one_placed : (n : NodeState) (d : Deed) (first : ℕ) (x : Option Neighbour) (xs : List (Option Neighbour)) → AreOf n first (x ∷ xs) → All (IsPlaced n) (entries_one d first x)
+one_placed : (n : NodeState) (d : Upkeep) (first : ℕ) (x : Option Neighbour) (xs : List (Option Neighbour)) → AreOf n first (x ∷ xs) → All (IsPlaced n) (entries_one d first x)
 one_placed n d first None xs all = All-nil (IsPlaced n)
 one_placed n d first (Some x) xs all = changes_placed n first (done d x).changes (first_of n first x xs all)
 
-placed_from : (n : NodeState) (d : Deed) (first : ℕ) (xs : List (Option Neighbour)) → AreOf n first xs → All (IsPlaced n) (entries_all d first xs)
+placed_from : (n : NodeState) (d : Upkeep) (first : ℕ) (xs : List (Option Neighbour)) → AreOf n first xs → All (IsPlaced n) (entries_all d first xs)
 unfolding entries_all
 placed_from n d first [] all = All-nil (IsPlaced n)
 placed_from n d first (x ∷ xs) all =
@@ -211,7 +209,7 @@ placed_from n d first (x ∷ xs) all =
 all_of : (n : NodeState) → AreOf n 0 n.neighbours
 all_of n k x is = subst (λ j. is_some (neighbour_of n j) ≡ true) (omega arith) (ap is_some is)
 
-pub all_placed : (n : NodeState) (d : Deed) → All (IsPlaced n) (entries_all d 0 n.neighbours)
+pub all_placed : (n : NodeState) (d : Upkeep) → All (IsPlaced n) (entries_all d 0 n.neighbours)
 all_placed n d = placed_from n d 0 n.neighbours (all_of n)
 
 -- ---- frames are for neighbours
@@ -242,15 +240,15 @@ routed_from n part first (x ∷ xs) all each =
 part_routed : (n : NodeState) (part : Neighbour → List Outgoing) → ((b : ℕ) (x : Neighbour) → neighbour_of n b ≡ Some x → AreFor (node_word b) (part x)) → All (IsRouted n) (flat_map (part_of part) n.neighbours)
 part_routed n part each = routed_from n part 0 n.neighbours (all_of n) (λ k x is. subst (λ j. AreFor (node_word j) (part x)) (omega arith) (each k x is))
 
-pub states_are : (d : Deed) (xs : List (Option Neighbour)) → states_all d xs ≡ flat_map (part_of (λ x. (done d x).states)) xs
+pub states_are : (d : Upkeep) (xs : List (Option Neighbour)) → states_all d xs ≡ flat_map (part_of (λ x. (done d x).states)) xs
 unfolding states_all
 states_are d xs = flat_map_same (states_one d) (part_of (λ x. (done d x).states)) xs (λ o. elim o as (λ (p : Option Neighbour). states_one d p ≡ part_of (λ x. (done d x).states) p) [ None ↦ refl | Some x ↦ refl ])
 
-pub numbered_are : (d : Deed) (xs : List (Option Neighbour)) → numbered_all d xs ≡ flat_map (part_of (λ x. (done d x).numbered)) xs
+pub numbered_are : (d : Upkeep) (xs : List (Option Neighbour)) → numbered_all d xs ≡ flat_map (part_of (λ x. (done d x).numbered)) xs
 unfolding numbered_all
 numbered_are d xs = flat_map_same (numbered_one d) (part_of (λ x. (done d x).numbered)) xs (λ o. elim o as (λ (p : Option Neighbour). numbered_one d p ≡ part_of (λ x. (done d x).numbered) p) [ None ↦ refl | Some x ↦ refl ])
 
-pub all_routed : (n : NodeState) (d : Deed) → ((b : ℕ) (x : Neighbour) → neighbour_of n b ≡ Some x → AreFor (node_word b) (done d x).states × AreFor (node_word b) (done d x).numbered) → All (IsRouted n) (frames_all d n.neighbours)
+pub all_routed : (n : NodeState) (d : Upkeep) → ((b : ℕ) (x : Neighbour) → neighbour_of n b ≡ Some x → AreFor (node_word b) (done d x).states × AreFor (node_word b) (done d x).numbered) → All (IsRouted n) (frames_all d n.neighbours)
 all_routed n d each =
     All-append (IsRouted n) (states_all d n.neighbours) (numbered_all d n.neighbours)
     (subst (All (IsRouted n)) (sym (states_are d n.neighbours)) (part_routed n (λ x. (done d x).states) (λ b x is. (each b x is).0)))

@@ -30,10 +30,11 @@ use Rattle.tipc_node.specs.Calls.{Goes}
 use Rattle.tipc_node.specs.Messages.{IsSendable, bytes_of, message_in}
 use Rattle.tipc_node.specs.Nodes.{NodeState, accepted_entry, deliveries_of, delivered_by, entries_in, neighbour_of}
 use Rattle.tipc_node.specs.Turns.{IsOfNeighbour, IsPlaced, addr_of, is_accepted_for, is_change_of, is_delivered_from}
-use Rattle.tipc_node.specs.Works.{Delivers, DeliversAll, DeliversTo, Follows, GoesBack, Puts, Settles, Work, addr_of_word, fate_of, fated, noted, with_items}
+use Rattle.tipc_node.specs.Works.{Delivers, DeliversAll, DeliversTo, Follows, GoesBack, Puts, GivesFate, Work, addr_of_word, fate_of, fated, noted, with_items}
 use Rattle.tipc_node.specs.Works.DeliversAll.{none_left, one_more}
-use Rattle.tipc_node.proofs.turns.Addressing.{AreFor}
-use Rattle.tipc_node.proofs.turns.Entries.{inside_both, other_word, own_word, routed_to}
+use Rattle.tipc_pair.proofs.turns.Addressing.{AreFor}
+use Rattle.tipc_node.proofs.turns.Entries.{inside_both, other_word, routed_to}
+use Rattle.tipc_node.proofs.journal.Telling.{same_word as own_word}
 use Rattle.tipc_node.proofs.turns.Named.{put_named}
 use Rattle.tipc_node.proofs.Places.{set_none, set_there}
 use Rattle.tipc_node.proofs.turns.Runs.{IsRun, NowAt, RunAt, Runs, StandFor, both_parts, run_as, run_then, stand_set, still_at}
@@ -163,7 +164,7 @@ follows_run n w w' m (Queued ports) frames stand h = run_as n w (fated w m (Queu
 follows_run n w w' m (ReturnDropped waiting) frames stand h = run_as n w (fated w m (ReturnDropped waiting)) w' [] frames [] h.0 h.1 (fated_run n w m (ReturnDropped waiting) stand)
 follows_run n w w' m Dropped frames stand h = run_as n w (fated w m Dropped) w' [] frames [] h.0 h.1 (fated_run n w m Dropped stand)
 
-settles_run : (n : NodeState) (w w' : Work) (arrived : Bool) (m : Message) (frames : List Outgoing) → StandFor n w.neighbours → Settles n.own w arrived m w' frames → IsRun n w [] frames w'
+settles_run : (n : NodeState) (w w' : Work) (arrived : Bool) (m : Message) (frames : List Outgoing) → StandFor n w.neighbours → GivesFate n.own w arrived m w' frames → IsRun n w [] frames w'
 settles_run n w w' arrived m frames stand h = follows_run n w w' m (fate_of w arrived m) frames stand h
 
 pub goes_run : (n : NodeState) (w w' : Work) (m : Message) (frames : List Outgoing) → StandFor n w.neighbours → Goes n.own w m w' frames → IsRun n w [] frames w'

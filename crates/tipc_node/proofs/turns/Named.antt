@@ -12,8 +12,9 @@ use Rattle.tipc_pair.specs.PairTurns.Opening.{makes}
 use Rattle.tipc_journal.specs.Steps.{NodeStep}
 use Rattle.tipc_node.specs.declared.neighbours.Neighbour.{Neighbour}
 use Rattle.tipc_node.specs.Nodes.{NodeState, acquaintance, is_mended_on, known_neighbour, known_node, neighbour_of}
-use Rattle.tipc_node.specs.Turns.{AreNamed, IsEndTo, Names, NodeTurn}
-use Rattle.tipc_node.proofs.turns.Addressing.{AreFor, IsFor, all_for, for_both, keeps_to}
+use Rattle.tipc_node.specs.Turns.{AreNamed, NodeTurn}
+use Rattle.tipc_pair.specs.Addressed.{IsEndTo, Names}
+use Rattle.tipc_pair.proofs.turns.Addressing.{AreFor, IsFor, all_for, for_both, keeps_to}
 use Rattle.tipc_pair.proofs.turns.PairKept.{Both, Kept, both_facing, facing_peer, happened_kept, put_kept, replied_kept, turn_kept}
 use Rattle.tipc_node.proofs.Places.{set_either}
 

@@ -18,21 +18,22 @@ use Rattle.tipc_journal.specs.Licensed.{next_answer}
 use Rattle.tipc_journal.specs.Steps.{NodeStep}
 use Rattle.tipc_topology.specs.Changing.{due}
 use Rattle.tipc_name_dist.specs.Items.{telling}
-use Rattle.tipc_pair.specs.PairTurns.{ShowsIn, quietly}
+use Rattle.tipc_pair.specs.PairTurns.{ShowsIn, quietly, IsOnOne, Suits}
 use Rattle.tipc_sockets.specs.Publishing.{is_at, own_publication, published_at}
 use Rattle.tipc_sockets.specs.SocketTables.{with_socket}
-use Rattle.tipc_node.specs.declared.neighbours.Deed.{Deed}
-use Rattle.tipc_node.specs.declared.neighbours.Deed.TheVariants as deed
+use Rattle.tipc_node.specs.declared.neighbours.Upkeep.{Upkeep}
+use Rattle.tipc_node.specs.declared.neighbours.Upkeep.TheVariants as upkeep
 use Rattle.tipc_node.specs.declared.neighbours.Neighbour.{Neighbour}
-use Rattle.tipc_node.specs.Calls.{CanPerform, Makes, Performs, Sends, SendsByName, SendsTo, TakesPart, Tells, deed_work, sender_refusal, tick_work, way_refusal}
+use Rattle.tipc_node.specs.Calls.{CanPerform, Makes, Performs, SendsToPort, SendsByName, SendsTo, TakesPart, Tells, upkeep_work, sender_refusal, tick_work, way_refusal}
 use Rattle.tipc_node.specs.Messages.{destination_of, direct, limit_of, named}
 use Rattle.tipc_node.specs.Neighbours.{IsOnBearer, course_of, done}
-use Rattle.tipc_node.specs.Nodes.{NodeState, after_one, change_entries, deed_note, entries_all, entries_one, frames_all, mended_by, numbered_one, recorded, states_one, step_of, with_mended}
+use Rattle.tipc_node.specs.Nodes.{NodeState, after_one, change_entries, upkeep_note, entries_all, entries_one, frames_all, mended_by, numbered_one, recorded, states_one, step_of, with_mended}
 use Rattle.tipc_node.specs.Sockets.{cancelled_work, closed_work, crowd_refusal, first_answer, first_event, found_at, kept_answer, next_number, next_port, next_work, number_refusal, port_refusal, publication_refusal, published_work, received_work, socket_refusal, subscribed_work, subscription_refusal, timeouts_of, told_closing, told_withdrawal, waiting_at, with_sockets_of, withdrawal_refusal, withdrawn_entries, withdrawn_work}
-use Rattle.tipc_node.specs.Turns.{AreNamed, IsBrought, IsOnOne, IsPlaced, Names, NodeTurn, PeerTurn, Suits, frames_to, is_accepted_for, is_change_of, is_delivered_from}
-use Rattle.tipc_node.specs.Works.{Work, begun, concluded, in_contact}
-use Rattle.tipc_node.proofs.turns.Addressing.{AreFor}
-use Rattle.tipc_node.proofs.pairs.Calm.{deed_happens, opening_of}
+use Rattle.tipc_node.specs.Turns.{AreNamed, IsBrought, IsPlaced, NodeTurn, PeerTurn, frames_to, is_accepted_for, is_change_of, is_delivered_from}
+use Rattle.tipc_pair.specs.Addressed.{Names}
+use Rattle.tipc_node.specs.Works.{Work, begun, concluded, peers_in_contact}
+use Rattle.tipc_pair.proofs.turns.Addressing.{AreFor}
+use Rattle.tipc_node.proofs.pairs.Calm.{upkeep_happens, opening_of}
 use Rattle.tipc_node.proofs.turns.Entries.{all_accept, all_changes, all_deliver, all_inside, all_placed, all_routed, inside_both}
 use Rattle.tipc_node.proofs.turns.MessageRuns.{AreQuiet, goes_run, idle_run, none_quiet, quiet_run}
 use Rattle.tipc_node.proofs.turns.Named.{first_frames}
@@ -71,7 +72,7 @@ tells_turn n n' by call refusal w told frames answered named plain run h = case 
         refused_turn n n' by call reason frames answered named (plain_reason (crowd_refusal n.neighbours told) reason (crowd_plain n.neighbours told) is) r.0 r.1 r.2
     crowd None none is =
         let t = h.tells none is in
-        let last = tells_each_run n told w (in_contact w.neighbours) t.0 frames run.runs.stand t.1 in
+        let last = tells_each_run n told w (peers_in_contact w.neighbours) t.0 frames run.runs.stand t.1 in
         turn_as n n' (concluded n by call t.0 answer.Done) by call [] frames frames (kept_answer answered) answer.Done t.2 refl (ap kept_answer t.3)
         (run_turn n by call [] answer.Done t.0 frames tt (run_then n (begun n) w t.0 [] [] [] frames run last))
 
@@ -116,7 +117,7 @@ sends_to_turn n n' by call m limit sent frames answered named plain h = case (wa
         turn_as n n' (concluded n by call g.0 sent) by call [] frames frames (kept_answer answered) sent g.2 refl (ap kept_answer g.3 ∙ plain.kept)
         (run_turn n by call [] sent g.0 frames plain.untaken (goes_run n (begun n) g.0 m frames (named_stand n named) g.1))
 
-sends_turn : (n n' : NodeState) (by : By) (port : ℕ) (to : PortId) (importance : Importance) (body : List ℕ) (frames : List Outgoing) (answered : Answer) → AreNamed n → Sends n n' by port to importance body frames answered
+sends_turn : (n n' : NodeState) (by : By) (port : ℕ) (to : PortId) (importance : Importance) (body : List ℕ) (frames : List Outgoing) (answered : Answer) → AreNamed n → SendsToPort n n' by port to importance body frames answered
     → IsCall n n' by (event.SendPort port to importance body) frames answered
 sends_turn n n' by port to importance body frames answered named h = case (sender_refusal n port body) refl
   where
@@ -148,26 +149,26 @@ named_turn n n' by port kind instance importance body frames answered are h = ca
 
 -- ---- what happens to all neighbours
 
-done_for : (d : Deed) (b : ℕ) (x : Neighbour) → Names (node_word b) x.pair → AreFor (node_word b) (done d x).states × AreFor (node_word b) (done d x).numbered
-done_for d b x named = first_frames (node_word b) x.pair (opening_of d x) (quietly (course_of d x)) named (deed_happens d x).0
+done_for : (d : Upkeep) (b : ℕ) (x : Neighbour) → Names (node_word b) x.pair → AreFor (node_word b) (done d x).states × AreFor (node_word b) (done d x).numbered
+done_for d b x named = first_frames (node_word b) x.pair (opening_of d x) (quietly (course_of d x)) named (upkeep_happens d x).0
 
 -- what a step tells of a neighbour, and which frames are for it
-record IsDone (d : Deed) (s : NodeStep) (frames : List Outgoing) (b : ℕ) (x : Neighbour) : Type 0 where
-  pub event_is : s.event ≡ deed_note d
+record IsDone (d : Upkeep) (s : NodeStep) (frames : List Outgoing) (b : ℕ) (x : Neighbour) : Type 0 where
+  pub event_is : s.event ≡ upkeep_note d
   pub answer_is : s.answer ≡ answer.Done
   pub frames_are : frames_to b frames ≡ (done d x).states ++ (done d x).numbered
   pub changes : filter (is_change_of b) s.inside ≡ change_entries b (done d x).changes
   pub accepted : filter (is_accepted_for b) s.inside ≡ []
   pub delivered : filter (is_delivered_from b) s.inside ≡ []
 
-opened_turn : (own : ℕ) (d : Deed) (s : NodeStep) (frames : List Outgoing) (b : ℕ) (x : Neighbour) → IsDone d s frames b x → Suits s.event (opening_of d x) → IsOnOne (opening_of d x) → IsBrought b [] (opening_of d x) → ShowsIn (opening_of d x)
+opened_turn : (own : ℕ) (d : Upkeep) (s : NodeStep) (frames : List Outgoing) (b : ℕ) (x : Neighbour) → IsDone d s frames b x → Suits s.event (opening_of d x) → IsOnOne (opening_of d x) → IsBrought b [] (opening_of d x) → ShowsIn (opening_of d x)
     → PeerTurn own [] s frames b x.pair (course_of d x).pair
 opened_turn own d s frames b x h suits on_one brought shows = opens_turn own [] s frames b x.pair (opening_of d x) (quietly (course_of d x)) (record {
   suits = suits;
   on_one = on_one;
   brought = brought;
   shows = shows;
-  happened = (deed_happens d x).0;
+  happened = (upkeep_happens d x).0;
   frames_are = h.frames_are;
   changes = h.changes;
   accepted = h.accepted;
@@ -175,16 +176,16 @@ opened_turn own d s frames b x h suits on_one brought shows = opens_turn own [] 
   taken = λ answered es er p is taken from. absurd (let wrong : answer.Done ≡ answer.Arrived answered = sym h.answer_is ∙ is in cc);
 })
 
-done_turn : (own : ℕ) (d : Deed) (s : NodeStep) (frames : List Outgoing) (b : ℕ) (x : Neighbour) → IsOnBearer d → IsDone d s frames b x → PeerTurn own [] s frames b x.pair (done d x).after.pair
-done_turn own (deed.Mend bearer) s frames b x one h = opened_turn own (deed.Mend bearer) s frames b x h h.event_is one tt tt
-done_turn own (deed.Cut bearer) s frames b x one h = opened_turn own (deed.Cut bearer) s frames b x h h.event_is one tt tt
-done_turn own deed.Tick s frames b x one h = opened_turn own deed.Tick s frames b x h h.event_is tt tt (shows_none x.in_step)
+done_turn : (own : ℕ) (d : Upkeep) (s : NodeStep) (frames : List Outgoing) (b : ℕ) (x : Neighbour) → IsOnBearer d → IsDone d s frames b x → PeerTurn own [] s frames b x.pair (done d x).after.pair
+done_turn own (upkeep.Mend bearer) s frames b x one h = opened_turn own (upkeep.Mend bearer) s frames b x h h.event_is one tt tt
+done_turn own (upkeep.Cut bearer) s frames b x one h = opened_turn own (upkeep.Cut bearer) s frames b x h h.event_is one tt tt
+done_turn own upkeep.Tick s frames b x one h = opened_turn own upkeep.Tick s frames b x h h.event_is tt tt (shows_none x.in_step)
 
-abbrev deed_node : NodeState → By → Deed → NodeState
-deed_node n by d = concluded (with_mended n (mended_by d n.mended)) by (deed_note d) (deed_work d n) answer.Done
+abbrev upkeep_node : NodeState → By → Upkeep → NodeState
+upkeep_node n by d = concluded (with_mended n (mended_by d n.mended)) by (upkeep_note d) (upkeep_work d n) answer.Done
 
-deed_turn : (n : NodeState) (by : By) (d : Deed) → AreNamed n → IsOnBearer d → NodeTurn n (deed_node n by d) [] (step_of by (deed_note d) (entries_all d 0 n.neighbours) answer.Done) (frames_all d n.neighbours)
-deed_turn n by d named one = record {
+upkeep_turn : (n : NodeState) (by : By) (d : Upkeep) → AreNamed n → IsOnBearer d → NodeTurn n (upkeep_node n by d) [] (step_of by (upkeep_note d) (entries_all d 0 n.neighbours) answer.Done) (frames_all d n.neighbours)
+upkeep_turn n by d named one = record {
   own = refl;
   boot = refl;
   journal = refl;
@@ -192,7 +193,7 @@ deed_turn n by d named one = record {
   turns = λ b x there. record {
     after = (done d x).after;
     after_is = after_at d n.neighbours b ∙ ap (after_one d) there;
-    turn = done_turn n.own d (step_of by (deed_note d) (entries_all d 0 n.neighbours) answer.Done) (frames_all d n.neighbours) b x one (record {
+    turn = done_turn n.own d (step_of by (upkeep_note d) (entries_all d 0 n.neighbours) answer.Done) (frames_all d n.neighbours) b x one (record {
       event_is = refl;
       answer_is = refl;
       frames_are = shares d n.neighbours b each ∙ ap (λ o. states_one d o ++ numbered_one d o) there;
@@ -209,10 +210,10 @@ deed_turn n by d named one = record {
     each : (b : ℕ) (x : Neighbour) → slice_index_or n.neighbours b None ≡ Some x → AreFor (node_word b) (done d x).states × AreFor (node_word b) (done d x).numbered
     each b x there = done_for d b x (named b x there)
 
-takes_part_turn : (n n' : NodeState) (by : By) (d : Deed) (call : EventNote) (frames : List Outgoing) (answered : Answer) → AreNamed n → IsOnBearer d → call ≡ deed_note d → TakesPart n by d n' frames answered → IsCall n n' by call frames answered
+takes_part_turn : (n n' : NodeState) (by : By) (d : Upkeep) (call : EventNote) (frames : List Outgoing) (answered : Answer) → AreNamed n → IsOnBearer d → call ≡ upkeep_note d → TakesPart n by d n' frames answered → IsCall n n' by call frames answered
 takes_part_turn n n' by d call frames answered named one is h =
     subst (λ note. IsCall n n' by note frames answered) (sym is)
-    (turn_as n n' (deed_node n by d) by (deed_note d) [] frames (frames_all d n.neighbours) (kept_answer answered) answer.Done h.0 h.1 (ap kept_answer h.2) (entries_all d 0 n.neighbours, deed_turn n by d named one))
+    (turn_as n n' (upkeep_node n by d) by (upkeep_note d) [] frames (frames_all d n.neighbours) (kept_answer answered) answer.Done h.0 h.1 (ap kept_answer h.2) (entries_all d 0 n.neighbours, upkeep_turn n by d named one))
 
 -- ---- a tick
 
@@ -235,31 +236,31 @@ abbrev tick_node : NodeState → By → NodeState
 tick_node n by = concluded n by event.Tick (tick_work n) answer.Done
 
 tick_turn : (n : NodeState) (by : By) → AreNamed n
-    → NodeTurn n (tick_node n by) [] (step_of by event.Tick (entries_all deed.Tick 0 n.neighbours ++ timeouts_of n.sockets) answer.Done) (frames_all deed.Tick n.neighbours)
+    → NodeTurn n (tick_node n by) [] (step_of by event.Tick (entries_all upkeep.Tick 0 n.neighbours ++ timeouts_of n.sockets) answer.Done) (frames_all upkeep.Tick n.neighbours)
 tick_turn n by named = record {
   own = refl;
   boot = refl;
   journal = refl;
-  inside = inside_both es ts (all_inside deed.Tick 0 n.neighbours) quiet.inside;
+  inside = inside_both es ts (all_inside upkeep.Tick 0 n.neighbours) quiet.inside;
   turns = λ b x there. record {
-    after = (done deed.Tick x).after;
-    after_is = after_at deed.Tick n.neighbours b ∙ ap (after_one deed.Tick) there;
-    turn = done_turn n.own deed.Tick (step_of by event.Tick (es ++ ts) answer.Done) (frames_all deed.Tick n.neighbours) b x tt (record {
+    after = (done upkeep.Tick x).after;
+    after_is = after_at upkeep.Tick n.neighbours b ∙ ap (after_one upkeep.Tick) there;
+    turn = done_turn n.own upkeep.Tick (step_of by event.Tick (es ++ ts) answer.Done) (frames_all upkeep.Tick n.neighbours) b x tt (record {
       event_is = refl;
       answer_is = refl;
-      frames_are = shares deed.Tick n.neighbours b each ∙ ap (λ o. states_one deed.Tick o ++ numbered_one deed.Tick o) there;
-      changes = quiet_behind (is_change_of b) es ts (quiet.changes b) ∙ all_changes deed.Tick n.neighbours b ∙ ap (entries_one deed.Tick b) there;
-      accepted = quiet_behind (is_accepted_for b) es ts (quiet.accepted b) ∙ all_accept deed.Tick b 0 n.neighbours;
-      delivered = quiet_behind (is_delivered_from b) es ts (quiet.delivered b) ∙ all_deliver deed.Tick b 0 n.neighbours;
+      frames_are = shares upkeep.Tick n.neighbours b each ∙ ap (λ o. states_one upkeep.Tick o ++ numbered_one upkeep.Tick o) there;
+      changes = quiet_behind (is_change_of b) es ts (quiet.changes b) ∙ all_changes upkeep.Tick n.neighbours b ∙ ap (entries_one upkeep.Tick b) there;
+      accepted = quiet_behind (is_accepted_for b) es ts (quiet.accepted b) ∙ all_accept upkeep.Tick b 0 n.neighbours;
+      delivered = quiet_behind (is_delivered_from b) es ts (quiet.delivered b) ∙ all_deliver upkeep.Tick b 0 n.neighbours;
     });
   };
-  alone = λ b none. after_at deed.Tick n.neighbours b ∙ ap (after_one deed.Tick) none;
-  routed = all_routed n deed.Tick each;
-  placed = All-append (IsPlaced n) es ts (all_placed n deed.Tick) quiet.placed;
+  alone = λ b none. after_at upkeep.Tick n.neighbours b ∙ ap (after_one upkeep.Tick) none;
+  routed = all_routed n upkeep.Tick each;
+  placed = All-append (IsPlaced n) es ts (all_placed n upkeep.Tick) quiet.placed;
 }
   where
     es : List Entry
-    es = entries_all deed.Tick 0 n.neighbours
+    es = entries_all upkeep.Tick 0 n.neighbours
 
     ts : List Entry
     ts = timeouts_of n.sockets
@@ -267,8 +268,8 @@ tick_turn n by named = record {
     quiet : AreQuiet n ts []
     quiet = timed_quiet n (due n.sockets.watchers.kept)
 
-    each : (b : ℕ) (x : Neighbour) → slice_index_or n.neighbours b None ≡ Some x → AreFor (node_word b) (done deed.Tick x).states × AreFor (node_word b) (done deed.Tick x).numbered
-    each b x there = done_for deed.Tick b x (named b x there)
+    each : (b : ℕ) (x : Neighbour) → slice_index_or n.neighbours b None ≡ Some x → AreFor (node_word b) (done upkeep.Tick x).states × AreFor (node_word b) (done upkeep.Tick x).numbered
+    each b x there = done_for upkeep.Tick b x (named b x there)
 
 -- ---- every call
 
@@ -310,8 +311,8 @@ performs_turn n n' by (event.NextEvent number) frames answered are can h =
     makes_turn n n' by (event.NextEvent number) (number_refusal n.sockets number) (next_work n number) (next_answer (first_event n.sockets number)) frames answered are (number_plain n.sockets number) (next_untaken (first_event n.sockets number))
     (idle_run n (begun n) (next_work n number) (named_stand n are) refl refl) h
 performs_turn n n' by event.Tick frames answered are can h =
-    turn_as n n' (tick_node n by) by event.Tick [] frames (frames_all deed.Tick n.neighbours) (kept_answer answered) answer.Done h.0 h.1 (ap kept_answer h.2)
-    (entries_all deed.Tick 0 n.neighbours ++ timeouts_of n.sockets, tick_turn n by are)
-performs_turn n n' by (event.Cut bearer) frames answered are can h = takes_part_turn n n' by (deed.Cut bearer) (event.Cut bearer) frames answered are can refl h
-performs_turn n n' by (event.Mend bearer) frames answered are can h = takes_part_turn n n' by (deed.Mend bearer) (event.Mend bearer) frames answered are can refl h
+    turn_as n n' (tick_node n by) by event.Tick [] frames (frames_all upkeep.Tick n.neighbours) (kept_answer answered) answer.Done h.0 h.1 (ap kept_answer h.2)
+    (entries_all upkeep.Tick 0 n.neighbours ++ timeouts_of n.sockets, tick_turn n by are)
+performs_turn n n' by (event.Cut bearer) frames answered are can h = takes_part_turn n n' by (upkeep.Cut bearer) (event.Cut bearer) frames answered are can refl h
+performs_turn n n' by (event.Mend bearer) frames answered are can h = takes_part_turn n n' by (upkeep.Mend bearer) (event.Mend bearer) frames answered are can refl h
 performs_turn n n' by other frames answered are can h = absurd h

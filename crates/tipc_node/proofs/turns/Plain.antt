@@ -20,7 +20,7 @@ use Rattle.tipc_node.specs.Calls.{link_refusal, sender_refusal, way_refusal}
 use Rattle.tipc_node.specs.Nodes.{NodeState, load_with}
 use Rattle.tipc_node.specs.Sockets.{crowd_refusal, crowded_answer, first_answer, first_crowded, kept_answer, key_refusal, number_refusal, port_refusal, publication_refusal, refused_publication, socket_refusal, subscription_refusal, withdrawal_refusal}
 use Rattle.tipc_node.specs.Works.{neighbour_at}
-use Rattle.tipc_node.proofs.turns.Addressing.{either}
+use Rattle.tipc_pair.proofs.turns.Addressing.{either}
 use Rattle.tipc_node.proofs.turns.Turning.{IsUntaken}
 
 -- an answer of which the journal keeps all, and which isn't an arrival's

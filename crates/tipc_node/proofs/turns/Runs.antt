@@ -17,11 +17,12 @@ use Rattle.tipc_pair.specs.PairTurns.PutsAll.{none_put}
 use Rattle.tipc_node.specs.declared.neighbours.Neighbour.{Neighbour}
 use Rattle.tipc_node.specs.Messages.{IsSendable, bytes_of}
 use Rattle.tipc_node.specs.Nodes.{NodeState, accepted_entry, neighbour_of, shown_contact}
-use Rattle.tipc_node.specs.Turns.{IsPlaced, IsRouted, Names, addr_of, frames_to, is_accepted_for, is_change_of, is_delivered_from, is_out_to}
+use Rattle.tipc_node.specs.Turns.{IsPlaced, IsRouted, addr_of, frames_to, is_accepted_for, is_change_of, is_delivered_from, is_out_to}
+use Rattle.tipc_pair.specs.Addressed.{Names}
 use Rattle.tipc_node.specs.Works.{Work}
 use Rattle.tipc_node.proofs.turns.Entries.{inside_both}
 use Rattle.tipc_node.proofs.Places.{set_cases}
-use Rattle.tipc_node.proofs.pairs.PairPuts.{puts_meet, puts_more}
+use Rattle.tipc_pair.proofs.turns.PairPuts.{puts_meet, puts_more}
 
 -- ---- neighbours
 

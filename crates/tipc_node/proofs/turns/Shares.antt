@@ -1,4 +1,4 @@
--- Of the frames of a deed those to one node are those of that neighbour.
+-- Of the frames of a upkeep those to one node are those of that neighbour.
 use Rattle.std.proofs.Common.{◌≡◌, ◌≢◌, ℕ, zero, suc, ◌+◌, ◌<◌, true, false, List, [], ◌∷◌, ◌++◌, Option, Some, None, map, slice_index_or, refl, ap, ◌∙◌, subst, append-nil, arith}
 use Rattle.std.specs.List.{flat_map}
 use Rattle.std.proofs.lemmas.Bool.Decides.{nat_tests}
@@ -7,12 +7,12 @@ use Rattle.tipc_types.specs.Address.{node_word}
 use Rattle.tipc_types.specs.declared.identity.To.{To}
 use Rattle.tipc_types.specs.declared.identity.To.TheVariants as to
 use Rattle.tipc_outside.specs.declared.outgoing.Outgoing.{Outgoing}
-use Rattle.tipc_node.specs.declared.neighbours.Deed.{Deed}
+use Rattle.tipc_node.specs.declared.neighbours.Upkeep.{Upkeep}
 use Rattle.tipc_node.specs.declared.neighbours.Neighbour.{Neighbour}
 use Rattle.tipc_node.specs.Neighbours.{done}
 use Rattle.tipc_node.specs.Nodes.{after_all, after_one, frames_all, numbered_all, numbered_one, states_all, states_one}
 use Rattle.tipc_node.specs.Turns.{frames_to, is_out_to, is_to}
-use Rattle.tipc_node.proofs.turns.Addressing.{AreFor}
+use Rattle.tipc_pair.proofs.turns.Addressing.{AreFor}
 use Rattle.tipc_node.proofs.turns.Entries.{numbered_are, part_of, states_are}
 
 -- ---- frames that are all for one node
@@ -65,15 +65,15 @@ one_to part first (x ∷ xs) (suc k) all =
 part_shares : (part : Neighbour → List Outgoing) (xs : List (Option Neighbour)) (b : ℕ) → ((k : ℕ) (x : Neighbour) → slice_index_or xs k None ≡ Some x → AreFor (node_word k) (part x)) → frames_to b (flat_map (part_of part) xs) ≡ part_of part (slice_index_or xs b None)
 part_shares part xs b all = ap (λ j. frames_to j (flat_map (part_of part) xs)) (omega arith) ∙ one_to part 0 xs b (λ k x is. subst (λ j. AreFor (node_word j) (part x)) (omega arith) (all k x is))
 
-part_states : (d : Deed) (o : Option Neighbour) → part_of (λ x. (done d x).states) o ≡ states_one d o
+part_states : (d : Upkeep) (o : Option Neighbour) → part_of (λ x. (done d x).states) o ≡ states_one d o
 part_states d None = refl
 part_states d (Some x) = refl
 
-part_numbered : (d : Deed) (o : Option Neighbour) → part_of (λ x. (done d x).numbered) o ≡ numbered_one d o
+part_numbered : (d : Upkeep) (o : Option Neighbour) → part_of (λ x. (done d x).numbered) o ≡ numbered_one d o
 part_numbered d None = refl
 part_numbered d (Some x) = refl
 
-pub shares : (d : Deed) (xs : List (Option Neighbour)) (b : ℕ)
+pub shares : (d : Upkeep) (xs : List (Option Neighbour)) (b : ℕ)
     → ((k : ℕ) (x : Neighbour) → slice_index_or xs k None ≡ Some x → AreFor (node_word k) (done d x).states × AreFor (node_word k) (done d x).numbered)
     → frames_to b (frames_all d xs) ≡ states_one d (slice_index_or xs b None) ++ numbered_one d (slice_index_or xs b None)
 shares d xs b all =
@@ -81,13 +81,13 @@ shares d xs b all =
     let two = ap (frames_to b) (numbered_are d xs) ∙ part_shares (λ x. (done d x).numbered) xs b (λ k x is. (all k x is).1) ∙ part_numbered d (slice_index_or xs b None) in
     filter-append (is_out_to b) (states_all d xs) (numbered_all d xs) ∙ ap (λ zs. zs ++ frames_to b (numbered_all d xs)) one ∙ ap (λ zs. states_one d (slice_index_or xs b None) ++ zs) two
 
--- ---- the neighbours after a deed
+-- ---- the neighbours after a upkeep
 
-pub mapped_at : (d : Deed) (xs : List (Option Neighbour)) (b : ℕ) → slice_index_or (map (after_one d) xs) b None ≡ after_one d (slice_index_or xs b None)
+pub mapped_at : (d : Upkeep) (xs : List (Option Neighbour)) (b : ℕ) → slice_index_or (map (after_one d) xs) b None ≡ after_one d (slice_index_or xs b None)
 mapped_at d [] b = refl
 mapped_at d (x ∷ xs) zero = refl
 mapped_at d (x ∷ xs) (suc b) = mapped_at d xs b
 
-pub after_at : (d : Deed) (xs : List (Option Neighbour)) (b : ℕ) → slice_index_or (after_all d xs) b None ≡ after_one d (slice_index_or xs b None)
+pub after_at : (d : Upkeep) (xs : List (Option Neighbour)) (b : ℕ) → slice_index_or (after_all d xs) b None ≡ after_one d (slice_index_or xs b None)
 unfolding after_all
 after_at d xs b = mapped_at d xs b

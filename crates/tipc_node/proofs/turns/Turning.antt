@@ -13,7 +13,7 @@ use Rattle.tipc_journal.specs.declared.entries.Entry.{Entry}
 use Rattle.tipc_journal.specs.Steps.{IsInside, NodeStep}
 use Rattle.tipc_pair.specs.Courses.{rests as nothing}
 use Rattle.tipc_pair.specs.Facing.{PairEnds}
-use Rattle.tipc_pair.specs.PairTurns.{Happened, Opening, Outset, ShowsIn, quietly}
+use Rattle.tipc_pair.specs.PairTurns.{Happened, Opening, Outset, ShowsIn, quietly, IsOnOne, IsTakenBy, Suits}
 use Rattle.tipc_link.specs.Parts.{IsShowable}
 use Rattle.tipc_pair.specs.PairTurns.Opening.{rests}
 use Rattle.tipc_pair.specs.PairTurns.PutsAll.{none_put}
@@ -21,7 +21,7 @@ use Rattle.tipc_node.specs.declared.neighbours.Neighbour.{Neighbour}
 use Rattle.tipc_node.specs.Messages.{IsSendable}
 use Rattle.tipc_node.specs.Neighbours.{no_broadcast}
 use Rattle.tipc_node.specs.Nodes.{NodeState, change_entries, step_of}
-use Rattle.tipc_node.specs.Turns.{AreNamed, IsBrought, IsFrom, IsOnOne, IsPlaced, IsTakenBy, IsTakenIn, NodeTurn, PeerTurn, Suits, frames_to, given_entries, is_accepted_for, is_change_of, is_delivered_from}
+use Rattle.tipc_node.specs.Turns.{AreNamed, IsBrought, IsFrom, IsPlaced, IsTakenIn, NodeTurn, PeerTurn, frames_to, given_entries, is_accepted_for, is_change_of, is_delivered_from}
 use Rattle.tipc_node.specs.Works.{Work, begun, concluded}
 use Rattle.tipc_node.proofs.turns.Runs.{IsRun, RunAt, Runs, StandFor, accepted_now}
 

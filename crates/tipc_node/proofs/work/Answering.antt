@@ -8,12 +8,12 @@ use Rattle.tipc_types.specs.declared.services.Publication.{Publication}
 use Rattle.tipc_journal.specs.declared.entries.Entry.TheVariants.{Withdrawn}
 use Rattle.tipc_journal.specs.Room.{entry_bytes}
 use Rattle.tipc_name_dist.specs.Items.{tellings}
-use Rattle.tipc_name_table.specs.Tables.{is_of}
+use Rattle.tipc_types.specs.Tables.{is_of}
 use Rattle.tipc_sockets.specs.Publishing.{has_key, is_at, published_at, withdrawn}
 use Rattle.tipc_sockets.specs.SocketTables.{AreSockets, SocketTable, has_port}
 use Rattle.tipc_sockets.specs.Telling.{after_entry}
 use Rattle.tipc_sockets.proofs.Counting.{count_by-filter, counted, counts_none}
-use Rattle.tipc_sockets.proofs.Keeping.{own_names_count}
+use Rattle.tipc_sockets.proofs.Keeping.{own_names_count, and_right as both_true, fewer_kept as filter_few}
 use Rattle.tipc_node.specs.Nodes.{NodeState}
 use Rattle.tipc_node.specs.Sockets.{key_refusal, port_refusal, told_withdrawal, withdrawal_refusal, withdrawn_entries, withdrawn_work}
 
@@ -70,10 +70,6 @@ found_by test other p (q ∷ qs) none found = by (test q) (other q) refl refl no
     by false true t o n f rest = absurd cc
     by false false t o n f rest = rest n f
 
-both_true : (a b : Bool) → a && b ≡ true → b ≡ true
-both_true true b e = e
-both_true false b e = absurd (true≢false (sym e))
-
 not_false : (b : Bool) → not b ≡ false → b ≡ true
 not_false true e = refl
 not_false false e = absurd (true≢false e)
@@ -83,14 +79,6 @@ pub published_own : (s : SocketTable) (port key : ℕ) (p : Publication) → Are
 published_own s port key p h found =
     let f = found_by (λ q. is_at port q && has_key key q) (λ q. not (is_of s.own q)) p s.live (others_none s h) found in
     (eqb-true _ _ (not_false (is_of s.own p) f.apart), eqb-true _ _ (both_true (is_at port p) (has_key key p) f.passes))
-
-filter_few : {X : Type 0} (test : X → Bool) (xs : List X) → length (filter test xs) ≤ length xs
-filter_few test [] = omega arith
-filter_few test (x ∷ xs) = by (test x) (filter_few test xs)
-  where
-    by : (b : Bool) → length (filter test xs) ≤ length xs → length (if b then x ∷ filter test xs else filter test xs) ≤ length (x ∷ xs)
-    by true rest = omega (arith, rest)
-    by false rest = omega (arith, rest)
 
 -- as many are at a port
 pub at_few : (s : SocketTable) (port : ℕ) → AreSockets s → length (filter (is_at port) s.live) ≤ 1024

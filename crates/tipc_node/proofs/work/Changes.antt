@@ -10,7 +10,7 @@ use Rattle.tipc_pair.specs.declared.transitions.Transition.TheVariants.{ContactD
 use Rattle.tipc_sockets.specs.SocketTables.{SocketTable}
 use Rattle.tipc_sockets.specs.Telling.{after_entry}
 use Rattle.tipc_node.specs.declared.neighbours.Neighbour.{Neighbour}
-use Rattle.tipc_node.specs.declared.neighbours.Deed.{Deed}
+use Rattle.tipc_node.specs.declared.neighbours.Upkeep.{Upkeep}
 use Rattle.tipc_node.specs.Neighbours.{done}
 use Rattle.tipc_node.specs.Nodes.{change_entries, change_entry, entries_all, entries_one, is_change}
 
@@ -25,14 +25,14 @@ pub change_changes : (peer : ℕ) (changes : List Transition) → list_all is_ch
 change_changes peer [] = refl
 change_changes peer (change ∷ changes) = ap (λ b. b && list_all is_change (change_entries peer changes)) (one_change peer change) ∙ change_changes peer changes
 
-one_changes : (d : Deed) (number : ℕ) (x : Option Neighbour) → list_all is_change (entries_one d number x) ≡ true
+one_changes : (d : Upkeep) (number : ℕ) (x : Option Neighbour) → list_all is_change (entries_one d number x) ≡ true
 one_changes d number None = refl
 one_changes d number (Some x) = change_changes number (done d x).changes
 
 both : (es fs : List Entry) → list_all is_change es ≡ true → list_all is_change fs ≡ true → list_all is_change (es ++ fs) ≡ true
 both es fs first then = list_all-append is_change es fs ∙ ap (λ b. b && list_all is_change fs) first ∙ then
 
-pub all_changes : (d : Deed) (number : ℕ) (xs : List (Option Neighbour)) → list_all is_change (entries_all d number xs) ≡ true
+pub all_changes : (d : Upkeep) (number : ℕ) (xs : List (Option Neighbour)) → list_all is_change (entries_all d number xs) ≡ true
 unfolding entries_all
 all_changes d number [] = refl
 all_changes d number (x ∷ xs) = both (entries_one d number x) (entries_all d (number + 1) xs) (one_changes d number x) (all_changes d (number + 1) xs)

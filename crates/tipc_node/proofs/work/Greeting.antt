@@ -20,7 +20,7 @@ use Rattle.tipc_sockets.specs.Telling.{after_entry}
 use Rattle.tipc_node.specs.declared.neighbours.Neighbour.{Neighbour}
 use Rattle.tipc_node.specs.Arrivals.{Greets, GreetsWhere}
 use Rattle.tipc_node.specs.Hearings.{Greeted, HasContact}
-use Rattle.tipc_node.specs.Neighbours.{begins, ends, is_ending}
+use Rattle.tipc_pair.specs.Contacts.{begins, ends, is_ending}
 use Rattle.tipc_node.specs.Nodes.{change_entries, change_entry}
 use Rattle.tipc_node.specs.Works.{Work}
 use Rattle.tipc_node.specs.Works.PutsEach.{none_left}

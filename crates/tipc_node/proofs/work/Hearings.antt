@@ -10,7 +10,8 @@ use Rattle.tipc_node.specs.declared.arriving.Hearing.{Hearing}
 use Rattle.tipc_node.specs.declared.listening.HeardPacket.{HeardPacket}
 use Rattle.tipc_node.specs.declared.neighbours.Neighbour.{Neighbour}
 use Rattle.tipc_node.specs.Hearings.{HasHeard, IsPrepared}
-use Rattle.tipc_node.specs.Neighbours.{HearsAt, begins, ends, no_broadcast}
+use Rattle.tipc_node.specs.Neighbours.{HearsAt, no_broadcast}
+use Rattle.tipc_pair.specs.Contacts.{begins, ends}
 use Rattle.tipc_node.specs.Nodes.{arrival_answer, arrival_deliveries}
 use Rattle.tipc_node.proofs.work.Neighbouring.{HasTaken}
 

@@ -18,7 +18,7 @@ use Rattle.tipc_sockets.specs.Telling.{fate_entry, is_payload, origin_of}
 use Rattle.tipc_sockets.proofs.Keeping.{eq_itself}
 use Rattle.tipc_node.specs.declared.neighbours.Neighbour.{Neighbour}
 use Rattle.tipc_node.proofs.work.Changes.{IsSameNode}
-use Rattle.tipc_node.specs.Works.{Follows, Settles, Work, addr_of_word, back_of, fate_of, fated, work_of}
+use Rattle.tipc_node.specs.Works.{Follows, GivesFate, Work, addr_of_word, back_of, fate_of, fated, work_of}
 
 -- ---- what goes back
 
@@ -96,14 +96,14 @@ returned_by (ReturnDropped waiting) back is = absurd cc
 returned_by Dropped back is = absurd cc
 
 pub settles_twice : (own : ℕ) (xs : List (Option Neighbour)) (s s' s'' : SocketTable) (es es' es'' : List Entry) (m back : Message) (last : Option Message) → (origin_of m).word ≡ own
-    → IsMet xs s s' es es' m (Some back) → IsMet xs s' s'' es' es'' back last → Settles own (work_of xs s es) false m (work_of xs s'' es'') []
+    → IsMet xs s s' es es' m (Some back) → IsMet xs s' s'' es' es'' back last → GivesFate own (work_of xs s es) false m (work_of xs s'' es'') []
 settles_twice own xs s s' s'' es es' es'' m back last origin first second =
     let w = work_of xs s es in
     let f = fate_of w false m in
     let home = back_home own m back (fate_back s false _ m back (returned_by f back first.back_is)) origin in
     let between = met_work xs s s' es es' m (Some back) first in
     let after = met_work xs s' s'' es' es'' back last second ∙ ap (λ v. fated v back (fate_of v false back)) between in
-    subst (λ v. Settles own w false m v []) (sym after) (some_follow own w m back f (sym first.back_is) home)
+    subst (λ v. GivesFate own w false m v []) (sym after) (some_follow own w m back f (sym first.back_is) home)
 
 -- the sockets stay where a message goes back
 pub met_stays : (xs : List (Option Neighbour)) (s s' : SocketTable) (es es' : List Entry) (m back : Message) → IsMet xs s s' es es' m (Some back) → s' ≡ s
@@ -147,5 +147,5 @@ follows_node own w m (ReturnDropped waiting) w' frames h = subst (λ v. IsSameNo
 follows_node own w m Dropped w' frames h = subst (λ v. IsSameNode w.sockets v.sockets) (sym h.0) (fate_node w.sockets m Dropped)
 
 -- a fate leaves the sockets those of the same node, with the same ports
-pub settles_node : (own : ℕ) (w : Work) (arrived : Bool) (m : Message) (w' : Work) (frames : List Outgoing) → Settles own w arrived m w' frames → IsSameNode w.sockets w'.sockets
+pub settles_node : (own : ℕ) (w : Work) (arrived : Bool) (m : Message) (w' : Work) (frames : List Outgoing) → GivesFate own w arrived m w' frames → IsSameNode w.sockets w'.sockets
 settles_node own w arrived m w' frames h = follows_node own w m (fate_of w arrived m) w' frames h

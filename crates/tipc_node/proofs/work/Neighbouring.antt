@@ -15,11 +15,12 @@ use Rattle.tipc_pair.specs.PairTurns.{Outset, made_near, seen_as}
 use Rattle.tipc_pair.specs.PairTurns.Opening.{hears}
 use Rattle.tipc_pair.proofs.Facings.{facing_back}
 use Rattle.tipc_node.specs.declared.neighbours.Neighbour.{Neighbour}
-use Rattle.tipc_node.specs.Neighbours.{HearsAt, begins, ends, heard_neighbour, is_given, is_state, making, neighbour, no_broadcast, stays_in_step}
-use Rattle.tipc_node.specs.Nodes.{active_load}
-use Rattle.tipc_node.proofs.pairs.PairEvents.{begins_once, begins_there, happened_so, pair_on}
+use Rattle.tipc_node.specs.Neighbours.{HearsAt, heard_neighbour, is_given, is_state, making, neighbour, no_broadcast, stays_in_step}
+use Rattle.tipc_pair.specs.Contacts.{begins, ends}
+use Rattle.tipc_pair.specs.LinkReadings.{active_load}
+use Rattle.tipc_pair.proofs.turns.PairEvents.{begins_once, begins_there, happened_so, pair_on}
 use Rattle.tipc_pair.proofs.turns.PairKept.{facing_bearer}
-use Rattle.tipc_node.proofs.pairs.PairPuts.{active_there}
+use Rattle.tipc_pair.proofs.turns.PairPuts.{active_there}
 
 -- ---- an end is made
 

@@ -16,9 +16,9 @@ use Rattle.tipc_outside.specs.Frames.{Adds, Out}
 use Rattle.tipc_outside.proofs.Adding.{adds_none}
 use Rattle.tipc_journal.specs.Licensed.{IsPickedOf}
 use Rattle.tipc_journal.specs.Refusals.{longest_body}
-use Rattle.tipc_name_table.specs.Matching.{closest, covers}
+use Rattle.tipc_types.specs.Matching.{closest, covers}
 use Rattle.tipc_sockets.specs.SocketTables.{has_port}
-use Rattle.tipc_node.specs.Calls.{Performs, Sends, SendsByName, sender_refusal}
+use Rattle.tipc_node.specs.Calls.{Performs, SendsToPort, SendsByName, sender_refusal}
 use Rattle.tipc_node.specs.Messages.{limit_of, named}
 use Rattle.tipc_node.specs.Nodes.{NodeState, recorded}
 use Rattle.tipc_node.specs.Sockets.{found_at}
@@ -27,7 +27,7 @@ use Rattle.tipc_node.proofs.work.Wayfaring.{IsSentTo}
 -- ---- to a port
 
 abbrev pub IsSend : NodeState → NodeState → By → ℕ → PortId → Importance → List ℕ → Out → Out → Answer → Type 0
-IsSend n n' by port to importance body box box' answered = (frames : List Outgoing) × Sends n n' by port to importance body frames answered × Adds box box' frames
+IsSend n n' by port to importance body box box' answered = (frames : List Outgoing) × SendsToPort n n' by port to importance body frames answered × Adds box box' frames
 
 pub send_refused : (n n' : NodeState) (by : By) (port : ℕ) (to : PortId) (importance : Importance) (body : List ℕ) (box : Out) (why answered : Answer) → sender_refusal n port body ≡ Some why
     → (answered ≡ why) × (n' ≡ recorded n by (SendPort port to importance body) [] why) → IsSend n n' by port to importance body box box answered

@@ -13,18 +13,19 @@ use Rattle.tipc_header.specs.Spelling.{view}
 use Rattle.tipc_node.specs.declared.arriving.Due.{Due}
 use Rattle.tipc_node.specs.Arrivals.{Arrives, Hears, IsDue}
 use Rattle.tipc_node.specs.Hearings.{HearsDue}
-use Rattle.tipc_node.specs.Nodes.{NodeState, has_room, stop_of, stopped_node}
+use Rattle.tipc_node.specs.Nodes.{NodeState, stop_of, stopped_node}
+use Rattle.tipc_journal.specs.Room.{has_journal_room}
 
 -- a frame arrived, and these frames left
 abbrev pub IsMet : NodeState → By → ℕ → ℕ → List ℕ → NodeState → Out → Out → Arrival → Type 0
 IsMet n by bearer number bytes n' box box' answered = (frames : List Outgoing) × Arrives n n' by bearer number bytes frames answered × Adds box box' frames
 
 pub stopped_met : {E : Type 0} (n n' : NodeState) (by : By) (bearer number : ℕ) (bytes : List ℕ) (box : Out) (why : Why) (r : Result Arrival E) → stop_of n bearer bytes ≡ Some why
-    → IfOk r (λ a. (a ≡ arrival.Ignored why) × (n' ≡ stopped_node n by bearer number why) × (has_room n.journal ≡ true)) → IfOk r (IsMet n by bearer number bytes n' box box)
+    → IfOk r (λ a. (a ≡ arrival.Ignored why) × (n' ≡ stopped_node n by bearer number why) × (has_journal_room n.journal ≡ true)) → IfOk r (IsMet n by bearer number bytes n' box box)
 stopped_met n n' by bearer number bytes box why r stopped ok =
-    IfOk-weaker r (λ a. (a ≡ arrival.Ignored why) × (n' ≡ stopped_node n by bearer number why) × (has_room n.journal ≡ true)) (IsMet n by bearer number bytes n' box box) met ok
+    IfOk-weaker r (λ a. (a ≡ arrival.Ignored why) × (n' ≡ stopped_node n by bearer number why) × (has_journal_room n.journal ≡ true)) (IsMet n by bearer number bytes n' box box) met ok
   where
-    met : (a : Arrival) → (a ≡ arrival.Ignored why) × (n' ≡ stopped_node n by bearer number why) × (has_room n.journal ≡ true) → IsMet n by bearer number bytes n' box box a
+    met : (a : Arrival) → (a ≡ arrival.Ignored why) × (n' ≡ stopped_node n by bearer number why) × (has_journal_room n.journal ≡ true) → IsMet n by bearer number bytes n' box box a
     met a h = (
       [],
       record {

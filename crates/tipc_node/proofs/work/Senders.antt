@@ -16,7 +16,7 @@ use Rattle.tipc_node.specs.declared.neighbours.Neighbour.{Neighbour}
 use Rattle.tipc_node.specs.Arrivals.{IsDue}
 use Rattle.tipc_node.specs.Nodes.{NodeState, end_with, is_frame_size, is_mended_on, is_other, stop_among, stop_by_fault, stop_by_sender, stop_of}
 
-previous_at : (packet : List ℕ) → (fields_at packet).previous ≡ word_at 3 packet
+pub previous_at : (packet : List ℕ) → (fields_at packet).previous ≡ word_at 3 packet
 unfolding fields_at
 previous_at packet = refl
 

@@ -14,8 +14,8 @@ use Rattle.tipc_header.specs.Users.{header_size}
 use Rattle.tipc_header.proofs.Again.{length-spelling}
 use Rattle.tipc_message.specs.Wire.{items_packet, message_of, packet_of, payload_of, payload_packet}
 use Rattle.tipc_bundle.specs.Bundles.{may_stand_inside}
-use Rattle.tipc_tunnel.specs.Tunnels.{may_stand_inside as may_be_wrapped}
-use Rattle.tipc_fragments.specs.Cutting.{Piece, packet_of as piece_packet, packets_of, pieces_of}
+use Rattle.tipc_tunnel.specs.Tunnels.{may_stand_in_tunnel as may_be_wrapped}
+use Rattle.tipc_fragments.specs.Cutting.{Piece, fragment_fields as piece_packet, packets_of, pieces_of}
 use Rattle.tipc_fragments.proofs.CutLaws.{length-packet, sent_fits}
 use Rattle.tipc_reassembly.specs.Slots.{IsCut}
 use Rattle.tipc_link.specs.Sessions.{IsWaiting}

@@ -14,6 +14,7 @@ use Rattle.tipc_header.proofs.FrameWords.{length-envelope}
 use Rattle.tipc_node.specs.declared.neighbours.Neighbour.{Neighbour}
 use Rattle.tipc_node.specs.Limits.{most_frame_bytes}
 use Rattle.tipc_node.specs.Nodes.{end_with, is_frame_size, is_mended_on, is_other, stop_among, stop_by_fault, stop_by_sender}
+use Rattle.tipc_node.proofs.work.Senders.{previous_at}
 
 abbrev pub IsBadSize : ℕ → Type 0
 IsBadSize n = (n < 16) ⊎ (most_frame_bytes < n)
@@ -49,10 +50,6 @@ pub stop_header : (own : ℕ) (mended : Bool × Bool) (xs : List (Option Neighbo
     → fault_of packet ≡ Some fault → stop_among own mended xs bearer bytes ≡ Some (why.Header (number_of fault))
 stop_header own mended xs bearer bytes first second packet fault o has =
     by_fault own mended xs bearer bytes first second packet o ∙ ap (stop_by_fault own xs bearer bytes) (ap fault_of (packet_in first second packet bytes o.opened) ∙ has)
-
-previous_at : (packet : List ℕ) → (fields_at packet).previous ≡ word_at 3 packet
-unfolding fields_at
-previous_at packet = refl
 
 -- the packet has no fault: by the sender that it names
 pub by_sender : (own : ℕ) (mended : Bool × Bool) (xs : List (Option Neighbour)) (bearer : ℕ) (bytes : List ℕ) (first second : ℕ) (packet : List ℕ) (p : Fields) → IsOpened mended bearer bytes first second packet

@@ -1,5 +1,5 @@
 -- Messages that surely wait at their ports wait there, one after the other.
-use Rattle.std.proofs.Common.{◌≡◌, ℕ, ◌+◌, ◌≤◌, ◌&&◌, Bool, true, false, List, [], ◌∷◌, ◌++◌, Option, Some, None, refl, sym, ap, subst, ◌∙◌, arith, append-nil, append_assoc}
+use Rattle.std.proofs.Common.{◌≡◌, ℕ, ◌+◌, ◌≤◌, ◌&&◌, true, List, [], ◌∷◌, ◌++◌, Option, Some, None, refl, sym, ap, subst, ◌∙◌, arith, append-nil, append_assoc}
 use Rattle.std.specs.List.{list_all}
 use Rattle.std.proofs.lemmas.List.Sums.{sum_by-cons}
 use Rattle.tipc_types.specs.declared.message_forms.Message.{Message}
@@ -17,14 +17,8 @@ use Rattle.tipc_node.specs.Nodes.{entries_in, message_count, taken_count}
 use Rattle.tipc_node.specs.Sure.{all_wait, are_sure, message_of, messages_in, told_in, waiting_entries, waits_surely, with_all_waiting}
 use Rattle.tipc_node.specs.Works.{Follows, Work, work_of}
 use Rattle.tipc_node.proofs.work.Delivering.{delivered_first, delivered_none, delivered_some, nothing_delivered, took_user}
-
-and_left : (a b : Bool) → (a && b) ≡ true → a ≡ true
-and_left true b h = refl
-and_left false b h = h
-
-pub and_right : (a b : Bool) → (a && b) ≡ true → b ≡ true
-and_right true b h = h
-and_right false b h = absurd cc
+use Rattle.tipc_pair.proofs.EndSteps.{up_part as and_left}
+use Rattle.tipc_pair.proofs.Quietly.{second_of as and_right}
 
 -- ---- behind one that waits
 

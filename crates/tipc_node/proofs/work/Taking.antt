@@ -2,7 +2,7 @@
 use Rattle.std.proofs.Common.{◌≡◌, ℕ, zero, suc, ◌<◌, ◌≤◌, true, List, [], ◌∷◌, ◌++◌, Option, Some, None, length, length-set, refl, sym, ap, subst, ◌∙◌, arith}
 use Rattle.std.specs.Prelude.{is_some, fold, slice_index_or, slice_set}
 use Rattle.std.specs.List.{list_all}
-use Rattle.std.proofs.lemmas.List.{get_or-set_other, get_or-set_same, get_or_default}
+use Rattle.std.proofs.lemmas.List.{get_or-set_other, get_or-set_same}
 use Rattle.tipc_ports.specs.Numbers.{PortTable}
 use Rattle.tipc_types.specs.declared.message_forms.Message.{Message}
 use Rattle.tipc_types.specs.declared.node_calls.Answer.TheVariants as answer
@@ -40,9 +40,6 @@ pub set_twice : (xs : List (Option Neighbour)) (i : ℕ) (a b : Option Neighbour
 set_twice [] i a b = refl
 set_twice (x ∷ xs) zero a b = refl
 set_twice (x ∷ xs) (suc i) a b = ap (λ ys. x ∷ ys) (set_twice xs i a b)
-
-pub place_is : (xs : List (Option Neighbour)) (peer : ℕ) (place : Option Neighbour) (y : Neighbour) → peer < length xs → place ≡ slice_index_or xs peer place → place ≡ Some y → slice_index_or xs peer None ≡ Some y
-place_is xs peer place y within read is = get_or_default xs peer None place within ∙ sym read ∙ is
 
 pub some_place : (place : Option Neighbour) → is_some place ≡ true → (y : Neighbour) × (place ≡ Some y)
 some_place None there = absurd cc

@@ -26,10 +26,10 @@ use Rattle.tipc_node.specs.Drafts.{PutEach, ToldEach, peer_in_contact}
 use Rattle.tipc_node.specs.Messages.{bytes_of}
 use Rattle.tipc_node.specs.Nodes.{accepted_entry, is_met, load_with, waiting_in}
 use Rattle.tipc_node.specs.Sockets.{first_crowded, is_crowded}
-use Rattle.tipc_node.specs.Works.{Puts, PutsEach, PutsOn, TellsEach, Work, in_contact, is_in_contact, work_of}
+use Rattle.tipc_node.specs.Works.{Puts, PutsEach, PutsOn, TellsEach, Work, peers_in_contact, is_in_contact, work_of}
 use Rattle.tipc_node.specs.Works.PutsEach.{none_left, one_more}
 use Rattle.tipc_node.specs.Works.TellsEach.{all_told, one_told}
-use Rattle.tipc_node.proofs.pairs.PairPuts.{active_there, put_meets}
+use Rattle.tipc_pair.proofs.turns.PairPuts.{active_there, put_meets}
 use Rattle.tipc_node.proofs.Places.{set_there}
 use Rattle.tipc_node.proofs.work.Wayfaring.{puts_by}
 
@@ -268,8 +268,8 @@ telling_next own ms old now next before inside inside' a b c number h below shor
 
 -- every peer was told
 pub telling_last : (own : ℕ) (ms : List Message) (old now : List (Option Neighbour)) (before inside : List Entry) (a b : Out) (number : ℕ) → IsTelling own ms old now before inside a b number → 33 ≤ number
-    → (s : SocketTable) → ToldEach own (work_of old s before) ms (in_contact old) (work_of now s inside) a b
-unfolding in_contact
+    → (s : SocketTable) → ToldEach own (work_of old s before) ms (peers_in_contact old) (work_of now s inside) a b
+unfolding peers_in_contact
 telling_last own ms old now before inside a b number h past s =
     let most = h.most in
     let last : number ≡ 33 = omega (arith, most, past) in

@@ -1,5 +1,5 @@
 -- The way of a message that a node sends: why it is refused, and what is put.
-use Rattle.std.proofs.Common.{◌≡◌, ◌-◌, ◌<◌, ◌≤◌, ℕ, zero, suc, Bool, true, false, List, [], ◌∷◌, ◌++◌, Option, None, Some, length, refl, sym, ap, subst, ◌∙◌, true≢false, arith}
+use Rattle.std.proofs.Common.{◌≡◌, ◌-◌, ◌<◌, ℕ, Bool, true, false, List, [], ◌++◌, Option, None, Some, length, refl, sym, ap, subst, ◌∙◌, true≢false, arith}
 use Rattle.std.specs.Prelude.{◌==◌, if◌then◌else◌, option_map, slice_index_or, slice_set, unwrap_or}
 use Rattle.std.proofs.lemmas.List.{get_or_default}
 use Rattle.tipc_types.specs.Address.{node_word}
@@ -23,9 +23,9 @@ use Rattle.tipc_node.specs.declared.neighbours.Neighbour.{Neighbour}
 use Rattle.tipc_node.specs.Calls.{Goes, SendsTo, link_refusal, way_refusal}
 use Rattle.tipc_node.specs.Messages.{destination_of}
 use Rattle.tipc_node.specs.Nodes.{NodeState, is_met, load_with, recorded, step_of}
-use Rattle.tipc_node.specs.Works.{Puts, PutsOn, Settles, Work, addr_of_word, begun, concluded, neighbour_at, work_of}
+use Rattle.tipc_node.specs.Works.{Puts, PutsOn, GivesFate, Work, addr_of_word, begun, concluded, neighbour_at, work_of}
 use Rattle.tipc_node.proofs.work.Making.{node_of}
-use Rattle.tipc_node.proofs.pairs.PairPuts.{active_there}
+use Rattle.tipc_pair.proofs.turns.PairPuts.{active_there}
 use Rattle.tipc_node.proofs.work.Refusals.{HasPlace, place_at}
 
 -- ---- what is put
@@ -75,11 +75,6 @@ way_met n m limit peer payload away clear named =
     by None none = absurd cc
     by {numbers} (Some x) some = of x (active x.pair) numbers refl some
 
-past_all : {A : Type 0} (xs : List (Option A)) (place : ℕ) → length xs ≤ place → slice_index_or xs place None ≡ None
-past_all [] place past = refl
-past_all (x ∷ xs) zero past = absurd (omega (arith, past))
-past_all (x ∷ xs) (suc place) past = past_all xs place (omega (arith, past))
-
 -- ---- a message whose way was looked at
 
 -- it was sent to, and these frames left
@@ -109,7 +104,7 @@ clear_way n n' by note m limit _ box box' w frames none goes after adds = (
 )
 
 pub sent_home : (n n' : NodeState) (by : By) (note : EventNote) (m : Message) (limit : ℕ) (sent : Answer) (box : Out) → way_refusal n (destination_of m) limit ≡ None → comes_home (addr_of_word n.own) m ≡ true
-    → ((w : Work) × Settles n.own (begun n) false m w [] × (n' ≡ concluded n by note w sent)) → IsSentTo n n' by note m limit sent box box None
+    → ((w : Work) × GivesFate n.own (begun n) false m w [] × (n' ≡ concluded n by note w sent)) → IsSentTo n n' by note m limit sent box box None
 sent_home n n' by note m limit sent box none home h =
     clear_way n n' by note m limit sent box box h.0 [] none (record { home = λ _. h.1; away = λ away. absurd (true≢false (sym home ∙ away)) }) h.2 (adds_none box)
 
@@ -127,13 +122,13 @@ pub read_at : (xs : List (Option Neighbour)) (place : ℕ) (x : Option Neighbour
 read_at xs place x y within read is = get_or_default xs place None x within ∙ sym read ∙ is
 
 pub home_sent : (n k : NodeState) (by : By) (note : EventNote) (m : Message) (sent : Answer) (own : ℕ) (xs : List (Option Neighbour)) (s : SocketTable) (es told journal : List Entry) → k ≡ n → own ≡ k.own → xs ≡ k.neighbours → es ≡ []
-    → Settles own (work_of xs k.sockets es) false m (work_of xs s told) [] → journal ≡ k.journal ++ step_entries (step_of by note told sent)
-    → (w : Work) × Settles n.own (begun n) false m w [] × (node_of k k.neighbours s journal ≡ concluded n by note w sent)
+    → GivesFate own (work_of xs k.sockets es) false m (work_of xs s told) [] → journal ≡ k.journal ++ step_entries (step_of by note told sent)
+    → (w : Work) × GivesFate n.own (begun n) false m w [] × (node_of k k.neighbours s journal ≡ concluded n by note w sent)
 home_sent n k by note m sent own xs s es told journal same node there empty settles recorded =
-    subst (λ (z : NodeState). (w : Work) × Settles z.own (begun z) false m w [] × (node_of k k.neighbours s journal ≡ concluded z by note w sent)) same (
+    subst (λ (z : NodeState). (w : Work) × GivesFate z.own (begun z) false m w [] × (node_of k k.neighbours s journal ≡ concluded z by note w sent)) same (
       work_of k.neighbours s told,
-      subst (λ fs. Settles k.own (work_of k.neighbours k.sockets fs) false m (work_of k.neighbours s told) []) empty
-          (subst (λ ys. Settles k.own (work_of ys k.sockets es) false m (work_of ys s told) []) there (subst (λ word. Settles word (work_of xs k.sockets es) false m (work_of xs s told) []) node settles)),
+      subst (λ fs. GivesFate k.own (work_of k.neighbours k.sockets fs) false m (work_of k.neighbours s told) []) empty
+          (subst (λ ys. GivesFate k.own (work_of ys k.sockets es) false m (work_of ys s told) []) there (subst (λ word. GivesFate word (work_of xs k.sockets es) false m (work_of xs s told) []) node settles)),
       ap (node_of k k.neighbours s) recorded,
     )
 

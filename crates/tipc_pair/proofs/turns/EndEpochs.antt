@@ -16,7 +16,7 @@ use Rattle.tipc_link_fsm.specs.declared.changes.Change.TheVariants.{Answer, Up}
 use Rattle.tipc_link_fsm.specs.Table.{Fsm, Outcome, forget_peer, is_held, is_in_reset, is_last, is_peer, is_reset_reset, is_session, next_epoch, on_activate, on_reset, on_tick, on_traffic, release, tick_in, up_tick}
 use Rattle.tipc_link_fsm.proofs.Moves.{Moves, cases_on, falls, is_going_up, rises, stays as still}
 use Rattle.tipc_link.specs.Links.{LinkEnd, after, arrival_end, followed, frames, heard_end, is_heard, is_taken, newly_numbered, numbers_at, outcome_of, repeats_at, sent_again, session_of, with_fsm}
-use Rattle.tipc_link.specs.Sessions.{SessionEnd, arrived, content_of, told}
+use Rattle.tipc_link.specs.Sessions.{SessionEnd, arrived, content_of, after_state}
 use Rattle.tipc_link.proofs.Ends.{ended-is}
 use Rattle.tipc_pair.specs.Changeovers.{parted_end}
 use Rattle.tipc_pair.proofs.EndSteps.{fsm_after}
@@ -120,7 +120,7 @@ moved_at b e e' shown o h m quiet fsm on session = record {
 
 followed_at : (b : ℕ) (e : LinkEnd) (f : Fsm) (change : Change) → e.bearer ≡ b → (is_going_up change ≡ false → AreSessionsAt b (is_up f.state) f.own e.session) → IsEndAt b (followed (with_fsm e f) change)
 followed_at b e f Up on h = record { on = on; session = some_at b (is_up f.state) f.own (session_of (with_fsm e f)) (on, λ _. refl) }
-followed_at b e f (Answer (reply.State probe)) on h = record { on = on; session = mapped_at b (is_up f.state) f.own told e.session (λ s. record { bearer = refl; epoch = refl }) (h refl) }
+followed_at b e f (Answer (reply.State probe)) on h = record { on = on; session = mapped_at b (is_up f.state) f.own after_state e.session (λ s. record { bearer = refl; epoch = refl }) (h refl) }
 followed_at b e f other on h = record { on = on; session = h refl }
 
 pub parted_at : (b : ℕ) (e : LinkEnd) (contact seen : ℕ) → IsEndAt b e → IsEndAt b (parted_end contact seen e)

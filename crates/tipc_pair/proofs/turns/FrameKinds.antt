@@ -14,7 +14,7 @@ use Rattle.tipc_header.specs.Spelling.{spelling}
 use Rattle.tipc_link_fsm.specs.declared.changes.Change.{Change}
 use Rattle.tipc_link_fsm.specs.declared.changes.Change.TheVariants.{Answer, Up}
 use Rattle.tipc_link.specs.Links.{LinkEnd, activate_frames, follow_frames, frames_with, is_traffic, known, mended_end, newly_numbered, notice, notice_fields, reset_frames, sent_again, session_answer, session_of, state_frames}
-use Rattle.tipc_link.specs.Sessions.{Carries, Content, IsPut, Nothing, SessionEnd, Shows, again_frames, arrived, flush_frames, flushed, heard, is_due, joins, moved_frames, packet_frame, packet_frames, released, repeat_frames, repeated, spoke, state_fields, state_frame, waits, with_broadcast}
+use Rattle.tipc_link.specs.Sessions.{Carries, Content, IsPut, Nothing, SessionEnd, Shows, again_frames, arrived, flush_frames, flushed, heard, is_due, joins, moved_frames, packet_frame, packet_frames, after_acknowledgement, repeat_frames, repeated, spoke, state_fields, state_frame, waits, with_broadcast}
 use Rattle.tipc_pair.proofs.acts.Walks.{tested}
 
 -- ---- what a packet is
@@ -76,7 +76,7 @@ module _ (S : Type 0) (show : S → BroadcastState) where
   repeats_made s acknowledgement gap = kept_made s (repeated s acknowledgement gap)
 
   again_made : (s : SessionEnd) (acknowledgement : ℕ) (c : Content) → All (MadeOf S show s.bearer s.epoch) (again_frames s acknowledgement c)
-  again_made s acknowledgement (Shows next gap probe) = repeats_made (released s acknowledgement) acknowledgement gap
+  again_made s acknowledgement (Shows next gap probe) = repeats_made (after_acknowledgement s acknowledgement) acknowledgement gap
   again_made s acknowledgement (Carries number packet) = none_made s.bearer s.epoch
   again_made s acknowledgement Nothing = none_made s.bearer s.epoch
 
@@ -120,7 +120,7 @@ spoke_same s (x ∷ xs) = record { bearer = refl; epoch = refl }
 
 pub heard_same : (s : SessionEnd) (by acknowledgement : ℕ) (c : Content) → IsSameSession s (heard s by acknowledgement c)
 heard_same s by acknowledgement (Shows next gap probe) =
-    let h = spoke_same (released s acknowledgement) (repeated (released s acknowledgement) acknowledgement gap) in record { bearer = h.bearer; epoch = h.epoch }
+    let h = spoke_same (after_acknowledgement s acknowledgement) (repeated (after_acknowledgement s acknowledgement) acknowledgement gap) in record { bearer = h.bearer; epoch = h.epoch }
 heard_same s by acknowledgement (Carries number packet) = record { bearer = refl; epoch = refl }
 heard_same s by acknowledgement Nothing = record { bearer = refl; epoch = refl }
 

@@ -28,7 +28,7 @@ use Rattle.tipc_paired.proofs.wires.Sides.{peers_called, same_side}
 use Rattle.tipc_paired.proofs.wires.Turns.{call_turns, shown_to}
 use Rattle.tipc_paired.proofs.wires.WireDeeds.{agree_turned, wire_deed}
 use Rattle.tipc_paired.proofs.wires.Wires.{epoch_of_end, epoch_of_none, is_up_of, map_at, none_some, prefix_of_none, prefix_same, put_other, put_same, same_some, session_of_down, session_of_none}
-use Rattle.tipc_paired.specs.Deeds.{MayCall, ended_with, forgot_with, made_on, parted, restarted, risen}
+use Rattle.tipc_paired.specs.Deeds.{MayCall, ended_with, forgot_with, made_on, parted_view, restarted, risen_view}
 use Rattle.tipc_paired.specs.Paired.{ArePaired, IsEnd, IsFrame, IsNoHigher, IsNode, IsReached, IsRecordOf, IsRecords, IsWire, long_ago, untaken}
 use Rattle.tipc_paired.specs.Views.{Begun, Frame, IsApart, Node, View, Wire, epoch_in, epoch_on, er_of, es_of, fsm_in, notice_of, put_at, said_by, session_on, side_of, with_end, with_wire}
 
@@ -199,7 +199,7 @@ epoch_computed n w = refl
 ended_high : (e : LinkEnd) → (contact_ended e.fsm).after.highest ≡ e.fsm.highest
 ended_high e = ap (λ (f : Fsm). f.highest) (ended-is e.fsm)
 
-pub parted_paired : (x y : View) → ArePaired x y → is_last x.node.contact ≡ false → ArePaired (parted x) y
+pub parted_paired : (x y : View) → ArePaired x y → is_last x.node.contact ≡ false → ArePaired (parted_view x) y
 parted_paired x y h goes_on =
     let contact = x.node.contact + 1 in
     let n : Node = record x.node { contact = contact } in
@@ -232,7 +232,7 @@ contact_goes_on x y b e h is up =
     let end = h.here.ends b e is in
     not_last x.node.contact e.fsm.own end.order (h.here.node.contact ∙ sym end.boot) (end.going up).4
 
-pub parts_paired : (x y : View) (b : ℕ) (e : LinkEnd) → ArePaired x y → (x.wires b).end ≡ Some e → is_up e.fsm.state ≡ true → ArePaired (parted x) y
+pub parts_paired : (x y : View) (b : ℕ) (e : LinkEnd) → ArePaired x y → (x.wires b).end ≡ Some e → is_up e.fsm.state ≡ true → ArePaired (parted_view x) y
 parts_paired x y b e h is up = parted_paired x y h (contact_goes_on x y b e h is up)
 
 -- ---- a link goes down
@@ -319,7 +319,7 @@ fallen x y b e call cause may down = (let named = call_named x y b call may in o
   of (fall m) = m
 
 pub falls_paired : (x y : View) (b : ℕ) (e : LinkEnd) (call : Call) (cause : Cause) → ArePaired x y → (x.wires b).end ≡ Some e → MayCall x y b call → (outcome e.fsm call).change ≡ Down cause
-    → ArePaired (parted (with_wire x b (with_end (x.wires b) (after e (outcome e.fsm call))))) y
+    → ArePaired (parted_view (with_wire x b (with_end (x.wires b) (after e (outcome e.fsm call))))) y
 falls_paired x y b e call cause h is may down =
     let m = fallen x y b e call cause may down in
     parted_paired (with_wire x b (with_end (x.wires b) (after e (outcome e.fsm call)))) y (fell x y b e call h is may m) (contact_goes_on x y b e h is m.was)
@@ -349,7 +349,7 @@ unborn_apart x y b epoch seen h apart (Some e) is least = (
 forgot_high : (e : LinkEnd) → is_up e.fsm.state ≡ false → (forget_peer e.fsm).after.highest ≡ e.fsm.highest
 forgot_high e down = ap (λ (f : Fsm). f.highest) (forgotten-is e.fsm down)
 
-pub shows_paired : (x y : View) (number : ℕ) → ArePaired x y → x.node.seen < number → number < 2 ^ 64 → IsApart x → ArePaired (risen x number) y
+pub shows_paired : (x y : View) (number : ℕ) → ArePaired x y → x.node.seen < number → number < 2 ^ 64 → IsApart x → ArePaired (risen_view x number) y
 shows_paired x y number h higher fits apart =
     let n : Node = record x.node { seen = number } in
     let ends : ℕ → Option LinkEnd = λ b. option_map (forgot_with number) (x.wires b).end in

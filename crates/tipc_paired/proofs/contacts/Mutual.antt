@@ -1,7 +1,7 @@
 -- What a node told lies behind it: with which session of a node the peer's session is that the present one is with.
 use Rattle.std.proofs.Common.{◌≡◌, ◌⊎◌, ◌≤◌, ℕ, List, Option, Some, None, length, refl, sym, ap, ◌∙◌, inl, inr, arith}
 use Rattle.std.specs.Prelude.{slice_get}
-use Rattle.tipc_contact.specs.Sides.{IsTold, Notice, boot_of}
+use Rattle.tipc_contact.specs.Sides.{IsNoticed, Notice, boot_of}
 use Rattle.tipc_link.specs.Links.{LinkEnd}
 use Rattle.tipc_link.specs.Sessions.{SessionEnd}
 use Rattle.tipc_paired.proofs.wires.Wires.{is_up_of, map_at, mapped_at, prefix_of_none, same_some}
@@ -51,7 +51,7 @@ named_own x y b k f e h there bearer is own =
     omega arith
 
 -- a notice of an epoch under a contact number is a frame
-pub told_under : (y : View) (b epoch contact : ℕ) → IsTold (said_by y) b epoch contact → IsUnder y.told b epoch contact
+pub told_under : (y : View) (b epoch contact : ℕ) → IsNoticed (said_by y) b epoch contact → IsUnder y.told b epoch contact
 told_under y b epoch contact t =
     let at = mapped_at notice_of y.told t.place t.notice t.there in
     record {

@@ -3,11 +3,11 @@ use Rattle.std.proofs.Common.{◌≡◌, ◌<◌, ◌≤◌, ◌^◌, ℕ, Bool,
 use Rattle.std.specs.Prelude.{slice_get}
 use Rattle.std.proofs.lemmas.Bool.{true≢false}
 use Rattle.tipc_types.specs.LinkStates.{is_up}
-use Rattle.tipc_contact.specs.Sides.{IsTold, Notice}
+use Rattle.tipc_contact.specs.Sides.{IsNoticed, Notice}
 use Rattle.tipc_header.specs.Spelling.{spelling}
 use Rattle.tipc_paired.proofs.wires.Frames.{es_of-frame}
 use Rattle.tipc_link.specs.Links.{LinkEnd, after, record_of, with_fsm}
-use Rattle.tipc_link.specs.Sessions.{SessionEnd, told}
+use Rattle.tipc_link.specs.Sessions.{SessionEnd, after_state}
 use Rattle.tipc_link_fsm.specs.declared.changes.Change.{Change}
 use Rattle.tipc_link_fsm.specs.declared.changes.Change.TheVariants.{Up, Answer}
 use Rattle.tipc_link_fsm.specs.Runs.{Call, ActivateArrives, BearerIsCut, ContactEnds, ForgetsPeer, Releases, ResetArrives, TickPasses, TrafficArrives, TunnelNames, outcome}
@@ -49,14 +49,14 @@ same_same s = record { alike = alike-same s; sending = refl; taken = refl; held 
 have_same : (a b : Option SessionEnd) → b ≡ a → HaveSame a b
 have_same a b same = record { onward = λ s is. (s, same ∙ is, same_same s); back = λ s is. (s, sym same ∙ is, same_same s) }
 
-told_same : (s : SessionEnd) → AreSame s (told s)
+told_same : (s : SessionEnd) → AreSame s (after_state s)
 told_same s = record { alike = record { own = refl; peer = refl; bearer = refl; epoch = refl; peer_epoch = refl }; sending = refl; taken = refl; held = refl; record_epoch = refl }
 
-have_told : (a : Option SessionEnd) → HaveSame a (option_map told a)
+have_told : (a : Option SessionEnd) → HaveSame a (option_map after_state a)
 have_told None = record { onward = λ s is. absurd (let wrong : ⊥ = cc in wrong); back = λ s is. absurd (let wrong : ⊥ = cc in wrong) }
 have_told (Some t) = record {
-  onward = λ s is. (let same : t ≡ s = cc in (told s, ap (λ u. Some (told u)) same, told_same s));
-  back = λ s' is. (let same : told t ≡ s' = cc in (t, refl, subst (AreSame t) same (told_same t)));
+  onward = λ s is. (let same : t ≡ s = cc in (after_state s, ap (λ u. Some (after_state u)) same, told_same s));
+  back = λ s' is. (let same : after_state t ≡ s' = cc in (t, refl, subst (AreSame t) same (told_same t)));
 }
 
 quiet_same : (e : LinkEnd) (change : Change) → is_quiet change ≡ true → HaveSame e.session (followed_session e change)
@@ -164,7 +164,7 @@ pub frame_fits : (own : ℕ) (w v : Wire) (f : Frame) → IsFrame own w v f → 
 frame_fits own w v f h = subst (λ n. n < 2 ^ 64) (sym (ap es_of h.bytes ∙ es_of-frame h.es h.er (spelling h.packet) h.es_fits h.er_fits)) h.es_fits
 
 -- an epoch that was told has 64 bits
-pub told_fits : (x y : View) (b es contact : ℕ) → ArePaired x y → IsTold (said_by y) b es contact → es < 2 ^ 64
+pub told_fits : (x y : View) (b es contact : ℕ) → ArePaired x y → IsNoticed (said_by y) b es contact → es < 2 ^ 64
 told_fits x y b es contact h t =
     let at = mapped_at notice_of y.told t.place t.notice t.there in
     let same : es_of at.0.bytes ≡ es = ap (λ (m : Notice). m.es) at.2 ∙ t.epoch_is in
@@ -178,7 +178,7 @@ call_named x y b call may = (λ is. subst (λ c. MayCall x y b c) is may, λ is.
 
 -- the same call of a node that did something else, with the same contact numbers
 pub may_later : (x v y : View) (b : ℕ) (call : Call) → v.node ≡ x.node → MayCall x y b call → MayCall v y b call
-may_later x v y b (ResetArrives es held) same may = subst (λ (n : Node). IsTold (said_by y) b es n.seen) (sym same) may
+may_later x v y b (ResetArrives es held) same may = subst (λ (n : Node). IsNoticed (said_by y) b es n.seen) (sym same) may
 may_later x v y b (ActivateArrives es er) same may = subst (λ (n : Node). IsShown y.told b es er n.seen) (sym same) may
 may_later x v y b (TrafficArrives es er) same may = may
 may_later x v y b (TickPasses held) same may = tt

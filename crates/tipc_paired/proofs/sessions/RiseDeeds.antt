@@ -3,7 +3,7 @@ use Rattle.std.proofs.Common.{◌≡◌, ◌==◌, ◌⊎◌, ◌<◌, ◌≤◌
 use Rattle.std.specs.Prelude.{slice_get}
 use Rattle.std.proofs.lemmas.Bool.{true≢false}
 use Rattle.tipc_contact.specs.Peers.{ArePeers}
-use Rattle.tipc_contact.specs.Sides.{IsTold}
+use Rattle.tipc_contact.specs.Sides.{IsNoticed}
 use Rattle.tipc_send_window.specs.Sending.{fresh as none_sent}
 use Rattle.tipc_link.specs.Direction.{IsDirection, IsReceiver}
 use Rattle.tipc_link.specs.Links.{LinkEnd, after, known, record_in, record_of, session_of}
@@ -28,7 +28,7 @@ use Rattle.tipc_paired.proofs.wires.WireDeeds.{wire_deed}
 use Rattle.tipc_paired.proofs.wires.Wires.{epoch_of_end, map_at, none_some, on_put, on_put_else, prefix_of_none, prefix_same, put_other, put_same, same_some, session_of_down, session_of_up}
 use Rattle.tipc_paired.specs.Deeds.{MayCall, begun_by, with_begun}
 use Rattle.tipc_paired.specs.Paired.{ArePaired, IsEnd, IsEpochs, IsGoing, IsReached, IsRecordOf, IsRecords, IsShown, IsUnder, IsWire, long_ago, on_record, untaken}
-use Rattle.tipc_paired.specs.Views.{Begun, Frame, IsApart, View, Wire, epoch_on, er_of, es_of, fsm_in, notice_of, put_at, said_by, session_on, side_of, with_wire}
+use Rattle.tipc_paired.specs.Views.{Begun, Frame, View, Wire, epoch_on, er_of, es_of, fsm_in, notice_of, put_at, said_by, session_on, side_of, with_wire}
 
 -- A link end e of wire b went up and is e', under the peer's epoch es, which the peer told beside the end's own one, in the contact.
 pub record Went (x y : View) (b : ℕ) (e e' : LinkEnd) (es : ℕ) : Type 0 where
@@ -289,7 +289,7 @@ first_pair : {A B : Type 0} (p q : A × B) → ◌≡◌ {A = Option (A × B)} (
 first_pair p q is = cc
 
 -- a session that the peer began under an epoch that it told under a contact number began under that number
-told_contact : (x y : View) (b es contact : ℕ) (k : Begun) → ArePaired x y → (y.wires b).begun es ≡ Some k → IsTold (said_by y) b es contact → k.contact ≡ contact
+told_contact : (x y : View) (b es contact : ℕ) (k : Begun) → ArePaired x y → (y.wires b).begun es ≡ Some k → IsNoticed (said_by y) b es contact → k.contact ≡ contact
 told_contact x y b es contact k h is told =
     let t = told_under y b es contact told in
     sym ((h.there.epochs b).told_in t.place t.frame k t.there t.bearer_is (ap (y.wires b).begun t.es_is ∙ is)) ∙ t.contact_is
@@ -298,7 +298,7 @@ shown_same : (y : View) (b contact : ℕ) (a c : ℕ × ℕ) → a ≡ c → IsS
 shown_same y b contact a c same t = subst (λ (p : ℕ × ℕ). IsShown y.told b p.0 p.1 contact) same t
 
 -- what a call that takes the link up shows was told beside the end's own epoch, in the contact
-rise_shown : (x y : View) (b : ℕ) (call : Call) (es er : ℕ) → ArePaired x y → MayCall x y b call → shown_to call ≡ Some (es, er) → 1 ≤ er → IsTold (said_by y) b es x.node.seen → IsShown y.told b es er x.node.seen
+rise_shown : (x y : View) (b : ℕ) (call : Call) (es er : ℕ) → ArePaired x y → MayCall x y b call → shown_to call ≡ Some (es, er) → 1 ≤ er → IsNoticed (said_by y) b es x.node.seen → IsShown y.told b es er x.node.seen
 rise_shown x y b (ResetArrives k held) es er h may is some told = absurd (let second : 0 ≡ er = ap (λ (p : ℕ × ℕ). p.1) (first_pair (k, 0) (es, er) is) in let wrong : ⊥ = omega arith in wrong)
 rise_shown x y b (ActivateArrives k n) es er h may is some told = shown_same y b x.node.seen (k, n) (es, er) (first_pair (k, n) (es, er) is) may
 rise_shown x y b (TrafficArrives k n) es er h may is some told =
@@ -356,13 +356,3 @@ went x y b e call h is may up = let named = call_named x y b call may in went_tu
 pub rises_paired : (x y : View) (b : ℕ) (e : LinkEnd) (call : Call) → ArePaired x y → (x.wires b).end ≡ Some e → MayCall x y b call → (outcome e.fsm call).change ≡ Up
     → ArePaired (with_wire x b (with_begun x.node (x.wires b) (after e (outcome e.fsm call)))) y
 rises_paired x y b e call h is may up = let m = went x y b e call h is may up in went_paired x y b e (after e (outcome e.fsm call)) m.0 h m.1
-
--- A link of x went up where none was, under an epoch of which nothing was numbered; nothing waits, and nothing was taken of the peer's session.
-pub record Goes (x : View) (b : ℕ) (e' : LinkEnd) (s : SessionEnd) : Type 0 where
-  pub apart : IsApart x
-  pub session_is : session_on (with_begun x.node (x.wires b) e') ≡ Some s
-  pub none_begun : (x.wires b).begun e'.fsm.own ≡ None
-  pub none_numbered : (x.wires b).line e'.fsm.own ≡ []
-  pub none_waits : s.sending.waiting ≡ []
-  pub none_taken : (x.wires b).got s.peer_epoch ≡ []
-  pub peer_is : s.peer_epoch ≡ known e'.fsm.peer

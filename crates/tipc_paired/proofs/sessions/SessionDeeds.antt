@@ -5,7 +5,7 @@ use Rattle.tipc_header.specs.Spelling.{Fields, spelling}
 use Rattle.tipc_link.specs.Direction.{IsDirection, IsReceiver}
 use Rattle.tipc_link.specs.Links.{LinkEnd, is_traffic, record_in, record_of, with_session}
 use Rattle.tipc_link.specs.Records.{Received}
-use Rattle.tipc_link.specs.Sessions.{SessionEnd, Unanswered, receiving_record, released}
+use Rattle.tipc_link.specs.Sessions.{SessionEnd, Unanswered, receiving_record, after_acknowledgement}
 use Rattle.tipc_link.proofs.Directions.{releases as direction_releases}
 use Rattle.tipc_link.proofs.LinkLaw.{Each}
 use Rattle.tipc_link.proofs.Ends.{Alike}
@@ -183,10 +183,10 @@ hears_session x y b e s p h up a =
     of_session y.node.own (y.wires b) (x.wires b) a.frame s.peer_epoch s.epoch p frame fit.peer_epoch fit.epoch a.fits a.bytes a.traffic
 
 -- it reads an acknowledgement
-pub releases_paired : (x y : View) (b : ℕ) (e : LinkEnd) (s : SessionEnd) (p : Fields) → ArePaired x y → IsUp (x.wires b) e s → Hears x y b s p → ArePaired (with_wire x b (with_going (x.wires b) e (released s p.acknowledgement))) y
+pub releases_paired : (x y : View) (b : ℕ) (e : LinkEnd) (s : SessionEnd) (p : Fields) → ArePaired x y → IsUp (x.wires b) e s → Hears x y b s p → ArePaired (with_wire x b (with_going (x.wires b) e (after_acknowledgement s p.acknowledgement))) y
 releases_paired x y b e s p h up a =
     let w = x.wires b in
-    let s' = released s p.acknowledgement in
+    let s' = after_acknowledgement s p.acknowledgement in
     let g = going_of x y b e s h up in
     let o = hears_session x y b e s p h up a in
     let count = g.sends.count in
@@ -199,7 +199,7 @@ releases_paired x y b e s p h up a =
       begun_is = g.begun_is;
       peer_is = g.peer_is;
       waiting = g.waiting;
-      sends = subst (λ n. IsDirection (released s n).sending (length ((y.wires b).got s.epoch)) (w.line s.epoch)) (sym o.told_is) d;
+      sends = subst (λ n. IsDirection (after_acknowledgement s n).sending (length ((y.wires b).got s.epoch)) (w.line s.epoch)) (sym o.told_is) d;
       takes = g.takes;
       holds = g.holds;
       record_is = g.record_is;

@@ -25,11 +25,6 @@ use Rattle.tipc_paired.specs.Views.{View, Wire, put_at, with_wire}
 next_front : (xs line : List (List ℕ)) → take (length xs) line ≡ xs → IsPrefixOf xs line
 next_front xs line is = (drop (length xs) line, sym (take-append-drop (length xs) line) ∙ ap (λ ys. ys ++ drop (length xs) line) is)
 
-none_taken : (n k : ℕ) → take {A = List ℕ} n (drop k []) ≡ []
-none_taken zero k = refl
-none_taken (suc n) zero = refl
-none_taken (suc n) (suc k) = refl
-
 pub more_front : (front xs line : List (List ℕ)) → IsPrefixOf front line → take (length xs) (drop (length front) line) ≡ xs → IsPrefixOf (front ++ xs) line
 more_front [] xs line h is = next_front xs line is
 more_front (f ∷ front) xs [] h is = absurd (let none : ⊥ = cc in none)

@@ -4,7 +4,7 @@ use Rattle.std.proofs.Math.Path.{fun_ext}
 use Rattle.tipc_link_fsm.specs.Runs.{ActivateArrives, BearerIsCut, Call, ContactEnds, ForgetsPeer, Releases, ResetArrives, TickPasses, TrafficArrives, TunnelNames, outcome}
 use Rattle.tipc_link_fsm.specs.Table.{Fsm}
 use Rattle.tipc_contact.specs.Peers.{ArePeers}
-use Rattle.tipc_contact.specs.Sides.{EndCalled, IsTold, MayCall as MayCallEnd, Side, acted, after_call}
+use Rattle.tipc_contact.specs.Sides.{EndCalled, IsNoticed, MayBeGiven as MayCallEnd, Side, acted, after_call}
 use Rattle.tipc_contact.proofs.Sessions.{acts}
 use Rattle.tipc_link.specs.Links.{LinkEnd}
 use Rattle.tipc_paired.specs.Deeds.{MayCall}
@@ -32,7 +32,7 @@ pub peers_still : (x y : View) (b : ℕ) (w' : Wire) → ArePaired x y → fsm_i
 peers_still x y b w' h is = subst (λ s. ArePeers s (said_by x) (side_of y) (said_by y)) (sym (side_still x b w' is)) h.peers
 
 -- a frame that shows an epoch says it
-pub shown_told : (y : View) (b es er contact : ℕ) → IsShown y.told b es er contact → IsTold (said_by y) b es contact
+pub shown_told : (y : View) (b es er contact : ℕ) → IsShown y.told b es er contact → IsNoticed (said_by y) b es contact
 shown_told y b es er contact t = record {
   place = t.place;
   notice = notice_of t.frame;

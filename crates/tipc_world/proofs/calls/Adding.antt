@@ -13,7 +13,7 @@ use Rattle.tipc_world.proofs.calls.Merging.{stamp_of, step_with}
 use Rattle.tipc_world.proofs.calls.Singles.{same_list}
 use Rattle.tipc_world.proofs.journals.Kept.{get_last}
 use Rattle.tipc_world.proofs.LookUps.{place_within}
-use Rattle.tipc_world.proofs.streams.Within.{get_longer}
+use Rattle.tipc_link.proofs.Directions.{slice_get-append as get_longer}
 
 -- ---- at one node
 
@@ -55,7 +55,7 @@ stay_recorded m m' s past journal whole inside = record { each = λ boot j there
 
 -- ---- at all nodes
 
-here : (old : List (Option MemberState)) (a : ℕ) (before after : MemberState) → slice_index_or old a None ≡ Some before → slice_index_or (slice_set old a (Some after)) a None ≡ Some after
+pub here : (old : List (Option MemberState)) (a : ℕ) (before after : MemberState) → slice_index_or old a None ≡ Some before → slice_index_or (slice_set old a (Some after)) a None ≡ Some after
 here old a before after was = get_or-set_same old a (Some after) None (place_within old a before was)
 
 -- a step that stands in a journal stays there

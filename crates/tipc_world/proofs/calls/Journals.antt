@@ -7,7 +7,7 @@ use Rattle.tipc_journal.specs.declared.entries.Entry.{Entry}
 use Rattle.tipc_world.specs.Answered.{journal_at, journal_in, journals_of}
 use Rattle.tipc_world.specs.States.{MemberState}
 use Rattle.tipc_world.proofs.journals.Kept.{get_last}
-use Rattle.tipc_world.proofs.streams.Within.{get_longer}
+use Rattle.tipc_link.proofs.Directions.{slice_get-append as get_longer}
 
 -- ---- lists
 

@@ -14,7 +14,7 @@ use Rattle.tipc_world.specs.declared.events.WorldFault.{WorldFault}
 use Rattle.tipc_world.specs.declared.events.WorldFault.TheVariants as fault
 use Rattle.tipc_world.specs.Answered.{journals_of, AreOrderly}
 use Rattle.tipc_world.specs.Calls.{node_of}
-use Rattle.tipc_world.specs.Deeds.{Does}
+use Rattle.tipc_world.specs.Effects.{HasEffect}
 use Rattle.tipc_world.specs.Due.{unarrived}
 use Rattle.tipc_world.specs.Limits.{IsAnswered, Stops}
 use Rattle.tipc_world.specs.Merged.{merged, recorded_by, AddsAtFault, AreMerged, Recorded}
@@ -45,7 +45,7 @@ made_at (Arrive node bearer frame) m answered = record { node = node; call = not
 made_at other m answered = []
 
 does_extend : (old : List (Option MemberState)) (stamp : ℕ) (event : WorldEvent) (bytes : List ℕ) (m m' : MemberState) (frames : List Outgoing) (answered : Answer) → slice_index_or old (node_of event) None ≡ Some m
-    → Does stamp event bytes m m' frames answered → Extends old (slice_set old (node_of event) (Some m')) stamp (made_at event m answered)
+    → HasEffect stamp event bytes m m' frames answered → Extends old (slice_set old (node_of event) (Some m')) stamp (made_at event m answered)
 does_extend old stamp (Know a peer bearer) bytes m m' frames answered was h = extends_none old a stamp m m' was (stay_longer m m' [] (ap journals_of h.0 ∙ sym (append-nil (journals_of m))))
 does_extend old stamp (Restart a) bytes m m' frames answered was h = extends_none old a stamp m m' was (stay_longer m m' ([] ∷ []) (restart_journals m m' h.0))
 does_extend old stamp (Call a call) bytes m m' frames answered was h =

@@ -22,8 +22,8 @@ use Rattle.tipc_world.specs.declared.events.WorldEvent.{WorldEvent}
 use Rattle.tipc_world.specs.declared.events.WorldEvent.TheVariants.{Know, Restart, Call, Arrive}
 use Rattle.tipc_world.specs.Answered.{AreOrderly}
 use Rattle.tipc_world.specs.Calls.{is_call_at, is_recorded, node_of, CanHappenAt}
-use Rattle.tipc_world.specs.Choices.{Chooses, ChoosesAt, turned}
-use Rattle.tipc_world.specs.Deeds.{Does, Makes, Meets}
+use Rattle.tipc_world.specs.Choices.{Chooses, ChoosesAt, after_choice}
+use Rattle.tipc_world.specs.Effects.{HasEffect, Makes, Meets}
 use Rattle.tipc_world.specs.Due.{unarrived}
 use Rattle.tipc_world.specs.Members.{by_in}
 use Rattle.tipc_world.specs.Sound.{IsNumber, IsSound}
@@ -80,7 +80,7 @@ made_orderly gives members air a recorded call m m' frames answered chooser choo
     let kept = records a recorded m m' call [] (kept_answer answered) frames number.0 number.1 (ap (λ (x : MemberState). x.past) h.after) (ap (λ (x : MemberState). x.calls) h.after) h.turn in
     recorded_orderly gives members a recorded m m' (made_step recorded call m m' frames answered h) chooser chooser' was kept
     (λ turn at. kept_picked (gives chooser.pick) turn _ m.node.journal call answered (subst (λ w. IsPicked (gives chooser.pick) turn (addr_of_word w) m.node.journal call answered) number.1 (c.picked turn at)))
-    (c.turns ∙ ap (turned chooser) (sym (kept_named call answered))) orderly
+    (c.turns ∙ ap (after_choice chooser) (sym (kept_named call answered))) orderly
 
 met_orderly : {P : Type 0} (gives : P → ℕ → ℕ → ℕ → Type 0) (members : List (Option MemberState)) (air : AirState) (a recorded bearer place : ℕ) (bytes : List ℕ) (m m' : MemberState) (frames : List Outgoing) (answered : Answer)
     (chooser chooser' : Choosing P) → IsSound members air → slice_index_or members a None ≡ Some m → Meets recorded bearer place bytes m m' frames answered → Chooses gives m (Arrive a bearer place) answered chooser chooser'
@@ -93,7 +93,7 @@ met_orderly gives members air a recorded bearer place bytes m m' frames answered
 -- ---- all events
 
 does_orderly : {P : Type 0} (gives : P → ℕ → ℕ → ℕ → Type 0) (members : List (Option MemberState)) (air : AirState) (recorded : ℕ) (event : WorldEvent) (bytes : List ℕ) (m m' : MemberState) (frames : List Outgoing) (answered : Answer)
-    (chooser chooser' : Choosing P) → IsSound members air → slice_index_or members (node_of event) None ≡ Some m → Does recorded event bytes m m' frames answered → Chooses gives m event answered chooser chooser'
+    (chooser chooser' : Choosing P) → IsSound members air → slice_index_or members (node_of event) None ≡ Some m → HasEffect recorded event bytes m m' frames answered → Chooses gives m event answered chooser chooser'
     → AreOrderly gives members recorded chooser → AreOrderly gives (slice_set members (node_of event) (Some m')) (if is_recorded event then recorded + 1 else recorded) chooser'
 does_orderly gives members air recorded (Know a peer bearer) bytes m m' frames answered chooser chooser' sound was h c orderly =
     subst (AreOrderly gives (slice_set members a (Some m')) recorded) (sym c.turns)

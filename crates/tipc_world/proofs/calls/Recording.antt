@@ -1,5 +1,5 @@
 -- Where a call is recorded, the calls of all nodes stay in order.
-use Rattle.std.proofs.Common.{◌≡◌, ◌≤◌, ◌<◌, ◌⊎◌, ◌%◌, ◌^◌, ◌+◌, ◌==◌, ◌&&◌, ℕ, Bool, true, false, List, [], ◌∷◌, ◌++◌, Option, Some, None, cond, nat_lt, length, sum_by, slice_get, slice_index_or, slice_set, refl, sym, ap, subst, ◌∙◌, inl, inr, get_or-set_same, get_or-set_other, length-append, arith}
+use Rattle.std.proofs.Common.{◌≡◌, ◌≤◌, ◌<◌, ◌⊎◌, ◌%◌, ◌^◌, ◌+◌, ◌==◌, ◌&&◌, ℕ, Bool, true, false, List, [], ◌∷◌, ◌++◌, Option, Some, None, cond, nat_lt, length, sum_by, slice_get, slice_index_or, slice_set, refl, sym, ap, subst, ◌∙◌, inl, inr, get_or-set_other, length-append, arith}
 use Rattle.std.specs.List.{All}
 use Rattle.std.proofs.lemmas.Bool.{cases_eq, cases_lt}
 use Rattle.std.proofs.lemmas.Bool.Decides.{nat_tests}
@@ -16,11 +16,10 @@ use Rattle.tipc_journal.proofs.LicenceLaws.{AllPicked_same, AllPicked_step}
 use Rattle.tipc_node.specs.Telling.{AllFull}
 use Rattle.tipc_node.specs.Turns.{addr_of}
 use Rattle.tipc_world.specs.Answered.{journal_at, journals_of, sent_in, turn_at, AreAnswered, AreOrderly, HasStamp}
-use Rattle.tipc_world.specs.Choices.{turned}
+use Rattle.tipc_world.specs.Choices.{after_choice}
 use Rattle.tipc_world.specs.States.{MemberState}
-use Rattle.tipc_world.proofs.calls.Adding.{stamp_lasts, stay_recorded, step_made}
+use Rattle.tipc_world.proofs.calls.Adding.{stamp_lasts, stay_recorded, step_made, here}
 use Rattle.tipc_world.proofs.calls.Journals.{all_get, get_more, journal_at-is, journal_at-same, past_at, present_at}
-use Rattle.tipc_world.proofs.LookUps.{place_within}
 use Rattle.tipc_world.proofs.calls.Merging.{stamp_of}
 use Rattle.tipc_world.proofs.calls.Quiet.{IsCounted}
 use Rattle.tipc_world.proofs.calls.Sums.{sent_split, sum_same, turn_more, turn_same}
@@ -43,9 +42,6 @@ pub record Records (a recorded : ℕ) (before after : MemberState) (s : NodeStep
   pub callers : AllAnsweredToCallers after.node.journal
 
 -- ---- look-ups
-
-here : (old : List (Option MemberState)) (a : ℕ) (before after : MemberState) → slice_index_or old a None ≡ Some before → slice_index_or (slice_set old a (Some after)) a None ≡ Some after
-here old a before after was = get_or-set_same old a (Some after) None (place_within old a before was)
 
 -- the journals are those of before, but for the present one of the node
 journal_cases : (old : List (Option MemberState)) (a recorded n boot : ℕ) (before after : MemberState) (s : NodeStep) (journal : List Entry) → slice_index_or old a None ≡ Some before → Records a recorded before after s
@@ -201,7 +197,7 @@ picked_now gives old a recorded before after s chooser was r h one =
 -- ---- all
 
 pub recorded_orderly : {P : Type 0} (gives : P → ℕ → ℕ → ℕ → Type 0) (old : List (Option MemberState)) (a recorded : ℕ) (before after : MemberState) (s : NodeStep) (chooser chooser' : Choosing P) → slice_index_or old a None ≡ Some before
-    → Records a recorded before after s → ((turn : ℕ) → turn % 2 ^ 64 ≡ chooser.turn → IsPicked (gives chooser.pick) turn (addr_of a) before.node.journal s.event s.answer) → chooser' ≡ turned chooser (is_sent_by_name s.event s.answer)
+    → Records a recorded before after s → ((turn : ℕ) → turn % 2 ^ 64 ≡ chooser.turn → IsPicked (gives chooser.pick) turn (addr_of a) before.node.journal s.event s.answer) → chooser' ≡ after_choice chooser (is_sent_by_name s.event s.answer)
     → AreOrderly gives old recorded chooser → AreOrderly gives (slice_set old a (Some after)) (recorded + 1) chooser'
 recorded_orderly gives old a recorded before after s chooser chooser' was r one turns h = subst (AreOrderly gives new (recorded + 1)) (sym turns) (record {
   answered = λ n boot journal there. elim (journal_cases old a recorded n boot before after s journal was r there) [

@@ -15,7 +15,7 @@ use Rattle.tipc_world.specs.Due.{age_by_fault, age_of, frame_for, is_for, kept_f
 use Rattle.tipc_world.specs.Skies.{AirState, air_on}
 use Rattle.tipc_world.specs.States.{MemberState, count_at}
 
-number_is : (word n : ℕ) → word ≡ node_word n → number_of_node word ≡ n
+pub number_is : (word n : ℕ) → word ≡ node_word n → number_of_node word ≡ n
 number_is word n is = omega (arith, is)
 
 -- the age of a STATE or a numbered packet is that of its session

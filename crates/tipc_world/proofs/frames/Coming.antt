@@ -12,13 +12,13 @@ use Rattle.tipc_header.proofs.FrameWords.{length-envelope}
 use Rattle.tipc_link.specs.Links.{is_traffic}
 use Rattle.tipc_types.specs.declared.node_calls.EventNote.{EventNote}
 use Rattle.tipc_types.specs.declared.node_calls.EventNote.TheVariants as event
-use Rattle.tipc_pair.specs.PairTurns.{Opening}
+use Rattle.tipc_pair.specs.PairTurns.{Opening, IsOnOne, Suits}
 use Rattle.tipc_pair.specs.PairTurns.Opening.{cuts, hears, makes, mends, rests, ticks}
 use Rattle.tipc_paired.proofs.wires.Frames.{same_packet}
-use Rattle.tipc_twins.proofs.sights.Sights.{frames}
-use Rattle.tipc_twins.specs.Sights.{Comes, MayHappen, Sight}
+use Rattle.tipc_two_nodes.proofs.sights.Sights.{frames}
+use Rattle.tipc_two_nodes.specs.Sights.{Comes, MayHappen, Sight}
 use Rattle.tipc_node.specs.Nodes.{is_frame_size}
-use Rattle.tipc_node.specs.Turns.{IsBrought, IsFrom, IsOnOne, Suits, is_to}
+use Rattle.tipc_node.specs.Turns.{IsBrought, IsFrom, is_to}
 use Rattle.tipc_world.specs.declared.air.Sent.{Sent}
 use Rattle.tipc_world.specs.Air.{as_frame, sent_between}
 use Rattle.tipc_world.specs.Due.{frame_for, unarrived}

@@ -10,7 +10,7 @@ use Rattle.tipc_types.specs.declared.identity.To.TheVariants as to
 use Rattle.tipc_outside.specs.declared.outgoing.Outgoing.{Outgoing}
 use Rattle.tipc_pair.specs.Facing.{PairEnds}
 use Rattle.tipc_paired.specs.Views.{Frame, er_of, es_of}
-use Rattle.tipc_twins.specs.Sights.{IsSent, sent_as}
+use Rattle.tipc_two_nodes.specs.Sights.{IsSent, sent_as}
 use Rattle.tipc_world.specs.declared.air.Sent.{Sent}
 use Rattle.tipc_node.specs.Turns.{is_to}
 use Rattle.tipc_world.specs.Air.{Leaves, airborne, as_frame, goes, is_on, leaving_on, receiver_of, sent_between, sent_on}

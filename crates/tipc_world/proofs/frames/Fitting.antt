@@ -11,9 +11,9 @@ use Rattle.tipc_reassembly.specs.Slots.{packets_in}
 use Rattle.tipc_pair.specs.Facing.{PairEnds}
 use Rattle.tipc_pair.specs.Messages.{IsMessage, opened_in}
 use Rattle.tipc_pair.specs.PairTurns.{Opening, PairTurn, Reply, ShowsAtLast, ShowsIn}
-use Rattle.tipc_twins.specs.Sights.{AreSeen, Goes, MayHappen, Sight, pair_seen, sent_as}
-use Rattle.tipc_twins.proofs.sights.Sights.{frames as spoken, turns}
-use Rattle.tipc_twins.proofs.sights.Truth.{frames_fit}
+use Rattle.tipc_two_nodes.specs.Sights.{AreSeen, Goes, MayHappen, Sight, pair_seen, sent_as}
+use Rattle.tipc_two_nodes.proofs.sights.Sights.{frames as spoken, turns}
+use Rattle.tipc_two_nodes.proofs.sights.Truth.{frames_fit}
 use Rattle.tipc_node.specs.Nodes.{is_frame_size}
 use Rattle.tipc_world.proofs.InLists.{Stands, stands_map, stands_mapped}
 

@@ -12,21 +12,21 @@ use Rattle.tipc_outside.specs.declared.outgoing.Outgoing.{Outgoing}
 use Rattle.tipc_outside.specs.Frames.{Out}
 use Rattle.tipc_journal.specs.Steps.{NodeStep}
 use Rattle.tipc_pair.specs.Facing.{PairEnds, contact_between, in_contact}
-use Rattle.tipc_pair.specs.PairTurns.{Happened, Opening}
+use Rattle.tipc_pair.specs.PairTurns.{Happened, Opening, Suits}
 use Rattle.tipc_pair.specs.PairTurns.Opening.{cuts, hears, makes, mends, rests, ticks}
 use Rattle.tipc_node.specs.declared.neighbours.Neighbour.{Neighbour}
 use Rattle.tipc_node.specs.Messages.{bytes_of}
 use Rattle.tipc_node.specs.Nodes.{NodeState, neighbour_of, step_of}
 use Rattle.tipc_node.specs.Sockets.{kept_answer}
-use Rattle.tipc_node.specs.Turns.{IsBrought, NodeTurn, PeerTurn, Suits}
-use Rattle.tipc_node.proofs.pairs.PairPuts.{MeetsAs, meets_contact, meets_then, puts_meet, replied_meets}
+use Rattle.tipc_node.specs.Turns.{IsBrought, NodeTurn, PeerTurn}
+use Rattle.tipc_pair.proofs.turns.PairPuts.{MeetsAs, meets_contact, meets_then, puts_meet, replied_meets}
 use Rattle.tipc_world.specs.Air.{met_in, met_sender}
 use Rattle.tipc_world.specs.declared.events.WorldEvent.{WorldEvent}
 use Rattle.tipc_world.specs.declared.events.WorldEvent.TheVariants.{Know, Restart, Call, Arrive}
 use Rattle.tipc_world.specs.declared.flying.Met.{Met}
 use Rattle.tipc_world.specs.declared.flying.Met.TheVariants.{Lasting, Sender}
 use Rattle.tipc_world.specs.Calls.{is_of_user, may_end_contact, node_of}
-use Rattle.tipc_world.specs.Deeds.{Meets}
+use Rattle.tipc_world.specs.Effects.{Meets}
 use Rattle.tipc_world.specs.Events.{AreSettled, DidAt}
 use Rattle.tipc_world.specs.Members.{by_in, sender_of}
 use Rattle.tipc_world.specs.Numbers.{own_in, seen_in}

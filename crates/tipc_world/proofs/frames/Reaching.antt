@@ -17,13 +17,13 @@ use Rattle.tipc_paired.specs.Views.{er_of, es_of}
 use Rattle.tipc_node.specs.Nodes.{is_frame_size}
 use Rattle.tipc_world.specs.declared.air.Sent.{Sent}
 use Rattle.tipc_node.specs.Turns.{is_to}
-use Rattle.tipc_world.specs.Air.{as_frame, goes, number_of_node, sent_between, sent_on}
+use Rattle.tipc_world.specs.Air.{as_frame, goes, sent_between, sent_on}
 use Rattle.tipc_world.specs.Skies.{AirState, air_on}
 use Rattle.tipc_world.specs.Due.{age_by_fault, age_of, frame_for, is_for, kept_for, session_age, stopped_by_age, unarrived}
 use Rattle.tipc_world.specs.States.{MemberState, count_at}
 use Rattle.tipc_world.proofs.InLists.{Stands, stands_left, stands_map, stands_passing, stands_right}
-
 -- ---- the frame among those that its sender sent
+use Rattle.tipc_world.proofs.frames.Ages.{number_is}
 
 -- a frame in the air of a bearer, as the pair of its nodes has it
 pub sent_at : (air : AirState) (a b bearer place : ℕ) (f : Sent) → slice_get (air_on bearer air) place ≡ Some f → goes a b f ≡ true → (bearer ≤ 1) × Stands (sent_between air a b) (as_frame bearer f)
@@ -84,9 +84,6 @@ age_is members f n bearer p size clear is traffic =
     let read : is_traffic (fields_at (drop 16 f.frame)).header ≡ true = ap (λ (q : Fields). is_traffic q.header) is ∙ traffic in
     ap (λ b. if b then age_by_fault members f n bearer (fault_of (drop 16 f.frame)) else 0) size
     ∙ ap (age_by_fault members f n bearer) clear ∙ ap (λ b. if b then session_age members f n bearer else 0) read
-
-number_is : (word n : ℕ) → word ≡ node_word n → number_of_node word ≡ n
-number_is word n is = omega (arith, is)
 
 -- how many packets were numbered since, in each direction
 pub record IsYoung (members : List (Option MemberState)) (f : Sent) (a peer bearer es er : ℕ) : Type 0 where

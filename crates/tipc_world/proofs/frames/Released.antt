@@ -1,8 +1,7 @@
 -- Frames that come into the air one after another, each on its bearer.
-use Rattle.std.proofs.Common.{◌≡◌, ℕ, ◌+◌, ◌-◌, zero, suc, Bool, true, false, List, Option, [], ◌∷◌, ◌++◌, filter, length, map, take, drop, refl, sym, ap, ◌∙◌, append_assoc, append-nil, arith}
+use Rattle.std.proofs.Common.{◌≡◌, ℕ, ◌+◌, ◌-◌, zero, suc, Bool, false, List, Option, [], ◌∷◌, ◌++◌, filter, length, map, take, drop, refl, sym, ap, ◌∙◌, append_assoc, append-nil}
 use Rattle.std.specs.Prelude.{All, ◌||◌, nat_lt}
-use Rattle.std.proofs.lemmas.Bool.Decides.{nat_tests}
-use Rattle.std.proofs.lemmas.List.{drop-drop, length-drop, map-append}
+use Rattle.std.proofs.lemmas.List.{drop-drop, map-append}
 use Rattle.std.proofs.lemmas.List.Elements.{All-rest, filter-append}
 use Rattle.std.proofs.Math.Seq.{take-add}
 use Rattle.tipc_outside.specs.declared.outgoing.Outgoing.{Outgoing}
@@ -59,24 +58,6 @@ releasing-step old now now' met members a frames waiting waiting' o h first push
 -- frames that stand in no box yet
 abbrev pub loose : List Outgoing → Out
 loose frames = record { frames = frames; lost = false }
-
--- where one of them waits still, not all came into the air
-pub some_wait : (old now : AirState) (met : ℕ → Option (ℕ × ℕ)) (members : List (Option MemberState)) (a : ℕ) (frames waiting waiting' : List Outgoing) (o : Outgoing) → IsReleasing old now met members a frames waiting
-    → waiting ≡ o ∷ waiting' → Emits old now met members a (loose frames) true
-some_wait old now met members a frames waiting waiting' o h first =
-    record { count = h.count; air = h.air; lost_is = fewer h.count (length frames) (length waiting') (sym (length-drop h.count frames) ∙ ap length (h.rest ∙ first)) }
-  where
-    fewer : (count all rest : ℕ) → all - count ≡ suc rest → true ≡ nat_lt count all
-    fewer count all rest is = grind (arith, nat_tests, is)
-
--- where none waits all came there
-pub none_wait : (old now : AirState) (met : ℕ → Option (ℕ × ℕ)) (members : List (Option MemberState)) (a : ℕ) (frames waiting : List Outgoing) → IsReleasing old now met members a frames waiting → waiting ≡ []
-    → Emits old now met members a (loose frames) false
-none_wait old now met members a frames waiting h none =
-    record { count = h.count; air = h.air; lost_is = all_there h.count (length frames) (sym (length-drop h.count frames) ∙ ap length (h.rest ∙ none)) }
-  where
-    all_there : (count all : ℕ) → all - count ≡ 0 → false ≡ nat_lt count all
-    all_there count all is = grind (arith, nat_tests, is)
 
 -- ---- through a box
 

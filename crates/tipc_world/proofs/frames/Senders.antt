@@ -1,12 +1,12 @@
 -- A frame names its sender.
-use Rattle.std.proofs.Common.{◌≡◌, ◌+◌, ◌-◌, ◌&&◌, ℕ, true, List, Some, None, length, refl, sym, ap, ◌∙◌, arith}
+use Rattle.std.proofs.Common.{◌≡◌, ◌+◌, ◌-◌, ◌&&◌, ℕ, true, List, Some, None, length, sym, ap, ◌∙◌, arith}
 use Rattle.std.specs.Prelude.{drop, nat_le, nat_lt, take, if◌then◌else◌}
 use Rattle.std.specs.Int.{from_be_bytes, w32}
 use Rattle.std.proofs.lemmas.List.{drop-drop, drop_at, length-append}
 use Rattle.std.proofs.lemmas.Bool.Decides.{nat_tests}
 use Rattle.tipc_types.specs.Address.{node_word}
 use Rattle.tipc_header.specs.Frames.{envelope}
-use Rattle.tipc_header.specs.Reading.{fields_at, word_at}
+use Rattle.tipc_header.specs.Reading.{word_at}
 use Rattle.tipc_header.specs.Spelling.{Fields, spelling}
 use Rattle.tipc_header.proofs.Again.{again}
 use Rattle.tipc_header.proofs.FrameWords.{length-envelope, length-spelling}
@@ -14,11 +14,7 @@ use Rattle.tipc_node.specs.Turns.{IsFrom}
 use Rattle.tipc_world.specs.Members.{sender_of}
 use Rattle.tipc_world.specs.Readers.{node_number}
 use Rattle.tipc_world.specs.Sound.{IsNumber}
-
--- the word of a packet that names its sender, behind the envelope
-previous_at : (packet : List ℕ) → (fields_at packet).previous ≡ word_at 3 packet
-unfolding fields_at
-previous_at packet = refl
+use Rattle.tipc_node.proofs.work.Senders.{previous_at}
 
 behind : (bytes : List ℕ) → word_at 7 bytes ≡ word_at 3 (drop 16 bytes)
 unfolding word_at

@@ -5,10 +5,10 @@ use Rattle.std.proofs.lemmas.Bool.Decides.{nat_tests}
 use Rattle.tipc_types.specs.Address.{node_word}
 use Rattle.tipc_types.specs.declared.identity.To.{To}
 use Rattle.tipc_types.specs.declared.identity.To.TheVariants as to
-use Rattle.tipc_twins.specs.Sights.{AreSeen}
-use Rattle.tipc_twins.specs.Truth.{AreTrue}
-use Rattle.tipc_twins.proofs.sights.Sights.{frames}
-use Rattle.tipc_twins.proofs.sights.Truth.{truths}
+use Rattle.tipc_two_nodes.specs.Sights.{AreSeen}
+use Rattle.tipc_two_nodes.specs.Truth.{AreTrue}
+use Rattle.tipc_two_nodes.proofs.sights.Sights.{frames}
+use Rattle.tipc_two_nodes.proofs.sights.Truth.{truths}
 use Rattle.tipc_node.specs.Nodes.{is_frame_size}
 use Rattle.tipc_node.specs.Turns.{is_to}
 use Rattle.tipc_world.specs.declared.air.Sent.{Sent}

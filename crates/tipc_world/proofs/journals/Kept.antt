@@ -8,7 +8,8 @@ use Rattle.tipc_journal.proofs.StepLaws.{IsWhole_nil, steps_more, steps_nil}
 use Rattle.tipc_link.specs.Links.{LinkEnd, known}
 use Rattle.tipc_link.proofs.LinkLaw.{Each}
 use Rattle.tipc_pair.specs.Facing.{PairEnds, contact_between, facing, in_contact, is_up_at}
-use Rattle.tipc_node.specs.Telling.{AreAbreast, TellsOf, epochs_of, epochs_on, silence_in}
+use Rattle.tipc_node.specs.Telling.{TellsOf}
+use Rattle.tipc_pair.specs.LinkReadings.{AreAbreast, epochs_of, epochs_on, silence_in}
 use Rattle.tipc_node.specs.Turns.{addr_of, pair_in}
 use Rattle.tipc_world.specs.Numbers.{end_on}
 use Rattle.tipc_world.specs.Skies.{AirState}
@@ -19,7 +20,7 @@ use Rattle.tipc_world.specs.Watched.{AreTicked, AreTraced, IsWatched}
 use Rattle.tipc_world.proofs.pairs.Pairings.{first_end, second_end}
 use Rattle.tipc_world.proofs.journals.Parted.{AreParted}
 use Rattle.tipc_world.proofs.journals.Stepping.{Arrives, Widens, journal_ticked, lawful_more, lawful_wider, one_more, ticked_more}
-use Rattle.tipc_world.proofs.streams.Within.{get_longer}
+use Rattle.tipc_link.proofs.Directions.{slice_get-append as get_longer}
 
 -- ---- a node's journals and links
 

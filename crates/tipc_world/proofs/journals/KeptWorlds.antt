@@ -13,7 +13,8 @@ use Rattle.tipc_reassembly.proofs.TraceLaws.{begun_none}
 use Rattle.tipc_node.specs.declared.neighbours.Neighbour.{Neighbour}
 use Rattle.tipc_node.specs.Calls.{Performs}
 use Rattle.tipc_node.specs.Nodes.{NodeState, acquaintance, is_mended_on, known_neighbour, neighbour_of}
-use Rattle.tipc_node.specs.Telling.{IsTold, silence_in}
+use Rattle.tipc_node.specs.Telling.{IsTold}
+use Rattle.tipc_pair.specs.LinkReadings.{silence_in}
 use Rattle.tipc_node.specs.Turns.{NodeTurn, addr_of, pair_in}
 use Rattle.tipc_world.specs.declared.air.Arrived.{Arrived}
 use Rattle.tipc_world.specs.declared.air.Sent.{Sent}
@@ -21,7 +22,7 @@ use Rattle.tipc_world.specs.declared.events.WorldEvent.{WorldEvent}
 use Rattle.tipc_world.specs.declared.events.WorldEvent.TheVariants.{Know, Restart, Call, Arrive}
 use Rattle.tipc_world.specs.Calls.{CanHappenAt, node_of}
 use Rattle.tipc_world.specs.Causes.{arrived_frame, frame_in}
-use Rattle.tipc_world.specs.Deeds.{Does, Makes, Meets}
+use Rattle.tipc_world.specs.Effects.{HasEffect, Makes, Meets}
 use Rattle.tipc_world.specs.Due.{frame_for, unarrived}
 use Rattle.tipc_world.specs.Events.{JoinsAt}
 use Rattle.tipc_world.specs.Members.{IsNewcomer, IsRestarted, known_member}
@@ -36,11 +37,11 @@ use Rattle.tipc_pair.specs.Courses.{going_on}
 use Rattle.tipc_pair.specs.Facing.{PairEnds, alone, facing, turned}
 use Rattle.tipc_pair.specs.PairCalls.{at_bearer}
 use Rattle.tipc_pair.specs.PairTurns.{made_near}
-use Rattle.std.proofs.lemmas.Bool.Decides.{nat_tests}
-use Rattle.tipc_world.proofs.journals.PairTraces.{keeps_of, making_by, pair_of}
+use Rattle.tipc_pair.proofs.turns.PairTraces.{keeps_of, making_by, pair_of}
 use Rattle.tipc_world.proofs.pairs.PairedStarts.{kept_first, kept_pair, known_is, known_pair}
 use Rattle.tipc_world.specs.Steps.{Becomes, Happens, IsArrival, Stage, Turns}
-use Rattle.tipc_world.specs.Watched.{AreTraced, AreWatched, IsWatched, KeepsBy}
+use Rattle.tipc_world.specs.Watched.{AreTraced, AreWatched, IsWatched}
+use Rattle.tipc_pair.specs.Traces.{KeepsBy}
 use Rattle.tipc_world.proofs.pairs.Bringing.{are_brought}
 use Rattle.tipc_world.proofs.frames.Coming.{ComesOut, nothing_out, spoken_to}
 use Rattle.tipc_world.proofs.Growing.{prefix_same}
@@ -55,8 +56,8 @@ use Rattle.tipc_world.proofs.journals.TunnelsTaken.{TakesTunnels, arrival_takes}
 use Rattle.tipc_world.proofs.journals.TurnKept.{turn_kept}
 use Rattle.tipc_world.proofs.streams.TurnStreams.{AreBrought}
 use Rattle.tipc_world.proofs.journals.TurnTraced.{AreCarried, IsCarried, traced_set, traced_wider, turn_spelled, turn_traced}
-
 -- ---- the air and the arrivals
+use Rattle.tipc_name_dist.proofs.Applied.{same_number as itself}
 
 -- each air grows
 abbrev pub GrowsAir : AirState → AirState → Type 0
@@ -116,9 +117,6 @@ make_watched s air' a stamp call m m' frames answered sound longer was w h =
     (λ bearer number place e is there tunnel. absurd (never_arrives m.node m'.node _ call frames answered h.performs bearer number is)) (are_brought s a m m' [] step frames sound was h.turn.turn (nothing_out s a _))
 
 -- ---- an arrival
-
-itself : (n : ℕ) → (n == n) ≡ true
-itself n = grind (arith, nat_tests)
 
 arrived_last : (air air' : AirState) (arrivals : List Arrived) (bearer place : ℕ) (f : Sent) → GrowsAir air air' → slice_get (air_on bearer air) place ≡ Some f
     → arrived_frame (record { air = air'; arrivals = arrivals ++ record { bearer = bearer; frame = place } ∷ [] }) bearer (length arrivals) ≡ Some f
@@ -282,7 +280,7 @@ unfolding pair_at member_at
 pair_there s a b m y here there = ap (option_and_then (λ (k : MemberState). pair_in k.node b)) here ∙ ap (option_map (λ (x : Neighbour). x.pair)) there
 
 does_watched : (s : Stage) (air' : AirState) (stamp : ℕ) (event : WorldEvent) (bytes : List ℕ) (m m' : MemberState) (frames : List Outgoing) (answered : Answer) → IsSound s.members s.air → GrowsAir s.air air'
-    → slice_index_or s.members (node_of event) None ≡ Some m → IsWatched s.air m → IsReady s.members s.air event bytes m → Does stamp event bytes m m' frames answered → IsWatched air' m'
+    → slice_index_or s.members (node_of event) None ≡ Some m → IsWatched s.air m → IsReady s.members s.air event bytes m → HasEffect stamp event bytes m m' frames answered → IsWatched air' m'
 does_watched s air' stamp (Know a peer bearer) bytes m m' frames answered sound longer here w ready h =
     know_watched s.air air' m m' peer bearer longer w h.0 ready.2 (kept_first m peer (λ y there. (sound.between a peer y.pair (pair_there s a peer m y here there)).first)) h.3
 does_watched s air' stamp (Restart a) bytes m m' frames answered sound longer here w ready h = restart_watched s.air air' m m' longer w h.0

@@ -14,13 +14,14 @@ use Rattle.tipc_pair.specs.declared.transitions.Transition.TheVariants.{ContactD
 use Rattle.tipc_pair.specs.Facing.{PairEnds}
 use Rattle.tipc_node.specs.declared.neighbours.Neighbour.{Neighbour}
 use Rattle.tipc_node.specs.Nodes.{NodeState, change_entry, neighbour_of}
-use Rattle.tipc_node.specs.Telling.{AreAbreast, IsTold}
+use Rattle.tipc_node.specs.Telling.{IsTold}
+use Rattle.tipc_pair.specs.LinkReadings.{AreAbreast}
 use Rattle.tipc_node.specs.Turns.{IsOfNeighbour, IsPlaced, NodeTurn, PeerTurn, addr_of, is_change_of}
 use Rattle.tipc_node.proofs.journal.Telling.{same_word}
 use Rattle.tipc_world.specs.Lawful.{up_to}
 use Rattle.tipc_world.proofs.InLists.{all_at}
-use Rattle.tipc_world.proofs.journals.EndsLast.{IsLastOf, first_last, is_over}
-use Rattle.tipc_world.proofs.journals.TurnReasons.{makes_none}
+use Rattle.tipc_pair.proofs.turns.EndsLast.{IsLastOf, first_last, is_over}
+use Rattle.tipc_pair.proofs.turns.TurnReasons.{makes_none}
 
 -- whether an entry is the end of a contact
 abbrev is_end : Entry → Bool

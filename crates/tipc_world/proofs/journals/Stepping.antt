@@ -24,7 +24,8 @@ use Rattle.tipc_pair.specs.Facing.{other}
 use Rattle.tipc_world.specs.Lawful.{IsLawful, IsLawfulEntry, IsLawfulStep}
 use Rattle.tipc_node.specs.Messages.{bytes_of}
 use Rattle.tipc_world.specs.Spelled.{HasBrought, IsBy, IsSpelled}
-use Rattle.tipc_world.proofs.streams.Within.{get_longer, within_more}
+use Rattle.tipc_world.proofs.streams.Within.{within_more}
+use Rattle.tipc_link.proofs.Directions.{slice_get-append as get_longer}
 
 -- ---- lists
 

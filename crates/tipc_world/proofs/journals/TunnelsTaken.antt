@@ -34,7 +34,7 @@ use Rattle.tipc_node.specs.Neighbours.{no_broadcast}
 use Rattle.tipc_node.specs.Nodes.{NodeState, arrival_answer, arrival_deliveries, message_count, neighbour_of, step_of, stop_of}
 use Rattle.tipc_node.specs.Turns.{IsFrom, NodeTurn}
 use Rattle.tipc_world.proofs.frames.Coming.{same_sender}
-use Rattle.tipc_world.proofs.journals.Reasons.{IsTook}
+use Rattle.tipc_pair.proofs.turns.Reasons.{IsTook}
 
 -- Where a neighbour takes a tunnel packet that arrived in a step, and the step tells anything, the step is answered so.
 pub record IsTunnelAt (n : NodeState) (bytes : List ℕ) (bearer number : ℕ) : Type 0 where

@@ -10,15 +10,17 @@ use Rattle.tipc_pair.specs.declared.transitions.Transition.TheVariants.{ContactD
 use Rattle.tipc_pair.specs.Facing.{PairEnds, facing, in_contact, turned}
 use Rattle.tipc_pair.proofs.Followings.{far_down, near_down}
 use Rattle.tipc_node.specs.Messages.{bytes_of}
-use Rattle.tipc_node.specs.Neighbours.{is_of_contact}
-use Rattle.tipc_node.specs.Telling.{AreAbreast, TellsOf, epochs_of, epochs_on}
+use Rattle.tipc_pair.specs.Contacts.{is_of_contact}
+use Rattle.tipc_node.specs.Telling.{TellsOf}
+use Rattle.tipc_pair.specs.LinkReadings.{AreAbreast, epochs_of, epochs_on}
 use Rattle.tipc_node.specs.Turns.{PeerTurn, addr_of}
-use Rattle.tipc_node.proofs.pairs.Moves.{contact_there, down_at}
-use Rattle.tipc_node.proofs.pairs.PairEvents.{happened_so}
-use Rattle.tipc_node.proofs.pairs.PairPuts.{MeetsAs, meets_then, puts_meet, replied_meets}
-use Rattle.tipc_node.proofs.pairs.PairTells.{Means, Story, began, contact_changes, ended, stays}
+use Rattle.tipc_pair.proofs.turns.Moves.{contact_there, down_at}
+use Rattle.tipc_pair.proofs.turns.PairEvents.{happened_so}
+use Rattle.tipc_pair.proofs.turns.PairPuts.{MeetsAs, meets_then, puts_meet, replied_meets}
+use Rattle.tipc_pair.proofs.turns.PairTells.{Means, Story, began, contact_changes, ended, stays}
 use Rattle.tipc_world.proofs.journals.Stepping.{passes}
-use Rattle.tipc_world.proofs.journals.TurnMessages.{are_on, none_made}
+use Rattle.tipc_pair.proofs.turns.TurnMeans.{on_bearers as are_on}
+use Rattle.tipc_node.proofs.names.SharingUnused.{makes_none as none_made}
 
 -- without contact no link is up
 none_on : (x : PairEnds) (bearer : ℕ) → in_contact x ≡ false → epochs_on bearer x ≡ None

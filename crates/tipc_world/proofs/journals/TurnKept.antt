@@ -1,5 +1,5 @@
 -- A node's journals stay lawful with a turn, and tell how long its links were silent.
-use Rattle.std.specs.Prelude.{◌⊎◌, All, is_some, nat_le, option_map, if◌then◌else◌}
+use Rattle.std.specs.Prelude.{◌⊎◌, All, is_some, nat_le, if◌then◌else◌}
 use Rattle.std.specs.List.{filter}
 use Rattle.std.proofs.Common.{◌≡◌, ◌<◌, ◌≤◌, ◌==◌, ℕ, zero, suc, Bool, true, false, List, [], ◌∷◌, ◌++◌, Option, Some, None, map, slice_get, refl, sym, ap, ◌∙◌, subst, inl, inr, arith}
 use Rattle.std.proofs.lemmas.Bool.Decides.{nat_tests}
@@ -17,14 +17,15 @@ use Rattle.tipc_link.proofs.LinkLaw.{Each}
 use Rattle.tipc_pair.specs.declared.transitions.Transition.{Transition}
 use Rattle.tipc_pair.specs.declared.transitions.Transition.TheVariants.{ContactDown, ContactUp, LinkDown, LinkUp}
 use Rattle.tipc_pair.specs.Facing.{PairEnds, contact_between, facing, in_contact}
-use Rattle.tipc_pair.specs.PairTurns.{Happened, Opening, Outset}
+use Rattle.tipc_pair.specs.PairTurns.{Happened, Opening, Outset, Suits}
 use Rattle.tipc_pair.specs.PairTurns.Opening.{cuts, hears, makes, mends, rests, ticks}
 use Rattle.tipc_pair.specs.Messages.{opened_in}
 use Rattle.tipc_node.specs.declared.neighbours.Neighbour.{Neighbour}
 use Rattle.tipc_node.specs.Nodes.{NodeState, change_entry, neighbour_of}
-use Rattle.tipc_node.specs.Telling.{AreAbreast, IsTold, TellsOf, epochs_on, silence_in}
-use Rattle.tipc_node.specs.Turns.{IsBrought, IsPlaced, NodeTurn, PeerTurn, Suits, addr_of, is_accepted_for, is_change_of, is_delivered_from, pair_in}
-use Rattle.tipc_node.proofs.pairs.Moves.{epochs_at}
+use Rattle.tipc_node.specs.Telling.{IsTold, TellsOf}
+use Rattle.tipc_pair.specs.LinkReadings.{AreAbreast, epochs_on, silence_in}
+use Rattle.tipc_node.specs.Turns.{IsBrought, IsPlaced, NodeTurn, PeerTurn, addr_of, is_accepted_for, is_change_of, is_delivered_from, pair_in}
+use Rattle.tipc_pair.proofs.turns.Moves.{epochs_at}
 use Rattle.tipc_node.proofs.journal.Telling.{same_word}
 use Rattle.tipc_world.specs.Causes.{HasTicked, IsCaused, arrived_frame, IsNumberOf, IsResetOf, IsTunnelOf, Seen}
 use Rattle.tipc_world.specs.Lawful.{IsLawfulEntry}
@@ -32,21 +33,16 @@ use Rattle.tipc_world.specs.Numbers.{end_on}
 use Rattle.tipc_world.proofs.InLists.{all_at}
 use Rattle.tipc_world.proofs.journals.Kept.{IsKept, kept_step}
 use Rattle.tipc_world.proofs.journals.Parted.{turn_parted}
-use Rattle.tipc_world.proofs.journals.Reasons.{CutsOff, HearsHigher, HearsReset, HearsTunnel, IsReason, IsTick, MayGoDown}
+use Rattle.tipc_pair.proofs.turns.Reasons.{CutsOff, HearsHigher, HearsReset, HearsTunnel, IsReason, IsTick, MayGoDown}
 use Rattle.tipc_world.proofs.journals.Stepping.{Arrives, passed, passes}
 use Rattle.tipc_world.proofs.journals.TunnelsTaken.{TakesTunnels}
 use Rattle.tipc_world.proofs.journals.TurnContacts.{contact_ended}
 use Rattle.tipc_world.proofs.journals.TurnMessages.{messages_lawful}
-use Rattle.tipc_world.proofs.journals.TurnReasons.{BringsFit, first_reasons, makes_none}
-use Rattle.tipc_world.proofs.journals.TurnTimed.{turn_timed}
+use Rattle.tipc_pair.proofs.turns.TurnReasons.{BringsFit, first_reasons, makes_none}
+use Rattle.tipc_world.proofs.journals.TurnTimed.{turn_timed, pair_of}
 use Rattle.tipc_world.proofs.journals.TurnTraced.{AreCarried, AreGivenSpelled, IsGivenSpelled, sender_is}
-
 -- ---- lists of entries
-
-mapped_there : {A B : Type 0} (f : A → B) (xs : List A) (k : ℕ) (x : A) → slice_get xs k ≡ Some x → slice_get (map f xs) k ≡ Some (f x)
-mapped_there f [] k x there = absurd cc
-mapped_there f (y ∷ ys) zero x there = let same : y ≡ x = cc in ap (λ z. Some (f z)) same
-mapped_there f (y ∷ ys) (suc k) x there = mapped_there f ys k x there
+use Rattle.tipc_world.proofs.calls.Singles.{read_at as mapped_there}
 
 each_mapped : {A B : Type 0} (P : B → Type 0) (f : A → B) (xs : List A) → ((k : ℕ) (x : A) → slice_get xs k ≡ Some x → P (f x)) → Each P (map f xs)
 each_mapped P f [] h k y there = absurd cc
@@ -275,9 +271,6 @@ peer_lawful seen n bytes s frames b x x' t k told spelled =
     }
 
 -- ---- the turn
-
-pair_of : (n : NodeState) (b : ℕ) (o : Option Neighbour) → neighbour_of n b ≡ o → pair_in n b ≡ option_map (λ (x : Neighbour). x.pair) o
-pair_of n b o is = ap (option_map (λ (x : Neighbour). x.pair)) is
 
 -- what a step tells of each neighbour is lawful
 turn_lawful : (seen : Seen) (n n' : NodeState) (bytes : List ℕ) (s : NodeStep) (frames : List Outgoing) (t : NodeTurn n n' bytes s frames) → IsTold n → ((p : ℕ) → TellsOf (n.journal ++ step_entries s) p (pair_in n' p))

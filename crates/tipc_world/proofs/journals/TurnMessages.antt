@@ -2,11 +2,9 @@
 -- spelled by its arrivals.
 use Rattle.std.specs.Prelude.{All}
 use Rattle.std.specs.List.{filter, flat_map}
-use Rattle.std.proofs.Common.{◌≡◌, ◌≤◌, ℕ, zero, suc, true, false, List, [], ◌∷◌, ◌++◌, Option, Some, None, map, refl, sym, ap, ◌∙◌, subst, arith}
-use Rattle.std.specs.Prelude.{IfSome}
+use Rattle.std.proofs.Common.{◌≡◌, ℕ, zero, suc, true, List, [], ◌∷◌, ◌++◌, Option, Some, None, map, refl, sym, ap, ◌∙◌, subst}
 use Rattle.std.proofs.lemmas.List.Elements.{All-head, All-tail}
 use Rattle.tipc_types.specs.declared.message_forms.Message.{Message}
-use Rattle.tipc_types.specs.declared.node_calls.EventNote.{EventNote}
 use Rattle.tipc_outside.specs.declared.outgoing.Outgoing.{Outgoing}
 use Rattle.tipc_journal.specs.declared.entries.Entry.{Entry}
 use Rattle.tipc_journal.specs.declared.entries.Entry.TheVariants as entry
@@ -14,25 +12,25 @@ use Rattle.tipc_journal.specs.Contacts.{contact}
 use Rattle.tipc_journal.specs.Steps.{step_entries, NodeStep, PlacedStep}
 use Rattle.tipc_reassembly.specs.declared.opening.Opened.{Opened}
 use Rattle.tipc_reassembly.specs.declared.opening.Opened.TheVariants.{Whole, Passed}
-use Rattle.tipc_link.specs.Links.{LinkEnd}
 use Rattle.tipc_link.proofs.LinkLaw.{Each, Each-append}
-use Rattle.tipc_pair.specs.Facing.{PairEnds, contact_between, in_contact, other}
-use Rattle.tipc_pair.specs.PairTurns.{Opening, PutsAll, puts_one}
-use Rattle.tipc_pair.specs.PairTurns.Opening.{rests, makes, mends, cuts, ticks, hears}
+use Rattle.tipc_pair.specs.Facing.{PairEnds, contact_between, in_contact}
+use Rattle.tipc_pair.specs.PairTurns.{PutsAll, puts_one}
 use Rattle.tipc_pair.specs.Messages.{opened_in}
 use Rattle.tipc_node.specs.Messages.{bytes_of, message_in}
 use Rattle.tipc_node.specs.Nodes.{accepted_entry, shown_contact}
-use Rattle.tipc_node.specs.Telling.{AreAbreast, TellsOf}
-use Rattle.tipc_node.specs.Turns.{PeerTurn, Suits, addr_of, delivered_message, delivered_of, is_accepted_for, is_delivered_from}
-use Rattle.tipc_node.proofs.pairs.Moves.{contact_there}
-use Rattle.tipc_node.proofs.pairs.PairEvents.{On, happened_so, is_making}
-use Rattle.tipc_node.proofs.pairs.PairPuts.{MeetsAs, active_there, meets_contact, meets_then, puts_meet, replied_meets}
+use Rattle.tipc_node.specs.Telling.{TellsOf}
+use Rattle.tipc_pair.specs.LinkReadings.{AreAbreast}
+use Rattle.tipc_node.specs.Turns.{PeerTurn, addr_of, delivered_entries, delivered_of, is_accepted_for, is_delivered_from}
+use Rattle.tipc_pair.proofs.turns.Moves.{contact_there}
+use Rattle.tipc_pair.proofs.turns.PairEvents.{happened_so}
+use Rattle.tipc_pair.proofs.turns.PairPuts.{MeetsAs, active_there, meets_contact, meets_then, puts_meet, replied_meets}
 use Rattle.tipc_world.specs.Causes.{Seen}
 use Rattle.tipc_world.specs.Lawful.{after, IsLawfulEntry}
 use Rattle.tipc_world.specs.Spelled.{IsSpelled}
 use Rattle.tipc_world.proofs.journals.TurnTraced.{IsGivenSpelled}
-
 -- ---- lists of entries
+use Rattle.tipc_node.proofs.names.SharingUnused.{makes_none as none_made}
+use Rattle.tipc_pair.proofs.turns.TurnMeans.{on_bearers as are_on}
 
 none_lawful : (P : Entry → Type 0) → Each P []
 none_lawful P k x e = absurd cc
@@ -63,7 +61,7 @@ put_lawful own seen earlier s b x y last frames (m ∷ ms) puts meets is =
 -- ---- messages that were given
 
 message_lawful : (seen : Seen) (earlier : List PlacedStep) (s : PlacedStep) (b : ℕ) (c : ℕ × ℕ) → contact (after s) (addr_of b) ≡ Some c → (message : Option Message) (by : List ℕ)
-    → ((m : Message) → message ≡ Some m → IsSpelled seen s.step (addr_of b) m by) → Each (IsLawfulEntry seen earlier s) (delivered_message b c message by)
+    → ((m : Message) → message ≡ Some m → IsSpelled seen s.step (addr_of b) m by) → Each (IsLawfulEntry seen earlier s) (delivered_entries b c message by)
 message_lawful seen earlier s b c is (Some m) by h = one_lawful (IsLawfulEntry seen earlier s) (entry.Delivered (addr_of b) c _ m by) (is, h m refl)
 message_lawful seen earlier s b c is None by h = none_lawful (IsLawfulEntry seen earlier s)
 
@@ -85,23 +83,6 @@ given_lawful seen earlier s b c [] is h = none_lawful (IsLawfulEntry seen earlie
 given_lawful seen earlier s b c (o ∷ os) is h = all_opened seen earlier s b c (o ∷ os) (is o os refl) h
 
 -- ---- the turn at a peer
-
--- each end is on its bearer
-pub are_on : (x : PairEnds) → AreAbreast x → On x
-are_on x h = record {
-  two = subst (λ n. n ≤ 1) (sym h.first) (omega arith);
-  near = subst (λ n. IfSome x.near (λ (e : LinkEnd). e.bearer ≡ n)) (sym h.first) h.near_on;
-  far = subst (λ n. IfSome x.far (λ (e : LinkEnd). e.bearer ≡ other n)) (sym h.first) h.far_on;
-}
-
--- no end is made in a step
-pub none_made : (note : EventNote) (opening : Opening) → Suits note opening → is_making opening ≡ false
-none_made note rests suits = refl
-none_made note (makes bearer is_mended) suits = absurd suits
-none_made note (mends bearer) suits = refl
-none_made note (cuts bearer) suits = refl
-none_made note (ticks shown) suits = refl
-none_made note (hears bearer es er p by shown) suits = refl
 
 -- what a step tells of messages for a neighbour, and of it, is lawful
 pub record AreMessagesLawful (seen : Seen) (earlier : List PlacedStep) (s : PlacedStep) (b : ℕ) : Type 0 where

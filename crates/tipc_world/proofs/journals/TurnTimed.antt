@@ -13,22 +13,23 @@ use Rattle.tipc_pair.specs.declared.changes.PairOutcome.{PairOutcome}
 use Rattle.tipc_pair.specs.declared.transitions.Transition.{Transition}
 use Rattle.tipc_pair.specs.declared.transitions.Transition.TheVariants.{ContactDown, ContactUp, LinkDown, LinkUp}
 use Rattle.tipc_pair.specs.Facing.{PairEnds, facing}
-use Rattle.tipc_pair.specs.PairTurns.{Opening, PairTurn, Reply, replied}
+use Rattle.tipc_pair.specs.PairTurns.{Opening, PairTurn, Reply, replied, IsTakenBy, Suits}
 use Rattle.tipc_pair.specs.PairTurns.Opening.{cuts, hears, makes, mends, rests, ticks}
 use Rattle.tipc_node.specs.declared.neighbours.Neighbour.{Neighbour}
 use Rattle.tipc_node.specs.Messages.{bytes_of}
 use Rattle.tipc_node.specs.Nodes.{NodeState, change_entries, neighbour_of}
-use Rattle.tipc_node.specs.Telling.{AreAbreast, IsTold, silence_in}
-use Rattle.tipc_node.specs.Turns.{IsFrom, IsTakenBy, NodeTurn, PeerTurn, Suits, addr_of, is_change_of, pair_in}
+use Rattle.tipc_node.specs.Telling.{IsTold}
+use Rattle.tipc_pair.specs.LinkReadings.{AreAbreast, silence_in}
+use Rattle.tipc_node.specs.Turns.{IsFrom, NodeTurn, PeerTurn, addr_of, is_change_of, pair_in}
 use Rattle.tipc_node.proofs.journal.Telling.{same_word}
 use Rattle.tipc_world.specs.declared.air.Sent.{Sent}
 use Rattle.tipc_world.specs.Causes.{BringsUp, IsTakenFrom, Seen, tick_of}
 use Rattle.tipc_world.specs.Numbers.{end_on}
 use Rattle.tipc_world.proofs.journals.Kept.{IsTimed}
-use Rattle.tipc_world.proofs.journals.Silences.{IsHushed, Ups, Within, heard_on, opening_hushed, steady_within, steady_zero, ticks_in}
-use Rattle.tipc_world.proofs.journals.Steady.{AreSteady, are_steady_then, ends_on, puts_steady, replied_steady, steady_on}
+use Rattle.tipc_pair.proofs.turns.Silences.{IsHushed, Ups, Within, heard_on, opening_hushed, steady_within, steady_zero, ticks_in}
+use Rattle.tipc_pair.proofs.turns.Steady.{AreSteady, are_steady_then, ends_on, puts_steady, replied_steady, steady_on}
 use Rattle.tipc_world.proofs.journals.Stepping.{passes}
-use Rattle.tipc_world.proofs.journals.TurnReasons.{makes_none}
+use Rattle.tipc_pair.proofs.turns.TurnReasons.{makes_none}
 use Rattle.tipc_world.proofs.journals.TurnTraced.{AreCarried}
 
 -- ---- the event of the step
@@ -120,7 +121,7 @@ peer_timed seen own bytes s frames b bearer x x' t abreast carried =
 
 -- ---- the turn of the node
 
-pair_of : (n : NodeState) (b : ℕ) (o : Option Neighbour) → neighbour_of n b ≡ o → pair_in n b ≡ option_map (λ (x : Neighbour). x.pair) o
+pub pair_of : (n : NodeState) (b : ℕ) (o : Option Neighbour) → neighbour_of n b ≡ o → pair_in n b ≡ option_map (λ (x : Neighbour). x.pair) o
 pair_of n b o is = ap (option_map (λ (x : Neighbour). x.pair)) is
 
 pub turn_timed : (seen : Seen) (n n' : NodeState) (bytes : List ℕ) (s : NodeStep) (frames : List Outgoing) → IsTold n → NodeTurn n n' bytes s frames → AreCarried seen s bytes

@@ -25,24 +25,25 @@ use Rattle.tipc_pair.specs.Courses.{Course}
 use Rattle.tipc_pair.specs.Facing.{PairEnds}
 use Rattle.tipc_pair.specs.Held.{CameBy}
 use Rattle.tipc_pair.specs.PairArrivals.{restored}
-use Rattle.tipc_pair.specs.PairTurns.{Happened, Opening, Outset}
+use Rattle.tipc_pair.specs.PairTurns.{Happened, Opening, Outset, Suits}
 use Rattle.tipc_pair.specs.PairTurns.Opening.{rests, makes, mends, cuts, ticks, hears}
 use Rattle.tipc_pair.specs.Messages.{opened_in}
 use Rattle.tipc_node.specs.declared.neighbours.Neighbour.{Neighbour}
 use Rattle.tipc_node.specs.Messages.{message_in}
 use Rattle.tipc_node.specs.Nodes.{NodeState, neighbour_of}
-use Rattle.tipc_node.specs.Turns.{IsBrought, IsFrom, NodeTurn, PeerTurn, Suits, addr_of}
+use Rattle.tipc_node.specs.Turns.{IsBrought, IsFrom, NodeTurn, PeerTurn, addr_of}
 use Rattle.tipc_world.specs.declared.air.Arrived.{Arrived}
 use Rattle.tipc_world.specs.declared.air.Sent.{Sent}
 use Rattle.tipc_world.specs.Causes.{arrived_frame, frame_in, Seen}
 use Rattle.tipc_world.specs.Spelled.{Brings, HasBrought, IsBy, IsSpelled}
 use Rattle.tipc_world.specs.Spelled.Brings.{inside, itself}
-use Rattle.tipc_world.specs.Watched.{AreTraced, HoldsBy, KeepsBy}
+use Rattle.tipc_world.specs.Watched.{AreTraced}
+use Rattle.tipc_pair.specs.Traces.{HoldsBy, KeepsBy}
 use Rattle.tipc_world.proofs.frames.Coming.{same_sender}
 use Rattle.tipc_world.proofs.journals.Stepping.{Widens, brought_wider}
 use Rattle.tipc_world.proofs.streams.TurnStreams.{AreBrought, Brings as AreBroughtAs, IsOfMessage, message_is_in}
-use Rattle.tipc_world.proofs.journals.EndTraces.{ComesWhole}
-use Rattle.tipc_world.proofs.journals.PairTraces.{OpensBrought, first_by, keeps_of, pair_of, turn_by}
+use Rattle.tipc_pair.proofs.turns.EndTraces.{ComesWhole}
+use Rattle.tipc_pair.proofs.turns.PairTraces.{OpensBrought, first_by, keeps_of, pair_of, turn_by}
 
 -- ---- the frame that arrives
 

@@ -10,7 +10,7 @@ use Rattle.tipc_types.specs.declared.message_forms.Flow.TheVariants.{Zero}
 use Rattle.tipc_types.specs.declared.message_forms.Message.{Message}
 use Rattle.tipc_types.specs.declared.message_forms.Message.TheVariants.{Items, Payload}
 use Rattle.tipc_types.specs.declared.services.Publication.{Publication}
-use Rattle.tipc_name_table.specs.Tables.{is_of}
+use Rattle.tipc_types.specs.Tables.{is_of}
 use Rattle.tipc_journal.specs.declared.entries.Entry.{Entry}
 use Rattle.tipc_journal.specs.Contacts.{contact}
 use Rattle.tipc_journal.specs.Matches.{names}
@@ -25,7 +25,8 @@ use Rattle.tipc_contact.specs.Sides.{boot_of}
 use Rattle.tipc_pair.specs.Facing.{contact_between, in_contact}
 use Rattle.tipc_node.specs.declared.neighbours.Neighbour.{Neighbour}
 use Rattle.tipc_node.specs.Nodes.{neighbour_of}
-use Rattle.tipc_node.specs.Sharing.{HasTold, flow_with}
+use Rattle.tipc_node.specs.Sharing.{flow_with}
+use Rattle.tipc_name_dist.specs.Told.{HasTold}
 use Rattle.tipc_node.specs.Turns.{addr_of}
 use Rattle.tipc_node.proofs.journal.Refusing.{told_names}
 use Rattle.tipc_world.specs.Skies.{AirState}
@@ -36,8 +37,8 @@ use Rattle.tipc_world.specs.Steps.{stage}
 use Rattle.tipc_world.specs.Tables.{AreNamesDone, AreTables, items_among, journal_now}
 use Rattle.tipc_world.proofs.LookUps.{history_at-is, member_at-is}
 use Rattle.tipc_world.proofs.names.Sharing.{boot_is}
-
 -- ---- messages without items
+use Rattle.tipc_journal.proofs.ContactLaws.{contact_nil as no_contact}
 
 -- messages among which none is of name items have no items
 no_items : (ms : List Message) → items_among ms ≡ 0 → flat_map items_in ms ≡ []
@@ -126,10 +127,6 @@ journal_is members n m is = ap (λ o. unwrap_or (option_map (λ (x : MemberState
 pub no_journal : (members : List (Option MemberState)) (n : ℕ) → slice_index_or members n None ≡ None → journal_now members n ≡ []
 unfolding journal_now member_at
 no_journal members n none = ap (λ o. unwrap_or (option_map (λ (x : MemberState). x.node.journal) o) []) none
-
-no_contact : (p : Addr) → contact [] p ≡ None
-unfolding contact
-no_contact p = refl
 
 -- a node that is in contact is there
 absent : (members : List (Option MemberState)) (n : ℕ) (p : Addr) (numbers : ℕ × ℕ) → slice_index_or members n None ≡ None → contact (journal_now members n) p ≡ Some numbers → ⊥

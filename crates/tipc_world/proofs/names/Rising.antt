@@ -21,14 +21,15 @@ use Rattle.tipc_pair.specs.declared.transitions.Transition.{Transition}
 use Rattle.tipc_pair.specs.declared.transitions.Transition.TheVariants.{ContactDown, ContactUp, LinkDown, LinkUp}
 use Rattle.tipc_pair.specs.Facing.{PairEnds, in_contact}
 use Rattle.tipc_node.specs.declared.neighbours.Neighbour.{Neighbour}
-use Rattle.tipc_node.specs.Neighbours.{is_of_contact}
+use Rattle.tipc_pair.specs.Contacts.{is_of_contact}
 use Rattle.tipc_node.specs.Nodes.{NodeState, acquaintance, change_entries, end_with, known_neighbour, known_node, neighbour_of}
-use Rattle.tipc_node.specs.Telling.{AreAbreast, IsTold}
+use Rattle.tipc_node.specs.Telling.{IsTold}
+use Rattle.tipc_pair.specs.LinkReadings.{AreAbreast}
 use Rattle.tipc_node.specs.Turns.{IsPlaced, NodeTurn, PeerTurn, addr_of, is_change_of, pair_in}
 use Rattle.tipc_node.proofs.journal.Turned.{other_word}
 use Rattle.tipc_node.proofs.names.SharingUnused.{peer_means}
 use Rattle.tipc_node.proofs.pairs.Knowing.{kept_of, known_contact}
-use Rattle.tipc_node.proofs.pairs.PairTells.{Means, Story, began, contact_changes, ended, stays}
+use Rattle.tipc_pair.proofs.turns.PairTells.{Means, Story, began, contact_changes, ended, stays}
 use Rattle.tipc_world.specs.Entered.{HasRisen, RiseBelow, entered_by, next_in, numbers_entered}
 use Rattle.tipc_world.specs.Members.{IsNewcomer, IsRestarted, known_member}
 use Rattle.tipc_world.specs.Shared.{AreShared}

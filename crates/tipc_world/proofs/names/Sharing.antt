@@ -6,7 +6,7 @@ use Rattle.tipc_outside.specs.declared.outgoing.Outgoing.{Outgoing}
 use Rattle.tipc_journal.specs.declared.entries.Entry.{Entry}
 use Rattle.tipc_contact.specs.Sides.{boot_of}
 use Rattle.tipc_paired.specs.Paired.{IsNode}
-use Rattle.tipc_twins.specs.Sights.{AreSeen, Sight}
+use Rattle.tipc_two_nodes.specs.Sights.{AreSeen, Sight}
 use Rattle.tipc_node.specs.declared.neighbours.Neighbour.{Neighbour}
 use Rattle.tipc_node.specs.Nodes.{end_with, neighbour_of}
 use Rattle.tipc_node.specs.Sharing.{IsUnused, SharesNames}
@@ -14,7 +14,7 @@ use Rattle.tipc_node.specs.Telling.{IsTold}
 use Rattle.tipc_world.specs.declared.events.WorldEvent.{WorldEvent}
 use Rattle.tipc_world.specs.declared.events.WorldEvent.TheVariants.{Know, Restart, Call, Arrive}
 use Rattle.tipc_world.specs.Calls.{node_of, CanHappenAt}
-use Rattle.tipc_world.specs.Deeds.{Does}
+use Rattle.tipc_world.specs.Effects.{HasEffect}
 use Rattle.tipc_world.specs.Due.{unarrived}
 use Rattle.tipc_world.specs.Entered.{HasRisen}
 use Rattle.tipc_world.specs.Events.{JoinsAt}
@@ -98,7 +98,7 @@ IsNew m (Know a peer bearer) = end_with bearer (neighbour_of m.node peer) ≡ No
 IsNew m other = Unit {0}
 
 does_shared : (s : Stage) (stamp : ℕ) (event : WorldEvent) (bytes : List ℕ) (m m' : MemberState) (frames : List Outgoing) (answered : Answer) → IsSound s.members s.air → slice_index_or s.members (node_of event) None ≡ Some m → IsNew m event → IsShared m
-    → Does stamp event bytes m m' frames answered → IsShared m'
+    → HasEffect stamp event bytes m m' frames answered → IsShared m'
 does_shared s stamp (Know a peer bearer) bytes m m' frames answered sound was new h d =
     same_boot m m' h (ap (λ (x : MemberState). x.past) d.0) (ap (λ (x : MemberState). x.node.boot) d.0) d.4 d.5
     (λ b. subst (λ x. HasRisen x b) (sym d.0) (know_rises m peer bearer b d.3 new h.told (h.rises b)))

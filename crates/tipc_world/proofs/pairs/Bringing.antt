@@ -12,8 +12,8 @@ use Rattle.tipc_link.proofs.LinkLaw.{Each}
 use Rattle.tipc_pair.specs.Facing.{PairEnds}
 use Rattle.tipc_pair.specs.PairTurns.{Happened, Opening, Outset, ShowsIn}
 use Rattle.tipc_pair.specs.Messages.{opened_in}
-use Rattle.tipc_twins.specs.Sights.{AreSeen, MayHappen, Sight, StaysIn, pair_seen}
-use Rattle.tipc_twins.proofs.sights.Sights.{gives}
+use Rattle.tipc_two_nodes.specs.Sights.{AreSeen, MayHappen, Sight, StaysIn, pair_seen}
+use Rattle.tipc_two_nodes.proofs.sights.Sights.{gives}
 use Rattle.tipc_node.specs.Turns.{NodeTurn}
 use Rattle.tipc_world.specs.Skies.{AirState}
 use Rattle.tipc_world.specs.Sound.{IsSound}

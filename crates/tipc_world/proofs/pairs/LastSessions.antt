@@ -21,14 +21,14 @@ use Rattle.tipc_pair.specs.Courses.{Course, going_on}
 use Rattle.tipc_pair.specs.Facing.{PairEnds, active, facing, in_contact, is_up_at, other, turned, with_made, with_near}
 use Rattle.tipc_pair.specs.PairArrivals.{Arrives, Heard, activate_higher, activates, behind, by_number, hears as heard_by, met_at, met_near, passing, reset_near}
 use Rattle.tipc_pair.specs.PairCalls.{answered_at, at_bearer, mended_near}
-use Rattle.tipc_pair.specs.PairTurns.{Happened, Opening, Outset, PairTurn, PutsAll, Reply, made_near, replied}
+use Rattle.tipc_pair.specs.PairTurns.{Happened, Opening, Outset, PairTurn, PutsAll, Reply, made_near, replied, IsOnOne}
 use Rattle.tipc_pair.specs.PairTurns.Opening.{cuts, hears, makes, mends, rests, ticks}
 use Rattle.tipc_pair.specs.PairTurns.PutsAll.{none_put, puts_one}
-use Rattle.tipc_pair.proofs.Facings.{facing_far, facing_near}
-use Rattle.tipc_node.specs.Turns.{IsOnOne}
-use Rattle.tipc_node.proofs.pairs.LinkSteps.{StepOf, outcome_steps}
-use Rattle.tipc_twins.proofs.sights.LastSessions.{KeepsLast, after_last, arrived_last, following_last, last_epoch, last_same, last_then, mapped_last, numbers_facing, quiet_last, released_last, risen_last}
-use Rattle.tipc_twins.proofs.sights.CallSessions.{answered_last, cut_last, mended_last, opens_last, puts_last, reset_last, ticked_last}
+use Rattle.tipc_pair.proofs.Facings.{facing_far, facing_near, facing_two as facing_low}
+use Rattle.tipc_pair.proofs.turns.LinkSteps.{StepOf, outcome_steps}
+use Rattle.tipc_two_nodes.proofs.sights.LastSessions.{KeepsLast, after_last, following_last, last_epoch, last_same, last_then, mapped_last, numbers_facing, quiet_last, released_last, risen_last}
+use Rattle.tipc_two_nodes.proofs.links.calls.Listening.{arrived_epoch as arrived_last}
+use Rattle.tipc_two_nodes.proofs.sights.CallSessions.{answered_last, cut_last, mended_last, opens_last, puts_last, reset_last, ticked_last}
 use Rattle.tipc_world.specs.Numbers.{end_on}
 use Rattle.tipc_world.proofs.pairs.Pairings.{first_end, second_end}
 
@@ -149,10 +149,6 @@ stays_of : (x y : PairEnds) → x.bearer ≡ 0 → KeepsLast x y → StaysLast x
 stays_of x y first k = record { first = k.bearer ∙ first; last = λ b. by_bearer x y b first (k.bearer ∙ first) (λ _. k.near) (λ _. k.far) }
 
 -- ---- what happens first
-
-facing_low : (bearer : ℕ) (x : PairEnds) → x.bearer ≤ 1 → (facing bearer x).bearer ≤ 1
-unfolding facing
-facing_low bearer x two = elim (x.bearer == bearer) as (λ b. (if b then x else turned x).bearer ≤ 1) [ true ↦ two | false ↦ omega arith ]
 
 -- an arrival that comes on the bearer finds the link there up
 abbrev pub IsSteady : PairEnds → ℕ → Opening → Type 0

@@ -10,12 +10,12 @@ use Rattle.tipc_outside.specs.Frames.{Out}
 use Rattle.tipc_journal.specs.Steps.{NodeStep}
 use Rattle.tipc_node.specs.Nodes.{end_with, known_frames, neighbour_of}
 use Rattle.tipc_node.specs.Turns.{IsRouted, is_out_to, is_to}
-use Rattle.tipc_node.proofs.turns.Addressing.{AreFor, IsFor, for_all}
+use Rattle.tipc_pair.proofs.turns.Addressing.{AreFor, IsFor, for_all}
 use Rattle.tipc_world.specs.declared.events.WorldEvent.{WorldEvent}
 use Rattle.tipc_world.specs.declared.events.WorldEvent.TheVariants.{Know, Restart, Call, Arrive}
 use Rattle.tipc_world.specs.Air.{IsOut}
 use Rattle.tipc_world.specs.Calls.{CanHappenAt, node_of}
-use Rattle.tipc_world.specs.Deeds.{Does}
+use Rattle.tipc_world.specs.Effects.{HasEffect}
 use Rattle.tipc_world.specs.Events.{AreSettled, DidAt}
 use Rattle.tipc_world.specs.Members.{known_member}
 use Rattle.tipc_world.specs.Skies.{AirState}
@@ -93,7 +93,7 @@ there_number members air n sound there = let m = the_some (slice_index_or member
 
 -- of any event
 pub all_out : (s : Stage) (stamp : ℕ) (event : WorldEvent) (bytes : List ℕ) (before after : MemberState) (frames : List Outgoing) (answered : Answer) → IsSound s.members s.air
-    → slice_index_or s.members (node_of event) None ≡ Some before → IsReady s.members s.air event bytes before → Does stamp event bytes before after frames answered → All (IsOut (node_of event)) frames
+    → slice_index_or s.members (node_of event) None ≡ Some before → IsReady s.members s.air event bytes before → HasEffect stamp event bytes before after frames answered → All (IsOut (node_of event)) frames
 all_out s stamp (Know a peer bearer) bytes before after frames answered sound was ready h =
     known_out s a peer bearer before after frames sound was h.0 h.1 (there_number s.members s.air peer sound ready.1) ready.0 ready.2 (not_known s.members a peer bearer before was ready.2 ready.3) h.3
 all_out s stamp (Restart a) bytes before after frames answered sound was ready h = subst (All (IsOut a)) (sym h.1) (All-nil (IsOut a))

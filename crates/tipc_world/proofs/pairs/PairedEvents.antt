@@ -10,13 +10,13 @@ use Rattle.tipc_journal.specs.Steps.{NodeStep}
 use Rattle.tipc_node.specs.Nodes.{step_of}
 use Rattle.tipc_node.specs.Sockets.{kept_answer}
 use Rattle.tipc_node.specs.Calls.{Performs}
-use Rattle.tipc_twins.specs.Sights.{Comes}
+use Rattle.tipc_two_nodes.specs.Sights.{Comes}
 use Rattle.tipc_world.specs.declared.air.Sent.{Sent}
 use Rattle.tipc_world.specs.Skies.{AirState}
 use Rattle.tipc_world.specs.declared.events.WorldEvent.{WorldEvent}
 use Rattle.tipc_world.specs.declared.events.WorldEvent.TheVariants.{Know, Restart, Call, Arrive}
 use Rattle.tipc_world.specs.Calls.{node_of}
-use Rattle.tipc_world.specs.Deeds.{Does, Makes, Meets}
+use Rattle.tipc_world.specs.Effects.{HasEffect, Makes, Meets}
 use Rattle.tipc_world.specs.Due.{frame_for, unarrived}
 use Rattle.tipc_world.specs.Members.{by_in}
 use Rattle.tipc_world.specs.Sound.{IsSound}
@@ -84,7 +84,7 @@ pub ready_out : (s : Stage) (a bearer place : ℕ) (bytes : List ℕ) (m : Membe
 ready_out s a bearer place bytes m sound ready number = subst (ComesOut s a (note.Arrive bearer number)) (sym ready.3) (comes_out s a bearer place ready.0 sound ready.1 ready.2 number)
 
 pub does_pair : (old new : Stage) (stamp : ℕ) (event : WorldEvent) (bytes : List ℕ) (before after : MemberState) (frames : List Outgoing) (answered : Answer) (lost : Bool) → IsSound old.members old.air
-    → Turns old new (node_of event) before after frames lost → IsReady old.members old.air event bytes before → Does stamp event bytes before after frames answered → AllPaired new
+    → Turns old new (node_of event) before after frames lost → IsReady old.members old.air event bytes before → HasEffect stamp event bytes before after frames answered → AllPaired new
 does_pair old new stamp (Know a peer bearer) bytes before after frames answered lost sound t ready h =
     know_pairs old new a peer bearer before after frames lost sound t h.0 h.1 (sound.numbered a before t.was).1 ready.2 (not_known old.members a peer bearer before t.was ready.2 ready.3) h.3
 does_pair old new stamp (Restart a) bytes before after frames answered lost sound t ready h = restart_pairs old new a before after frames lost sound.pairs t h.0 h.1 ready

@@ -13,13 +13,14 @@ use Rattle.tipc_pair.specs.Messages.{IsMessage}
 use Rattle.tipc_pair.specs.PairTurns.{PairTurn, made_near}
 use Rattle.tipc_pair.specs.PairTurns.Opening.{makes}
 use Rattle.tipc_pair.specs.PairTurns.PutsAll.{none_put}
-use Rattle.tipc_twins.specs.Sights.{HasSession, Restarts, pair_seen}
-use Rattle.tipc_twins.proofs.sights.LastSessions.{last_epoch}
-use Rattle.tipc_twins.proofs.sights.Sights.{restarted}
+use Rattle.tipc_two_nodes.specs.Sights.{HasSession, Restarts, pair_seen}
+use Rattle.tipc_two_nodes.proofs.sights.LastSessions.{last_epoch}
+use Rattle.tipc_two_nodes.proofs.sights.Sights.{restarted}
 use Rattle.tipc_node.specs.declared.neighbours.Neighbour.{Neighbour}
 use Rattle.tipc_node.specs.Nodes.{acquaintance, end_with, is_mended_on, known_course, known_frames, known_neighbour, neighbour_of}
-use Rattle.tipc_node.specs.Turns.{IsEndTo, frames_to, pair_in}
-use Rattle.tipc_node.proofs.turns.Addressing.{AreFor, mend_for}
+use Rattle.tipc_node.specs.Turns.{frames_to, pair_in}
+use Rattle.tipc_pair.specs.Addressed.{IsEndTo}
+use Rattle.tipc_pair.proofs.turns.Addressing.{AreFor, mend_for}
 use Rattle.tipc_pair.proofs.turns.PairKept.{facing_own, facing_peer}
 use Rattle.tipc_node.proofs.turns.Shares.{frames_to-other, frames_to-own}
 use Rattle.tipc_world.specs.Members.{IsRestarted, known_member}

@@ -1,9 +1,8 @@
 -- A node's turn leaves it paired with each other node.
 use Rattle.std.proofs.Common.{◌⊎◌, ◌≡◌, ◌≢◌, ℕ, Bool, true, false, List, [], ◌∷◌, ◌++◌, Option, Some, None, map, option_map, refl, sym, ap, ◌∙◌, subst, inl, inr, arith}
-use Rattle.std.specs.Prelude.{if◌then◌else◌, is_some}
+use Rattle.std.specs.Prelude.{if◌then◌else◌, is_some, All}
 use Rattle.std.proofs.lemmas.Bool.Decides.{nat_tests}
 use Rattle.std.proofs.lemmas.List.Elements.{All-head, All-tail}
-use Rattle.std.specs.Prelude.{All}
 use Rattle.tipc_types.specs.Address.{node_word}
 use Rattle.tipc_types.specs.LinkStates.{is_up}
 use Rattle.tipc_types.specs.declared.link_words.BroadcastState.{BroadcastState}
@@ -19,16 +18,16 @@ use Rattle.tipc_link.specs.Links.{LinkEnd}
 use Rattle.tipc_link.specs.Sessions.{SessionEnd}
 use Rattle.tipc_pair.specs.Facing.{PairEnds, is_up_at}
 use Rattle.tipc_pair.specs.Messages.{IsMessage, opened_in}
-use Rattle.tipc_pair.specs.PairTurns.{Opening, PairTurn, Reply, ShowsAtLast, ShowsIn}
+use Rattle.tipc_pair.specs.PairTurns.{Opening, PairTurn, Reply, ShowsAtLast, ShowsIn, Suits}
 use Rattle.tipc_pair.specs.PairTurns.Opening.{cuts, hears, makes, mends, rests, ticks}
-use Rattle.tipc_twins.specs.Sights.{AreSeen, Goes, HasSession, MayHappen, Sight, pair_seen}
-use Rattle.tipc_twins.proofs.sights.Sights.{turns}
-use Rattle.tipc_twins.proofs.sights.LastSessions.{last_epoch}
+use Rattle.tipc_two_nodes.specs.Sights.{AreSeen, Goes, HasSession, MayHappen, Sight, pair_seen}
+use Rattle.tipc_two_nodes.proofs.sights.Sights.{turns}
+use Rattle.tipc_two_nodes.proofs.sights.LastSessions.{last_epoch}
 use Rattle.tipc_node.specs.declared.neighbours.Neighbour.{Neighbour}
 use Rattle.tipc_node.specs.Messages.{bytes_of}
 use Rattle.tipc_node.specs.Nodes.{NodeState, neighbour_of}
 use Rattle.tipc_node.specs.Telling.{IsTold}
-use Rattle.tipc_node.specs.Turns.{IsBrought, IsRouted, NeighbourTurn, NodeTurn, PeerTurn, Suits, addr_of, frames_to, is_out_to, is_to, pair_in}
+use Rattle.tipc_node.specs.Turns.{IsBrought, IsRouted, NeighbourTurn, NodeTurn, PeerTurn, addr_of, frames_to, is_out_to, is_to, pair_in}
 use Rattle.tipc_world.specs.Members.{noted, over_with, sender_of}
 use Rattle.tipc_world.specs.Sound.{IsNumber, IsSound}
 use Rattle.tipc_world.specs.Numbers.{end_on}

@@ -5,7 +5,7 @@ use Rattle.tipc_types.specs.Address.{node_word}
 use Rattle.tipc_pair.specs.Facing.{PairEnds, alone, contact_between, facing, in_contact, is_up_at}
 use Rattle.tipc_pair.proofs.Facings.{facing_far, facing_near}
 use Rattle.tipc_paired.specs.Views.{Node}
-use Rattle.tipc_twins.specs.Sights.{pair_seen, told_in}
+use Rattle.tipc_two_nodes.specs.Sights.{pair_seen, told_in}
 use Rattle.tipc_world.specs.Numbers.{begun_of, end_on, own_in, seen_in}
 use Rattle.tipc_world.specs.Skies.{AirState}
 use Rattle.tipc_world.specs.Sound.{IsPairOf}

@@ -1,7 +1,7 @@
 -- What a sound world says of a node and its neighbours.
 use Rattle.std.proofs.Common.{◌⊎◌, ◌≡◌, ◌≢◌, ℕ, List, Option, Some, None, option_map, slice_index_or, ap, ◌∙◌, inl, inr, arith}
 use Rattle.std.proofs.lemmas.Bool.{cases_lt}
-use Rattle.tipc_twins.specs.Sights.{pair_seen}
+use Rattle.tipc_two_nodes.specs.Sights.{pair_seen}
 use Rattle.tipc_node.specs.declared.neighbours.Neighbour.{Neighbour}
 use Rattle.tipc_node.specs.Nodes.{neighbour_of}
 use Rattle.tipc_world.specs.Skies.{AirState}

@@ -6,8 +6,8 @@ use Rattle.std.proofs.lemmas.Bool.Decides.{nat_tests}
 use Rattle.tipc_types.specs.Address.{node_word}
 use Rattle.tipc_outside.specs.declared.outgoing.Outgoing.{Outgoing}
 use Rattle.tipc_pair.specs.Facing.{PairEnds, facing}
-use Rattle.tipc_twins.specs.Sights.{AreSeen, Goes, HasSession, IsSent, Sight, come}
-use Rattle.tipc_twins.proofs.sights.Sights.{turned}
+use Rattle.tipc_two_nodes.specs.Sights.{AreSeen, Goes, HasSession, IsSent, Sight, come}
+use Rattle.tipc_two_nodes.proofs.sights.Sights.{turned}
 use Rattle.tipc_world.specs.Sound.{IsNumber}
 use Rattle.tipc_node.specs.Turns.{frames_to, pair_in}
 use Rattle.tipc_world.specs.States.{MemberState, boot_at, contact_at, count_at, count_of, history, history_at, link_in, member_at, pair_at}

@@ -15,7 +15,8 @@ use Rattle.tipc_world.specs.Skies.{AirState}
 use Rattle.tipc_world.specs.Lawful.{AreLawful, HasBegun, IsWithin}
 use Rattle.tipc_world.specs.States.{MemberState, accepted_at, delivered_at, history, history_at, member_at, stream_of}
 use Rattle.tipc_node.specs.Turns.{addr_of}
-use Rattle.tipc_world.proofs.streams.Within.{get_longer, of_either, of_later}
+use Rattle.tipc_world.proofs.streams.Within.{of_either, of_later}
+use Rattle.tipc_link.proofs.Directions.{slice_get-append as get_longer}
 
 -- ---- the journals of all boots
 

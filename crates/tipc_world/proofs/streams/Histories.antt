@@ -21,7 +21,7 @@ use Rattle.tipc_pair.specs.Facing.{PairEnds}
 use Rattle.tipc_pair.specs.Messages.{opened_in}
 use Rattle.tipc_node.specs.Messages.{message_in}
 use Rattle.tipc_node.specs.Nodes.{accepted_entry, shown_contact}
-use Rattle.tipc_node.specs.Turns.{delivered_message as delivery_of, delivered_of, given_entries, is_accepted_for, is_delivered_from}
+use Rattle.tipc_node.specs.Turns.{delivered_entries as delivery_of, delivered_of, given_entries, is_accepted_for, is_delivered_from}
 use Rattle.tipc_node.proofs.journal.Telling.{same_word}
 use Rattle.tipc_world.specs.Members.{IsRestarted}
 use Rattle.tipc_world.specs.States.{MemberState, history, stream_of}

@@ -17,7 +17,7 @@ use Rattle.tipc_world.specs.Steps.{IsJoined}
 use Rattle.tipc_world.proofs.LookUps.{history_at-is, history_at-same, member_at-is}
 use Rattle.tipc_world.proofs.streams.StreamsKept.{StreamsSound, accepted_by, delivered_by}
 
-no_history : (m : MemberState) (n : ℕ) → IsNewcomer m n → history m ≡ []
+pub no_history : (m : MemberState) (n : ℕ) → IsNewcomer m n → history m ≡ []
 unfolding history
 no_history m n h = ap (λ p. flat_map (λ entries. entries) p ++ m.node.journal) h.past ∙ h.node.no_history
 
@@ -64,7 +64,7 @@ fewer_keep_streams members members' h f = record {
   nothing = λ n b own theirs. none_or_same_nothing members members' n b own theirs h (f.each n);
 }
 
-member_alike : (members members' : List (Option MemberState)) (n : ℕ) → slice_index_or members' n None ≡ slice_index_or members n None → member_at members' n ≡ member_at members n
+pub member_alike : (members members' : List (Option MemberState)) (n : ℕ) → slice_index_or members' n None ≡ slice_index_or members n None → member_at members' n ≡ member_at members n
 unfolding member_at
 member_alike members members' n same = same
 

@@ -28,13 +28,13 @@ use Rattle.tipc_link.proofs.LinkLaw.{Each, Each-append, Each-none, Each-one}
 use Rattle.tipc_pair.specs.Facing.{PairEnds}
 use Rattle.tipc_pair.specs.PairTurns.{Outset}
 use Rattle.tipc_pair.specs.Messages.{opened_in}
-use Rattle.tipc_twins.specs.Sights.{StaysIn}
+use Rattle.tipc_two_nodes.specs.Sights.{StaysIn}
 use Rattle.tipc_node.specs.declared.neighbours.Neighbour.{Neighbour}
 use Rattle.tipc_node.specs.Nodes.{NodeState, accepted_entry, neighbour_of}
 use Rattle.tipc_node.specs.Messages.{IsSendable, bytes_of, message_in}
 use Rattle.tipc_node.specs.Turns.{IsOfNeighbour, IsPlaced, NodeTurn, PeerTurn, given_entries, is_accepted_for, is_delivered_from}
 use Rattle.tipc_node.proofs.Filters.{filter-none}
-use Rattle.tipc_node.proofs.pairs.PairPuts.{MeetsAs, puts_meet, replied_meets}
+use Rattle.tipc_pair.proofs.turns.PairPuts.{MeetsAs, puts_meet, replied_meets}
 use Rattle.tipc_world.specs.States.{stream_of}
 use Rattle.tipc_world.specs.Views.{given_in, put_in}
 use Rattle.tipc_world.proofs.streams.Histories.{accepted_grows, accepted_holds, come_to, delivered_grows, given_holds, messages_given}

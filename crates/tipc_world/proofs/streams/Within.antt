@@ -8,6 +8,7 @@ use Rattle.tipc_journal.specs.Contacts.{contact, contact_after}
 use Rattle.tipc_journal.specs.Steps.{step_entries, NodeStep, PlacedStep}
 use Rattle.tipc_world.specs.Causes.{Seen}
 use Rattle.tipc_world.specs.Lawful.{after, HasBegun, IsLawfulEntry, IsLawfulStep, IsWithin}
+use Rattle.tipc_link.proofs.Directions.{slice_get-append as get_longer}
 
 -- an element of two lists is of one of them
 pub of_either : {A : Type 0} (xs ys : List A) (k : ℕ) (x : A) → slice_get (xs ++ ys) k ≡ Some x → (slice_get xs k ≡ Some x) ⊎ ((j : ℕ) × (slice_get ys j ≡ Some x))
@@ -18,11 +19,6 @@ of_either (z ∷ zs) ys (suc k) x there = of_either zs ys k x there
 pub of_later : {A : Type 0} (xs ys : List A) (k : ℕ) (x : A) → slice_get ys k ≡ Some x → (j : ℕ) × (slice_get (xs ++ ys) j ≡ Some x)
 of_later [] ys k x there = (k, there)
 of_later (z ∷ zs) ys k x there = let later = of_later zs ys k x there in (suc later.0, later.1)
-
-pub get_longer : {A : Type 0} (xs ys : List A) (k : ℕ) (x : A) → slice_get xs k ≡ Some x → slice_get (xs ++ ys) k ≡ Some x
-get_longer [] ys k x there = absurd cc
-get_longer (z ∷ zs) ys zero x there = there
-get_longer (z ∷ zs) ys (suc k) x there = get_longer zs ys k x there
 
 -- ---- a contact began
 

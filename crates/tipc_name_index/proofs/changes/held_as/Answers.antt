@@ -1,6 +1,6 @@
 use Rattle.std.proofs.Common.{ap, ◌∙◌}
 use Rattle.std.specs.Prelude.{find}
-use Rattle.tipc_name_table.specs.Tables.{is_named, is_of}
+use Rattle.tipc_types.specs.Tables.{is_named, is_of}
 use Rattle.tipc_name_index.proofs.Same.{find_kept, named_of}
 use Rattle.tipc_name_index.proofs.changes.held_as.Goals as goal
 

@@ -1,7 +1,7 @@
 use Rattle.std.proofs.Common.{length, ap, ◌∙◌}
 use Rattle.std.specs.List.{list_any}
 use Rattle.std.proofs.lemmas.List.Sums.{length-filter}
-use Rattle.tipc_name_table.specs.Tables.{is_named, is_of}
+use Rattle.tipc_types.specs.Tables.{is_named, is_of}
 use Rattle.tipc_name_index.proofs.Same.{any_kept, named_of}
 use Rattle.tipc_name_index.proofs.changes.held_of.Goals as goal
 

@@ -1,7 +1,7 @@
 use Rattle.std.proofs.Common.{List, ◌∷◌, ◌++◌, filter, not, sym, ap, ap₂, ◌∙◌}
 use Rattle.std.specs.Prelude.{insert}
 use Rattle.tipc_types.specs.declared.services.Publication.{Publication}
-use Rattle.tipc_name_table.specs.Tables.{stands_before}
+use Rattle.tipc_types.specs.Tables.{stands_before}
 use Rattle.tipc_name_index.proofs.Places.{put_is}
 use Rattle.tipc_name_index.proofs.changes.put_both.Goals as goal
 

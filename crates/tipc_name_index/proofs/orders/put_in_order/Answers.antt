@@ -3,7 +3,7 @@ use Rattle.std.proofs.lemmas.Fn.{always_returns_same}
 use Rattle.std.proofs.lemmas.List.Sorted.{ranks_by}
 use Rattle.std.proofs.lemmas.Cmp.{nat_list_cmp_total}
 use Rattle.std.specs.Ordering.{is_lt}
-use Rattle.tipc_name_table.specs.Tables.{place_of, stands_before}
+use Rattle.tipc_types.specs.Tables.{place_of, stands_before}
 use Rattle.tipc_name_index.proofs.orders.put_in_order.Goals as goal
 
 pub returns-clause-ordered : goal.returns-clause-ordered

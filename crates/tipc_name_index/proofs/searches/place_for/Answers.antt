@@ -2,7 +2,7 @@ use Rattle.std.proofs.Common.{rules}
 use Rattle.std.proofs.lemmas.List.Sorted.{IsPartitionPoint-from_clause}
 use Rattle.tipc_name_index.proofs.Order.{before_rises, partitioned, split_at}
 use Rattle.tipc_name_index.proofs.Places.{places_total}
-use Rattle.tipc_name_table.specs.Tables.{place_cmp, stands_before}
+use Rattle.tipc_types.specs.Tables.{place_cmp, stands_before}
 use Rattle.tipc_name_index.proofs.searches.place_for.Goals as goal
 
 pub returns-clause-before : goal.returns-clause-before

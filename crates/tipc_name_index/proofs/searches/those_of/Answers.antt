@@ -5,7 +5,7 @@ use Rattle.std.proofs.lemmas.List.{take_rest}
 use Rattle.std.proofs.lemmas.List.Kept.{IsStrictlySortedBy-filter}
 use Rattle.std.proofs.lemmas.List.Sorted.{IsPartitionPoint-from_clause}
 use Rattle.tipc_types.specs.declared.services.Publication.{Publication}
-use Rattle.tipc_name_table.specs.Tables.{is_of, place_cmp}
+use Rattle.tipc_types.specs.Tables.{is_of, place_cmp}
 use Rattle.tipc_name_index.proofs.Order.{filters_join, partitioned, split_at}
 use Rattle.tipc_name_index.proofs.Places.{below_node, node_between, upto_node}
 use Rattle.tipc_name_index.proofs.searches.those_of.Goals as goal

@@ -1,4 +1,4 @@
-use Rattle.tipc_name_table.proofs.Places.{kept_in_order}
+use Rattle.tipc_types.proofs.Places.{kept_in_order}
 use Rattle.tipc_name_table.proofs.TableLaws.{closest_in_order}
 use Rattle.tipc_name_table.proofs.laws.look_ups_are_in_order.Goals as goal
 

@@ -1,4 +1,4 @@
-use Rattle.tipc_name_table.proofs.Places.{filter-put}
+use Rattle.tipc_types.proofs.Places.{filter-put}
 use Rattle.tipc_name_table.proofs.TableLaws.{put_held, put_itself, put_others}
 use Rattle.tipc_name_table.proofs.laws.one_more_is_published.Goals as goal
 

@@ -1,5 +1,5 @@
 use Rattle.std.proofs.Common.{not}
-use Rattle.tipc_name_table.specs.Tables.{is_named, is_of}
+use Rattle.tipc_types.specs.Tables.{is_named, is_of}
 use Rattle.tipc_name_table.proofs.TableLaws.{filters_commute}
 use Rattle.tipc_name_table.proofs.laws.some_are_taken_out.Goals as goal
 

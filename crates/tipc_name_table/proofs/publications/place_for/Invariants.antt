@@ -1,5 +1,5 @@
 use Rattle.std.proofs.Common.{◌≡◌, ◌≤◌, ◌-◌, ◌++◌, length, take, drop}
-use Rattle.tipc_name_table.specs.Tables.{put}
+use Rattle.tipc_types.specs.Tables.{put}
 use Rattle.tipc_name_table.proofs.publications.place_for.Given as goal
 
 -- the publications before the place stand before the new one

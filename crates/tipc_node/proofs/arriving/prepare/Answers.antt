@@ -1,9 +1,8 @@
 use Rattle.std.proofs.Common.{sym, subst}
 use Rattle.std.specs.Prelude.{All}
 use Rattle.tipc_header.specs.Spelling.{view}
-use Rattle.tipc_pair.specs.Messages.{opened_in}
-use Rattle.tipc_node.specs.Deliveries.{HasNoFault}
-use Rattle.tipc_node.proofs.work.Faults.{prepared_sound}
+use Rattle.tipc_pair.specs.Messages.{opened_in, HasNoFault}
+use Rattle.tipc_pair.proofs.turns.Faults.{prepared_sound}
 use Rattle.tipc_node.proofs.arriving.prepare.Goals as goal
 
 pub prepare_deliveries-requires-clause-sound : goal.prepare_deliveries-requires-clause-sound

@@ -7,7 +7,7 @@ use Rattle.tipc_node.specs.Works.{work_of}
 use Rattle.tipc_node.proofs.work.Changes.{same_then}
 use Rattle.tipc_node.proofs.work.Delivering.{part_last, part_next}
 use Rattle.tipc_node.proofs.work.Stable.{delivered_same}
-use Rattle.tipc_node.proofs.work.Surely.{and_right}
+use Rattle.tipc_pair.proofs.Quietly.{second_of as and_right}
 use Rattle.tipc_node.proofs.delivery.deliver_all.Goals as goal
 
 pub deliver-requires-clause-own : goal.deliver-requires-clause-own

@@ -3,7 +3,7 @@ use Rattle.tipc_types.specs.declared.identity.Addr.{Addr}
 use Rattle.tipc_node.specs.Messages.{destination_of}
 use Rattle.tipc_node.proofs.work.Restoring.{kept_changed}
 use Rattle.tipc_node.proofs.work.Returning.{contact_to, payload_carried}
-use Rattle.tipc_node.proofs.work.Taking.{place_is}
+use Rattle.tipc_node.proofs.work.Wayfaring.{read_at as place_is}
 use Rattle.tipc_node.proofs.delivery.send_back.Goals as goal
 
 pub put_on-requires-clause-carried : goal.put_on-requires-clause-carried

@@ -12,7 +12,8 @@ use Rattle.tipc_node.proofs.work.Changes.{same_folded}
 use Rattle.tipc_node.proofs.work.Greeting.{contact_placed}
 use Rattle.tipc_node.proofs.work.Hearings.{prepared_there, same_neighbour}
 use Rattle.tipc_node.proofs.work.Restoring.{kept_changed}
-use Rattle.tipc_node.proofs.work.Taking.{heard_plain, place_is, told_changes, told_work}
+use Rattle.tipc_node.proofs.work.Taking.{heard_plain, told_changes, told_work}
+use Rattle.tipc_node.proofs.work.Wayfaring.{read_at as place_is}
 use Rattle.tipc_node.proofs.following.hear_there.Goals as goal
 
 pub hear-given-requires : goal.hear-given-requires

@@ -1,6 +1,6 @@
 use Rattle.std.proofs.Common.{◌∙◌}
 use Rattle.std.proofs.lemmas.Result.{IfOk-weaker}
-use Rattle.tipc_node.proofs.work.Learning.{learn_fits}
+use Rattle.tipc_sockets.proofs.Learning.{learn_fits}
 use Rattle.tipc_node.proofs.items.apply_item.Goals as goal
 
 pub returns-else-withdrawal-clause-told : goal.returns-else-withdrawal-clause-told

@@ -2,7 +2,7 @@ use Rattle.std.proofs.Common.{Option, fold, ap, sym, ◌∙◌}
 use Rattle.std.specs.Prelude.{option_to_list}
 use Rattle.tipc_journal.specs.declared.entries.Entry.{Entry}
 use Rattle.tipc_sockets.specs.Telling.{after_entry}
-use Rattle.tipc_node.proofs.work.Learning.{applying_next}
+use Rattle.tipc_sockets.proofs.Learning.{applying_next}
 use Rattle.tipc_node.proofs.items.apply_items.Goals as goal
 
 pub loop-place-preserved : goal.loop-place-preserved

@@ -1,4 +1,4 @@
-use Rattle.tipc_node.proofs.work.Learning.{IsApplying}
+use Rattle.tipc_sockets.proofs.Learning.{IsApplying}
 use Rattle.tipc_node.proofs.items.apply_items.Given as goal
 
 -- those before the place are applied and told

@@ -1,4 +1,4 @@
-use Rattle.tipc_node.proofs.work.Learning.{forgot_is}
+use Rattle.tipc_sockets.proofs.Learning.{forgot_is}
 use Rattle.tipc_node.proofs.items.forget.Goals as goal
 
 pub returns-in-Ok-clause-after : goal.returns-in-Ok-clause-after

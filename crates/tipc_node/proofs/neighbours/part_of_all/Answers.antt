@@ -6,9 +6,9 @@ pub loop-number-init : goal.loop-number-init
 loop-number-init c =
     let event = c.args.event.now in
     let old = c.args.neighbours.now in
-    subst (λ es. IsPartway c.args.deed old c.push.new.self.items es event.states event.states event.numbered event.numbered 1) (sym c.requires.empty)
-    (subst (λ xs. IsPartway c.args.deed old xs [] event.states event.states event.numbered event.numbered 1) (sym c.in_ok-push.ensures.items)
-    (subst (λ xs. IsPartway c.args.deed old (xs ++ None ∷ []) [] event.states event.states event.numbered event.numbered 1) (sym c.new-after.ensures.items) (part_first c.args.deed old event.states event.numbered c.requires.wide c.requires.nobody)))
+    subst (λ es. IsPartway c.args.upkeep old c.push.new.self.items es event.states event.states event.numbered event.numbered 1) (sym c.requires.empty)
+    (subst (λ xs. IsPartway c.args.upkeep old xs [] event.states event.states event.numbered event.numbered 1) (sym c.in_ok-push.ensures.items)
+    (subst (λ xs. IsPartway c.args.upkeep old (xs ++ None ∷ []) [] event.states event.states event.numbered event.numbered 1) (sym c.new-after.ensures.items) (part_first c.args.upkeep old event.states event.numbered c.requires.wide c.requires.nobody)))
 
 pub loop-number-preserved : goal.loop-number-preserved
 loop-number-preserved c =
@@ -16,8 +16,8 @@ loop-number-preserved c =
     let part = c.in_ok-part_of.ensures in
     let wide = c.requires.wide in
     let below = c.loop-number-test.true in
-    subst (λ xs. IsPartway c.args.deed c.args.neighbours.now xs c.part_of.new.event.inside.items event.states c.part_of.new.event.states event.numbered c.part_of.new.event.numbered (c.loop-number.number + 1)) (sym c.in_ok-push-2.ensures.items)
-    (part_next c.args.deed c.args.neighbours.now c.loop-number.after.items c.loop-number.event.inside.items c.part_of.new.event.inside.items event.states c.loop-number.event.states c.part_of.new.event.states
+    subst (λ xs. IsPartway c.args.upkeep c.args.neighbours.now xs c.part_of.new.event.inside.items event.states c.part_of.new.event.states event.numbered c.part_of.new.event.numbered (c.loop-number.number + 1)) (sym c.in_ok-push-2.ensures.items)
+    (part_next c.args.upkeep c.args.neighbours.now c.loop-number.after.items c.loop-number.event.inside.items c.part_of.new.event.inside.items event.states c.loop-number.event.states c.part_of.new.event.states
     event.numbered c.loop-number.event.numbered c.part_of.new.event.numbered c.loop-number.number c.index-neighbours-number.result _ c.loop-number.invariant (omega (arith, wide, below)) c.index-neighbours-number.is part.after part.states part.numbered part.entries)
 
 pub returns-clause-after : goal.returns-clause-after
@@ -25,7 +25,7 @@ returns-clause-after c =
     let event = c.args.event.now in
     let wide = c.requires.wide in
     let past = c.loop-number-test.false in
-    (part_last c.args.deed c.args.neighbours.now c.loop-number.after.items c.loop-number.event.inside.items event.states c.loop-number.event.states event.numbered c.loop-number.event.numbered c.loop-number.number
+    (part_last c.args.upkeep c.args.neighbours.now c.loop-number.after.items c.loop-number.event.inside.items event.states c.loop-number.event.states event.numbered c.loop-number.event.numbered c.loop-number.number
     c.loop-number.invariant (omega (arith, wide, past))).neighbours
 
 pub returns-clause-entries : goal.returns-clause-entries
@@ -33,7 +33,7 @@ returns-clause-entries c =
     let event = c.args.event.now in
     let wide = c.requires.wide in
     let past = c.loop-number-test.false in
-    (part_last c.args.deed c.args.neighbours.now c.loop-number.after.items c.loop-number.event.inside.items event.states c.loop-number.event.states event.numbered c.loop-number.event.numbered c.loop-number.number
+    (part_last c.args.upkeep c.args.neighbours.now c.loop-number.after.items c.loop-number.event.inside.items event.states c.loop-number.event.states event.numbered c.loop-number.event.numbered c.loop-number.number
     c.loop-number.invariant (omega (arith, wide, past))).entries
 
 pub returns-clause-states : goal.returns-clause-states
@@ -41,7 +41,7 @@ returns-clause-states c =
     let event = c.args.event.now in
     let wide = c.requires.wide in
     let past = c.loop-number-test.false in
-    (part_last c.args.deed c.args.neighbours.now c.loop-number.after.items c.loop-number.event.inside.items event.states c.loop-number.event.states event.numbered c.loop-number.event.numbered c.loop-number.number
+    (part_last c.args.upkeep c.args.neighbours.now c.loop-number.after.items c.loop-number.event.inside.items event.states c.loop-number.event.states event.numbered c.loop-number.event.numbered c.loop-number.number
     c.loop-number.invariant (omega (arith, wide, past))).states_are
 
 pub returns-clause-numbered : goal.returns-clause-numbered
@@ -49,5 +49,5 @@ returns-clause-numbered c =
     let event = c.args.event.now in
     let wide = c.requires.wide in
     let past = c.loop-number-test.false in
-    (part_last c.args.deed c.args.neighbours.now c.loop-number.after.items c.loop-number.event.inside.items event.states c.loop-number.event.states event.numbered c.loop-number.event.numbered c.loop-number.number
+    (part_last c.args.upkeep c.args.neighbours.now c.loop-number.after.items c.loop-number.event.inside.items event.states c.loop-number.event.states event.numbered c.loop-number.event.numbered c.loop-number.number
     c.loop-number.invariant (omega (arith, wide, past))).numbered_are

@@ -1,6 +1,6 @@
 use Rattle.std.proofs.Common.{◌≡◌, [], ◌++◌, refl, sym, ap, ◌∙◌, rules}
 use Rattle.tipc_journal.specs.declared.entries.Entry.TheVariants.{Step, Answered}
-use Rattle.tipc_node.proofs.work.Rooms.{first_room, last_room, next_room}
+use Rattle.tipc_journal.proofs.StepRooms.{first_room, last_room, next_room}
 use Rattle.tipc_node.proofs.recording.record.Goals as goal
 
 pub commit-requires-clause-room : goal.commit-requires-clause-room

@@ -1,6 +1,6 @@
 use Rattle.std.proofs.Common.{◌≤◌, ◌+◌, length}
 use Rattle.tipc_journal.specs.declared.entries.Entry.TheVariants.{Step}
-use Rattle.tipc_node.proofs.work.Rooms.{IsUnder}
+use Rattle.tipc_journal.proofs.StepRooms.{IsUnder}
 use Rattle.tipc_node.proofs.recording.record.Given as goal
 
 abbrev pub invariant-loop-entry : goal.invariant-loop-entry

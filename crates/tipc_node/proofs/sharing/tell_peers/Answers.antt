@@ -1,6 +1,6 @@
 use Rattle.std.proofs.Common.{refl, sym, ◌∙◌}
 use Rattle.tipc_node.specs.Drafts.{drafted}
-use Rattle.tipc_node.specs.Works.{in_contact}
+use Rattle.tipc_node.specs.Works.{peers_in_contact}
 use Rattle.tipc_node.proofs.work.Tellings.{no_messages, telling_first, telling_last, telling_next, told_nothing}
 use Rattle.tipc_node.proofs.sharing.tell_peers.Goals as goal
 
@@ -8,7 +8,7 @@ pub returns-then-is_empty-clause-told : goal.returns-then-is_empty-clause-told
 returns-then-is_empty-clause-told c = λ s.
     let xs = c.args.neighbours.now.items in
     let none = no_messages c.args.messages.now (sym c.is_empty.ensures ∙ c.if-is_empty.true) in
-    told_nothing c.args.own.word (drafted xs s c.args.draft.now) c.args.messages.now (in_contact xs) c.args.draft.now.out none
+    told_nothing c.args.own.word (drafted xs s c.args.draft.now) c.args.messages.now (peers_in_contact xs) c.args.draft.now.out none
 
 pub loop-peer-init : goal.loop-peer-init
 loop-peer-init c = (telling_first c.args.own.word c.args.messages.now c.args.neighbours.now.items c.args.draft.now.inside.items c.args.draft.now.out, c.requires.tables, refl)

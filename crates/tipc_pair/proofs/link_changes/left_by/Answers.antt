@@ -6,7 +6,8 @@ use Rattle.tipc_send_window.specs.Sending.{acked_of}
 use Rattle.tipc_pair.specs.Runs.{BeginsWithTunnel, IsListed}
 use Rattle.tipc_pair.proofs.EndSteps.{session_is}
 use Rattle.tipc_pair.proofs.Followings.{some_there}
-use Rattle.tipc_pair.proofs.RunFacts.{begins_with_tunnel, kept_length, kept_listed, plain_listed, run_listed, run_some}
+use Rattle.tipc_pair.proofs.RunFacts.{begins_with_tunnel, kept_listed, plain_listed, run_listed, run_some}
+use Rattle.tipc_link.proofs.Repeating.{kept_count as kept_length}
 use Rattle.tipc_pair.proofs.link_changes.left_by.Goals as goal
 
 pub run_of-requires-clause-few : goal.run_of-requires-clause-few

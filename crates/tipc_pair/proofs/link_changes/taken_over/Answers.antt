@@ -8,7 +8,8 @@ use Rattle.tipc_link.specs.Sessions.{waiting_given}
 use Rattle.tipc_pair.specs.Runs.{BeginsWithTunnel, IsListed, old_of, run_of}
 use Rattle.tipc_pair.proofs.EndSteps.{session_is}
 use Rattle.tipc_pair.proofs.Followings.{some_there}
-use Rattle.tipc_pair.proofs.RunFacts.{begins_with_tunnel, kept_length, kept_listed, old_is, run_listed, run_some}
+use Rattle.tipc_pair.proofs.RunFacts.{begins_with_tunnel, kept_listed, old_is, run_listed, run_some}
+use Rattle.tipc_link.proofs.Repeating.{kept_count as kept_length}
 use Rattle.tipc_pair.proofs.link_changes.taken_over.Goals as goal
 
 pub run_of-requires-clause-bearer : goal.run_of-requires-clause-bearer

@@ -1,6 +1,6 @@
 use Rattle.std.proofs.Common.{◌≡◌, ◌≤◌, ◌∙◌, false, List, ℕ, length, ap, sym, subst}
 use Rattle.tipc_link.specs.Records.{is_tunnel}
-use Rattle.tipc_tunnel.specs.Tunnels.{IsInner, MayBeWrapped}
+use Rattle.tipc_tunnel.specs.Tunnels.{IsTunnellable, MayBeWrapped}
 use Rattle.tipc_pair.specs.Runs.{shown_by}
 use Rattle.tipc_pair.proofs.Listed.{listed_inner}
 use Rattle.tipc_pair.proofs.Shown.{shown_may}
@@ -9,7 +9,7 @@ use Rattle.tipc_pair.proofs.runs.wrapped.Goals as goal
 pub shown_by-requires : goal.shown_by-requires
 shown_by-requires c =
     let plain : is_tunnel c.args.kept.now.packet ≡ false = ap is_tunnel (sym c.as_slice.ensures) ∙ (sym c.is_tunnel.ensures ∙ c.if-is_tunnel.false) in
-    subst IsInner (sym c.as_slice-2.ensures) (listed_inner c.args.kept.now.packet c.requires.listed plain)
+    subst IsTunnellable (sym c.as_slice-2.ensures) (listed_inner c.args.kept.now.packet c.requires.listed plain)
 
 pub tunnel_of-requires-2-clause-inner : goal.tunnel_of-requires-2-clause-inner
 tunnel_of-requires-2-clause-inner c =

@@ -1,7 +1,7 @@
 use Rattle.std.proofs.Common.{◌≡◌, ◌+◌, ◌++◌, ◌∷◌, [], List, take, sym, ap, ◌∙◌}
 use Rattle.std.proofs.lemmas.List.{take_more}
 use Rattle.tipc_types.specs.declared.services.Publication.{Publication}
-use Rattle.tipc_name_table.specs.Tables.{without}
+use Rattle.tipc_types.specs.Tables.{without}
 use Rattle.tipc_sockets.proofs.Closing.{at_another, at_the_port, left_at_port, left_elsewhere, left_first, names_left}
 use Rattle.tipc_sockets.proofs.Keeping.{taken_out}
 use Rattle.tipc_sockets.proofs.publishing.withdraw_those_at.Goals as goal

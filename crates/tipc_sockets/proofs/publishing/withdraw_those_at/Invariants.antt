@@ -1,5 +1,5 @@
 use Rattle.std.proofs.Common.{◌≡◌, ◌&&◌, not, take, filter}
-use Rattle.tipc_name_table.specs.Tables.{is_of}
+use Rattle.tipc_types.specs.Tables.{is_of}
 use Rattle.tipc_sockets.specs.Publishing.{is_key_at}
 use Rattle.tipc_sockets.proofs.publishing.withdraw_those_at.Given as goal
 

@@ -4,7 +4,7 @@ use Rattle.std.specs.Map.{lookup}
 use Rattle.std.proofs.lemmas.List.{get_or_default, get_or-append-add}
 use Rattle.std.proofs.lemmas.List.Elements.{All-take}
 use Rattle.tipc_types.specs.declared.message_forms.Message.{Message}
-use Rattle.tipc_sockets.specs.Fates.{has_room}
+use Rattle.tipc_sockets.specs.Fates.{may_wait}
 use Rattle.tipc_sockets.specs.SocketTables.{queued}
 use Rattle.tipc_sockets.proofs.Keeping.{lookup_elsewhere, queued_at_next}
 use Rattle.tipc_sockets.proofs.queues.put_each.Goals as goal
@@ -28,5 +28,5 @@ loop-port-preserved c =
       put ∙ ap (λ (qs : List (ℕ × List Message)). queued m qs port) h.2 ∙ queued_at_next m c.args.queues.now.entries ports i 0 c.loop-port-test.true,
       (λ k d above within.
           let apart : get_or ports k d ≡ port → ⊥ = (λ e. omega (arith, e, get_or_default ports i d 0 c.loop-port-test.true, c.requires.rising i k d (omega (arith, above)) within)) in
-          ap has_room (ap (λ (qs : List (ℕ × List Message)). lookup (nat_eq (get_or ports k d)) qs) put ∙ lookup_elsewhere port (get_or ports k d) queues _ apart) ∙ h.3 k d (omega (arith, above)) within),
+          ap may_wait (ap (λ (qs : List (ℕ × List Message)). lookup (nat_eq (get_or ports k d)) qs) put ∙ lookup_elsewhere port (get_or ports k d) queues _ apart) ∙ h.3 k d (omega (arith, above)) within),
     )

@@ -2,7 +2,7 @@ use Rattle.std.proofs.Common.{◌≡◌, ◌+◌, ◌<◌, ◌≤◌, true, ℕ,
 use Rattle.std.specs.Prelude.{nat_eq, slice_index_or, All}
 use Rattle.std.specs.Map.{lookup}
 use Rattle.tipc_types.specs.declared.message_forms.Message.{Message}
-use Rattle.tipc_sockets.specs.Fates.{has_room}
+use Rattle.tipc_sockets.specs.Fates.{may_wait}
 use Rattle.tipc_sockets.specs.SocketTables.{queued_at_each}
 use Rattle.tipc_sockets.proofs.queues.put_each.Given as goal
 
@@ -11,4 +11,4 @@ invariant-loop-port l =
     (length l.made.items + l.port-index ≡ length l.ports)
     × All (λ (m : Message). m ≡ l.message) l.made.items
     × (l.queues.entries ≡ queued_at_each l.message l.fn.queues.entries (take l.port-index l.ports))
-    × ((k d : ℕ) → l.port-index ≤ k → k < length l.ports → has_room (lookup (nat_eq (slice_index_or l.ports k d)) l.queues.entries) ≡ true)
+    × ((k d : ℕ) → l.port-index ≤ k → k < length l.ports → may_wait (lookup (nat_eq (slice_index_or l.ports k d)) l.queues.entries) ≡ true)

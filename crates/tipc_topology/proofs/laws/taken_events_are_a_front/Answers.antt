@@ -1,4 +1,4 @@
-use Rattle.tipc_topology.proofs.Entries.{last_taken, next_taken}
+use Rattle.tipc_topology.proofs.Taken.{last_taken, next_taken}
 use Rattle.tipc_topology.proofs.laws.taken_events_are_a_front.Goals as goal
 
 pub returns-clause-next : goal.returns-clause-next

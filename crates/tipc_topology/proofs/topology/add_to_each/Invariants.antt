@@ -1,6 +1,5 @@
 use Rattle.std.proofs.Common.{◌≡◌}
-use Rattle.tipc_topology.specs.Watchers.{added}
-use Rattle.tipc_topology.specs.Watchers.{Watcher}
+use Rattle.tipc_topology.specs.Watchers.{added, Watcher}
 use Rattle.tipc_topology.proofs.Each.{stepped}
 use Rattle.tipc_topology.proofs.topology.add_to_each.Given as goal
 

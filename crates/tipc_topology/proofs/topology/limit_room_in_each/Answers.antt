@@ -1,7 +1,6 @@
 use Rattle.std.proofs.Common.{ap, sym, ◌∙◌, set}
 use Rattle.std.proofs.lemmas.List.Edits.{map_over_more}
-use Rattle.tipc_topology.specs.Watchers.{with_room}
-use Rattle.tipc_topology.specs.Watchers.{Watcher}
+use Rattle.tipc_topology.specs.Watchers.{with_room, Watcher}
 use Rattle.tipc_topology.proofs.topology.limit_room_in_each.Goals as goal
 
 pub loop-watch-preserved : goal.loop-watch-preserved

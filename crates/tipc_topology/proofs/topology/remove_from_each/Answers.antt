@@ -1,7 +1,6 @@
 use Rattle.std.proofs.Common.{ap, sym, ◌∙◌, set, fold}
 use Rattle.std.proofs.lemmas.List.Edits.{map_over_more}
-use Rattle.tipc_topology.specs.Watchers.{removed}
-use Rattle.tipc_topology.specs.Watchers.{Watcher}
+use Rattle.tipc_topology.specs.Watchers.{removed, Watcher}
 use Rattle.tipc_topology.proofs.topology.remove_from_each.Goals as goal
 
 pub loop-watch-preserved : goal.loop-watch-preserved

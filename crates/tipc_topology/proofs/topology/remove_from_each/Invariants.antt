@@ -1,6 +1,5 @@
 use Rattle.std.proofs.Common.{◌≡◌, fold}
-use Rattle.tipc_topology.specs.Watchers.{removed}
-use Rattle.tipc_topology.specs.Watchers.{Watcher}
+use Rattle.tipc_topology.specs.Watchers.{removed, Watcher}
 use Rattle.tipc_topology.proofs.Each.{stepped}
 use Rattle.tipc_topology.proofs.topology.remove_from_each.Given as goal
 

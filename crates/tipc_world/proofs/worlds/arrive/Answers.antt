@@ -5,7 +5,8 @@ use Rattle.tipc_world.specs.Air.{met_sender}
 use Rattle.tipc_world.specs.Due.{unarrived}
 use Rattle.tipc_world.specs.Events.{DidAt}
 use Rattle.tipc_world.specs.Members.{sender_of}
-use Rattle.tipc_world.proofs.Happening.{arrival_of, empty_box, happens_sender, senders_of, there_settled}
+use Rattle.tipc_world.proofs.Happening.{arrival_of, happens_sender, senders_of, there_settled}
+use Rattle.tipc_pair.proofs.Sendings.{new_box as empty_box}
 use Rattle.tipc_world.proofs.pairs.Outward.{boxed_out}
 use Rattle.tipc_world.proofs.worlds.arrive.Goals as goal
 

@@ -3,7 +3,8 @@ use Rattle.std.proofs.Common.{◌≤◌, [], refl, subst, sym}
 use Rattle.std.specs.Prelude.{All}
 use Rattle.tipc_world.specs.Air.{IsOut}
 use Rattle.tipc_world.specs.Calls.{node_of}
-use Rattle.tipc_world.proofs.Happening.{at_its_node, can_do, empty_box, happens_before, there_settled}
+use Rattle.tipc_world.proofs.Happening.{at_its_node, can_do, happens_before, there_settled}
+use Rattle.tipc_pair.proofs.Sendings.{new_box as empty_box}
 use Rattle.tipc_world.proofs.pairs.Outward.{boxed_out, is_ready}
 use Rattle.tipc_world.proofs.worlds.turn.Goals as goal
 

@@ -1,6 +1,6 @@
 use Rattle.std.proofs.Common.{List, IsPermutation, filter, ap, ap₂, subst, ◌∙◌}
 use Rattle.tipc_types.specs.declared.services.Publication.{Publication}
-use Rattle.tipc_name_table.specs.Matching.{overlaps}
+use Rattle.tipc_types.specs.Matching.{overlaps}
 use Rattle.tipc_name_index.specs.Ranges.{may_reach}
 use Rattle.tipc_name_index.proofs.Indexed.{overlaps_near, looked_up}
 use Rattle.tipc_name_index.proofs.index.NameIndexNames.overlapping.Goals as goal

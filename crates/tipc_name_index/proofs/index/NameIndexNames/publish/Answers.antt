@@ -1,7 +1,7 @@
 use Rattle.std.proofs.Common.{◌≡◌, ◌<◌, false, sym, subst₂, rules}
 use Rattle.std.specs.Prelude.{count_by}
 use Rattle.std.specs.List.{list_any}
-use Rattle.tipc_name_table.specs.Tables.{is_named, is_of}
+use Rattle.tipc_types.specs.Tables.{is_named, is_of}
 use Rattle.tipc_name_index.specs.Ranges.{IsIndex}
 use Rattle.tipc_name_index.proofs.Indexed.{index_put}
 use Rattle.tipc_name_index.proofs.index.NameIndexNames.publish.Goals as goal

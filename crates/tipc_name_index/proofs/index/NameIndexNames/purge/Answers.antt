@@ -1,6 +1,6 @@
 use Rattle.std.proofs.Common.{not, sym, subst₂}
 use Rattle.tipc_types.specs.declared.services.Publication.{Publication}
-use Rattle.tipc_name_table.specs.Tables.{is_of}
+use Rattle.tipc_types.specs.Tables.{is_of}
 use Rattle.tipc_name_index.specs.Ranges.{IsIndex}
 use Rattle.tipc_name_index.proofs.Indexed.{index_kept}
 use Rattle.tipc_name_index.proofs.index.NameIndexNames.purge.Goals as goal

@@ -1,7 +1,7 @@
 use Rattle.std.proofs.Common.{◌≤◌, not, eqb-true, sym, ap, ap₂, subst, subst₂, ◌∙◌}
 use Rattle.std.specs.Prelude.{find, ◌==◌}
 use Rattle.tipc_types.specs.declared.services.Publication.{Publication}
-use Rattle.tipc_name_table.specs.Tables.{is_named, without}
+use Rattle.tipc_types.specs.Tables.{is_named, without}
 use Rattle.tipc_name_index.specs.Ranges.{IsIndex}
 use Rattle.tipc_name_index.proofs.Indexed.{index_kept}
 use Rattle.tipc_name_index.proofs.Same.{both_true, found_passes, found_there}

@@ -1,6 +1,6 @@
 use Rattle.std.proofs.Common.{List, sym, subst}
 use Rattle.tipc_types.specs.declared.services.Publication.{Publication}
-use Rattle.tipc_name_table.specs.Tables.{AreOfCluster, IsTable}
+use Rattle.tipc_types.specs.Tables.{AreOfCluster, IsTable}
 use Rattle.tipc_name_table.proofs.TableLaws.{table_none}
 use Rattle.tipc_name_table.proofs.plain.NameTable.new.Goals as goal
 

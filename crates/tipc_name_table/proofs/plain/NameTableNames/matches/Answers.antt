@@ -1,6 +1,6 @@
 use Rattle.std.proofs.Common.{◌≤◌, List, length, filter, ap, subst, sym, ◌∙◌}
 use Rattle.tipc_types.specs.declared.services.Publication.{Publication}
-use Rattle.tipc_name_table.specs.Matching.{covers}
+use Rattle.tipc_types.specs.Matching.{covers}
 use Rattle.tipc_name_table.proofs.Counts.{few_found}
 use Rattle.tipc_name_table.proofs.plain.NameTableNames.matches.Goals as goal
 

@@ -3,8 +3,8 @@ use Rattle.std.specs.Prelude.{insert, count_by}
 use Rattle.std.specs.List.{list_any}
 use Rattle.tipc_types.specs.Address.{IsNodeWord}
 use Rattle.tipc_types.specs.declared.services.Publication.{Publication}
-use Rattle.tipc_name_table.specs.Tables.{is_named, is_of, put, AreOfCluster, IsTable}
-use Rattle.tipc_name_table.proofs.Places.{all_put}
+use Rattle.tipc_types.specs.Tables.{is_named, is_of, put, AreOfCluster, IsTable}
+use Rattle.tipc_types.proofs.Places.{all_put}
 use Rattle.tipc_name_table.proofs.TableLaws.{table_put}
 use Rattle.tipc_name_table.proofs.plain.NameTableNames.publish.Goals as goal
 

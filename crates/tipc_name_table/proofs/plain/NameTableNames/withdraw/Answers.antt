@@ -1,8 +1,8 @@
 use Rattle.std.proofs.Common.{List, not, sym, subst}
 use Rattle.tipc_types.specs.Address.{IsNodeWord}
 use Rattle.tipc_types.specs.declared.services.Publication.{Publication}
-use Rattle.tipc_name_table.specs.Tables.{is_named, AreOfCluster, IsTable}
-use Rattle.tipc_name_table.proofs.Places.{all_kept}
+use Rattle.tipc_types.specs.Tables.{is_named, AreOfCluster, IsTable}
+use Rattle.tipc_types.proofs.Places.{all_kept}
 use Rattle.tipc_name_table.proofs.TableLaws.{table_kept}
 use Rattle.tipc_name_table.proofs.plain.NameTableNames.withdraw.Goals as goal
 

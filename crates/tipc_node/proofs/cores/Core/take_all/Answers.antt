@@ -12,7 +12,8 @@ use Rattle.tipc_node.specs.Works.{work_of}
 use Rattle.tipc_node.proofs.work.Heard.{journal_heard}
 use Rattle.tipc_node.proofs.work.Hearings.{prepared_there, taken_heard, told_there}
 use Rattle.tipc_node.proofs.work.Surely.{each_sure}
-use Rattle.tipc_node.proofs.work.Taking.{core_kept, place_is, same_put, taken_all}
+use Rattle.tipc_node.proofs.work.Taking.{core_kept, same_put, taken_all}
+use Rattle.tipc_node.proofs.work.Wayfaring.{read_at as place_is}
 use Rattle.tipc_node.proofs.cores.Core.take_all.Goals as goal
 
 pub take-requires : goal.take-requires

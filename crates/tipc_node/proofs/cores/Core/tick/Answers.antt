@@ -10,7 +10,7 @@ use Rattle.tipc_journal.specs.Steps.{step_entries}
 use Rattle.tipc_ports.specs.Numbers.{PortTable}
 use Rattle.tipc_sockets.specs.SocketTables.{SocketTable}
 use Rattle.tipc_sockets.specs.Telling.{after_entry}
-use Rattle.tipc_node.specs.declared.neighbours.Deed.TheVariants as deed
+use Rattle.tipc_node.specs.declared.neighbours.Upkeep.TheVariants as upkeep
 use Rattle.tipc_node.specs.Calls.{tick_work}
 use Rattle.tipc_node.specs.Nodes.{NodeState, after_all, entries_all, frames_all, is_change, numbered_all, states_all, step_of}
 use Rattle.tipc_node.specs.Works.{concluded}
@@ -24,7 +24,7 @@ purge_ended-requires c =
     let told = c.part_of_all.new.event.inside.items in
     let noted_all = c.note_timeouts.ensures.entries ∙ ap (λ (es : List Entry). es ++ map entry.TimedOut c.as_slice-3.result.now) c.reserve.ensures.items in
     ap (list_all is_change) (front_of told (map entry.TimedOut c.as_slice-3.result.now) c.as_slice-5.result.now c.len-changed.result (c.as_slice-5.ensures.value ∙ noted_all) (c.len-changed.ensures ∙ c.part_of_all.new.event.inside.ok.0))
-    ∙ (ap (list_all is_change) c.in_ok-after.ensures.entries ∙ all_changes deed.Tick 0 c.as_slice.result.now)
+    ∙ (ap (list_all is_change) c.in_ok-after.ensures.entries ∙ all_changes upkeep.Tick 0 c.as_slice.result.now)
 
 pub invariant_of-self-2 : goal.invariant_of-self-2
 invariant_of-self-2 c =
@@ -34,8 +34,8 @@ invariant_of-self-2 c =
     let after = c.in_ok-after.ensures.after in
     let same = same_folded c.self.inside.sockets (take c.len-changed.result c.as_slice-5.result.now) in
     let passed = c.pass.ensures.ticked in (
-      ap length after ∙ all_wide deed.Tick old ∙ ap length read ∙ i.0,
-      ap (λ xs. slice_index_or xs 0 None) after ∙ all_nobody deed.Tick old (ap (λ xs. slice_index_or xs 0 None) read ∙ i.1),
+      ap length after ∙ all_wide upkeep.Tick old ∙ ap length read ∙ i.0,
+      ap (λ xs. slice_index_or xs 0 None) after ∙ all_nobody upkeep.Tick old (ap (λ xs. slice_index_or xs 0 None) read ∙ i.1),
       i.2,
       ap (λ (s : SocketTable). s.own) passed ∙ ap (λ (s : SocketTable). s.own) c.purge_ended.ensures ∙ same.own ∙ i.3,
       ap (λ (s : SocketTable). s.ports.boot) passed ∙ ap (λ (s : SocketTable). s.ports.boot) c.purge_ended.ensures ∙ ap (λ (p : PortTable). p.boot) same.ports ∙ i.4,
@@ -46,7 +46,7 @@ returns-clause-ok c =
     let w = c.self.inside in
     let n : NodeState = record { own = w.own.word; boot = w.boot; mended = w.mended; neighbours = w.neighbours.items; sockets = w.sockets; journal = w.journal.entries } in
     let read = c.as_slice.ensures.value in
-    let entries = c.in_ok-after.ensures.entries ∙ ap (entries_all deed.Tick 0) read in
+    let entries = c.in_ok-after.ensures.entries ∙ ap (entries_all upkeep.Tick 0) read in
     let noted_all = c.note_timeouts.ensures.entries ∙ ap (λ (es : List Entry). es ++ map entry.TimedOut c.as_slice-3.result.now) c.reserve.ensures.items in
     let front = front_of c.part_of_all.new.event.inside.items (map entry.TimedOut c.as_slice-3.result.now) c.as_slice-5.result.now c.len-changed.result (c.as_slice-5.ensures.value ∙ noted_all) (c.len-changed.ensures ∙ c.part_of_all.new.event.inside.ok.0) in
     let between = c.purge_ended.ensures ∙ ap (λ (es : List Entry). fold after_entry w.sockets es) (front ∙ entries) in
@@ -58,14 +58,14 @@ returns-clause-ok c =
     ∙ ap (λ (es : List Entry). w.journal.entries ++ step_entries (step_of c.args.by event.Tick es answer.Done)) inside in
     let fresh = c.new-event.ensures in
     let box = c.new-event.result in
-    let first = c.leave.ensures box.states (states_all deed.Tick c.as_slice.result.now) fresh.states.0 fresh.states.1 c.in_ok-after.ensures.states in
-    let then = c.leave-2.ensures box.numbered (numbered_all deed.Tick c.as_slice.result.now) fresh.numbered.0 fresh.numbered.1 c.in_ok-after.ensures.numbered in (
-      frames_all deed.Tick c.as_slice.result.now,
+    let first = c.leave.ensures box.states (states_all upkeep.Tick c.as_slice.result.now) fresh.states.0 fresh.states.1 c.in_ok-after.ensures.states in
+    let then = c.leave-2.ensures box.numbered (numbered_all upkeep.Tick c.as_slice.result.now) fresh.numbered.0 fresh.numbered.1 c.in_ok-after.ensures.numbered in (
+      frames_all upkeep.Tick c.as_slice.result.now,
       (
-        ticks_from n c.args.by c.in_ok-after.after.items c.purge_ended.new.sockets c.pass.new.self c.record.new.journal.entries (c.in_ok-after.ensures.after ∙ ap (after_all deed.Tick) read) between c.pass.ensures.parts told
+        ticks_from n c.args.by c.in_ok-after.after.items c.purge_ended.new.sockets c.pass.new.self c.record.new.journal.entries (c.in_ok-after.ensures.after ∙ ap (after_all upkeep.Tick) read) between c.pass.ensures.parts told
             ∙ ap (λ (m : NodeState). concluded m c.args.by event.Tick (tick_work m) answer.Done) c.self.view_is,
-        ap (frames_all deed.Tick) read ∙ ap (λ (m : NodeState). frames_all deed.Tick m.neighbours) c.self.view_is,
+        ap (frames_all upkeep.Tick) read ∙ ap (λ (m : NodeState). frames_all upkeep.Tick m.neighbours) c.self.view_is,
         refl,
       ),
-      adds_more c.args.out.now c.leave.new.out c.leave-2.new.out (states_all deed.Tick c.as_slice.result.now) (numbered_all deed.Tick c.as_slice.result.now) first then,
+      adds_more c.args.out.now c.leave.new.out c.leave-2.new.out (states_all upkeep.Tick c.as_slice.result.now) (numbered_all upkeep.Tick c.as_slice.result.now) first then,
     )

@@ -4,7 +4,7 @@ use Rattle.tipc_header.specs.Spelling.{view}
 use Rattle.tipc_link.specs.Links.{LinkEnd, arrival_end, frames, numbers_at, outcome_of, repeats_at}
 use Rattle.tipc_pair.specs.Courses.{LeavingState}
 use Rattle.tipc_pair.specs.Facing.{PairEnds, with_near}
-use Rattle.tipc_pair.specs.PairArrivals.{Does, Heard}
+use Rattle.tipc_pair.specs.PairArrivals.{IsHeardAs, Heard}
 use Rattle.tipc_pair.proofs.Arrivings.{met_does, met_near_is}
 use Rattle.tipc_pair.proofs.EndFacts.{near_changed}
 use Rattle.tipc_pair.proofs.EndSteps.{end_arrived, fsm_arrived, has_changed, outcome_falls, outcome_moves, some_arrived}
@@ -38,7 +38,7 @@ returns c =
     let o = outcome_of e.fsm p.header c.args.incoming.now.sender_epoch c.args.incoming.now.receiver_epoch held in
     let arrival = c.in_ok-arrival.arrival in
     let states = frames e o c.args.incoming.now.shown ++ repeats_at e o p in
-    subst (λ (h : Heard). Does h c.follow.new.self c.args.event.now c.follow.new.event arrival.outcome)
+    subst (λ (h : Heard). IsHeardAs h c.follow.new.self c.args.event.now c.follow.new.event arrival.outcome)
     (met_near_is c.args.incoming.now.sender_epoch c.args.incoming.now.receiver_epoch p by c.args.incoming.now.shown x e held (sym (ap (λ (v : PairEnds). v.near) c.self.view_is) ∙ c.in-Some.is) c.far_is_up-held.ensures)
     (met_does x _ c.follow.new.self e c.arrive_apart.new.self o p c.args.incoming.now.sender_epoch by c.args.incoming.now.shown arrival.change arrival.outcome c.args.event.now _ c.follow.new.event
     (ap (λ (v : PairEnds). with_near v c.arrive_apart.new.self) c.self.view_is) c.in_ok-arrival.ensures.after c.in_ok-arrival.ensures.change c.in_ok-arrival.ensures.outcome (ap (λ (l : LeavingState). l.changes) c.event.view_is)

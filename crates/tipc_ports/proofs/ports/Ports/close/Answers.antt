@@ -1,5 +1,5 @@
 use Rattle.std.proofs.Common.{◌≡◌, ℕ, List, Contains, sym, ap, subst, ◌∙◌}
-use Rattle.tipc_ports.specs.Numbers.{without, ArePresent, PortTable}
+use Rattle.tipc_ports.specs.Numbers.{without_port, ArePresent, PortTable}
 use Rattle.tipc_ports.proofs.PortLaws.{found_there, port_removed, present_without, table}
 use Rattle.tipc_ports.proofs.ports.Ports.close.Goals as goal
 
@@ -14,7 +14,7 @@ pub returns-clause-ok : goal.returns-clause-ok
 returns-clause-ok c =
     let i = c.self.inside in
     let removed = c.shift_remove.ensures.keys ∙ port_removed i.boot i.made c.args.port i.present.keys c.self.invariant.2 in
-    subst (λ (t : PortTable). table i.boot i.made c.shift_remove.new.self.keys ≡ table t.boot t.made (without c.args.port t.present)) c.self.view_is (ap (λ (xs : List ℕ). table i.boot i.made xs) removed)
+    subst (λ (t : PortTable). table i.boot i.made c.shift_remove.new.self.keys ≡ table t.boot t.made (without_port c.args.port t.present)) c.self.view_is (ap (λ (xs : List ℕ). table i.boot i.made xs) removed)
 
 pub returns-clause-there : goal.returns-clause-there
 returns-clause-there c =

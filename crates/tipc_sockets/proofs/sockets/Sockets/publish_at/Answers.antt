@@ -1,7 +1,7 @@
 use Rattle.std.proofs.Common.{◌≡◌, ◌≤◌, true, ℕ, Err, sym, ap, subst, ◌∙◌, true≢false}
 use Rattle.std.specs.Prelude.{count_by}
 use Rattle.std.specs.List.{list_any}
-use Rattle.tipc_name_table.specs.Tables.{is_named, is_of}
+use Rattle.tipc_types.specs.Tables.{is_named, is_of}
 use Rattle.tipc_sockets.specs.SocketTables.{AreSockets, SocketTable}
 use Rattle.tipc_sockets.proofs.Keeping.{no_live_key, not_refused, own_names_count, too_many}
 use Rattle.tipc_sockets.proofs.sockets.Sockets.publish_at.Goals as goal

@@ -5,7 +5,7 @@ use Rattle.std.specs.Map.{keys_of}
 use Rattle.std.proofs.lemmas.List.Elements.{filter_passes}
 use Rattle.std.proofs.lemmas.List.Kept.{AllPairs-filter}
 use Rattle.tipc_types.specs.declared.message_forms.Message.{Message}
-use Rattle.tipc_sockets.specs.Fates.{has_room}
+use Rattle.tipc_sockets.specs.Fates.{may_wait}
 use Rattle.tipc_sockets.specs.SocketTables.{queue_at, AreSockets, SocketTable}
 use Rattle.tipc_sockets.proofs.Keeping.{and_right, keys-queued_at_each, other_queues}
 use Rattle.tipc_sockets.proofs.sockets.Sockets.spread.Goals as goal
@@ -19,8 +19,8 @@ put_each-requires-clause-rising c =
 pub put_each-requires-clause-room : goal.put_each-requires-clause-room
 put_each-requires-clause-room c =
     let s = c.args.self.now in
-    let all = subst (λ (ps : List ℕ). All (λ port. has_room (queue_at s port) ≡ true) ps) (sym (c.as_slice-3.ensures ∙ c.in_ok-ports.ensures)) (λ k d within. and_right _ _ (filter_passes _ s.ports.present k d within)) in
-    subst (λ (t : SocketTable). All (λ port. has_room (queue_at t port) ≡ true) c.as_slice-3.result.now) (sym c.self.view_is) all
+    let all = subst (λ (ps : List ℕ). All (λ port. may_wait (queue_at s port) ≡ true) ps) (sym (c.as_slice-3.ensures ∙ c.in_ok-ports.ensures)) (λ k d within. and_right _ _ (filter_passes _ s.ports.present k d within)) in
+    subst (λ (t : SocketTable). All (λ port. may_wait (queue_at t port) ≡ true) c.as_slice-3.result.now) (sym c.self.view_is) all
 
 pub invariant_of-self-2 : goal.invariant_of-self-2
 invariant_of-self-2 c =

@@ -1,6 +1,6 @@
 use Rattle.std.proofs.Common.{◌≡◌, None, sym, ap, subst, ◌∙◌}
 use Rattle.std.specs.Prelude.{ℕ, find}
-use Rattle.tipc_name_table.specs.Tables.{is_named}
+use Rattle.tipc_types.specs.Tables.{is_named}
 use Rattle.tipc_sockets.specs.SocketTables.{AreSockets, SocketTable}
 use Rattle.tipc_sockets.proofs.Keeping.{live_key_found}
 use Rattle.tipc_sockets.proofs.sockets.Sockets.withdraw_at.Goals as goal

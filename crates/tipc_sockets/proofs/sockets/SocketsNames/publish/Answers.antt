@@ -1,7 +1,7 @@
 use Rattle.std.proofs.Common.{List, length, ap, ◌∙◌, arith}
 use Rattle.std.specs.List.{list_any}
 use Rattle.tipc_types.specs.declared.services.Publication.{Publication}
-use Rattle.tipc_name_table.specs.Tables.{is_named, without}
+use Rattle.tipc_types.specs.Tables.{is_named, without}
 use Rattle.tipc_sockets.proofs.Keeping.{not_true, ok_is_no_err, put_back, same_publications, sockets_published, taken_out}
 use Rattle.tipc_sockets.proofs.sockets.SocketsNames.publish.Goals as goal
 

@@ -1,6 +1,6 @@
 use Rattle.std.proofs.Common.{◌≤◌, List, length, not, ap, subst, sym, arith}
 use Rattle.tipc_types.specs.declared.services.Publication.{Publication}
-use Rattle.tipc_name_table.specs.Tables.{is_of}
+use Rattle.tipc_types.specs.Tables.{is_of}
 use Rattle.tipc_sockets.proofs.Keeping.{fewer_left, sockets_kept}
 use Rattle.tipc_sockets.proofs.sockets.SocketsNames.purge.Goals as goal
 

@@ -1,6 +1,6 @@
 use Rattle.std.proofs.Common.{Bool, List, length, not, ap, sym, ◌∙◌, arith}
 use Rattle.tipc_types.specs.declared.services.Publication.{Publication}
-use Rattle.tipc_name_table.specs.Tables.{is_named}
+use Rattle.tipc_types.specs.Tables.{is_named}
 use Rattle.tipc_topology.specs.Changing.{with_loss}
 use Rattle.tipc_topology.proofs.Removable.{found_only}
 use Rattle.tipc_sockets.specs.Publishing.{withdrawn}

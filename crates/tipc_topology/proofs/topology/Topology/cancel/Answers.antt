@@ -2,7 +2,7 @@ use Rattle.std.proofs.Common.{◌≡◌, ◌<◌, ℕ, length, List, Some, None,
 use Rattle.std.specs.Prelude.{position, remove}
 use Rattle.std.proofs.lemmas.List.Edits.{length-remove}
 use Rattle.tipc_topology.specs.Watchers.{Watcher}
-use Rattle.tipc_topology.specs.Changing.{has_number, of_number, with_kept, without, Watchers}
+use Rattle.tipc_topology.specs.Changing.{has_number, of_number, with_kept, without_number, Watchers}
 use Rattle.tipc_topology.proofs.Kept.{found_one, found_place, no_place, removed_kept, without_at, kept_as, some_not_none}
 use Rattle.tipc_topology.proofs.topology.Topology.cancel.Goals as goal
 
@@ -33,7 +33,7 @@ returns-clause-ok c =
     let here = found_place c.args.number w.kept.items c.in-Some.at place in
     let left = c.remove.ensures.items ∙ ap (λ (i : ℕ). remove w.kept.items i) here.0
     ∙ without_at c.args.number w.kept.items (subst (λ (i : ℕ). i < length w.kept.items) here.0 here.1) in
-    subst (λ (t : Watchers). kept_as w.made w.room c.remove.new.self.items ≡ with_kept t (without c.args.number t.kept)) c.self.view_is
+    subst (λ (t : Watchers). kept_as w.made w.room c.remove.new.self.items ≡ with_kept t (without_number c.args.number t.kept)) c.self.view_is
     (ap (λ (ws : List Watcher). kept_as w.made w.room ws) left)
 
 pub returns-clause-unknown : goal.returns-clause-unknown

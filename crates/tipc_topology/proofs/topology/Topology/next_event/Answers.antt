@@ -1,7 +1,7 @@
 use Rattle.std.proofs.Common.{◌≡◌, ℕ, List, Option, Some, None, get_or, set, refl, sym, ap, subst, ◌∙◌, true≢false}
 use Rattle.std.specs.Prelude.{find, position, slice_get}
 use Rattle.tipc_topology.specs.Watchers.{without_first, Watcher}
-use Rattle.tipc_topology.specs.Changing.{events_left, has_number, of_number, taken_from, with_kept, Watchers}
+use Rattle.tipc_topology.specs.Changing.{events_left, has_number, of_number, with_event_taken, with_kept, Watchers}
 use Rattle.tipc_topology.proofs.Kept.{found_one, found_place, no_place, taken_at, kept_as, some_not_none}
 use Rattle.tipc_topology.proofs.topology.Topology.next_event.Goals as goal
 
@@ -27,11 +27,11 @@ returns-clause-ok c =
     let w = c.self.inside in
     let at = c.in-Some.at in
     let here = found_place c.args.number w.kept.items at place in
-    let taken : set w.kept.items at c.take.new.self ≡ taken_from c.args.number w.kept.items =
+    let taken : set w.kept.items at c.take.new.self ≡ with_event_taken c.args.number w.kept.items =
     ap (λ (v : Watcher). set w.kept.items at v) (c.take.ensures.rest ∙ ap (λ (v : Watcher). without_first v) c.index_mut.ensures.value)
     ∙ ap (λ (i : ℕ). set w.kept.items i (without_first (get_or w.kept.items i c.index_mut.result.now))) here.0
     ∙ taken_at c.args.number w.kept.items c.index_mut.result.now in
-    subst (λ (t : Watchers). kept_as w.made w.room (set w.kept.items at c.take.new.self) ≡ with_kept t (taken_from c.args.number t.kept)) c.self.view_is
+    subst (λ (t : Watchers). kept_as w.made w.room (set w.kept.items at c.take.new.self) ≡ with_kept t (with_event_taken c.args.number t.kept)) c.self.view_is
     (ap (λ (ws : List Watcher). kept_as w.made w.room ws) taken)
 
 pub returns-clause-unknown : goal.returns-clause-unknown

@@ -1,7 +1,7 @@
 use Rattle.std.proofs.Common.{[], refl, subst, sym}
 use Rattle.std.specs.Prelude.{IfOk}
 use Rattle.tipc_world.specs.Choices.{Chooses}
-use Rattle.tipc_world.specs.Deeds.{Did}
+use Rattle.tipc_world.specs.Effects.{Did}
 use Rattle.tipc_world.proofs.calls.Outcomes.{adds_none, if_ok}
 use Rattle.tipc_world.proofs.members.Member.happen.Goals as goal
 

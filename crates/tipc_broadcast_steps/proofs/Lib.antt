@@ -1,4 +1,0 @@
-pub mod Calls
-pub mod Crediting
-pub mod Numbering
-pub mod Stating

@@ -1,5 +1,0 @@
-use Rattle.tipc_broadcast_steps.proofs.Numbering.{tells_place}
-use Rattle.tipc_broadcast_steps.proofs.laws.acknowledgements_tell_places.Goals as goal
-
-pub returns : goal.returns
-returns c = tells_place

@@ -1,5 +1,0 @@
-use Rattle.tipc_broadcast_steps.proofs.Crediting.{acknowledgement_runs}
-use Rattle.tipc_broadcast_steps.proofs.laws.acknowledging_is_an_event.Goals as goal
-
-pub returns : goal.returns
-returns c = acknowledgement_runs

@@ -1,5 +1,0 @@
-use Rattle.tipc_broadcast_steps.proofs.Calls.{join_runs}
-use Rattle.tipc_broadcast_steps.proofs.laws.joining_is_an_event.Goals as goal
-
-pub returns : goal.returns
-returns c = join_runs

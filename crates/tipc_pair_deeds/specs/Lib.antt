@@ -1,4 +1,0 @@
-pub mod PairDeeds
-pub mod Arriving
-pub mod Laws
-pub mod Causes

@@ -1,3 +1,0 @@
-pub mod sender
-pub mod receiver
-pub mod calls

@@ -1,8 +1,0 @@
-use Rattle.tipc_twins.proofs.sights.Reaching.{reached, reached_fronts}
-use Rattle.tipc_twins.proofs.laws.what_is_given_is_a_front.Goals as goal
-
-pub returns-clause-seen : goal.returns-clause-seen
-returns-clause-seen c = reached
-
-pub returns-clause-front : goal.returns-clause-front
-returns-clause-front c = reached_fronts

@@ -1,0 +1,20 @@
+-- Each call of a pair is deeds of the two nodes.
+pub mod ArrivalKept
+pub mod Arriving
+pub mod Calling
+pub mod Calls
+pub mod Chains
+pub mod Changing
+pub mod Counting
+pub mod Ending
+pub mod EndsKept
+pub mod Hearing
+pub mod Loading
+pub mod Meeting
+pub mod Noticing
+pub mod Opening
+pub mod Pairs
+pub mod Placing
+pub mod Stepping
+pub mod WholeCalls
+pub mod Wrapped

@@ -1,0 +1,17 @@
+pub mod ArrivalLaws
+pub mod Arrivals
+pub mod Carriages
+pub mod Carrying
+pub mod Messages
+pub mod NoticeLaws
+pub mod Numbers
+pub mod PieceLaws
+pub mod Pieces
+pub mod Reaching
+pub mod Sights
+pub mod Steps
+pub mod Talkers
+pub mod Truth
+pub mod Twins
+pub mod deeds
+pub mod links

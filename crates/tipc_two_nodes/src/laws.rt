@@ -1,0 +1,29 @@
+//! Laws of two nodes with a pair each. They do nothing when they run.
+
+ghost use Rattle.tipc_two_nodes.specs.Reaching.{ReachedAreFronts, ReachedAreSeen};
+ghost use Rattle.tipc_two_nodes.specs.Sights.{EndsSeen, FramesSeen, FrontsSeen, GivesSeen, RestartsSeen, StartsSeen, TurnedSeen, TurnsSeen};
+ghost use Rattle.tipc_two_nodes.specs.Truth.{FramesFit, TruthsSeen};
+
+/// Two nodes go on talking as a world tells of them: by what they keep, what their journals record, and the frames that came into the air. Each turn
+/// of a node at its pair leaves them so, whatever it sends is lost, and whatever of all that was ever sent arrives, on either bearer. What an arrival
+/// gives is whole, and a front of what the other put; so is what was given; each link end keeps the numbers of its node; each frame in the air is a
+/// packet of its node, in at most 1,516 bytes; and what a STATE or a numbered packet says of its contact is so.
+pub fn two_nodes_are_seen()
+    ensures starts { StartsSeen }
+    ensures turned { TurnedSeen }
+    ensures restarts { RestartsSeen }
+    ensures turns { TurnsSeen }
+    ensures gives { GivesSeen }
+    ensures front { FrontsSeen }
+    ensures ends { EndsSeen }
+    ensures frames { FramesSeen }
+    ensures truths { TruthsSeen }
+    ensures fit { FramesFit }
+{}
+
+/// Whatever two nodes do from the beginning, turn by turn and restart by restart in any order, and whatever of all that they ever sent arrives, as
+/// often and as late as it may: what either was given in a contact is a front of what the other put in it. (This project's profile.)
+pub fn what_is_given_is_a_front()
+    ensures seen { ReachedAreSeen }
+    ensures front { ReachedAreFronts }
+{}
