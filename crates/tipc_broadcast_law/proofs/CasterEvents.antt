@@ -2,10 +2,8 @@
 use Rattle.std.proofs.Common.{◌≡◌, ℕ, ◌+◌, ◌<◌, ◌≤◌, [], ◌∷◌, ◌++◌, length, Some, None, refl, sym, ap, ◌∙◌, subst, inl, inr, ◌⊎◌, length-append, arith}
 use Rattle.std.proofs.lemmas.Bool.{cases_lt}
 use Rattle.tipc_broadcast_law.specs.Groups.{Accepted, Caster, Group, length_now, mark, Member, numbered_now, packets, place, put, queue, window}
-use Rattle.tipc_broadcast_law.specs.Events.{booted_again, line_with, numbered_to, without_contact}
-use Rattle.tipc_broadcast_law.specs.Law.{Keeps}
-use Rattle.tipc_broadcast_law.specs.Events.{accepting_entry, accepts, changes, empties, go_on, Happens, none, numbers, restarts, Runs}
-use Rattle.tipc_broadcast_law.specs.Law.{IsGroup}
+use Rattle.tipc_broadcast_law.specs.Events.{booted_again, line_with, numbered_to, without_contact, accepting_entry, accepts, changes, empties, go_on, Happens, none, numbers, restarts, Runs}
+use Rattle.tipc_broadcast_law.specs.Law.{Keeps, IsGroup}
 use Rattle.tipc_broadcast_law.proofs.MemberEvents.{changed_keeps, ends}
 use Rattle.tipc_broadcast_law.proofs.Places.{mark-cases, mark-kept, mark-new, mark-none, packets-none, packets-old, put_other, put_same, same_or_not}
 

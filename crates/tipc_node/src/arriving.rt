@@ -6,12 +6,10 @@ ghost use Rattle.tipc_header.specs.Faults.{fault_of};
 ghost use Rattle.tipc_header.specs.Frames.{frame_of};
 ghost use Rattle.tipc_header.specs.Grammar.{Fits};
 ghost use Rattle.tipc_header.specs.Spelling.{spelling, view};
-ghost use Rattle.tipc_journal.specs.Room.{entry_bytes};
+ghost use Rattle.tipc_journal.specs.Room.{entry_bytes, free_entries, free_message_bytes};
 ghost use Rattle.tipc_reassembly.specs.declared.opening.Opened.TheVariants.{Whole};
-ghost use Rattle.tipc_pair.specs.Messages.{opened_in};
-ghost use Rattle.tipc_pair.specs.Messages.{HasNoFault};
+ghost use Rattle.tipc_pair.specs.Messages.{opened_in, HasNoFault};
 ghost use Rattle.tipc_node.specs.Hearings.{IsPrepared};
-ghost use Rattle.tipc_journal.specs.Room.{free_entries, free_message_bytes};
 ghost use Rattle.tipc_node.specs.Nodes.{arrival_answer, deliveries_of, delivered_by, delivery_of, end_with, is_other, message_count, stop_among, taken_count};
 
 use crate::neighbours::{Bearers, Neighbour, is_mended_on, no_broadcast};

@@ -4,12 +4,10 @@
 ghost use Rattle.std.specs.Prelude.{◌≡◌, ℕ, ◌+◌, ◌-◌, ◌<◌, ◌≤◌, ◌++◌, List, [], false, true, None, is_some, length, slice_index_or, sum_by, IfOk, OnOk};
 ghost use Rattle.tipc_outside.specs.declared.outgoing.Outgoing.{Outgoing};
 ghost use Rattle.tipc_outside.specs.Frames.{Adds, Out};
-ghost use Rattle.tipc_journal.specs.Room.{entry_bytes};
+ghost use Rattle.tipc_journal.specs.Room.{entry_bytes, free_entries, free_message_bytes, has_journal_room};
 ghost use Rattle.tipc_journal.specs.Steps.{step_entries};
 ghost use Rattle.tipc_node.specs.Drafts.{restored, with_copy};
-ghost use Rattle.tipc_journal.specs.Room.{free_entries, free_message_bytes};
 ghost use Rattle.tipc_node.specs.Nodes.{step_of};
-ghost use Rattle.tipc_journal.specs.Room.{has_journal_room};
 
 use crate::neighbours::{NUMBERS, Neighbour};
 use crate::recording::record;

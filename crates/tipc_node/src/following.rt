@@ -5,13 +5,12 @@ ghost use Rattle.std.specs.Prelude.{◌≡◌, ℕ, ◌≤◌, ◌+◌, ◌-◌,
 ghost use Rattle.std.specs.List.{list_all};
 ghost use Rattle.tipc_types.specs.declared.message_forms.Message.{Message};
 ghost use Rattle.tipc_outside.specs.Frames.{Adds};
-ghost use Rattle.tipc_journal.specs.Room.{entry_bytes};
+ghost use Rattle.tipc_journal.specs.Room.{entry_bytes, free_entries, free_message_bytes};
 ghost use Rattle.tipc_pair.specs.Preparing.{changes_of};
 ghost use Rattle.tipc_name_dist.specs.Items.{IsBulk};
 ghost use Rattle.tipc_node.specs.declared.neighbours.Neighbour.{Neighbour};
 ghost use Rattle.tipc_node.specs.Drafts.{drafted, taken_back, AreTables, PutEach};
 ghost use Rattle.tipc_node.specs.Hearings.{is_plain, Followed, Greeted, HasContact, HeardThere, IsPrepared, Worked};
-ghost use Rattle.tipc_journal.specs.Room.{free_entries, free_message_bytes};
 ghost use Rattle.tipc_node.specs.Neighbours.{answered_neighbour, answering};
 ghost use Rattle.tipc_pair.specs.Contacts.{begins};
 ghost use Rattle.tipc_node.specs.Nodes.{entries_in, is_met};

@@ -6,9 +6,8 @@ ghost use Rattle.tipc_outside.specs.Frames.{Adds};
 ghost use Rattle.tipc_header.specs.Spelling.{view};
 ghost use Rattle.tipc_node.specs.Arrivals.{Arrives, IsDue};
 ghost use Rattle.tipc_node.specs.Hearings.{told_changes, HearsDue, IsDueAt, IsPrepared};
-ghost use Rattle.tipc_journal.specs.Room.{free_entries};
+ghost use Rattle.tipc_journal.specs.Room.{free_entries, has_journal_room};
 ghost use Rattle.tipc_node.specs.Nodes.{message_count, neighbour_of, stop_of, stopped_node};
-ghost use Rattle.tipc_journal.specs.Room.{has_journal_room};
 ghost use Rattle.tipc_node.specs.Sure.{all_wait};
 
 use crate::arriving::{Due, Hearing, fits, look, message_count, prepare};

@@ -7,13 +7,12 @@ ghost use Rattle.tipc_journal.specs.Counting.{is_sent_by_name};
 ghost use Rattle.tipc_journal.specs.Dues.{comes_home};
 ghost use Rattle.tipc_journal.specs.Licensed.{IsPickedOf};
 ghost use Rattle.tipc_journal.specs.Refusals.{longest_body};
-ghost use Rattle.tipc_journal.specs.Room.{counted_bytes, entry_bytes};
+ghost use Rattle.tipc_journal.specs.Room.{counted_bytes, entry_bytes, has_journal_room};
 ghost use Rattle.tipc_message.specs.Wire.{IsPayload};
 ghost use Rattle.tipc_sockets.specs.Telling.{origin_of};
 ghost use Rattle.tipc_node.specs.Calls.{SendsToPort, SendsByName, SendsTo, sender_refusal, way_refusal};
 ghost use Rattle.tipc_node.specs.Messages.{destination_of};
 ghost use Rattle.tipc_node.specs.Nodes.{is_met};
-ghost use Rattle.tipc_journal.specs.Room.{has_journal_room};
 ghost use Rattle.tipc_node.specs.Sockets.{found_at};
 ghost use Rattle.tipc_node.specs.Works.{Work, begun, concluded, work_of, Puts, GivesFate};
 

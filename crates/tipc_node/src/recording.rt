@@ -2,11 +2,9 @@
 
 ghost use Rattle.std.specs.Prelude.{◌≡◌, ◌+◌, ◌-◌, ◌≤◌, ◌++◌, true, false, length, map, OnOk, Err, sum_by, None, Some, vec_len, vec_capacity};
 ghost use Rattle.tipc_journal.specs.declared.entries.Entry.TheVariants.{TimedOut};
-ghost use Rattle.tipc_journal.specs.Room.{entry_bytes};
+ghost use Rattle.tipc_journal.specs.Room.{entry_bytes, free_entries, free_message_bytes, has_journal_room};
 ghost use Rattle.tipc_journal.specs.Steps.{step_entries};
-ghost use Rattle.tipc_journal.specs.Room.{free_entries, free_message_bytes};
 ghost use Rattle.tipc_node.specs.Nodes.{change_entries, change_entry, step_of};
-ghost use Rattle.tipc_journal.specs.Room.{has_journal_room};
 
 use std::alloc::{AllocError, AllocFailed};
 use std::collections::VecDeque;

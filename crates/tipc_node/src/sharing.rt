@@ -3,12 +3,11 @@
 ghost use Rattle.std.specs.Prelude.{◌≡◌, ◌+◌, ◌*◌, ◌-◌, ◌≤◌, ◌++◌, ℕ, List, true, is_some, None, Option, option_map, Some, All, length, slice_index_or, slice_set, sum_by, IfOk, OnErr, OnOk};
 ghost use Rattle.tipc_message.specs.Wire.{IsCarried};
 ghost use Rattle.tipc_journal.specs.Names.{is_clusterwide};
-ghost use Rattle.tipc_journal.specs.Room.{counted_bytes, entry_bytes};
+ghost use Rattle.tipc_journal.specs.Room.{counted_bytes, entry_bytes, free_entries, free_message_bytes};
 ghost use Rattle.tipc_name_dist.specs.Items.{telling, tellings};
 ghost use Rattle.tipc_pair.specs.Facing.{in_contact};
 ghost use Rattle.tipc_sockets.specs.SocketTables.{SocketTable};
 ghost use Rattle.tipc_node.specs.Drafts.{drafted, nothing_out, peer_in_contact, taken_back, AreTables, PutEach, ToldEach, ToldPeers};
-ghost use Rattle.tipc_journal.specs.Room.{free_entries, free_message_bytes};
 ghost use Rattle.tipc_node.specs.Nodes.{load_with, waiting_in};
 ghost use Rattle.tipc_node.specs.Sockets.{crowd_refusal, crowded_answer, first_crowded};
 ghost use Rattle.tipc_node.specs.Works.{is_in_contact, work_of};

@@ -20,8 +20,7 @@ use Rattle.tipc_link.specs.Direction.{IsReceiver}
 use Rattle.tipc_link.specs.Links.{LinkEnd, after, handed_over, is_traffic, known, made, notice, record_of, recorded, shown_by, with_session}
 use Rattle.tipc_link.specs.Records.{Received}
 use Rattle.tipc_link.specs.Sessions.{Carries, SessionEnd, Unanswered, brought, content_of, due_with, flushed, moving, packet_frame, after_acknowledgement, state_frame, took}
-use Rattle.tipc_link.specs.Parts.{is_quiet, packets_in}
-use Rattle.tipc_link.specs.Parts.{IsShowable}
+use Rattle.tipc_link.specs.Parts.{is_quiet, packets_in, IsShowable}
 use Rattle.tipc_paired.specs.Paired.{IsPacket, IsShown}
 use Rattle.tipc_paired.specs.Views.{Begun, Frame, IsApart, Node, View, Wire, er_of, es_of, put_at, said_by, session_on, with_end, with_told, with_wire}
 

@@ -3,8 +3,7 @@
 ghost use Rattle.std.specs.Prelude.{◌≡◌, ℕ, ◌<◌, ◌≤◌, ◌^◌, Some, None, if◌then◌else◌, MatchOption, IfSome, IsTrue, ◌↔◌, length};
 ghost use Rattle.std.specs.Fmt.{decimal};
 ghost use Rattle.std.specs.Str.Parse.{AllDigits};
-ghost use Rattle.tipc_script.specs.Kinds.{is_number, number_of};
-ghost use Rattle.tipc_script.specs.Kinds.{has_plain_front};
+ghost use Rattle.tipc_script.specs.Kinds.{is_number, number_of, has_plain_front};
 
 /// How many digits are read at most: those of 4,294,967,295.
 const MOST_DIGITS: usize = 10;

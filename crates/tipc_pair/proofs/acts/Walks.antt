@@ -25,9 +25,8 @@ use Rattle.tipc_pair.proofs.EndSteps.{fsm_after, fsm_arrived}
 use Rattle.tipc_pair.proofs.acts.Acts.{Act, Acts, Ran, Steps, gone, near_course, telling_of, told_by, turned_back}
 use Rattle.tipc_pair.proofs.acts.Acts.Act.{answers as answering, carries as carrying, counts as counting, lets_go as letting, makes as making, opens as opening, puts as putting}
 use Rattle.tipc_pair.proofs.acts.Acts.Acts.{answered, counted, let_go_of, made, mended, moved, opened, put, raised}
-use Rattle.tipc_pair.proofs.acts.Acts.Ran.{acts, stays}
+use Rattle.tipc_pair.proofs.acts.Acts.Ran.{acts, stays, goes_on as going, turns as turning}
 use Rattle.tipc_pair.proofs.acts.Acts.Steps.{cut, meet, name, reset, tick}
-use Rattle.tipc_pair.proofs.acts.Acts.Ran.{goes_on as going, turns as turning}
 
 -- by cases of a test, each of which knows how it came out
 pub tested : {T : Type 0} (P : T → Type 0) (b : Bool) (x y : T) → (b ≡ true → P x) → (b ≡ false → P y) → P (if b then x else y)

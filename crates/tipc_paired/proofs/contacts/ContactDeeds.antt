@@ -6,7 +6,7 @@ use Rattle.tipc_types.specs.LinkStates.{is_up}
 use Rattle.tipc_types.specs.declared.link_words.Cause.{Cause}
 use Rattle.tipc_contact.specs.Peers.{ArePeers}
 use Rattle.tipc_contact.specs.Sides.{ContactEnded, EndMade, HigherShown, Restarted, acted, after_call, boot_of, first_number}
-use Rattle.tipc_contact.proofs.Calls.{next_boot, next_of_last, next_of_other, same_boot}
+use Rattle.tipc_contact.proofs.Calls.{next_boot, next_of_last, next_of_other, same_boot, not_last}
 use Rattle.tipc_contact.proofs.Sessions.{acts}
 use Rattle.tipc_contact.proofs.Speaking.{at_other, at_same}
 use Rattle.tipc_link.specs.Links.{LinkEnd, after, followed, record_of, with_fsm}
@@ -16,7 +16,6 @@ use Rattle.tipc_link_fsm.specs.declared.changes.Change.TheVariants.{Down}
 use Rattle.tipc_link_fsm.specs.Runs.{Call, ContactEnds, ForgetsPeer, outcome}
 use Rattle.tipc_link_fsm.specs.Table.{Fsm, contact_ended, forget_peer, fresh, is_held, is_last, next_epoch}
 use Rattle.tipc_link.proofs.Ends.{ended-is, forgotten-is}
-use Rattle.tipc_contact.proofs.Calls.{not_last}
 use Rattle.tipc_link.proofs.EndsTurns.{Falls, Turn, fall, learn, rise, stay}
 use Rattle.tipc_link.specs.Parts.{is_quiet}
 use Rattle.tipc_paired.proofs.sessions.CallDeeds.{call_named}

@@ -1,8 +1,7 @@
 use Rattle.std.proofs.Common.{◌≡◌, List, ◌∷◌, drop, filter, length, not, sym, subst, ap, ◌∙◌, arith}
 use Rattle.std.specs.Ordering.{is_lt}
 use Rattle.tipc_types.specs.declared.services.Publication.{Publication}
-use Rattle.tipc_types.specs.Tables.{is_named}
-use Rattle.tipc_types.specs.Tables.{place_cmp}
+use Rattle.tipc_types.specs.Tables.{is_named, place_cmp}
 use Rattle.tipc_name_index.proofs.Order.{behind_itself, one_less, stands_there}
 use Rattle.tipc_name_index.proofs.Places.{places_total}
 use Rattle.tipc_name_index.proofs.Same.{named_itself}
