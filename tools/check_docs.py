@@ -6,8 +6,8 @@ the program isn't there.
 
 An example is one of these:
 
-    docs/SCRIPTS.md     a block that begins with ```script: on each line of it a line of the script, an arrow and the answer.
-                        `script NAME` names the block; `script after NAME` goes on behind the block of that name.
+    docs/SCRIPTS.md,    a block that begins with ```script: on each line of it a line of the script, an arrow and the answer.
+    docs/WALK.md        `script NAME` names the block; `script after NAME` goes on behind the block of that name.
     README.md           a command `./tipc_sim run < FILE`, and the first block behind it whose lines have the numbers 1, 2, ..
     examples/           NAME.txt and what it prints, NAME.report. It begins with a remark that says what it shows.
 """
@@ -20,7 +20,7 @@ from pathlib import Path
 from typing import Iterator, NamedTuple
 
 TOP = Path(__file__).resolve().parent.parent
-PAGE = TOP / "docs" / "SCRIPTS.md"
+PAGES = [TOP / "docs" / "SCRIPTS.md", TOP / "docs" / "WALK.md"]
 ARROW = "→"
 BLOCK = re.compile(r"^```script *([^\n]*)\n(.*?)^```$", re.MULTILINE | re.DOTALL)
 COMMAND = re.compile(r"^    \./tipc_sim run < (\S+)$", re.MULTILINE)
@@ -52,10 +52,10 @@ def lines_of_block(place: str, text: str) -> list:
     return lines
 
 
-def examples_of_page() -> Iterator[Example]:
-    page, named = PAGE.read_text(), {}
+def examples_of_page(path: Path) -> Iterator[Example]:
+    page, named = path.read_text(), {}
     for block in BLOCK.finditer(page):
-        place = f"{PAGE.name}:{page.count(chr(10), 0, block.start()) + 1}"
+        place = f"{path.name}:{page.count(chr(10), 0, block.start()) + 1}"
         lines, words = lines_of_block(place, block[2]), block[1].split()
         if words[:1] == ["after"]:
             if words[1] not in named:
@@ -107,7 +107,8 @@ def main(words: list) -> int:
     try:
         if not os.access(program, os.X_OK):
             raise BadPage(f"{program} isn't there, so no example was run")
-        examples = [*examples_of_page(), *examples_of_readme(), *examples_of_folder()]
+        of_pages = [example for path in PAGES for example in examples_of_page(path)]
+        examples = [*of_pages, *examples_of_readme(), *examples_of_folder()]
     except (BadPage, OSError) as bad:
         print(f"FAILED {bad}")
         print("0 passed, 1 failed")

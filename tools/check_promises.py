@@ -1,9 +1,9 @@
 #!/usr/bin/env python3
-"""Looks up each name of docs/PROMISES.md in the code.
+"""Looks up each name of docs/PROMISES.md and of docs/WALK.md in the code.
 
 check_promises.py: prints each name that isn't there, and a line `N names found, M not`.
 
-A part of the page has a heading with its crates, or speaks of the world and the program. A name in backticks is one of these, in a crate of its part or in one on
+A part of a page has a heading with its crates, or speaks of the world and the program. A name in backticks is one of these, in a crate of its part or in one on
 which these stand:
 
     `name`          a function, a clause of a contract, a definition of specs/, a field of a record or struct, a type or a variant, or a file of src/
@@ -21,7 +21,7 @@ import re
 import sys
 
 TOP = pathlib.Path(__file__).resolve().parent.parent
-PAGE = TOP / "docs" / "PROMISES.md"
+PAGES = ("PROMISES.md", "WALK.md")
 HEADLINE_CRATES = ["tipc_sim", "tipc_world"]
 QUOTED = re.compile(r"`([^`]+)`((?:, (?:part `\w+`))?)")
 PLACED = re.compile(r"(?<!part )`([A-Za-z_]\w*)`[,;]? \(?(?:(tipc_\w+),? )?(specs|src)/(\w+)")
@@ -131,15 +131,24 @@ def subjects(text: str) -> list:
     return [name for item in re.findall(r"(?m)^- ((?:`[^`]+`(?:, | and )?)+):", text) for name in re.findall(r"`([^`]+)`", item)]
 
 
-def main() -> int:
-    code, found, wrong = Code(), 0, []
-    for heading, crates, text in parts_of(PAGE.read_text(encoding="utf-8"), code.below):
+def look_up(code: Code, page: str) -> tuple:
+    """How many names of a page are there, and what isn't."""
+    found, wrong = 0, []
+    for heading, crates, text in parts_of((TOP / "docs" / page).read_text(encoding="utf-8"), code.below):
         lost, there = missing(code, crates, text)
         found += there
-        wrong += [f"{heading}: {name} isn't there" for name in lost]
-        wrong += [f"{heading}: {name} isn't there" for name in [*misplaced(code, crates, text), *unclaused(code, crates, text)]]
+        lost += [*misplaced(code, crates, text), *unclaused(code, crates, text)]
+        wrong += [f"{page}, {heading}: {name} isn't there" for name in lost]
         twice = [name for name, number in collections.Counter(subjects(text)).items() if number > 1]
-        wrong += [f"{heading}: `{name}` has more than one item" for name in twice]
+        wrong += [f"{page}, {heading}: `{name}` has more than one item" for name in twice]
+    return found, wrong
+
+
+def main() -> int:
+    code = Code()
+    looked = [look_up(code, page) for page in PAGES]
+    wrong = [line for _, lines in looked for line in lines]
+    found = sum(number for number, _ in looked)
     for line in wrong:
         print(line)
     print(f"{found} names found, {len(wrong)} not")
