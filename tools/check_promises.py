@@ -11,7 +11,7 @@ which these stand:
     `name`, tipc_x, specs/File    a definition, or a field, of just that file; likewise src/file. Where no crate stands there it is a crate of the part
     `name`, clauses `a`, `b`      clauses of just that function
 
-What isn't spelled as a name, a formula say, is passed over. A row of a table or an item of a list that begins with a name promises something of
+What isn't spelled as a name, a formula say, is passed over. Of docs/GLOSSARY.md the names that stand with their place are looked up too. A row of a table or an item of a list that begins with a name promises something of
 it; a part has one such row or item for each.
 """
 
@@ -22,6 +22,8 @@ import sys
 
 TOP = pathlib.Path(__file__).resolve().parent.parent
 PAGES = ("PROMISES.md", "WALK.md")
+# Of this page only the names are looked up that stand with their place.
+WORDS = "GLOSSARY.md"
 HEADLINE_CRATES = ["tipc_sim", "tipc_world"]
 QUOTED = re.compile(r"`([^`]+)`((?:, (?:part `\w+`))?)")
 PLACED = re.compile(r"(?<!part )`([A-Za-z_]\w*)`[,;]? \(?(?:(tipc_\w+),? )?(specs|src)/(\w+)")
@@ -147,6 +149,8 @@ def look_up(code: Code, page: str) -> tuple:
 def main() -> int:
     code = Code()
     looked = [look_up(code, page) for page in PAGES]
+    words = (TOP / "docs" / WORDS).read_text(encoding="utf-8")
+    looked.append((len(PLACED.findall(words)), [f"{WORDS}: {name} isn't there" for name in misplaced(code, HEADLINE_CRATES, words)]))
     wrong = [line for _, lines in looked for line in lines]
     found = sum(number for number, _ in looked)
     for line in wrong:
