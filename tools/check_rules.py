@@ -6,7 +6,7 @@ import re
 import sys
 
 ROOT = pathlib.Path(__file__).resolve().parent.parent
-PLACED = re.compile(r"`([^`]+)`, (tipc_\w+)(?: (specs|src)/([\w/]+))?")
+PLACED = re.compile(r"((?:`[^`]+`, )+)(tipc_\w+)(?: (specs|src)/([\w/]+))?")
 
 
 def is_there(name, crate, folder, file):
@@ -29,7 +29,8 @@ def main():
     passed, failed = 0, 0
     table = (ROOT / "docs" / "RULE_TABLE.md").read_text(encoding="utf-8")
     for row in (line for line in table.splitlines() if line.startswith("| ") and "`" in line):
-        for name, crate, folder, file in PLACED.findall(row):
+        placed = [(name, *place) for names, *place in PLACED.findall(row) for name in re.findall("`([^`]+)`", names)]
+        for name, crate, folder, file in placed:
             if is_there(name, crate, folder or None, file):
                 passed += 1
             else:
