@@ -14,7 +14,7 @@ PAGE = TOP / "docs" / "EXTENDING.md"
 CRATES = ("tipc_script", "tipc_sim", "tipc_text_tests")
 LAST_LINE = re.compile("cancel", re.IGNORECASE)
 ROW = re.compile(r"^\| `(crates/[\w./]+)` \|", re.MULTILINE)
-PATH = re.compile(r"`((?:crates|docs|rows|tools|examples)/[\w./]*)`")
+PATH = re.compile(r"`((?:crates/tipc_\w+|docs|rows|tools|examples)/[\w./]*)`")
 
 
 def touched() -> set:
