@@ -3,18 +3,19 @@
 
 chart.py PROGRAM SCRIPT [--html]: prints the chart as SVG, or as one HTML page that has the script and its report below it.
 
-Time goes down. Each node has a line of its own. At the left stand the script's lines with their answers; a line that lets
-frames arrive has each of them beneath it. An arrow goes from where and when a frame was sent to where and when it arrived, and tells its kind, its
-number and the answer. A frame that never arrives is a short line with a cross. An arrow has a colour by its answer: taken; held, that is
-deferred; late, that is ignored or too old. A `link` line tells neither the answers of its frames nor when each was sent: these arrows begin
-just above their heads. Frames of bearer 1 are dashed.
+Time goes down. Each node has a line of its own. At the left stand the script's lines with their answers; a line that
+lets frames arrive has each of them beneath it. An arrow goes from where and when a frame was sent to where and when it
+arrived, and tells its kind, its number and the answer. A frame that never arrives is a short line with a cross. An
+arrow has a colour by its answer: taken; held, that is deferred; late, that is ignored or too old. A `link` line tells
+neither the answers of its frames nor when each was sent: these arrows begin just above their heads. Frames of bearer 1
+are dashed.
 """
 
 import pathlib
 import sys
 import textwrap
 from typing import NamedTuple
-from xml.sax.saxutils import escape, quoteattr
+from xml.sax.saxutils import escape
 
 import tracing
 
@@ -22,9 +23,13 @@ SCRIPT_AT, ANSWER_AT, FIRST_NODE, BETWEEN, RIGHT = 40, 350, 700, 230, 190
 SCRIPT_LETTERS, ANSWER_LETTERS, REMARK_LETTERS = 42, 26, 68
 HEAD, LINE, PART, LOST, REMARK, FOOT = 84, 22, 14, 10, 15, 20
 COLOURS = {"plain": "#57606a", "taken": "#1a7f37", "held": "#0969da", "late": "#bc4c00", "lost": "#cf222e"}
+DASHED = ' stroke-dasharray="5 3"'
 MEANINGS = {"plain": "arrived", "taken": "taken", "held": "held", "late": "late", "lost": "never arrives"}
+# Lines that are no call of one node.
+NO_CALLS = ("", "node", "link", "pump", "mark", "air", "show", "arrive", "settle")
 STYLE = (
-    "text{font:12px monospace;fill:#1f2328}.remark,.number{fill:#6e7781}.label{font-size:10px}.gone{font-size:9px}.node{font-weight:bold;text-anchor:middle}"
+    "text{font:12px monospace;fill:#1f2328}.remark,.number{fill:#6e7781}.label{font-size:10px}.gone{font-size:9px}"
+    ".node{font-weight:bold;text-anchor:middle}"
     ".life{stroke:#d0d7de}.deed{fill:#1f2328}.arrow,.lost{fill:none;stroke-width:1.2}"
 )
 
@@ -91,6 +96,17 @@ def text_at(x: float, y: float, text: str, kind: str, letters: int = 200, more: 
     return f'<text x="{x}" y="{y}" class="{kind}"{more}>{whole}{escape(shown)}</text>'
 
 
+def head(kind: str, colour: str) -> str:
+    """The head of the arrows of one kind."""
+    size = 'markerWidth="7" markerHeight="6" refX="7" refY="3" orient="auto"'
+    return f'<marker id="{kind}" {size}><path d="M0,0L7,3L0,6z" fill="{colour}"/></marker>'
+
+
+def sample(x: int, colour: str, meaning: str, dash: str = "") -> list:
+    """A short line beside what its colour means."""
+    return [f'<path d="M{x},40h26" stroke="{colour}" stroke-width="2"{dash}/>', text_at(x + 32, 44, meaning, "label")]
+
+
 class Drawing:
     """The chart of a trace."""
 
@@ -117,10 +133,8 @@ class Drawing:
         ]
         for place, (kind, colour) in enumerate(COLOURS.items()):
             x = SCRIPT_AT + 130 * place
-            parts.append(f'<marker id="{kind}" markerWidth="7" markerHeight="6" refX="7" refY="3" orient="auto"><path d="M0,0L7,3L0,6z" fill="{colour}"/></marker>')
-            parts.append(f'<path d="M{x},40h26" stroke="{colour}" stroke-width="2"/>{text_at(x + 32, 44, MEANINGS[kind], "label")}')
-        x = SCRIPT_AT + 130 * len(COLOURS)
-        parts.append(f'<path d="M{x},40h26" stroke="#57606a" stroke-width="2" stroke-dasharray="5 3"/>{text_at(x + 32, 44, "on bearer 1", "label")}')
+            parts += [head(kind, colour), *sample(x, colour, MEANINGS[kind])]
+        parts += sample(SCRIPT_AT + 130 * len(COLOURS), "#57606a", "on bearer 1", DASHED)
         for node, at in self.nodes.items():
             parts.append(text_at(at, 66, f"node {node}", "node"))
             parts.append(f'<path class="life" d="M{at},72V{height - FOOT / 2}"/>')
@@ -146,10 +160,10 @@ class Drawing:
         for number, deed in enumerate(self.told.deeds):
             words = deed.text.split(" ")
             words = words[2:] if words[0] == "repeat" else words
-            if words[0] in ("", "#", "node", "link", "pump", "mark", "air", "show", "arrive", "settle") or words[0].startswith("#"):
+            if words[0] in NO_CALLS or words[0].startswith("#"):
                 continue
-            y = self.places.deeds[number] - 4
-            parts.append(f'<circle class="deed" cx="{self.nodes[int(words[1])]}" cy="{y}" r="2.5"><title>{escape(deed.text)}</title></circle>')
+            x, y = self.nodes[int(words[1])], self.places.deeds[number] - 4
+            parts.append(f'<circle class="deed" cx="{x}" cy="{y}" r="2.5"><title>{escape(deed.text)}</title></circle>')
         return parts
 
     def arrows(self) -> list:
@@ -164,13 +178,13 @@ class Drawing:
     def arrow(self, arrival: tracing.Arrival, begin: int, end: int) -> str:
         frame, kind = arrival.frame, class_of(arrival.answer)
         start, stop = self.nodes[frame.sender], self.nodes[frame.receiver]
-        dash = ' stroke-dasharray="5 3"' if frame.bearer else ""
+        dash = DASHED if frame.bearer else ""
         label = frame.name() + (f": {arrival.answer}" if arrival.answer else "")
-        names = f'data-line="{arrival.line}" data-bearer="{frame.bearer}" data-frame="{frame.place}" data-label={quoteattr(label)}'
+        names = f'data-line="{arrival.line}" data-bearer="{frame.bearer}" data-frame="{frame.place}"'
+        line = f'd="M{start},{begin}L{stop},{end}" stroke="{COLOURS[kind]}" marker-end="url(#{kind})"{dash}'
         way = 8 if stop > start else -8
         anchor = "" if stop > start else ' text-anchor="end"'
-        path = f'<path class="arrow {kind}" d="M{start},{begin}L{stop},{end}" stroke="{COLOURS[kind]}" marker-end="url(#{kind})"{dash} {names}/>'
-        return path + text_at(stop + way, end + 4, label, "label", more=anchor)
+        return f'<path class="arrow {kind}" {line} {names}/>' + text_at(stop + way, end + 4, label, "label", more=anchor)
 
     def lost(self) -> list:
         """A short line with a cross for each frame that never arrives."""
@@ -178,11 +192,12 @@ class Drawing:
         for frame, y in zip(self.told.lost(), self.places.lost):
             start, colour = self.nodes[frame.sender], COLOURS["lost"]
             way = 1 if self.nodes[frame.receiver] > start else -1
-            dash = ' stroke-dasharray="5 3"' if frame.bearer else ""
+            dash = DASHED if frame.bearer else ""
             x, at = start + way * 46, y - 4
             names = f'data-bearer="{frame.bearer}" data-frame="{frame.place}"'
             begin = self.places.deeds[frame.deed] - 4
-            path = f'<path class="lost" d="M{start},{begin}L{x},{at}M{x - 4},{at - 4}l8,8m0,-8l-8,8" stroke="{colour}"{dash} {names}/>'
+            line = f'd="M{start},{begin}L{x},{at}M{x - 4},{at - 4}l8,8m0,-8l-8,8" stroke="{colour}"{dash}'
+            path = f'<path class="lost" {line} {names}/>'
             anchor = "" if way > 0 else ' text-anchor="end"'
             parts.append(path + text_at(x + way * 8, at + 3, frame.name(), "gone", more=anchor))
         return parts
@@ -200,7 +215,8 @@ def page(program: str, script: pathlib.Path) -> str:
     lines = "\n".join(f"{line.number:4} {line.text}" for line in told.lines)
     report = "\n".join(f"{line.number:4} {line.answer}" for line in told.lines)
     return (
-        f'<!doctype html>\n<html lang="en">\n<meta charset="utf-8">\n<title>{escape(title)}</title>\n{Drawing(told, title).svg()}'
+        f'<!doctype html>\n<html lang="en">\n<meta charset="utf-8">\n<title>{escape(title)}</title>\n'
+        f"{Drawing(told, title).svg()}"
         f"<h2>The script</h2>\n<pre>{escape(lines)}</pre>\n<h2>Its report</h2>\n<pre>{escape(report)}</pre>\n</html>\n"
     )
 

@@ -1,11 +1,12 @@
 #!/usr/bin/env python3
 """Looks the charts and the picture of the documents up against the program.
 
-check_charts.py PROGRAM: each stored chart (docs/charts/NAME.svg, of examples/NAME.txt) and the README's picture (docs/picture.svg) has to be what
-tools/chart.py and tools/picture.py draw now. And each chart, stored or drawn here of every other example and of the rows that are run to
-their end, is counted: the answers beside its lines are those of the report; a line `pump` has as many arrows as it pumped, and a line `arrive` one,
-unless there was no frame; and each frame of the air, of which `air` tells how many there are, has an arrow, or the cross of one that
-never arrives, and not both. It ends with a line `N passed, M failed`.
+check_charts.py PROGRAM: each stored chart (docs/charts/NAME.svg, of examples/NAME.txt) and the README's picture
+(docs/picture.svg) has to be what tools/chart.py and tools/picture.py draw now. And each chart of the examples, and of
+the rows that are run to their end and aren't long, is drawn and counted: the answers beside its lines are those of the
+report; a line `pump` has as many arrows as it pumped, and a line `arrive` one, unless there was no frame; and each frame
+of the air, of which `air` tells how many there are, has an arrow, or the cross of one that never arrives, and not both.
+It ends with a line `N passed, M failed`.
 
 check_charts.py PROGRAM --write: draws the stored charts and the picture anew.
 """
@@ -25,12 +26,12 @@ CHARTS = TOP / "docs" / "charts"
 PICTURE = TOP / "docs" / "picture.svg"
 STORED = ("a_service", "names_and_returns", "a_link_cut_under_load")
 SVG = "{http://www.w3.org/2000/svg}"
-# A row of more than so many lines, or that makes more arrivals in one, is passed over: its chart shows nothing that others don't.
+# A script of more lines, or of more rounds in one, is passed over.
 MOST_LINES, MOST_ROUNDS = 60, 50
 
 
 class Marks:
-    """What a chart shows: the answers by line, the arrows by line, and the places of the frames of arrows and crosses, by bearer."""
+    """What a chart shows: the answers and arrows by line, and the frames of arrows and of crosses."""
 
     def __init__(self, svg: str):
         root = ElementTree.fromstring(svg)

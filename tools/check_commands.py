@@ -1,13 +1,14 @@
 #!/usr/bin/env python3
 """Looks that the commands of the README do what it says, in a fresh clone.
 
-check_commands.py: in a clone of this repository's last commit, one after the other: the first command, whose output has to be the report that stands
-behind it, with a note on standard error that no proved program is there; ./prove; the first command again, now without a note and within a second; and
-the second command, which has to end with 0 behind lines `N passed, 0 failed`. It says how long each took; ./prove and the gate take hours of processor time.
+check_commands.py: in a clone of this repository's last commit, one after the other: the first command, whose output has
+to be the report that stands behind it, with a note on standard error that no proved program is there; ./prove; the first
+command again, now without a note and within a second; and the second command, which has to end with 0 behind lines
+`N passed, 0 failed`. It says how long each took; ./prove and the gate take hours of processor time.
 check_commands.py --without-proof: the first command alone, in a minute or two.
 
-It ends with 1 where a command does something else. What `rt` has proved on this machine before counts here too, so a machine on which nothing
-was proved is the one to measure on.
+It ends with 1 where a command does something else. What `rt` has proved on this machine before counts here too, so a
+machine on which nothing was proved is the one to measure on.
 """
 
 import pathlib

@@ -1,8 +1,8 @@
 #!/usr/bin/env python3
 """Looks that docs/EXTENDING.md names every file that a line of the script touches.
 
-check_extending.py: the files of the first table have to be just those of tipc_script, tipc_sim and their tests that know of the last line that
-was added, `cancel`; and each path that the page has in backticks has to be there.
+check_extending.py: the files of the first table have to be just those of tipc_script, tipc_sim and their tests that
+know of the last line that was added, `cancel`; and each path that the page has in backticks has to be there.
 """
 
 import pathlib
@@ -19,8 +19,9 @@ PATH = re.compile(r"`((?:crates/tipc_\w+|docs|rows|tools|examples)/[\w./]*)`")
 
 def touched() -> set:
     """The files that know of the line."""
-    paths = [path for crate in CRATES for kind in ("src", "specs", "proofs") for path in (TOP / "crates" / crate / kind).glob("**/*.*")]
-    known = (path for path in paths if path.suffix in (".rt", ".antt") and LAST_LINE.search(path.read_text(encoding="utf-8")))
+    folders = [TOP / "crates" / crate / kind for crate in CRATES for kind in ("src", "specs", "proofs")]
+    paths = [path for folder in folders for path in folder.glob("**/*.*") if path.suffix in (".rt", ".antt")]
+    known = (path for path in paths if LAST_LINE.search(path.read_text(encoding="utf-8")))
     return {str(path.relative_to(TOP)) for path in known}
 
 

@@ -4,13 +4,14 @@
 check_names.py: prints each fault, and a line `N names, M imports and K functions looked at, F faults`.
 
     Names      A name that a file of specs/ defines stands in no other one, or tools/names.txt lists it with each of its
-               places and what it means there. A listed name that stands in other places than it is listed with is a fault too.
-    Imports    A module whose names a file brings in by `use` or `ghost use`, at the begin of a line, stands in one such line, and each name once.
-    Functions  A function of src/ is called in its crate or in one above: by `name(` where it stands alone, `::name` of a type, `.name(` of a value.
-               A law, a test, `main` and what a trait of std asks for are called by nobody. Any other is in tools/uncalled.txt with the reason.
-               Functions of one name and form aren't told apart.
+               places and what it means there. It is a fault, too, where a listed name stands in other places.
+    Imports    A module whose names a file brings in by `use` or `ghost use`, at the begin of a line, stands in one such
+               line, and each name once.
+    Functions  A function of src/ is called in its crate or in one above: by `name(` where it stands alone, `::name` of a
+               type, `.name(` of a value. A law, a test, `main` and what a trait of std asks for are called by nobody. Any
+               other is in tools/uncalled.txt with the reason. Functions of one name and form aren't told apart.
 
-check_names.py --draft: prints tools/names.txt as the comments above the definitions have it.
+check_names.py --draft: prints tools/names.txt as the comments above the definitions have it, to be read and taken over.
 """
 
 import collections
@@ -29,7 +30,10 @@ FUNCTION = re.compile(r"\bfn (\w+)")
 BLOCK = re.compile(r"\b(?:requires|ensures)\b[^{;]*\{|#!?\[")
 HEAD = re.compile(r"(?:^|\n)(?:pub )?(impl|trait)\b([^{]*)\{")
 MEANING_LETTERS = 140
-HEAD_OF_NAMES = "# Names that stand more than once in specs/: under each its places (crate and file), and what it means there. tools/check_names.py looks them up."
+HEAD_OF_NAMES = (
+    "# Names that stand more than once in specs/: under each its places (crate and file), and what it means there.\n"
+    "# tools/check_names.py looks them up."
+)
 CLOSING = {"{": "}", "[": "]"}
 
 
@@ -225,10 +229,11 @@ def calls_of(text: str) -> dict:
     calls = {
         "value": set(re.findall(rf"\.\s*{name}\(", text)),
         "type": set(re.findall(r"::(\w+)", text)),
-        "alone": set(re.findall(rf"(?<![\w.])(?<!fn ){name}\(", text)) | set(re.findall(r"[(,=]\s*(\w+)\s*(?=[,)])", text)) | set(re.findall(r"::(\w+)", text)),
+        "alone": set(re.findall(rf"(?<![\w.])(?<!fn ){name}\(", text)) | set(re.findall(r"[(,=]\s*(\w+)\s*(?=[,)])", text)),
     }
     # A method may be named by its type, and a function stand behind a module.
     calls["value"] |= calls["type"]
+    calls["alone"] |= calls["type"]
     return calls
 
 

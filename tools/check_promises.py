@@ -3,16 +3,18 @@
 
 check_promises.py: prints each name that isn't there, and a line `N names found, M not`.
 
-A part of a page has a heading with its crates, or speaks of the world and the program. A name in backticks is one of these, in a crate of its part or in one on
-which these stand:
+A part of a page has a heading with its crates, or speaks of the world and the program. A name in backticks is one of
+these, in a crate of its part or in one on which these stand:
 
-    `name`          a function, a clause of a contract, a definition of specs/, a field of a record or struct, a type or a variant, or a file of src/
-    `Type::name`    a function of a block of that type or trait, or a variant of it
-    `name`, tipc_x, specs/File    a definition, or a field, of just that file; likewise src/file. Where no crate stands there it is a crate of the part
+    `name`                        a function, a clause of a contract, a definition of specs/, a field of a record or
+                                  struct, a type or a variant, or a file
+    `Type::name`                  both of them
+    `name`, tipc_x, specs/File    a name of just that file; likewise src/file. Where no crate stands there it is a crate
+                                  of the part
     `name`, clauses `a`, `b`      clauses of just that function
 
-What isn't spelled as a name, a formula say, is passed over. Of docs/GLOSSARY.md the names that stand with their place are looked up too. A row of a table or an item of a list that begins with a name promises something of
-it; a part has one such row or item for each.
+What isn't spelled as a name, a formula say, is passed over. An item of a list that begins with a name promises something
+of it, and a part has one such item for each. Of docs/GLOSSARY.md the names that stand with their place are looked up.
 """
 
 import collections

@@ -1,8 +1,9 @@
 #!/usr/bin/env python3
 """Draws a world of three nodes: the picture of the README.
 
-picture.py PROGRAM: prints the picture as SVG. All that it shows the program told of the script examples/three_nodes.txt: the state of each link
-end (`links`), what each journal has (`flow`), and the frames of each bearer's air with what became of them (tools/tracing.py).
+picture.py PROGRAM: prints the picture as SVG. All that it shows the program told of the script examples/three_nodes.txt:
+the state of each link end (`links`), what each journal has (`flow`), and the frames of each bearer's air with what
+became of them (tools/tracing.py).
 """
 
 import pathlib
@@ -18,10 +19,15 @@ WIDTH, HEIGHT = 900, 400
 NODE_WIDTH, NODE_HEIGHT, NODE_TOP, APART = 200, 176, 40, 140
 LINK_TOP, LINK_STEP = 96, 30
 AIR_TOP, AIR_STEP = 262, 52
+OF_THE_AIR = "A frame arrives where a line of the script lets it: once, again, late or never."
+OF_THE_HEADLINE = (
+    "Proved: what was ever delivered at b from a is a front of what a ever accepted for b, contact by contact, whatever arrives."
+)
 STATES = {"W": "up", "R": "in reset", "H": "held"}
 STYLE = (
     "text{font:12px sans-serif;fill:#1f2328}.title{font-weight:bold}.small{font-size:11px}.node{fill:#f6f8fa;stroke:#57606a}"
-    ".pair{fill:#ffffff;stroke:#57606a}.journal{fill:#fff8c5;stroke:#9a6700}.link{stroke:#0969da;stroke-width:2}.second{stroke-dasharray:6 3}"
+    ".pair{fill:#ffffff;stroke:#57606a}.journal{fill:#fff8c5;stroke:#9a6700}"
+    ".link{stroke:#0969da;stroke-width:2}.second{stroke-dasharray:6 3}"
     ".air{fill:#ddf4ff;stroke:#0969da}.arrived{fill:#dafbe1;stroke:#1a7f37}.away{fill:#ffffff;stroke:#bc4c00}"
 )
 
@@ -124,8 +130,8 @@ def draw(program: str) -> str:
     ]
     for node in ORDER:
         parts += node_box(world, node)
-    parts += [*links(world), text_at(10, AIR_TOP - 12, "A frame arrives where a line of the script lets it: once, again, late or never."), *air(world, 0), *air(world, 1)]
-    parts.append(text_at(10, HEIGHT - 14, "Proved: what was ever delivered at b from a is a front of what a ever accepted for b, contact by contact, whatever arrives."))
+    parts += [*links(world), text_at(10, AIR_TOP - 12, OF_THE_AIR), *air(world, 0), *air(world, 1)]
+    parts.append(text_at(10, HEIGHT - 14, OF_THE_HEADLINE))
     return "\n".join([*parts, "</svg>", ""])
 
 

@@ -35,7 +35,8 @@ class Line(NamedTuple):
 
 
 class Frame(NamedTuple):
-    """A frame that was sent: the bearer, its place in that bearer's air from 0, both nodes, kind and number (0: none), and the deed that sent it."""
+    """A frame that was sent: the bearer, its place in that bearer's air from 0, both nodes, its kind and number (0: none),
+    and the deed that sent it."""
 
     bearer: int
     place: int
@@ -48,9 +49,13 @@ class Frame(NamedTuple):
     def name(self) -> str:
         return f"{self.kind} {self.number}" if self.number else self.kind
 
+    def way(self) -> str:
+        return f"{self.sender} to {self.receiver} on {self.bearer}, {self.name()}"
+
 
 class Deed(NamedTuple):
-    """A part of a line of the script: the line's number, what is asked for, and the place of the frame that it lets arrive, where it does."""
+    """A part of a line of the script: the line's number, what is asked for, and the place of the frame that it lets
+    arrive, where it does."""
 
     line: int
     text: str
@@ -147,7 +152,8 @@ class Tracer:
             self.pumped[bearer] = end
 
     def settle(self, line: int, rounds: int):
-        """Rounds: each node ticks, and the frames arrive that are in the air then and didn't arrive in a round before. The load is asked for last."""
+        """Rounds: each node ticks, and the frames arrive that are in the air then and didn't arrive in a round before. The
+        load is asked for last."""
         places = self.ends()
         for _ in range(rounds):
             self.deeds += [Deed(line, f"tick {node}") for node in sorted(self.nodes)]
@@ -287,9 +293,9 @@ def main(words: list) -> int:
         return 2
     for arrival in told.arrivals:
         frame = arrival.frame
-        print(f"{arrival.line}: {frame.sender} to {frame.receiver} on {frame.bearer}, {frame.name()}: {arrival.answer or 'arrives'}")
+        print(f"{arrival.line}: {frame.way()}: {arrival.answer or 'arrives'}")
     for frame in told.lost():
-        print(f"{told.deeds[frame.deed].line}: {frame.sender} to {frame.receiver} on {frame.bearer}, {frame.name()}: never arrives")
+        print(f"{told.deeds[frame.deed].line}: {frame.way()}: never arrives")
     return 0
 
 

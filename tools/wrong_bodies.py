@@ -1,12 +1,13 @@
 #!/usr/bin/env python3
 """Prints a row for each wrong body of the code: where it stands, which function it is of, and which rule that leads to.
 
-wrong_bodies.py [WORD..]: a table of all edits (crates/NAME/must-fail and wrong-bodies), or of those whose row has one of these words.
-wrong_bodies.py --look: prints only those that lead nowhere, and how many do. It fails where an edit's text stands in no function or item, or where
-neither a row of docs/RULE_TABLE.md nor docs/PROMISES.md leads on from it.
+wrong_bodies.py [WORD..]: a table of all edits (crates/NAME/must-fail and wrong-bodies), or of those whose row has one of
+these words.
+wrong_bodies.py --look: prints only those that lead nowhere, and how many do. It fails where an edit's text stands in no
+function or item, or where neither a row of docs/RULE_TABLE.md nor docs/PROMISES.md leads on from it.
 
-A rule is that of a row of docs/RULE_TABLE.md that names the edit itself, or the edit's function, or another function of its file. Where there is none,
-the part of docs/PROMISES.md stands there that tells of the crate.
+A rule is that of a row of docs/RULE_TABLE.md that names the edit itself, or the edit's function, or another function of
+its file. Where there is none, the part of docs/PROMISES.md stands there that tells of the crate.
 """
 
 import pathlib
@@ -99,7 +100,8 @@ def main(words: list) -> int:
         return 1 if lost or not found else 0
     print("| Wrong body | Of | Tried by the gate | Leads to |\n|---|---|---|---|")
     for edit in found:
-        row = f"| `{edit.name}`, {edit.crate} | `{edit.function}`, {edit.file.removesuffix('.rt')} | {'yes' if edit.is_tried else ''} | {leads_to(edit, known, crates)} |"
+        of, tried = f"`{edit.function}`, {edit.file.removesuffix('.rt')}", "yes" if edit.is_tried else ""
+        row = f"| `{edit.name}`, {edit.crate} | {of} | {tried} | {leads_to(edit, known, crates)} |"
         if not words or any(word in row for word in words):
             print(row)
     return 0
