@@ -1,4 +1,5 @@
 pub mod Indexed
+pub mod Names
 pub mod Order
 pub mod Places
 pub mod Same

@@ -10,7 +10,7 @@ use Rattle.std.proofs.lemmas.Bool.Decides.{nat_tests}
 use Rattle.std.proofs.lemmas.Cmp.{nat_list_cmp_total, on_total, ranked}
 use Rattle.tipc_types.specs.declared.services.Publication.{Publication}
 use Rattle.tipc_types.specs.Tables.{is_of, place_cmp, place_of, put, stands_before, IsInOrder}
-use Rattle.tipc_name_index.specs.Ranges.{may_reach, range_cmp, range_of}
+use Rattle.tipc_name_index.specs.Ranges.{may_reach, name_cmp, name_of, range_cmp, range_of}
 use Rattle.tipc_name_index.proofs.Order.{filter_none, filter_whole, all_negated, none_before}
 
 pub places_total : IsTotalOrder place_cmp
@@ -18,6 +18,9 @@ places_total = on_total place_of nat_list_cmp_total
 
 pub ranges_total : IsTotalOrder range_cmp
 ranges_total = on_total range_of nat_list_cmp_total
+
+pub names_total : IsTotalOrder name_cmp
+names_total = on_total name_of nat_list_cmp_total
 
 pub then_equal : (o : Ordering) → ordering_then o Equal ≡ o
 then_equal Less = refl

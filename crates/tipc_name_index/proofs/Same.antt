@@ -1,12 +1,13 @@
 -- The same publications in two orders.
 use Rattle.std.proofs.Common.{◌≡◌, ℕ, suc, ◌+◌, ◌≤◌, Bool, true, false, cond, ◌&&◌, ◌||◌, not, List, [], ◌∷◌, ◌++◌, Contains, filter, refl, sym, ap, ap₂, subst, ◌∙◌, true≢false, eqb-true, arith, IsPermutation}
-use Rattle.std.specs.Prelude.{count_by, find, Option, Some, unwrap_or, ◌==◌}
+use Rattle.std.specs.Prelude.{count_by, find, Option, None, Some, unwrap_or, ◌==◌}
 use Rattle.std.specs.List.{list_any, AllByRecursion, AllPairs}
 use Rattle.std.specs.List.Sorted.{IsStrictlySortedBy}
 use Rattle.std.specs.Ordering.{is_lt}
 use Rattle.std.specs.declared.cmp.Ordering.TheVariants.{Less}
 use Rattle.std.proofs.lemmas.Bool.Decides.{nat_tests}
 use Rattle.std.proofs.lemmas.List.Elements.{recursion_from_All}
+use Rattle.std.proofs.lemmas.Option.{none-some}
 use Rattle.std.proofs.lemmas.List.Filters.{sum_by-filter_both}
 use Rattle.std.proofs.lemmas.List.Sorted.{sum_by-IsPermutation}
 use Rattle.std.proofs.lemmas.List.Sums.{sum_by-append, sum_by-cons}
@@ -16,6 +17,7 @@ use Rattle.tipc_types.specs.declared.services.Scope.TheVariants.{Zone, Cluster, 
 use Rattle.tipc_types.specs.Tables.{is_named, is_of, place_cmp, put, stands_before}
 use Rattle.tipc_types.proofs.Places.{count_by-put}
 use Rattle.tipc_name_index.specs.Ranges.{AreSame}
+use Rattle.tipc_name_index.proofs.Order.{none_counted}
 
 counted : (test : Publication → Bool) (p : Publication) (ps : List Publication) → count_by test (p ∷ ps) ≡ cond (test p) 1 0 + count_by test ps
 counted test p ps = sum_by-cons (λ q. cond (test q) 1 0) p ps
@@ -149,7 +151,7 @@ found_is p q qs test k e = ap (λ (o : Option Publication). unwrap_or o q) (sym 
 found_later : (p q : Publication) (qs : List Publication) (test : Publication → Bool) → test q ≡ false → find test (q ∷ qs) ≡ Some p → find test qs ≡ Some p
 found_later p q qs test k e = sym (ap (λ (b : Bool). cond b (Some q) (find test qs)) k) ∙ e
 
-found_counted : (test : Publication → Bool) (p : Publication) (ps : List Publication) → find test ps ≡ Some p → 1 ≤ count_by (is_same p) ps
+pub found_counted : (test : Publication → Bool) (p : Publication) (ps : List Publication) → find test ps ≡ Some p → 1 ≤ count_by (is_same p) ps
 found_counted test p [] e = absurd cc
 found_counted test p (q ∷ qs) e = by (test q) refl (found_counted test p qs)
   where
@@ -173,6 +175,36 @@ found_passes test p (q ∷ qs) e = by (test q) refl (found_passes test p qs)
     by : (b : Bool) → test q ≡ b → (find test qs ≡ Some p → test p ≡ true) → test p ≡ true
     by true k later = subst (λ (r : Publication). test r ≡ true) (found_is p q qs test k e) k
     by false k later = later (found_later p q qs test k e)
+
+-- where one alone passes, and it is there, a search finds it
+pub same_found : (test : Publication → Bool) (p : Publication) (ps : List Publication) → test p ≡ true → 1 ≤ count_by (is_same p) ps → count_by test ps ≤ 1 → find test ps ≡ Some p
+same_found test p [] passes some one = absurd (omega (arith, some))
+same_found test p (q ∷ qs) passes some one = by (test q) (is_same p q) refl refl (same_found test p qs passes)
+  where
+    by : (b c : Bool) → test q ≡ b → is_same p q ≡ c → (1 ≤ count_by (is_same p) qs → count_by test qs ≤ 1 → find test qs ≡ Some p) → cond b (Some q) (find test qs) ≡ Some p
+    by true true k e later = ap (λ (r : Publication). Some r) (sym (same_is p q e))
+    by true false k e later =
+        let here : ◌≡◌ {A = ℕ} (cond (is_same p q) 1 0) 0 = ap (λ (b : Bool). cond b 1 0) e in
+        let passed : ◌≡◌ {A = ℕ} (cond (test q) 1 0) 1 = ap (λ (b : Bool). cond b 1 0) k in
+        let none : count_by test qs ≡ 0 = omega (arith, one, passed, counted test q qs) in
+        absurd (true≢false (sym passes ∙ held_by (λ r. test r ≡ false) p qs (none_counted test qs none) (omega (arith, some, here, counted (is_same p) q qs))))
+    by false true k e later = absurd (true≢false (sym passes ∙ ap test (same_is p q e) ∙ k))
+    by false false k e later =
+        let here : ◌≡◌ {A = ℕ} (cond (is_same p q) 1 0) 0 = ap (λ (b : Bool). cond b 1 0) e in
+        let passed : ◌≡◌ {A = ℕ} (cond (test q) 1 0) 0 = ap (λ (b : Bool). cond b 1 0) k in
+        later (omega (arith, some, here, counted (is_same p) q qs)) (omega (arith, one, passed, counted test q qs))
+
+-- where a search finds none, none passes
+pub unfound : (test : Publication → Bool) (ps : List Publication) → find test ps ≡ None → count_by test ps ≡ 0
+unfound test [] e = refl
+unfound test (p ∷ ps) e = by (test p) refl (unfound test ps)
+  where
+    by : (b : Bool) → test p ≡ b → (find test ps ≡ None → count_by test ps ≡ 0) → count_by test (p ∷ ps) ≡ 0
+    by true k later = absurd (none-some p (sym e ∙ ap (λ (b : Bool). cond b (Some p) (find test ps)) k))
+    by false k later =
+        let passed : ◌≡◌ {A = ℕ} (cond (test p) 1 0) 0 = ap (λ (b : Bool). cond b 1 0) k in
+        let rest = later (sym (ap (λ (b : Bool). cond b (Some p) (find test ps)) k) ∙ e) in
+        omega (arith, passed, rest, counted test p ps)
 
 -- ---- two lists of the same publications, each in order of node, port and key, are one list
 

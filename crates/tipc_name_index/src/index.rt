@@ -2,21 +2,23 @@
 
 ghost use Rattle.std.specs.Prelude.{◌≡◌, [], IfOk};
 
-use crate::changes::{check, held_as, put_both, take_out, take_range_out};
+use crate::changes::{check, put_each, take_name_out, take_out, take_range_out};
 use crate::orders::put_in_order;
-use crate::searches::those_that_may_reach;
+use crate::searches::{named_in, those_that_may_reach};
 use std::alloc::Global;
 use std::marker::Model;
 use tipc_name_table::{NameFault, Names, Unknown, covering, remove_node, sharing};
 use tipc_types::{Addr, List, NoMemory, Publication, ServiceRange};
 
-/// A name table that holds its publications twice: in order of node, port and key, and in order of service type, lower bound,
-/// upper bound, node, port and key. Places are found by halves. A publication costs a pass over those of its node, and a look-up
-/// one over those of its service type that begin no later than at its last instance.
+/// A name table that holds its publications three times: in order of node, port and key; in order of service type, lower bound,
+/// upper bound, node, port and key; and in order of node and key. Places are found by halves. A publication and a withdrawal cost
+/// no pass, but what stands behind is moved on; a look-up costs one over those of its service type that begin no later than at
+/// its last instance.
 #[derive(Drop)]
 pub struct NameIndex {
     held: Vec<Publication>,
     ranges: Vec<Publication>,
+    named: Vec<Publication>,
 }
 
 impl Model for NameIndex {
@@ -28,7 +30,7 @@ impl Model for NameIndex {
 
     ghost view = { λ t. t.held.items };
 
-    ghost invariant = { λ t. IsIndex t.held.items t.ranges.items };
+    ghost invariant = { λ t. IsIndex t.held.items t.ranges.items t.named.items };
 }
 
 impl NameIndex {
@@ -39,6 +41,7 @@ impl NameIndex {
         NameIndex {
             held: Vec::new(alloc),
             ranges: Vec::new(alloc),
+            named: Vec::new(alloc),
         }
     }
 
@@ -56,6 +59,7 @@ impl NameIndex {
         Ok(NameIndex {
             held: self.held.clone()?,
             ranges: self.ranges.clone()?,
+            named: self.named.clone()?,
         })
     }
 }
@@ -64,17 +68,23 @@ impl Names for NameIndex {
     ghost table = { λ t. t };
 
     fn publish(&mut self, p: Publication) -> Result<(), NameFault> {
-        check(self.held.as_slice(), p.at.node, p.key)?;
-        put_both(&mut self.held, &mut self.ranges, &p)?;
+        check(
+            self.held.as_slice(),
+            self.named.as_slice(),
+            p.at.node,
+            p.key,
+        )?;
+        put_each(&mut self.held, &mut self.ranges, &mut self.named, &p)?;
         Ok(())
     }
 
     fn withdraw(&mut self, node: Addr, key: u32) -> Result<Publication, Unknown> {
-        let Some(p) = held_as(self.held.as_slice(), node, key) else {
+        let Some(p) = named_in(self.named.as_slice(), node, key) else {
             return Err(Unknown);
         };
         take_out(&mut self.held, &p);
         take_range_out(&mut self.ranges, &p);
+        take_name_out(&mut self.named, &p);
         Ok(p)
     }
 
@@ -95,5 +105,6 @@ impl Names for NameIndex {
     fn purge(&mut self, node: Addr) {
         remove_node(&mut self.held, node);
         remove_node(&mut self.ranges, node);
+        remove_node(&mut self.named, node);
     }
 }

@@ -1,11 +1,11 @@
 //! Searches by halves in publications that are kept in order.
 
-ghost use Rattle.std.specs.Prelude.{◌≡◌, ◌≤◌, drop, filter, length, not, take};
+ghost use Rattle.std.specs.Prelude.{◌≡◌, ◌≤◌, drop, filter, find, length, not, take};
 ghost use Rattle.std.specs.List.Sorted.{IsStrictlySortedBy};
-ghost use Rattle.tipc_types.specs.Tables.{is_of, stands_before, IsInOrder};
-ghost use Rattle.tipc_name_index.specs.Ranges.{begins_before, may_reach, range_cmp};
+ghost use Rattle.tipc_types.specs.Tables.{is_named, is_of, stands_before, IsInOrder};
+ghost use Rattle.tipc_name_index.specs.Ranges.{begins_before, may_reach, name_before, name_cmp, range_cmp};
 
-use crate::orders::{place_cmp, range_cmp};
+use crate::orders::{is_named, name_before, place_cmp, range_cmp};
 use tipc_types::{Addr, Publication};
 
 /// How many of the publications that stand in order of node, port and key stand before this one.
@@ -26,6 +26,32 @@ pub(crate) fn range_place_for(ranges: &[Publication], p: &Publication) -> usize
     ensures behind { drop result ranges.now ≡ filter (λ q. not (begins_before q p.now)) ranges.now }
 {
     ranges.partition_point(|q| range_cmp(q, p).is_lt())
+}
+
+/// How many of the publications that stand in the order of names stand before the name of a node and key.
+pub(crate) fn name_place_for(names: &[Publication], node: Addr, key: u32) -> usize
+    requires { IsStrictlySortedBy name_cmp names.now }
+    ensures within { result ≤ length names.now }
+    ensures before { take result names.now ≡ filter (name_before node.word key) names.now }
+    ensures behind { drop result names.now ≡ filter (λ q. not (name_before node.word key q)) names.now }
+{
+    names.partition_point(|q| name_before(q, node, key))
+}
+
+/// The publication of a node and key among those that stand in the order of names.
+pub(crate) fn named_in(names: &[Publication], node: Addr, key: u32) -> Option<Publication>
+    requires { IsStrictlySortedBy name_cmp names.now }
+    ensures { result ≡ find (is_named node.word key) names.now }
+{
+    let at = name_place_for(names, node, key);
+    if at >= names.len() {
+        return None;
+    }
+    let p = names[at];
+    if !is_named(&p, node, key) {
+        return None;
+    }
+    Some(p)
 }
 
 /// Those of a node, which stand together in the order of node, port and key.

@@ -13,7 +13,7 @@ returns-clause-matches c =
     let ranges = c.self.inside.ranges.items in
     let found = c.put_in_order.new.found.items in
     let passed = c.in_ok-found.ensures ∙ ap (filter test) (c.those_that_may_reach-near.ensures ∙ ap (filter near) c.as_slice.ensures.value) in
-    c.from_vec.ensures ∙ looked_up test near (covers_near c.args.kind c.args.instance) c.self.inside.held.items ranges found c.self.invariant
+    c.from_vec.ensures ∙ looked_up test near (covers_near c.args.kind c.args.instance) c.self.inside.held.items ranges c.self.inside.named.items found c.self.invariant
     (subst (λ (ps : List Publication). IsPermutation ps found) passed c.put_in_order.ensures.same) c.put_in_order.ensures.ordered
     ∙ ap (filter test) c.self.view_is
 

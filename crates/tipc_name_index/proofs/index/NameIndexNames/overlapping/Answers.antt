@@ -13,6 +13,6 @@ returns-clause-overlap c =
     let found = c.put_in_order.new.found.items in
     let reach = ap₂ (λ kind upper. filter (may_reach kind upper) c.as_slice.result.now) c.kind.ensures c.upper.ensures.value in
     let passed = c.in_ok-found.ensures ∙ ap (filter test) (c.those_that_may_reach-near.ensures ∙ reach ∙ ap (filter near) c.as_slice.ensures.value) in
-    c.from_vec.ensures ∙ looked_up test near (overlaps_near c.args.range) c.self.inside.held.items ranges found c.self.invariant
+    c.from_vec.ensures ∙ looked_up test near (overlaps_near c.args.range) c.self.inside.held.items ranges c.self.inside.named.items found c.self.invariant
     (subst (λ (ps : List Publication). IsPermutation ps found) passed c.put_in_order.ensures.same) c.put_in_order.ensures.ordered
     ∙ ap (filter test) c.self.view_is
