@@ -35,9 +35,9 @@ fn no_copies(alloc: Global) -> Result<Vec<Option<Neighbour>>, NoMemory>
     ensures wide { IfOk result (λ copies. length copies.items ≡ 33) }
     ensures empty { IfOk result (λ copies. (k : ℕ) → slice_index_or copies.items k None ≡ None) }
 {
-    let mut copies = Vec::new(alloc);
+    let mut copies = Vec::with_capacity(alloc, NUMBERS)?;
     for _ in 0..NUMBERS {
-        copies.push(None)?;
+        copies.push_reserved(None);
     }
     Ok(copies)
 }
