@@ -5,7 +5,7 @@ ghost use Rattle.std.specs.Prelude.{◌≡◌, [], IfOk};
 use crate::changes::{check, put_each, take_name_out, take_out, take_range_out};
 use crate::orders::put_in_order;
 use crate::searches::{named_in, those_that_may_reach};
-use std::alloc::Global;
+use std::alloc::{AllocError, Global};
 use std::marker::Model;
 use tipc_name_table::{NameFault, Names, Unknown, covering, remove_node, sharing};
 use tipc_types::{Addr, List, NoMemory, Publication, ServiceRange};
@@ -33,6 +33,13 @@ impl Model for NameIndex {
     ghost invariant = { λ t. IsIndex t.held.items t.ranges.items t.named.items };
 }
 
+/// The same publications, copied in one piece.
+fn copy_of(publications: &Vec<Publication>) -> Result<Vec<Publication>, AllocError>
+    ensures { IfOk result (λ copy. copy.items ≡ publications.now.items) }
+{
+    Vec::from_slice(*publications.allocator(), publications.as_slice())
+}
+
 impl NameIndex {
     /// A table without publications.
     pub fn new(alloc: Global) -> NameIndex
@@ -57,9 +64,9 @@ impl NameIndex {
         ensures { IfOk result (λ copy. copy ≡ self.now) }
     {
         Ok(NameIndex {
-            held: self.held.clone()?,
-            ranges: self.ranges.clone()?,
-            named: self.named.clone()?,
+            held: copy_of(&self.held)?,
+            ranges: copy_of(&self.ranges)?,
+            named: copy_of(&self.named)?,
         })
     }
 }
