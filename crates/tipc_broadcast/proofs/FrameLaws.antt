@@ -8,7 +8,8 @@ use Rattle.tipc_header.proofs.FrameWords.{length-envelope}
 use Rattle.tipc_header.proofs.Words.{length-word}
 use Rattle.tipc_broadcast.specs.Frames.{accepted_frame, numbered_frame}
 
-numbered_is : (number : ℕ) (frame : List ℕ) → numbered_frame number frame ≡ take 24 frame ++ (word number ++ drop 28 frame)
+-- the number stands between what is before it and what is behind it
+pub numbered_is : (number : ℕ) (frame : List ℕ) → numbered_frame number frame ≡ take 24 frame ++ (word number ++ drop 28 frame)
 unfolding numbered_frame word
 numbered_is number frame = refl
 

@@ -3,4 +3,4 @@ pub mod Finding
 pub mod FrameLaws
 pub mod Keeping
 pub mod SetLaws
-pub mod Taking
+pub mod Shortness

@@ -3,6 +3,7 @@ use Rattle.std.specs.Prelude.{ℕ, ◌+◌, ◌-◌, ◌≤◌, ◌&&◌, Bool, 
 use Rattle.tipc_types.specs.Address.{IsNodeWord}
 use Rattle.tipc_types.specs.Position.{distance_of, number_of}
 use Rattle.tipc_types.specs.declared.link_words.BroadcastState.{BroadcastState}
+use Rattle.tipc_types.specs.declared.link_words.Why.{Why}
 use Rattle.tipc_types.specs.declared.link_words.Why.TheVariants as why
 use Rattle.tipc_types.specs.declared.packet_lists.Kept.{Kept}
 use Rattle.tipc_types.specs.declared.packet_lists.Taken.{Taken}
@@ -10,8 +11,9 @@ use Rattle.tipc_outside.specs.declared.outgoing.Outgoing.{Outgoing}
 use Rattle.tipc_header.specs.Spelling.{Fields}
 use Rattle.tipc_send_window.specs.Sending.{acked_of, fresh, kept_of, offered, passed_over, released, Sending}
 use Rattle.tipc_recv_window.specs.declared.outcomes.LinkOutcome.{LinkOutcome}
+use Rattle.tipc_recv_window.specs.Receiving.{Coming}
 use Rattle.tipc_broadcast.specs.declared.contacts.Contact.{Contact}
-use Rattle.tipc_broadcast.specs.Contacts.{acked_by_all, acknowledging, brought, contact_with, heard, heard_outcome, IsContact, joined, member_set, refusal, shown_to, told, with_changed, without}
+use Rattle.tipc_broadcast.specs.Contacts.{acked_by_all, acknowledging, carried, coming_to, contact_with, heard, heard_outcome, IsContact, joined, member_set, refusal, refusal_to, shown_to, told, with_changed, without}
 use Rattle.tipc_broadcast.specs.Frames.{accepted_frame, cast_again, cast_all}
 
 -- the broadcast link of a node, as contracts see it
@@ -168,13 +170,41 @@ abbrev pub hearing_outcome : Casting → ℕ → ℕ → Taken → Option Contac
 hearing_outcome v boot members t None = LinkOutcome.Ignored why.OutOfStep
 hearing_outcome v boot members t (Some c) = heard_outcome t c (refusal v.own boot members c)
 
+-- after a packet that came from a boot of a node, for these members
+abbrev pub hearing : Casting → ℕ → ℕ → ℕ → Taken → Casting
+hearing v peer boot members t = with_contacts v (with_changed peer (λ c. heard t c (refusal v.own boot members c)) v.contacts)
+
 -- after a packet p that this arrival brought, from a boot of its previous node, for these members
 abbrev pub arriving : Casting → ℕ → ℕ → Fields → ℕ → Casting
-arriving v boot members p by = with_contacts v (with_changed p.previous (λ c. heard (brought p by) c (refusal v.own boot members c)) v.contacts)
+arriving v boot members p by = hearing v p.previous boot members (carried p by)
 
 -- what the arrival of that packet answers
 abbrev pub arriving_outcome : Casting → ℕ → ℕ → Fields → ℕ → LinkOutcome
-arriving_outcome v boot members p by = hearing_outcome v boot members (brought p by) (contact_with p.previous v.contacts)
+arriving_outcome v boot members p by = hearing_outcome v boot members (carried p by) (contact_with p.previous v.contacts)
+
+-- what an arrival will make of the broadcast link: from which node the packet comes, what it makes of the receive window
+-- of that node's broadcast, and what it answers
+pub record CastComing : Type 0 where
+  pub peer : ℕ
+  pub window : Option Coming
+  pub outcome : LinkOutcome
+
+-- what it will make of the receive window; one from a node that isn't in contact is ignored
+abbrev pub coming_of : Casting → ℕ → ℕ → Taken → Option Contact → Option Coming
+coming_of v boot members t None = None
+coming_of v boot members t (Some c) = coming_to t c (refusal v.own boot members c)
+
+-- what the arrival of that packet will make of the broadcast link
+abbrev pub coming_at : Casting → ℕ → ℕ → Fields → ℕ → CastComing
+coming_at v boot members p by = record {
+  peer = p.previous;
+  window = coming_of v boot members (carried p by) (contact_with p.previous v.contacts);
+  outcome = arriving_outcome v boot members p by;
+}
+
+-- why a packet for these members from a boot of a node is ignored before its number is read, where it is
+abbrev pub refusal_of : Casting → ℕ → ℕ → ℕ → Option Why
+refusal_of v boot members previous = refusal_to v.own boot members (contact_with previous v.contacts)
 
 -- ---- what is true of every broadcast link
 
@@ -184,4 +214,6 @@ pub record IsCasting (own : ℕ) (sending : Sending) (peers : List Contact) : Ty
   pub few : length sending.waiting ≤ 246
   pub unacked : All (λ frame. 32 ≤ length frame) sending.unacked
   pub waiting : All (λ frame. 32 ≤ length frame) sending.waiting
+  pub short_unacked : All (λ frame. length frame ≤ 1516) sending.unacked
+  pub short_waiting : All (λ frame. length frame ≤ 1516) sending.waiting
   pub contacts : All (IsContact (acked_of sending) (accepted sending)) peers

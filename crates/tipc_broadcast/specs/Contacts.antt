@@ -1,6 +1,6 @@
 -- What a broadcast link keeps of one peer in contact, and of all of them. The position of a packet counts the
 -- packets that the caster accepted, from 1 on.
-use Rattle.std.specs.Prelude.{ℕ, ◌+◌, ◌-◌, ◌/◌, ◌%◌, ◌^◌, ◌≤◌, ◌==◌, ◌&&◌, Bool, true, false, not, List, [], ◌∷◌, filter, fold, max, min, nat_le, nat_lt, Option, Some, None, is_some, if◌then◌else◌}
+use Rattle.std.specs.Prelude.{◌≡◌, ℕ, ◌+◌, ◌-◌, ◌/◌, ◌%◌, ◌^◌, ◌≤◌, ◌==◌, Bool, true, false, not, List, [], ◌∷◌, filter, fold, max, min, nat_le, Option, Some, None, IfSome, is_some, if◌then◌else◌}
 use Rattle.std.specs.List.{find}
 use Rattle.std.specs.Int.Bits.{bit_or}
 use Rattle.tipc_types.specs.Address.{IsNodeWord}
@@ -14,9 +14,7 @@ use Rattle.tipc_header.specs.declared.packet.Header.TheVariants as header
 use Rattle.tipc_header.specs.Frames.{sent_as}
 use Rattle.tipc_header.specs.Spelling.{Fields, spelling}
 use Rattle.tipc_recv_window.specs.declared.outcomes.LinkOutcome.{LinkOutcome}
-use Rattle.tipc_recv_window.specs.declared.outcomes.Place.{Place}
-use Rattle.tipc_recv_window.specs.declared.outcomes.Place.TheVariants as place
-use Rattle.tipc_recv_window.specs.Receiving.{Receiving, arrived_at, deferred_count, drained, fresh, gap_of, past_wanted, place_at, run_of}
+use Rattle.tipc_recv_window.specs.Receiving.{Coming, Receiving, ahead, brought, coming, deferred_count, drained, fresh, gap_to, next_of, outcome_at, past_wanted, place_at, run_of, shows_more, with_packet}
 use Rattle.tipc_broadcast.specs.declared.contacts.Contact.{Contact}
 
 -- ---- the peers in contact
@@ -78,22 +76,6 @@ acknowledging numbered number c = record c { acked = acknowledged_to numbered c.
 abbrev pub is_in_step : Contact → Bool
 is_in_step c = is_some c.window
 
--- how far a next number is ahead of the wanted one: 0 where it is more than 32,767 ahead, and so behind
-unfoldable pub ahead : Receiving → ℕ → ℕ
-ahead r number = if nat_le (past_wanted r number) 32767 then past_wanted r number else 0
-
--- a next number is 1 to 50 past the wanted one: the peer has sent more than was taken
-abbrev pub is_more : Receiving → ℕ → Bool
-is_more r number = nat_lt 0 (past_wanted r number) && nat_le (past_wanted r number) 50
-
--- how many packets are missing where none is held: up to the next position shown, as far as a window reaches
-abbrev pub missing : Receiving → ℕ → ℕ
-missing r shown = if nat_le (shown - r.wanted) 50 then shown - r.wanted else 0
-
--- how many packets are missing: up to the first that is held, or up to the next position shown
-unfoldable pub gap : Receiving → ℕ → ℕ
-gap r shown = if gap_of r == 0 then missing r shown else gap_of r
-
 -- In step after a STATE that showed this start: the first one of the contact fixes it.
 abbrev pub stepped : ℕ → Contact → Contact
 stepped start c = if is_in_step c then c else record c { window = Some (fresh start); shown = start }
@@ -114,7 +96,7 @@ told start next c = noted next (stepped start c)
 -- whether a STATE shows more than was taken
 abbrev pub shows_more_in : ℕ → Option Receiving → Bool
 shows_more_in next None = false
-shows_more_in next (Some r) = is_more r next
+shows_more_in next (Some r) = shows_more r next
 
 -- whether a STATE of a node shows more than was taken of its broadcast; one of a node that isn't in contact shows
 -- nothing
@@ -125,7 +107,7 @@ shows_more_to next (Some c) = shows_more_in next c.window
 -- what a STATE to the peer shows; the sender's next number is `next`
 abbrev pub shown_in : ℕ → ℕ → ℕ → Option Receiving → BroadcastState
 shown_in next start shown None = record { acknowledged = 0; next = next; start = start; gap = 0; in_step = false }
-shown_in next start shown (Some r) = record { acknowledged = number_of (r.wanted + 65535); next = next; start = start; gap = gap r shown; in_step = true }
+shown_in next start shown (Some r) = record { acknowledged = number_of (r.wanted + 65535); next = next; start = start; gap = gap_to r shown; in_step = true }
 
 -- for a peer that hasn't joined, `start` is the number with which its copy would begin
 abbrev pub shown_to : ℕ → ℕ → Option Contact → BroadcastState
@@ -156,6 +138,11 @@ refusal own boot members c =
     else (if not (is_member own members) then Some why.NotMember
     else None))
 
+-- why one from a node is ignored; from a node that isn't in contact each is
+abbrev pub refusal_to : ℕ → ℕ → ℕ → Option Contact → Option Why
+refusal_to own boot members None = Some why.OutOfStep
+refusal_to own boot members (Some c) = refusal own boot members c
+
 -- the previous node that a packet shows before it is sent: a message names its node from the start, and a fragment
 -- names none before it is sent
 abbrev pub previous_before : Header → ℕ → ℕ
@@ -167,28 +154,18 @@ abbrev pub as_accepted : Fields → Fields
 as_accepted p = sent_as 0 0 (previous_before p.header p.previous) p
 
 -- the packet that an arrival brought
-abbrev pub brought : Fields → ℕ → Taken
-brought p by = record { number = p.sequence; packet = spelling (as_accepted p); by = by }
-
--- the receive window with it
-abbrev pub window_with : Receiving → Taken → Receiving
-window_with r t = arrived_at r (past_wanted r t.number) t
-
--- what an arrival answers at a place, where these packets can be taken then
-abbrev pub outcome_at : Place → List Taken → LinkOutcome
-outcome_at place.InOrder due = LinkOutcome.Took due
-outcome_at place.Deferred due = LinkOutcome.Deferred
-outcome_at place.Old due = LinkOutcome.Ignored why.Old
+abbrev pub carried : Fields → ℕ → Taken
+carried p by = brought p.sequence (spelling (as_accepted p)) by
 
 -- the receiving rule: the wanted packet is taken with those behind it that are held, and one that is early is held
 abbrev pub taken_in : Contact → Taken → Option Receiving → Contact
 taken_in c t None = c
-taken_in c t (Some r) = record c { window = Some (drained (window_with r t)) }
+taken_in c t (Some r) = record c { window = Some (drained (with_packet r t)) }
 
 -- what an arrival that isn't refused answers, by where its number lies in the receive window
 abbrev pub outcome_in : Taken → Option Receiving → LinkOutcome
 outcome_in t None = LinkOutcome.Ignored why.OutOfStep
-outcome_in t (Some r) = outcome_at (place_at r (past_wanted r t.number)) (run_of (window_with r t).held)
+outcome_in t (Some r) = outcome_at (place_at r (past_wanted r t.number)) (run_of (with_packet r t).held)
 
 -- after an arrival that is refused for a reason, or isn't
 abbrev pub heard : Taken → Contact → Option Why → Contact
@@ -200,7 +177,21 @@ abbrev pub heard_outcome : Taken → Contact → Option Why → LinkOutcome
 heard_outcome t c (Some reason) = LinkOutcome.Ignored reason
 heard_outcome t c None = outcome_in t c.window
 
+-- what a packet will make of the receive window, where there is one
+abbrev pub coming_in : Taken → Option Receiving → Option Coming
+coming_in t None = None
+coming_in t (Some r) = Some (coming r t)
+
+-- what an arrival that is refused for a reason, or isn't, will make of the receive window
+abbrev pub coming_to : Taken → Contact → Option Why → Option Coming
+coming_to t c (Some reason) = None
+coming_to t c None = coming_in t c.window
+
 -- ---- what is true of every contact
+
+-- the wanted packet isn't held
+abbrev pub IsFree : Option Receiving → Type 0
+IsFree window = IfSome window (λ r. next_of r ≡ None)
 
 -- `released` and `accepted` are the last position that was released and the last that was accepted
 pub record IsContact (released accepted : ℕ) (c : Contact) : Type 0 where
@@ -208,3 +199,5 @@ pub record IsContact (released accepted : ℕ) (c : Contact) : Type 0 where
   pub after_release : released ≤ c.acked
   pub before_accepted : c.acked ≤ accepted
   pub begun : c.start ≤ c.acked + 1
+  -- what could be taken was
+  pub free : IsFree c.window

@@ -1,5 +1,5 @@
 -- The frames of broadcast packets: an envelope with the sender's boot number and the member set, and the packet.
-use Rattle.std.specs.Prelude.{ℕ, ◌+◌, List, [], ◌∷◌, ◌++◌, Bool, false, take, drop, slice_index_or, if◌then◌else◌}
+use Rattle.std.specs.Prelude.{ℕ, ◌+◌, ◌≤◌, List, [], ◌∷◌, ◌++◌, Bool, false, length, take, drop, slice_index_or, if◌then◌else◌}
 use Rattle.std.specs.Int.{w32, to_be_bytes}
 use Rattle.tipc_types.specs.Position.{number_of}
 use Rattle.tipc_types.specs.declared.identity.To.TheVariants as to
@@ -37,3 +37,7 @@ cast_all mended before (frame ∷ frames) = cast mended (number_of (before + 1))
 abbrev pub cast_again : List Bool → List Kept → List Outgoing
 cast_again mended [] = []
 cast_again mended (kept ∷ others) = cast mended kept.number kept.packet ++ cast_again mended others
+
+-- a frame that may be sent has at most 1,516 bytes
+abbrev pub IsShort : Outgoing → Type 0
+IsShort f = length f.frame ≤ 1516

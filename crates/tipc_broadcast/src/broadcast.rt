@@ -3,19 +3,21 @@
 ghost use Rattle.std.specs.Prelude.{[], ◌≡◌, ℕ, ◌+◌, ◌<◌, ◌≤◌, true, false, Err, Some, None, List, All, length, slice_get, IfNone, IfOk, IfSome, OnErr, OnOk};
 ghost use Rattle.tipc_types.specs.Address.{IsNodeWord};
 ghost use Rattle.tipc_types.specs.Position.{number_of};
+ghost use Rattle.tipc_types.specs.declared.packet_lists.Taken.{Taken};
 ghost use Rattle.tipc_header.specs.Grammar.{Fits};
-ghost use Rattle.tipc_header.specs.Spelling.{view};
+ghost use Rattle.tipc_header.specs.Spelling.{Fields, view};
 ghost use Rattle.tipc_outside.specs.Frames.{Adds};
-ghost use Rattle.tipc_send_window.specs.Sending.{kept_of, passed_over};
+ghost use Rattle.tipc_send_window.specs.Sending.{IsSending, kept_of, passed_over};
 ghost use Rattle.tipc_broadcast.specs.Casting.{is_behind};
 
+use crate::arriving::CastArriving;
 use crate::contacts::{Contact, acked_by_all, copies, member_set, place_of, unseen};
 use crate::frames::{accepted_frames, numbered_frame};
 use std::alloc::{AllocError, Global};
 use std::marker::Model;
 use tipc_header::Packet;
 use tipc_outside::Outbox;
-use tipc_recv_window::LinkOutcome;
+use tipc_recv_window::{LinkOutcome, WindowArrival};
 use tipc_send_window::{OfferFault, SendWindow, WINDOW};
 use tipc_types::{
     Addr, BroadcastState, Kept, NoMemory, Pieces, To, Why, number_distance, sequence_number,
@@ -54,9 +56,9 @@ impl Model for Broadcast {
 }
 
 impl Broadcast {
-    ghost use Rattle.tipc_broadcast.specs.Frames.{cast, numbered_frame, on_bearer};
-    ghost use Rattle.tipc_broadcast.specs.Casting.{accepting, accepting_frames, answered, answered_frames, arriving, arriving_outcome, booted, credited, flush_frames, flushed, informed, joining, kept_for, left_frames, left_with, leaving, leaving_frames, next_start, repeat_frames, room, sent, settled, shown, stating, stating_frames, with_bearer, with_contacts, with_message, with_sending};
-    ghost use Rattle.tipc_broadcast.specs.Contacts.{contact_with, deferred_of, has_joined, shows_more_to, without};
+    ghost use Rattle.tipc_broadcast.specs.Frames.{cast, IsShort, numbered_frame, on_bearer};
+    ghost use Rattle.tipc_broadcast.specs.Casting.{accepting, accepting_frames, answered, answered_frames, arriving, arriving_outcome, booted, coming_at, coming_of, credited, flush_frames, flushed, hearing, informed, IsCasting, joining, kept_for, left_frames, left_with, leaving, leaving_frames, next_start, refusal_of, repeat_frames, room, sent, settled, shown, stating, stating_frames, with_bearer, with_contacts, with_message, with_sending};
+    ghost use Rattle.tipc_broadcast.specs.Contacts.{contact_with, deferred_of, has_joined, IsFree, shows_more_to, without};
 
     /// The broadcast link of a node that has just booted: both bearers are cut, and nobody is in contact.
     pub fn new(alloc: Global, own: Addr, boot: u32) -> Broadcast
@@ -113,7 +115,9 @@ impl Broadcast {
 
     /// How many numbers this boot used, those that it passed over included.
     pub fn numbered(&self) -> u64
-        ensures { result ≡ self.now.sending.numbered }
+        ensures value { result ≡ self.now.sending.numbered }
+        ensures window { IsSending self.now.sending }
+        ensures casting { IsCasting self.now.own self.now.sending self.now.contacts }
     {
         self.window.numbered()
     }
@@ -122,6 +126,7 @@ impl Broadcast {
     fn contact(&self, peer: Addr) -> Option<&Contact>
         ensures some { IfSome result (λ c. contact_with peer.word self.now.contacts ≡ Some c.now) }
         ensures none { IfNone result (contact_with peer.word self.now.contacts ≡ None) }
+        ensures free { IfSome result (λ c. IsFree c.now.window) }
     {
         match place_of(self.contacts.as_slice(), peer) {
             Some(place) => Some(&self.contacts[place]),
@@ -237,7 +242,8 @@ impl Broadcast {
 
     /// How many of the waiting packets the window has room for.
     fn room(&self) -> usize
-        ensures { result ≡ room self.now.sending }
+        ensures value { result ≡ room self.now.sending }
+        ensures short { All IsShort (flush_frames self.now) }
     {
         WINDOW
             .saturating_sub(self.window.in_flight())
@@ -248,6 +254,7 @@ impl Broadcast {
     fn flush(&mut self, alloc: Global, out: &mut Outbox)
         ensures after { self.new ≡ flushed self.old }
         ensures frames { Adds out.old out.new (flush_frames self.old) }
+        ensures short { All IsShort (flush_frames self.old) }
     {
         let count = self.room();
         for _ in 0..count {
@@ -266,6 +273,7 @@ impl Broadcast {
     /// Takes the packets of a message to wait, each for the peers that are in contact now.
     fn accept(&mut self, alloc: Global, pieces: &Pieces, limit: u32) -> Result<(), OfferFault>
         requires packets { All (λ piece. 16 ≤ length piece) pieces.now }
+        requires short { All (λ piece. length piece ≤ 1452) pieces.now }
         requires limit { limit ≤ 200 }
         requires message { length pieces.now ≤ 47 }
         ensures ok { OnOk result ((length self.old.sending.waiting < limit) ×
@@ -320,10 +328,12 @@ impl Broadcast {
         out: &mut Outbox,
     ) -> Result<(), OfferFault>
         requires packets { All (λ piece. 16 ≤ length piece) pieces }
+        requires short { All (λ piece. length piece ≤ 1452) pieces }
         requires limit { limit ≤ 200 }
         requires message { length pieces ≤ 47 }
         ensures ok { OnOk result ((length self.old.sending.waiting < limit) ×
             (self.new ≡ accepting self.old pieces) × Adds out.old out.new (accepting_frames self.old pieces)) }
+        ensures short { OnOk result (All IsShort (accepting_frames self.old pieces)) }
         ensures congested { limit ≤ length self.old.sending.waiting →
             result ≡ Err (OfferFault.Congested (length self.old.sending.unacked) (length self.old.sending.waiting)) }
         ensures congested_only { (in_flight waiting : ℕ) → result ≡ Err (OfferFault.Congested in_flight waiting) →
@@ -349,6 +359,7 @@ impl Broadcast {
     fn follow_departure(&mut self, alloc: Global, out: &mut Outbox)
         ensures after { self.new ≡ left_with self.old.contacts self.old }
         ensures frames { Adds out.old out.new (left_frames self.old.contacts self.old) }
+        ensures short { All IsShort (left_frames self.old.contacts self.old) }
     {
         if self.contacts.is_empty() {
             self.give_up();
@@ -366,6 +377,7 @@ impl Broadcast {
         requires { has_joined peer.word self.old.contacts ≡ true }
         ensures after { self.new ≡ leaving self.old peer.word }
         ensures frames { Adds out.old out.new (leaving_frames self.old peer.word) }
+        ensures short { All IsShort (leaving_frames self.old peer.word) }
     {
         self.forget(peer);
         self.follow_departure(alloc, out);
@@ -398,13 +410,15 @@ impl Broadcast {
     fn unacked(&self) -> &[Kept]
         ensures kept { result.now ≡ kept_of self.now.sending }
         ensures long { All (λ kept. 32 ≤ length kept.packet) result.now }
+        ensures short { (acknowledgement gap : ℕ) → All IsShort (repeat_frames self.now acknowledgement gap) }
     {
         self.window.unacked()
     }
 
     /// Sends the unacknowledged packets again that are among the `gap` ones behind an acknowledgement. (TIPC 2.0 draft.)
     fn repeat(&self, alloc: Global, acknowledgement: u16, gap: u16, out: &mut Outbox)
-        ensures { Adds out.old out.new (repeat_frames self.now acknowledgement gap) }
+        ensures frames { Adds out.old out.new (repeat_frames self.now acknowledgement gap) }
+        ensures short { All IsShort (repeat_frames self.now acknowledgement gap) }
     {
         for kept in self.unacked() {
             if is_behind(acknowledgement, gap, kept) {
@@ -425,6 +439,7 @@ impl Broadcast {
         requires { has_joined peer.word self.old.contacts ≡ true }
         ensures after { self.new ≡ answered self.old peer.word acknowledgement }
         ensures frames { Adds out.old out.new (answered_frames self.old peer.word acknowledgement gap) }
+        ensures short { All IsShort (answered_frames self.old peer.word acknowledgement gap) }
     {
         self.credit(peer, acknowledgement);
         self.release();
@@ -440,6 +455,7 @@ impl Broadcast {
         requires { has_joined peer.word self.old.contacts ≡ true }
         ensures after { self.new ≡ stating self.old peer.word seen }
         ensures frames { Adds out.old out.new (stating_frames self.old peer.word seen) }
+        ensures short { All IsShort (stating_frames self.old peer.word seen) }
     {
         self.inform(alloc, peer, seen.start, seen.next);
         if seen.in_step {
@@ -447,18 +463,85 @@ impl Broadcast {
         }
     }
 
-    /// A broadcast packet arrived, from a boot of its previous node and for a set of members: bit `n - 1` stands for
-    /// node `n`. `by` is the arrival's number at this node.
+    /// What a broadcast packet that arrived will make of the broadcast link. It comes from a boot of its previous node and is for
+    /// a set of members: bit `n - 1` stands for node `n`. `by` is the arrival's number at this node.
     ///
     /// It is ignored, in this order, with `Epoch` where the previous node is in contact with another boot number,
     /// with `OutOfStep` where it isn't in contact or this node isn't in step with its broadcast, and with `NotMember`
     /// where this node isn't a member. Else it is taken where it is the wanted one, and with it those behind it that
     /// are held; it is deferred where it is one of the next 49 and isn't held; else it is ignored with `Old`. A packet
-    /// that is taken is given as it was accepted. (TIPC 2.0 draft; boot and members: this project's profile.)
+    /// that is taken is given as it was accepted. Nothing is changed yet: [`Broadcast::commit`] does it. (TIPC 2.0 draft; boot
+    /// and members: this project's profile.)
     ///
     /// # Errors
     ///
-    /// Where memory runs out. Nothing is changed then.
+    /// Where memory runs out for a packet whose number is read: one that is ignored before that takes no memory.
+    pub fn prepare(
+        &self,
+        alloc: Global,
+        boot: u32,
+        members: u32,
+        packet: &Packet<'_>,
+        by: u64,
+    ) -> Result<CastArriving, NoMemory>
+        requires { Fits (view packet.now) }
+        ensures arriving { IfOk result (λ a. a ≡ coming_at self.now boot members (view packet.now) by) }
+        ensures heard_only { OnErr result (refusal_of self.now boot members packet.now.previous ≡ None) }
+    {
+        let peer = Addr {
+            word: packet.previous,
+        };
+        let Some(contact) = self.contact(peer) else {
+            return Ok(CastArriving {
+                peer,
+                window: None,
+                outcome: LinkOutcome::Ignored(Why::OutOfStep),
+            });
+        };
+        let (window, outcome) = contact.prepare(alloc, self.own, boot, members, packet, by)?;
+        Ok(CastArriving {
+            peer,
+            window,
+            outcome,
+        })
+    }
+
+    /// Takes a broadcast packet that arrived, as [`Broadcast::prepare`] told of it when the broadcast link was as it is, and
+    /// answers what it told. It takes no memory.
+    pub fn commit(&mut self, cast: CastArriving) -> LinkOutcome
+        requires { (boot members by : ℕ) × (p : Fields) × (cast ≡ coming_at self.old boot members p by) }
+        ensures outcome { result ≡ cast.outcome }
+        ensures after { (boot members by : ℕ) (p : Fields) → cast ≡ coming_at self.old boot members p by →
+            self.new ≡ arriving self.old boot members p by }
+    {
+        let CastArriving {
+            peer,
+            window,
+            outcome,
+        } = cast;
+        self.take(peer, window);
+        outcome
+    }
+
+    /// Lets the receive window of a node's broadcast do what a packet makes of it; nothing, where the node isn't in contact.
+    fn take(&mut self, peer: Addr, window: Option<WindowArrival>)
+        requires { (boot members : ℕ) × (t : Taken) ×
+            (window ≡ coming_of self.old boot members t (contact_with peer.word self.old.contacts)) }
+        ensures { (boot members : ℕ) (t : Taken) →
+            window ≡ coming_of self.old boot members t (contact_with peer.word self.old.contacts) →
+            self.new ≡ hearing self.old peer.word boot members t }
+    {
+        match place_of(self.contacts.as_slice(), peer) {
+            Some(place) => self.contacts[place].commit(window),
+            None => {}
+        }
+    }
+
+    /// A broadcast packet arrived: [`Broadcast::prepare`] and [`Broadcast::commit`] in one call.
+    ///
+    /// # Errors
+    ///
+    /// Where memory runs out for a packet whose number is read. Nothing is changed then.
     pub fn arrive(
         &mut self,
         alloc: Global,
@@ -470,16 +553,11 @@ impl Broadcast {
         requires { Fits (view packet.now) }
         ensures outcome { IfOk result (λ o. o ≡ arriving_outcome self.old boot members (view packet.now) by) }
         ensures after { OnOk result (self.new ≡ arriving self.old boot members (view packet.now) by) }
+        ensures heard_only { OnErr result (refusal_of self.old boot members packet.now.previous ≡ None) }
         ensures err { OnErr result (self.new ≡ self.old) }
     {
-        let peer = Addr {
-            word: packet.previous,
-        };
-        let own = self.own;
-        match place_of(self.contacts.as_slice(), peer) {
-            Some(place) => self.contacts[place].hear(alloc, own, boot, members, packet, by),
-            None => Ok(LinkOutcome::Ignored(Why::OutOfStep)),
-        }
+        let cast = self.prepare(alloc, boot, members, packet, by)?;
+        Ok(self.commit(cast))
     }
 }
 

@@ -1,16 +1,18 @@
 //! What the broadcast link keeps of the peers in contact.
 
-ghost use Rattle.std.specs.Prelude.{◌≡◌, ◌≤◌, false, All, IfOk, OnErr, OnOk, position};
+ghost use Rattle.std.specs.Prelude.{◌≡◌, ◌≤◌, false, None, Option, All, IfOk, OnErr, position};
 ghost use Rattle.tipc_types.specs.Position.{number_of};
 ghost use Rattle.tipc_types.specs.Address.{IsNodeWord};
 ghost use Rattle.tipc_header.specs.Grammar.{Fits};
 ghost use Rattle.tipc_header.specs.Spelling.{view};
-ghost use Rattle.tipc_broadcast.specs.Contacts.{acked_by_all, acknowledged_to, acknowledging, bit_of, brought, contact_with, deferred_in, heard, heard_outcome, is_in_step, is_member, is_with, IsContact, joined, member_set, noted, outcome_in, refusal, shown_in, shows_more_in, stepped, taken_in, told};
+ghost use Rattle.tipc_types.specs.declared.link_words.Why.{Why};
+ghost use Rattle.tipc_types.specs.declared.packet_lists.Taken.{Taken};
+ghost use Rattle.tipc_broadcast.specs.Contacts.{acked_by_all, acknowledged_to, acknowledging, bit_of, carried, coming_in, coming_to, contact_with, deferred_in, heard, heard_outcome, is_in_step, is_member, is_with, IsContact, IsFree, joined, member_set, noted, outcome_in, refusal, shown_in, shows_more_in, stepped, told};
 
-use crate::receiving::{gap, is_more, last_taken, receive, shown_position};
+use crate::receiving::{carried, last_taken};
 use std::alloc::Global;
 use tipc_header::Packet;
-use tipc_recv_window::{LinkOutcome, RecvWindow};
+use tipc_recv_window::{LinkOutcome, RecvWindow, WindowArrival};
 use tipc_types::{Addr, BroadcastState, NoMemory, Why, number_distance, sequence_number};
 
 /// The address word of node 1, whose bit in a member set is the lowest.
@@ -93,7 +95,7 @@ impl Contact {
         ensures { self.new ≡ noted next self.old }
     {
         if let Some(window) = &self.window {
-            let position = shown_position(window, next);
+            let position = window.wanted_position() + u64::from(window.ahead(next));
             self.shown = self.shown.max(position);
         }
     }
@@ -117,7 +119,7 @@ impl Contact {
                 acknowledged: last_taken(window),
                 next,
                 start,
-                gap: gap(window, self.shown),
+                gap: window.gap_to(self.shown),
                 in_step: true,
             },
         }
@@ -129,7 +131,7 @@ impl Contact {
     {
         match &self.window {
             None => false,
-            Some(window) => is_more(window, next),
+            Some(window) => window.shows_more(next),
         }
     }
 
@@ -160,42 +162,62 @@ impl Contact {
         None
     }
 
-    /// Takes in a packet, where it isn't refused.
-    fn take(&mut self, alloc: Global, packet: &Packet<'_>, by: u64) -> Result<LinkOutcome, NoMemory>
-        requires { Fits (view packet.now) }
-        ensures outcome { IfOk result (λ o. o ≡ outcome_in (brought (view packet.now) by) self.old.window) }
-        ensures after { OnOk result (self.new ≡ taken_in self.old (brought (view packet.now) by) self.old.window) }
-        ensures err { OnErr result (self.new ≡ self.old) }
+    /// What a packet that isn't refused will make of the receive window, and what its arrival answers.
+    fn prepare_heard(
+        &self,
+        alloc: Global,
+        packet: &Packet<'_>,
+        by: u64,
+    ) -> Result<(Option<WindowArrival>, LinkOutcome), NoMemory>
+        requires fits { Fits (view packet.now) }
+        requires free { IsFree self.now.window }
+        ensures window { IfOk result (λ told. told.0 ≡ coming_in (carried (view packet.now) by) self.now.window) }
+        ensures outcome { IfOk result (λ told. told.1 ≡ outcome_in (carried (view packet.now) by) self.now.window) }
     {
         let Some(window) = &self.window else {
-            return Ok(LinkOutcome::Ignored(Why::OutOfStep));
+            return Ok((None, LinkOutcome::Ignored(Why::OutOfStep)));
         };
-        let (window, outcome) = receive(alloc, window, packet, by)?;
-        self.window = Some(window);
-        Ok(outcome)
+        let (arrival, due) = window.prepare(alloc, carried(alloc, packet, by)?)?;
+        let outcome = LinkOutcome::at(arrival.place(), due);
+        Ok((Some(arrival), outcome))
     }
 
-    /// Takes in a packet of this boot of the peer for these members, or ignores it.
-    pub(crate) fn hear(
-        &mut self,
+    /// What a packet of this boot of the peer for these members will make of the receive window, where it isn't ignored, and what
+    /// its arrival answers. Memory is asked for only where the packet isn't refused.
+    pub(crate) fn prepare(
+        &self,
         alloc: Global,
         own: Addr,
         boot: u32,
         members: u32,
         packet: &Packet<'_>,
         by: u64,
-    ) -> Result<LinkOutcome, NoMemory>
+    ) -> Result<(Option<WindowArrival>, LinkOutcome), NoMemory>
         requires own { IsNodeWord own.word }
         requires fits { Fits (view packet.now) }
-        ensures outcome { IfOk result (λ o. o ≡ heard_outcome (brought (view packet.now) by) self.old
-            (refusal own.word boot members self.old)) }
-        ensures after { OnOk result (self.new ≡ heard (brought (view packet.now) by) self.old
-            (refusal own.word boot members self.old)) }
-        ensures err { OnErr result (self.new ≡ self.old) }
+        requires free { IsFree self.now.window }
+        ensures window { IfOk result (λ told. told.0 ≡ coming_to (carried (view packet.now) by) self.now
+            (refusal own.word boot members self.now)) }
+        ensures outcome { IfOk result (λ told. told.1 ≡ heard_outcome (carried (view packet.now) by) self.now
+            (refusal own.word boot members self.now)) }
+        ensures heard_only { OnErr result (refusal own.word boot members self.now ≡ None) }
     {
         match self.refusal(own, boot, members) {
-            Some(why) => Ok(LinkOutcome::Ignored(why)),
-            None => self.take(alloc, packet, by),
+            Some(why) => Ok((None, LinkOutcome::Ignored(why))),
+            None => self.prepare_heard(alloc, packet, by),
+        }
+    }
+
+    /// Lets the receive window do what a packet makes of it, as it was told.
+    pub(crate) fn commit(&mut self, arrival: Option<WindowArrival>)
+        requires free { IsFree self.old.window }
+        requires arrival { (t : Taken) × (o : Option Why) × (arrival ≡ coming_to t self.old o) }
+        ensures { (t : Taken) (o : Option Why) → arrival ≡ coming_to t self.old o → self.new ≡ heard t self.old o }
+    {
+        let Some(arrival) = arrival else { return };
+        match &mut self.window {
+            Some(window) => window.commit(arrival),
+            None => {}
         }
     }
 }

@@ -1,5 +1,5 @@
 -- What follows of what is always true.
-use Rattle.std.proofs.Common.{◌≡◌, ℕ, ◌+◌, ◌-◌, ◌<◌, ◌≤◌, ◌==◌, Bool, true, false, cond, List, [], ◌∷◌, ◌++◌, length, take, drop, map, filter, get_or, slice_get, Some, None, refl, sym, ap, ◌∙◌, subst, length-drop, length-take, eqb-true, arith}
+use Rattle.std.proofs.Common.{◌≡◌, ℕ, ◌+◌, ◌-◌, ◌<◌, ◌≤◌, ◌==◌, Bool, true, false, cond, List, [], ◌∷◌, ◌++◌, length, take, drop, map, filter, get_or, slice_get, Some, None, refl, sym, ap, ◌∙◌, subst, length-drop, length-take, inl, inr, eqb-true, arith}
 use Rattle.std.specs.Prelude.{All}
 use Rattle.std.proofs.lemmas.Bool.Decides.{nat_tests}
 use Rattle.std.proofs.lemmas.List.{get_or-drop, get_or-take, map-append, take-append-drop}
@@ -9,10 +9,10 @@ use Rattle.tipc_types.specs.Prefixes.{IsPrefixOf}
 use Rattle.tipc_broadcast_law.specs.Groups.{Accepted, accepted_for, Caster, Group, is_contact, mark, mark_in, Member, numbered_now, packets, place, queue, window}
 use Rattle.tipc_broadcast_law.specs.Events.{accepting_entry, IsBegin, IsNewMember, Runs}
 use Rattle.tipc_broadcast_law.specs.Law.{IsGroup, Keeps}
-use Rattle.tipc_broadcast_law.specs.Promises.{ReleasesInOrder}
+use Rattle.tipc_broadcast_law.specs.Promises.{IsNear, ReleasesInOrder}
 use Rattle.tipc_broadcast_law.proofs.CasterEvents.{run_keeps}
 use Rattle.tipc_broadcast_law.proofs.MemberEvents.{place-begun, place-want}
-use Rattle.tipc_broadcast_law.proofs.Places.{mark-none}
+use Rattle.tipc_broadcast_law.proofs.Places.{mark-none, same_or_not}
 
 -- ---- the begin
 
@@ -116,7 +116,7 @@ front_is line m c s w d low before own =
     ∙ ap (filter p) (sym (take-append-drop (w - s) (drop s line))) ∙ filter-append p middle rest ∙ ap (λ xs. xs ++ filter p rest) everyone in
     (map (λ a. a.packet) (filter p rest), ap (map (λ a. a.packet)) split ∙ map-append (λ a. a.packet) middle (filter p rest))
 
-taken_front : (a : Caster) (m : ℕ) (k : Member) (c : ℕ) → Keeps a m k → IsPrefixOf (k.out c) (accepted_for m c (a.line (k.boots c)))
+pub taken_front : (a : Caster) (m : ℕ) (k : Member) (c : ℕ) → Keeps a m k → IsPrefixOf (k.out c) (accepted_for m c (a.line (k.boots c)))
 taken_front a m k c h = elim (k.want c) as (λ o. k.want c ≡ o → IsPrefixOf (k.out c) (accepted_for m c (a.line (k.boots c)))) [
   | None ↦ λ is. (accepted_for m c (a.line (k.boots c)), ap (λ xs. xs ++ accepted_for m c (a.line (k.boots c))) (sym (h.took_none c is)))
   | Some w ↦ λ is.
@@ -180,3 +180,37 @@ packets_are_near g h m c s x stamp begun marked recent fresh =
     let near = (h.each m).mark_near c x marked in
     let far = (h.each m).place_near c s begun in
     (near, omega arith)
+
+-- a packet for the member at or behind the place that it wants is for it in its contact: it is in no older contact than the last that the
+-- caster began, and what is for it in an older one lies before the start
+-- the place of a member isn't before its start
+start-low : (g : Group) → IsGroup g → (m c s : ℕ) → (g.members m).begun c ≡ Some s → s ≤ place (g.members m) c
+start-low g h m c s begun =
+    let k = g.members m in
+    elim (k.want c) as (λ o. k.want c ≡ o → s ≤ place k c) [
+      | None ↦ λ e. omega (arith, place-begun k c s e begun)
+      | Some w ↦ λ e. let low = (h.each m).want_from c w s e begun in omega (arith, place-want k c w e, low)
+    ] refl
+
+-- a packet for the member at or behind the place that it wants is for it in its contact: it is in no older contact than the last that
+-- the caster began, and what is for it in an older one lies before the start
+pub all_are_near : (g : Group) → IsGroup g → (m c d s x stamp : ℕ) → (g.members m).at ≡ Some c → (g.members m).begun c ≡ Some s → mark (g.caster.line ((g.members m).boots c)) m x ≡ Some d
+    → stamp < x + 1 + window + queue → g.caster.numbered ((g.members m).boots c) ≤ stamp + 30000 → IsNear g m c d x
+all_are_near g h m c d s x stamp at begun marked recent fresh =
+    let k = g.members m in
+    let keeps = h.each m in
+    let far = keeps.place_near c s begun in
+    let from = keeps.mark_begun (k.boots c) d x marked in
+    let newest = keeps.young c d from.0 at from.1 in
+    let era = keeps.mark_boot (k.boots c) d x marked in
+    let low : s ≤ place k c = start-low g h m c s begun in
+    let behind : place k c ≤ x + 30542 = omega arith in
+    elim (same_or_not d c) [
+      | inl is ↦
+          let near = keeps.mark_near c x (subst (λ e. mark (g.caster.line (k.boots c)) m x ≡ Some e) is marked) in
+          record { ahead = near; behind = behind; own = λ le. is }
+      | inr other ↦
+          let older : d < c = omega (arith, newest, other) in
+          let before : x < s = keeps.starts d c s x older begun era (subst (λ f. mark (g.caster.line f) m x ≡ Some d) (sym era) marked) in
+          record { ahead = omega arith; behind = behind; own = λ le. absurd (omega arith) }
+    ]

@@ -58,3 +58,17 @@ PacketsAreNear = (g : Group) → IsGroup g → (m c s x stamp : ℕ) → (g.memb
     → mark (g.caster.line ((g.members m).boots c)) m x ≡ Some c
     → stamp < x + 1 + window + queue → g.caster.numbered ((g.members m).boots c) ≤ stamp + 30000
     → (x < place (g.members m) c + window + queue) × (place (g.members m) c ≤ x + 30542)
+
+-- The same of a packet that is for the member in whatever contact, while the member is in a contact that the caster began.
+-- Where it isn't before the wanted place, it is for the member in that contact.
+pub record IsNear (g : Group) (m c d x : ℕ) : Type 0 where
+  pub ahead : x < place (g.members m) c + window + queue
+  pub behind : place (g.members m) c ≤ x + 30542
+  pub own : place (g.members m) c ≤ x → d ≡ c
+
+-- so it is of every packet that is for the member, in whatever contact
+abbrev pub AllAreNear : Type 0
+AllAreNear = (g : Group) → IsGroup g → (m c d s x stamp : ℕ) → (g.members m).at ≡ Some c → (g.members m).begun c ≡ Some s
+    → mark (g.caster.line ((g.members m).boots c)) m x ≡ Some d
+    → stamp < x + 1 + window + queue → g.caster.numbered ((g.members m).boots c) ≤ stamp + 30000
+    → IsNear g m c d x

@@ -1,7 +1,9 @@
 -- The receive window: packets that came before their turn, at their places behind the next number.
-use Rattle.std.specs.Prelude.{◌≡◌, ℕ, ◌+◌, ◌-◌, ◌≤◌, ◌^◌, ◌&&◌, ◌==◌, Bool, true, not, List, [], ◌∷◌, ◌++◌, length, drop, replicate, slice_index_or, slice_set, Option, Some, None, is_some, count_by, position, unwrap_or, nat_lt, if◌then◌else◌}
+use Rattle.std.specs.Prelude.{◌≡◌, ℕ, ◌+◌, ◌-◌, ◌≤◌, ◌^◌, ◌&&◌, ◌==◌, Bool, true, not, List, [], ◌∷◌, ◌++◌, length, drop, replicate, slice_index_or, slice_set, Option, Some, None, is_some, count_by, position, unwrap_or, nat_le, nat_lt, if◌then◌else◌}
 use Rattle.tipc_types.specs.Position.{distance_of, number_of}
 use Rattle.tipc_types.specs.declared.packet_lists.Taken.{Taken}
+use Rattle.tipc_types.specs.declared.link_words.Why.TheVariants as why
+use Rattle.tipc_recv_window.specs.declared.outcomes.LinkOutcome.{LinkOutcome}
 use Rattle.tipc_recv_window.specs.declared.outcomes.Place.{Place}
 use Rattle.tipc_recv_window.specs.declared.outcomes.Place.TheVariants.{InOrder, Deferred, Old}
 
@@ -74,6 +76,36 @@ run_of (Some packet ∷ held) = packet ∷ run_of held
 -- after all of them were taken
 abbrev pub drained : Receiving → Receiving
 drained r = record { wanted = r.wanted + length (run_of r.held); held = drop (length (run_of r.held)) r.held }
+
+-- ---- what the peer shows of what it sent
+
+-- how far a next number is ahead of the wanted one: 0 where it is more than 32,767 ahead, and so behind
+unfoldable pub ahead : Receiving → ℕ → ℕ
+ahead r number = if nat_le (past_wanted r number) 32767 then past_wanted r number else 0
+
+-- a next number is 1 to 50 past the wanted one: the peer has sent more than was taken
+abbrev pub shows_more : Receiving → ℕ → Bool
+shows_more r number = nat_lt 0 (past_wanted r number) && nat_le (past_wanted r number) 50
+
+-- how many packets are missing where none is held: up to the next position shown, as far as a window reaches
+abbrev pub missing : Receiving → ℕ → ℕ
+missing r shown = if nat_le (shown - r.wanted) 50 then shown - r.wanted else 0
+
+-- how many packets are missing: up to the first that is held, or up to the next position shown
+unfoldable pub gap_to : Receiving → ℕ → ℕ
+gap_to r shown = if gap_of r == 0 then missing r shown else gap_of r
+
+-- ---- an arrival
+
+-- a packet that was brought by this arrival
+abbrev pub brought : ℕ → List ℕ → ℕ → Taken
+brought number packet by = record { number = number; packet = packet; by = by }
+
+-- what an arrival answers at a place, where these packets can be taken then
+abbrev pub outcome_at : Place → List Taken → LinkOutcome
+outcome_at InOrder due = LinkOutcome.Took due
+outcome_at Deferred due = LinkOutcome.Deferred
+outcome_at Old due = LinkOutcome.Ignored why.Old
 
 -- ---- an arrival that is told before anything is changed
 

@@ -1,5 +1,8 @@
 //! Where a numbered packet stands in a receive window, and what comes of it.
 
+ghost use Rattle.std.specs.Prelude.{◌≡◌};
+ghost use Rattle.tipc_recv_window.specs.Receiving.{outcome_at};
+
 use tipc_types::{TakenList, Why};
 
 /// Where a numbered packet stands that arrived. (TIPC 2.0 draft.)
@@ -22,4 +25,17 @@ pub enum LinkOutcome {
     Deferred,
     /// It was ignored.
     Ignored(Why),
+}
+
+impl LinkOutcome {
+    /// What an arrival answers at a place, where these packets can be taken then.
+    pub fn at(place: Place, due: TakenList) -> LinkOutcome
+        ensures { result ≡ outcome_at place due }
+    {
+        match place {
+            Place::InOrder => LinkOutcome::Took(due),
+            Place::Deferred => LinkOutcome::Deferred,
+            Place::Old => LinkOutcome::Ignored(Why::Old),
+        }
+    }
 }

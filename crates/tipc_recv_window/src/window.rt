@@ -15,6 +15,9 @@ use tipc_types::{Bytes, NoMemory, Taken, TakenList, number_distance, sequence_nu
 /// How many packets, from the wanted one on, are kept when they arrive. (TIPC 2.0 draft, default window.)
 pub const WINDOW: usize = 50;
 
+/// A number further ahead of the wanted one lies behind it.
+const FURTHEST_AHEAD: usize = 32_767;
+
 /// No packet behind this position is held: memory ends long before.
 const LAST_POSITION: u64 = 1 << 62;
 
@@ -76,7 +79,7 @@ impl WindowArrival {
 }
 
 impl RecvWindow {
-    ghost use Rattle.tipc_recv_window.specs.Receiving.{after_take, arrived_at, coming, deferred_count, drained, fresh, gap_of, held_at, IsReceiving, next_of, past_wanted, place_at, run_of, with_packet};
+    ghost use Rattle.tipc_recv_window.specs.Receiving.{after_take, ahead, arrived_at, coming, deferred_count, drained, fresh, gap_of, gap_to, held_at, IsReceiving, missing, next_of, past_wanted, place_at, run_of, shows_more, with_packet};
 
     /// A window that wants the packet with the number `next` and holds none.
     pub fn new(alloc: Global, next: u16) -> RecvWindow
@@ -138,6 +141,55 @@ impl RecvWindow {
         ensures near { result < 50 }
     {
         self.first_held().unwrap_or(0) as u16
+    }
+
+    /// How far a next number that the peer shows is ahead of the wanted one: 0 where it is more than 32,767 ahead, and so
+    /// behind. (This project's profile.)
+    #[tactic(auto, unfolding(crate::specs::Receiving::ahead))]
+    pub fn ahead(&self, number: u16) -> u16
+        ensures value { result ≡ ahead self.now number }
+        ensures within { result ≤ 32767 }
+    {
+        let past = self.distance(number);
+        if past <= FURTHEST_AHEAD {
+            past as u16
+        } else {
+            0
+        }
+    }
+
+    /// Whether a next number that the peer shows is 1 to 50 past the wanted one: the peer has sent more than was taken. (This
+    /// project's profile.)
+    pub fn shows_more(&self, number: u16) -> bool
+        ensures { result ≡ shows_more self.now number }
+    {
+        let past = self.distance(number);
+        0 < past && past <= WINDOW
+    }
+
+    /// How many packets are missing where none is held, up to the next position that the peer showed, as far as a window
+    /// reaches.
+    fn missing(&self, shown: u64) -> u16
+        ensures value { result ≡ missing self.now shown }
+        ensures within { result ≤ 50 }
+    {
+        let missing = shown.saturating_sub(self.wanted);
+        if missing <= WINDOW as u64 {
+            missing as u16
+        } else {
+            0
+        }
+    }
+
+    /// How many packets are missing: up to the first that is held, or up to the next position that the peer showed. At most 50.
+    /// (TIPC 2.0 draft; what was shown: this project's profile.)
+    #[tactic(auto, unfolding(crate::specs::Receiving::gap_to))]
+    pub fn gap_to(&self, shown: u64) -> u16
+        ensures value { result ≡ gap_to self.now shown }
+        ensures within { result ≤ 50 }
+    {
+        let gap = self.gap();
+        if gap == 0 { self.missing(shown) } else { gap }
     }
 
     /// Takes in a packet with its number and the arrival number of its frame, and says where it stands. It is held

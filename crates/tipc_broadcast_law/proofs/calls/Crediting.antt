@@ -11,10 +11,10 @@ use Rattle.tipc_broadcast.specs.declared.contacts.Contact.{Contact}
 use Rattle.tipc_broadcast.specs.Contacts.{acknowledged_to, acknowledging, contact_with, is_with, with_changed}
 use Rattle.tipc_broadcast.specs.Casting.{Casting, credited, with_contacts}
 use Rattle.tipc_broadcast_law.specs.Groups.{Group, Member, put}
-use Rattle.tipc_broadcast_law.specs.Events.{acknowledged, acknowledges, changes, go_on, none}
+use Rattle.tipc_broadcast_law.specs.Events.{acknowledged, acknowledges, Changes, changes, go_on, none}
 use Rattle.tipc_broadcast_law.proofs.Places.{put_other, put_same, same_or_not}
-use Rattle.tipc_broadcast_law.specs.Steps.{Casts, IsSeen, Leads, Shows}
-use Rattle.tipc_broadcast_law.proofs.calls.Calls.{other-test}
+use Rattle.tipc_broadcast_law.specs.Steps.{Casts, credited_member, IsSeen, Leads, line_of, Shows}
+use Rattle.tipc_broadcast_law.proofs.calls.Calls.{other-test, with_members}
 use Rattle.tipc_broadcast_law.proofs.calls.Numbering.{tells_place}
 
 -- the contact that a change was made to, where the change keeps the peer
@@ -77,7 +77,8 @@ stands_still g v peer change keeps c h there seen = record {
   ];
 }
 
-credited_runs : (g : Group) (v : Casting) (peer number : ℕ) → Casts g v → (shows : Shows g v peer number) → Leads g (credited v peer (number_of shows.place))
+credited_runs : (g : Group) (v : Casting) (peer number : ℕ) → Casts g v → (shows : Shows g v peer number)
+    → Leads g (line_of g) (put peer (acknowledged (g.members peer) (acknowledged_to v.sending.numbered shows.contact.acked (number_of shows.place))) g.members) (credited v peer (number_of shows.place))
 credited_runs g v peer number h shows =
     let k = g.members peer in
     let c = shows.contact in
@@ -87,19 +88,38 @@ credited_runs g v peer number h shows =
     let keeps : (d : Contact) → (change d).peer ≡ d.peer = λ d. refl in
     let seen : IsSeen k (Some c) = subst (IsSeen k) shows.there (h.members peer) in
     let told = tells_place n c.acked place shows.in_window shows.is_numbered shows.recent in
+    let to = acknowledged_to n c.acked (number_of place) in
     elim (cases_lt k.acked place) [
       | inl more ↦
-          let later : acknowledged_to n c.acked (number_of place) ≡ place = told.later (omega (arith, more, seen.3)) in
-          let l = acknowledged k place in
+          let later : to ≡ place = told.later (omega (arith, more, seen.4)) in
+          let l = acknowledged k to in
           record {
             after = record { caster = g.caster; members = put peer l g.members };
-            runs = go_on (changes peer l (acknowledges shows.joined shows.wants more shows.had)) none;
-            stands = stands_with g v peer change keeps c l h shows.there (seen.0, seen.1, seen.2, sym later);
+            runs = go_on (changes peer l (subst (λ p. Changes g.caster peer k (acknowledged k p)) (sym later) (acknowledges shows.joined shows.wants more shows.had))) none;
+            stands = stands_with g v peer change keeps c l h shows.there (seen.0, seen.1, seen.2, seen.3, refl);
+            becomes = with_members g (put peer l g.members);
           }
       | inr before ↦
-          let earlier : acknowledged_to n c.acked (number_of place) ≡ c.acked = told.earlier (omega (arith, before, seen.3)) in
-          record { after = g; runs = none; stands = stands_still g v peer change keeps c h shows.there (seen.0, seen.1, seen.2, seen.3 ∙ sym earlier) }
+          let earlier : to ≡ c.acked = told.earlier (omega (arith, before, seen.4)) in
+          let same : k.acked ≡ to = seen.4 ∙ sym earlier in
+          record {
+            after = g;
+            runs = none;
+            stands = stands_still g v peer change keeps c h shows.there (seen.0, seen.1, seen.2, seen.3, same);
+            becomes = record {
+              boot = refl;
+              line_now = refl;
+              lines = λ f other. refl;
+              numbered = λ f other. refl;
+              each = λ m. elim (same_or_not m peer) [
+                | inl is ↦ subst (λ i. g.members i ≡ put peer (acknowledged k to) g.members i) (sym is) (ap (acknowledged k) same ∙ sym (put_same peer (acknowledged k to) g.members))
+                | inr never ↦ sym (put_other peer (acknowledged k to) g.members m never)
+              ];
+            };
+          }
     ]
 
-pub acknowledgement_runs : (g : Group) (v : Casting) (peer number : ℕ) → Casts g v → Shows g v peer number → Leads g (credited v peer number)
-acknowledgement_runs g v peer number h shows = subst (λ n. Leads g (credited v peer n)) (sym shows.number_is) (credited_runs g v peer number h shows)
+pub acknowledgement_runs : (g : Group) (v : Casting) (peer number : ℕ) → Casts g v → (shows : Shows g v peer number)
+    → Leads g (line_of g) (put peer (credited_member shows) g.members) (credited v peer number)
+acknowledgement_runs g v peer number h shows =
+    subst (λ n. Leads g (line_of g) (put peer (acknowledged (g.members peer) (acknowledged_to v.sending.numbered shows.contact.acked n)) g.members) (credited v peer n)) (sym shows.number_is) (credited_runs g v peer number h shows)

@@ -1,8 +1,14 @@
 use Rattle.std.proofs.Common.{ap, ◌∙◌}
 use Rattle.tipc_broadcast.specs.Contacts.{has_joined, told}
 use Rattle.tipc_broadcast.specs.Casting.{Casting, informed, with_contacts}
-use Rattle.tipc_broadcast.proofs.Finding.{change_is, has_place, missing_is}
+use Rattle.tipc_broadcast.proofs.Finding.{change_is, has_place, missing_is, placed_is}
+use Rattle.tipc_broadcast.proofs.Keeping.{tell-keeps}
 use Rattle.tipc_broadcast.proofs.broadcast.Broadcast.inform.Goals as goal
+
+pub invariant_of-self : goal.invariant_of-self
+invariant_of-self c =
+    let at = placed_is _ _ _ _ _ c.as_slice.ensures.value c.place_of.ensures c.in-Some.is in
+    tell-keeps _ _ _ _ _ _ _ _ c.self.invariant at.within c.index_mut.ensures.value c.tell.ensures
 
 pub unreachable-requires : goal.unreachable-requires
 unreachable-requires c =

@@ -19,5 +19,8 @@ loop-kept-preserved c =
           rw (w.out-is) (repeating-pass _ _ _ _ _ _ c.kept-item.result _ items c.loop-kept-test.true c.kept-item.is other c.loop-kept.invariant)
     ]
 
-pub returns : goal.returns
-returns c = repeating-done _ _ _ _ _ _ _ c.unacked-kept-items.ensures.kept c.loop-kept-test.false c.loop-kept.invariant
+pub returns-clause-frames : goal.returns-clause-frames
+returns-clause-frames c = repeating-done _ _ _ _ _ _ _ c.unacked-kept-items.ensures.kept c.loop-kept-test.false c.loop-kept.invariant
+
+pub returns-clause-short : goal.returns-clause-short
+returns-clause-short c = c.unacked-kept-items.ensures.short _ _
