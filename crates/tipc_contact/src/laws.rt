@@ -2,6 +2,7 @@
 
 ghost use Rattle.std.specs.Prelude.{◌≡◌, ◌≤◌, ◌<◌, ◌++◌, ◌∷◌, [], ℕ, List, Some, false, slice_get};
 ghost use Rattle.tipc_link_fsm.specs.Table.{Fsm, is_last};
+ghost use Rattle.tipc_contact.specs.Order.{AreInOrder, WasShown};
 ghost use Rattle.tipc_contact.specs.Peers.{ArePeers};
 ghost use Rattle.tipc_contact.specs.Sides.{acted, alone, Action, IsSaid, MayAct, Notice, Side};
 
@@ -35,4 +36,17 @@ pub fn contact_numbers_rise()
     ensures no_lower { (a : Side) (heard : List Notice) (action : Action) → MayAct a heard action →
         a.own ≤ (acted a action).own }
     ensures higher { (a : Side) → a.own < (acted a Action.ContactEnded).own }
+{}
+
+/// Two nodes that know nothing of each other agree on the order of their contacts, and go on to agree, whatever either of them does
+/// and says: where the one has seen a higher number of the other than the other shows in a notice, the other hasn't seen a higher
+/// number than the one shows. A higher number that a node takes from the other was shown by it.
+pub fn two_nodes_stay_in_order()
+    ensures start { (a b : ℕ) → AreInOrder (alone a) [] (alone b) [] }
+    ensures acts { (a b : Side) (said_a said_b : List Notice) (action : Action) → AreInOrder a said_a b said_b →
+        MayAct a said_b action → WasShown said_b action → AreInOrder (acted a action) said_a b said_b }
+    ensures says { (a b : Side) (said_a said_b : List Notice) (m : Notice) → AreInOrder a said_a b said_b →
+        IsSaid a m → AreInOrder a (said_a ++ m ∷ []) b said_b }
+    ensures turned { (a b : Side) (said_a said_b : List Notice) → AreInOrder a said_a b said_b →
+        AreInOrder b said_b a said_a }
 {}
