@@ -1,0 +1,4 @@
+pub mod CasterTurns
+pub mod Later
+pub mod MemberTurns
+pub mod Standing

@@ -1,0 +1,4 @@
+pub mod Later
+pub mod Laws
+pub mod Sights
+pub mod Turns
