@@ -14,17 +14,15 @@ use tipc_types::{Addr, To};
 /// How often a bearer looks for a frame that was sent.
 const MOST_LOOKS: u32 = 1_000_000;
 
-/// How many nodes a cluster of the tests has. Only the first two of them have bearers.
-const NODES: u8 = 3;
-
-/// The first base whose ports no other program holds, of 100; with it bearer 0 of nodes 1 and 2.
-fn two_bearers(rt: &impl Net) -> Result<(u16, UdpBearer, UdpBearer), Fail>
+/// The first base whose ports no other program holds, of 100; with it bearer 0 of nodes 1 and 2 among so many.
+fn two_bearers(rt: &impl Net, nodes: u8) -> Result<(u16, UdpBearer, UdpBearer), Fail>
+    requires { (2 ≤ nodes) × (nodes ≤ 32) }
     ensures { IfOk result (λ found. found.0 ≤ 65439) }
 {
     for step in 0..100 {
         let base = 41_000 + 128 * step;
-        let first = UdpBearer::bind(rt, 1, 0, base, NODES);
-        let second = UdpBearer::bind(rt, 2, 0, base, NODES);
+        let first = UdpBearer::bind(rt, 1, 0, base, nodes);
+        let second = UdpBearer::bind(rt, 2, 0, base, nodes);
         if let (Ok(first), Ok(second)) = (first, second) {
             return Ok((base, first, second));
         }
@@ -75,7 +73,7 @@ fn hears_nothing<B: Bearer>(rt: &impl Abort, alloc: Global, bearer: &mut B) -> R
 #[test]
 fn datagrams_arrive_whole_or_cut(rt: HostRuntime) -> Result<(), Fail> {
     let alloc = rt.alloc();
-    let (_base, mut first, mut second) = two_bearers(&rt)?;
+    let (_base, mut first, mut second) = two_bearers(&rt, 2)?;
     hears_nothing(&rt, alloc, &mut second)?;
     for (to, length) in [
         (To::Node(Addr::node(2)), 1_516),
@@ -86,6 +84,7 @@ fn datagrams_arrive_whole_or_cut(rt: HostRuntime) -> Result<(), Fail> {
     ] {
         arrives(&rt, alloc, &mut first, &mut second, to, length)?;
     }
+    arrives(&rt, alloc, &mut second, &mut first, To::All, 60)?;
     hears_nothing(&rt, alloc, &mut second)?;
     hears_nothing(&rt, alloc, &mut first)
 }
@@ -93,7 +92,7 @@ fn datagrams_arrive_whole_or_cut(rt: HostRuntime) -> Result<(), Fail> {
 #[test]
 fn frames_to_nobody_are_no_faults(rt: HostRuntime) -> Result<(), Fail> {
     let alloc = rt.alloc();
-    let (_base, mut first, mut second) = two_bearers(&rt)?;
+    let (_base, mut first, mut second) = two_bearers(&rt, 3)?;
     for addr in [Addr::node(3), Addr::node(4), Addr { word: 2 }] {
         assert_eq!(rt; first.send(To::Node(addr), b"for nobody"), Ok(()));
     }
@@ -103,15 +102,15 @@ fn frames_to_nobody_are_no_faults(rt: HostRuntime) -> Result<(), Fail> {
 
 #[test]
 fn a_port_is_bound_once(rt: HostRuntime) -> Result<(), Fail> {
-    let (base, _first, _second) = two_bearers(&rt)?;
-    let again = UdpBearer::bind(&rt, 2, 0, base, NODES);
+    let (base, _first, _second) = two_bearers(&rt, 2)?;
+    let again = UdpBearer::bind(&rt, 2, 0, base, 2);
     assert_eq!(rt; again.map(|_| ()), Err(BearerFault::Failed));
     Ok(())
 }
 
 #[test]
 fn a_datagram_that_udp_cannot_carry_is_a_fault(rt: HostRuntime) -> Result<(), Fail> {
-    let (_base, mut first, _second) = two_bearers(&rt)?;
+    let (_base, mut first, _second) = two_bearers(&rt, 2)?;
     let mut frame = Vec::new(rt.alloc());
     frame.resize(65_536, 0)?;
     assert_eq!(rt; first.send(To::All, &frame), Err(BearerFault::Failed));
