@@ -51,12 +51,4 @@ impl Contact {
         self.seen = number;
         Standing::Higher
     }
-
-    /// The contact ends: the node takes the next number. The old one isn't the greatest there is.
-    pub fn end(&mut self)
-        requires { self.old.own < 2 ^ 64 - 1 }
-        ensures { (self.new.own ≡ self.old.own + 1) × (self.new.seen ≡ self.old.seen) }
-    {
-        self.own += 1;
-    }
 }

@@ -115,6 +115,14 @@ content_by (header.Activate activate) sequence packet = Nothing
 content_by (header.Discovery discovery) sequence packet = Nothing
 content_by _ sequence packet = Carries sequence packet
 
+-- whether a packet with this header has a number: all but STATE and what sets a link up
+abbrev pub is_numbered : Header → Bool
+is_numbered (header.State state) = false
+is_numbered (header.Reset reset) = false
+is_numbered (header.Activate activate) = false
+is_numbered (header.Discovery discovery) = false
+is_numbered other = true
+
 -- the previous node that a packet shows while it waits: a message names its node from the start, and what a link makes of other
 -- packets (a bundle, a tunnel packet, a fragment) names none before it is sent
 abbrev pub previous_waiting : Header → ℕ → ℕ

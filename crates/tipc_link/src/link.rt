@@ -8,7 +8,7 @@ ghost use Rattle.tipc_outside.specs.Frames.{Adds};
 ghost use Rattle.tipc_link_fsm.specs.Table.{on_cut, on_reset, on_tick, contact_ended, forget_peer};
 ghost use Rattle.tipc_link.specs.Links.{change_outcome, is_down, is_heard, is_reset_unknown, known, outcome_of};
 ghost use Rattle.tipc_link.specs.Records.{kept_for, unheard};
-ghost use Rattle.tipc_link.specs.Sessions.{SessionEnd, IsPut, IsWaiting, content_of, flush_frames, flushed};
+ghost use Rattle.tipc_link.specs.Sessions.{SessionEnd, IsPut, IsWaiting, content_of, flush_frames, flushed, is_numbered};
 ghost use Rattle.tipc_link.specs.Hearings.{IsArriving, IsHearing};
 
 use crate::arriving::Arriving;
@@ -328,7 +328,7 @@ impl Link {
     ///
     /// # Errors
     ///
-    /// Where memory runs out for a packet that the session hears.
+    /// Where memory runs out for a packet with a number that the session hears.
     pub fn prepare(
         &self,
         alloc: Global,
@@ -344,6 +344,7 @@ impl Link {
         ensures arriving { IfOk result (λ a. IsArriving self.now (view packet.now) a) }
         ensures heard_only { OnErr result
             (is_heard packet.now.header (outcome_of self.now.fsm packet.now.header es er held).change ≡ true) }
+        ensures numbered { OnErr result (is_numbered packet.now.header ≡ true) }
     {
         let mut fsm = self.fsm.copy()?;
         let change = change_of(&mut fsm, &packet.header, es, er, held);
@@ -369,6 +370,7 @@ impl Link {
         ensures arriving { IfOk result (λ h. IsArriving self.now (view packet.now)
             (record { states = record { after = fsm.now; change = change }; hearing = h })) }
         ensures heard_only { OnErr result (is_heard packet.now.header change ≡ true) }
+        ensures numbered { OnErr result (is_numbered packet.now.header ≡ true) }
     {
         if !is_heard(&packet.header, change) {
             return Ok(Hearing::without_window(by, change_outcome(alloc, change)));
@@ -393,6 +395,7 @@ impl Link {
         requires { Fits (view packet.now) }
         ensures by { IfOk result (λ h. h.by ≡ by) }
         ensures hearing { IfOk result (λ h. IsHearing (session_of (with_fsm self.now fsm.now)) (view packet.now) h) }
+        ensures numbered { OnErr result (is_numbered packet.now.header ≡ true) }
     {
         let peer_epoch = known_epoch(fsm);
         match self.kept(peer_epoch) {
@@ -438,6 +441,7 @@ impl Link {
             IfOk result (λ h. IsHearing s (view packet.now) h) }
         ensures outcome { IfOk result (λ h. h.outcome ≡ heard_outcome self.now.session by
             (content_of (view packet.now))) }
+        ensures numbered { OnErr result (is_numbered packet.now.header ≡ true) }
     {
         match &self.session {
             Some(session) => session.prepare(alloc, packet, by),

@@ -1,6 +1,6 @@
 //! The receiving record of a link end, which outlives the session that began it.
 
-ghost use Rattle.std.specs.Prelude.{◌≡◌, ◌+◌, ◌≤◌, ◌&&◌, false, max, None, IfOk, OnErr, OnOk};
+ghost use Rattle.std.specs.Prelude.{◌≡◌, ◌+◌, ◌≤◌, ◌&&◌, false, true, max, None, IfOk, OnErr, OnOk};
 ghost use Rattle.tipc_types.specs.Position.{number_of};
 ghost use Rattle.tipc_types.specs.declared.packet_lists.Taken.{Taken};
 ghost use Rattle.tipc_header.specs.Spelling.{spelling, view};
@@ -44,7 +44,7 @@ impl Model for Record {
 
 impl Record {
     ghost use Rattle.tipc_link.specs.Records.{advanced_by, freed, is_early_tunnel, is_next, tunnelled, tunnelled_outcome, unheard, window_of, with_coming};
-    ghost use Rattle.tipc_link.specs.Sessions.{as_waiting, brought, content_of};
+    ghost use Rattle.tipc_link.specs.Sessions.{as_waiting, brought, content_of, is_numbered};
     ghost use Rattle.tipc_link.specs.Hearings.{IsWindowHearing, numbered_hearing};
 
     /// A new record of this epoch of the peer: the first packet is wanted.
@@ -113,11 +113,16 @@ impl Record {
     /// A packet with a number is taken where it is the wanted one, and with it those behind it that are held; it is deferred where
     /// it is one of the next 49, isn't held and is no tunnel packet; else it is ignored with `Old`. A packet that is taken is given
     /// as it waited to be sent. (TIPC 2.0 draft; this project's profile.)
+    ///
+    /// # Errors
+    ///
+    /// Where memory runs out for a packet with a number.
     #[tactic(auto, unfolding(crate::specs::Sessions::content_of))]
     pub fn prepare(&self, alloc: Global, packet: &Packet<'_>, by: u64) -> Result<Hearing, NoMemory>
         requires { Fits (view packet.now) }
         ensures by { IfOk result (λ h. h.by ≡ by) }
         ensures hearing { IfOk result (λ h. IsWindowHearing (window_of self.now) (view packet.now) h) }
+        ensures numbered { OnErr result (is_numbered packet.now.header ≡ true) }
     {
         match packet.header {
             Header::Reset(_) | Header::Activate(_) | Header::Discovery(_) => {
@@ -213,6 +218,7 @@ impl Record {
     ) -> Result<LinkOutcome, NoMemory>
         ensures outcome { IfOk result (λ o. o ≡ tunnelled_outcome self.old epoch packet) }
         ensures after { OnOk result (self.new ≡ tunnelled self.old epoch packet) }
+        ensures wanted { OnErr result (is_next self.old epoch packet ≡ true) }
         ensures err { OnErr result (self.new ≡ self.old) }
     {
         if epoch != self.epoch() || packet.number != self.window().wanted() {

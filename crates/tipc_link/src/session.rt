@@ -80,7 +80,7 @@ impl Model for Session {
 }
 
 impl Session {
-    ghost use Rattle.tipc_link.specs.Sessions.{ahead, all_answered, answer_frames, answered, begun_with, flush_frames, flushed, gap, given_up, highest, is_due, missing, noted, packet_frame, past, put, priority_of, receiving, receiving_record, after_acknowledgement, repeat_frames, repeated, room, sent, shows_more, spoke, state_fields, state_frame, after_state, took, tunnel_count, waiting_given, wanted, with_broadcast, with_last, with_record, IsPut, IsWaiting, MayJoin, SessionEnd};
+    ghost use Rattle.tipc_link.specs.Sessions.{ahead, all_answered, answer_frames, answered, begun_with, flush_frames, flushed, gap, given_up, highest, is_due, is_numbered, missing, noted, packet_frame, past, put, priority_of, receiving, receiving_record, after_acknowledgement, repeat_frames, repeated, room, sent, shows_more, spoke, state_fields, state_frame, after_state, took, tunnel_count, waiting_given, wanted, with_broadcast, with_last, with_record, IsPut, IsWaiting, MayJoin, SessionEnd};
     ghost use Rattle.tipc_link.specs.Hearings.{coming_of, IsHearing, IsJoined};
 
     /// An end that is up, in the session of these two epochs, over a bearer 0 or 1, with this receiving record.
@@ -432,6 +432,7 @@ impl Session {
         requires { Fits (view packet.now) }
         ensures by { IfOk result (λ h. h.by ≡ by) }
         ensures hearing { IfOk result (λ h. IsHearing self.now (view packet.now) h) }
+        ensures numbered { OnErr result (is_numbered packet.now.header ≡ true) }
     {
         self.received.prepare(alloc, packet, by)
     }

@@ -85,7 +85,7 @@ impl Session {
     }
 
     /// Takes such a packet, and sends again what the peer misses. Nothing moves up yet.
-    #[tactic(auto, unfolding(crate::specs::Sessions::content_of))]
+    #[tactic(auto, using(tipc_outside::proofs::Adding::adds_none), unfolding(crate::specs::Sessions::content_of))]
     fn take_in(
         &mut self,
         alloc: Global,

@@ -105,6 +105,7 @@ fn learn<N: Names>(names: &mut N, p: &Publication) -> Result<(), Unfit>
     ensures new { OnOk result (can_be_put (N.table names.old) p.now ≡ true) }
     ensures after { OnOk result (N.table names.new ≡ put p.now (N.table names.old)) }
     ensures bad { result ≡ Err Unfit.Bad → can_be_put (N.table names.old) p.now ≡ false }
+    ensures memory { result ≡ Err Unfit.NoMemory → can_be_put (N.table names.old) p.now ≡ true }
     ensures err { OnErr result (N.table names.new ≡ N.table names.old) }
 {
     if let Err(fault) = names.publish(*p) {

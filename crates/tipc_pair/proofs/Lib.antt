@@ -6,6 +6,7 @@ pub mod EndSteps
 pub mod Facings
 pub mod Falls
 pub mod Followings
+pub mod HeldCalls
 pub mod HeldLaws
 pub mod Listed
 pub mod Openings

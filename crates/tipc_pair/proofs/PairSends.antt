@@ -76,7 +76,7 @@ puts_facing x y now pieces frames same puts = record {
   frames_are = puts.frames_are;
 }
 
-bearer_stays : (x now : PairEnds) (pieces : List (List ℕ)) (frames : List Outgoing) → Puts x pieces now frames → now.bearer ≡ x.bearer
+pub bearer_stays : (x now : PairEnds) (pieces : List (List ℕ)) (frames : List Outgoing) → Puts x pieces now frames → now.bearer ≡ x.bearer
 bearer_stays x now pieces frames puts = ap (λ (z : PairEnds). z.bearer) puts.after
 
 pub put_first : {T F : Type 0} (r : Result T F) (x now : PairEnds) (pieces : List (List ℕ)) (limit : ℕ) (a b : Out) → x.bearer ≡ 0 → is_up_at x.near ≡ true

@@ -1,33 +1,28 @@
 -- Frames of a box that go out behind others.
-use Rattle.std.proofs.Common.{◌≡◌, ◌≤◌, true, false, List, [], ◌++◌, length, take, min, sym, subst, ap, ◌∙◌, arith}
+use Rattle.std.proofs.Common.{◌≡◌, ◌≤◌, ◌<◌, refl, true, false, List, [], ◌++◌, length, take, min, sym, subst, ap, ◌∙◌, arith}
 use Rattle.std.proofs.lemmas.List.{length-take, take-take, take_all}
 use Rattle.tipc_outside.specs.Frames.{Adds, Out}
+use Rattle.tipc_outside.proofs.Adding.{adds_all, adds_fewer, adds_missing}
 use Rattle.tipc_outside.specs.declared.outgoing.Outgoing.{Outgoing}
 use Rattle.tipc_pair.specs.Courses.{AddsCourse, Course, IsToldOf, LeavingState, no_frames}
 
-both : {A : Type 0} → true ≡ false → A
-both e = grind arith
-
 all_made : (f : Out) (made : List Outgoing) → Adds no_frames f made → f.lost ≡ false → f.frames ≡ made
-all_made f made m whole = m.front ∙ take_all m.count made (omega (arith, (m.whole whole).1))
+all_made f made m whole = m.front ∙ take_all m.count made (omega (arith, (adds_all m whole).1))
 
 -- all that was made goes out
 pub sent_whole : (a b f : Out) (made : List Outgoing) → Adds a b f.frames → Adds no_frames f made → f.lost ≡ false → Adds a b made
 sent_whole a b f made h m whole = subst (Adds a b) (all_made f made m whole) h
 
 -- a frame that was made was lost, and so are those behind it
-pub sent_lost : (a b c f : Out) (made : List Outgoing) → Adds a b f.frames → Adds no_frames f made → c.frames ≡ b.frames → c.lost ≡ true → Adds a c made
-sent_lost a b c f made h m same lost =
+pub sent_lost : (a b c f : Out) (made : List Outgoing) → Adds a b f.frames → Adds no_frames f made → f.lost ≡ true → c.frames ≡ b.frames → c.lost ≡ true → Adds a c made
+sent_lost a b c f made h m missing same lost =
     let shorter : length f.frames ≡ min m.count (length made) = ap length m.front ∙ length-take m.count made in
     let within = h.within in
     let fewer : h.count ≤ m.count = omega (arith, shorter, within) in
-    record {
-      count = h.count;
-      within = omega (arith, shorter, within);
-      front = same ∙ (h.front ∙ ap (λ fs. a.frames ++ fs) (ap (take h.count) m.front ∙ take-take h.count m.count made fewer));
-      whole = λ e. both (sym lost ∙ e);
-      none = λ e. (lost, same ∙ (h.none e).1);
-    }
+    let few : m.count < length made = adds_missing m refl missing in
+    adds_fewer a c made h.count (omega (arith, fewer, few))
+    (same ∙ (h.front ∙ ap (λ fs. a.frames ++ fs) (ap (take h.count) m.front ∙ take-take h.count m.count made fewer)))
+    lost (λ e. same ∙ (h.none e).1)
 
 -- a new box
 pub new_box : (f : Out) → f.frames ≡ [] → f.lost ≡ false → f ≡ no_frames

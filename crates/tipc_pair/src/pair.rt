@@ -5,6 +5,7 @@ ghost use Rattle.tipc_header.specs.Grammar.{Fits};
 ghost use Rattle.tipc_header.specs.Spelling.{view};
 ghost use Rattle.tipc_outside.specs.Frames.{Adds};
 ghost use Rattle.tipc_outside.specs.declared.outgoing.Outgoing.{Outgoing};
+ghost use Rattle.tipc_contact.specs.declared.contact.Standing.TheVariants as standing;
 ghost use Rattle.tipc_link.specs.Sessions.{SessionEnd};
 ghost use Rattle.tipc_pair.specs.Courses.{Course, sent_in};
 
@@ -69,12 +70,13 @@ pub struct Pair {
 impl Model for Pair {
     ghost use Rattle.std.specs.Prelude.{◌≡◌};
     ghost use Rattle.tipc_pair.specs.Facing.{PairEnds};
+    ghost use Rattle.tipc_pair.specs.PairFacts.{AreHeldRightly};
 
     ghost Value = { PairEnds };
 
     ghost view = { λ p. p.ends };
 
-    ghost invariant = { λ p. p.ends.bearer ≡ 0 };
+    ghost invariant = { λ p. (p.ends.bearer ≡ 0) × AreHeldRightly p.ends };
 }
 
 impl Pair {
@@ -83,6 +85,7 @@ impl Pair {
     ghost use Rattle.tipc_pair.specs.Courses.{IsToldOf};
     ghost use Rattle.tipc_pair.specs.PairCalls.{active_session, answered_near, at_bearer, cut_near, last_count_of, load_of, mended, numbered_of, ticked, SendsWithin};
     ghost use Rattle.tipc_pair.specs.PairFacts.{AreHeldRightly, IsPairOfEnds};
+    ghost use Rattle.tipc_pair.specs.PairOpenings.{standing_with};
     ghost use Rattle.tipc_pair.specs.Preparing.{changes_of, Prepares};
     ghost use Rattle.tipc_pair.specs.Runs.{IsListed};
 
@@ -142,8 +145,7 @@ impl Pair {
         ensures after { OnOk result (self.new ≡ (at_bearer bearer self.old cut_near).pair) }
         ensures changes { IfOk result (λ changes. changes ≡ (at_bearer bearer self.old cut_near).changes) }
         ensures frames { OnOk result (Adds out.old out.new (sent_in (at_bearer bearer self.old cut_near))) }
-        // An end is held only where the other link has a tunnel packet, and the contact ends only where no link is up.
-        ensures held { AreHeldRightly self.old → OnOk result (AreHeldRightly self.new) }
+        // The contact ends only where no link is up.
         ensures goes_on { in_contact self.old ≡ true → OnOk result (in_contact self.new ≡ true →
             self.new.contact ≡ self.old.contact) }
         ensures err { OnErr result ((self.new ≡ self.old) × (out.new ≡ out.old)) }
@@ -170,8 +172,7 @@ impl Pair {
         ensures changes { IfOk result (λ changes. changes ≡ (at_bearer bearer self.old cut_near).changes) }
         ensures states { OnOk result (Adds states.old states.new (at_bearer bearer self.old cut_near).states) }
         ensures numbered { OnOk result (Adds numbered.old numbered.new (at_bearer bearer self.old cut_near).numbered) }
-        // An end is held only where the other link has a tunnel packet, and the contact ends only where no link is up.
-        ensures held { AreHeldRightly self.old → OnOk result (AreHeldRightly self.new) }
+        // The contact ends only where no link is up.
         ensures goes_on { in_contact self.old ≡ true → OnOk result (in_contact self.new ≡ true →
             self.new.contact ≡ self.old.contact) }
         ensures err { OnErr result ((self.new ≡ self.old) × (states.new ≡ states.old) × (numbered.new ≡ numbered.old)) }
@@ -185,7 +186,6 @@ impl Pair {
         requires { bearer ≤ 1 }
         ensures after { OnOk result (self.new ≡ (at_bearer bearer self.old cut_near).pair) }
         ensures told { IfOk result (λ event. IsToldOf (at_bearer bearer self.old cut_near) event) }
-        ensures held { AreHeldRightly self.old → OnOk result (AreHeldRightly self.new) }
         ensures goes_on { in_contact self.old ≡ true → OnOk result (in_contact self.new ≡ true →
             self.new.contact ≡ self.old.contact) }
         ensures err { OnErr result (self.new ≡ self.old) }
@@ -214,8 +214,7 @@ impl Pair {
         ensures after { OnOk result (self.new ≡ (ticked shown self.old).pair) }
         ensures changes { IfOk result (λ changes. changes ≡ (ticked shown self.old).changes) }
         ensures frames { OnOk result (Adds out.old out.new (sent_in (ticked shown self.old))) }
-        // An end is held only where the other link has a tunnel packet, and the contact ends only where no link is up.
-        ensures held { AreHeldRightly self.old → OnOk result (AreHeldRightly self.new) }
+        // The contact ends only where no link is up.
         ensures goes_on { in_contact self.old ≡ true → OnOk result (in_contact self.new ≡ true →
             self.new.contact ≡ self.old.contact) }
         ensures err { OnErr result ((self.new ≡ self.old) × (out.new ≡ out.old)) }
@@ -240,8 +239,7 @@ impl Pair {
         ensures changes { IfOk result (λ changes. changes ≡ (ticked shown self.old).changes) }
         ensures states { OnOk result (Adds states.old states.new (ticked shown self.old).states) }
         ensures numbered { OnOk result (Adds numbered.old numbered.new (ticked shown self.old).numbered) }
-        // An end is held only where the other link has a tunnel packet, and the contact ends only where no link is up.
-        ensures held { AreHeldRightly self.old → OnOk result (AreHeldRightly self.new) }
+        // The contact ends only where no link is up.
         ensures goes_on { in_contact self.old ≡ true → OnOk result (in_contact self.new ≡ true →
             self.new.contact ≡ self.old.contact) }
         ensures err { OnErr result ((self.new ≡ self.old) × (states.new ≡ states.old) × (numbered.new ≡ numbered.old)) }
@@ -254,7 +252,6 @@ impl Pair {
     fn tick_ends(&mut self, alloc: Global, shown: BroadcastState) -> Result<Leaving, NoMemory>
         ensures after { OnOk result (self.new ≡ (ticked shown self.old).pair) }
         ensures told { IfOk result (λ event. IsToldOf (ticked shown self.old) event) }
-        ensures held { AreHeldRightly self.old → OnOk result (AreHeldRightly self.new) }
         ensures goes_on { in_contact self.old ≡ true → OnOk result (in_contact self.new ≡ true →
             self.new.contact ≡ self.old.contact) }
         ensures err { OnErr result (self.new ≡ self.old) }
@@ -319,9 +316,7 @@ impl Pair {
             Arrives (facing bearer self.old) incoming.now.sender_epoch incoming.now.receiver_epoch
             (view incoming.now.packet) incoming.now.by incoming.now.shown c a.outcome ×
             (self.new ≡ facing 0 c.pair) × (a.changes ≡ c.changes) × Adds out.old out.new (sent_in c)) }
-        // An end is held only where the other link has a tunnel packet. The contact ends only where no link is up, or the peer showed a higher
-        // contact number.
-        ensures held { AreHeldRightly self.old → OnOk result (AreHeldRightly self.new) }
+        // The contact ends only where no link is up, or the peer showed a higher contact number.
         ensures goes_on { in_contact self.old ≡ true → OnOk result (in_contact self.new ≡ true →
             self.new.seen ≡ self.old.seen →
             self.new.contact ≡ self.old.contact) }
@@ -340,7 +335,7 @@ impl Pair {
     ///
     /// # Errors
     ///
-    /// Where memory runs out.
+    /// Where memory runs out. A packet of an ended contact, which is passed over, takes none.
     pub fn prepare(
         &self,
         alloc: Global,
@@ -352,6 +347,7 @@ impl Pair {
         ensures bearer { IfOk result (λ a. a.bearer ≡ bearer) }
         ensures prepares { IfOk result (λ a. Prepares self.now incoming.now.sender_epoch incoming.now.receiver_epoch
             (view incoming.now.packet) incoming.now.by incoming.now.shown a) }
+        ensures passing { OnErr result (standing_with self.now incoming.now.packet.header ≡ standing.Lower → ⊥) }
     {
         let (way, outcome) = self.ends.prepare(alloc, bearer, incoming)?;
         Ok(PairArriving {
@@ -376,9 +372,7 @@ impl Pair {
             (self.new ≡ facing 0 c.pair) × (result.changes ≡ c.changes) × Adds out.old out.new (sent_in c) }
         ensures outcome { result.outcome ≡ arriving.outcome }
         ensures changes { result.changes ≡ changes_of arriving.way }
-        // An end is held only where the other link has a tunnel packet. The contact ends only where no link is up, or the peer showed a higher
-        // contact number.
-        ensures held { AreHeldRightly self.old → AreHeldRightly self.new }
+        // The contact ends only where no link is up, or the peer showed a higher contact number.
         ensures goes_on { in_contact self.old ≡ true → in_contact self.new ≡ true → self.new.seen ≡ self.old.seen →
             self.new.contact ≡ self.old.contact }
     {
@@ -413,10 +407,12 @@ impl Pair {
         self.ends.face(0);
     }
 
-    /// It is seen from bearer 0's link, and what is true of every pair is true of it. It does nothing.
+    /// It is seen from bearer 0's link, and what is true of every pair is true of it: an end is held only where the other link is up and has
+    /// a tunnel packet. It does nothing.
     pub fn sound(&self)
         ensures first { self.now.bearer ≡ 0 }
         ensures pair { IsPairOfEnds self.now }
+        ensures held { AreHeldRightly self.now }
     {
         self.ends.sound();
     }

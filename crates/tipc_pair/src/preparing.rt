@@ -62,7 +62,7 @@ impl LinkEnds {
     ///
     /// # Errors
     ///
-    /// Where memory runs out.
+    /// Where memory runs out for a packet that isn't passed over.
     pub(crate) fn prepare(
         &self,
         alloc: Global,
@@ -71,9 +71,10 @@ impl LinkEnds {
     ) -> Result<(Way, PairOutcome), NoMemory>
         requires bearer { bearer ≤ 1 }
         requires fits { Fits (view incoming.now.packet) }
-        ensures { IfOk result (λ told.
+        ensures prepared { IfOk result (λ told.
             IsPrepared (facing bearer self.now) incoming.now.sender_epoch incoming.now.receiver_epoch
             (view incoming.now.packet) incoming.now.by incoming.now.shown told.0 told.1) }
+        ensures passing { OnErr result (standing_with self.now incoming.now.packet.header ≡ Standing.Lower → ⊥) }
     {
         match self.standing_with(&incoming.packet.header) {
             Standing::Lower => Ok((Way::Passes, PairOutcome::Ignored(Why::Contact))),

@@ -213,9 +213,10 @@ impl Reassembly {
     ///
     /// # Errors
     ///
-    /// Where memory runs out. Nothing is changed then.
+    /// Where memory runs out for a packet. Nothing is changed then.
     pub fn open(&mut self, alloc: Global, taken: &[Taken]) -> Result<OpenedList, NoMemory>
         ensures ok { IfOk result (λ opened. BringsAll self.old taken.now opened self.new) }
+        ensures some { OnErr result (taken.now ≡ [] → ⊥) }
         ensures err { OnErr result (self.new ≡ self.old) }
     {
         match taken {

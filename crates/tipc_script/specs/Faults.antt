@@ -73,6 +73,12 @@ fault_by (Some row) left = row_fault row left
 unfoldable pub fault_of : List ℕ → Option Fault
 fault_of text = if is_remark text then None else fault_by (row_of (first_token (whole text))) (behind (whole text))
 
+-- what a function that takes no memory answered tells this fault
+abbrev pub TellsAlways : {A : Type 0} → Result A LineFault → Option Fault → Type 0
+TellsAlways (Ok x) fault = fault ≡ None
+TellsAlways (Err (faults.BadLine place reason)) fault = fault ≡ Some (place, reason)
+TellsAlways (Err faults.NoMemory) fault = ⊥
+
 -- what a function answered tells this fault, unless memory ran out
 abbrev pub Tells : {A : Type 0} → Result A LineFault → Option Fault → Type 0
 Tells (Ok x) fault = fault ≡ None

@@ -5,7 +5,7 @@ ghost use Rattle.std.specs.Option.{option_copied};
 ghost use Rattle.std.specs.Str.{bytes_eq};
 ghost use Rattle.tipc_script.specs.Splitting.{whole, first_token, behind, tokens_of, pieces, is_space};
 ghost use Rattle.tipc_script.specs.Kinds.{body_of, filter_in, filter_of, importance_in, importance_of, is_body, is_filter, is_form, is_importance, is_name, is_number, is_scope, number_of, scope_in, scope_of};
-ghost use Rattle.tipc_script.specs.Faults.{Tells, first_fault, missing_fault, end_fault};
+ghost use Rattle.tipc_script.specs.Faults.{Tells, TellsAlways, first_fault, missing_fault, end_fault};
 
 use crate::body::body_in;
 use crate::faults::{LineFault, LineWhy};
@@ -78,7 +78,7 @@ impl<'a> Tokens<'a> {
     fn token(&mut self) -> Result<&'a [u8], LineFault>
         ensures ok { IfOk result (λ token. (self.old.tokens ≡ token.now ∷ drop 1 self.old.tokens) ×
             (self.new ≡ behind self.old)) }
-        ensures fault { Tells result (missing_fault self.old) }
+        ensures fault { TellsAlways result (missing_fault self.old) }
     {
         let Some(token) = self.next() else {
             return Err(LineFault::BadLine {
@@ -94,7 +94,7 @@ impl<'a> Tokens<'a> {
     pub fn number(&mut self, low: u32, high: u32) -> Result<u32, LineFault>
         ensures ok { IfOk result (λ number. (self.new ≡ behind self.old) ×
             (number ≡ number_of (first_token self.old)) × (low ≤ number) × (number ≤ high)) }
-        ensures fault { Tells result (first_fault (is_number low high) LineWhy.Number self.old) }
+        ensures fault { TellsAlways result (first_fault (is_number low high) LineWhy.Number self.old) }
     {
         let place = self.place();
         let token = self.token()?;
@@ -111,7 +111,7 @@ impl<'a> Tokens<'a> {
     pub fn node_number(&mut self) -> Result<u8, LineFault>
         ensures ok { IfOk result (λ node. (self.new ≡ behind self.old) × (node ≡ number_of (first_token self.old)) ×
             (1 ≤ node) × (node ≤ 32)) }
-        ensures fault { Tells result (first_fault (is_number 1 32) LineWhy.Number self.old) }
+        ensures fault { TellsAlways result (first_fault (is_number 1 32) LineWhy.Number self.old) }
     {
         Ok(self.number(1, 32)? as u8)
     }
@@ -121,7 +121,7 @@ impl<'a> Tokens<'a> {
         ensures ok { IfOk result (λ token. (self.new ≡ behind self.old) ×
             (token ≡ record { place = self.old.place; node = number_of (first_token self.old); there = there }) ×
             (1 ≤ token.node) × (token.node ≤ 32)) }
-        ensures fault { Tells result (first_fault (is_number 1 32) LineWhy.Number self.old) }
+        ensures fault { TellsAlways result (first_fault (is_number 1 32) LineWhy.Number self.old) }
     {
         let place = self.place();
         let node = self.node_number()?;
@@ -132,7 +132,7 @@ impl<'a> Tokens<'a> {
     #[tactic(auto, unfolding(crate::specs::Faults::first_fault, crate::specs::Faults::missing_fault))]
     pub fn word(&mut self, word: &[u8], why: LineWhy) -> Result<(), LineFault>
         ensures ok { OnOk result (self.new ≡ behind self.old) }
-        ensures fault { Tells result (first_fault (λ token. bytes_eq token word.now) why self.old) }
+        ensures fault { TellsAlways result (first_fault (λ token. bytes_eq token word.now) why self.old) }
     {
         let place = self.place();
         let token = self.token()?;
@@ -146,7 +146,7 @@ impl<'a> Tokens<'a> {
     #[tactic(auto, unfolding(crate::specs::Faults::first_fault, crate::specs::Faults::missing_fault))]
     pub fn is_by_name(&mut self) -> Result<bool, LineFault>
         ensures ok { IfOk result (λ named. (self.new ≡ behind self.old) × (named ≡ is_name (first_token self.old))) }
-        ensures fault { Tells result (first_fault is_form LineWhy.Word self.old) }
+        ensures fault { TellsAlways result (first_fault is_form LineWhy.Word self.old) }
     {
         let place = self.place();
         let token = self.token()?;
@@ -166,7 +166,7 @@ impl<'a> Tokens<'a> {
     #[tactic(auto, unfolding(crate::specs::Faults::first_fault, crate::specs::Faults::missing_fault))]
     pub fn scope(&mut self) -> Result<Scope, LineFault>
         ensures ok { IfOk result (λ scope. (self.new ≡ behind self.old) × (scope ≡ scope_of (first_token self.old))) }
-        ensures fault { Tells result (first_fault is_scope LineWhy.Word self.old) }
+        ensures fault { TellsAlways result (first_fault is_scope LineWhy.Word self.old) }
     {
         let place = self.place();
         let token = self.token()?;
@@ -184,7 +184,7 @@ impl<'a> Tokens<'a> {
     pub fn filter(&mut self) -> Result<Filter, LineFault>
         ensures ok { IfOk result (λ filter. (self.new ≡ behind self.old) ×
             (filter ≡ filter_of (first_token self.old))) }
-        ensures fault { Tells result (first_fault is_filter LineWhy.Word self.old) }
+        ensures fault { TellsAlways result (first_fault is_filter LineWhy.Word self.old) }
     {
         let place = self.place();
         let token = self.token()?;
@@ -202,7 +202,7 @@ impl<'a> Tokens<'a> {
     pub fn importance(&mut self) -> Result<Importance, LineFault>
         ensures ok { IfOk result (λ importance. (self.new ≡ behind self.old) ×
             (importance ≡ importance_of (first_token self.old))) }
-        ensures fault { Tells result (first_fault is_importance LineWhy.Word self.old) }
+        ensures fault { TellsAlways result (first_fault is_importance LineWhy.Word self.old) }
     {
         let place = self.place();
         let token = self.token()?;
@@ -235,7 +235,7 @@ impl<'a> Tokens<'a> {
     /// That no token is left.
     #[tactic(auto, unfolding(crate::specs::Faults::end_fault))]
     pub fn finish(&mut self) -> Result<(), LineFault>
-        ensures { Tells result (end_fault self.old) }
+        ensures { TellsAlways result (end_fault self.old) }
     {
         let place = self.place();
         let Some(_more) = self.next() else {

@@ -7,7 +7,7 @@ ghost use Rattle.tipc_types.specs.declared.message_forms.Message.{Message};
 ghost use Rattle.tipc_types.specs.declared.services.Publication.{Publication};
 ghost use Rattle.tipc_types.specs.Matching.{closest, covers, overlaps};
 ghost use Rattle.tipc_types.specs.Tables.{is_named, is_of, put, without, without_node, IsTable};
-ghost use Rattle.tipc_ports.specs.Numbers.{port_number, ArePresent};
+ghost use Rattle.tipc_ports.specs.Numbers.{port_number};
 ghost use Rattle.tipc_sockets.specs.Fates.{after_fate, fate, has_places, may_wait, hearers, refusal, surely_waits, with_waiting};
 ghost use Rattle.tipc_sockets.specs.Publishing.{closed, is_at, own_publication, published_at, publish_refusal, published, purged, withdrawn};
 ghost use Rattle.tipc_topology.specs.Changing.{cancelled, due, ended_at, events_left, is_filter, of_number, passed, subscribed, with_event_taken as taken_from_one, with_kept};
@@ -142,14 +142,6 @@ impl Sockets {
         ensures { result ≡ has_port self.now port }
     {
         self.queues.contains_key(&port)
-    }
-
-    /// The ports that are there, in the order in which they were made, which is that of their numbers.
-    pub fn ports(&self) -> &[u32]
-        ensures ports { result.now ≡ self.now.ports.present }
-        ensures present { ArePresent self.now.ports.boot self.now.ports.made self.now.ports.present }
-    {
-        self.ports.as_slice()
     }
 
     /// How many messages wait at a port, 128 at most: 0 where it isn't there.
@@ -425,6 +417,8 @@ impl Sockets {
         ensures err { OnErr result (self.new ≡ self.old) }
         ensures not_dropped { OnErr result (fate self.old arrived waiting m ≡ Fate.Dropped → ⊥) }
         ensures not_returned { (r : Message) → OnErr result (fate self.old arrived waiting m ≡ Fate.Returned r → ⊥) }
+        ensures not_return_dropped { (count : ℕ) →
+            OnErr result (fate self.old arrived waiting m ≡ Fate.ReturnDropped count → ⊥) }
     {
         let Message::Payload {
             form,

@@ -22,7 +22,8 @@ use Rattle.tipc_two_nodes.proofs.calls.EndingTwins.{restarts_carry, restarts_twi
 use Rattle.tipc_two_nodes.proofs.messages.Posted.{sent_messages}
 use Rattle.tipc_two_nodes.proofs.calls.SendTwins.{active_going, pieces_plain, send_numbers, sends_keep}
 use Rattle.tipc_two_nodes.proofs.contacts.Stale.{apart_absent}
-use Rattle.tipc_two_nodes.proofs.calls.TalkerPairs.{sent_begun, sent_ends, sent_quiet, sent_right}
+use Rattle.tipc_two_nodes.proofs.calls.TalkerPairs.{sent_begun, sent_ends, sent_quiet}
+use Rattle.tipc_pair.proofs.HeldCalls.{sent_right}
 use Rattle.tipc_two_nodes.proofs.messages.Talks.{talks_send}
 use Rattle.tipc_two_nodes.proofs.steps.TwinSteps.{new_apart, start_empty, start_twins}
 

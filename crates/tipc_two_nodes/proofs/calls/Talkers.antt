@@ -19,7 +19,8 @@ use Rattle.tipc_two_nodes.proofs.calls.CallCourses.{cut_carried, ticked_carried}
 use Rattle.tipc_two_nodes.proofs.messages.Crossing.{sends_on_talks, takes_on_talks}
 use Rattle.tipc_two_nodes.proofs.calls.QuietCourses.{answered_carried, carried_at, made_carried, mended_carried}
 use Rattle.tipc_two_nodes.proofs.messages.Talks.{talks_front}
-use Rattle.tipc_two_nodes.proofs.calls.TalkerPairs.{answered_ends, answered_quiet, answered_right, at_ends, at_right, cut_ends, made_ends, made_quiet, made_right, mended_ends, mended_quiet, mended_right, ticked_ends}
+use Rattle.tipc_two_nodes.proofs.calls.TalkerPairs.{answered_ends, answered_quiet, at_ends, cut_ends, made_ends, made_quiet, mended_ends, mended_quiet, ticked_ends}
+use Rattle.tipc_pair.proofs.HeldCalls.{answered_right, at_right, made_right, mended_right}
 use Rattle.tipc_two_nodes.proofs.steps.TwinSteps.{twins_turned}
 
 pub given_is_front : GivenIsFront

@@ -18,7 +18,7 @@ use Rattle.tipc_two_nodes.specs.links.Ends.{IsUpAt, up_beside}
 use Rattle.tipc_two_nodes.specs.links.Sending.{StandFor}
 use Rattle.tipc_two_nodes.specs.links.Traffic.{Traffic}
 use Rattle.tipc_two_nodes.proofs.links.sender.LinkSteps.{near_seen}
-use Rattle.tipc_two_nodes.proofs.links.calls.Posting.{carries_plain}
+use Rattle.tipc_pair.proofs.Putting.{carries_plain}
 use Rattle.tipc_paired.proofs.wires.Wires.{same_some}
 use Rattle.tipc_paired.specs.Views.{View}
 use Rattle.tipc_two_nodes.proofs.deeds.EndsKept.{ends_facing}

@@ -3,17 +3,15 @@ use Rattle.std.proofs.Common.{◌≡◌, ◌≢◌, ◌==◌, ◌≤◌, ℕ, �
 use Rattle.std.proofs.lemmas.Bool.{cases_Bool}
 use Rattle.std.proofs.lemmas.List.Elements.{All-append}
 use Rattle.tipc_outside.specs.declared.outgoing.Outgoing.{Outgoing}
-use Rattle.tipc_bundle.specs.Bundles.{Carries, IsInner, bundle_of, joined}
-use Rattle.tipc_bundle.proofs.Bundling.{one_or_several}
+use Rattle.tipc_bundle.specs.Bundles.{IsInner, joined}
 use Rattle.tipc_link.specs.Links.{LinkEnd, with_session}
 use Rattle.tipc_link.specs.Records.{is_tunnel}
 use Rattle.tipc_link.specs.Sessions.{IsPut, MayJoin, SessionEnd, advanced, flushed, joins, last_of, moving, put, room, waits, with_last as with_last_packet}
 use Rattle.tipc_pair.specs.Facing.{PairEnds, active_of, facing, is_up_at, with_near, turned as turned_pair}
 use Rattle.tipc_pair.specs.PairCalls.{Puts, SendsWithin}
 use Rattle.tipc_pair.proofs.Facings.{facing_far, facing_near}
-use Rattle.tipc_pair.proofs.Listed.{spelled_tunnel}
 use Rattle.tipc_pair.proofs.Pieces.{All-one}
-use Rattle.tipc_pair.proofs.Putting.{inner_plain}
+use Rattle.tipc_pair.proofs.Putting.{carries_plain}
 use Rattle.tipc_changeover.specs.Links.{leads, other, turned_state, Bearer, EndState, First, Held, Reset, Second, State, Up}
 use Rattle.tipc_changeover.specs.Sound.{Sound}
 use Rattle.tipc_two_nodes.specs.links.Traffic.{Traffic, turned_traffic as turned_traffic}
@@ -32,12 +30,6 @@ use Rattle.tipc_two_nodes.proofs.links.calls.Ticking.{far_differs}
 use Rattle.tipc_two_nodes.proofs.links.sender.Turning.{stand_turned}
 
 -- ---- packets that wait for others are no tunnel packets
-
-pub carries_plain : (bytes : List ℕ) (packets : List (List ℕ)) → Carries bytes packets → is_tunnel bytes ≡ false
-carries_plain bytes packets h = elim (one_or_several bytes packets h) [
-  | inl one ↦ inner_plain bytes one.0
-  | inr several ↦ ap is_tunnel several.2 ∙ spelled_tunnel (bundle_of packets) several.1
-]
 
 joins_plain : (s : SessionEnd) (packets : List (List ℕ)) (packet : List ℕ) → MayJoin s packets packet → is_tunnel (joined (packets ++ packet ∷ [])) ≡ false
 joins_plain s packets packet may =

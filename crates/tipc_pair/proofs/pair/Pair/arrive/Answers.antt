@@ -9,30 +9,31 @@ use Rattle.tipc_pair.proofs.pair.Pair.arrive.Goals as goal
 
 pub returns-clause-ok : goal.returns-clause-ok
 returns-clause-ok c =
-    let h = c.commit-event.ensures.told c.args.incoming.now.sender_epoch c.args.incoming.now.receiver_epoch c.args.incoming.now.by c.in_ok-way.outcome c.in_ok-way.ensures in
+    let h = c.commit-event.ensures.told c.args.incoming.now.sender_epoch c.args.incoming.now.receiver_epoch c.args.incoming.now.by c.in_ok-way.outcome c.in_ok-way.ensures.prepared in
     let course = h.0 in (
       course,
       subst (λ y. Arrives y c.args.incoming.now.sender_epoch c.args.incoming.now.receiver_epoch (view c.args.incoming.now.packet) c.args.incoming.now.by c.args.incoming.now.shown course c.in_ok-way.outcome) (ap (facing c.args.bearer) c.self.view_is) h.1,
-      h.2 ∙ ap (λ n. facing n course.pair) c.self.invariant,
+      h.2 ∙ ap (λ n. facing n course.pair) c.self.invariant.0,
       c.leave-changes.ensures.changes ∙ h.3.changes,
       c.leave-changes.ensures.frames course.states course.numbered h.3.states h.3.numbered,
     )
 
-pub returns-clause-held : goal.returns-clause-held
-returns-clause-held c = λ held.
-    let h = c.commit-event.ensures.told c.args.incoming.now.sender_epoch c.args.incoming.now.receiver_epoch c.args.incoming.now.by c.in_ok-way.outcome c.in_ok-way.ensures in
-    let x = c.args.self.now in
-    let y = facing c.args.bearer x in
-    let arrives = subst (λ z. Arrives z c.args.incoming.now.sender_epoch c.args.incoming.now.receiver_epoch (view c.args.incoming.now.packet) c.args.incoming.now.by c.args.incoming.now.shown h.0 c.in_ok-way.outcome) (ap (facing c.args.bearer) c.self.view_is) h.1 in
-    subst AreHeldRightly (sym (h.2 ∙ ap (λ n. facing n h.0.pair) c.self.invariant))
-    (rightly_facing 0 h.0.pair (arrival_held y c.args.incoming.now.sender_epoch c.args.incoming.now.receiver_epoch (view c.args.incoming.now.packet) c.args.incoming.now.by c.args.incoming.now.shown h.0 c.in_ok-way.outcome arrives (held_facing c.args.bearer x (held_up x held))))
+pub invariant_of-self : goal.invariant_of-self
+invariant_of-self c =
+    let i = c.args.incoming.now in
+    let x = c.self.inside.ends in
+    let h = c.commit-event.ensures.told i.sender_epoch i.receiver_epoch i.by c.in_ok-way.outcome c.in_ok-way.ensures.prepared in (
+      c.commit-event.ensures.bearer ∙ c.self.invariant.0,
+      subst AreHeldRightly (sym h.2)
+          (rightly_facing x.bearer h.0.pair (arrival_held (facing c.args.bearer x) i.sender_epoch i.receiver_epoch (view i.packet) i.by i.shown h.0 c.in_ok-way.outcome h.1 (held_facing c.args.bearer x (held_up x c.self.invariant.1)))),
+    )
 
 pub returns-clause-goes_on : goal.returns-clause-goes_on
 returns-clause-goes_on c = λ was now same.
-    let h = c.commit-event.ensures.told c.args.incoming.now.sender_epoch c.args.incoming.now.receiver_epoch c.args.incoming.now.by c.in_ok-way.outcome c.in_ok-way.ensures in
+    let h = c.commit-event.ensures.told c.args.incoming.now.sender_epoch c.args.incoming.now.receiver_epoch c.args.incoming.now.by c.in_ok-way.outcome c.in_ok-way.ensures.prepared in
     let x = c.args.self.now in
     let y = facing c.args.bearer x in
     let arrives = subst (λ z. Arrives z c.args.incoming.now.sender_epoch c.args.incoming.now.receiver_epoch (view c.args.incoming.now.packet) c.args.incoming.now.by c.args.incoming.now.shown h.0 c.in_ok-way.outcome) (ap (facing c.args.bearer) c.self.view_is) h.1 in
-    let far : GoesFar x c.commit-event.new.self = subst (GoesFar x) (sym (h.2 ∙ ap (λ n. facing n h.0.pair) c.self.invariant))
+    let far : GoesFar x c.commit-event.new.self = subst (GoesFar x) (sym (h.2 ∙ ap (λ n. facing n h.0.pair) c.self.invariant.0))
     (far_facing 0 x h.0.pair (facing_far_from c.args.bearer x h.0.pair (arrival_far y c.args.incoming.now.sender_epoch c.args.incoming.now.receiver_epoch (view c.args.incoming.now.packet) c.args.incoming.now.by c.args.incoming.now.shown h.0 c.in_ok-way.outcome arrives))) in
     far.contact same now

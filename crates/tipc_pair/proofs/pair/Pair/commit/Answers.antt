@@ -8,18 +8,19 @@ use Rattle.tipc_pair.proofs.ArrivalLaws.{GoesFar, arrival_far, arrival_held, fac
 use Rattle.tipc_pair.proofs.HeldLaws.{held_facing, held_up, rightly_facing}
 use Rattle.tipc_pair.proofs.pair.Pair.commit.Goals as goal
 
-pub returns-clause-held : goal.returns-clause-held
-returns-clause-held c = λ held.
+pub invariant_of-self : goal.invariant_of-self
+invariant_of-self c =
     let q = c.requires in
     let a = c.arriving.inside in
-    let x = c.args.self.now in
+    let x = c.self.inside.ends in
     let p = view c.args.packet.now in
-    let told = subst (λ (v : Prepared). IsPrepared (facing v.bearer x) q.0 q.1 p q.2 c.args.shown v.way v.outcome) (sym c.arriving.view_is) q.3.told in
+    let told = subst (λ (v : Prepared). IsPrepared (facing v.bearer c.args.self.now) q.0 q.1 p q.2 c.args.shown v.way v.outcome) (sym c.arriving.view_is) q.3.told in
     let prepared = subst (λ y. IsPrepared (facing a.bearer y) q.0 q.1 p q.2 c.args.shown a.way a.outcome) (sym c.self.view_is) told in
-    let h = c.commit-event.ensures.told q.0 q.1 q.2 a.outcome prepared in
-    let arrives = subst (λ y. Arrives (facing a.bearer y) q.0 q.1 p q.2 c.args.shown h.0 a.outcome) c.self.view_is h.1 in
-    subst AreHeldRightly (sym (h.2 ∙ ap (λ n. facing n h.0.pair) c.self.invariant))
-    (rightly_facing 0 h.0.pair (arrival_held (facing a.bearer x) q.0 q.1 p q.2 c.args.shown h.0 a.outcome arrives (held_facing a.bearer x (held_up x held))))
+    let h = c.commit-event.ensures.told q.0 q.1 q.2 a.outcome prepared in (
+      c.commit-event.ensures.bearer ∙ c.self.invariant.0,
+      subst AreHeldRightly (sym h.2)
+          (rightly_facing x.bearer h.0.pair (arrival_held (facing a.bearer x) q.0 q.1 p q.2 c.args.shown h.0 a.outcome h.1 (held_facing a.bearer x (held_up x c.self.invariant.1)))),
+    )
 
 pub returns-clause-goes_on : goal.returns-clause-goes_on
 returns-clause-goes_on c = λ was now same.
@@ -31,6 +32,6 @@ returns-clause-goes_on c = λ was now same.
     let prepared = subst (λ y. IsPrepared (facing a.bearer y) q.0 q.1 p q.2 c.args.shown a.way a.outcome) (sym c.self.view_is) told in
     let h = c.commit-event.ensures.told q.0 q.1 q.2 a.outcome prepared in
     let arrives = subst (λ y. Arrives (facing a.bearer y) q.0 q.1 p q.2 c.args.shown h.0 a.outcome) c.self.view_is h.1 in
-    let far : GoesFar x c.commit-event.new.self = subst (GoesFar x) (sym (h.2 ∙ ap (λ n. facing n h.0.pair) c.self.invariant))
+    let far : GoesFar x c.commit-event.new.self = subst (GoesFar x) (sym (h.2 ∙ ap (λ n. facing n h.0.pair) c.self.invariant.0))
     (far_facing 0 x h.0.pair (facing_far_from a.bearer x h.0.pair (arrival_far (facing a.bearer x) q.0 q.1 p q.2 c.args.shown h.0 a.outcome arrives))) in
     far.contact same now

@@ -7,6 +7,15 @@ use Rattle.tipc_pair.specs.PairFacts.{AreHeldRightly}
 use Rattle.tipc_pair.proofs.HeldLaws.{GoesQuietly, HeldUp, cut_goes, cut_held, facing_quietly, held_facing, held_up, quietly_facing, rightly_facing}
 use Rattle.tipc_pair.proofs.pair.Pair.cut_ends.Goals as goal
 
+pub invariant_of-self : goal.invariant_of-self
+invariant_of-self c =
+    let x = c.self.inside.ends in
+    let there = c.face.ensures.after ∙ ap (facing c.args.bearer) c.in_ok-next.ensures in (
+      c.face-2.ensures.bearer,
+      subst AreHeldRightly (sym (c.face-2.ensures.after ∙ ap (facing 0) c.in_ok-cut.ensures.after))
+          (rightly_facing 0 (cut_near c.face.new.self).pair (cut_held c.face.new.self (subst HeldUp (sym there) (held_facing c.args.bearer x (held_up x c.self.invariant.1))))),
+    )
+
 pub returns-clause-told : goal.returns-clause-told
 returns-clause-told c =
     let begun = c.new-event.ensures in
@@ -14,13 +23,6 @@ returns-clause-told c =
     let told = told_alone c.new-event.result event (cut_near c.face.new.self) begun.changes begun.states begun.numbered c.in_ok-cut.ensures.adds in
     let there = subst (λ y. IsToldOf (cut_near y) event) (c.face.ensures.after ∙ ap (facing c.args.bearer) (c.in_ok-next.ensures ∙ c.self.view_is)) told in
     record { changes = there.changes; states = there.states; numbered = there.numbered }
-
-pub returns-clause-held : goal.returns-clause-held
-returns-clause-held c = λ h.
-    let x = c.args.self.now in
-    let there = c.face.ensures.after ∙ ap (facing c.args.bearer) (c.in_ok-next.ensures ∙ c.self.view_is) in
-    subst AreHeldRightly (sym (c.face-2.ensures.after ∙ ap (facing 0) c.in_ok-cut.ensures.after))
-    (rightly_facing 0 (cut_near c.face.new.self).pair (cut_held c.face.new.self (subst HeldUp (sym there) (held_facing c.args.bearer x (held_up x h)))))
 
 pub returns-clause-goes_on : goal.returns-clause-goes_on
 returns-clause-goes_on c = λ was there.
