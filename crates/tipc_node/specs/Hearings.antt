@@ -28,7 +28,7 @@ use Rattle.tipc_node.specs.Works.{Delivers, DeliversAll, DeliversTo, GoesAway, G
 
 -- whether an entry is one of what an arrival delivers: a message, or a part of a packet that is dropped
 abbrev pub is_plain : Entry → Bool
-is_plain (entry.Delivered peer contact flow message by) = true
+is_plain (entry.Delivered peer contact flow message number) = true
 is_plain (entry.Dropped place) = true
 is_plain other = false
 

@@ -80,7 +80,7 @@ pub record PutsThere (x : Neighbour) (pieces : List (List ℕ)) (x' : Neighbour)
 
 -- a packet arrives on a bearer from the peer, under an envelope of these two epochs and by the arrival of that number: this came of it
 abbrev pub HearsAt : Neighbour → (bearer es er : ℕ) → Fields → ℕ → Outset → Type 0
-HearsAt x bearer es er p by o = Happened x.pair (hears bearer es er p by (no_broadcast x.in_step)) o
+HearsAt x bearer es er p number o = Happened x.pair (hears bearer es er p number (no_broadcast x.in_step)) o
 
 -- whether a packet is a STATE, which tells how far its sender is
 abbrev pub is_state : Header → Bool

@@ -230,12 +230,12 @@ known_frames n peer bearer = (known_course n peer bearer).states
 -- what a whole packet that was given in a contact adds to the journal: its message with the arrivals that brought it, or that it
 -- carries none
 abbrev pub delivered_by : ℕ → ℕ × ℕ → Option Message → List ℕ → Entry
-delivered_by peer contact (Some m) by = entry.Delivered (record { word = node_word peer }) contact Zero m by
-delivered_by peer contact None by = entry.Dropped 0
+delivered_by peer contact (Some m) number = entry.Delivered (record { word = node_word peer }) contact Zero m number
+delivered_by peer contact None number = entry.Dropped 0
 
 -- what a member of what was given comes to: its entry, and its message where it has one
 abbrev pub delivery_of : ℕ → ℕ × ℕ → Opened → Delivery
-delivery_of peer contact (Whole packet by) = record { entry = delivered_by peer contact (message_in packet) by; message = message_in packet }
+delivery_of peer contact (Whole packet number) = record { entry = delivered_by peer contact (message_in packet) number; message = message_in packet }
 delivery_of peer contact (Passed place) = record { entry = entry.Dropped place; message = None }
 
 -- what all that was given in a contact comes to, in order

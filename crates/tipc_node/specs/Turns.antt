@@ -55,17 +55,17 @@ is_accepted_for b other = false
 
 -- a message was delivered from node b
 abbrev pub is_delivered_from : ℕ → Entry → Bool
-is_delivered_from b (entry.Delivered peer numbers flow message by) = peer.word == node_word b
+is_delivered_from b (entry.Delivered peer numbers flow message number) = peer.word == node_word b
 is_delivered_from b other = false
 
 -- the entry of a message that came from node b in a contact: none where the packet carries none
 abbrev pub delivered_entries : ℕ → ℕ × ℕ → Option Message → List ℕ → List Entry
-delivered_entries b contact (Some m) by = entry.Delivered (addr_of b) contact Zero m by ∷ []
-delivered_entries b contact None by = []
+delivered_entries b contact (Some m) number = entry.Delivered (addr_of b) contact Zero m number ∷ []
+delivered_entries b contact None number = []
 
 -- the same of a member of what was given: a place that was passed has none
 abbrev pub delivered_of : ℕ → ℕ × ℕ → Opened → List Entry
-delivered_of b contact (Whole packet by) = delivered_entries b contact (message_in packet) by
+delivered_of b contact (Whole packet number) = delivered_entries b contact (message_in packet) number
 delivered_of b contact (Passed place) = []
 
 -- the entries of all that was given by node b, in order: those of its messages
@@ -103,7 +103,7 @@ pub record IsFrom (b : ℕ) (bytes : List ℕ) (es er : ℕ) (p : Fields) : Type
 
 -- what is heard came in the frame that arrived, from node b
 abbrev pub IsBrought : ℕ → List ℕ → Opening → Type 0
-IsBrought b bytes (hears bearer es er p by shown) = IsFrom b bytes es er p
+IsBrought b bytes (hears bearer es er p number shown) = IsFrom b bytes es er p
 IsBrought b bytes other = Unit {0}
 
 -- what an arrival answers that is of a link's session: its packet was taken, or waits until those before it were taken
@@ -152,7 +152,7 @@ IsPlaced n (entry.LinkDown peer bearer cause shown) = IsOfNeighbour n peer
 IsPlaced n (entry.ContactUp peer numbers) = IsOfNeighbour n peer
 IsPlaced n (entry.ContactDown peer numbers states shown) = IsOfNeighbour n peer
 IsPlaced n (entry.Accepted peer numbers flow message) = IsOfNeighbour n peer
-IsPlaced n (entry.Delivered peer numbers flow message by) = IsOfNeighbour n peer
+IsPlaced n (entry.Delivered peer numbers flow message number) = IsOfNeighbour n peer
 IsPlaced n other = Unit {0}
 
 -- the turn at a neighbour, which stays one

@@ -1,6 +1,6 @@
 //! The node, its calls, and what arrives at it.
 
-ghost use Rattle.std.specs.Prelude.{◌≡◌, ℕ, ◌+◌, ◌%◌, ◌^◌, ◌<◌, ◌≤◌, [], true, false, if◌then◌else◌, None, Some, Err, length, is_some, IfOk, IfSome, IfNone, OnErr, OnOk};
+ghost use Rattle.std.specs.Prelude.{◌≡◌, ℕ, ◌+◌, ◌%◌, ◌^◌, ◌<◌, ◌≤◌, [], true, false, if◌then◌else◌, None, Some, Err, length, is_some, unwrap_or, IfOk, IfSome, IfNone, OnErr, OnOk};
 ghost use Rattle.tipc_types.specs.Address.{node_word, IsNodeWord};
 ghost use Rattle.tipc_outside.specs.Frames.{Adds};
 ghost use Rattle.tipc_journal.specs.Streams.{accepted, delivered};
@@ -8,7 +8,8 @@ ghost use Rattle.tipc_journal.specs.Counting.{is_sent_by_name};
 ghost use Rattle.tipc_journal.specs.Matches.{names};
 ghost use Rattle.tipc_journal.specs.Licensed.{IsPicked};
 ghost use Rattle.tipc_pair.specs.Facing.{state_of};
-ghost use Rattle.tipc_sockets.specs.SocketTables.{no_sockets};
+ghost use Rattle.tipc_pair.specs.PairCalls.{numbered_of};
+ghost use Rattle.tipc_sockets.specs.SocketTables.{no_sockets, queue_at};
 ghost use Rattle.tipc_node.specs.Arrivals.{Arrived};
 ghost use Rattle.tipc_node.specs.Calls.{CanPerform, HasInstances, Performed};
 ghost use Rattle.tipc_node.specs.Nodes.{contact_with, end_with, is_mended_on, known_frames, known_node, node_load, neighbour_of};
@@ -164,6 +165,23 @@ impl Node {
         ensures { result ≡ state_of (end_with bearer (neighbour_of self.now peer)) }
     {
         self.neighbour(peer)?.pair.state(bearer)
+    }
+
+    /// How many packets each direction numbered in the present link session with the peer on a bearer, 0 or 1, or in the last one: the own
+    /// ones exactly, and the peer's as taken. None exactly where there is no link end, or it had no session.
+    pub fn numbered(&self, peer: u8, bearer: u8) -> Option<(u64, u64)>
+        requires { bearer ≤ 1 }
+        ensures { result ≡ numbered_of (end_with bearer (neighbour_of self.now peer)) }
+    {
+        self.neighbour(peer)?.pair.numbered(bearer)
+    }
+
+    /// How many messages wait at a port, 128 at most: 0 where it isn't there.
+    pub fn queued(&self, port: u32) -> u32
+        ensures count { result ≡ length (unwrap_or (queue_at self.now.sockets port) []) }
+        ensures most { result ≤ 128 }
+    {
+        self.core.sockets.queued(port)
     }
 
     /// All publications that it knows, in order of node, port and key.

@@ -2,8 +2,6 @@
 use Rattle.std.specs.Prelude.{ℕ, ◌%◌, ◌==◌, nat_le, Bool, ◌&&◌, if◌then◌else◌, List, [], ◌∷◌, ◌++◌, Option, Some, None, length, codes}
 use Rattle.std.specs.List.{list_all, flat_map}
 use Rattle.std.specs.Fmt.{decimal}
-use Rattle.tipc_types.specs.declared.link_words.LinkState.{LinkState}
-use Rattle.tipc_types.specs.declared.link_words.LinkState.TheVariants as state
 use Rattle.tipc_types.specs.declared.link_words.Why.{Why}
 use Rattle.tipc_types.specs.declared.link_words.Why.TheVariants as why
 use Rattle.tipc_types.specs.declared.message_forms.Message.{Message}
@@ -11,7 +9,6 @@ use Rattle.tipc_types.specs.declared.message_forms.Message.TheVariants.{Payload,
 use Rattle.tipc_types.specs.declared.node_calls.Event.{Event}
 use Rattle.tipc_types.specs.declared.node_calls.Arrival.{Arrival}
 use Rattle.tipc_types.specs.declared.node_calls.Arrival.TheVariants as arrival
-use Rattle.tipc_types.specs.declared.node_calls.PeerLinks.{PeerLinks}
 use Rattle.tipc_types.specs.declared.node_calls.Answer.{Answer}
 use Rattle.tipc_types.specs.declared.node_calls.Answer.TheVariants as answer
 use Rattle.tipc_script.specs.Kinds.{is_visible}
@@ -64,23 +61,6 @@ arrival_text (arrival.Took messages) = spaced (codes "took" ∷ decimal messages
 arrival_text arrival.Deferred = codes "deferred"
 arrival_text (arrival.Ignored reason) = spaced (codes "ignored" ∷ why_words reason ∷ [])
 
--- a link end: `W` up, `H` held, `R` in reset, `-` where there is none
-abbrev pub end_letter : Option LinkState → List ℕ
-end_letter None = codes "-"
-end_letter (Some state.ResetUnknown) = codes "R"
-end_letter (Some state.ResetReset) = codes "R"
-end_letter (Some state.WorkingWorking) = codes "W"
-end_letter (Some state.WorkingUnknown) = codes "W"
-end_letter (Some state.Held) = codes "H"
-
--- the link ends to one peer: its number, a colon, and a letter for each bearer
-abbrev pub peer_text : PeerLinks → List ℕ
-peer_text links = decimal (links.peer.word % 4096) ++ (58 ∷ (end_letter links.first ++ end_letter links.second))
-
--- the link ends of a node: for each peer a space and its text
-abbrev pub links_text : List PeerLinks → List ℕ
-links_text peers = codes "links" ++ flat_map (λ peer. 32 ∷ peer_text peer) peers
-
 -- an answer that refuses a call
 abbrev pub IsRefusal : Answer → Type 0
 IsRefusal answer.NoSocket = Unit {0}
@@ -112,17 +92,6 @@ text_of answer.NoEvent = codes "none"
 text_of (answer.Arrived what) = arrival_text what
 text_of (answer.TooOld count) = spaced (codes "too-old" ∷ decimal count ∷ [])
 text_of answer.NoFrame = codes "no-frame"
-text_of answer.Up = codes "up"
-text_of answer.Down = codes "down"
-text_of (answer.Flow accepted delivered) = spaced (codes "accepted" ∷ decimal accepted ∷ codes "delivered" ∷ decimal delivered ∷ [])
-text_of answer.NoContact = codes "no-contact"
-text_of (answer.Drained count) = spaced (codes "drained" ∷ decimal count ∷ [])
-text_of (answer.Pumped count) = spaced (codes "pumped" ∷ decimal count ∷ [])
-text_of (answer.Moved count) = spaced (codes "moved" ∷ decimal count ∷ [])
-text_of answer.Quiet = codes "quiet"
-text_of (answer.Unsettled unacked waiting) = spaced (codes "unsettled" ∷ decimal unacked ∷ decimal waiting ∷ [])
-text_of (answer.Air count) = spaced (codes "air" ∷ decimal count ∷ [])
-text_of (answer.Links peers) = links_text peers
 text_of answer.NoSocket = codes "no-socket"
 text_of (answer.TooLong length) = spaced (codes "too-long" ∷ decimal length ∷ [])
 text_of answer.BadRange = codes "bad-range"

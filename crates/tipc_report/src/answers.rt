@@ -4,8 +4,7 @@ ghost use Rattle.std.specs.Prelude.{◌≡◌, IfOk};
 ghost use Rattle.tipc_report.specs.Answering.{IsRefusal, text_of, what_word, event_text, arrival_text};
 
 use crate::bodies::message_text;
-use crate::links::links_text;
-use crate::words::{at_port, event, flow, numbered, numbered_twice, word};
+use crate::words::{at_port, event, numbered, numbered_twice, word};
 use std::alloc::Global;
 use tipc_types::{Answer, Arrival, Event, NoMemory, Why};
 
@@ -114,25 +113,6 @@ pub fn answer_text(alloc: Global, answer: &Answer) -> Result<Vec<u8>, NoMemory>
         Answer::Arrived(arrival) => arrival_text(alloc, *arrival),
         Answer::TooOld(count) => numbered(alloc, "too-old", *count),
         Answer::NoFrame => word(alloc, "no-frame"),
-        Answer::Up => word(alloc, "up"),
-        Answer::Down => word(alloc, "down"),
-        Answer::Flow {
-            accepted,
-            delivered,
-        } => flow(alloc, *accepted, *delivered),
-        Answer::NoContact => word(alloc, "no-contact"),
-        Answer::Drained(count) => numbered(alloc, "drained", *count),
-        Answer::Pumped(count) => numbered(alloc, "pumped", *count),
-        Answer::Moved(count) => numbered(alloc, "moved", *count),
-        Answer::Quiet => word(alloc, "quiet"),
-        Answer::Unsettled { unacked, waiting } => numbered_twice(
-            alloc,
-            "unsettled",
-            *unacked,
-            *waiting,
-        ),
-        Answer::Air(count) => numbered(alloc, "air", *count),
-        Answer::Links(peers) => links_text(alloc, peers.as_slice()),
         refusal => refusal_text(alloc, refusal),
     }
 }

@@ -1,7 +1,7 @@
 //! The text of a node's links.
 
 ghost use Rattle.std.specs.Prelude.{◌≡◌, ◌∷◌, ◌++◌, IfOk};
-ghost use Rattle.tipc_report.specs.Answering.{end_letter, peer_text, links_text};
+ghost use Rattle.tipc_report.specs.Telling.{end_letter, peer_text, links_text};
 
 use crate::words::word;
 use std::alloc::Global;

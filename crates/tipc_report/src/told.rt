@@ -8,12 +8,14 @@ ghost use Rattle.tipc_report.specs.Answering.{text_of};
 ghost use Rattle.tipc_report.specs.Telling.{to_text, told_text};
 
 use crate::answers::answer_text;
+use crate::links::links_text;
 use crate::tables::table_text;
-use crate::words::{numbered, word};
+use crate::words::{flow, numbered, numbered_twice, word};
 use std::alloc::Global;
-use tipc_types::{Addr, Answer, Bytes, List, NoMemory, To};
+use tipc_types::{Addr, Answer, Bytes, List, NoMemory, PeerLinks, Sequence, To};
 
-/// What is told of a line of a script. (This project's profile.)
+/// What is told of a line of a script: the answer of its event, or, where it is no event or several, what came of them. (This
+/// project's profile.)
 #[derive(Debug, Drop)]
 pub enum Told {
     /// The line asks for nothing.
@@ -27,8 +29,40 @@ pub enum Told {
         /// The last answer.
         last: Answer,
     },
+    /// Both link ends that were to be joined are up.
+    Up,
+    /// One of the link ends that were to be joined is down or isn't there.
+    Down,
+    /// So many frames arrived.
+    Pumped(u64),
+    /// So many messages were taken from an inbox.
+    Drained(u64),
+    /// So many messages went from one port to another.
+    Moved(u64),
+    /// No packet is unacknowledged and none waits.
+    Quiet,
+    /// Packets are still under way.
+    Unsettled {
+        /// The packets that are unacknowledged.
+        unacked: u64,
+        /// The packets that wait.
+        waiting: u64,
+    },
+    /// So many frames were sent on a bearer.
+    Air(u64),
+    /// The link ends of a node, in order of the peers.
+    Links(Sequence<PeerLinks>),
     /// The publications that a node knows, in order.
     Table(List),
+    /// How many messages of one contact were accepted at one node and delivered at the other.
+    Flow {
+        /// The messages that were accepted.
+        accepted: u64,
+        /// The messages that were delivered.
+        delivered: u64,
+    },
+    /// The two nodes aren't in contact.
+    NoContact,
     /// A frame that was sent.
     Frame {
         /// The node that sent it.
@@ -88,7 +122,26 @@ pub fn told_text(alloc: Global, told: &Told) -> Result<Vec<u8>, NoMemory>
         Told::Nothing => word(alloc, "-"),
         Told::Answer(answer) => answer_text(alloc, answer),
         Told::Times { count, last } => times_text(alloc, *count, last),
+        Told::Up => word(alloc, "up"),
+        Told::Down => word(alloc, "down"),
+        Told::Pumped(count) => numbered(alloc, "pumped", *count),
+        Told::Drained(count) => numbered(alloc, "drained", *count),
+        Told::Moved(count) => numbered(alloc, "moved", *count),
+        Told::Quiet => word(alloc, "quiet"),
+        Told::Unsettled { unacked, waiting } => numbered_twice(
+            alloc,
+            "unsettled",
+            *unacked,
+            *waiting,
+        ),
+        Told::Air(count) => numbered(alloc, "air", *count),
+        Told::Links(peers) => links_text(alloc, peers.as_slice()),
         Told::Table(publications) => table_text(alloc, publications.as_slice()),
+        Told::Flow {
+            accepted,
+            delivered,
+        } => flow(alloc, *accepted, *delivered),
+        Told::NoContact => word(alloc, "no-contact"),
         Told::Frame { from, to, bytes } => frame_text(alloc, *from, *to, bytes.as_slice()),
     }
 }

@@ -1,11 +1,12 @@
 -- What becomes of an air by a course, and a link that is stopped.
 use Rattle.std.proofs.Common.{◌≡◌, ℕ, ◌≤◌, max, Bool, Option, Some, None, List, Ok, Err, length, ap, subst, sym, ◌∙◌, arith, false}
 use Rattle.tipc_types.specs.declared.node_calls.Answer.{Answer}
-use Rattle.tipc_world.specs.declared.events.WorldEvent.{WorldEvent}
-use Rattle.tipc_world.specs.declared.events.WorldFault.{WorldFault}
+use Rattle.tipc_replay.specs.declared.events.WorldEvent.{WorldEvent}
+use Rattle.tipc_world.specs.declared.faults.WorldFault.{WorldFault}
 use Rattle.tipc_world.specs.Courses.{Asks, Maybe, Takes}
-use Rattle.tipc_world.specs.Skies.{air_on}
-use Rattle.tipc_world.specs.States.{WorldState, is_mended_at}
+use Rattle.tipc_replay.specs.Skies.{air_on}
+use Rattle.tipc_replay.specs.States.{is_mended_at}
+use Rattle.tipc_world.specs.States.{WorldState}
 use Rattle.tipc_sim.specs.Meanings.{JoinsFrom, Links, Mends, MendsCut, MendsIf}
 use Rattle.tipc_sim.proofs.WorldLaws.{answered_few}
 

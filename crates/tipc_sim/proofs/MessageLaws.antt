@@ -7,10 +7,10 @@ use Rattle.tipc_script.specs.declared.lines.Destination.{Destination}
 use Rattle.tipc_script.specs.declared.lines.Line.{Line}
 use Rattle.tipc_script.specs.declared.lines.Line.TheVariants.{Burst, Drain, Repeat}
 use Rattle.tipc_report.specs.declared.told.Told.{Told}
-use Rattle.tipc_world.specs.declared.events.WorldEvent.{WorldEvent}
-use Rattle.tipc_world.specs.declared.events.WorldEvent.TheVariants as event
-use Rattle.tipc_world.specs.declared.events.WorldFault.{WorldFault}
-use Rattle.tipc_world.specs.Calls.{CanHappen}
+use Rattle.tipc_replay.specs.declared.events.WorldEvent.{WorldEvent}
+use Rattle.tipc_replay.specs.declared.events.WorldEvent.TheVariants as event
+use Rattle.tipc_world.specs.declared.faults.WorldFault.{WorldFault}
+use Rattle.tipc_world.specs.Events.{CanHappen}
 use Rattle.tipc_world.specs.States.{WorldState, WorldView}
 use Rattle.tipc_sim.specs.declared.messages.Socket.{Socket}
 use Rattle.tipc_world.specs.declared.places.Places.{Places}
@@ -42,7 +42,7 @@ pub receive_counts : (old : WorldState) (node port : ℕ) (new : WorldState) (an
 receive_counts old node port new answer made = (made.answered.free.below refl, made.answered.step.events)
 
 -- the frames of bearer 0 were pumped, and an arrival on bearer 1 was stopped
-pub second_halts : (places : Places) (start between now : WorldState) (first : Answer) (f : WorldFault) → Pumps 0 places.first start (Ok first) between → Pumps 1 places.second between (Err f) now
+pub second_halts : (places : Places) (start between now : WorldState) (first : Told) (f : WorldFault) → Pumps 0 places.first start (Ok first) between → Pumps 1 places.second between (Err f) now
     → PumpsBoth places start (Err f) now
 second_halts places start between now first stop came stopped = inr (between, first, came, stopped)
 

@@ -18,8 +18,8 @@ use Rattle.tipc_script.specs.declared.lines.Destination.TheVariants as destinati
 use Rattle.tipc_script.specs.declared.lines.Filter.{Filter}
 use Rattle.tipc_script.specs.declared.lines.Line.{Line}
 use Rattle.tipc_script.specs.declared.lines.Line.TheVariants.{Nothing, Node, Mend, Cut, Tick, Restart, Link, Mark, Socket, Close, Publish, Withdraw, Subscribe, Event, Cancel, Send, Repeat, Arrive, Receive, Drain, Pump, Burst, Settle, Air, Show, Links, Table, Flow}
-use Rattle.tipc_world.specs.declared.events.WorldEvent.{WorldEvent}
-use Rattle.tipc_world.specs.Calls.{CanHappen}
+use Rattle.tipc_replay.specs.declared.events.WorldEvent.{WorldEvent}
+use Rattle.tipc_world.specs.Events.{CanHappen}
 use Rattle.tipc_world.specs.States.{WorldState, is_there}
 use Rattle.tipc_sim.specs.Happenings.{event_of, sending, service_event}
 use Rattle.tipc_sim.specs.Noted.{NotesState}

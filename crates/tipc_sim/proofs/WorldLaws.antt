@@ -2,26 +2,24 @@
 use Rattle.std.proofs.Common.{◌≡◌, ℕ, ◌+◌, ◌≤◌, Bool, true, false, max, Some, None, Option, List, [], length, refl, sym, ap, subst, arith}
 use Rattle.std.specs.Prelude.{◌==◌, if◌then◌else◌, is_none}
 use Rattle.tipc_types.specs.declared.node_calls.Answer.{Answer}
-use Rattle.tipc_world.specs.declared.air.Sent.{Sent}
-use Rattle.tipc_world.specs.declared.events.WorldEvent.{WorldEvent}
-use Rattle.tipc_world.specs.declared.events.WorldEvent.TheVariants as event
-use Rattle.tipc_world.specs.Due.{unarrived}
+use Rattle.tipc_replay.specs.declared.air.Sent.{Sent}
+use Rattle.tipc_replay.specs.declared.events.WorldEvent.{WorldEvent}
+use Rattle.tipc_replay.specs.declared.events.WorldEvent.TheVariants as event
+use Rattle.tipc_replay.specs.Due.{unarrived}
 use Rattle.tipc_world.specs.Good.{IsGood}
 use Rattle.tipc_world.specs.Limits.{IsAnswered}
-use Rattle.tipc_world.specs.Skies.{AirState, air_on, air_size}
+use Rattle.tipc_replay.specs.Skies.{AirState, air_on, air_size}
 use Rattle.tipc_world.specs.States.{WorldState, WorldView, no_nodes}
-use Rattle.tipc_world.proofs.journals.KeptWorlds.{start_watched}
+use Rattle.tipc_replay.proofs.Promise.{start_replayed}
 use Rattle.tipc_world.proofs.Promise.{is_good}
 use Rattle.tipc_world.proofs.calls.Quiet.{start_orderly}
-use Rattle.tipc_world.proofs.names.Sharing.{start_shared}
-use Rattle.tipc_world.proofs.SoundWorlds.{start_sound}
 
 -- a world without nodes is good
 pub empty_good : {P : Type 0} (gives : P → ℕ → ℕ → ℕ → Type 0) (w : WorldView P) → w.state ≡ no_nodes → w.chooser.turn ≡ 0 → IsGood gives w
 empty_good {P} gives w none first =
     let empty : WorldView P = record { state = no_nodes; chooser = w.chooser } in
     let same : empty ≡ w = ap (λ s. let v : WorldView P = record { state = s; chooser = w.chooser } in v) (sym none) in
-    subst (IsGood gives) same (is_good gives empty start_sound start_watched (start_orderly gives w.chooser first) start_shared)
+    subst (IsGood gives) same (is_good gives empty start_replayed (start_orderly gives w.chooser first))
 
 part_within : (zero one : Bool) (first second : List Sent) → length (if zero then first else (if one then second else [])) ≤ length first + length second
 part_within true one first second = omega arith

@@ -18,17 +18,19 @@ use Rattle.tipc_report.specs.declared.told.Told.{Told}
 use Rattle.tipc_report.specs.declared.told.Told.TheVariants as told
 use Rattle.tipc_report.specs.declared.limits.Which.{Which}
 use Rattle.tipc_report.specs.declared.limits.Which.TheVariants as which
-use Rattle.tipc_world.specs.declared.air.Sent.{Sent}
-use Rattle.tipc_world.specs.declared.events.Limit.{Limit}
-use Rattle.tipc_world.specs.declared.events.Limit.TheVariants as limit
-use Rattle.tipc_world.specs.declared.events.WorldEvent.{WorldEvent}
-use Rattle.tipc_world.specs.declared.events.WorldEvent.TheVariants as event
-use Rattle.tipc_world.specs.declared.events.WorldFault.{WorldFault}
-use Rattle.tipc_world.specs.declared.events.WorldFault.TheVariants as fault
+use Rattle.tipc_replay.specs.declared.air.Sent.{Sent}
+use Rattle.tipc_world.specs.declared.faults.Limit.{Limit}
+use Rattle.tipc_world.specs.declared.faults.Limit.TheVariants as limit
+use Rattle.tipc_replay.specs.declared.events.WorldEvent.{WorldEvent}
+use Rattle.tipc_replay.specs.declared.events.WorldEvent.TheVariants as event
+use Rattle.tipc_world.specs.declared.faults.WorldFault.{WorldFault}
+use Rattle.tipc_world.specs.declared.faults.WorldFault.TheVariants as fault
+use Rattle.tipc_replay.specs.declared.readers.FlowCounts.{FlowCounts}
 use Rattle.tipc_world.specs.Growth.{Grows}
-use Rattle.tipc_world.specs.Readers.{links_of, table_of}
-use Rattle.tipc_world.specs.Skies.{air_on}
-use Rattle.tipc_world.specs.States.{WorldState, counted, flow_of, is_there}
+use Rattle.tipc_replay.specs.Readers.{links_of, table_of}
+use Rattle.tipc_replay.specs.Skies.{air_on}
+use Rattle.tipc_replay.specs.States.{counted, flow_of}
+use Rattle.tipc_world.specs.States.{WorldState, is_there}
 use Rattle.tipc_world.specs.Steps.{IsJoined}
 use Rattle.tipc_world.specs.declared.places.Places.{Places}
 use Rattle.tipc_world.specs.Courses.{Course, IsEarly, Once}
@@ -103,6 +105,11 @@ abbrev pub IsAnswerOf : Course Answer → Told → WorldState → WorldState →
 IsAnswerOf comes (told.Answer answer) start now = comes start (Ok answer) now
 IsAnswerOf comes other start now = ⊥
 
+-- what a course tells is told, and this is noted
+abbrev pub Retells : Course Told → NotesState → Course Outcome
+Retells comes noted start (Ok given) now = comes start (Ok given.0) now × (given.1 ≡ noted)
+Retells comes noted start (Err stop) now = comes start (Err stop) now
+
 -- a course's answer is told, and this is noted
 abbrev pub Answered : Course Answer → NotesState → Course Outcome
 Answered comes noted start (Ok given) now = IsAnswerOf comes given.0 start now × (given.1 ≡ noted)
@@ -121,7 +128,7 @@ Repeated comes noted start (Err stop) now = comes start (Err stop) now
 -- it is told how many messages were moved, and noted how far frames are pumped
 abbrev pub Moves : Course (ℕ × Places) → NotesState → Course Outcome
 Moves comes notes start (Ok given) now = (count : ℕ) × (places : Places) × comes start (Ok (count, places)) now
-    × (given ≡ (told.Answer (answer.Moved count), pumped_to notes places))
+    × (given ≡ (told.Moved count, pumped_to notes places))
 Moves comes notes start (Err stop) now = comes start (Err stop) now
 
 -- what is told of a world that stays as it is, and what is noted
@@ -139,14 +146,19 @@ abbrev pub shown : Option Sent → Told
 shown None = told.Answer answer.NoFrame
 shown (Some f) = told.Frame f.from f.to f.frame
 
+-- how many messages of one contact were accepted and delivered, where there is one
+abbrev pub told_of_flow : Option FlowCounts → Told
+told_of_flow None = told.NoContact
+told_of_flow (Some counts) = told.Flow counts.accepted counts.delivered
+
 -- what is told of a line that leaves everything as it is: a line that asks for nothing is one, and a publication or a subscription is
 -- one where its range is bad
 abbrev pub told_of : Line → NotesState → WorldState → Told
-told_of (Air bearer) notes w = told.Answer (answer.Air (length (air_on bearer w.air) - place_on bearer notes.bases))
+told_of (Air bearer) notes w = told.Air (length (air_on bearer w.air) - place_on bearer notes.bases)
 told_of (Show bearer frame) notes w = shown (slice_get (air_on bearer w.air) (counted (place_on bearer notes.bases + frame)))
-told_of (Links node) notes w = told.Answer (answer.Links (links_of w.members node))
+told_of (Links node) notes w = told.Links (links_of w.members node)
 told_of (Table node) notes w = told.Table (table_of w.members node)
-told_of (Flow from to) notes w = told.Answer (flow_of w.members from to)
+told_of (Flow from to) notes w = told_of_flow (flow_of w.members from to)
 told_of (Publish node port kind lower upper scope key) notes w = told.Answer answer.BadRange
 told_of (Subscribe node kind lower upper timeout filter) notes w = told.Answer answer.BadRange
 told_of other notes w = told.Nothing
@@ -154,7 +166,7 @@ told_of other notes w = told.Nothing
 -- what becomes of a world by a line that sends and receives messages again and again, or leaves everything as it is
 abbrev pub Conversed : Line → NotesState → Course Outcome
 Conversed (Repeat times node port to importance body) notes start came now = Repeated (SendsAgain times (event.Call node (sending port to importance body))) notes start came now
-Conversed (Drain node port) notes start came now = Answered (ReceivesAll node port) notes start came now
+Conversed (Drain node port) notes start came now = Retells (ReceivesAll node port) notes start came now
 Conversed (Burst node port to_node to_port times body) notes start came now =
     Moves (Bursts times (low_message node port to_node to_port body) (event.Call to_node (call.Receive to_port)) notes.places) notes start came now
 Conversed other notes start came now = Stays (told_of other notes start) notes start came now
@@ -164,10 +176,10 @@ abbrev pub Composed : Line → NotesState → Course Outcome
 Composed (Node node) notes start came now = ComesIn node notes start came now
 Composed (Mend node bearer) notes start came now = Answered (Mends notes.named node bearer) notes start came now
 Composed (Link first second bearer) notes start came now =
-    Answered (LinksUp (naming notes.named first second) first second bearer) (with_named notes (naming notes.named first second)) start came now
+    Retells (LinksUp (naming notes.named first second) first second bearer) (with_named notes (naming notes.named first second)) start came now
 Composed Mark notes start came now = Stays (told.Answer answer.Done) (marked notes (ends_of now.air)) start came now
-Composed (Pump bearer) notes start came now = Answered (Pumps bearer (place_on bearer notes.places)) (pumped notes bearer (length (air_on bearer now.air))) start came now
-Composed (Settle rounds) notes start came now = Answered (SettlesLine rounds) notes start came now
+Composed (Pump bearer) notes start came now = Retells (Pumps bearer (place_on bearer notes.places)) (pumped notes bearer (length (air_on bearer now.air))) start came now
+Composed (Settle rounds) notes start came now = Retells (SettlesLine rounds) notes start came now
 Composed other notes start came now = Conversed other notes start came now
 
 -- what becomes of a world by a line that is this event, or by one that is no event or several

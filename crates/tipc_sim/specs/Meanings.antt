@@ -2,12 +2,14 @@
 use Rattle.std.specs.Prelude.{◌≡◌, ℕ, Bool, true, false, not, ◌&&◌, if◌then◌else◌, List, Option, Some, None, Ok, Err, length}
 use Rattle.tipc_types.specs.declared.node_calls.EventNote.TheVariants as call
 use Rattle.tipc_types.specs.declared.node_calls.Answer.{Answer}
-use Rattle.tipc_types.specs.declared.node_calls.Answer.TheVariants.{Up, Down, Pumped, Quiet, Unsettled}
-use Rattle.tipc_world.specs.declared.events.WorldEvent.TheVariants as event
+use Rattle.tipc_report.specs.declared.told.Told.{Told}
+use Rattle.tipc_report.specs.declared.told.Told.TheVariants.{Up, Down, Pumped, Quiet, Unsettled}
+use Rattle.tipc_replay.specs.declared.events.WorldEvent.TheVariants as event
 use Rattle.tipc_world.specs.declared.settling.Settled.{Settled}
 use Rattle.tipc_world.specs.declared.settling.Settled.TheVariants as settled
-use Rattle.tipc_world.specs.Skies.{air_on}
-use Rattle.tipc_world.specs.States.{MemberState, is_mended_at, is_there, is_link_up_at, knows}
+use Rattle.tipc_replay.specs.Skies.{air_on}
+use Rattle.tipc_replay.specs.States.{MemberState, is_mended_at, is_link_up_at, knows}
+use Rattle.tipc_world.specs.States.{is_there}
 use Rattle.tipc_world.specs.declared.settling.Receivers.TheVariants.{Any, Both}
 use Rattle.tipc_world.specs.Courses.{Course, Asks, Once, Takes, TakesAll, Drains, Then}
 use Rattle.tipc_world.specs.Settling.{arrival_asked, Settles as SettlesWorld}
@@ -45,8 +47,8 @@ Joins named first second bearer =
     Then (Takes (know_asked named first bearer) second) (Then (Takes (know_asked named second bearer) first) (Then (MendsCut named first bearer) (MendsCut named second bearer)))
 
 -- both link ends on a bearer are up, or one isn't
-abbrev pub link_answer : List (Option MemberState) → ℕ → ℕ → ℕ → Answer
-link_answer members first second bearer =
+abbrev pub told_of_link : List (Option MemberState) → ℕ → ℕ → ℕ → Told
+told_of_link members first second bearer =
     if is_link_up_at members first second bearer && is_link_up_at members second first bearer then Up else Down
 
 -- two nodes are joined on a bearer, and then the frames of its air from a place on arrive that are for one of the two
@@ -55,28 +57,28 @@ JoinsFrom place named first second bearer =
     Then (Joins named first second bearer) (Drains (arrival_asked (Both first second) bearer) bearer place)
 
 -- two nodes are joined on a bearer, and the frames that were sent there since then arrive that are for one of the two
-abbrev pub Links : List (ℕ × ℕ) → ℕ → ℕ → ℕ → Course Answer
-Links named first second bearer start (Ok answer) now =
+abbrev pub Links : List (ℕ × ℕ) → ℕ → ℕ → ℕ → Course Told
+Links named first second bearer start (Ok told) now =
     (count : ℕ) × JoinsFrom (length (air_on bearer start.air)) named first second bearer start (Ok count) now
-    × (answer ≡ link_answer now.members first second bearer)
+    × (told ≡ told_of_link now.members first second bearer)
 Links named first second bearer start (Err stop) now = JoinsFrom (length (air_on bearer start.air)) named first second bearer start (Err stop) now
 
 -- ---- frames
 
 -- the frames of a bearer from a place on arrive, until none is left
-abbrev pub Pumps : ℕ → ℕ → Course Answer
-Pumps bearer place start (Ok answer) now = (count : ℕ) × Drains (arrival_asked Any bearer) bearer place start (Ok count) now
-    × (answer ≡ Pumped count)
+abbrev pub Pumps : ℕ → ℕ → Course Told
+Pumps bearer place start (Ok told) now = (count : ℕ) × Drains (arrival_asked Any bearer) bearer place start (Ok count) now
+    × (told ≡ Pumped count)
 Pumps bearer place start (Err stop) now = Drains (arrival_asked Any bearer) bearer place start (Err stop) now
 
 -- ---- rounds
 
 -- how it is told whether packets are under way
-abbrev pub settled_answer : Settled → Answer
-settled_answer settled.Quiet = Quiet
-settled_answer (settled.Unsettled unacked waiting) = Unsettled unacked waiting
+abbrev pub told_of_settled : Settled → Told
+told_of_settled settled.Quiet = Quiet
+told_of_settled (settled.Unsettled unacked waiting) = Unsettled unacked waiting
 
 -- so many rounds are made, and it is told whether packets are under way then
-abbrev pub SettlesLine : ℕ → Course Answer
-SettlesLine rounds start (Ok answer) now = (settled : Settled) × SettlesWorld rounds start (Ok settled) now × (answer ≡ settled_answer settled)
+abbrev pub SettlesLine : ℕ → Course Told
+SettlesLine rounds start (Ok told) now = (settled : Settled) × SettlesWorld rounds start (Ok settled) now × (told ≡ told_of_settled settled)
 SettlesLine rounds start (Err stop) now = SettlesWorld rounds start (Err stop) now

@@ -3,11 +3,13 @@ use Rattle.std.specs.Prelude.{◌≡◌, ◌⊎◌, ℕ, ◌+◌, ◌<◌, Bool,
 use Rattle.tipc_types.specs.declared.node_calls.EventNote.TheVariants as call
 use Rattle.tipc_types.specs.declared.message_forms.Importance.TheVariants.{Low}
 use Rattle.tipc_types.specs.declared.node_calls.Answer.{Answer}
-use Rattle.tipc_types.specs.declared.node_calls.Answer.TheVariants.{Drained, NoSocket, Received, Sent, SentTo}
+use Rattle.tipc_types.specs.declared.node_calls.Answer.TheVariants.{NoSocket, Received, Sent, SentTo}
 use Rattle.tipc_script.specs.Spelling.{port_at}
-use Rattle.tipc_world.specs.declared.events.WorldEvent.{WorldEvent}
-use Rattle.tipc_world.specs.declared.events.WorldEvent.TheVariants as event
-use Rattle.tipc_world.specs.declared.events.WorldFault.{WorldFault}
+use Rattle.tipc_report.specs.declared.told.Told.{Told}
+use Rattle.tipc_report.specs.declared.told.Told.TheVariants as told
+use Rattle.tipc_replay.specs.declared.events.WorldEvent.{WorldEvent}
+use Rattle.tipc_replay.specs.declared.events.WorldEvent.TheVariants as event
+use Rattle.tipc_world.specs.declared.faults.WorldFault.{WorldFault}
 use Rattle.tipc_world.specs.States.{WorldState}
 use Rattle.tipc_world.specs.declared.places.Places.{Places}
 use Rattle.tipc_world.specs.Courses.{Course, Once, Then}
@@ -74,15 +76,15 @@ SendsAgain times send start (Err stop) now = (halts : RepeatHalts send is_sent s
 -- ---- messages that are received
 
 -- how many were received, or that there is no such socket
-abbrev pub drained_answer : ℕ → Answer → Answer
-drained_answer count NoSocket = NoSocket
-drained_answer count other = Drained count
+abbrev pub told_of_drained : ℕ → Answer → Told
+told_of_drained count NoSocket = told.Answer NoSocket
+told_of_drained count other = told.Drained count
 
 -- messages are received at a port until there is none
-abbrev pub ReceivesAll : ℕ → ℕ → Course Answer
-ReceivesAll node port start (Ok answer) now =
+abbrev pub ReceivesAll : ℕ → ℕ → Course Told
+ReceivesAll node port start (Ok told) now =
     (count : ℕ) × (last : Answer) × RepeatsUntil (event.Call node (call.Receive port)) is_message start count last now
-    × (answer ≡ drained_answer count last)
+    × (told ≡ told_of_drained count last)
 ReceivesAll node port start (Err stop) now = RepeatHalts (event.Call node (call.Receive port)) is_message start stop now
 
 -- ---- messages that are sent, pumped and received
@@ -95,7 +97,7 @@ low_message node port to_node to_port body = event.Call node (call.SendPort port
 -- then: frames that are sent on bearer 0 while bearer 1 is pumped wait.
 abbrev pub PumpsBoth : Places → Course Places
 PumpsBoth places start (Ok ends) now =
-    (between : WorldState) × (first : Answer) × (second : Answer) × Pumps 0 places.first start (Ok first) between
+    (between : WorldState) × (first : Told) × (second : Told) × Pumps 0 places.first start (Ok first) between
     × Pumps 1 places.second between (Ok second) now
     × (ends ≡ record { first = length between.air.first; second = length now.air.second })
 PumpsBoth places start (Err stop) now = Then (Pumps 0 places.first) (Pumps 1 places.second) start (Err stop) now

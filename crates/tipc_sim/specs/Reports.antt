@@ -5,7 +5,7 @@ use Rattle.tipc_script.specs.Faults.{Fault}
 use Rattle.tipc_report.specs.Text.{bad_line, limit_line}
 use Rattle.tipc_report.specs.declared.limits.Which.TheVariants as which
 use Rattle.tipc_script.specs.Grammar.{asked}
-use Rattle.tipc_world.specs.declared.events.Limit.{Limit}
+use Rattle.tipc_world.specs.declared.faults.Limit.{Limit}
 use Rattle.tipc_world.specs.Growth.{Grows}
 use Rattle.tipc_world.specs.States.{WorldState}
 use Rattle.tipc_sim.specs.declared.status.Status.{Status}

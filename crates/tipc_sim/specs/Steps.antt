@@ -6,7 +6,7 @@ use Rattle.tipc_script.specs.Grammar.{asked}
 use Rattle.tipc_script.specs.Faults.{Fault}
 use Rattle.tipc_report.specs.Text.{bad_line, limit_line, told_line}
 use Rattle.tipc_report.specs.declared.told.Told.{Told}
-use Rattle.tipc_world.specs.declared.events.Limit.{Limit}
+use Rattle.tipc_world.specs.declared.faults.Limit.{Limit}
 use Rattle.tipc_world.specs.States.{is_there}
 use Rattle.tipc_sim.specs.declared.status.Status.{Status}
 use Rattle.tipc_sim.specs.declared.status.Status.TheVariants as status

@@ -1,13 +1,14 @@
 //! Lines that move frames: arrivals, `drain`, `pump` and `settle`.
 
 ghost use Rattle.std.specs.Prelude.{◌≡◌, ◌≤◌};
-ghost use Rattle.tipc_world.specs.Calls.{CanHappen};
+ghost use Rattle.tipc_world.specs.Events.{CanHappen};
 ghost use Rattle.tipc_world.specs.Courses.{Continues, Drains, Once};
 ghost use Rattle.tipc_world.specs.Settling.{arrival_asked};
-ghost use Rattle.tipc_sim.specs.Meanings.{settled_answer, Pumps, SettlesLine};
+ghost use Rattle.tipc_sim.specs.Meanings.{told_of_settled, Pumps, SettlesLine};
 
 use std::alloc::Global;
 use tipc_pick::Pick;
+use tipc_report::Told;
 use tipc_types::Answer;
 use tipc_world::{Receivers, Settled, World, WorldEvent, WorldFault};
 
@@ -54,34 +55,30 @@ pub fn pump<P: Pick>(
     bearer: u8,
     place: u64,
     world: &mut World<P>,
-) -> Result<Answer, WorldFault>
+) -> Result<Told, WorldFault>
     requires { bearer ≤ 1 }
     ensures comes { Pumps bearer place world.old.state result world.new.state }
     ensures continues { Continues P.gives world.old world.new }
 {
     let count = drain(alloc, Receivers::Any, bearer, place, world)?;
-    Ok(Answer::Pumped(count))
+    Ok(Told::Pumped(count))
 }
 
 /// How it is told whether packets are under way.
-fn settled_answer(settled: Settled) -> Answer
-    ensures { result ≡ settled_answer settled }
+fn told_of_settled(settled: Settled) -> Told
+    ensures { result ≡ told_of_settled settled }
 {
     match settled {
-        Settled::Quiet => Answer::Quiet,
-        Settled::Unsettled { unacked, waiting } => Answer::Unsettled { unacked, waiting },
+        Settled::Quiet => Told::Quiet,
+        Settled::Unsettled { unacked, waiting } => Told::Unsettled { unacked, waiting },
     }
 }
 
 /// Makes so many rounds, and tells whether packets are under way then.
-pub fn settle<P: Pick>(
-    alloc: Global,
-    rounds: u32,
-    world: &mut World<P>,
-) -> Result<Answer, WorldFault>
+pub fn settle<P: Pick>(alloc: Global, rounds: u32, world: &mut World<P>) -> Result<Told, WorldFault>
     ensures comes { SettlesLine rounds world.old.state result world.new.state }
     ensures continues { Continues P.gives world.old world.new }
 {
     let settled = world.settle(alloc, rounds)?;
-    Ok(settled_answer(settled))
+    Ok(told_of_settled(settled))
 }

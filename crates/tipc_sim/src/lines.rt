@@ -2,9 +2,10 @@
 
 ghost use Rattle.std.specs.Prelude.{◌≡◌, ◌+◌, ◌<◌, ◌≤◌, ◌^◌, ◌==◌, ◌||◌, ℕ, true, false, length, slice_get, IfErr, IfOk, OnOk, find};
 ghost use Rattle.tipc_report.specs.Text.{told_line};
-ghost use Rattle.tipc_world.specs.Calls.{CanHappen};
-ghost use Rattle.tipc_world.specs.Skies.{air_on};
-ghost use Rattle.tipc_world.specs.States.{counted, is_there};
+ghost use Rattle.tipc_world.specs.Events.{CanHappen};
+ghost use Rattle.tipc_replay.specs.Skies.{air_on};
+ghost use Rattle.tipc_replay.specs.States.{counted};
+ghost use Rattle.tipc_world.specs.States.{is_there};
 ghost use Rattle.tipc_world.specs.Good.{IsGood};
 ghost use Rattle.tipc_world.specs.Growth.{Grows};
 ghost use Rattle.tipc_script.specs.Grammar.{asked};
@@ -12,11 +13,11 @@ ghost use Rattle.tipc_script.specs.Faults.{Tells};
 ghost use Rattle.tipc_sim.specs.Nodes.{is_misplaced, fault_where, makes, CanBeDone};
 ghost use Rattle.tipc_world.specs.Courses.{Continues};
 ghost use Rattle.tipc_world.specs.Ends.{place_on};
-ghost use Rattle.tipc_sim.specs.Happenings.{beside, event_of, filter_number, scene, sending, service_event, shown, subscription_event, told_of, wished, Answers, Composed, Conversed, IsBegun, IsLimited, Moves, Repeated};
+ghost use Rattle.tipc_sim.specs.Happenings.{beside, event_of, filter_number, scene, sending, service_event, shown, subscription_event, told_of, told_of_flow, wished, Answers, Composed, Conversed, IsBegun, IsLimited, Moves, Repeated};
 ghost use Rattle.tipc_sim.specs.Meanings.{Links, Pumps};
 ghost use Rattle.tipc_sim.specs.Messages.{is_call, low_message, Bursts, SendsAgain};
 ghost use Rattle.tipc_sim.specs.Noted.{naming, pumped, with_named, NotesState};
-ghost use Rattle.tipc_world.specs.declared.events.Limit.{Limit};
+ghost use Rattle.tipc_world.specs.declared.faults.Limit.{Limit};
 ghost use Rattle.tipc_sim.specs.Steps.{IsAnswered};
 
 use crate::frames::{make, pump, settle};
@@ -30,7 +31,7 @@ use tipc_script::{Destination, Filter, Line, LineFault, LineWhy, NodeToken, pars
 use tipc_types::{
     Addr, Answer, Body, EventNote, Importance, NoMemory, PortId, ServiceRange, Subscription,
 };
-use tipc_world::{World, WorldEvent, WorldFault};
+use tipc_world::{FlowCounts, World, WorldEvent, WorldFault};
 
 /// Whether a node that has to be there isn't, or one that mustn't be there is.
 fn is_misplaced<P: Pick>(token: &NodeToken, world: &World<P>) -> bool
@@ -236,7 +237,7 @@ fn link_named<P: Pick>(
     bearer: u8,
     world: &mut World<P>,
     notes: &mut Notes,
-) -> Result<Answer, WorldFault>
+) -> Result<Told, WorldFault>
     requires first { is_there world.old.state first ≡ true }
     requires second { is_there world.old.state second ≡ true }
     requires bearer { bearer ≤ 1 }
@@ -254,15 +255,15 @@ fn pump_on<P: Pick>(
     bearer: u8,
     world: &mut World<P>,
     notes: &mut Notes,
-) -> Result<Answer, WorldFault>
+) -> Result<Told, WorldFault>
     requires { bearer ≤ 1 }
     ensures comes { Pumps bearer (place_on bearer notes.old.places) world.old.state result world.new.state }
     ensures noted { OnOk result (notes.new ≡ pumped notes.old bearer (length (air_on bearer world.new.state.air))) }
     ensures continues { Continues P.gives world.old world.new }
 {
-    let answer = pump(alloc, bearer, notes.places().on(bearer), world)?;
+    let told = pump(alloc, bearer, notes.places().on(bearer), world)?;
     notes.pump_to(bearer, world.air_len(bearer));
-    Ok(answer)
+    Ok(told)
 }
 
 /// Sends, pumps and receives so many times at most, where pumping goes on from the frames that aren't pumped yet.
@@ -284,7 +285,7 @@ fn burst_on<P: Pick>(
 {
     let (moved, places) = burst(alloc, times, message, at, notes.places(), world)?;
     notes.pump_both_to(places);
-    Ok(Told::Answer(Answer::Moved(moved)))
+    Ok(Told::Moved(moved))
 }
 
 /// Sends a message again and again, so many times at most, and tells how often it was sent and the last answer.
@@ -332,6 +333,19 @@ fn shown<P: Pick>(bearer: u8, frame: u64, world: &World<P>, notes: &Notes) -> Re
     })
 }
 
+/// What is told of a contact: how many messages were accepted and delivered in it, or that there is none.
+fn told_of_flow(counts: Option<FlowCounts>) -> Told
+    ensures { result ≡ told_of_flow counts }
+{
+    match counts {
+        None => Told::NoContact,
+        Some(counts) => Told::Flow {
+            accepted: counts.accepted,
+            delivered: counts.delivered,
+        },
+    }
+}
+
 /// What is told of a line that leaves everything as it is.
 fn tell<P: Pick>(
     alloc: Global,
@@ -343,13 +357,13 @@ fn tell<P: Pick>(
     ensures { IfOk result (λ told. told ≡ told_of line.now notes.now world.now.state) }
 {
     Ok(match line {
-        Line::Air { bearer } => Told::Answer(Answer::Air(
-            world.air_len(*bearer).saturating_sub(notes.base(*bearer)),
-        )),
+        Line::Air { bearer } => {
+            Told::Air(world.air_len(*bearer).saturating_sub(notes.base(*bearer)))
+        }
         Line::Show { bearer, frame } => shown(*bearer, *frame, world, notes)?,
-        Line::Links { node } => Told::Answer(Answer::Links(world.links(alloc, *node)?)),
+        Line::Links { node } => Told::Links(world.links(alloc, *node)?),
         Line::Table { node } => Told::Table(world.table(alloc, *node)?),
-        Line::Flow { from, to } => Told::Answer(world.flow(*from, *to)),
+        Line::Flow { from, to } => told_of_flow(world.flow(*from, *to)),
         Line::Publish { .. } | Line::Subscribe { .. } => Told::Answer(Answer::BadRange),
         _ => Told::Nothing,
     })
@@ -379,8 +393,8 @@ fn converse<P: Pick>(
             repeat_on(alloc, times, &message, world)
         }
         Line::Drain { node, port } => {
-            let answer = receive_all(alloc, Socket::new(node, port), world)?;
-            Ok(Told::Answer(answer))
+            let told = receive_all(alloc, Socket::new(node, port), world)?;
+            Ok(told)
         }
         Line::Burst {
             node,
@@ -412,12 +426,15 @@ fn compose<P: Pick>(
     ensures grows { Grows world.old.state world.new.state }
     ensures comes { Composed line notes.old world.old.state (beside result notes.new) world.new.state }
 {
-    let answer = match line {
+    let told = match line {
         Line::Node { node } => {
             world.add_node(alloc, node)?;
-            Answer::Done
+            Told::Answer(Answer::Done)
         }
-        Line::Mend { node, bearer } => mend(alloc, notes, node, bearer, world)?,
+        Line::Mend { node, bearer } => {
+            let answer = mend(alloc, notes, node, bearer, world)?;
+            Told::Answer(answer)
+        }
         Line::Link {
             first,
             second,
@@ -425,13 +442,13 @@ fn compose<P: Pick>(
         } => link_named(alloc, first, second, bearer, world, notes)?,
         Line::Mark => {
             notes.mark(world.ends());
-            Answer::Done
+            Told::Answer(Answer::Done)
         }
         Line::Pump { bearer } => pump_on(alloc, bearer, world, notes)?,
         Line::Settle { rounds } => settle(alloc, rounds, world)?,
         other => return converse(alloc, other, world, notes),
     };
-    Ok(Told::Answer(answer))
+    Ok(told)
 }
 
 /// Does what a line asks for.

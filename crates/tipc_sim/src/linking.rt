@@ -3,12 +3,13 @@
 ghost use Rattle.std.specs.Prelude.{◌≡◌, ◌≤◌, true};
 ghost use Rattle.tipc_world.specs.States.{is_there};
 ghost use Rattle.tipc_world.specs.Courses.{Continues, Takes, TakesAll};
-ghost use Rattle.tipc_sim.specs.Meanings.{know_asked, link_answer, Joins, Links, Mends, MendsCut};
+ghost use Rattle.tipc_sim.specs.Meanings.{know_asked, told_of_link, Joins, Links, Mends, MendsCut};
 
 use crate::frames::{drain, make};
 use crate::notes::Notes;
 use std::alloc::Global;
 use tipc_pick::Pick;
+use tipc_report::Told;
 use tipc_types::{Answer, EventNote};
 use tipc_world::{Receivers, World, WorldEvent, WorldFault};
 
@@ -118,13 +119,13 @@ fn join<P: Pick>(
 }
 
 /// Whether both link ends between two nodes on a bearer are up.
-fn link_answer<P: Pick>(first: u8, second: u8, bearer: u8, world: &World<P>) -> Answer
-    ensures { result ≡ link_answer world.now.state.members first second bearer }
+fn told_of_link<P: Pick>(first: u8, second: u8, bearer: u8, world: &World<P>) -> Told
+    ensures { result ≡ told_of_link world.now.state.members first second bearer }
 {
     if world.is_up(first, second, bearer) && world.is_up(second, first, bearer) {
-        Answer::Up
+        Told::Up
     } else {
-        Answer::Down
+        Told::Down
     }
 }
 
@@ -137,7 +138,7 @@ pub fn link<P: Pick>(
     second: u8,
     bearer: u8,
     world: &mut World<P>,
-) -> Result<Answer, WorldFault>
+) -> Result<Told, WorldFault>
     requires first { is_there world.old.state first ≡ true }
     requires second { is_there world.old.state second ≡ true }
     requires bearer { bearer ≤ 1 }
@@ -147,5 +148,5 @@ pub fn link<P: Pick>(
     let place = world.air_len(bearer);
     join(alloc, notes, first, second, bearer, world)?;
     drain(alloc, Receivers::Both(first, second), bearer, place, world)?;
-    Ok(link_answer(first, second, bearer, world))
+    Ok(told_of_link(first, second, bearer, world))
 }

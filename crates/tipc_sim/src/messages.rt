@@ -1,14 +1,15 @@
 //! Lines that send and receive messages, also many at once.
 
 ghost use Rattle.std.specs.Prelude.{◌≡◌, ◌≤◌, true, IfOk};
-ghost use Rattle.tipc_world.specs.Calls.{CanHappen};
+ghost use Rattle.tipc_world.specs.Events.{CanHappen};
 ghost use Rattle.tipc_world.specs.States.{is_there};
 ghost use Rattle.tipc_world.specs.Courses.{Continues, Once};
-ghost use Rattle.tipc_sim.specs.Messages.{drained_answer, is_call, is_message, is_sent, Bursts, PumpsAndReceives, PumpsBoth, ReceivesAll, SendsAgain, Turn};
+ghost use Rattle.tipc_sim.specs.Messages.{told_of_drained, is_call, is_message, is_sent, Bursts, PumpsAndReceives, PumpsBoth, ReceivesAll, SendsAgain, Turn};
 
 use crate::frames::{make, pump};
 use std::alloc::{AllocError, Global};
 use tipc_pick::Pick;
+use tipc_report::Told;
 use tipc_types::{Answer, EventNote};
 use tipc_world::{Places, World, WorldEvent, WorldFault};
 
@@ -105,12 +106,12 @@ pub fn repeat<P: Pick>(
 }
 
 /// How many messages were received before this answer, or that there is no such socket.
-fn drained_answer(count: u64, last: &Answer) -> Answer
-    ensures { result ≡ drained_answer count last.now }
+fn told_of_drained(count: u64, last: &Answer) -> Told
+    ensures { result ≡ told_of_drained count last.now }
 {
     match last {
-        Answer::NoSocket => Answer::NoSocket,
-        _ => Answer::Drained(count),
+        Answer::NoSocket => Told::Answer(Answer::NoSocket),
+        _ => Told::Drained(count),
     }
 }
 
@@ -119,7 +120,7 @@ pub fn receive_all<P: Pick>(
     alloc: Global,
     at: Socket,
     world: &mut World<P>,
-) -> Result<Answer, WorldFault>
+) -> Result<Told, WorldFault>
     requires { is_there world.old.state at.node ≡ true }
     ensures comes { ReceivesAll at.node at.port world.old.state result world.new.state }
     ensures continues { Continues P.gives world.old world.new }
@@ -128,7 +129,7 @@ pub fn receive_all<P: Pick>(
     loop {
         let answer = receive(alloc, at, world)?;
         if !is_message(&answer) {
-            return Ok(drained_answer(count, &answer));
+            return Ok(told_of_drained(count, &answer));
         }
         count += 1;
     }

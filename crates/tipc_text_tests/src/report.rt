@@ -59,10 +59,10 @@ fn links_have_a_letter_for_each_bearer(rt: HostRuntime) -> Result<(), Fail> {
         links_to(Addr::node(32), None, Some(LinkState::ResetReset)),
     ];
     let mut report = Vec::new(rt.alloc());
-    tell(1, Answer::Links(Sequence::new(rt.alloc())), &mut report)?;
+    print(1, &Told::Links(Sequence::new(rt.alloc())), &mut report)?;
     for peers in [two, more] {
         let peers = Sequence::from_slice(rt.alloc(), peers.as_slice())?;
-        tell(2, Answer::Links(peers), &mut report)?;
+        print(2, &Told::Links(peers), &mut report)?;
     }
     let expected = b"1 links\n2 links 2:W- 3:R-\n2 links 1:WH 32:-R\n";
     assert_eq!(rt; report.as_slice(), expected.as_slice());

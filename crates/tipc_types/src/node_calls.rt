@@ -196,7 +196,8 @@ impl Clone for PeerLinks {
     }
 }
 
-/// The answer of an event, as it is printed and as a journal keeps it.
+/// The answer of an event, as it is printed. A journal keeps the answer of each call and each arrival at its node; `TooOld` and
+/// `NoFrame` are a world's, for an arrival that reaches no node.
 #[derive(Clone, Debug, Drop, PartialEq)]
 pub enum Answer {
     /// Done, with nothing to tell.
@@ -225,38 +226,6 @@ pub enum Answer {
     TooOld(u64),
     /// There is no such frame for that node.
     NoFrame,
-    /// Both link ends are up.
-    Up,
-    /// A link end is down or isn't there.
-    Down,
-    /// How many messages of one contact were accepted at one node and delivered at the other.
-    Flow {
-        /// The messages that were accepted.
-        accepted: u64,
-        /// The messages that were delivered.
-        delivered: u64,
-    },
-    /// The two nodes aren't in contact.
-    NoContact,
-    /// So many messages were taken from an inbox.
-    Drained(u64),
-    /// So many frames arrived.
-    Pumped(u64),
-    /// So many messages went from one port to another.
-    Moved(u64),
-    /// No packet is unacknowledged and none waits.
-    Quiet,
-    /// Packets are still under way.
-    Unsettled {
-        /// The packets that are unacknowledged.
-        unacked: u64,
-        /// The packets that wait.
-        waiting: u64,
-    },
-    /// So many frames were sent.
-    Air(u64),
-    /// The link ends of a node, in order of the peers.
-    Links(Sequence<PeerLinks>),
     /// There is no such socket.
     NoSocket,
     /// The body has this length, which is over 66,000.

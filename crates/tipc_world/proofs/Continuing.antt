@@ -4,8 +4,9 @@ use Rattle.tipc_world.specs.declared.places.Places.{Places}
 use Rattle.tipc_world.specs.Courses.{Continues}
 use Rattle.tipc_world.specs.Ends.{ends_of, AreBefore}
 use Rattle.tipc_world.specs.Growth.{Grows}
-use Rattle.tipc_world.specs.Skies.{air_on}
-use Rattle.tipc_world.specs.States.{WorldState, WorldView, history_at}
+use Rattle.tipc_replay.specs.Skies.{air_on}
+use Rattle.tipc_replay.specs.States.{history_at}
+use Rattle.tipc_world.specs.States.{WorldState, WorldView}
 use Rattle.tipc_paired.proofs.wires.Wires.{prefix_same, prefix_trans as prefix_more, prefix_long as prefix_longer}
 
 pub grows_same : (w : WorldState) → Grows w w

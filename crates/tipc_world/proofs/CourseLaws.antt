@@ -1,10 +1,10 @@
 -- Courses of events, step by step.
 use Rattle.std.proofs.Common.{◌≡◌, ℕ, ◌<◌, Result, Ok, Err, subst, inl, inr}
-use Rattle.tipc_world.specs.declared.events.WorldFault.{WorldFault}
+use Rattle.tipc_world.specs.declared.faults.WorldFault.{WorldFault}
 use Rattle.tipc_world.specs.declared.places.Places.{Places}
 use Rattle.tipc_world.specs.Courses.{Asks, Course, Drains, Goes, Takes, TakesAll, Then}
 use Rattle.tipc_world.specs.Ends.{ends_of}
-use Rattle.tipc_world.specs.Settling.{Arrivals, Delivers, Round, Rounds, Settles}
+use Rattle.tipc_world.specs.Settling.{Arrivals, Delivers, MakesRounds, Round, Rounds}
 use Rattle.tipc_world.specs.States.{WorldState}
 
 -- ---- one number
@@ -40,5 +40,5 @@ delivers_halt places ends start now stop is came = subst (λ k. Arrivals places 
 
 -- a round stopped
 pub settle_halts : (rounds : ℕ) (start : WorldState) (done : ℕ) (places : Places) (before now : WorldState) (f : WorldFault) → done < rounds → Rounds start done places before → Round places before (Err f) now
-    → Settles rounds start (Err f) now
+    → MakesRounds rounds start (Err f) now
 settle_halts rounds start done places before now stop fewer made stopped = record { done = done; fewer = fewer; places = places; before = before; made = made; stopped = stopped }

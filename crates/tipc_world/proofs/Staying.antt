@@ -1,62 +1,40 @@
 -- The nodes that are there stay, and what has happened stays.
-use Rattle.std.proofs.Common.{◌≡◌, ℕ, Bool, false, List, [], Option, Some, None, Result, Ok, Err, slice_index_or, slice_set, is_some, refl, sym, ap, subst, ◌∙◌, inl, inr}
+use Rattle.std.proofs.Common.{◌≡◌, ℕ, false, List, [], Option, Some, None, Result, Ok, Err, slice_index_or, is_some, refl, sym, ap, subst, ◌∙◌, inl, inr}
 use Rattle.std.specs.Prelude.{IfErr, IfOk, OnErr, OnOk}
 use Rattle.std.proofs.lemmas.Bool.{cases_eq}
 use Rattle.std.proofs.lemmas.List.{append-nil}
 use Rattle.tipc_types.specs.Prefixes.{IsPrefixOf}
 use Rattle.tipc_types.specs.declared.node_calls.Answer.{Answer}
 use Rattle.tipc_journal.specs.declared.entries.Entry.{Entry}
-use Rattle.tipc_world.specs.Events.{JoinsAt}
-use Rattle.tipc_world.specs.declared.events.Limit.TheVariants as limit
-use Rattle.tipc_world.specs.declared.events.WorldEvent.{WorldEvent}
-use Rattle.tipc_world.specs.declared.events.WorldEvent.TheVariants.{Know, Restart, Call, Arrive}
-use Rattle.tipc_world.specs.declared.events.WorldFault.{WorldFault}
-use Rattle.tipc_world.specs.declared.events.WorldFault.TheVariants as fault
-use Rattle.tipc_world.specs.Calls.{node_of}
-use Rattle.tipc_world.specs.Due.{unarrived}
+use Rattle.tipc_replay.specs.Events.{JoinsAt}
+use Rattle.tipc_world.specs.declared.faults.Limit.TheVariants as limit
+use Rattle.tipc_replay.specs.declared.events.WorldEvent.{WorldEvent}
+use Rattle.tipc_world.specs.declared.faults.WorldFault.{WorldFault}
+use Rattle.tipc_world.specs.declared.faults.WorldFault.TheVariants as fault
 use Rattle.tipc_world.specs.Growth.{Grows}
 use Rattle.tipc_world.specs.Limits.{IsAnswered, Stops}
-use Rattle.tipc_world.specs.Skies.{air_on}
-use Rattle.tipc_world.specs.States.{MemberState, WorldState, WorldView, history_at, is_there, member_at}
-use Rattle.tipc_world.specs.Steps.{stage, Becomes, Happens, IsArrival, IsJoined, IsStep, Stage}
-use Rattle.tipc_world.proofs.Growing.{step_grows}
-use Rattle.tipc_world.proofs.LookUps.{history_at-same, member_at-changed, member_at-other}
-
-abbrev SameThere : List (Option MemberState) → List (Option MemberState) → Type 0
-SameThere old new = (n : ℕ) → is_some (member_at new n) ≡ is_some (member_at old n)
-
-at_is : (members : List (Option MemberState)) (n : ℕ) → member_at members n ≡ slice_index_or members n None
-unfolding member_at
-at_is members n = refl
-
-happens_there : (old new : Stage) (stamp : ℕ) (event : WorldEvent) (bytes : List ℕ) (answered : Answer) (lost : Bool) → Happens old new stamp event bytes answered lost → SameThere old.members new.members
-happens_there old new stamp event bytes answered lost h n = subst (λ ms. is_some (member_at ms n) ≡ is_some (member_at old.members n)) (sym h.turns.members) (elim (cases_eq n (node_of event)) [
-  | inl same ↦
-      let changed = member_at-changed old.members (node_of event) h.before h.after h.turns.was in
-      let was : member_at old.members (node_of event) ≡ Some h.before = at_is old.members (node_of event) ∙ h.turns.was in
-      ap (λ k. is_some (member_at (slice_set old.members (node_of event) (Some h.after)) k)) same ∙ (ap is_some changed ∙ (sym (ap is_some was) ∙ ap (λ k. is_some (member_at old.members k)) (sym same)))
-  | inr other ↦ ap is_some (member_at-other old.members (node_of event) n h.after other)
-])
-
-arrival_there : (old new : Stage) (stamp node bearer place : ℕ) (answered : Answer) (lost : Bool) (why : Option Answer) → unarrived old.members old.air node bearer place ≡ why → IsArrival old new stamp node bearer place answered lost
-    → SameThere old.members new.members
-arrival_there old new stamp node bearer place answered lost (Some why) e h n = ap (λ (s : Stage). is_some (member_at s.members n)) (h.none why e).1
-arrival_there old new stamp node bearer place answered lost None e h n = let arrives = h.arrives e in happens_there old new stamp (Arrive node bearer place) arrives.0.frame answered lost arrives.2 n
-
-becomes_there : (old new : Stage) (stamp : ℕ) (event : WorldEvent) (answered : Answer) (lost : Bool) → Becomes old stamp event new answered lost → SameThere old.members new.members
-becomes_there old new stamp (Arrive node bearer place) answered lost h = arrival_there old new stamp node bearer place answered lost _ refl h
-becomes_there old new stamp (Know node peer bearer) answered lost h = happens_there old new stamp (Know node peer bearer) [] answered lost h
-becomes_there old new stamp (Restart node) answered lost h = happens_there old new stamp (Restart node) [] answered lost h
-becomes_there old new stamp (Call node call) answered lost h = happens_there old new stamp (Call node call) [] answered lost h
+use Rattle.tipc_replay.specs.Skies.{air_on}
+use Rattle.tipc_replay.specs.States.{MemberState, history_at, member_at}
+use Rattle.tipc_world.specs.States.{WorldState, WorldView, is_there}
+use Rattle.tipc_replay.specs.Steps.{stage}
+use Rattle.tipc_world.specs.Steps.{by_in, IsJoined, IsStep}
+use Rattle.tipc_replay.proofs.Growing.{becomes_grows}
+use Rattle.tipc_replay.proofs.Staying.{at_is, becomes_there}
+use Rattle.tipc_replay.proofs.LookUps.{history_at-same}
 
 -- a world after an event: the same nodes are there, and it only grew
 pub record Stays (old new : WorldState) : Type 0 where
   pub nodes : (n : ℕ) → is_there new n ≡ is_there old n
   pub grown : Grows old new
 
+step_grows : (old new : WorldState) (event : WorldEvent) (answered : Answer) → IsStep old event new answered → Grows old new
+step_grows old new event answered h =
+    let grown = becomes_grows (stage old.members old.air) (stage new.members new.air) (by_in old.members old.stamps event) event answered h.lost h.becomes in
+    record { air = grown.air; histories = grown.histories }
+
 step_stays : (old new : WorldState) (event : WorldEvent) (answered : Answer) → IsStep old event new answered → Stays old new
 step_stays old new event answered h = record {
-  nodes = λ n. ap is_some (sym (at_is new.members n)) ∙ (becomes_there (stage old.members old.air) (stage new.members new.air) old.stamps event answered h.lost h.becomes n ∙ ap is_some (at_is old.members n));
+  nodes = λ n. ap is_some (sym (at_is new.members n)) ∙ (becomes_there (stage old.members old.air) (stage new.members new.air) (by_in old.members old.stamps event) event answered h.lost h.becomes n ∙ ap is_some (at_is old.members n));
   grown = step_grows old new event answered h;
 }
 
@@ -108,7 +86,7 @@ pub joining_grows : {P E : Type 0} (old new : WorldView P) (n : ℕ) (result : R
 joining_grows old new n (Ok done) absent joined same = joined_grows old.state new.state n absent joined
 joining_grows old new n (Err why) absent joined same = (same_stays old.state new.state (ap (λ v. v.state) same)).grown
 
-pub joins_world : (old : WorldState) (members : List (Option MemberState)) (n : ℕ) → JoinsAt old.members members n
+pub joins_world : (old : WorldState) (members : List (Option MemberState)) (n : ℕ) → JoinsAt old.members members n 1
     → IsJoined old (record { members = members; air = old.air; events = old.events; stamps = old.stamps; lost = old.lost }) n
 joins_world old members n j = record { newcomer = j.newcomer; fresh = j.fresh; here = j.here; others = j.others; air = refl; events = refl; stamps = refl; lost = refl }
 

@@ -1,9 +1,5 @@
 -- The recorded calls of all nodes: their answers, numbers and stamps, and all of them in order of their stamps.
-pub mod Calls
-pub mod Outcomes
-pub mod Journals
 pub mod Sums
-pub mod Singles
 pub mod Merging
 pub mod Adding
 pub mod Quiet

@@ -1,40 +1,17 @@
--- What is promised of the calls of all nodes in all their boots: how they are answered, counted and stamped.
-use Rattle.std.specs.Prelude.{◌≡◌, ◌<◌, ℕ, zero, suc, ◌+◌, ◌%◌, ◌^◌, List, [], ◌∷◌, ◌++◌, Option, Some, None, length, slice_get, slice_index_or, sum_by}
+-- What is promised of the calls of all nodes in all their boots: how they are counted and stamped, and where messages by name go.
+use Rattle.std.specs.Prelude.{◌≡◌, ◌<◌, ℕ, zero, suc, ◌+◌, ◌%◌, ◌^◌, List, Option, Some, None, length, slice_get, slice_index_or, sum_by}
 use Rattle.std.specs.List.{All}
-use Rattle.tipc_types.specs.declared.identity.Addr.{Addr}
 use Rattle.tipc_pick.specs.Choosing.{Choosing}
 use Rattle.tipc_journal.specs.declared.entries.Entry.{Entry}
-use Rattle.tipc_journal.specs.Counting.{calls_of, names_sent_before, stamps, AllAnsweredToCallers, CallsCount, StampsRise}
-use Rattle.tipc_journal.specs.Fates.{AllHaveFates}
-use Rattle.tipc_journal.specs.Licensed.{AllLicensed, AllPicked}
-use Rattle.tipc_node.specs.Telling.{AllFull}
+use Rattle.tipc_journal.specs.Counting.{calls_of, names_sent_before, stamps, CallsCount, StampsRise}
+use Rattle.tipc_journal.specs.Licensed.{AllPicked}
 use Rattle.tipc_node.specs.Turns.{addr_of}
-use Rattle.tipc_world.specs.States.{MemberState}
-
--- ---- the journals of all boots
-
--- the journals of a node, one for each boot
-abbrev pub journals_of : MemberState → List (List Entry)
-journals_of m = m.past ++ m.node.journal ∷ []
-
--- the journal of the boot of that place, where there is such a boot
-abbrev pub journal_in : Option MemberState → ℕ → Option (List Entry)
-journal_in None boot = None
-journal_in (Some m) boot = slice_get (journals_of m) boot
-
--- the journal of node n in the boot of that place, from 0 on
-unfoldable pub journal_at : List (Option MemberState) → ℕ → ℕ → Option (List Entry)
-journal_at members n boot = journal_in (slice_index_or members n None) boot
+use Rattle.tipc_replay.specs.States.{MemberState, journal_at, journals_of}
 
 -- ---- one journal
 
--- Each call that a node recorded in one boot has a licensed answer, each message its fate, and a congested send told the truth. Each
--- is answered to its caller, the calls of each caller are counted from 0, and the stamps rise.
-pub record AreAnswered (own : Addr) (journal : List Entry) : Type 0 where
-  pub licensed : AllLicensed own journal
-  pub fates : AllHaveFates own journal
-  pub full : AllFull journal
-  pub callers : AllAnsweredToCallers journal
+-- The calls of each caller that stand in a journal are counted from 0, and the stamps rise.
+pub record AreInOrder (journal : List Entry) : Type 0 where
   pub counted : CallsCount journal
   pub rise : StampsRise journal
 
@@ -67,7 +44,7 @@ turn_at members stamp = sum_to (λ n. sent_in (slice_index_or members n None) st
 
 -- What every world keeps of the calls of all nodes. So many were recorded, and the chooser is at that turn.
 pub record AreOrderly {P : Type 0} (gives : P → ℕ → ℕ → ℕ → Type 0) (members : List (Option MemberState)) (recorded : ℕ) (chooser : Choosing P) : Type 0 where
-  pub answered : (n boot : ℕ) (journal : List Entry) → journal_at members n boot ≡ Some journal → AreAnswered (addr_of n) journal
+  pub numbered : (n boot : ℕ) (journal : List Entry) → journal_at members n boot ≡ Some journal → AreInOrder journal
   -- the stamps are the numbers of the calls, each of which is recorded in a journal, and in one alone
   pub stamped : (n boot : ℕ) (journal : List Entry) → journal_at members n boot ≡ Some journal → All (λ stamp. stamp < recorded) (stamps journal)
   pub every : (stamp : ℕ) → stamp < recorded → (n : ℕ) × (boot : ℕ) × HasStamp members n boot stamp

@@ -1,14 +1,14 @@
 -- Events that happen one after the other, and what they come to.
 use Rattle.std.specs.Prelude.{◌≡◌, ◌⊎◌, ℕ, ◌+◌, ◌<◌, ◌≤◌, ◌++◌, Bool, true, false, if◌then◌else◌, Option, Some, None, Result, Ok, Err, length}
 use Rattle.tipc_types.specs.declared.node_calls.Answer.{Answer}
-use Rattle.tipc_world.specs.declared.events.WorldEvent.{WorldEvent}
-use Rattle.tipc_world.specs.declared.events.WorldFault.{WorldFault}
-use Rattle.tipc_world.specs.declared.events.WorldFault.TheVariants as fault
+use Rattle.tipc_replay.specs.declared.events.WorldEvent.{WorldEvent}
+use Rattle.tipc_world.specs.declared.faults.WorldFault.{WorldFault}
+use Rattle.tipc_world.specs.declared.faults.WorldFault.TheVariants as fault
 use Rattle.tipc_world.specs.Good.{IsGood}
 use Rattle.tipc_world.specs.Growth.{Grows}
 use Rattle.tipc_world.specs.Limits.{IsAnswered, Stops}
 use Rattle.tipc_world.specs.Merged.{merged, recorded_by, AddsAtFault}
-use Rattle.tipc_world.specs.Skies.{air_on}
+use Rattle.tipc_replay.specs.Skies.{air_on}
 use Rattle.tipc_world.specs.States.{WorldState, WorldView, is_there}
 
 -- What events come to that begin in one world and end in another: all of them happened, which gives a value; or a front of them happened,

@@ -1,6 +1,6 @@
 -- Places in the air of both bearers.
 use Rattle.std.specs.Prelude.{ℕ, ◌==◌, ◌≤◌, if◌then◌else◌, length}
-use Rattle.tipc_world.specs.Skies.{AirState}
+use Rattle.tipc_replay.specs.Skies.{AirState}
 use Rattle.tipc_world.specs.declared.places.Places.{Places}
 
 -- the place on a bearer, of which there are two

@@ -1,75 +1,16 @@
 -- What is promised of every world.
-use Rattle.std.specs.Prelude.{◌≡◌, ◌≢◌, ◌≤◌, ℕ, [], Some, None, length, slice_get, slice_index_or}
-use Rattle.std.specs.List.Sorted.{IsStrictlySortedBy}
-use Rattle.std.specs.Ordering.{nat_cmp}
-use Rattle.tipc_types.specs.Address.{node_word}
-use Rattle.tipc_types.specs.Prefixes.{IsPrefixOf}
-use Rattle.tipc_types.specs.declared.identity.To.TheVariants as to
-use Rattle.tipc_types.specs.declared.message_forms.Flow.{Flow}
-use Rattle.tipc_header.specs.Frames.{frame_of}
-use Rattle.tipc_header.specs.Grammar.{Fits}
-use Rattle.tipc_header.specs.Spelling.{Fields, spelling}
-use Rattle.tipc_node.specs.Turns.{addr_of}
-use Rattle.tipc_two_nodes.specs.Truth.{AreTrue}
-use Rattle.tipc_world.specs.declared.air.Sent.{Sent}
-use Rattle.tipc_world.specs.Lawful.{AreLawful, HasBegun}
+use Rattle.std.specs.Prelude.{ℕ}
+use Rattle.tipc_replay.specs.Replayed.{IsReplayed}
 use Rattle.tipc_world.specs.Answered.{AreOrderly}
 use Rattle.tipc_world.specs.Merged.{merged, AreMerged}
-use Rattle.tipc_world.specs.Entered.{numbers_entered}
-use Rattle.tipc_world.specs.Skies.{air_on}
-use Rattle.tipc_world.specs.Sound.{IsNumber}
-use Rattle.tipc_world.specs.Spelled.{AreSpelled}
-use Rattle.tipc_world.specs.Tables.{AreTables}
-use Rattle.tipc_world.specs.Told.{IsToldOf}
-use Rattle.tipc_world.specs.States.{MemberState, WorldView, accepted_at, delivered_at, history_at}
-use Rattle.tipc_world.specs.Views.{sight_at}
+use Rattle.tipc_world.specs.States.{WorldView}
 
--- A frame is true: node a sent it to node b, it has at most 1,516 bytes, and it is a packet of a under an envelope.
-pub record IsTrue (f : Sent) : Type 0 where
-  pub a : ℕ
-  pub b : ℕ
-  pub apart : IsNumber a × IsNumber b × (a ≢ b)
-  pub from_is : f.from.word ≡ node_word a
-  pub to_is : f.to ≡ to.Node (record { word = node_word b })
-  pub size : length f.frame ≤ 1516
-  pub es : ℕ
-  pub er : ℕ
-  pub packet : Fields
-  pub fits : Fits packet
-  pub frame_is : f.frame ≡ frame_of es er (spelling packet)
-  pub previous : packet.previous ≡ node_word a
-
--- What is always true of a world that sends messages by name as its pick gives: the promises of this project, one each.
+-- What is always true of a world that sends messages by name as its pick gives: the promises of this project.
 pub record IsGood {P : Type 0} (gives : P → ℕ → ℕ → ℕ → Type 0) (w : WorldView P) : Type 0 where
-  -- For all nodes a and b, each contact and each flow: what was ever delivered at b from a is a prefix of what a ever accepted for b.
-  pub prefix : (a b a_number b_number : ℕ) (flow : Flow) →
-      IsPrefixOf (delivered_at w.state.members b a b_number a_number flow) (accepted_at w.state.members a b a_number b_number flow)
-  -- Where anything was delivered in a contact, both nodes entered it: a contact that only one side entered has nothing delivered.
-  pub entered : (a b a_number b_number : ℕ) (flow : Flow) → delivered_at w.state.members b a b_number a_number flow ≢ [] →
-      HasBegun (history_at w.state.members a) (record { word = node_word b }) (a_number, b_number)
-      × HasBegun (history_at w.state.members b) (record { word = node_word a }) (b_number, a_number)
-  -- For each node and each other one: over all its boots the numbers under which it entered contacts with it rise, so none was entered twice.
-  pub fresh : (a b : ℕ) → IsStrictlySortedBy nat_cmp (numbers_entered (history_at w.state.members a) (addr_of b))
-  -- For each node, in all its boots: each message that was delivered is spelled by frames that arrived there in that step or before, and
-  -- that the peer sent.
-  pub spelled : (n : ℕ) (m : MemberState) → slice_index_or w.state.members n None ≡ Some m → AreSpelled w.state.air m
-  -- Every frame in the air is true.
-  pub frames : (bearer k : ℕ) (f : Sent) → slice_get (air_on bearer w.state.air) k ≡ Some f → IsTrue f
-  -- What the STATEs and numbered packets between any two nodes say of the contact whose numbers stand beside them is so: there are packets
-  -- that the two numbered, by bearer and session, and for each contact and direction one list of slots, which have what was accepted, and
-  -- of which the first so many were taken and gave what was delivered; what such a packet carries was numbered in its session, whose packets
-  -- hold slots of the list in order or are tunnel packets; and what it acknowledges holds slots that were taken.
-  pub truth : (a b : ℕ) → IsNumber a → IsNumber b → a ≢ b
-      → AreTrue (sight_at w.state.members w.state.air a b) (sight_at w.state.members w.state.air b a)
-  -- For each node and each of its boots: each link that went down shows its cause, each contact that ended stands where no link is up, and
-  -- messages are accepted and delivered in the contact in which the node is.
-  pub lawful : (n : ℕ) (m : MemberState) → slice_index_or w.state.members n None ≡ Some m → AreLawful w.state.air m
-  -- For all nodes a and b, the contact of a with b and its links to b that are up are those that the present journal of a tells.
-  pub told : (a b : ℕ) → IsToldOf w.state.members a b
-  -- Nodes whose name items are all delivered hold one another's live publications that are seen in the cluster.
-  pub tables : AreTables w.state.members
-  -- For each node and each of its boots: each call has a licensed answer, and each message its fate; calls are counted and stamped; and
-  -- each message by name went to the match that the pick gives for its turn, which is how many were sent so before, at all nodes.
+  -- What is true of its nodes and its air whatever happens to them: all promises that speak of no chooser and of no count of stamps.
+  pub kept : IsReplayed w.state.members w.state.air
+  -- For each node and each of its boots: calls are counted and stamped; and each message by name went to the match that the pick gives for its
+  -- turn, which is how many were sent so before, at all nodes.
   pub orderly : AreOrderly gives w.state.members w.state.stamps w.chooser
   -- The calls of all nodes in order of their stamps are just the steps of all journals, each with its answer: as many as were recorded,
   -- each at the place of its stamp.

@@ -1,19 +1,16 @@
 -- When a limit of a world is reached, and what an event makes of the world then.
-use Rattle.std.specs.Prelude.{◌≡◌, ◌≤◌, ◌<◌, ℕ, Bool, true, false, List, Option, None, option_map, unwrap_or, slice_index_or}
+use Rattle.std.specs.Prelude.{◌≡◌, ◌≤◌, ◌<◌, ℕ, true, false, List, Option}
 use Rattle.tipc_types.specs.declared.node_calls.Answer.{Answer}
-use Rattle.tipc_journal.specs.Room.{has_journal_room}
-use Rattle.tipc_world.specs.declared.events.Limit.TheVariants as limit
-use Rattle.tipc_world.specs.declared.events.WorldEvent.{WorldEvent}
-use Rattle.tipc_world.specs.declared.events.WorldFault.{WorldFault}
-use Rattle.tipc_world.specs.declared.events.WorldFault.TheVariants as fault
-use Rattle.tipc_world.specs.Calls.{counts, counts_at, is_call_at, node_of}
-use Rattle.tipc_world.specs.Skies.{AirState, air_size}
-use Rattle.tipc_world.specs.States.{MemberState, WorldState}
+use Rattle.tipc_world.specs.declared.faults.Limit.TheVariants as limit
+use Rattle.tipc_replay.specs.declared.events.WorldEvent.{WorldEvent}
+use Rattle.tipc_world.specs.declared.faults.WorldFault.{WorldFault}
+use Rattle.tipc_world.specs.declared.faults.WorldFault.TheVariants as fault
+use Rattle.tipc_replay.specs.Calls.{counts_at, has_room_at, is_call_at, node_of}
+use Rattle.tipc_world.specs.Events.{counts}
+use Rattle.tipc_replay.specs.Skies.{AirState, air_size}
+use Rattle.tipc_replay.specs.States.{MemberState}
+use Rattle.tipc_world.specs.States.{WorldState}
 use Rattle.tipc_world.specs.Steps.{IsStep}
-
--- whether the journal of a node has room for a call
-abbrev pub has_room_at : List (Option MemberState) → ℕ → Bool
-has_room_at members n = unwrap_or (option_map (λ m. has_journal_room m.node.journal) (slice_index_or members n None)) true
 
 -- no limit keeps an event from happening: it counts, and fewer than 300,000 have happened; it is a call, and the node's journal has room
 pub record IsFree (members : List (Option MemberState)) (air : AirState) (events : ℕ) (event : WorldEvent) : Type 0 where
@@ -49,10 +46,3 @@ pub record IsAnswered (old : WorldState) (event : WorldEvent) (new : WorldState)
   pub step : IsStep old event new answered
   pub free : IsFree old.members old.air old.events event
   pub within : counts old event ≡ true → air_size new.air ≤ 100000
-
--- an event other than an arrival didn't happen
-abbrev pub TurnStops : ℕ → Bool → Bool → WorldFault → Type 0
-TurnStops events recorded room (fault.Limit limit.Events) = 300000 ≤ events
-TurnStops events recorded room (fault.Limit limit.Journal) = (events < 300000) × (recorded ≡ true) × (room ≡ false)
-TurnStops events recorded room (fault.Limit limit.Frames) = ⊥
-TurnStops events recorded room fault.NoMemory = Unit {0}

@@ -7,14 +7,14 @@ use Rattle.tipc_types.specs.declared.node_calls.EventNote.TheVariants as note
 use Rattle.tipc_journal.specs.declared.entries.Entry.{Entry}
 use Rattle.tipc_journal.specs.Steps.{steps, NodeStep, PlacedStep}
 use Rattle.tipc_node.specs.Sockets.{kept_answer}
-use Rattle.tipc_world.specs.declared.events.Limit.TheVariants as limit
-use Rattle.tipc_world.specs.declared.events.WorldEvent.{WorldEvent}
-use Rattle.tipc_world.specs.declared.events.WorldEvent.TheVariants.{Call, Arrive}
-use Rattle.tipc_world.specs.declared.events.WorldFault.{WorldFault}
-use Rattle.tipc_world.specs.declared.events.WorldFault.TheVariants as fault
-use Rattle.tipc_world.specs.Answered.{journal_at, journals_of}
-use Rattle.tipc_world.specs.Calls.{counts}
-use Rattle.tipc_world.specs.States.{MemberState, WorldState, arrivals_at}
+use Rattle.tipc_world.specs.declared.faults.Limit.TheVariants as limit
+use Rattle.tipc_replay.specs.declared.events.WorldEvent.{WorldEvent}
+use Rattle.tipc_replay.specs.declared.events.WorldEvent.TheVariants.{Call, Arrive}
+use Rattle.tipc_world.specs.declared.faults.WorldFault.{WorldFault}
+use Rattle.tipc_world.specs.declared.faults.WorldFault.TheVariants as fault
+use Rattle.tipc_replay.specs.States.{journal_at, journals_of, MemberState, arrivals_at}
+use Rattle.tipc_world.specs.Events.{counts}
+use Rattle.tipc_world.specs.States.{WorldState}
 use Rattle.tipc_world.specs.Steps.{IsStep}
 
 -- a recorded call: the number of the node that made it, the call, and the answer that was kept

@@ -1,9 +1,10 @@
 -- What it is to settle a world: rounds in which every node ticks and frames arrive.
-use Rattle.std.specs.Prelude.{◌≡◌, ℕ, ◌+◌, ◌<◌, ◌==◌, Bool, true, ◌&&◌, ◌||◌, if◌then◌else◌, Option, Some, None, Ok, Err}
+use Rattle.std.specs.Prelude.{◌≡◌, ◌≢◌, ◌⊎◌, ℕ, ◌+◌, ◌<◌, ◌==◌, Bool, true, ◌&&◌, ◌||◌, if◌then◌else◌, Option, Some, None, Ok, Err}
 use Rattle.tipc_types.specs.declared.node_calls.EventNote.TheVariants as call
-use Rattle.tipc_world.specs.declared.events.WorldEvent.{WorldEvent}
-use Rattle.tipc_world.specs.declared.events.WorldEvent.TheVariants as event
-use Rattle.tipc_world.specs.declared.events.WorldFault.{WorldFault}
+use Rattle.tipc_replay.specs.declared.events.WorldEvent.{WorldEvent}
+use Rattle.tipc_replay.specs.declared.events.WorldEvent.TheVariants as event
+use Rattle.tipc_world.specs.declared.faults.WorldFault.{WorldFault}
+use Rattle.tipc_world.specs.declared.faults.WorldFault.TheVariants as fault
 use Rattle.tipc_world.specs.declared.places.Places.{Places}
 use Rattle.tipc_world.specs.declared.settling.Receivers.{Receivers}
 use Rattle.tipc_world.specs.declared.settling.Receivers.TheVariants.{Any, Both}
@@ -11,7 +12,7 @@ use Rattle.tipc_world.specs.declared.settling.Settled.{Settled}
 use Rattle.tipc_world.specs.declared.settling.Settled.TheVariants.{Quiet, Unsettled}
 use Rattle.tipc_world.specs.Courses.{Course, Asks, TakesAll, Then}
 use Rattle.tipc_world.specs.Ends.{ends_of}
-use Rattle.tipc_world.specs.Readers.{world_load, receiver_at}
+use Rattle.tipc_replay.specs.Readers.{world_load, receiver_at}
 use Rattle.tipc_world.specs.States.{WorldState, is_there}
 
 -- ---- what is asked for
@@ -70,7 +71,15 @@ abbrev pub settled_by : ℕ × ℕ → Settled
 settled_by load = if (load.0 == 0) && (load.1 == 0) then Quiet else Unsettled load.0 load.1
 
 -- so many rounds are made
+abbrev pub MakesRounds : ℕ → Course (Unit {0})
+MakesRounds rounds start (Ok done) now = (places : Places) × Rounds start rounds places now
+MakesRounds rounds start (Err stop) now = RoundHalts rounds start stop now
+
+-- So many rounds are made, and it is told whether packets are under way then. Where all of them were made, and a frame was lost that wasn't
+-- lost before, want of memory is told.
 abbrev pub Settles : ℕ → Course Settled
-Settles rounds start (Ok settled) now = (places : Places) × Rounds start rounds places now
+Settles rounds start (Ok settled) now = MakesRounds rounds start (Ok tt) now × (now.lost ≡ start.lost)
     × (settled ≡ settled_by (world_load now.members))
-Settles rounds start (Err stop) now = RoundHalts rounds start stop now
+Settles rounds start (Err stop) now =
+    MakesRounds rounds start (Err stop) now
+    ⊎ (MakesRounds rounds start (Ok tt) now × (now.lost ≢ start.lost) × (stop ≡ fault.NoMemory))

@@ -3,14 +3,16 @@
 ghost use Rattle.std.specs.Prelude.{◌≡◌, ◌≤◌, IfOk};
 ghost use Rattle.tipc_world.specs.Courses.{Continues, Takes, TakesAll};
 ghost use Rattle.tipc_world.specs.Ends.{ends_of, AreBefore};
-ghost use Rattle.tipc_world.specs.Readers.{world_load};
-ghost use Rattle.tipc_world.specs.Settling.{arrival_asked, is_among, settled_by, tick_asked, Arrivals, Delivers, Round, Settles};
+ghost use Rattle.tipc_world.specs.Good.{IsGood};
+ghost use Rattle.tipc_replay.specs.Readers.{world_load};
+ghost use Rattle.tipc_world.specs.Settling.{arrival_asked, is_among, settled_by, tick_asked, Arrivals, Delivers, MakesRounds, Round, Settles};
 
-use crate::events::{WorldEvent, WorldFault};
+use crate::faults::WorldFault;
 use crate::places::Places;
 use crate::worlds::World;
 use std::alloc::Global;
 use tipc_pick::Pick;
+use tipc_replay::WorldEvent;
 use tipc_types::EventNote;
 
 /// The first number that no node has.
@@ -155,19 +157,15 @@ fn settled_by<P: Pick>(world: &World<P>) -> Settled
 
 /// Makes so many rounds. In each of them the frames arrive that were sent since the first began and haven't arrived
 /// in one before.
-fn make_rounds<P: Pick>(
-    alloc: Global,
-    rounds: u32,
-    world: &mut World<P>,
-) -> Result<Settled, WorldFault>
-    ensures comes { Settles rounds world.old.state result world.new.state }
+fn make_rounds<P: Pick>(alloc: Global, rounds: u32, world: &mut World<P>) -> Result<(), WorldFault>
+    ensures comes { MakesRounds rounds world.old.state result world.new.state }
     ensures continues { Continues P.gives world.old world.new }
 {
     let mut places = world.ends();
     for _ in 0..rounds {
         places = round(alloc, places, world)?;
     }
-    Ok(settled_by(world))
+    Ok(())
 }
 
 impl<P: Pick> World<P> {
@@ -178,6 +176,24 @@ impl<P: Pick> World<P> {
     ///
     /// The fault of the arrival, as [`World::step`] answers it.
     pub fn arrive(
+        &mut self,
+        alloc: Global,
+        among: Receivers,
+        bearer: u8,
+        place: u64,
+    ) -> Result<bool, WorldFault>
+        requires { bearer ≤ 1 }
+        ensures comes { Takes (arrival_asked among bearer) place self.old.state result self.new.state }
+        ensures continues { Continues P.gives self.old self.new }
+        ensures good { IsGood P.gives self.new }
+    {
+        let arrived = self.take(alloc, among, bearer, place);
+        self.good();
+        arrived
+    }
+
+    /// Lets the frame at a place of a bearer's air arrive.
+    fn take(
         &mut self,
         alloc: Global,
         among: Receivers,
@@ -209,11 +225,28 @@ impl<P: Pick> World<P> {
     ///
     /// # Errors
     ///
-    /// The first fault of an event, as [`World::step`] answers it. The events before it happened.
+    /// The first fault of an event, as [`World::step`] answers it: the events before it happened. NoMemory too where all rounds were made and
+    /// a frame was lost in one of them, and none was before.
     pub fn settle(&mut self, alloc: Global, rounds: u32) -> Result<Settled, WorldFault>
         ensures comes { Settles rounds self.old.state result self.new.state }
         ensures continues { Continues P.gives self.old self.new }
+        ensures good { IsGood P.gives self.new }
     {
-        make_rounds(alloc, rounds, self)
+        let settled = self.go_round(alloc, rounds);
+        self.good();
+        settled
+    }
+
+    /// Makes so many rounds, and answers whether packets are under way then.
+    fn go_round(&mut self, alloc: Global, rounds: u32) -> Result<Settled, WorldFault>
+        ensures comes { Settles rounds self.old.state result self.new.state }
+        ensures continues { Continues P.gives self.old self.new }
+    {
+        let lost_before = self.lost();
+        make_rounds(alloc, rounds, self)?;
+        if self.lost() != lost_before {
+            return Err(WorldFault::NoMemory);
+        }
+        Ok(settled_by(self))
     }
 }

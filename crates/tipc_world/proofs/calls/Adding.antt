@@ -5,14 +5,15 @@ use Rattle.std.proofs.lemmas.Bool.{cases_eq}
 use Rattle.tipc_journal.specs.declared.entries.Entry.{Entry}
 use Rattle.tipc_journal.specs.Steps.{steps, step_entries, IsInside, IsWhole, NodeStep, PlacedStep}
 use Rattle.tipc_journal.proofs.StepLaws.{steps_more}
-use Rattle.tipc_world.specs.Answered.{journal_at, journals_of, HasStamp}
+use Rattle.tipc_world.specs.Answered.{HasStamp}
+use Rattle.tipc_replay.specs.States.{journal_at, journals_of, MemberState}
 use Rattle.tipc_world.specs.Merged.{call_in, merged, AreMerged, HasStep, IsMade, Recorded}
-use Rattle.tipc_world.specs.States.{MemberState, WorldState}
-use Rattle.tipc_world.proofs.calls.Journals.{get_more, journal_at-is, journal_at-same, present_at}
+use Rattle.tipc_world.specs.States.{WorldState}
+use Rattle.tipc_replay.proofs.calls.Journals.{get_more, journal_at-is, journal_at-same, present_at}
 use Rattle.tipc_world.proofs.calls.Merging.{stamp_of, step_with}
-use Rattle.tipc_world.proofs.calls.Singles.{same_list}
-use Rattle.tipc_world.proofs.journals.Kept.{get_last}
-use Rattle.tipc_world.proofs.LookUps.{place_within}
+use Rattle.tipc_replay.proofs.calls.Singles.{same_list}
+use Rattle.tipc_replay.proofs.journals.Kept.{get_last}
+use Rattle.tipc_replay.proofs.LookUps.{place_within}
 use Rattle.tipc_link.proofs.Directions.{slice_get-append as get_longer}
 
 -- ---- at one node

@@ -7,30 +7,32 @@ use Rattle.tipc_types.specs.declared.node_calls.EventNote.TheVariants as note
 use Rattle.tipc_outside.specs.declared.outgoing.Outgoing.{Outgoing}
 use Rattle.tipc_pick.specs.Choosing.{Choosing}
 use Rattle.tipc_node.specs.Sockets.{kept_answer}
-use Rattle.tipc_world.specs.declared.events.Limit.TheVariants as limit
-use Rattle.tipc_world.specs.declared.events.WorldEvent.{WorldEvent}
-use Rattle.tipc_world.specs.declared.events.WorldEvent.TheVariants.{Know, Restart, Call, Arrive}
-use Rattle.tipc_world.specs.declared.events.WorldFault.{WorldFault}
-use Rattle.tipc_world.specs.declared.events.WorldFault.TheVariants as fault
-use Rattle.tipc_world.specs.Answered.{journals_of, AreOrderly}
-use Rattle.tipc_world.specs.Calls.{node_of}
-use Rattle.tipc_world.specs.Effects.{HasEffect}
-use Rattle.tipc_world.specs.Due.{unarrived}
+use Rattle.tipc_world.specs.declared.faults.Limit.TheVariants as limit
+use Rattle.tipc_replay.specs.declared.events.WorldEvent.{WorldEvent}
+use Rattle.tipc_replay.specs.declared.events.WorldEvent.TheVariants.{Know, Restart, Call, Arrive}
+use Rattle.tipc_world.specs.declared.faults.WorldFault.{WorldFault}
+use Rattle.tipc_world.specs.declared.faults.WorldFault.TheVariants as fault
+use Rattle.tipc_world.specs.Answered.{AreOrderly}
+use Rattle.tipc_replay.specs.States.{journals_of, MemberState, arrivals_at}
+use Rattle.tipc_replay.specs.Calls.{node_of}
+use Rattle.tipc_replay.specs.Effects.{HasEffect}
+use Rattle.tipc_replay.specs.Due.{unarrived}
 use Rattle.tipc_world.specs.Limits.{IsAnswered, Stops}
 use Rattle.tipc_world.specs.Merged.{merged, recorded_by, AddsAtFault, AreMerged, Recorded}
-use Rattle.tipc_world.specs.Sound.{IsSound}
-use Rattle.tipc_world.specs.States.{MemberState, WorldState, arrivals_at}
-use Rattle.tipc_world.specs.Steps.{stage, Happens, IsArrival, IsStep, Stage}
+use Rattle.tipc_world.proofs.Advancing.{by_is, next_by, HaveNumbers}
+use Rattle.tipc_world.specs.Steps.{by_in, IsStep}
+use Rattle.tipc_world.specs.States.{WorldState}
+use Rattle.tipc_replay.specs.Steps.{stage, Happens, IsArrival, Stage}
 use Rattle.tipc_world.proofs.calls.Adding.{extends_none, extends_one, merged_extends, stay_longer, Extends}
 use Rattle.tipc_world.proofs.calls.Merging.{are_merged}
-use Rattle.tipc_world.proofs.calls.Quiet.{restart_journals}
-use Rattle.tipc_world.proofs.pairs.PairedEvents.{made_step, met_step}
+use Rattle.tipc_replay.proofs.calls.Journals.{restart_journals}
+use Rattle.tipc_replay.proofs.pairs.PairedEvents.{made_step, met_step}
 
--- the calls of a sound world whose calls are in order are merged
-pub orderly_merged : {P : Type 0} (gives : P → ℕ → ℕ → ℕ → Type 0) (w : WorldState) (chooser : Choosing P) → IsSound w.members w.air → AreOrderly gives w.members w.stamps chooser → AreMerged w.members w.stamps (merged w)
-orderly_merged gives w chooser sound h = are_merged w (record {
-  numbered = λ n m there. (sound.numbered n m there).0;
-  rise = λ n boot journal there. (h.answered n boot journal there).rise;
+-- the calls of a numbers world whose calls are in order are merged
+pub orderly_merged : {P : Type 0} (gives : P → ℕ → ℕ → ℕ → Type 0) (w : WorldState) (chooser : Choosing P) → HaveNumbers w.members → AreOrderly gives w.members w.stamps chooser → AreMerged w.members w.stamps (merged w)
+orderly_merged gives w chooser numbers h = are_merged w (record {
+  numbered = λ n m there. (numbers n m there).0;
+  rise = λ n boot journal there. (h.numbered n boot journal there).rise;
   below = h.stamped;
   once = h.once;
   every = h.every;
@@ -45,19 +47,20 @@ made_at (Arrive node bearer frame) m answered = record { node = node; call = not
 made_at other m answered = []
 
 does_extend : (old : List (Option MemberState)) (stamp : ℕ) (event : WorldEvent) (bytes : List ℕ) (m m' : MemberState) (frames : List Outgoing) (answered : Answer) → slice_index_or old (node_of event) None ≡ Some m
-    → HasEffect stamp event bytes m m' frames answered → Extends old (slice_set old (node_of event) (Some m')) stamp (made_at event m answered)
+    → HasEffect (next_by stamp m) event bytes m m' frames answered → Extends old (slice_set old (node_of event) (Some m')) stamp (made_at event m answered)
 does_extend old stamp (Know a peer bearer) bytes m m' frames answered was h = extends_none old a stamp m m' was (stay_longer m m' [] (ap journals_of h.0 ∙ sym (append-nil (journals_of m))))
 does_extend old stamp (Restart a) bytes m m' frames answered was h = extends_none old a stamp m m' was (stay_longer m m' ([] ∷ []) (restart_journals m m' h.0))
 does_extend old stamp (Call a call) bytes m m' frames answered was h =
-    extends_one old a stamp m m' (made_step stamp call m m' frames answered h) _ was (ap (λ (x : MemberState). x.past) h.after) h.turn.turn.journal h.turn.told_before.whole h.turn.turn.inside refl refl
+    extends_one old a stamp m m' (made_step (next_by stamp m) call m m' frames answered h) _ was (ap (λ (x : MemberState). x.past) h.after) h.turn.turn.journal h.turn.told_before.whole h.turn.turn.inside refl refl
 does_extend old stamp (Arrive a bearer place) bytes m m' frames answered was h =
-    extends_one old a stamp m m' (met_step stamp bearer place bytes m m' frames answered h) _ was (ap (λ (x : MemberState). x.past) h.after) h.turn.turn.journal h.turn.told_before.whole h.turn.turn.inside refl
+    extends_one old a stamp m m' (met_step (next_by stamp m) bearer place bytes m m' frames answered h) _ was (ap (λ (x : MemberState). x.past) h.after) h.turn.turn.journal h.turn.told_before.whole h.turn.turn.inside refl
     (ap (λ given. record { node = a; call = note.Arrive bearer (length m.arrivals); answer = given }) (sym (ap kept_answer h.answer_is)))
 
-happens_extend : (old new : Stage) (stamp : ℕ) (event : WorldEvent) (bytes : List ℕ) (answered : Answer) (lost : Bool) (h : Happens old new stamp event bytes answered lost) → Extends old.members new.members stamp (made_at event h.before answered)
+happens_extend : (old new : Stage) (stamp : ℕ) (event : WorldEvent) (bytes : List ℕ) (answered : Answer) (lost : Bool) (h : Happens old new (by_in old.members stamp event) event bytes answered lost) → Extends old.members new.members stamp (made_at event h.before answered)
 happens_extend old new stamp event bytes answered lost h =
     subst (λ ms. Extends old.members ms stamp (made_at event h.before answered)) (sym h.turns.members)
-    (does_extend old.members stamp event bytes h.before h.after h.frames answered h.turns.was h.does)
+    (does_extend old.members stamp event bytes h.before h.after h.frames answered h.turns.was
+    (subst (λ by. HasEffect by event bytes h.before h.after h.frames answered) (by_is old.members stamp event h.before h.turns.was) h.does))
 
 -- ---- at all nodes
 
@@ -75,7 +78,7 @@ no_arrival old node bearer frame answered why none =
     ap (λ t. if is_none t then record { node = node; call = note.Arrive bearer (length (arrivals_at old.members node)); answer = kept_answer answered } ∷ [] else []) none
 
 arrival_extends : (old new : WorldState) (node bearer frame : ℕ) (answered : Answer) (lost : Bool) (why : Option Answer) → unarrived old.members old.air node bearer frame ≡ why
-    → IsArrival (stage old.members old.air) (stage new.members new.air) old.stamps node bearer frame answered lost → new.stamps ≡ (if is_none why then old.stamps + 1 else old.stamps)
+    → IsArrival (stage old.members old.air) (stage new.members new.air) (by_in old.members old.stamps (Arrive node bearer frame)) node bearer frame answered lost → new.stamps ≡ (if is_none why then old.stamps + 1 else old.stamps)
     → Extends old.members new.members old.stamps (recorded_by old (Arrive node bearer frame) answered) × (new.stamps ≡ old.stamps + length (recorded_by old (Arrive node bearer frame) answered))
 arrival_extends old new node bearer frame answered lost None due h stamps =
     let arrives = h.arrives due in

@@ -9,11 +9,12 @@ use Rattle.std.proofs.lemmas.Option.{get_or_from_slice_get, slice_get_within}
 use Rattle.tipc_journal.specs.declared.entries.Entry.{Entry}
 use Rattle.tipc_journal.specs.Counting.{stamps, StampsRise}
 use Rattle.tipc_journal.specs.Steps.{steps, NodeStep, PlacedStep}
-use Rattle.tipc_world.specs.Answered.{journal_at, journals_of, HasStamp}
+use Rattle.tipc_world.specs.Answered.{HasStamp}
+use Rattle.tipc_replay.specs.States.{journal_at, journals_of, MemberState}
 use Rattle.tipc_world.specs.Merged.{call_if, call_in, calls_at, calls_with, merged, node_numbers, AreMerged, HasStep, IsMade, Recorded}
-use Rattle.tipc_world.specs.States.{MemberState, WorldState}
-use Rattle.tipc_world.proofs.calls.Journals.{all_get, journal_at-is, journal_at-none}
-use Rattle.tipc_world.proofs.calls.Singles.{AreSingle, are_single, in_range, none_of, only_one, range_apart, read_at, read_of}
+use Rattle.tipc_world.specs.States.{WorldState}
+use Rattle.tipc_replay.proofs.calls.Journals.{all_get, journal_at-is, journal_at-none}
+use Rattle.tipc_replay.proofs.calls.Singles.{AreSingle, are_single, in_range, none_of, only_one, range_apart, read_at, read_of}
 
 -- Nodes have their numbers. Stamps rise along each journal, each stands in one journal alone, and they are the numbers below this one.
 pub record AreStamped (members : List (Option MemberState)) (recorded : ℕ) : Type 0 where

@@ -9,36 +9,22 @@ use Rattle.tipc_pick.specs.Choosing.{Choosing}
 use Rattle.tipc_journal.specs.declared.entries.Entry.{Entry}
 use Rattle.tipc_journal.specs.Counting.{calls_of, names_sent_before, stamps}
 use Rattle.tipc_journal.specs.Licensed.{AllPicked}
-use Rattle.tipc_journal.specs.Steps.{PlacedStep}
-use Rattle.tipc_journal.proofs.CountLaws.{AllAnsweredToCallers_nil, CallsCount_nil, StampsRise_nil, calls_of_nil, names_sent_before_nil, stamps_nil}
-use Rattle.tipc_journal.proofs.FateLaws.{AllHaveFates_nil}
-use Rattle.tipc_journal.proofs.LicenceLaws.{AllLicensed_nil, AllPicked_nil, AllPicked_same}
-use Rattle.tipc_journal.proofs.StepLaws.{steps_nil}
-use Rattle.tipc_node.specs.Telling.{AllFull, IsFull}
+use Rattle.tipc_journal.proofs.CountLaws.{CallsCount_nil, StampsRise_nil, calls_of_nil, names_sent_before_nil, stamps_nil}
+use Rattle.tipc_journal.proofs.LicenceLaws.{AllPicked_nil, AllPicked_same}
 use Rattle.tipc_node.specs.Turns.{addr_of}
-use Rattle.tipc_world.specs.Answered.{journal_at, journals_of, sent_in, sum_to, turn_at, AreAnswered, AreOrderly, HasStamp}
-use Rattle.tipc_world.specs.Events.{JoinsAt}
-use Rattle.tipc_world.specs.Members.{IsNewcomer, IsRestarted, known_member}
-use Rattle.tipc_world.specs.States.{MemberState}
+use Rattle.tipc_world.specs.Answered.{AreInOrder, sent_in, sum_to, turn_at, AreOrderly, HasStamp}
+use Rattle.tipc_replay.specs.States.{journal_at, journals_of, MemberState}
+use Rattle.tipc_replay.specs.Events.{JoinsAt}
+use Rattle.tipc_replay.specs.Members.{IsNewcomer, IsRestarted, known_member}
 use Rattle.tipc_world.proofs.calls.Adding.{stamp_lasts, stay_longer, Stay}
-use Rattle.tipc_world.proofs.calls.Journals.{get_more, journal_at-is, journal_at-none, journal_at-same}
-use Rattle.tipc_world.proofs.LookUps.{place_within}
+use Rattle.tipc_replay.proofs.calls.Journals.{restart_journals, get_more, journal_at-is, journal_at-none, journal_at-same}
+use Rattle.tipc_replay.proofs.LookUps.{place_within}
 use Rattle.tipc_world.proofs.calls.Sums.{sent_split, sum_last, turn_same}
 
 -- ---- an empty journal
 
-AllFull_nil : AllFull []
-AllFull_nil = subst (λ (w : List PlacedStep). All (λ p. IsFull p.step.event p.step.answer) w) (sym steps_nil) (All-nil (λ (p : PlacedStep). IsFull p.step.event p.step.answer))
-
-empty_answered : (own : Addr) → AreAnswered own []
-empty_answered own = record {
-  licensed = AllLicensed_nil own;
-  fates = AllHaveFates_nil own;
-  full = AllFull_nil;
-  callers = AllAnsweredToCallers_nil;
-  counted = CallsCount_nil;
-  rise = StampsRise_nil;
-}
+empty_in_order : AreInOrder []
+empty_in_order = record { counted = CallsCount_nil; rise = StampsRise_nil }
 
 empty_below : (recorded : ℕ) → All (λ stamp. stamp < recorded) (stamps [])
 empty_below recorded = subst (All (λ stamp. stamp < recorded)) (sym stamps_nil) (All-nil (λ (stamp : ℕ). stamp < recorded))
@@ -62,9 +48,9 @@ pub record NoneNew (old new : List (Option MemberState)) : Type 0 where
   pub sent : (n stamp : ℕ) → sent_in (slice_index_or new n None) stamp ≡ sent_in (slice_index_or old n None) stamp
   pub calls : (n : ℕ) (m : MemberState) → slice_index_or new n None ≡ Some m → IsCounted m
 
-quiet_answered : (own : Addr) (journal : List Entry) (stood : Type 0) → (stood → AreAnswered own journal) → stood ⊎ (journal ≡ []) → AreAnswered own journal
-quiet_answered own journal stood is (inl old) = is old
-quiet_answered own journal stood is (inr none) = subst (AreAnswered own) (sym none) (empty_answered own)
+quiet_in_order : (journal : List Entry) (stood : Type 0) → (stood → AreInOrder journal) → stood ⊎ (journal ≡ []) → AreInOrder journal
+quiet_in_order journal stood is (inl old) = is old
+quiet_in_order journal stood is (inr none) = subst AreInOrder (sym none) empty_in_order
 
 quiet_stamped : (recorded : ℕ) (journal : List Entry) (stood : Type 0) → (stood → All (λ stamp. stamp < recorded) (stamps journal)) → stood ⊎ (journal ≡ []) → All (λ stamp. stamp < recorded) (stamps journal)
 quiet_stamped recorded journal stood is (inl old) = is old
@@ -85,7 +71,7 @@ pub quiet_orderly : {P : Type 0} (gives : P → ℕ → ℕ → ℕ → Type 0) 
 quiet_orderly gives old new recorded chooser h q =
     let turns : (stamp : ℕ) → turn_at new stamp ≡ turn_at old stamp = λ stamp. turn_same old new stamp stamp (λ n. q.sent n stamp) in
     record {
-      answered = λ n boot journal there. quiet_answered (addr_of n) journal (journal_at old n boot ≡ Some journal) (h.answered n boot journal) (q.journals n boot journal there);
+      numbered = λ n boot journal there. quiet_in_order journal (journal_at old n boot ≡ Some journal) (h.numbered n boot journal) (q.journals n boot journal there);
       stamped = λ n boot journal there. quiet_stamped recorded journal (journal_at old n boot ≡ Some journal) (h.stamped n boot journal) (q.journals n boot journal there);
       every = λ stamp below. (let one = h.every stamp below in (one.0, one.1, q.lasts one.0 one.1 stamp one.2));
       once = λ n boot n' boot' stamp one other. h.once n boot n' boot' stamp (quiet_stamp old new n boot stamp q one) (quiet_stamp old new n' boot' stamp q other);
@@ -146,10 +132,7 @@ know_quiet m peer bearer = record {
   calls = λ h. h;
 }
 
--- a node is restarted: its journals stay, and an empty one comes behind them
-pub restart_journals : (m m' : MemberState) → IsRestarted m m' → journals_of m' ≡ journals_of m ++ [] ∷ []
-restart_journals m m' r = ap (λ js. js ++ m'.node.journal ∷ []) r.past ∙ ap (λ j. (m.past ++ m.node.journal ∷ []) ++ j ∷ []) r.node.no_history
-
+-- a node is restarted
 restart_quiet : (m m' : MemberState) → IsRestarted m m' → QuietAt m m'
 restart_quiet m m' r = record {
   journals = λ boot journal there.
@@ -182,17 +165,17 @@ restart_orderly gives old recorded a chooser before after was r h =
 
 -- ---- a node comes in, and the beginning
 
-newcomer_sent : (m : MemberState) (n stamp : ℕ) → IsNewcomer m n → sent_in (Some m) stamp ≡ 0
+newcomer_sent : (m : MemberState) (n stamp : ℕ) → IsNewcomer m n 1 → sent_in (Some m) stamp ≡ 0
 newcomer_sent m n stamp c =
     let split = sent_split m stamp in
     let past : sum_by (λ j. names_sent_before j stamp) m.past ≡ 0 = ap (sum_by (λ j. names_sent_before j stamp)) c.past in
     let present : names_sent_before m.node.journal stamp ≡ 0 = ap (λ j. names_sent_before j stamp) c.node.no_history ∙ names_sent_before_nil stamp in
     omega (arith, split, past, present)
 
-newcomer_counted : (m : MemberState) (n : ℕ) → IsNewcomer m n → IsCounted m
+newcomer_counted : (m : MemberState) (n : ℕ) → IsNewcomer m n 1 → IsCounted m
 newcomer_counted m n c = c.calls ∙ sym (ap (λ j. length (calls_of j 0)) c.node.no_history ∙ ap length (calls_of_nil 0))
 
-newcomer_journal : (m : MemberState) (n boot : ℕ) (journal : List Entry) → IsNewcomer m n → slice_get (journals_of m) boot ≡ Some journal → journal ≡ []
+newcomer_journal : (m : MemberState) (n boot : ℕ) (journal : List Entry) → IsNewcomer m n 1 → slice_get (journals_of m) boot ≡ Some journal → journal ≡ []
 newcomer_journal m n boot journal c there = by (get_more [] [] boot journal (subst (λ js. slice_get js boot ≡ Some journal) journals there))
   where
     journals : journals_of m ≡ [] ∷ []
@@ -202,7 +185,7 @@ newcomer_journal m n boot journal c there = by (get_more [] [] boot journal (sub
     by (inl old) = absurd cc
     by (inr last) = sym last.1
 
-joined_none_new : (old new : List (Option MemberState)) (n : ℕ) → slice_index_or old n None ≡ None → JoinsAt old new n → ((k : ℕ) (m : MemberState) → slice_index_or old k None ≡ Some m → IsCounted m) → NoneNew old new
+joined_none_new : (old new : List (Option MemberState)) (n : ℕ) → slice_index_or old n None ≡ None → JoinsAt old new n 1 → ((k : ℕ) (m : MemberState) → slice_index_or old k None ≡ Some m → IsCounted m) → NoneNew old new
 joined_none_new old new n absent j counted = record {
   journals = λ k boot journal there. elim (cases_eq k n) [
     | inl same ↦ inr (newcomer_journal j.newcomer n boot journal j.fresh (sym (journal_at-is new n boot j.newcomer j.here) ∙ ap (λ i. journal_at new i boot) (sym same) ∙ there))
@@ -225,7 +208,7 @@ joined_none_new old new n absent j counted = record {
   ];
 }
 
-pub joined_orderly : {P : Type 0} (gives : P → ℕ → ℕ → ℕ → Type 0) (old new : List (Option MemberState)) (n recorded : ℕ) (chooser : Choosing P) → slice_index_or old n None ≡ None → JoinsAt old new n
+pub joined_orderly : {P : Type 0} (gives : P → ℕ → ℕ → ℕ → Type 0) (old new : List (Option MemberState)) (n recorded : ℕ) (chooser : Choosing P) → slice_index_or old n None ≡ None → JoinsAt old new n 1
     → AreOrderly gives old recorded chooser → AreOrderly gives new recorded chooser
 joined_orderly gives old new n recorded chooser absent j h = quiet_orderly gives old new recorded chooser h (joined_none_new old new n absent j h.calls)
 
@@ -244,7 +227,7 @@ none_sent = sum_none 32
 -- where no nodes are
 pub start_orderly : {P : Type 0} (gives : P → ℕ → ℕ → ℕ → Type 0) (chooser : Choosing P) → chooser.turn ≡ 0 → AreOrderly gives [] 0 chooser
 start_orderly gives chooser first = record {
-  answered = λ n boot journal there. absurd (nowhere n boot journal there);
+  numbered = λ n boot journal there. absurd (nowhere n boot journal there);
   stamped = λ n boot journal there. absurd (nowhere n boot journal there);
   every = λ stamp below. absurd (omega (arith, below));
   once = λ n boot n' boot' stamp one other. absurd (nowhere n boot one.journal one.there);

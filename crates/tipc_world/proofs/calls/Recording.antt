@@ -6,25 +6,23 @@ use Rattle.std.proofs.lemmas.Bool.Decides.{nat_tests}
 use Rattle.std.proofs.lemmas.List.Elements.{All-push, All-weaker}
 use Rattle.tipc_pick.specs.Choosing.{Choosing}
 use Rattle.tipc_journal.specs.declared.entries.Entry.{Entry}
-use Rattle.tipc_journal.specs.Counting.{calls_of, is_sent_by_name, names_sent_before, stamps, AllAnsweredToCallers, CallsCount, StampsRise}
-use Rattle.tipc_journal.specs.Fates.{AllHaveFates}
-use Rattle.tipc_journal.specs.Licensed.{AllLicensed, AllPicked, IsPicked}
+use Rattle.tipc_journal.specs.Counting.{calls_of, is_sent_by_name, names_sent_before, stamps, CallsCount, StampsRise}
+use Rattle.tipc_journal.specs.Licensed.{AllPicked, IsPicked}
 use Rattle.tipc_journal.specs.Prefixes.{list_with}
 use Rattle.tipc_journal.specs.Steps.{step_entries, IsInside, IsWhole, NodeStep}
 use Rattle.tipc_journal.proofs.CountLaws.{calls_of_step, names_sent_before_all, names_sent_before_step, stamps_step, CallsCount_step, StampsRise_step}
 use Rattle.tipc_journal.proofs.LicenceLaws.{AllPicked_same, AllPicked_step}
-use Rattle.tipc_node.specs.Telling.{AllFull}
 use Rattle.tipc_node.specs.Turns.{addr_of}
-use Rattle.tipc_world.specs.Answered.{journal_at, journals_of, sent_in, turn_at, AreAnswered, AreOrderly, HasStamp}
-use Rattle.tipc_world.specs.Choices.{after_choice}
-use Rattle.tipc_world.specs.States.{MemberState}
+use Rattle.tipc_world.specs.Answered.{AreInOrder, sent_in, turn_at, AreOrderly, HasStamp}
+use Rattle.tipc_replay.specs.States.{journal_at, journals_of, MemberState}
+use Rattle.tipc_replay.specs.Choices.{after_choice}
 use Rattle.tipc_world.proofs.calls.Adding.{stamp_lasts, stay_recorded, step_made, here}
-use Rattle.tipc_world.proofs.calls.Journals.{all_get, get_more, journal_at-is, journal_at-same, past_at, present_at}
+use Rattle.tipc_replay.proofs.calls.Journals.{all_get, get_more, journal_at-is, journal_at-same, past_at, present_at}
 use Rattle.tipc_world.proofs.calls.Merging.{stamp_of}
 use Rattle.tipc_world.proofs.calls.Quiet.{IsCounted}
 use Rattle.tipc_world.proofs.calls.Sums.{sent_split, sum_same, turn_more, turn_same}
 
--- Node a recorded this step as the call of that number, and what its journal promises holds of it then.
+-- Node a recorded this step as the call of that number.
 pub record Records (a recorded : ℕ) (before after : MemberState) (s : NodeStep) : Type 0 where
   pub from_one : 1 ≤ a
   pub to_32 : a ≤ 32
@@ -36,10 +34,6 @@ pub record Records (a recorded : ℕ) (before after : MemberState) (s : NodeStep
   pub stamp : s.by.stamp ≡ recorded
   pub caller : s.caller ≡ 0
   pub call : s.call ≡ before.calls
-  pub licensed : AllLicensed (addr_of a) after.node.journal
-  pub fates : AllHaveFates (addr_of a) after.node.journal
-  pub full : AllFull after.node.journal
-  pub callers : AllAnsweredToCallers after.node.journal
 
 -- ---- look-ups
 
@@ -62,15 +56,11 @@ journal_cases old a recorded n boot before after s journal was r there = elim (c
 
 -- ---- the journal of the node
 
-recorded_answered : (a recorded : ℕ) (before after : MemberState) (s : NodeStep) → Records a recorded before after s → AreAnswered (addr_of a) before.node.journal → IsCounted before → All (λ stamp. stamp < recorded) (stamps before.node.journal)
-    → AreAnswered (addr_of a) after.node.journal
-recorded_answered a recorded before after s r h counted below =
+recorded_in_order : (a recorded : ℕ) (before after : MemberState) (s : NodeStep) → Records a recorded before after s → AreInOrder before.node.journal → IsCounted before → All (λ stamp. stamp < recorded) (stamps before.node.journal)
+    → AreInOrder after.node.journal
+recorded_in_order a recorded before after s r h counted below =
     let J = before.node.journal in
     record {
-      licensed = r.licensed;
-      fates = r.fates;
-      full = r.full;
-      callers = r.callers;
       counted = subst CallsCount (sym r.journal) (CallsCount_step J s r.whole r.inside h.counted (r.call ∙ counted ∙ ap (λ c. length (calls_of J c)) (sym r.caller)));
       rise = subst StampsRise (sym r.journal) (StampsRise_step J s r.whole r.inside h.rise (subst (λ n. All (λ stamp. stamp < n) (stamps J)) (sym r.stamp) below));
     }
@@ -200,10 +190,9 @@ pub recorded_orderly : {P : Type 0} (gives : P → ℕ → ℕ → ℕ → Type 
     → Records a recorded before after s → ((turn : ℕ) → turn % 2 ^ 64 ≡ chooser.turn → IsPicked (gives chooser.pick) turn (addr_of a) before.node.journal s.event s.answer) → chooser' ≡ after_choice chooser (is_sent_by_name s.event s.answer)
     → AreOrderly gives old recorded chooser → AreOrderly gives (slice_set old a (Some after)) (recorded + 1) chooser'
 recorded_orderly gives old a recorded before after s chooser chooser' was r one turns h = subst (AreOrderly gives new (recorded + 1)) (sym turns) (record {
-  answered = λ n boot journal there. elim (journal_cases old a recorded n boot before after s journal was r there) [
-    | inl stood ↦ h.answered n boot journal stood
-    | inr last ↦ subst (λ k. AreAnswered (addr_of k) journal) (sym last.0)
-        (subst (AreAnswered (addr_of a)) last.2 (recorded_answered a recorded before after s r (h.answered a (length before.past) before.node.journal present) (h.calls a before was) (h.stamped a (length before.past) before.node.journal present)))
+  numbered = λ n boot journal there. elim (journal_cases old a recorded n boot before after s journal was r there) [
+    | inl stood ↦ h.numbered n boot journal stood
+    | inr last ↦ subst AreInOrder last.2 (recorded_in_order a recorded before after s r (h.numbered a (length before.past) before.node.journal present) (h.calls a before was) (h.stamped a (length before.past) before.node.journal present))
   ];
   stamped = λ n boot journal there. elim (journal_cases old a recorded n boot before after s journal was r there) [
     | inl stood ↦ all_later (stamps journal) recorded (h.stamped n boot journal stood)

@@ -4,8 +4,8 @@ use Rattle.std.proofs.lemmas.Bool.{cases_eq}
 use Rattle.std.proofs.lemmas.List.Sums.{sum_by-append, sum_by-cons}
 use Rattle.tipc_journal.specs.Counting.{names_sent_before}
 use Rattle.tipc_world.specs.Answered.{sent_in, sum_to, turn_at}
-use Rattle.tipc_world.specs.States.{MemberState}
-use Rattle.tipc_world.proofs.LookUps.{place_within}
+use Rattle.tipc_replay.specs.States.{MemberState}
+use Rattle.tipc_replay.proofs.LookUps.{place_within}
 
 -- ---- sums over numbers
 

@@ -15,7 +15,7 @@ pub returns-then-lost : goal.returns-then-lost
 returns-then-lost c = λ box frames empty whole adds.
     let last : c.loop-sent.waiting.items ≡ [] = search rules in
     let all = c.loop-sent.invariant c.loop-sent.out (subst (λ (xs : List Outgoing). Adds c.loop-sent.out c.loop-sent.out xs) (sym last) (adds_none c.loop-sent.out)) in
-    leave_lost c.args.out.now c.loop-sent.out c.mark_lost.new.self box c.args.leaving frames (record { empty = empty; whole = whole; adds = adds }) all c.mark_lost.ensures.frames c.mark_lost.ensures.lost
+    leave_lost c.args.out.now c.loop-sent.out c.mark_lost.new.self box c.args.leaving frames (record { empty = empty; whole = whole; adds = adds }) (sym c.lost-lost.ensures ∙ c.if-lost.true) all c.mark_lost.ensures.frames c.mark_lost.ensures.lost
 
 pub returns : goal.returns
 returns c = λ box frames empty whole adds.

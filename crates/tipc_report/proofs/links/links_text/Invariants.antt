@@ -1,5 +1,5 @@
 use Rattle.std.proofs.Common.{◌≡◌, take}
-use Rattle.tipc_report.specs.Answering.{links_text}
+use Rattle.tipc_report.specs.Telling.{links_text}
 use Rattle.tipc_report.proofs.links.links_text.Given as goal
 
 abbrev pub invariant-loop-links : goal.invariant-loop-links

@@ -1,5 +1,5 @@
 use Rattle.std.proofs.Common.{◌-◌, ◌≤◌, max, length}
-use Rattle.tipc_world.specs.Skies.{air_on}
+use Rattle.tipc_replay.specs.Skies.{air_on}
 use Rattle.tipc_world.specs.Courses.{Continues, Goes}
 use Rattle.tipc_world.specs.Settling.{arrival_asked}
 use Rattle.tipc_sim.proofs.frames.drain.Given as goal

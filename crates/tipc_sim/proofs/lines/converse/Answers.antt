@@ -1,5 +1,5 @@
 use Rattle.std.proofs.Common.{subst, sym}
-use Rattle.tipc_world.specs.Calls.{CanHappen}
+use Rattle.tipc_world.specs.Events.{CanHappen}
 use Rattle.tipc_world.specs.States.{is_there}
 use Rattle.tipc_sim.specs.Nodes.{CanBeDone}
 use Rattle.tipc_sim.proofs.MessageLaws.{bursts_line, repeats_line, stays}

@@ -1,5 +1,5 @@
 use Rattle.tipc_types.specs.declared.node_calls.EventNote.TheVariants as call
-use Rattle.tipc_world.specs.declared.events.WorldEvent.TheVariants as event
+use Rattle.tipc_replay.specs.declared.events.WorldEvent.TheVariants as event
 use Rattle.tipc_world.specs.Courses.{Once, TakesAll}
 use Rattle.tipc_sim.specs.Meanings.{know_asked}
 use Rattle.tipc_world.proofs.CourseLaws.{then_came, then_stopped}

@@ -1,7 +1,7 @@
 use Rattle.std.proofs.Common.{◌∙◌, Ok, refl, subst, arith}
 use Rattle.std.proofs.lemmas.Result.{err_from_is_err_and}
 use Rattle.tipc_types.specs.declared.node_calls.EventNote.TheVariants as call
-use Rattle.tipc_world.specs.declared.events.WorldEvent.TheVariants as event
+use Rattle.tipc_replay.specs.declared.events.WorldEvent.TheVariants as event
 use Rattle.tipc_sim.specs.Messages.{begin, go_on, Turn}
 use Rattle.tipc_sim.proofs.MessageLaws.{send_can, turn_halts}
 use Rattle.tipc_world.proofs.Continuing.{continues_same, continues_more}

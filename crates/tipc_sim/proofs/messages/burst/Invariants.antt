@@ -1,6 +1,6 @@
 use Rattle.std.proofs.Common.{◌≡◌}
 use Rattle.tipc_types.specs.declared.node_calls.EventNote.TheVariants as call
-use Rattle.tipc_world.specs.declared.events.WorldEvent.TheVariants as event
+use Rattle.tipc_replay.specs.declared.events.WorldEvent.TheVariants as event
 use Rattle.tipc_world.specs.Courses.{Continues}
 use Rattle.tipc_sim.specs.Messages.{Turns}
 use Rattle.tipc_sim.proofs.messages.burst.Given as goal

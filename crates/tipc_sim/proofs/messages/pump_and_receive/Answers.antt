@@ -1,6 +1,6 @@
 use Rattle.std.proofs.lemmas.Result.{err_from_is_err_and}
 use Rattle.tipc_types.specs.declared.node_calls.EventNote.TheVariants as call
-use Rattle.tipc_world.specs.declared.events.WorldEvent.TheVariants as event
+use Rattle.tipc_replay.specs.declared.events.WorldEvent.TheVariants as event
 use Rattle.tipc_sim.proofs.MessageLaws.{last_halts}
 use Rattle.tipc_world.proofs.Continuing.{continues_more}
 use Rattle.tipc_world.specs.Courses.{Once}

@@ -1,6 +1,6 @@
 use Rattle.std.proofs.Common.{◌∙◌, sym}
 use Rattle.tipc_types.specs.declared.node_calls.EventNote.TheVariants as call
-use Rattle.tipc_world.specs.declared.events.WorldEvent.TheVariants as event
+use Rattle.tipc_replay.specs.declared.events.WorldEvent.TheVariants as event
 use Rattle.tipc_sim.proofs.MessageLaws.{turn_goes_on}
 use Rattle.tipc_world.proofs.Continuing.{continues_more}
 use Rattle.tipc_sim.proofs.messages.turn.Goals as goal

@@ -1,0 +1,17 @@
+pub mod InLists
+pub mod LookUps
+pub mod calls
+pub mod frames
+pub mod pairs
+pub mod streams
+pub mod journals
+pub mod names
+pub mod Growing
+pub mod Staying
+pub mod Happening
+pub mod SoundEvents
+pub mod SoundWorlds
+pub mod Answering
+pub mod Receiving
+pub mod Telling
+pub mod Promise

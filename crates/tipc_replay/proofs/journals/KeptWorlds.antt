@@ -1,0 +1,341 @@
+-- Every event keeps the journals of all nodes lawful, and tells how long their links were silent.
+use Rattle.std.proofs.Common.{length-append, ◌≡◌, ◌≤◌, zero, suc, ◌<◌, ◌+◌, ◌==◌, ℕ, Bool, true, false, List, [], ◌∷◌, ◌++◌, Option, Some, None, if◌then◌else◌, length, slice_get, slice_index_or, slice_set, refl, sym, ap, ◌∙◌, subst, inl, inr, eqb-true, get_or-set_same, get_or-set_other, arith}
+use Rattle.std.specs.Prelude.{nat_le, option_and_then, option_map}
+use Rattle.std.proofs.lemmas.Bool.{cases_eq}
+use Rattle.tipc_types.specs.declared.node_calls.Answer.{Answer}
+use Rattle.tipc_types.specs.declared.node_calls.By.{By}
+use Rattle.tipc_types.specs.declared.node_calls.EventNote.{EventNote}
+use Rattle.tipc_types.specs.declared.node_calls.EventNote.TheVariants as note
+use Rattle.tipc_outside.specs.declared.outgoing.Outgoing.{Outgoing}
+use Rattle.tipc_journal.specs.declared.entries.Entry.{Entry}
+use Rattle.tipc_journal.specs.Steps.{NodeStep}
+use Rattle.tipc_reassembly.proofs.TraceLaws.{begun_none}
+use Rattle.tipc_node.specs.declared.neighbours.Neighbour.{Neighbour}
+use Rattle.tipc_node.specs.Calls.{Performs}
+use Rattle.tipc_node.specs.Nodes.{NodeState, acquaintance, is_mended_on, known_neighbour, neighbour_of}
+use Rattle.tipc_node.specs.Telling.{IsTold}
+use Rattle.tipc_pair.specs.LinkReadings.{silence_in}
+use Rattle.tipc_node.specs.Turns.{NodeTurn, addr_of, pair_in}
+use Rattle.tipc_replay.specs.declared.air.Arrived.{Arrived}
+use Rattle.tipc_replay.specs.declared.air.Sent.{Sent}
+use Rattle.tipc_replay.specs.declared.events.WorldEvent.{WorldEvent}
+use Rattle.tipc_replay.specs.declared.events.WorldEvent.TheVariants.{Know, Restart, Call, Arrive}
+use Rattle.tipc_replay.specs.Calls.{CanHappenAt, HasNextBoot, node_of}
+use Rattle.tipc_replay.specs.Causes.{arrived_frame, frame_in}
+use Rattle.tipc_replay.specs.Effects.{HasEffect, Makes, Meets}
+use Rattle.tipc_replay.specs.Due.{frame_for, unarrived}
+use Rattle.tipc_replay.specs.Events.{JoinsAt}
+use Rattle.tipc_replay.specs.Members.{IsNewcomer, IsRestarted, known_member}
+use Rattle.tipc_replay.specs.Sound.{IsSound}
+use Rattle.tipc_replay.specs.Spelled.{HasBrought}
+use Rattle.tipc_replay.specs.States.{MemberState, contact_at, member_at, pair_at}
+use Rattle.tipc_replay.specs.Numbers.{end_on}
+use Rattle.tipc_replay.specs.Skies.{AirState, air_on, empty_air, with_both}
+use Rattle.tipc_types.specs.Address.{node_word}
+use Rattle.tipc_types.specs.Prefixes.{IsPrefixOf}
+use Rattle.tipc_pair.specs.Courses.{going_on}
+use Rattle.tipc_pair.specs.Facing.{PairEnds, alone, facing, turned}
+use Rattle.tipc_pair.specs.PairCalls.{at_bearer}
+use Rattle.tipc_pair.specs.PairTurns.{made_near}
+use Rattle.tipc_pair.proofs.turns.PairTraces.{keeps_of, making_by, pair_of}
+use Rattle.tipc_replay.proofs.pairs.PairedStarts.{kept_first, kept_pair, known_is, known_pair}
+use Rattle.tipc_replay.specs.Steps.{Becomes, Happens, IsArrival, Stage, Turns}
+use Rattle.tipc_replay.specs.Watched.{AreTraced, AreWatched, IsWatched}
+use Rattle.tipc_pair.specs.Traces.{KeepsBy}
+use Rattle.tipc_replay.proofs.pairs.Bringing.{are_brought}
+use Rattle.tipc_replay.proofs.frames.Coming.{ComesOut, nothing_out, spoken_to}
+use Rattle.tipc_replay.proofs.Growing.{prefix_same}
+use Rattle.tipc_replay.proofs.journals.Kept.{IsKept, get_last, kept_of, kept_wider, quieter_kept, restarted_kept, seen_by, started_kept, watched_of}
+use Rattle.tipc_replay.proofs.LookUps.{place_within}
+use Rattle.tipc_replay.proofs.pairs.PairedEvents.{IsReady, comes_out, made_step, met_step}
+use Rattle.tipc_replay.proofs.frames.Reaching.{placed}
+use Rattle.tipc_replay.proofs.frames.Released.{came}
+use Rattle.tipc_replay.proofs.journals.Stepping.{Widens, get_prefix}
+use Rattle.tipc_replay.proofs.journals.TunnelsTaken.{TakesTunnels, arrival_takes}
+use Rattle.tipc_replay.proofs.journals.TurnKept.{turn_kept}
+use Rattle.tipc_replay.proofs.streams.TurnStreams.{AreBrought}
+use Rattle.tipc_replay.proofs.journals.TurnTraced.{AreCarried, IsCarried, traced_set, traced_wider, turn_spelled, turn_traced}
+-- ---- the air and the arrivals
+use Rattle.tipc_name_dist.proofs.Applied.{same_number as itself}
+
+-- each air grows
+abbrev pub GrowsAir : AirState → AirState → Type 0
+GrowsAir old new = (bearer : ℕ) → IsPrefixOf (air_on bearer old) (air_on bearer new)
+
+-- an event's frames come into the air
+with_longer : (air : AirState) (first second : List Sent) → GrowsAir air (with_both air first second)
+with_longer air first second bearer = elim (bearer == 0) as (λ b. IsPrefixOf (if b then air.first else (if bearer == 1 then air.second else [])) (if b then air.first ++ first else (if bearer == 1 then air.second ++ second else []))) [
+  | true ↦ (first, refl)
+  | false ↦ elim (bearer == 1) as (λ b. IsPrefixOf (if b then air.second else []) (if b then air.second ++ second else [])) [ true ↦ (second, refl) | false ↦ ([], refl) ]
+]
+
+air_longer : (old new : Stage) (a : ℕ) (before after : MemberState) (frames : List Outgoing) (lost : Bool) → Turns old new a before after frames lost → GrowsAir old.air new.air
+air_longer old new a before after frames lost t =
+    subst (GrowsAir old.air) (sym (came old.air new.air (contact_at old.members a) new.members a frames lost t.leaves).1) (with_longer old.air _ _)
+
+air_widens : (air air' : AirState) (m : MemberState) → GrowsAir air air' → Widens (seen_by air m) (seen_by air' m)
+air_widens air air' m longer = record { air = longer; arrivals = prefix_same m.arrivals m.arrivals refl }
+
+-- what its neighbours have while the air grows
+traced_in : (air air' : AirState) (m : MemberState) → GrowsAir air air' → IsWatched air m → AreTraced (seen_by air' m) m.node.neighbours
+traced_in air air' m longer w = traced_wider (seen_by air m) (seen_by air' m) m.node.neighbours (air_widens air air' m longer) w.traced
+
+-- a node to which nothing happens while the air grows
+pub watched_wider : (air air' : AirState) (m : MemberState) → GrowsAir air air' → IsWatched air m → IsWatched air' m
+watched_wider air air' m longer w =
+    watched_of air' m (kept_wider (seen_by air m) (seen_by air' m) m.past m.node.journal (pair_in m.node) (air_widens air air' m longer) (kept_of air m w)) (traced_in air air' m longer w)
+
+-- what a node keeps while the air grows
+kept_in : (air air' : AirState) (m : MemberState) → GrowsAir air air' → IsWatched air m → IsKept (seen_by air' m) m.past m.node.journal (pair_in m.node)
+kept_in air air' m longer w = kept_wider (seen_by air m) (seen_by air' m) m.past m.node.journal (pair_in m.node) (air_widens air air' m longer) (kept_of air m w)
+
+-- ---- a turn
+
+-- a node took a turn while the air and its arrivals grew
+pub turn_watched : (air air' : AirState) (m m' : MemberState) (bytes : List ℕ) (s : NodeStep) (frames : List Outgoing) → GrowsAir air air' → IsPrefixOf m.arrivals m'.arrivals → m'.past ≡ m.past → IsWatched air m → IsTold m.node → IsTold m'.node
+    → (t : NodeTurn m.node m'.node bytes s frames) → AreCarried (seen_by air' m') s bytes → TakesTunnels m.node s bytes → AreBrought m.node m'.node bytes s frames t → IsWatched air' m'
+turn_watched air air' m m' bytes s frames longer more past w told told' t carried answers brings =
+    let seen = seen_by air' m' in
+    let grown : Widens (seen_by air m) seen = record { air = longer; arrivals = more } in
+    let traced = traced_wider (seen_by air m) seen m.node.neighbours grown w.traced in
+    let kept = kept_wider (seen_by air m) seen m.past m.node.journal (pair_in m.node) grown (kept_of air m w) in
+    watched_of air' m' (subst (λ js. IsKept seen js m'.node.journal (pair_in m'.node)) (sym past)
+    (turn_kept seen m.past m.node m'.node bytes s frames t kept told told' carried answers (turn_spelled seen m.node m'.node bytes s frames t traced carried brings)))
+    (turn_traced seen m.node m'.node bytes s frames t traced carried brings)
+
+-- an arrival isn't performed as a call
+never_arrives : (n n' : NodeState) (by : By) (call : EventNote) (frames : List Outgoing) (answered : Answer) → Performs n by call n' frames answered → (bearer number : ℕ) → call ≡ note.Arrive bearer number → ⊥
+never_arrives n n' by call frames answered h bearer number is = subst (λ c. Performs n by c n' frames answered) is h
+
+make_watched : (s : Stage) (air' : AirState) (a : ℕ) (by : By) (call : EventNote) (m m' : MemberState) (frames : List Outgoing) (answered : Answer) → IsSound s.members s.air → GrowsAir s.air air' → slice_index_or s.members a None ≡ Some m
+    → IsWatched s.air m → Makes by call m m' frames answered → IsWatched air' m'
+make_watched s air' a by call m m' frames answered sound longer was w h =
+    let step = made_step by call m m' frames answered h in
+    turn_watched s.air air' m m' [] step frames longer (prefix_same m.arrivals m'.arrivals (ap (λ (x : MemberState). x.arrivals) h.after)) (ap (λ (x : MemberState). x.past) h.after) w h.turn.told_before h.turn.told h.turn.turn
+    (λ bearer number is. absurd (never_arrives m.node m'.node _ call frames answered h.performs bearer number is))
+    (λ bearer number place e is there tunnel. absurd (never_arrives m.node m'.node _ call frames answered h.performs bearer number is)) (are_brought s a m m' [] step frames sound was h.turn.turn (nothing_out s a _))
+
+-- ---- an arrival
+
+arrived_last : (air air' : AirState) (arrivals : List Arrived) (bearer place : ℕ) (f : Sent) → GrowsAir air air' → slice_get (air_on bearer air) place ≡ Some f
+    → arrived_frame (record { air = air'; arrivals = arrivals ++ record { bearer = bearer; frame = place } ∷ [] }) bearer (length arrivals) ≡ Some f
+unfolding arrived_frame
+arrived_last air air' arrivals bearer place f longer there =
+    ap (option_and_then (frame_in air' bearer)) (get_last arrivals (record { bearer = bearer; frame = place })) ∙ ap (λ b. if b then slice_get (air_on bearer air') place else None) (itself bearer)
+    ∙ get_prefix (air_on bearer air) (air_on bearer air') place f (longer bearer) there
+
+-- there are two bearers
+bearer_is : (air : AirState) (bearer k : ℕ) (f : Sent) → slice_get (air_on bearer air) k ≡ Some f → bearer ≤ 1
+bearer_is air bearer k f there = first (bearer == 0) refl there
+  where
+    second : (b : Bool) → (bearer == 1) ≡ b → slice_get (if b then air.second else []) k ≡ Some f → bearer ≤ 1
+    second true is e = (let one = eqb-true bearer 1 is in omega (arith, one))
+    second false is e = absurd cc
+
+    first : (b : Bool) → (bearer == 0) ≡ b → slice_get (if b then air.first else (if bearer == 1 then air.second else [])) k ≡ Some f → bearer ≤ 1
+    first true is e = (let none = eqb-true bearer 0 is in omega (arith, none))
+    first false is e = second (bearer == 1) refl e
+
+-- the frame of that place arrived at a node
+frame_carried : (s : Stage) (air' : AirState) (a bearer place : ℕ) (f : Sent) (arrivals : List Arrived) → IsSound s.members s.air → GrowsAir s.air air' → frame_for s.air a bearer place ≡ Some f
+    → IsCarried (record { air = air'; arrivals = arrivals ++ record { bearer = bearer; frame = place } ∷ [] }) bearer (length arrivals) f.frame
+frame_carried s air' a bearer place f arrivals sound longer there =
+    let spoken = spoken_to s a bearer place f sound there in
+    record {
+      frame = f;
+      arrived = arrived_last s.air air' arrivals bearer place f longer (placed s.air a bearer place f there).0;
+      bytes_are = refl;
+      sender = spoken.sender;
+      from = spoken.sent.from;
+      es = spoken.es;
+      er = spoken.er;
+      packet = spoken.packet;
+      is_from = spoken.is_from;
+    }
+
+are_carried : (s : Stage) (air' : AirState) (a bearer place : ℕ) (f : Sent) (arrivals arrivals' : List Arrived) (step : NodeStep) → IsSound s.members s.air → GrowsAir s.air air' → frame_for s.air a bearer place ≡ Some f
+    → arrivals' ≡ arrivals ++ record { bearer = bearer; frame = place } ∷ [] → step.event ≡ note.Arrive bearer (length arrivals) → AreCarried (record { air = air'; arrivals = arrivals' }) step f.frame
+are_carried s air' a bearer place f arrivals arrivals' step sound longer there more call bearer' number is =
+    let both : note.Arrive bearer (length arrivals) ≡ note.Arrive bearer' number = sym call ∙ is in
+    let bearers : bearer ≡ bearer' = cc in
+    let numbers : length arrivals ≡ number = cc in
+    let last : Arrived = record { bearer = bearer; frame = place } in (
+      subst (λ k. k ≤ 1) bearers (bearer_is s.air bearer place f (placed s.air a bearer place f there).0),
+      subst (λ j. IsCarried (record { air = air'; arrivals = arrivals' }) j number f.frame) bearers (subst (λ k. IsCarried (record { air = air'; arrivals = arrivals' }) bearer k f.frame) numbers
+          (subst (λ zs. IsCarried (record { air = air'; arrivals = zs }) bearer (length arrivals) f.frame) (sym more) (frame_carried s air' a bearer place f arrivals sound longer there))),
+      ap length more ∙ length-append arrivals (last ∷ []) ∙ ap (λ k. k + 1) numbers,
+    )
+
+meet_watched : (s : Stage) (air' : AirState) (a : ℕ) (by : By) (bearer place : ℕ) (f : Sent) (m m' : MemberState) (frames : List Outgoing) (answered : Answer) → IsSound s.members s.air → GrowsAir s.air air' → slice_index_or s.members a None ≡ Some m
+    → IsWatched s.air m → frame_for s.air a bearer place ≡ Some f → ComesOut s a (note.Arrive bearer (length m.arrivals)) f.frame → Meets by bearer place f.frame m m' frames answered → IsWatched air' m'
+meet_watched s air' a by bearer place f m m' frames answered sound longer was w there out h =
+    let step = met_step by bearer place f.frame m m' frames answered h in
+    let more : m'.arrivals ≡ m.arrivals ++ record { bearer = bearer; frame = place } ∷ [] = ap (λ (x : MemberState). x.arrivals) h.after in
+    turn_watched s.air air' m m' f.frame step frames longer (record { bearer = bearer; frame = place } ∷ [], more) (ap (λ (x : MemberState). x.past) h.after) w h.turn.told_before h.turn.told h.turn.turn
+    (are_carried s air' a bearer place f m.arrivals m'.arrivals step sound longer there more refl)
+    (arrival_takes m.node m'.node _ bearer (length m.arrivals) f.frame frames h.arrived h.turn.inside h.arrives h.turn.turn) (are_brought s a m m' f.frame step frames sound was h.turn.turn out)
+
+-- ---- a link end is made, and a boot begins
+
+-- what a node keeps of a peer, which may be a stranger still, came by arrivals
+stranger_keeps : (P : ℕ → List ℕ → Type 0) (m : MemberState) (peer : ℕ) → ((y : Neighbour) → neighbour_of m.node peer ≡ Some y → KeepsBy P y.pair) → KeepsBy P (kept_pair m peer)
+stranger_keeps P m peer h = case (neighbour_of m.node peer) refl
+  where
+    case : (o : Option Neighbour) → neighbour_of m.node peer ≡ o → KeepsBy P (acquaintance m.node peer o).pair
+    case None is = record { near = tt; far = tt; begun = begun_none P }
+    case (Some y) is = h y is
+
+-- a new end holds nothing
+new_keeps : (P : ℕ → List ℕ → Type 0) (m : MemberState) (peer bearer : ℕ) → KeepsBy P (kept_pair m peer) → KeepsBy P (known_pair m peer bearer)
+new_keeps P m peer bearer h = keeps_of P (known_pair m peer bearer) (making_by P bearer (is_mended_on m.node.mended bearer) (kept_pair m peer) (pair_of P (kept_pair m peer) h))
+
+-- and wasn't silent
+record IsCalmer (x y : PairEnds) : Type 0 where
+  first : y.bearer ≡ 0
+  near : silence_in y.near ≤ silence_in x.near
+  far : silence_in y.far ≤ silence_in x.far
+
+calmer_on : (x y : PairEnds) (bearer : ℕ) → x.bearer ≡ 0 → IsCalmer x y → silence_in (end_on bearer (Some y)) ≤ silence_in (end_on bearer (Some x))
+unfolding facing
+calmer_on x y bearer first h =
+    subst (λ b. silence_in (if nat_le bearer 1 then (if b == bearer then y else turned y).near else None) ≤ silence_in (end_on bearer (Some x))) (sym h.first)
+    (subst (λ b. silence_in (if nat_le bearer 1 then (if 0 == bearer then y else turned y).near else None) ≤ silence_in (if nat_le bearer 1 then (if b == bearer then x else turned x).near else None)) (sym first)
+    (by (nat_le bearer 1) (0 == bearer)))
+  where
+    by : (t b : Bool) → silence_in (if t then (if b then y else turned y).near else None) ≤ silence_in (if t then (if b then x else turned x).near else None)
+    by false b = omega arith
+    by true true = h.near
+    by true false = h.far
+
+made_calmer : (mended : Bool) (x : PairEnds) (bearer : ℕ) → bearer ≤ 1 → IsCalmer (record x { bearer = 0 }) (at_bearer bearer (record x { bearer = 0 }) (made_near mended)).pair
+unfolding facing going_on
+made_calmer true x zero two = record { first = refl; near = omega arith; far = omega arith }
+made_calmer false x zero two = record { first = refl; near = omega arith; far = omega arith }
+made_calmer true x (suc zero) two = record { first = refl; near = omega arith; far = omega arith }
+made_calmer false x (suc zero) two = record { first = refl; near = omega arith; far = omega arith }
+made_calmer mended x (suc (suc bearer)) two = absurd (let wrong : ⊥ = omega (arith, two) in wrong)
+
+known_calmer : (m : MemberState) (peer bearer : ℕ) → bearer ≤ 1 → (kept_pair m peer).bearer ≡ 0 → IsCalmer (kept_pair m peer) (known_pair m peer bearer)
+known_calmer m peer bearer two first =
+    let x = kept_pair m peer in
+    let same : record x { bearer = 0 } ≡ x = ap (λ n. record x { bearer = n }) (sym first) in
+    subst (λ y. IsCalmer y (at_bearer bearer y (made_near (is_mended_on m.node.mended bearer))).pair) same (made_calmer (is_mended_on m.node.mended bearer) x bearer two)
+
+stranger_calm : (m : MemberState) (peer bearer : ℕ) → silence_in (end_on bearer (Some (kept_pair m peer))) ≤ silence_in (end_on bearer (pair_in m.node peer))
+unfolding facing
+stranger_calm m peer bearer = case (neighbour_of m.node peer)
+  where
+    case : (o : Option Neighbour) → silence_in (end_on bearer (Some (acquaintance m.node peer o).pair)) ≤ silence_in (end_on bearer (option_map (λ (x : Neighbour). x.pair) o))
+    case None = elim (nat_le bearer 1) as (λ t. silence_in (if t then (if 0 == bearer then alone m.node.own (node_word peer) m.node.boot else turned (alone m.node.own (node_word peer) m.node.boot)).near else None) ≤ 0) [
+      | true ↦ elim (0 == bearer) as (λ b. silence_in (if b then alone m.node.own (node_word peer) m.node.boot else turned (alone m.node.own (node_word peer) m.node.boot)).near ≤ 0) [ true ↦ omega arith | false ↦ omega arith ]
+      | false ↦ omega arith
+    ]
+    case (Some y) = omega arith
+
+silence_known : (m : MemberState) (peer bearer : ℕ) → bearer ≤ 1 → (kept_pair m peer).bearer ≡ 0 → peer < length m.node.neighbours
+    → (p b : ℕ) → silence_in (end_on b (pair_in (known_member m peer bearer).node p)) ≤ silence_in (end_on b (pair_in m.node p))
+silence_known m peer bearer two first within p b = elim (cases_eq p peer) [
+  | inl same ↦
+      let here : silence_in (end_on b (pair_in (known_member m peer bearer).node peer)) ≤ silence_in (end_on b (pair_in m.node peer)) =
+      subst (λ o. silence_in (end_on b o) ≤ silence_in (end_on b (pair_in m.node peer))) (sym (known_is m peer bearer within))
+      (let one = calmer_on (kept_pair m peer) (known_pair m peer bearer) b first (known_calmer m peer bearer two first) in let more = stranger_calm m peer b in omega (arith, one, more)) in
+      subst (λ k. silence_in (end_on b (pair_in (known_member m peer bearer).node k)) ≤ silence_in (end_on b (pair_in m.node k))) (sym same) here
+  | inr apart ↦
+      let other : pair_in (known_member m peer bearer).node p ≡ pair_in m.node p = ap (λ o. option_map (λ (x : Neighbour). x.pair) o) (get_or-set_other m.node.neighbours peer p (Some (known_neighbour m.node peer bearer)) None apart) in
+      subst (λ o. silence_in (end_on b o) ≤ silence_in (end_on b (pair_in m.node p))) (sym other) (omega arith)
+]
+
+know_watched : (air air' : AirState) (m m' : MemberState) (peer bearer : ℕ) → GrowsAir air air' → IsWatched air m → m' ≡ known_member m peer bearer → bearer ≤ 1 → (kept_pair m peer).bearer ≡ 0 → peer < length m.node.neighbours → IsWatched air' m'
+know_watched air air' m m' peer bearer longer w is two first within =
+    let P = HasBrought (seen_by air' m) (addr_of peer) in
+    let traced = traced_in air air' m longer w in
+    subst (IsWatched air') (sym is)
+    (watched_of air' (known_member m peer bearer) (quieter_kept (seen_by air' m) m.past m.node.journal (pair_in m.node) (pair_in (known_member m peer bearer).node) (kept_in air air' m longer w) (silence_known m peer bearer two first within))
+    (traced_set (seen_by air' m) m.node.neighbours peer (known_neighbour m.node peer bearer) within traced (new_keeps P m peer bearer (stranger_keeps P m peer (λ y there. traced peer y there)))))
+
+-- a node whose parts are these
+watched_as : (air : AirState) (m : MemberState) (arrivals : List Arrived) (past : List (List Entry)) (journal : List Entry) → m.arrivals ≡ arrivals → m.past ≡ past → m.node.journal ≡ journal
+    → IsKept (record { air = air; arrivals = arrivals }) past journal (pair_in m.node) → ((p : ℕ) → neighbour_of m.node p ≡ None) → IsWatched air m
+watched_as air m arrivals past journal arrivals_are past_is journal_is h alone =
+    watched_of air m (subst (λ zs. IsKept (record { air = air; arrivals = zs }) m.past m.node.journal (pair_in m.node)) (sym arrivals_are)
+    (subst (λ js. IsKept (record { air = air; arrivals = arrivals }) js m.node.journal (pair_in m.node)) (sym past_is)
+    (subst (λ j. IsKept (record { air = air; arrivals = arrivals }) past j (pair_in m.node)) (sym journal_is) h)))
+    (λ p x is. absurd (let none = alone p in let wrong : None ≡ Some x = sym none ∙ is in cc))
+
+restart_watched : (air air' : AirState) (m m' : MemberState) → GrowsAir air air' → IsWatched air m → IsRestarted m m' → IsWatched air' m'
+restart_watched air air' m m' longer w r =
+    watched_as air' m' m.arrivals (m.past ++ m.node.journal ∷ []) [] r.arrivals r.past r.node.no_history
+    (restarted_kept (seen_by air' m) m.past m.node.journal (pair_in m.node) (pair_in m'.node) (kept_in air air' m longer w) (λ p. ap (λ o. option_map (λ (x : Neighbour). x.pair) o) (r.node.alone p))) r.node.alone
+
+newcomer_watched : (air : AirState) (m : MemberState) (n first : ℕ) → IsNewcomer m n first → IsWatched air m
+newcomer_watched air m n first c =
+    watched_as air m [] [] [] c.arrivals c.past c.node.no_history
+    (started_kept (record { air = air; arrivals = [] }) [] (pair_in m.node) (λ k j there. absurd cc) (λ p. ap (λ o. option_map (λ (x : Neighbour). x.pair) o) (c.node.alone p))) c.node.alone
+
+-- ---- all events
+
+pair_there : (s : Stage) (a b : ℕ) (m : MemberState) (y : Neighbour) → slice_index_or s.members a None ≡ Some m → neighbour_of m.node b ≡ Some y → pair_at s.members a b ≡ Some y.pair
+unfolding pair_at member_at
+pair_there s a b m y here there = ap (option_and_then (λ (k : MemberState). pair_in k.node b)) here ∙ ap (option_map (λ (x : Neighbour). x.pair)) there
+
+does_watched : (s : Stage) (air' : AirState) (by : By) (event : WorldEvent) (bytes : List ℕ) (m m' : MemberState) (frames : List Outgoing) (answered : Answer) → IsSound s.members s.air → GrowsAir s.air air'
+    → slice_index_or s.members (node_of event) None ≡ Some m → IsWatched s.air m → IsReady s.members s.air event bytes m → HasEffect by event bytes m m' frames answered → IsWatched air' m'
+does_watched s air' by (Know a peer bearer) bytes m m' frames answered sound longer here w ready h =
+    know_watched s.air air' m m' peer bearer longer w h.0 ready.2 (kept_first m peer (λ y there. (sound.between a peer y.pair (pair_there s a peer m y here there)).first)) h.3
+does_watched s air' by (Restart a) bytes m m' frames answered sound longer here w ready h = restart_watched s.air air' m m' longer w h.0
+does_watched s air' by (Call a call) bytes m m' frames answered sound longer here w ready h = make_watched s air' a by call m m' frames answered sound longer here w h
+does_watched s air' by (Arrive a bearer place) bytes m m' frames answered sound longer here w ready h =
+    meet_watched s air' a by bearer place ready.0 m m' frames answered sound longer here w ready.1 (comes_out s a bearer place ready.0 sound ready.1 ready.2 (length m.arrivals)) (subst (λ bs. Meets by bearer place bs m m' frames answered) ready.3 h)
+
+-- ---- the world
+
+set_watched : (members : List (Option MemberState)) (air air' : AirState) (a : ℕ) (before after : MemberState) → slice_index_or members a None ≡ Some before → AreWatched members air → GrowsAir air air' → IsWatched air' after
+    → AreWatched (slice_set members a (Some after)) air'
+set_watched members air air' a before after was all longer new n m there = elim (cases_eq n a) [
+  | inl same ↦
+      let here : slice_index_or (slice_set members a (Some after)) a None ≡ Some after = get_or-set_same members a (Some after) None (place_within members a before was) in
+      let is : after ≡ m = (let e : Some after ≡ Some m = sym here ∙ ap (λ k. slice_index_or (slice_set members a (Some after)) k None) (sym same) ∙ there in cc) in
+      subst (IsWatched air') is new
+  | inr apart ↦ watched_wider air air' m longer (all n m (sym (get_or-set_other members a n (Some after) None apart) ∙ there))
+]
+
+happens_watched : (old new : Stage) (by : By) (event : WorldEvent) (bytes : List ℕ) (answered : Answer) (lost : Bool) → IsSound old.members old.air → AreWatched old.members old.air → (h : Happens old new by event bytes answered lost)
+    → IsReady old.members old.air event bytes h.before → AreWatched new.members new.air
+happens_watched old new by event bytes answered lost sound all h ready =
+    let a = node_of event in
+    let longer = air_longer old new a h.before h.after h.frames lost h.turns in
+    subst (λ ms. AreWatched ms new.air) (sym h.turns.members)
+    (set_watched old.members old.air new.air a h.before h.after h.turns.was all longer
+    (does_watched old new.air by event bytes h.before h.after h.frames answered sound longer h.turns.was (all a h.before h.turns.was) ready h.does))
+
+arrival_watched : (old new : Stage) (by : By) (node bearer place : ℕ) (answered : Answer) (lost : Bool) → IsSound old.members old.air → AreWatched old.members old.air → IsArrival old new by node bearer place answered lost
+    → AreWatched new.members new.air
+arrival_watched old new by node bearer place answered lost sound all h = case (unarrived old.members old.air node bearer place) refl
+  where
+    case : (o : Option Answer) → unarrived old.members old.air node bearer place ≡ o → AreWatched new.members new.air
+    case (Some reason) stops = subst (λ (s : Stage). AreWatched s.members s.air) (sym (h.none reason stops).1) all
+    case None free =
+        let a = h.arrives free in
+        happens_watched old new by (Arrive node bearer place) a.0.frame answered lost sound all a.2 (a.0, a.1, free, refl)
+
+-- after one event
+pub becomes_watched : (old new : Stage) (by : By) (event : WorldEvent) (answered : Answer) (lost : Bool) → IsSound old.members old.air → AreWatched old.members old.air → HasNextBoot old.members event → CanHappenAt old.members event
+    → Becomes old by event new answered lost → AreWatched new.members new.air
+becomes_watched old new by (Know node peer bearer) answered lost sound all boots can h = happens_watched old new by (Know node peer bearer) [] answered lost sound all h (can.2, can.1, can.3, can.4)
+becomes_watched old new by (Restart node) answered lost sound all boots can h =
+    happens_watched old new by (Restart node) [] answered lost sound all h (let next = boots h.before h.turns.was in omega arith)
+becomes_watched old new by (Call node call) answered lost sound all boots can h = happens_watched old new by (Call node call) [] answered lost sound all h tt
+becomes_watched old new by (Arrive node bearer place) answered lost sound all boots can h = arrival_watched old new by node bearer place answered lost sound all h
+
+-- where no nodes are
+pub start_watched : AreWatched [] empty_air
+start_watched n m there = absurd cc
+
+-- a node comes in
+pub joined_watched : (old new : List (Option MemberState)) (air : AirState) (n first : ℕ) → JoinsAt old new n first → AreWatched old air → AreWatched new air
+joined_watched old new air n first j all k m there = elim (cases_eq k n) [
+  | inl same ↦
+      let is : j.newcomer ≡ m = (let e : Some j.newcomer ≡ Some m = sym j.here ∙ ap (λ i. slice_index_or new i None) (sym same) ∙ there in cc) in
+      subst (IsWatched air) is (newcomer_watched air j.newcomer n first j.fresh)
+  | inr apart ↦ all k m (sym (j.others k apart) ∙ there)
+]

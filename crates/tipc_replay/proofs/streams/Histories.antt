@@ -1,0 +1,198 @@
+-- The history of a node, and what a step adds to what was ever accepted and delivered at it.
+use Rattle.std.specs.List.{cons_option, filter, filter_map, flat_map}
+use Rattle.std.proofs.Common.{◌≡◌, ◌==◌, ◌&&◌, ℕ, Bool, true, false, if◌then◌else◌, List, [], ◌∷◌, ◌++◌, Option, Some, None, map, refl, sym, ap, ◌∙◌, append-nil, append_assoc, arith}
+use Rattle.std.specs.Prelude.{option_to_list}
+use Rattle.std.proofs.lemmas.Bool.Decides.{nat_tests}
+use Rattle.std.proofs.lemmas.List.Concat.{flat_map-append}
+use Rattle.std.proofs.lemmas.List.Elements.{filter_map-append}
+use Rattle.tipc_types.specs.Address.{node_word}
+use Rattle.tipc_types.specs.declared.message_forms.Flow.{Flow}
+use Rattle.tipc_types.specs.declared.message_forms.Flow.TheVariants.{Zero, One, Broadcast}
+use Rattle.tipc_types.specs.declared.message_forms.Message.{Message}
+use Rattle.tipc_journal.specs.declared.entries.Entry.{Entry}
+use Rattle.tipc_journal.specs.declared.entries.Entry.TheVariants as entry
+use Rattle.tipc_journal.specs.Steps.{NodeStep, step_entries}
+use Rattle.tipc_journal.specs.Streams.{accepted, accepted_message, delivered, delivered_message, flow_eq, stream_eq}
+use Rattle.tipc_journal.proofs.StreamLaws.{accepted_step, delivered_step}
+use Rattle.tipc_reassembly.specs.declared.opening.Opened.{Opened}
+use Rattle.tipc_reassembly.specs.declared.opening.Opened.TheVariants.{Whole, Passed}
+use Rattle.tipc_pair.specs.declared.changes.PairOutcome.{PairOutcome}
+use Rattle.tipc_pair.specs.Facing.{PairEnds}
+use Rattle.tipc_pair.specs.Messages.{opened_in}
+use Rattle.tipc_node.specs.Messages.{message_in}
+use Rattle.tipc_node.specs.Nodes.{accepted_entry, shown_contact}
+use Rattle.tipc_node.specs.Turns.{delivered_entries as delivery_of, delivered_of, given_entries, is_accepted_for, is_delivered_from}
+use Rattle.tipc_node.proofs.journal.Telling.{same_word}
+use Rattle.tipc_replay.specs.Members.{IsRestarted}
+use Rattle.tipc_replay.specs.States.{MemberState, history, stream_of}
+
+-- ---- the history of a node
+
+pub history_longer : (m m' : MemberState) (es : List Entry) → m'.past ≡ m.past → m'.node.journal ≡ m.node.journal ++ es → history m' ≡ history m ++ es
+unfolding history
+history_longer m m' es past journal =
+    let before : MemberState → List Entry = λ n. flat_map (λ entries. entries) n.past in
+    let one : history m' ≡ before m ++ m'.node.journal = ap (λ p. flat_map (λ entries. entries) p ++ m'.node.journal) past in
+    one ∙ ap (λ j. before m ++ j) journal ∙ sym (append_assoc (before m) m.node.journal es)
+
+pub history_same : (m m' : MemberState) → m'.past ≡ m.past → m'.node.journal ≡ m.node.journal → history m' ≡ history m
+unfolding history
+history_same m m' past journal =
+    ap (λ p. flat_map (λ entries. entries) p ++ m'.node.journal) past ∙ ap (λ j. flat_map (λ entries. entries) m.past ++ j) journal
+
+-- a restart keeps the history
+pub history_restarted : (m m' : MemberState) → IsRestarted m m' → history m' ≡ history m
+unfolding history
+history_restarted m m' r =
+    let whole : List (List Entry) → List Entry = flat_map (λ entries. entries) in
+    let one : history m' ≡ whole (m.past ++ m.node.journal ∷ []) ++ [] = ap (λ p. whole p ++ m'.node.journal) r.past ∙ ap (λ j. whole (m.past ++ m.node.journal ∷ []) ++ j) r.node.no_history in
+    one ∙ append-nil (whole (m.past ++ m.node.journal ∷ [])) ∙ flat_map-append (λ entries. entries) m.past (m.node.journal ∷ []) ∙ ap (λ j. whole m.past ++ j) (append-nil m.node.journal)
+
+-- ---- tests
+
+same_test : (p q : Bool) → (p ≡ true → q ≡ true) → (q ≡ true → p ≡ true) → p ≡ q
+same_test true q there back = sym (there refl)
+same_test false true there back = back refl
+same_test false false there back = refl
+
+turned : (m n : ℕ) → (m == n) ≡ (n == m)
+turned m n = same_test (m == n) (n == m) (λ e. grind (arith, nat_tests)) (λ e. grind (arith, nat_tests))
+
+flows_turned : (flow : Flow) → flow_eq Zero flow ≡ flow_eq flow Zero
+flows_turned Zero = refl
+flows_turned One = refl
+flows_turned Broadcast = refl
+
+-- the messages that come to a stream of the contact (own, theirs): those of flow Zero
+abbrev pub come_to : ℕ → ℕ → List Message → ℕ → ℕ → Flow → List Message
+come_to own theirs messages own' theirs' flow = if flow_eq flow Zero && ((own' == own) && (theirs' == theirs)) then messages else []
+
+-- the test of a stream of the peer itself, in the order in which come_to asks
+order : (b c d : Bool) → (b && (c && d)) ≡ (d && (b && c))
+order true true true = refl
+order true true false = refl
+order true false true = refl
+order true false false = refl
+order false c true = refl
+order false c false = refl
+
+stream_test : (peer own theirs own' theirs' : ℕ) (flow : Flow) → stream_eq (stream_of peer own theirs Zero) (stream_of peer own' theirs' flow) ≡ (flow_eq flow Zero && ((own' == own) && (theirs' == theirs)))
+unfolding stream_eq
+stream_test peer own theirs own' theirs' flow =
+    ap (λ t. t && ((own == own') && ((theirs == theirs') && flow_eq Zero flow))) (same_word peer)
+    ∙ order (own == own') (theirs == theirs') (flow_eq Zero flow)
+    ∙ ap (λ t. t && ((own == own') && (theirs == theirs'))) (flows_turned flow)
+    ∙ ap (λ t. flow_eq flow Zero && (t && (theirs == theirs'))) (turned own own')
+    ∙ ap (λ t. flow_eq flow Zero && ((own' == own) && t)) (turned theirs theirs')
+
+-- ---- entries that concern a peer
+
+-- what is taken of a list is of those alone for which something is taken
+filter_map_filtered : {X Y : Type 0} (h : X → Option Y) (p : X → Bool) (xs : List X) → ((x : X) → p x ≡ false → h x ≡ None) → filter_map h (filter p xs) ≡ filter_map h xs
+filter_map_filtered h p [] none = refl
+filter_map_filtered {X} {Y} h p (x ∷ xs) none = case (filter_map_filtered h p xs none) (p x) refl
+  where
+    case : filter_map h (filter p xs) ≡ filter_map h xs → (b : Bool) → p x ≡ b → filter_map h (if b then x ∷ filter p xs else filter p xs) ≡ filter_map h (x ∷ xs)
+    case rest true is = ap (λ ys. cons_option (h x) ys) rest
+    case rest false is = rest ∙ ap (λ o. cons_option o (filter_map h xs)) (sym (none x is))
+
+other_peer : (word other : ℕ) (c d : ℕ × ℕ) (flow flow' : Flow) → (word == other) ≡ false
+    → stream_eq (record { peer = record { word = word }; contact = c; flow = flow }) (record { peer = record { word = other }; contact = d; flow = flow' }) ≡ false
+unfolding stream_eq
+other_peer word other c d flow flow' apart = ap (λ t. t && ((c.0 == d.0) && ((c.1 == d.1) && flow_eq flow flow'))) apart
+
+accepted_elsewhere : (b own theirs : ℕ) (flow : Flow) (e : Entry) → is_accepted_for b e ≡ false → accepted_message (stream_of b own theirs flow) e ≡ None
+accepted_elsewhere b own theirs flow (entry.Accepted peer numbers flow' message) apart =
+    ap (λ t. if t then Some message else None) (other_peer peer.word (node_word b) numbers (own, theirs) flow' flow apart)
+accepted_elsewhere b own theirs flow other apart = refl
+
+delivered_elsewhere : (b own theirs : ℕ) (flow : Flow) (e : Entry) → is_delivered_from b e ≡ false → delivered_message (stream_of b own theirs flow) e ≡ None
+delivered_elsewhere b own theirs flow (entry.Delivered peer numbers flow' message by) apart =
+    ap (λ t. if t then Some message else None) (other_peer peer.word (node_word b) numbers (own, theirs) flow' flow apart)
+delivered_elsewhere b own theirs flow other apart = refl
+
+accepted_here : (b own theirs : ℕ) (flow : Flow) (entries : List Entry) → accepted (filter (is_accepted_for b) entries) (stream_of b own theirs flow) ≡ accepted entries (stream_of b own theirs flow)
+unfolding accepted
+accepted_here b own theirs flow entries = filter_map_filtered (accepted_message (stream_of b own theirs flow)) (is_accepted_for b) entries (accepted_elsewhere b own theirs flow)
+
+delivered_here : (b own theirs : ℕ) (flow : Flow) (entries : List Entry) → delivered (filter (is_delivered_from b) entries) (stream_of b own theirs flow) ≡ delivered entries (stream_of b own theirs flow)
+unfolding delivered
+delivered_here b own theirs flow entries = filter_map_filtered (delivered_message (stream_of b own theirs flow)) (is_delivered_from b) entries (delivered_elsewhere b own theirs flow)
+
+-- ---- what a peer's entries hold
+
+come_more : (t : Bool) (m : Message) (ms : List Message) → cons_option (if t then Some m else None) (if t then ms else []) ≡ (if t then m ∷ ms else [])
+come_more true m ms = refl
+come_more false m ms = refl
+
+chosen : (t : Bool) (m : Message) → cons_option (if t then Some m else None) [] ≡ (if t then m ∷ [] else [])
+chosen true m = refl
+chosen false m = refl
+
+either_way : (t : Bool) (ms : List Message) → (if t then ms else ms) ≡ ms
+either_way true ms = refl
+either_way false ms = refl
+
+-- those of messages that were put on the link to a peer
+pub accepted_holds : (b : ℕ) (x : PairEnds) (ms : List Message) (own theirs : ℕ) (flow : Flow) → accepted (map (accepted_entry b x) ms) (stream_of b own theirs flow) ≡ come_to x.contact x.seen ms own theirs flow
+unfolding accepted
+accepted_holds b x [] own theirs flow = sym (either_way (flow_eq flow Zero && ((own == x.contact) && (theirs == x.seen))) [])
+accepted_holds b x (m ∷ ms) own theirs flow =
+    ap (λ xs. cons_option (accepted_message (stream_of b own theirs flow) (accepted_entry b x m)) xs) (accepted_holds b x ms own theirs flow)
+    ∙ ap (λ t. cons_option (if t then Some m else None) (come_to x.contact x.seen ms own theirs flow)) (stream_test b x.contact x.seen own theirs flow)
+    ∙ come_more (flow_eq flow Zero && ((own == x.contact) && (theirs == x.seen))) m ms
+
+-- the messages of what was given
+abbrev pub message_given : Opened → Option Message
+message_given (Whole packet by) = message_in packet
+message_given (Passed place) = None
+
+abbrev pub messages_given : List Opened → List Message
+messages_given [] = []
+messages_given (o ∷ os) = option_to_list (message_given o) ++ messages_given os
+
+come_front : (t : Bool) (o : Option Message) (ms : List Message) → (if t then option_to_list o else []) ++ (if t then ms else []) ≡ (if t then option_to_list o ++ ms else [])
+come_front true o ms = refl
+come_front false o ms = refl
+
+one_message : (b : ℕ) (x : PairEnds) (o : Option Message) (by : List ℕ) (own theirs : ℕ) (flow : Flow)
+    → filter_map (delivered_message (stream_of b own theirs flow)) (delivery_of b (shown_contact x) o by) ≡ come_to x.contact x.seen (option_to_list o) own theirs flow
+one_message b x (Some m) by own theirs flow =
+    ap (λ t. cons_option (if t then Some m else None) []) (stream_test b x.contact x.seen own theirs flow) ∙ chosen (flow_eq flow Zero && ((own == x.contact) && (theirs == x.seen))) m
+one_message b x None by own theirs flow = sym (either_way (flow_eq flow Zero && ((own == x.contact) && (theirs == x.seen))) [])
+
+one_given : (b : ℕ) (x : PairEnds) (o : Opened) (own theirs : ℕ) (flow : Flow)
+    → filter_map (delivered_message (stream_of b own theirs flow)) (delivered_of b (shown_contact x) o) ≡ come_to x.contact x.seen (option_to_list (message_given o)) own theirs flow
+one_given b x (Whole packet by) own theirs flow = one_message b x (message_in packet) by own theirs flow
+one_given b x (Passed place) own theirs flow = sym (either_way (flow_eq flow Zero && ((own == x.contact) && (theirs == x.seen))) [])
+
+all_given : (b : ℕ) (x : PairEnds) (opened : List Opened) (own theirs : ℕ) (flow : Flow)
+    → filter_map (delivered_message (stream_of b own theirs flow)) (flat_map (delivered_of b (shown_contact x)) opened) ≡ come_to x.contact x.seen (messages_given opened) own theirs flow
+all_given b x [] own theirs flow = sym (either_way (flow_eq flow Zero && ((own == x.contact) && (theirs == x.seen))) [])
+all_given b x (o ∷ os) own theirs flow =
+    let h = delivered_message (stream_of b own theirs flow) in
+    filter_map-append h (delivered_of b (shown_contact x) o) (flat_map (delivered_of b (shown_contact x)) os)
+    ∙ ap (λ xs. xs ++ filter_map h (flat_map (delivered_of b (shown_contact x)) os)) (one_given b x o own theirs flow)
+    ∙ ap (λ xs. come_to x.contact x.seen (option_to_list (message_given o)) own theirs flow ++ xs) (all_given b x os own theirs flow)
+    ∙ come_front (flow_eq flow Zero && ((own == x.contact) && (theirs == x.seen))) (message_given o) (messages_given os)
+
+-- those of what a peer gave
+pub given_holds : (b : ℕ) (x : PairEnds) (given : PairOutcome) (own theirs : ℕ) (flow : Flow)
+    → delivered (given_entries b x given) (stream_of b own theirs flow) ≡ come_to x.contact x.seen (messages_given (opened_in given)) own theirs flow
+unfolding delivered
+given_holds b x given own theirs flow = all_given b x (opened_in given) own theirs flow
+
+-- ---- a step
+
+-- what a step adds to the streams of a peer, where these entries of it are of the peer
+pub accepted_grows : (old new : List Entry) (s : NodeStep) (b : ℕ) (es : List Entry) (own theirs : ℕ) (flow : Flow) → new ≡ old ++ step_entries s → filter (is_accepted_for b) s.inside ≡ es
+    → accepted new (stream_of b own theirs flow) ≡ accepted old (stream_of b own theirs flow) ++ accepted es (stream_of b own theirs flow)
+accepted_grows old new s b es own theirs flow is of_peer =
+    let x = stream_of b own theirs flow in
+    ap (λ l. accepted l x) is ∙ accepted_step old s x ∙ ap (λ ms. accepted old x ++ ms) (sym (accepted_here b own theirs flow s.inside) ∙ ap (λ l. accepted l x) of_peer)
+
+pub delivered_grows : (old new : List Entry) (s : NodeStep) (b : ℕ) (es : List Entry) (own theirs : ℕ) (flow : Flow) → new ≡ old ++ step_entries s → filter (is_delivered_from b) s.inside ≡ es
+    → delivered new (stream_of b own theirs flow) ≡ delivered old (stream_of b own theirs flow) ++ delivered es (stream_of b own theirs flow)
+delivered_grows old new s b es own theirs flow is of_peer =
+    let x = stream_of b own theirs flow in
+    ap (λ l. delivered l x) is ∙ delivered_step old s x ∙ ap (λ ms. delivered old x ++ ms) (sym (delivered_here b own theirs flow s.inside) ∙ ap (λ l. delivered l x) of_peer)

@@ -1,0 +1,159 @@
+-- What a sound world says of the messages that were accepted and delivered, after each event.
+use Rattle.std.specs.Prelude.{is_some}
+use Rattle.std.proofs.Common.{◌≡◌, ◌≢◌, ◌⊎◌, ℕ, true, false, List, [], ◌++◌, Option, Some, None, inl, inr, slice_index_or, slice_set, refl, sym, ap, subst, ◌∙◌}
+use Rattle.std.proofs.lemmas.Bool.{cases_eq}
+use Rattle.tipc_types.specs.Address.{node_word}
+use Rattle.tipc_types.specs.declared.message_forms.Flow.{Flow}
+use Rattle.tipc_types.specs.declared.message_forms.Flow.TheVariants.{Zero}
+use Rattle.tipc_outside.specs.declared.outgoing.Outgoing.{Outgoing}
+use Rattle.tipc_journal.specs.Steps.{NodeStep, step_entries}
+use Rattle.tipc_journal.specs.Streams.{accepted, delivered}
+use Rattle.tipc_link.proofs.LinkLaw.{Each, Each-append}
+use Rattle.tipc_node.specs.declared.neighbours.Neighbour.{Neighbour}
+use Rattle.tipc_node.specs.Nodes.{neighbour_of}
+use Rattle.tipc_node.specs.Messages.{IsSendable}
+use Rattle.tipc_node.specs.Turns.{NodeTurn}
+use Rattle.tipc_replay.specs.Skies.{AirState}
+use Rattle.tipc_replay.specs.Sound.{IsNumber, IsSound}
+use Rattle.tipc_replay.specs.States.{MemberState, accepted_at, delivered_at, history, history_at, stream_of}
+use Rattle.tipc_replay.specs.Steps.{stage}
+use Rattle.tipc_replay.proofs.LookUps.{history_at-is, history_at-same, member_at-changed, member_at-is, member_at-other}
+use Rattle.tipc_replay.proofs.pairs.Standing.{acquainted, neighbour_apart}
+use Rattle.tipc_replay.proofs.streams.TurnStreams.{AreBrought, turn_accepts, turn_delivers}
+
+-- what a sound world says of messages
+pub record StreamsSound (members : List (Option MemberState)) : Type 0 where
+  pub one_flow : (a b own theirs : ℕ) (flow : Flow) → flow ≢ Zero → (accepted_at members a b own theirs flow ≡ []) × (delivered_at members a b own theirs flow ≡ [])
+  pub accepted : (a b own theirs : ℕ) → Each (IsSendable (node_word a)) (accepted_at members a b own theirs Zero)
+  pub delivered : (a b own theirs : ℕ) → Each (IsSendable (node_word b)) (delivered_at members a b own theirs Zero)
+  pub nothing : (a b own theirs : ℕ) → delivered_at members a b own theirs Zero ≢ [] → IsNumber a × IsNumber b × (a ≢ b)
+
+pub streams_of : (members : List (Option MemberState)) (air : AirState) → IsSound members air → StreamsSound members
+streams_of members air h = record { one_flow = h.one_flow; accepted = h.accepted; delivered = h.delivered; nothing = h.nothing }
+
+-- ---- the streams of the nodes
+
+pub accepted_by : (members members' : List (Option MemberState)) (n b own theirs : ℕ) (flow : Flow) → history_at members' n ≡ history_at members n → accepted_at members' n b own theirs flow ≡ accepted_at members n b own theirs flow
+unfolding accepted_at
+accepted_by members members' n b own theirs flow same = ap (λ es. accepted es (stream_of b own theirs flow)) same
+
+pub delivered_by : (members members' : List (Option MemberState)) (n b own theirs : ℕ) (flow : Flow) → history_at members' n ≡ history_at members n → delivered_at members' n b own theirs flow ≡ delivered_at members n b own theirs flow
+unfolding delivered_at
+delivered_by members members' n b own theirs flow same = ap (λ es. delivered es (stream_of b own theirs flow)) same
+
+-- those of a node with this history
+accepted_in : (members : List (Option MemberState)) (a b own theirs : ℕ) (flow : Flow) (m : MemberState) → history_at members a ≡ history m → accepted_at members a b own theirs flow ≡ accepted (history m) (stream_of b own theirs flow)
+unfolding accepted_at
+accepted_in members a b own theirs flow m is = ap (λ es. accepted es (stream_of b own theirs flow)) is
+
+delivered_in : (members : List (Option MemberState)) (a b own theirs : ℕ) (flow : Flow) (m : MemberState) → history_at members a ≡ history m → delivered_at members a b own theirs flow ≡ delivered (history m) (stream_of b own theirs flow)
+unfolding delivered_at
+delivered_in members a b own theirs flow m is = ap (λ es. delivered es (stream_of b own theirs flow)) is
+
+-- ---- one node changed
+
+-- the streams of the nodes, of which those of node a are these
+record Changed (members members' : List (Option MemberState)) (a : ℕ) (m m' : MemberState) : Type 0 where
+  others : (n : ℕ) → n ≢ a → history_at members' n ≡ history_at members n
+  was : history_at members a ≡ history m
+  is : history_at members' a ≡ history m'
+
+changed : (members members' : List (Option MemberState)) (a : ℕ) (m m' : MemberState) → slice_index_or members a None ≡ Some m → members' ≡ slice_set members a (Some m') → Changed members members' a m m'
+changed members members' a m m' was is = record {
+  others = λ n apart. subst (λ ms. history_at ms n ≡ history_at members n) (sym is) (history_at-same members (slice_set members a (Some m')) n (member_at-other members a n m' apart));
+  was = history_at-is members a m (member_at-is members a m was);
+  is = subst (λ ms. history_at ms a ≡ history m') (sym is) (history_at-is (slice_set members a (Some m')) a m' (member_at-changed members a m m' was));
+}
+
+-- what a sound world says of the messages of node n with node b in a contact
+record OneStream (members' : List (Option MemberState)) (n b own theirs : ℕ) : Type 0 where
+  one_flow : (flow : Flow) → flow ≢ Zero → (accepted_at members' n b own theirs flow ≡ []) × (delivered_at members' n b own theirs flow ≡ [])
+  accepted : Each (IsSendable (node_word n)) (accepted_at members' n b own theirs Zero)
+  delivered : Each (IsSendable (node_word b)) (delivered_at members' n b own theirs Zero)
+  nothing : delivered_at members' n b own theirs Zero ≢ [] → IsNumber n × IsNumber b × (n ≢ b)
+
+same_stream : (members members' : List (Option MemberState)) (n b own theirs : ℕ) → StreamsSound members → history_at members' n ≡ history_at members n → OneStream members' n b own theirs
+same_stream members members' n b own theirs h same = record {
+  one_flow = λ flow other. (
+    accepted_by members members' n b own theirs flow same ∙ (h.one_flow n b own theirs flow other).0,
+    delivered_by members members' n b own theirs flow same ∙ (h.one_flow n b own theirs flow other).1,
+  );
+  accepted = subst (Each (IsSendable (node_word n))) (sym (accepted_by members members' n b own theirs Zero same)) (h.accepted n b own theirs);
+  delivered = subst (Each (IsSendable (node_word b))) (sym (delivered_by members members' n b own theirs Zero same)) (h.delivered n b own theirs);
+  nothing = λ some. h.nothing n b own theirs (λ none. some (delivered_by members members' n b own theirs Zero same ∙ none));
+}
+
+streams_from : (members' : List (Option MemberState)) → ((n b own theirs : ℕ) → OneStream members' n b own theirs) → StreamsSound members'
+streams_from members' each = record {
+  one_flow = λ n b own theirs flow other. (each n b own theirs).one_flow flow other;
+  accepted = λ n b own theirs. (each n b own theirs).accepted;
+  delivered = λ n b own theirs. (each n b own theirs).delivered;
+  nothing = λ n b own theirs some. (each n b own theirs).nothing some;
+}
+
+-- where node a alone changed
+all_streams : (members members' : List (Option MemberState)) (a : ℕ) (m m' : MemberState) → StreamsSound members → Changed members members' a m m' → ((b own theirs : ℕ) → OneStream members' a b own theirs) → StreamsSound members'
+all_streams members members' a m m' h c here = streams_from members' (λ n b own theirs. elim (cases_eq n a) [
+  | inl same ↦ subst (λ k. OneStream members' k b own theirs) (sym same) (here b own theirs)
+  | inr other ↦ same_stream members members' n b own theirs h (c.others n other)
+])
+
+-- nothing was accepted or delivered
+pub streams_same : (members members' : List (Option MemberState)) (a : ℕ) (m m' : MemberState) → StreamsSound members → slice_index_or members a None ≡ Some m → members' ≡ slice_set members a (Some m')
+    → history m' ≡ history m → StreamsSound members'
+streams_same members members' a m m' h was is same =
+    let c = changed members members' a m m' was is in
+    all_streams members members' a m m' h c (λ b own theirs. same_stream members members' a b own theirs h (c.is ∙ same ∙ sym c.was))
+
+-- ---- a turn
+
+-- a neighbour of a node of a sound world is another node, and has a number
+neighbour_number : (members : List (Option MemberState)) (air : AirState) (a b : ℕ) (m : MemberState) → IsSound members air → slice_index_or members a None ≡ Some m → is_some (neighbour_of m.node b) ≡ true → IsNumber b × (a ≢ b)
+neighbour_number members air a b m sound was there = case (neighbour_of m.node b) refl
+  where
+    case : (o : Option Neighbour) → neighbour_of m.node b ≡ o → IsNumber b × (a ≢ b)
+    case None alone = absurd (let wrong : true ≡ false = sym there ∙ ap is_some alone in cc)
+    case (Some x) is =
+        let other = neighbour_apart (stage members air) a m (acquainted members air a m sound was) (member_at-is members a m was) b x is in
+        (other.0, λ same. other.1 (sym same))
+
+gained : {A : Type 0} (old new more : List A) → new ≡ old ++ more → old ≡ [] → more ≡ [] → new ≡ []
+gained old new more is none nothing = is ∙ ap (λ xs. xs ++ more) none ∙ nothing
+
+-- a stream of the node that took the turn
+turned_stream : (members members' : List (Option MemberState)) (air : AirState) (a : ℕ) (m m' : MemberState) (bytes : List ℕ) (s : NodeStep) (frames : List Outgoing) (b own theirs : ℕ) → IsSound members air → slice_index_or members a None ≡ Some m
+    → Changed members members' a m m' → history m' ≡ history m ++ step_entries s → (t : NodeTurn m.node m'.node bytes s frames) → AreBrought m.node m'.node bytes s frames t → OneStream members' a b own theirs
+turned_stream members members' air a m m' bytes s frames b own theirs sound was c longer t brings =
+    let h = streams_of members air sound in
+    let old_accepted : (flow : Flow) → accepted (history m) (stream_of b own theirs flow) ≡ accepted_at members a b own theirs flow = λ flow. sym (accepted_in members a b own theirs flow m c.was) in
+    let old_delivered : (flow : Flow) → delivered (history m) (stream_of b own theirs flow) ≡ delivered_at members a b own theirs flow = λ flow. sym (delivered_in members a b own theirs flow m c.was) in
+    let new_accepted = λ (flow : Flow). accepted_in members' a b own theirs flow m' c.is in
+    let new_delivered = λ (flow : Flow). delivered_in members' a b own theirs flow m' c.is in
+    let accepts = λ (flow : Flow). turn_accepts (history m) (history m') m.node m'.node bytes s frames b own theirs flow t longer in
+    let delivers = λ (flow : Flow). turn_delivers (history m) (history m') m.node m'.node bytes s frames b own theirs flow t brings longer in
+    let named = (sound.numbered a m was).1 in
+    let has : Each (IsSendable m.node.own) (accepted (history m) (stream_of b own theirs Zero)) = subst (λ k. Each (IsSendable k) (accepted (history m) (stream_of b own theirs Zero))) (sym named) (subst (Each (IsSendable (node_word a))) (sym (old_accepted Zero)) (h.accepted a b own theirs)) in
+    record {
+      one_flow = λ flow other. (
+        new_accepted flow ∙ gained _ _ (accepts flow).more (accepts flow).is (old_accepted flow ∙ (h.one_flow a b own theirs flow other).0) ((accepts flow).zero other),
+        new_delivered flow ∙ gained _ _ (delivers flow).more (delivers flow).is (old_delivered flow ∙ (h.one_flow a b own theirs flow other).1) ((delivers flow).zero other),
+      );
+      accepted = subst (Each (IsSendable (node_word a))) (sym (new_accepted Zero)) (subst (λ k. Each (IsSendable k) (accepted (history m') (stream_of b own theirs Zero))) named
+          (subst (Each (IsSendable m.node.own)) (sym (accepts Zero).is) (Each-append (IsSendable m.node.own) (accepted (history m) (stream_of b own theirs Zero)) (accepts Zero).more has (accepts Zero).all)));
+      delivered = subst (Each (IsSendable (node_word b))) (sym (new_delivered Zero ∙ (delivers Zero).is))
+          (Each-append (IsSendable (node_word b)) (delivered (history m) (stream_of b own theirs Zero)) (delivers Zero).more (subst (Each (IsSendable (node_word b))) (sym (old_delivered Zero)) (h.delivered a b own theirs)) (delivers Zero).all);
+      nothing = λ some. by (delivers Zero).known some;
+    }
+  where
+    by : ((turn_delivers (history m) (history m') m.node m'.node bytes s frames b own theirs Zero t brings longer).more ≡ []) ⊎ (is_some (neighbour_of m.node b) ≡ true) → delivered_at members' a b own theirs Zero ≢ [] → IsNumber a × IsNumber b × (a ≢ b)
+    by (inl none) some =
+        let d = turn_delivers (history m) (history m') m.node m'.node bytes s frames b own theirs Zero t brings longer in
+        sound.nothing a b own theirs (λ nothing. some (delivered_in members' a b own theirs Zero m' c.is ∙ gained _ _ d.more d.is (sym (delivered_in members a b own theirs Zero m c.was) ∙ nothing) none))
+    by (inr there) some = let peer = neighbour_number members air a b m sound was there in ((sound.numbered a m was).0, peer.0, peer.1)
+
+-- node a took a turn, in which what it was given is messages
+pub turn_streams : (members members' : List (Option MemberState)) (air : AirState) (a : ℕ) (m m' : MemberState) (bytes : List ℕ) (s : NodeStep) (frames : List Outgoing) → IsSound members air → slice_index_or members a None ≡ Some m
+    → members' ≡ slice_set members a (Some m') → history m' ≡ history m ++ step_entries s → (t : NodeTurn m.node m'.node bytes s frames) → AreBrought m.node m'.node bytes s frames t → StreamsSound members'
+turn_streams members members' air a m m' bytes s frames sound was is longer t brings =
+    let c = changed members members' a m m' was is in
+    all_streams members members' a m m' (streams_of members air sound) c (λ b own theirs. turned_stream members members' air a m m' bytes s frames b own theirs sound was c longer t brings)

@@ -1,0 +1,246 @@
+-- What a turn of a node adds to what it ever accepted for each peer and delivered from it.
+use Rattle.std.specs.Prelude.{All, is_some, option_to_list}
+use Rattle.std.proofs.Common.{◌≡◌, ◌≢◌, ◌⊎◌, ◌==◌, ◌&&◌, ℕ, suc, Bool, true, false, if◌then◌else◌, List, [], ◌∷◌, ◌++◌, Option, Some, None, inl, inr, map, option_map, slice_get, refl, sym, ap, subst, ◌∙◌, append-nil, eqb-true, arith}
+use Rattle.std.proofs.Math.Path.{fun_ext}
+use Rattle.std.proofs.lemmas.Bool.{cases_Bool}
+use Rattle.std.proofs.lemmas.List.{map-append}
+use Rattle.std.proofs.lemmas.List.Elements.{All-head, All-tail}
+use Rattle.std.proofs.lemmas.Option.{slice_get-map}
+use Rattle.tipc_types.specs.Address.{node_word}
+use Rattle.tipc_types.specs.declared.identity.Addr.{Addr}
+use Rattle.tipc_types.specs.declared.message_forms.Flow.{Flow}
+use Rattle.tipc_types.specs.declared.message_forms.Flow.TheVariants.{Zero}
+use Rattle.tipc_types.specs.declared.message_forms.Message.{Message}
+use Rattle.tipc_outside.specs.declared.outgoing.Outgoing.{Outgoing}
+use Rattle.tipc_header.specs.Reading.{fields_at}
+use Rattle.tipc_header.specs.Spelling.{spelling}
+use Rattle.tipc_header.proofs.Again.{again}
+use Rattle.tipc_message.specs.Wire.{message_of}
+use Rattle.tipc_journal.specs.declared.entries.Entry.{Entry}
+use Rattle.tipc_journal.specs.declared.entries.Entry.TheVariants as entry
+use Rattle.tipc_journal.specs.Steps.{NodeStep, step_entries}
+use Rattle.tipc_journal.specs.Streams.{accepted, delivered, flow_eq}
+use Rattle.tipc_journal.proofs.StreamLaws.{accepted_nil, delivered_nil, flow_eq_true}
+use Rattle.tipc_reassembly.specs.declared.opening.Opened.{Opened}
+use Rattle.tipc_reassembly.specs.declared.opening.Opened.TheVariants.{Whole, Passed}
+use Rattle.tipc_reassembly.specs.Slots.{IsWholePacket, packets_in}
+use Rattle.tipc_link.proofs.LinkLaw.{Each, Each-append, Each-none, Each-one}
+use Rattle.tipc_pair.specs.Facing.{PairEnds}
+use Rattle.tipc_pair.specs.PairTurns.{Outset}
+use Rattle.tipc_pair.specs.Messages.{opened_in}
+use Rattle.tipc_two_nodes.specs.Sights.{StaysIn}
+use Rattle.tipc_node.specs.declared.neighbours.Neighbour.{Neighbour}
+use Rattle.tipc_node.specs.Nodes.{NodeState, accepted_entry, neighbour_of}
+use Rattle.tipc_node.specs.Messages.{IsSendable, bytes_of, message_in}
+use Rattle.tipc_node.specs.Turns.{IsOfNeighbour, IsPlaced, NodeTurn, PeerTurn, given_entries, is_accepted_for, is_delivered_from}
+use Rattle.tipc_node.proofs.Filters.{filter-none}
+use Rattle.tipc_pair.proofs.turns.PairPuts.{MeetsAs, puts_meet, replied_meets}
+use Rattle.tipc_replay.specs.States.{stream_of}
+use Rattle.tipc_replay.specs.Views.{given_in, put_in}
+use Rattle.tipc_replay.proofs.streams.Histories.{accepted_grows, accepted_holds, come_to, delivered_grows, given_holds, messages_given}
+use Rattle.tipc_replay.proofs.LookUps.{either_way}
+use Rattle.tipc_replay.proofs.frames.Messages.{bytes_are}
+
+-- ---- the messages of packets
+
+-- a packet is that of a message which the node of this address word can send
+abbrev pub IsOfMessage : ℕ → List ℕ → Type 0
+IsOfMessage word packet = (m : Message) × IsSendable word m × (bytes_of word m ≡ packet)
+
+-- each packet that was put is
+pub put_message : (word : ℕ) (ms : List Message) (k : ℕ) (packet : List ℕ) → Each (IsSendable word) ms → slice_get (map (bytes_of word) ms) k ≡ Some packet → IsOfMessage word packet
+put_message word ms k packet h there = case (slice_get ms k) refl
+  where
+    case : (o : Option Message) → slice_get ms k ≡ o → IsOfMessage word packet
+    case None none = let is : option_map (bytes_of word) None ≡ Some packet = ap (option_map (bytes_of word)) (sym none) ∙ sym (slice_get-map (bytes_of word) ms k) ∙ there in absurd cc
+    case (Some m) some = let is : Some (bytes_of word m) ≡ Some packet = ap (option_map (bytes_of word)) (sym some) ∙ sym (slice_get-map (bytes_of word) ms k) ∙ there in
+        (m, h k m some, cc)
+
+-- What was given is whole packets of messages that the node of this address word can send; it was given in the contact in which the pair was
+-- before, and is.
+pub record Brings (word : ℕ) (x : PairEnds) (o : Outset) : Type 0 where
+  pub whole : All IsWholePacket (opened_in o.given)
+  pub known : Each (IsOfMessage word) (packets_in (opened_in o.given))
+  pub contact : (opened_in o.given ≡ []) ⊎ StaysIn x o.course.pair
+
+-- and so is all that was given in a turn
+abbrev pub AreBrought : (n n' : NodeState) (bytes : List ℕ) (s : NodeStep) (frames : List Outgoing) → NodeTurn n n' bytes s frames → Type 0
+AreBrought n n' bytes s frames t = (b : ℕ) (x : Neighbour) (is : neighbour_of n b ≡ Some x) → Brings (node_word b) x.pair (t.turns b x is).turn.turn.first
+
+-- the messages of whole packets
+record AreGiven (word : ℕ) (opened : List Opened) : Type 0 where
+  sendable : Each (IsSendable word) (messages_given opened)
+  packets : map (bytes_of word) (messages_given opened) ≡ packets_in opened
+
+pub message_is_in : (word : ℕ) (m : Message) (packet : List ℕ) → IsSendable word m → bytes_of word m ≡ packet → message_in packet ≡ Some m
+message_is_in word m packet h is =
+    let bytes : packet ≡ spelling h.packet = sym is ∙ bytes_are word m h.packet h.packet_is in
+    ap (λ (b : List ℕ). message_of (fields_at b)) bytes ∙ ap message_of (again h.packet h.fits) ∙ h.read
+
+one_more : (word : ℕ) (m : Message) (ms : List Message) → IsSendable word m → Each (IsSendable word) ms → Each (IsSendable word) (m ∷ ms)
+one_more word m ms h hs = Each-append (IsSendable word) (m ∷ []) ms (Each-one (IsSendable word) m h) hs
+
+given_messages : (word : ℕ) (opened : List Opened) → All IsWholePacket opened → Each (IsOfMessage word) (packets_in opened) → AreGiven word opened
+given_messages word [] whole known = record { sendable = Each-none (IsSendable word); packets = refl }
+given_messages word (Whole packet by ∷ os) whole known =
+    let first = known 0 packet refl in
+    let rest = given_messages word os (All-tail IsWholePacket (Whole packet by) os whole) (λ k p is. known (suc k) p is) in
+    let here : messages_given (Whole packet by ∷ os) ≡ first.0 ∷ messages_given os = ap (λ o. option_to_list o ++ messages_given os) (message_is_in word first.0 packet first.1 first.2) in
+    record {
+      sendable = subst (Each (IsSendable word)) (sym here) (one_more word first.0 (messages_given os) first.1 rest.sendable);
+      packets = ap (map (bytes_of word)) here ∙ ap (λ ps. bytes_of word first.0 ∷ ps) rest.packets ∙ ap (λ p. p ∷ packets_in os) first.2;
+    }
+given_messages word (Passed place ∷ os) whole known = absurd (All-head IsWholePacket (Passed place) os whole)
+
+-- ---- what concerns no neighbour
+
+-- a peer of which an entry tells is the neighbour of that number
+no_neighbour : (n : NodeState) (b : ℕ) (peer : Addr) → neighbour_of n b ≡ None → IsOfNeighbour n peer → (peer.word == node_word b) ≡ false
+no_neighbour n b peer alone h = elim (cases_Bool (peer.word == node_word b)) [
+  | inl is ↦
+      let words : node_word h.0 ≡ node_word b = ap (λ (a : Addr). a.word) (sym h.2) ∙ eqb-true peer.word (node_word b) is in
+      let same : h.0 ≡ b = omega (arith, words) in
+      let none : is_some (neighbour_of n h.0) ≡ false = ap (λ k. is_some (neighbour_of n k)) same ∙ ap is_some alone in
+      absurd (let there = h.1 in let wrong : true ≡ false = sym there ∙ none in cc)
+  | inr other ↦ other
+]
+
+never_accepted : (n : NodeState) (b : ℕ) → neighbour_of n b ≡ None → (e : Entry) → IsPlaced n e → is_accepted_for b e ≡ false
+never_accepted n b alone (entry.Accepted peer numbers flow message) h = no_neighbour n b peer alone h
+never_accepted n b alone other h = refl
+
+never_delivered : (n : NodeState) (b : ℕ) → neighbour_of n b ≡ None → (e : Entry) → IsPlaced n e → is_delivered_from b e ≡ false
+never_delivered n b alone (entry.Delivered peer numbers flow message by) h = no_neighbour n b peer alone h
+never_delivered n b alone other h = refl
+
+-- ---- the packets
+
+-- packets were put, by the node of this address word, and given in the contact whose numbers a pair has
+pub record Recorded (word : ℕ) (old new : List Entry) (b : ℕ) (x : PairEnds) (put given : List (List ℕ)) : Type 0 where
+  pub put_is : (own theirs : ℕ) → put_in word new b own theirs ≡ put_in word old b own theirs ++ (if (own == x.contact) && (theirs == x.seen) then put else [])
+  pub given_is : (own theirs : ℕ) → given_in new b own theirs ≡ given_in old b own theirs ++ (if (own == x.contact) && (theirs == x.seen) then given else [])
+
+chosen_packets : (word : ℕ) (t : Bool) (ms : List Message) → map (bytes_of word) (if t then ms else []) ≡ (if t then map (bytes_of word) ms else [])
+chosen_packets word true ms = refl
+chosen_packets word false ms = refl
+
+more_packets : (word : ℕ) (old new ms : List Message) (c seen own theirs : ℕ) (x : PairEnds) → x.contact ≡ c → x.seen ≡ seen → new ≡ old ++ come_to c seen ms own theirs Zero
+    → map (bytes_of word) new ≡ map (bytes_of word) old ++ (if (own == x.contact) && (theirs == x.seen) then map (bytes_of word) ms else [])
+more_packets word old new ms c seen own theirs x c_is seen_is grew =
+    ap (map (bytes_of word)) grew ∙ map-append (bytes_of word) old (come_to c seen ms own theirs Zero)
+    ∙ ap (λ ps. map (bytes_of word) old ++ ps) (chosen_packets word ((own == c) && (theirs == seen)) ms)
+    ∙ ap (λ k. map (bytes_of word) old ++ (if (own == k) && (theirs == seen) then map (bytes_of word) ms else [])) (sym c_is)
+    ∙ ap (λ k. map (bytes_of word) old ++ (if (own == x.contact) && (theirs == k) then map (bytes_of word) ms else [])) (sym seen_is)
+
+none_come : (own theirs own' theirs' : ℕ) → come_to own theirs [] own' theirs' Zero ≡ []
+none_come own theirs own' theirs' = either_way ((own' == own) && (theirs' == theirs)) []
+
+-- the turn at a neighbour: its messages were put, and what it was given is the packets of messages
+pub turn_records : (old new : List Entry) (own : ℕ) (bytes : List ℕ) (s : NodeStep) (frames : List Outgoing) (b : ℕ) (x x' : PairEnds) (t : PeerTurn own bytes s frames b x x') → new ≡ old ++ step_entries s
+    → Brings (node_word b) x t.turn.first → Recorded own old new b x' (map (bytes_of own) t.messages) (packets_in (opened_in t.turn.first.given))
+turn_records old new own bytes s frames b x x' t is brings =
+    let y = t.turn.first.course.pair in
+    let last : MeetsAs t.turn.put x' = subst (MeetsAs t.turn.put) (sym t.turn.after) (replied_meets t.reply t.turn.put) in
+    let put = puts_meet y (map (bytes_of own) t.messages) t.turn.put_frames t.turn.put t.turn.puts in
+    let opened = opened_in t.turn.first.given in
+    let given = given_messages (node_word b) opened brings.whole brings.known in
+    let came : (c seen : ℕ) → delivered new (stream_of b c seen Zero) ≡ delivered old (stream_of b c seen Zero) ++ come_to x.contact x.seen (messages_given opened) c seen Zero =
+    λ c seen. delivered_grows old new s b (given_entries b x t.turn.first.given) c seen Zero is t.delivered ∙ ap (λ ms. delivered old (stream_of b c seen Zero) ++ ms) (given_holds b x t.turn.first.given c seen Zero) in
+    record {
+      put_is = λ c seen. more_packets own (accepted old (stream_of b c seen Zero)) (accepted new (stream_of b c seen Zero)) t.messages t.turn.put.contact t.turn.put.seen c seen x' last.contact last.seen
+          (accepted_grows old new s b (map (accepted_entry b t.turn.put) t.messages) c seen Zero is t.accepted ∙ ap (λ ms. accepted old (stream_of b c seen Zero) ++ ms) (accepted_holds b t.turn.put t.messages c seen Zero));
+      given_is = λ c seen. elim brings.contact [
+        | inl none ↦
+            let nobody : messages_given opened ≡ [] = ap messages_given none in
+            ap (map (bytes_of (node_word b))) (came c seen ∙ ap (λ ms. delivered old (stream_of b c seen Zero) ++ come_to x.contact x.seen ms c seen Zero) nobody
+            ∙ ap (λ ms. delivered old (stream_of b c seen Zero) ++ ms) (none_come x.contact x.seen c seen) ∙ append-nil (delivered old (stream_of b c seen Zero)))
+            ∙ sym (ap (λ os. given_in old b c seen ++ (if (c == x'.contact) && (seen == x'.seen) then packets_in os else [])) none
+            ∙ ap (λ ps. given_in old b c seen ++ ps) (either_way ((c == x'.contact) && (seen == x'.seen)) []) ∙ append-nil (given_in old b c seen))
+        | inr stays ↦
+            more_packets (node_word b) (delivered old (stream_of b c seen Zero)) (delivered new (stream_of b c seen Zero)) (messages_given opened) x.contact x.seen c seen x' (last.contact ∙ (put.contact ∙ stays.contact)) (last.seen ∙ (put.seen ∙ stays.seen)) (came c seen)
+            ∙ ap (λ ps. given_in old b c seen ++ (if (c == x'.contact) && (seen == x'.seen) then ps else [])) given.packets
+      ];
+    }
+
+-- to the streams of another node nothing is added
+pub record Untold (word : ℕ) (old new : List Entry) (b : ℕ) : Type 0 where
+  pub put_same : put_in word new b ≡ put_in word old b
+  pub given_same : given_in new b ≡ given_in old b
+
+accepted_none : (old new : List Entry) (n : NodeState) (s : NodeStep) (b own theirs : ℕ) (flow : Flow) → neighbour_of n b ≡ None → All (IsPlaced n) s.inside → new ≡ old ++ step_entries s
+    → accepted new (stream_of b own theirs flow) ≡ accepted old (stream_of b own theirs flow)
+accepted_none old new n s b own theirs flow alone placed is =
+    accepted_grows old new s b [] own theirs flow is (filter-none (is_accepted_for b) s.inside (IsPlaced n) (never_accepted n b alone) placed)
+    ∙ ap (λ ms. accepted old (stream_of b own theirs flow) ++ ms) (accepted_nil (stream_of b own theirs flow)) ∙ append-nil (accepted old (stream_of b own theirs flow))
+
+delivered_none : (old new : List Entry) (n : NodeState) (s : NodeStep) (b own theirs : ℕ) (flow : Flow) → neighbour_of n b ≡ None → All (IsPlaced n) s.inside → new ≡ old ++ step_entries s
+    → delivered new (stream_of b own theirs flow) ≡ delivered old (stream_of b own theirs flow)
+delivered_none old new n s b own theirs flow alone placed is =
+    delivered_grows old new s b [] own theirs flow is (filter-none (is_delivered_from b) s.inside (IsPlaced n) (never_delivered n b alone) placed)
+    ∙ ap (λ ms. delivered old (stream_of b own theirs flow) ++ ms) (delivered_nil (stream_of b own theirs flow)) ∙ append-nil (delivered old (stream_of b own theirs flow))
+
+pub turn_untold : (old new : List Entry) (n : NodeState) (s : NodeStep) (b : ℕ) → neighbour_of n b ≡ None → All (IsPlaced n) s.inside → new ≡ old ++ step_entries s → Untold n.own old new b
+turn_untold old new n s b alone placed is = record {
+  put_same = fun_ext (λ own. fun_ext (λ theirs. ap (map (bytes_of n.own)) (accepted_none old new n s b own theirs Zero alone placed is)));
+  given_same = fun_ext (λ own. fun_ext (λ theirs. ap (map (bytes_of (node_word b))) (delivered_none old new n s b own theirs Zero alone placed is)));
+}
+
+-- ---- the messages
+
+-- What came to a stream of the node with number b: nothing in another flow than Zero, and nothing where b is no neighbour.
+pub record Gains (n : NodeState) (b : ℕ) (flow : Flow) (P : Message → Type 0) (old new : List Message) : Type 0 where
+  pub more : List Message
+  pub is : new ≡ old ++ more
+  pub all : Each P more
+  pub zero : flow ≢ Zero → more ≡ []
+  pub known : (more ≡ []) ⊎ (is_some (neighbour_of n b) ≡ true)
+
+no_gain : (n : NodeState) (b : ℕ) (flow : Flow) (P : Message → Type 0) (old new : List Message) → new ≡ old → Gains n b flow P old new
+no_gain n b flow P old new same = record { more = []; is = same ∙ sym (append-nil old); all = Each-none P; zero = λ other. refl; known = inl refl }
+
+each_chosen : (P : Message → Type 0) (t : Bool) (ms : List Message) → Each P ms → Each P (if t then ms else [])
+each_chosen P true ms h = h
+each_chosen P false ms h = Each-none P
+
+other_flow : (flow : Flow) (t : Bool) (ms : List Message) → flow ≢ Zero → (if flow_eq flow Zero && t then ms else []) ≡ []
+other_flow flow t ms other = elim (cases_Bool (flow_eq flow Zero)) [
+  | inl is ↦ absurd (other (flow_eq_true flow Zero is))
+  | inr is ↦ ap (λ b. if b && t then ms else []) is
+]
+
+gain : (n : NodeState) (b : ℕ) (x : Neighbour) (flow : Flow) (P : Message → Type 0) (old new ms : List Message) (c seen own theirs : ℕ) → neighbour_of n b ≡ Some x → Each P ms → new ≡ old ++ come_to c seen ms own theirs flow → Gains n b flow P old new
+gain n b x flow P old new ms c seen own theirs there all is = record {
+  more = come_to c seen ms own theirs flow;
+  is = is;
+  all = each_chosen P (flow_eq flow Zero && ((own == c) && (theirs == seen))) ms all;
+  zero = λ other. other_flow flow ((own == c) && (theirs == seen)) ms other;
+  known = inr (ap is_some there);
+}
+
+each_sendable : (own : ℕ) (ms : List Message) → All (IsSendable own) ms → Each (IsSendable own) ms
+each_sendable own [] h = Each-none (IsSendable own)
+each_sendable own (m ∷ ms) h = one_more own m ms (All-head (IsSendable own) m ms h) (each_sendable own ms (All-tail (IsSendable own) m ms h))
+
+pub turn_accepts : (old new : List Entry) (n n' : NodeState) (bytes : List ℕ) (s : NodeStep) (frames : List Outgoing) (b own theirs : ℕ) (flow : Flow) → NodeTurn n n' bytes s frames → new ≡ old ++ step_entries s
+    → Gains n b flow (IsSendable n.own) (accepted old (stream_of b own theirs flow)) (accepted new (stream_of b own theirs flow))
+turn_accepts old new n n' bytes s frames b own theirs flow t is = case (neighbour_of n b) refl
+  where
+    case : (o : Option Neighbour) → neighbour_of n b ≡ o → Gains n b flow (IsSendable n.own) (accepted old (stream_of b own theirs flow)) (accepted new (stream_of b own theirs flow))
+    case None alone = no_gain n b flow (IsSendable n.own) (accepted old (stream_of b own theirs flow)) (accepted new (stream_of b own theirs flow)) (accepted_none old new n s b own theirs flow alone t.placed is)
+    case (Some x) there =
+        let p = (t.turns b x there).turn in
+        gain n b x flow (IsSendable n.own) (accepted old (stream_of b own theirs flow)) (accepted new (stream_of b own theirs flow)) p.messages p.turn.put.contact p.turn.put.seen own theirs there (each_sendable n.own p.messages p.sendable)
+        (accepted_grows old new s b (map (accepted_entry b p.turn.put) p.messages) own theirs flow is p.accepted ∙ ap (λ ms. accepted old (stream_of b own theirs flow) ++ ms) (accepted_holds b p.turn.put p.messages own theirs flow))
+
+pub turn_delivers : (old new : List Entry) (n n' : NodeState) (bytes : List ℕ) (s : NodeStep) (frames : List Outgoing) (b own theirs : ℕ) (flow : Flow) (t : NodeTurn n n' bytes s frames) → AreBrought n n' bytes s frames t → new ≡ old ++ step_entries s
+    → Gains n b flow (IsSendable (node_word b)) (delivered old (stream_of b own theirs flow)) (delivered new (stream_of b own theirs flow))
+turn_delivers old new n n' bytes s frames b own theirs flow t brings is = case (neighbour_of n b) refl
+  where
+    case : (o : Option Neighbour) → neighbour_of n b ≡ o → Gains n b flow (IsSendable (node_word b)) (delivered old (stream_of b own theirs flow)) (delivered new (stream_of b own theirs flow))
+    case None alone = no_gain n b flow (IsSendable (node_word b)) (delivered old (stream_of b own theirs flow)) (delivered new (stream_of b own theirs flow)) (delivered_none old new n s b own theirs flow alone t.placed is)
+    case (Some x) there =
+        let p = (t.turns b x there).turn in
+        let given = brings b x there in
+        gain n b x flow (IsSendable (node_word b)) (delivered old (stream_of b own theirs flow)) (delivered new (stream_of b own theirs flow)) (messages_given (opened_in p.turn.first.given)) x.pair.contact x.pair.seen own theirs there
+        (given_messages (node_word b) (opened_in p.turn.first.given) given.whole given.known).sendable
+        (delivered_grows old new s b (given_entries b x.pair p.turn.first.given) own theirs flow is p.delivered ∙ ap (λ ms. delivered old (stream_of b own theirs flow) ++ ms) (given_holds b x.pair p.turn.first.given own theirs flow))

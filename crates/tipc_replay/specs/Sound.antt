@@ -1,0 +1,60 @@
+-- What every world keeps: how its links, journals and frames hang together.
+use Rattle.std.specs.Prelude.{◌≡◌, ◌≢◌, ◌≤◌, ℕ, true, List, [], Option, Some, None, length, slice_get, slice_index_or}
+use Rattle.tipc_types.specs.Address.{node_word}
+use Rattle.tipc_types.specs.declared.message_forms.Flow.{Flow}
+use Rattle.tipc_types.specs.declared.message_forms.Flow.TheVariants.{Zero}
+use Rattle.tipc_types.specs.declared.message_forms.Message.{Message}
+use Rattle.tipc_pair.specs.Facing.{PairEnds}
+use Rattle.tipc_two_nodes.specs.Sights.{AreSeen}
+use Rattle.tipc_replay.specs.declared.air.Sent.{Sent}
+use Rattle.tipc_node.specs.Messages.{IsSendable}
+use Rattle.tipc_node.specs.Nodes.{is_frame_size}
+use Rattle.tipc_node.specs.Turns.{is_to}
+use Rattle.tipc_replay.specs.Skies.{AirState, air_on}
+use Rattle.tipc_replay.specs.States.{MemberState, accepted_at, delivered_at, pair_at}
+use Rattle.tipc_replay.specs.Views.{sight_at}
+
+-- the numbers of nodes are from 1 to 32
+abbrev pub IsNumber : ℕ → Type 0
+IsNumber n = (1 ≤ n) × (n ≤ 32)
+
+-- a frame in the air goes from one node to another, and has a frame's size
+pub record IsAirborne (f : Sent) : Type 0 where
+  pub from : ℕ
+  pub receiver : ℕ
+  pub from_number : IsNumber from
+  pub receiver_number : IsNumber receiver
+  pub apart : from ≢ receiver
+  pub from_is : f.from.word ≡ node_word from
+  pub to_is : is_to receiver f.to ≡ true
+  pub size : is_frame_size (length f.frame) ≡ true
+
+-- a pair of node a with node b, seen from bearer 0's link
+pub record IsPairOf (a b : ℕ) (x : PairEnds) : Type 0 where
+  pub own : x.own ≡ node_word a
+  pub peer : x.peer ≡ node_word b
+  pub first : x.bearer ≡ 0
+
+-- What every world keeps of its nodes, of each two of them, and of the frames in its air.
+pub record IsSound (members : List (Option MemberState)) (air : AirState) : Type 0 where
+  -- a node has a number, and its address is that of its number
+  pub numbered : (n : ℕ) (m : MemberState) → slice_index_or members n None ≡ Some m
+      → IsNumber n × (m.node.own ≡ node_word n)
+  -- a node knows other nodes that are there
+  pub apart : (a : ℕ) → pair_at members a a ≡ None
+  pub known : (a b : ℕ) → (IsNumber b → slice_index_or members b None ≡ None) → pair_at members a b ≡ None
+  pub between : (a b : ℕ) (x : PairEnds) → pair_at members a b ≡ Some x → IsPairOf a b x
+  -- each two nodes are talking
+  pub pairs : (a b : ℕ) → IsNumber a → IsNumber b → a ≢ b
+      → AreSeen (sight_at members air a b) (sight_at members air b a)
+  -- messages are accepted and delivered in flow Zero alone; the node that accepted each can send it
+  pub one_flow : (a b own theirs : ℕ) (flow : Flow) → flow ≢ Zero
+      → (accepted_at members a b own theirs flow ≡ []) × (delivered_at members a b own theirs flow ≡ [])
+  pub accepted : (a b own theirs k : ℕ) (m : Message) → slice_get (accepted_at members a b own theirs Zero) k ≡ Some m
+      → IsSendable (node_word a) m
+  pub delivered : (a b own theirs k : ℕ) (m : Message)
+      → slice_get (delivered_at members a b own theirs Zero) k ≡ Some m → IsSendable (node_word b) m
+  -- what concerns a number that no node has, or the node itself, is nothing
+  pub nothing : (a b own theirs : ℕ) → delivered_at members a b own theirs Zero ≢ []
+      → IsNumber a × IsNumber b × (a ≢ b)
+  pub frames : (bearer k : ℕ) (f : Sent) → slice_get (air_on bearer air) k ≡ Some f → IsAirborne f

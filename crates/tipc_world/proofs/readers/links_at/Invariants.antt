@@ -1,9 +1,0 @@
-use Rattle.std.proofs.Common.{◌≡◌, ◌≤◌, ◌-◌}
-use Rattle.tipc_world.specs.Readers.{links_up_to}
-use Rattle.tipc_world.proofs.readers.links_at.Given as goal
-
-abbrev pub invariant-loop-peer : goal.invariant-loop-peer
-invariant-loop-peer l = record {
-  some : 1 ≤ l.peer;
-  links : l.links.items ≡ links_up_to l.members l.n (l.peer - 1);
-}
