@@ -26,7 +26,7 @@ TOP = pathlib.Path(__file__).resolve().parent.parent
 PAGES = ("PROMISES.md", "WALK.md")
 # Of this page only the names are looked up that stand with their place.
 WORDS = "GLOSSARY.md"
-HEADLINE_CRATES = ["tipc_sim", "tipc_world"]
+HEADLINE_CRATES = ["tipc_sim", "tipc_world", "tipc_replay"]
 QUOTED = re.compile(r"`([^`]+)`((?:, (?:part `\w+`))?)")
 PLACED = re.compile(r"(?<!part )`([A-Za-z_]\w*)`[,;]? \(?(?:(tipc_\w+),? )?(specs|src)/(\w+)")
 FILE = re.compile(r"(?:(tipc_\w+),? )?(specs|src)/(\w+)")
