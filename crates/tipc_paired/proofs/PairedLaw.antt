@@ -1,8 +1,10 @@
 -- Two nodes stay paired, whatever either does.
 use Rattle.std.proofs.Common.{◌≡◌, ℕ, [], None, map, refl, sym, ap, ◌∙◌, subst, arith}
 use Rattle.tipc_types.specs.Prefixes.{IsPrefixOf}
+use Rattle.tipc_contact.specs.Order.{AreInOrder}
 use Rattle.tipc_contact.specs.Peers.{ArePeers}
 use Rattle.tipc_contact.specs.Sides.{alone, boot_of, first_number}
+use Rattle.tipc_contact.proofs.Ordering.{ordered_start, ordered_turned}
 use Rattle.tipc_contact.proofs.Sessions.{start as start_peers, turned as turn_peers}
 use Rattle.tipc_paired.proofs.wires.Sides.{same_side}
 use Rattle.tipc_paired.proofs.sessions.BesideDeeds.{counts_paired, falls_beside_paired, hands_over_paired}
@@ -21,7 +23,7 @@ pub works_paired : (x y x' : View) → ArePaired x y → Works x y x' → ArePai
 works_paired x y _ h (makes b none) = makes_paired x y b h none
 works_paired x y _ h (turns b e mended is) = turns_paired x y b e mended h is
 works_paired x y _ h (calls b e call is may quiet) = calls_paired x y b e call h is may quiet
-works_paired x y _ h (shows number higher fits apart) = shows_paired x y number h higher fits apart
+works_paired x y _ h (shows number higher fits apart shown) = shows_paired x y number h higher fits apart shown
 works_paired x y _ h (releases b e s p up a) = releases_paired x y b e s p h up a
 works_paired x y _ h (notes b e s shown unanswered owes up) = notes_paired x y b e s shown unanswered owes h up
 works_paired x y _ h (numbers b e s up) = numbers_paired x y b e s h up
@@ -56,7 +58,7 @@ all_then x y z _ first nothing = first
 all_then x y z x' first (follows w _ all one) = follows w x' (all_then x y z w first all) one
 
 pub turned : (x y : View) → ArePaired x y → ArePaired y x
-turned x y h = record { peers = turn_peers (side_of x) (side_of y) (said_by x) (said_by y) h.peers; here = h.there; there = h.here }
+turned x y h = record { peers = turn_peers (side_of x) (side_of y) (said_by x) (said_by y) h.peers; order = ordered_turned (side_of x) (side_of y) (said_by x) (said_by y) h.order; here = h.there; there = h.here }
 
 pub prefix : (x y : View) → ArePaired x y → (bearer epoch : ℕ) → IsPrefixOf ((x.wires bearer).got epoch) ((y.wires bearer).line epoch)
 prefix x y h bearer epoch = (h.here.wires bearer).prefix epoch
@@ -91,6 +93,7 @@ unused_epochs n b = record {
   told_in = λ k f g there bearer is. absurd (let wrong : ⊥ = cc in wrong);
   unheld = λ k f e there bearer is own. absurd (let wrong : ⊥ = cc in wrong);
   agree = λ epoch g h g_is h_is back. absurd (let wrong : ⊥ = cc in wrong);
+  entered = λ epoch g is k f there before. absurd (let wrong : ⊥ = cc in wrong);
 }
 
 new_half : (x y : View) → IsNew x → IsNew y → IsHalf x y
@@ -108,6 +111,8 @@ pub start : (x y : View) → IsNew x → IsNew y → ArePaired x y
 start x y h k = record {
   peers = subst (λ s. ArePeers s (said_by x) (side_of y) (said_by y)) (sym (new_side x h)) (subst (λ t. ArePeers (alone x.node.boot) (said_by x) t (said_by y)) (sym (new_side y k))
       (subst (λ ns. ArePeers (alone x.node.boot) ns (alone y.node.boot) (said_by y)) (ap (map notice_of) (sym h.told)) (subst (λ ns. ArePeers (alone x.node.boot) [] (alone y.node.boot) ns) (ap (map notice_of) (sym k.told)) (start_peers x.node.boot y.node.boot))));
+  order = subst (λ s. AreInOrder s (said_by x) (side_of y) (said_by y)) (sym (new_side x h)) (subst (λ t. AreInOrder (alone x.node.boot) (said_by x) t (said_by y)) (sym (new_side y k))
+      (subst (λ ns. AreInOrder (alone x.node.boot) ns (alone y.node.boot) (said_by y)) (ap (map notice_of) (sym h.told)) (subst (λ ns. AreInOrder (alone x.node.boot) [] (alone y.node.boot) ns) (ap (map notice_of) (sym k.told)) (ordered_start x.node.boot y.node.boot))));
   here = new_half x y h k;
   there = new_half y x k h;
 }

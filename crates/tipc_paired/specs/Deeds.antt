@@ -15,6 +15,7 @@ use Rattle.tipc_send_window.specs.Sending.{kept_of}
 use Rattle.tipc_link_fsm.specs.declared.changes.Change.TheVariants.{Up, Down}
 use Rattle.tipc_link_fsm.specs.Runs.{Call, ActivateArrives, ContactEnds, ForgetsPeer, ResetArrives, TrafficArrives, outcome}
 use Rattle.tipc_link_fsm.specs.Table.{contact_ended, forget_peer, is_held}
+use Rattle.tipc_contact.specs.Order.{IsContactShown}
 use Rattle.tipc_contact.specs.Sides.{IsNoticed, first_number}
 use Rattle.tipc_link.specs.Direction.{IsReceiver}
 use Rattle.tipc_link.specs.Links.{LinkEnd, after, handed_over, is_traffic, known, made, notice, record_of, recorded, shown_by, with_session}
@@ -140,15 +141,16 @@ restarted x boot = record {
 
 -- A deed of x, beside y, that begins and ends no contact, and puts and takes nothing; and what x is then.
 pub data Works (x y : View) : View → Type 0 where
-  -- a link end is made; its bearer is mended or cut; it is called without going up or down; and a higher contact number is shown while
-  -- there is no contact
+  -- a link end is made; its bearer is mended or cut; it is called without going up or down; and a higher contact number, which the peer
+  -- told, is shown while there is no contact
   makes : (b : ℕ) → (x.wires b).end ≡ None → Works x y (with_wire x b (with_end (x.wires b) (made_on x.node b)))
   turns : (b : ℕ) (e : LinkEnd) (mended : Bool) → (x.wires b).end ≡ Some e
       → Works x y (with_wire x b (with_end (x.wires b) (record e { mended = mended })))
   calls : (b : ℕ) (e : LinkEnd) (call : Call) → (x.wires b).end ≡ Some e → MayCall x y b call
       → is_quiet (outcome e.fsm call).change ≡ true
       → Works x y (with_wire x b (with_end (x.wires b) (after e (outcome e.fsm call))))
-  shows : (number : ℕ) → x.node.seen < number → number < 2 ^ 64 → IsApart x → Works x y (risen_view x number)
+  shows : (number : ℕ) → x.node.seen < number → number < 2 ^ 64 → IsApart x → IsContactShown (said_by y) number
+      → Works x y (risen_view x number)
   -- a session reads an acknowledgement, keeps something for its answers, and numbers packets that wait
   releases : (b : ℕ) (e : LinkEnd) (s : SessionEnd) (p : Fields) → IsUp (x.wires b) e s → Hears x y b s p
       → Works x y (with_wire x b (with_going (x.wires b) e (after_acknowledgement s p.acknowledgement)))

@@ -9,6 +9,7 @@ use Rattle.tipc_header.specs.Spelling.{Fields, spelling}
 use Rattle.tipc_header.specs.declared.packet.Header.{Header}
 use Rattle.tipc_header.specs.declared.packet.Header.TheVariants as header
 use Rattle.tipc_link_fsm.specs.Table.{is_held, is_last}
+use Rattle.tipc_contact.specs.Order.{AreInOrder}
 use Rattle.tipc_contact.specs.Peers.{ArePeers}
 use Rattle.tipc_contact.specs.Sides.{boot_of, first_number}
 use Rattle.tipc_link.specs.Direction.{IsCarried, IsDirection, IsReceiver}
@@ -209,6 +210,9 @@ pub record IsEpochs (n : Node) (bearer : ℕ) (told heard : List Frame) (w v : W
   -- two sessions with one another are in one contact
   pub agree : (epoch : ℕ) (g h : Begun) → w.begun epoch ≡ Some g → v.begun g.peer_epoch ≡ Some h
       → h.peer_epoch ≡ epoch → (g.contact ≡ h.peer_contact) × (g.peer_contact ≡ h.contact)
+  -- where the peer told a frame in a contact before that of a session, it had seen no higher number of the node than that of the session
+  pub entered : (epoch : ℕ) (g : Begun) → w.begun epoch ≡ Some g → (k : ℕ) (f : Frame) → slice_get heard k ≡ Some f
+      → f.contact < g.peer_contact → f.peer_contact ≤ g.contact
 
 -- ---- two nodes
 
@@ -223,9 +227,10 @@ pub record IsHalf (x y : View) : Type 0 where
       → IsFrame x.node.own (x.wires f.bearer) (y.wires f.bearer) f
 
 -- Two nodes are paired: what each keeps and told is true beside the other, and so is what they know of each other's
--- contact numbers and epochs.
+-- contact numbers and epochs; and they agree on the order of their contacts.
 pub record ArePaired (x y : View) : Type 0 where
   pub peers : ArePeers (side_of x) (said_by x) (side_of y) (said_by y)
+  pub order : AreInOrder (side_of x) (said_by x) (side_of y) (said_by y)
   pub here : IsHalf x y
   pub there : IsHalf y x
 

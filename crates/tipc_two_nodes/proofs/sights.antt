@@ -17,3 +17,5 @@ pub mod Sizes
 pub mod Holding
 pub mod Truth
 pub mod Reaching
+pub mod Ordered
+pub mod Meeting

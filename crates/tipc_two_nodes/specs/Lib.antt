@@ -5,6 +5,7 @@ pub mod Carrying
 pub mod Messages
 pub mod NoticeLaws
 pub mod Numbers
+pub mod Order
 pub mod PieceLaws
 pub mod Pieces
 pub mod Reaching

@@ -4,9 +4,11 @@ use Rattle.std.specs.Prelude.{slice_get}
 use Rattle.std.proofs.lemmas.Bool.{cases_Bool, cases_eq, true≢false}
 use Rattle.tipc_types.specs.LinkStates.{is_up}
 use Rattle.tipc_types.specs.declared.link_words.Cause.{Cause}
+use Rattle.tipc_contact.specs.Order.{AreInOrder, IsContactShown}
 use Rattle.tipc_contact.specs.Peers.{ArePeers}
 use Rattle.tipc_contact.specs.Sides.{ContactEnded, EndMade, HigherShown, Restarted, acted, after_call, boot_of, first_number}
 use Rattle.tipc_contact.proofs.Calls.{next_boot, next_of_last, next_of_other, same_boot, not_last}
+use Rattle.tipc_contact.proofs.Ordering.{ordered_acts}
 use Rattle.tipc_contact.proofs.Sessions.{acts}
 use Rattle.tipc_contact.proofs.Speaking.{at_other, at_same}
 use Rattle.tipc_link.specs.Links.{LinkEnd, after, followed, record_of, with_fsm}
@@ -20,10 +22,10 @@ use Rattle.tipc_link.proofs.EndsTurns.{Falls, Turn, fall, learn, rise, stay}
 use Rattle.tipc_link.specs.Parts.{is_quiet}
 use Rattle.tipc_paired.proofs.sessions.CallDeeds.{call_named}
 use Rattle.tipc_paired.proofs.wires.Ends.{ended_end, forgot_end, made_end, next_no_lower}
-use Rattle.tipc_paired.proofs.wires.Growing.{Grows, frame_here, half_back}
+use Rattle.tipc_paired.proofs.wires.Growing.{Grows, frame_here, half_back, told_none}
 use Rattle.tipc_paired.proofs.wires.EpochsKept.{reached_on, records_on}
 use Rattle.tipc_paired.proofs.contacts.Mutual.{told_past}
-use Rattle.tipc_paired.proofs.wires.Sides.{peers_called, same_side}
+use Rattle.tipc_paired.proofs.wires.Sides.{ordered_still, peers_called, same_side}
 use Rattle.tipc_paired.proofs.wires.Turns.{call_turns, shown_to}
 use Rattle.tipc_paired.proofs.wires.WireDeeds.{agree_turned, wire_deed}
 use Rattle.tipc_paired.proofs.wires.Wires.{epoch_of_end, epoch_of_none, is_up_of, map_at, none_some, prefix_of_none, prefix_same, put_other, put_same, same_some, session_of_down, session_of_none}
@@ -54,6 +56,7 @@ pub record Rests (x y : View) (n : Node) (ends : ℕ → Option LinkEnd) : Type 
   pub named : (b k : ℕ) (f : Frame) → slice_get x.told k ≡ Some f → f.bearer ≡ b → boot_of (es_of f.bytes) ≡ n.boot → IsNoHigher ((rested x n ends).wires b) (er_of f.bytes)
   pub unheld : (b : ℕ) (e : LinkEnd) → ends b ≡ Some e → is_held e.fsm.state ≡ false
   pub peers : ArePeers (side_of (rested x n ends)) (said_by x) (side_of y) (said_by y)
+  pub order : AreInOrder (side_of (rested x n ends)) (said_by x) (side_of y) (said_by y)
 
 pub rests_paired : (x y : View) (n : Node) (ends : ℕ → Option LinkEnd) → ArePaired x y → Rests x y n ends → ArePaired (rested x n ends) y
 rests_paired x y n ends h m =
@@ -61,6 +64,7 @@ rests_paired x y n ends h m =
     let grows : (b : ℕ) → Grows (x.wires b) (x'.wires b) = λ b. record { line = λ epoch. prefix_same ((x.wires b).line epoch); got = λ epoch. prefix_same ((x.wires b).got epoch); begun = λ epoch g is. is } in
     record {
       peers = m.peers;
+      order = m.order;
       here = record {
         node = m.node;
         ends = m.end;
@@ -88,10 +92,11 @@ rests_paired x y n ends h m =
               told_in = old.told_in;
               unheld = λ k f e there bearer is own. m.unheld b e is;
               agree = old.agree;
+              entered = old.entered;
             });
         frames = λ k f there. subst (λ own. IsFrame own (x'.wires f.bearer) (y.wires f.bearer) f) (sym m.own) (frame_here x.node.own (x.wires f.bearer) (x'.wires f.bearer) (y.wires f.bearer) f (h.here.frames k f there) (grows f.bearer));
       };
-      there = half_back y x x' [] h.there grows (λ b epoch. (h.here.wires b).prefix epoch) (λ b. agree_turned (x'.wires b) (y.wires b) (h.here.epochs b).agree) (sym (append-nil x.told));
+      there = half_back y x x' [] h.there grows (λ b epoch. (h.here.wires b).prefix epoch) (λ b. agree_turned (x'.wires b) (y.wires b) (h.here.epochs b).agree) (told_none y) (sym (append-nil x.told));
     }
 
 -- under an epoch that isn't below the next one nothing began
@@ -205,6 +210,7 @@ parted_paired x y h goes_on =
     let ends : ℕ → Option LinkEnd = λ b. option_map (ended_with contact) (x.wires b).end in
     let peers = subst (λ s. ArePeers s (said_by x) (side_of y) (said_by y)) (same_side contact contact x.node.seen x.node.seen _ _ refl refl (λ b. ended_side contact (x.wires b).end))
     (acts (side_of x) (side_of y) (said_by x) (said_by y) ContactEnded h.peers goes_on) in
+    let order = ordered_acts (side_of x) (side_of y) (said_by x) (said_by y) ContactEnded h.order goes_on tt in
     rests_paired x y n ends h (record {
       own = refl;
       node = record { own = h.here.node.own; peer = h.here.node.peer; boot = h.here.node.boot; contact = same_boot x.node.contact goes_on ∙ h.here.node.contact; seen = h.here.node.seen };
@@ -223,6 +229,7 @@ parted_paired x y h goes_on =
           let at = mapped_end (ended_with contact) (x.wires b).end e' is in
           ap (λ (d : LinkEnd). is_held d.fsm.state) (sym at.2) ∙ ap (λ (f : Fsm). is_held f.state) (ended-is at.0.fsm));
       peers = peers;
+      order = ordered_still (acted (side_of x) ContactEnded) (side_of y) (said_by x) (said_by y) (side_of (rested x n ends)).ends order;
     })
 
 -- the contact number of a node with a link that is up isn't the last of its boot
@@ -304,6 +311,7 @@ fell x y b e call h is may m =
             let next = next_of_other e.fsm.own ((h.here.ends b e is).going m.was).4 in
             let wrong : ⊥ = omega arith in wrong);
         agree = old.agree;
+        entered = old.entered;
       };
       peers = peers_called x y b w' e call h is may refl;
     }))
@@ -348,14 +356,15 @@ unborn_apart x y b epoch seen h apart (Some e) is least = (
 forgot_high : (e : LinkEnd) → is_up e.fsm.state ≡ false → (forget_peer e.fsm).after.highest ≡ e.fsm.highest
 forgot_high e down = ap (λ (f : Fsm). f.highest) (forgotten-is e.fsm down)
 
-pub shows_paired : (x y : View) (number : ℕ) → ArePaired x y → x.node.seen < number → number < 2 ^ 64 → IsApart x → ArePaired (risen_view x number) y
-shows_paired x y number h higher fits apart =
+pub shows_paired : (x y : View) (number : ℕ) → ArePaired x y → x.node.seen < number → number < 2 ^ 64 → IsApart x → IsContactShown (said_by y) number → ArePaired (risen_view x number) y
+shows_paired x y number h higher fits apart shown =
     let n : Node = record x.node { seen = number } in
     let ends : ℕ → Option LinkEnd = λ b. option_map (forgot_with number) (x.wires b).end in
     let down : (b : ℕ) (f : Fsm) → fsm_in (x.wires b).end ≡ Some f → is_up f.state ≡ false = λ b f is. (
     let at = end_of_fsm (x.wires b).end f is in ap (λ (k : Fsm). is_up k.state) (sym at.2) ∙ apart b at.0 at.1) in
     let peers = subst (λ s. ArePeers s (said_by x) (side_of y) (said_by y)) (same_side x.node.contact x.node.contact number number _ _ refl refl (λ b. forgot_side number (x.wires b).end))
     (acts (side_of x) (side_of y) (said_by x) (said_by y) (HigherShown number) h.peers (higher, down)) in
+    let order = ordered_acts (side_of x) (side_of y) (said_by x) (said_by y) (HigherShown number) h.order (higher, down) shown in
     rests_paired x y n ends h (record {
       own = refl;
       node = record { own = h.here.node.own; peer = h.here.node.peer; boot = h.here.node.boot; contact = h.here.node.contact; seen = fits };
@@ -373,6 +382,7 @@ shows_paired x y number h higher fits apart =
           let at = mapped_end (forgot_with number) (x.wires b).end e' is in
           ap (λ (d : LinkEnd). is_held d.fsm.state) (sym at.2) ∙ ap (λ (f : Fsm). is_held f.state) (forgotten-is at.0.fsm (apart b at.0 at.1)));
       peers = peers;
+      order = ordered_still (acted (side_of x) (HigherShown number)) (side_of y) (said_by x) (said_by y) (side_of (rested x n ends)).ends order;
     })
 
 -- ---- a link end is made
@@ -415,6 +425,7 @@ makes_paired x y b h none =
         told_in = old.told_in;
         unheld = λ k f k' there bearer end same_own. (let one : d ≡ k' = cc in ap (λ (u : LinkEnd). is_held u.fsm.state) (sym one));
         agree = old.agree;
+        entered = old.entered;
       };
       peers = subst (λ s. ArePeers s (said_by x) (side_of y) (said_by y)) (side_made x b none) (acts (side_of x) (side_of y) (said_by x) (said_by y) (EndMade b) h.peers (ap fsm_in none));
     })
@@ -459,6 +470,7 @@ restarts_paired x y boot h more fits =
     let later : boot_of x.node.contact < boot = (let same = h.here.node.contact in omega arith) in
     let peers = subst (λ s. ArePeers s (said_by x) (side_of y) (said_by y)) (same_side (first_number boot) (first_number boot) 0 0 _ _ refl refl (λ b. refl))
     (acts (side_of x) (side_of y) (said_by x) (said_by y) (Restarted boot) h.peers later) in
+    let order = ordered_acts (side_of x) (side_of y) (said_by x) (said_by y) (Restarted boot) h.order later tt in
     rests_paired x y n (λ b. None) h (record {
       own = refl;
       node = record { own = h.here.node.own; peer = h.here.node.peer; boot = fits; contact = first_boot boot; seen = omega arith };
@@ -472,4 +484,5 @@ restarts_paired x y boot h more fits =
           let wrong : ⊥ = omega arith in wrong);
       unheld = λ b e is. absurd (let wrong : ⊥ = cc in wrong);
       peers = peers;
+      order = ordered_still (acted (side_of x) (Restarted boot)) (side_of y) (said_by x) (said_by y) (side_of (rested x n (λ b. None))).ends order;
     })

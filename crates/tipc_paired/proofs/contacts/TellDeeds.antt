@@ -8,8 +8,10 @@ use Rattle.tipc_header.specs.declared.packet.Header.{Header}
 use Rattle.tipc_header.specs.declared.packet.Header.TheVariants as header
 use Rattle.tipc_header.specs.Grammar.{Fits, HeaderFits, NumberingFits, ResetFits, RestFits}
 use Rattle.tipc_header.specs.Spelling.{size_of, spelling}
+use Rattle.tipc_contact.specs.Order.{AreInOrder}
 use Rattle.tipc_contact.specs.Peers.{ArePeers}
-use Rattle.tipc_contact.specs.Sides.{boot_of}
+use Rattle.tipc_contact.specs.Sides.{boot_of, IsSaid as IsSaidNow}
+use Rattle.tipc_contact.proofs.Ordering.{ordered_says}
 use Rattle.tipc_contact.proofs.Sessions.{says}
 use Rattle.tipc_link.specs.Direction.{IsCarried}
 use Rattle.tipc_link.specs.Links.{LinkEnd, is_traffic, known, notice, notice_fields, shown_by}
@@ -18,12 +20,12 @@ use Rattle.tipc_link.proofs.Directions.{IsCarried-kept}
 use Rattle.tipc_link.proofs.LinkLaw.{Each-append, Each-one}
 use Rattle.tipc_link_fsm.specs.Table.{is_held}
 use Rattle.tipc_paired.proofs.wires.Frames.{IsSaid, IsWorded, er_of-frame, es_of-frame, packet_said, packet_says, state_said, state_says, traffic_shows}
-use Rattle.tipc_paired.proofs.wires.Growing.{half_back}
+use Rattle.tipc_paired.proofs.wires.Growing.{half_back, ToldNow}
 use Rattle.tipc_paired.proofs.contacts.Mutual.{taken_with}
 use Rattle.tipc_paired.proofs.wires.Turns.{up_unheld}
 use Rattle.tipc_paired.proofs.sessions.SessionDeeds.{epoch_small, epochs_fit}
 use Rattle.tipc_paired.proofs.wires.WireDeeds.{agree_turned, grows_same}
-use Rattle.tipc_paired.proofs.wires.Wires.{epoch_of_end, is_up_of, none_some, same_some, session_of_down, session_of_up}
+use Rattle.tipc_paired.proofs.wires.Wires.{epoch_of_end, is_up_of, map_at, none_some, same_some, session_of_down, session_of_up}
 use Rattle.tipc_paired.specs.Deeds.{IsUp, MayTell, activates, framed, resets, sends, states}
 use Rattle.tipc_paired.specs.Paired.{ArePaired, IsEnd, IsEpochs, IsFrame, IsGoing, IsNoHigher, IsNode, ShowsContact}
 use Rattle.tipc_paired.specs.Views.{Begun, Frame, Node, View, Wire, epoch_on, er_of, es_of, fsm_in, notice_of, said_by, session_on, side_of, with_told}
@@ -227,6 +229,7 @@ epochs_told n b told heard w v f h t = record {
   unheld = λ k u e there bearer is own. Each-append (λ (u : Frame). u.bearer ≡ b → es_of u.bytes ≡ e.fsm.own → is_held e.fsm.state ≡ false) told (f ∷ [])
       (λ i z at of_b same. h.unheld i z e at of_b is same) (Each-one _ f (λ of_b same. t.unheld of_b e is same)) k u there bearer own;
   agree = h.agree;
+  entered = h.entered;
 }
 
 -- a session began under the epoch of a link end: the link is up, and that is its session
@@ -280,19 +283,23 @@ told_of x y b c o h t = record {
 
 -- ---- the deed
 
+-- it is told in no contact before that of a session that the peer began
+told_now : (x y : View) (b c : ℕ) (o : Outgoing) → ArePaired x y → ToldNow (y.wires c) (framed x y b o ∷ [])
+told_now x y b c o h epoch g is = (
+    let t = (h.there.epochs c).shown epoch g is in
+    let contact = t.contact_is in
+    let low = h.order.a_says.own_number t.place (notice_of t.frame) (map_at notice_of x.told t.place t.frame t.there) in
+    Each-one (λ (u : Frame). g.peer_contact ≤ u.contact) (framed x y b o) (omega arith))
+
 said_paired : (x y : View) (b : ℕ) (o : Outgoing) → ArePaired x y → Said x y b o → ArePaired (with_told x (framed x y b o)) y
 said_paired x y b o h t =
     let f = framed x y b o in
     let x' = with_told x f in
+    let said : IsSaidNow (side_of x) (notice_of f) = record { end = t.end.fsm; there = ap fsm_in t.end_is; es = t.es; er = t.er; contact = refl; peer_contact = refl } in
+    let more = sym (map-append notice_of x.told (f ∷ [])) in
     record {
-      peers = subst (λ ns. ArePeers (side_of x) ns (side_of y) (said_by y)) (sym (map-append notice_of x.told (f ∷ []))) (says (side_of x) (side_of y) (said_by x) (said_by y) (notice_of f) h.peers (record {
-        end = t.end.fsm;
-        there = ap fsm_in t.end_is;
-        es = t.es;
-        er = t.er;
-        contact = refl;
-        peer_contact = refl;
-      }));
+      peers = subst (λ ns. ArePeers (side_of x) ns (side_of y) (said_by y)) more (says (side_of x) (side_of y) (said_by x) (said_by y) (notice_of f) h.peers said);
+      order = subst (λ ns. AreInOrder (side_of x) ns (side_of y) (said_by y)) more (ordered_says (side_of x) (side_of y) (said_by x) (said_by y) (notice_of f) h.order said);
       here = record {
         node = h.here.node;
         ends = h.here.ends;
@@ -301,7 +308,7 @@ said_paired x y b o h t =
         epochs = λ c. epochs_told x.node c x.told y.told (x.wires c) (y.wires c) f (h.here.epochs c) (told_of x y b c o h t);
         frames = Each-append (λ (u : Frame). IsFrame x.node.own (x.wires u.bearer) (y.wires u.bearer) u) x.told (f ∷ []) h.here.frames (Each-one (λ (u : Frame). IsFrame x.node.own (x.wires u.bearer) (y.wires u.bearer) u) f t.frame);
       };
-      there = half_back y x x' (f ∷ []) h.there (λ c. grows_same (x.wires c)) (λ c epoch. (h.here.wires c).prefix epoch) (λ c. agree_turned (x.wires c) (y.wires c) (h.here.epochs c).agree) refl;
+      there = half_back y x x' (f ∷ []) h.there (λ c. grows_same (x.wires c)) (λ c epoch. (h.here.wires c).prefix epoch) (λ c. agree_turned (x.wires c) (y.wires c) (h.here.epochs c).agree) (λ c. told_now x y b c o h) refl;
     }
 
 pub tells_paired : (x y : View) (b : ℕ) (o : Outgoing) → ArePaired x y → MayTell (x.wires b) o → ArePaired (with_told x (framed x y b o)) y

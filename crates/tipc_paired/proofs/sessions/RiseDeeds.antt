@@ -260,6 +260,13 @@ went_epochs x y b e e' es h m =
           let both = went_agrees x y b e e' es h m k (ap (λ (z : Begun). v.begun z.peer_epoch) one ∙ there) back in
           (sym (ap (λ (z : Begun). z.contact) one) ∙ both.0, sym (ap (λ (z : Begun). z.peer_contact) one) ∙ both.1)))
           (λ epoch other. old.agree epoch);
+      entered = on_put w.begun e'.fsm.own (Some g) (λ epoch o. (k : Begun) → o ≡ Some k → (i : ℕ) (f : Frame) → slice_get y.told i ≡ Some f → f.contact < k.peer_contact → f.peer_contact ≤ k.contact)
+          (λ k some i f there before. (
+          let one : g ≡ k = cc in
+          let contact : x.node.contact ≡ k.contact = ap (λ (z : Begun). z.contact) one in
+          let low = h.order.b_says.peer_number i (notice_of f) (map_at notice_of y.told i f there) in
+          omega arith))
+          old.entered;
     }
 
 -- ---- the deed

@@ -41,6 +41,7 @@ epochs_steady n b told heard w w' v h m = record {
   told_in = λ k f g there bearer is. h.told_in k f g there bearer (sym (m.begun (es_of f.bytes)) ∙ is);
   unheld = λ k f e' there bearer is own. (let old = m.end e' is in old.3 (h.unheld k f old.0 there bearer old.1 (own ∙ old.2)));
   agree = λ epoch g k g_is k_is back. h.agree epoch g k (sym (m.begun epoch) ∙ g_is) k_is back;
+  entered = λ epoch g is. h.entered epoch g (sym (m.begun epoch) ∙ is);
 }
 
 -- ---- receiving records

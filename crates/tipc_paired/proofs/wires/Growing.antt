@@ -1,8 +1,10 @@
 -- What holds of a node stays when its peer goes on.
-use Rattle.std.proofs.Common.{◌≡◌, ◌⊎◌, ℕ, ◌≤◌, List, ◌++◌, Some, length, sym, subst, inl, inr, arith}
+use Rattle.std.proofs.Common.{◌≡◌, ◌⊎◌, ℕ, ◌<◌, ◌≤◌, List, [], ◌++◌, Some, length, sym, subst, inl, inr, arith}
+use Rattle.std.specs.Prelude.{slice_get}
 use Rattle.tipc_types.specs.Prefixes.{IsPrefixOf}
 use Rattle.tipc_link.specs.Direction.{IsDirection}
 use Rattle.tipc_link.proofs.Directions.{IsCarried-stays, IsReceiver-stays, slice_get-append}
+use Rattle.tipc_link.proofs.LinkLaw.{Each-append}
 use Rattle.tipc_send_window.specs.Sending.{Sending}
 use Rattle.tipc_paired.proofs.wires.Wires.{prefix_extends, prefix_long, prefix_trans}
 use Rattle.tipc_paired.specs.Paired.{IsEpochs, IsFrame, IsHalf, IsReached, IsRecords, IsShown, IsWire, IsWith, long_ago, on_record, untaken}
@@ -139,9 +141,16 @@ shown_more told more bearer es er contact h = record {
   contact_is = h.contact_is;
 }
 
+-- what is told now isn't told before the contact of a session that the peer began
+abbrev pub ToldNow : Wire → List Frame → Type 0
+ToldNow v more = (epoch : ℕ) (g : Begun) → v.begun epoch ≡ Some g → (k : ℕ) (f : Frame) → slice_get more k ≡ Some f → g.peer_contact ≤ f.contact
+
+pub told_none : (y : View) (b : ℕ) → ToldNow (y.wires b) []
+told_none y b epoch g is k f there = absurd (let wrong : ⊥ = cc in wrong)
+
 -- the sessions of the peer of a node that went on, and told more
-pub epochs_back : (n : Node) (bearer : ℕ) (told heard more : List Frame) (v w w' : Wire) → IsEpochs n bearer told heard v w → Agree v w' → IsEpochs n bearer told (heard ++ more) v w'
-epochs_back n bearer told heard more v w w' h agree = record {
+pub epochs_back : (n : Node) (bearer : ℕ) (told heard more : List Frame) (v w w' : Wire) → IsEpochs n bearer told heard v w → Agree v w' → ToldNow v more → IsEpochs n bearer told (heard ++ more) v w'
+epochs_back n bearer told heard more v w w' h agree now = record {
   unborn = h.unborn;
   some = h.some;
   lasts = h.lasts;
@@ -152,16 +161,19 @@ epochs_back n bearer told heard more v w w' h agree = record {
   told_in = h.told_in;
   unheld = h.unheld;
   agree = agree;
+  entered = λ epoch g is k f there before. Each-append (λ (u : Frame). u.contact < g.peer_contact → u.peer_contact ≤ g.contact) heard more
+      (λ i u at earlier. h.entered epoch g is i u at earlier)
+      (λ i u at earlier. absurd (let no_lower = now epoch g is i u at in let wrong : ⊥ = omega arith in wrong)) k f there before;
 }
 
 -- the peer of a node that went on
 pub half_back : (y x x' : View) (more : List Frame) → IsHalf y x → ((b : ℕ) → Grows (x.wires b) (x'.wires b)) → ((b epoch : ℕ) → IsPrefixOf ((x'.wires b).got epoch) ((y.wires b).line epoch))
-    → ((b : ℕ) → Agree (y.wires b) (x'.wires b)) → x'.told ≡ x.told ++ more → IsHalf y x'
-half_back y x x' more h grows within agree told = record {
+    → ((b : ℕ) → Agree (y.wires b) (x'.wires b)) → ((b : ℕ) → ToldNow (y.wires b) more) → x'.told ≡ x.told ++ more → IsHalf y x'
+half_back y x x' more h grows within agree now told = record {
   node = h.node;
   ends = h.ends;
   wires = λ b. wire_back y.node.own (y.wires b) (x.wires b) (x'.wires b) (h.wires b) (grows b) (within b);
   records = λ b. records_back y.node (y.wires b) (x.wires b) (x'.wires b) (h.records b) (grows b);
-  epochs = λ b. subst (λ fs. IsEpochs y.node b y.told fs (y.wires b) (x'.wires b)) (sym told) (epochs_back y.node b y.told x.told more (y.wires b) (x.wires b) (x'.wires b) (h.epochs b) (agree b));
+  epochs = λ b. subst (λ fs. IsEpochs y.node b y.told fs (y.wires b) (x'.wires b)) (sym told) (epochs_back y.node b y.told x.told more (y.wires b) (x.wires b) (x'.wires b) (h.epochs b) (agree b) (now b));
   frames = λ k f there. frame_back y.node.own (y.wires f.bearer) (x.wires f.bearer) (x'.wires f.bearer) f (h.frames k f there) (grows f.bearer);
 }

@@ -1,10 +1,11 @@
 -- A node as a side of its contacts, through its deeds.
-use Rattle.std.proofs.Common.{◌==◌, ◌∙◌, ◌≡◌, Option, Some, ap, if◌then◌else◌, inl, inr, refl, subst, sym, ℕ}
+use Rattle.std.proofs.Common.{◌==◌, ◌∙◌, ◌≡◌, List, Option, Some, ap, if◌then◌else◌, inl, inr, refl, subst, sym, ℕ}
 use Rattle.std.proofs.Math.Path.{fun_ext}
 use Rattle.tipc_link_fsm.specs.Runs.{ActivateArrives, BearerIsCut, Call, ContactEnds, ForgetsPeer, Releases, ResetArrives, TickPasses, TrafficArrives, TunnelNames, outcome}
 use Rattle.tipc_link_fsm.specs.Table.{Fsm}
+use Rattle.tipc_contact.specs.Order.{AreInOrder}
 use Rattle.tipc_contact.specs.Peers.{ArePeers}
-use Rattle.tipc_contact.specs.Sides.{EndCalled, IsNoticed, MayBeGiven as MayCallEnd, Side, acted, after_call}
+use Rattle.tipc_contact.specs.Sides.{EndCalled, IsNoticed, MayBeGiven as MayCallEnd, Notice, Side, acted, after_call}
 use Rattle.tipc_contact.proofs.Sessions.{acts}
 use Rattle.tipc_link.specs.Links.{LinkEnd}
 use Rattle.tipc_paired.specs.Deeds.{MayCall}
@@ -21,6 +22,10 @@ same_side own own' seen seen' ends ends' same_own same_seen same_ends =
     ap (λ o. record { own = o; seen = seen; ends = ends }) (sym same_own)
     ∙ ap (λ n. record { own = own'; seen = n; ends = ends }) (sym same_seen)
     ∙ ap (λ es. record { own = own'; seen = seen'; ends = es }) (fun_ext same_ends)
+
+-- the order of contacts speaks of contact numbers, and of no link ends
+pub ordered_still : (a b : Side) (said_a said_b : List Notice) (ends : ℕ → Option Fsm) → AreInOrder a said_a b said_b → AreInOrder (record a { ends = ends }) said_a b said_b
+ordered_still a b said_a said_b ends h = record { a_seen = h.a_seen; b_seen = h.b_seen; a_says = h.a_says; b_says = h.b_says; crossed = h.crossed }
 
 -- a deed on one wire that leaves its link states as they were leaves the side as it was
 pub side_still : (x : View) (b : ℕ) (w' : Wire) → fsm_in w'.end ≡ fsm_in (x.wires b).end → side_of (with_wire x b w') ≡ side_of x

@@ -2,7 +2,8 @@
 use Rattle.std.proofs.Common.{◌≡◌, ℕ, [], Some, refl, sym, ap, ◌∙◌, append-nil}
 use Rattle.tipc_contact.specs.Peers.{ArePeers}
 use Rattle.tipc_link.specs.Links.{LinkEnd}
-use Rattle.tipc_paired.proofs.wires.Growing.{Agree, Grows, frame_here, half_back}
+use Rattle.tipc_paired.proofs.wires.Growing.{Agree, Grows, frame_here, half_back, told_none}
+use Rattle.tipc_paired.proofs.wires.Sides.{ordered_still}
 use Rattle.tipc_paired.proofs.wires.Wires.{on_put, prefix_same}
 use Rattle.tipc_paired.specs.Paired.{ArePaired, IsEnd, IsEpochs, IsRecords, IsWire}
 use Rattle.tipc_paired.specs.Views.{View, Wire, put_at, said_by, side_of, with_wire}
@@ -31,6 +32,7 @@ wire_deed x y b w' h k =
     let epochs : (c : ℕ) → IsEpochs x.node c x.told y.told (put_at x.wires b w' c) (y.wires c) = on_put x.wires b w' (λ c w. IsEpochs x.node c x.told y.told w (y.wires c)) k.epochs h.here.epochs in
     record {
       peers = k.peers;
+      order = ordered_still (side_of x) (side_of y) (said_by x) (said_by y) (side_of (with_wire x b w')).ends h.order;
       here = record {
         node = h.here.node;
         ends = on_put x.wires b w' (λ c (w : Wire). (e : LinkEnd) → w.end ≡ Some e → IsEnd x.node c e) k.end h.here.ends;
@@ -39,5 +41,5 @@ wire_deed x y b w' h k =
         epochs = epochs;
         frames = λ i f there. frame_here x.node.own (x.wires f.bearer) _ (y.wires f.bearer) f (h.here.frames i f there) (grows f.bearer);
       };
-      there = half_back y x (with_wire x b w') [] h.there grows (λ c epoch. (wires c).prefix epoch) (λ c. agree_turned (put_at x.wires b w' c) (y.wires c) (epochs c).agree) (sym (append-nil x.told));
+      there = half_back y x (with_wire x b w') [] h.there grows (λ c epoch. (wires c).prefix epoch) (λ c. agree_turned (put_at x.wires b w' c) (y.wires c) (epochs c).agree) (told_none y) (sym (append-nil x.told));
     }

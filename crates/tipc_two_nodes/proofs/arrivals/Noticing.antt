@@ -28,7 +28,7 @@ use Rattle.tipc_pair.specs.PairFacts.{IsPairOfEnds}
 use Rattle.tipc_paired.specs.Views.{View, said_by}
 use Rattle.tipc_two_nodes.proofs.deeds.Arriving.{notice_shown, unheard, notice_more as none_met}
 use Rattle.tipc_two_nodes.proofs.deeds.Calls.{can_hand}
-use Rattle.tipc_two_nodes.proofs.deeds.Noticing.{hand_none, risen_alone}
+use Rattle.tipc_two_nodes.proofs.deeds.Noticing.{contact_shown, hand_none, risen_alone}
 use Rattle.tipc_two_nodes.proofs.deeds.Stepping.{CanHand}
 use Rattle.tipc_two_nodes.specs.deeds.Arriving.{Reaches, hears_more, met_at_more, met_more}
 use Rattle.tipc_two_nodes.specs.deeds.PairDeeds.{IsOfPair, called_more, none_more}
@@ -75,7 +75,7 @@ higher_keeps v y x number es er p by shown h pair higher fits told showable noti
     let meet = met_near es er p by shown in
     let q = (risen x number).pair in
     let alone = risen_alone x number in
-    let first = number_carried v y x number h pair higher fits in
+    let first = number_carried v y x number h pair higher fits (contact_shown (said_by y) x.bearer es number (shown_told y x.bearer es er number told)) in
     elim (in_contact x) as (λ t. KeepsCarried v y h (activates t (risen x number) (behind (risen x number) meet)).course none_more) [
       | true ↦ first
       | false ↦ carried_then v y h (risen x number) (λ z. (meet z).course) none_more none_more first
@@ -86,7 +86,7 @@ higher_keeps v y x number es er p by shown h pair higher fits told showable noti
 
 reset_higher : (v y : View) (x : PairEnds) (number es : ℕ) (shown : BroadcastState) (h : AreTwins v y) → IsOfPair v x → x.seen < number → number < 2 ^ 64 → IsNoticed (said_by y) x.bearer es number → IsShowable shown → KeepsCarried v y h (behind (risen x number) (reset_near es shown)).course none_more
 reset_higher v y x number es shown h pair higher fits told showable =
-    carried_then v y h (risen x number) (λ z. (reset_near es shown z).course) none_more none_more (number_carried v y x number h pair higher fits)
+    carried_then v y h (risen x number) (λ z. (reset_near es shown z).course) none_more none_more (number_carried v y x number h pair higher fits (contact_shown (said_by y) x.bearer es number told))
     (λ mid twins of_mid. alone_reset mid y (risen x number).pair number x.bearer es shown twins of_mid (risen_alone x number) told showable)
 
 -- ---- by the contact number that is shown

@@ -4,6 +4,7 @@ use Rattle.std.proofs.Common.{◌≡◌, ◌<◌, ◌+◌, ◌^◌, ◌||◌, �
 use Rattle.std.specs.List.{flat_map}
 use Rattle.std.proofs.lemmas.Bool.{cases_Bool}
 use Rattle.tipc_types.specs.LinkStates.{is_up}
+use Rattle.tipc_contact.specs.Order.{IsContactShown}
 use Rattle.tipc_link.specs.Links.{LinkEnd, reset_frames}
 use Rattle.tipc_link.proofs.Ends.{ended-is, forgotten-is}
 use Rattle.tipc_link.proofs.LinkLaw.{Each}
@@ -13,7 +14,7 @@ use Rattle.tipc_pair.specs.Courses.{rests}
 use Rattle.tipc_pair.specs.Facing.{PairEnds, ends_of, in_contact, is_up_at, other}
 use Rattle.tipc_paired.proofs.contacts.ContactDeeds.{ended_down, mapped_end}
 use Rattle.tipc_paired.specs.Deeds.{changes, ended_with, forgot_with, parted_view, parts, risen_view as risen_view, shows, works}
-use Rattle.tipc_paired.specs.Views.{View}
+use Rattle.tipc_paired.specs.Views.{View, said_by}
 use Rattle.tipc_two_nodes.proofs.deeds.Chains.{did_as, did_quietly, did_then}
 use Rattle.tipc_two_nodes.proofs.deeds.Ending.{all_told}
 use Rattle.tipc_two_nodes.proofs.deeds.Pairs.{apart_of, up_end}
@@ -86,8 +87,8 @@ has_up v x pair contact = elim (cases_Bool (is_up_at x.near)) [
 
 -- ---- the contact ends, and the number is the highest
 
-ended_number : (v y : View) (x : PairEnds) (number : ℕ) (h : AreTwins v y) → IsOfPair v x → x.seen < number → number < 2 ^ 64 → in_contact x ≡ true → KeepsCarried v y h (contact_ends (record x { seen = number }) (x.contact, x.seen) number) none_more
-ended_number v y x number h pair higher fits contact =
+ended_number : (v y : View) (x : PairEnds) (number : ℕ) (h : AreTwins v y) → IsOfPair v x → x.seen < number → number < 2 ^ 64 → IsContactShown (said_by y) number → in_contact x ≡ true → KeepsCarried v y h (contact_ends (record x { seen = number }) (x.contact, x.seen) number) none_more
+ended_number v y x number h pair higher fits named contact =
     let at = has_up v x pair contact in
     let v1 = parted_view v in
     let apart1 = parted_apart v in
@@ -95,13 +96,13 @@ ended_number v y x number h pair higher fits contact =
     let v2 = risen_view v1 number in
     let q = parted_pair (record x { seen = number }) in
     let h1 = parts_twins v y at.bearer at.end h at.end_is at.up in
-    let h2 = shows_twins v1 y number h1 more fits apart1 in
+    let h2 = shows_twins v1 y number h1 more fits apart1 named in
     let pair2 = of_ended v x number pair in
     let told = all_told v2 y q h2.paired pair2 (ended_unheld v number) in
     let said = flat_map reset_frames (ends_of q) in
     let last = told_both v2 y q told.0 said h2 pair2 told.1 told.2 in
     let fell = did_quietly v y v1 (changes v1 (parts at.bearer at.end at.end_is at.up)) refl (λ b k. refl) (λ b k. refl) in
-    let rose = did_quietly v1 y v2 (works v2 (shows number more fits apart1)) refl (λ b k. refl) (λ b k. refl) in (
+    let rose = did_quietly v1 y v2 (works v2 (shows number more fits apart1 named)) refl (λ b k. refl) (λ b k. refl) in (
       told.0,
       record {
         did = did_as v y told.0 ([] ++ ([] ++ said)) (said ++ []) none_more none_more none_more none_more (did_then v y v1 told.0 [] ([] ++ said) none_more none_more none_more none_more fell (did_then v1 y v2 told.0 [] said none_more none_more none_more none_more rose told.1))
@@ -109,23 +110,23 @@ ended_number v y x number h pair higher fits contact =
         pair = told.2;
       },
       last.0,
-      carries_then v v1 told.0 y h h1 last.0 none_taken none_taken (parts_carry v y at.bearer at.end h at.end_is at.up) (carries_then v1 v2 told.0 y h1 h2 last.0 none_taken none_taken (shows_carry v1 y number h1 more fits apart1) last.1),
+      carries_then v v1 told.0 y h h1 last.0 none_taken none_taken (parts_carry v y at.bearer at.end h at.end_is at.up) (carries_then v1 v2 told.0 y h1 h2 last.0 none_taken none_taken (shows_carry v1 y number h1 more fits apart1 named) last.1),
     )
 
 -- without contact each end forgets the peer's epoch
-forgotten_number : (v y : View) (x : PairEnds) (number : ℕ) (h : AreTwins v y) → IsOfPair v x → x.seen < number → number < 2 ^ 64 → is_up_at x.near ≡ false → is_up_at x.far ≡ false → KeepsCarried v y h (rests (forgotten x number)) none_more
-forgotten_number v y x number h pair higher fits near far =
+forgotten_number : (v y : View) (x : PairEnds) (number : ℕ) (h : AreTwins v y) → IsOfPair v x → x.seen < number → number < 2 ^ 64 → IsContactShown (said_by y) number → is_up_at x.near ≡ false → is_up_at x.far ≡ false → KeepsCarried v y h (rests (forgotten x number)) none_more
+forgotten_number v y x number h pair higher fits named near far =
     let more : v.node.seen < number = subst (λ n. n < number) (sym pair.seen) higher in
     let apart = apart_of v x pair near far in
     let v1 = risen_view v number in (
       v1,
-      record { did = did_quietly v y v1 (works v1 (shows number more fits apart)) refl (λ b k. refl) (λ b k. refl); pair = of_forgotten v x number pair },
-      shows_twins v y number h more fits apart,
-      shows_carry v y number h more fits apart,
+      record { did = did_quietly v y v1 (works v1 (shows number more fits apart named)) refl (λ b k. refl) (λ b k. refl); pair = of_forgotten v x number pair },
+      shows_twins v y number h more fits apart named,
+      shows_carry v y number h more fits apart named,
     )
 
-pub number_carried : (v y : View) (x : PairEnds) (number : ℕ) (h : AreTwins v y) → IsOfPair v x → x.seen < number → number < 2 ^ 64 → KeepsCarried v y h (risen x number) none_more
-number_carried v y x number h pair higher fits = elim (in_contact x) as (λ t. in_contact x ≡ t → KeepsCarried v y h (if t then contact_ends (record x { seen = number }) (x.contact, x.seen) number else rests (forgotten x number)) none_more) [
-  | true ↦ λ contact. ended_number v y x number h pair higher fits contact
-  | false ↦ λ none. (let both = or_false (is_up_at x.near) (is_up_at x.far) none in forgotten_number v y x number h pair higher fits both.0 both.1)
+pub number_carried : (v y : View) (x : PairEnds) (number : ℕ) (h : AreTwins v y) → IsOfPair v x → x.seen < number → number < 2 ^ 64 → IsContactShown (said_by y) number → KeepsCarried v y h (risen x number) none_more
+number_carried v y x number h pair higher fits named = elim (in_contact x) as (λ t. in_contact x ≡ t → KeepsCarried v y h (if t then contact_ends (record x { seen = number }) (x.contact, x.seen) number else rests (forgotten x number)) none_more) [
+  | true ↦ λ contact. ended_number v y x number h pair higher fits named contact
+  | false ↦ λ none. (let both = or_false (is_up_at x.near) (is_up_at x.far) none in forgotten_number v y x number h pair higher fits named both.0 both.1)
 ] refl

@@ -167,7 +167,7 @@ works_goes : (x y x' : View) (n : Numbers) → ArePaired x y → AreNumbers x y 
 works_goes x y _ n h are (makes b none) = inl (keeps_along x y n b _ (makes_keeps x b none))
 works_goes x y _ n h are (turns b e mended is) = inl (keeps_along x y n b _ (goes_keeps x.node (x.wires b) e (record e { mended = mended }) (turns_on (x.wires b) e mended is)))
 works_goes x y _ n h are (calls b e call is may quiet) = inl (keeps_along x y n b _ (goes_keeps x.node (x.wires b) e (after e (outcome e.fsm call)) (calls_on x y b e call is may quiet)))
-works_goes x y _ n h are (shows number higher fits apart) = inr (shown refl refl higher)
+works_goes x y _ n h are (shows number higher fits apart heard) = inr (shown refl refl higher)
 works_goes x y _ n h are (releases b e s p up heard) = inl (keeps_along x y n b _ (session_keeps x.node (x.wires b) e s (after_acknowledgement s p.acknowledgement) (x.wires b).line (x.wires b).got up))
 works_goes x y _ n h are (notes b e s seen unanswered owes up) = inl (keeps_along x y n b _ (session_keeps x.node (x.wires b) e s (record s { shown = seen; unanswered = unanswered; owes = owes }) (x.wires b).line (x.wires b).got up))
 works_goes x y _ n h are (numbers b e s up) = inl (keeps_along x y n b _ (session_keeps x.node (x.wires b) e s (flushed s) (put_at (x.wires b).line s.epoch ((x.wires b).line s.epoch ++ moving s)) (x.wires b).got up))
@@ -207,7 +207,7 @@ pub order_of : (x y x' : View) → DoesDeed x y x' → (x'.node ≡ x.node) ⊎ 
 order_of x y _ (works _ (makes b none)) = inl refl
 order_of x y _ (works _ (turns b e mended is)) = inl refl
 order_of x y _ (works _ (calls b e call is may quiet)) = inl refl
-order_of x y _ (works _ (shows number higher fits apart)) = inr (shown refl refl higher)
+order_of x y _ (works _ (shows number higher fits apart heard)) = inr (shown refl refl higher)
 order_of x y _ (works _ (releases b e s p up heard)) = inl refl
 order_of x y _ (works _ (notes b e s seen unanswered owes up)) = inl refl
 order_of x y _ (works _ (numbers b e s up)) = inl refl

@@ -8,10 +8,11 @@ use Rattle.tipc_link_fsm.specs.declared.changes.Change.TheVariants.{Down}
 use Rattle.tipc_link_fsm.specs.Runs.{Call, outcome}
 use Rattle.tipc_link_fsm.specs.Table.{Fsm}
 use Rattle.tipc_link.proofs.Ends.{forgotten-is}
+use Rattle.tipc_contact.specs.Order.{IsContactShown}
 use Rattle.tipc_paired.proofs.contacts.ContactDeeds.{ended_down, falls_paired, mapped_end, parts_paired, restarts_paired, shows_paired}
 use Rattle.tipc_paired.specs.Deeds.{MayCall, ended_with, forgot_with, parted_view, restarted, risen_view}
 use Rattle.tipc_paired.specs.Paired.{ArePaired}
-use Rattle.tipc_paired.specs.Views.{IsApart, View, with_end, with_wire}
+use Rattle.tipc_paired.specs.Views.{IsApart, View, said_by, with_end, with_wire}
 use Rattle.tipc_two_nodes.specs.Carrying.{Carries, none_taken}
 use Rattle.tipc_two_nodes.specs.Numbers.{AreRecorded}
 use Rattle.tipc_two_nodes.specs.Steps.{Rests}
@@ -63,10 +64,10 @@ restarts_twins x y boot h more fits =
     leaves_twins x (restarted x boot) y h (rests_on x (restarted x boot) y leaves.rests (omega arith) (restarts_paired x y boot h.paired more fits) (restarted_recorded x y boot)) leaves (λ b e is. absurd (let wrong : ⊥ = cc in wrong))
 
 -- out of contact the peer shows a higher number
-pub shows_twins : (x y : View) (number : ℕ) → AreTwins x y → x.node.seen < number → number < 2 ^ 64 → IsApart x → AreTwins (risen_view x number) y
-shows_twins x y number h higher fits apart =
+pub shows_twins : (x y : View) (number : ℕ) → AreTwins x y → x.node.seen < number → number < 2 ^ 64 → IsApart x → IsContactShown (said_by y) number → AreTwins (risen_view x number) y
+shows_twins x y number h higher fits apart named =
     let learns = risen_learns x number higher apart in
-    learns_twins x (risen_view x number) y h (rests_on x (risen_view x number) y learns.rests (omega arith) (shows_paired x y number h.paired higher fits apart) (risen_recorded x y number higher apart h.recorded_here)) learns (risen_apart x number apart)
+    learns_twins x (risen_view x number) y h (rests_on x (risen_view x number) y learns.rests (omega arith) (shows_paired x y number h.paired higher fits apart named) (risen_recorded x y number higher apart h.recorded_here)) learns (risen_apart x number apart)
 
 -- ---- what crossed stays so
 
@@ -93,8 +94,8 @@ restarts_carry x y boot h more fits =
     let later = leaves.later in
     leaves_carries x (restarted x boot) y h (rests_on x (restarted x boot) y leaves.rests (omega arith) (restarts_paired x y boot h.paired more fits) (restarted_recorded x y boot)) leaves (λ b e is. absurd (let wrong : ⊥ = cc in wrong))
 
-pub shows_carry : (x y : View) (number : ℕ) (h : AreTwins x y) (higher : x.node.seen < number) (fits : number < 2 ^ 64) (apart : IsApart x) → Carries x (risen_view x number) y h (shows_twins x y number h higher fits apart) none_taken
+pub shows_carry : (x y : View) (number : ℕ) (h : AreTwins x y) (higher : x.node.seen < number) (fits : number < 2 ^ 64) (apart : IsApart x) (named : IsContactShown (said_by y) number) → Carries x (risen_view x number) y h (shows_twins x y number h higher fits apart named) none_taken
 unfolding shows_twins
-shows_carry x y number h higher fits apart =
+shows_carry x y number h higher fits apart named =
     let learns = risen_learns x number higher apart in
-    learns_carries x (risen_view x number) y h (rests_on x (risen_view x number) y learns.rests (omega arith) (shows_paired x y number h.paired higher fits apart) (risen_recorded x y number higher apart h.recorded_here)) learns (risen_apart x number apart)
+    learns_carries x (risen_view x number) y h (rests_on x (risen_view x number) y learns.rests (omega arith) (shows_paired x y number h.paired higher fits apart named) (risen_recorded x y number higher apart h.recorded_here)) learns (risen_apart x number apart)

@@ -36,7 +36,7 @@ use Rattle.tipc_paired.proofs.wires.Sides.{shown_told}
 use Rattle.tipc_two_nodes.proofs.deeds.Arriving.{hears_takes, notice_shown, reached_begun, unheard}
 use Rattle.tipc_two_nodes.proofs.deeds.Calls.{can_hand, nothing_shown}
 use Rattle.tipc_two_nodes.proofs.deeds.EndsKept.{ends_turned, heard_kept, released_ends, stepped_kept}
-use Rattle.tipc_two_nodes.proofs.deeds.Noticing.{hand_none, not_up, reset_alone, reset_given_takes, risen_alone, risen_takes}
+use Rattle.tipc_two_nodes.proofs.deeds.Noticing.{contact_shown, hand_none, not_up, reset_alone, reset_given_takes, risen_alone, risen_takes}
 use Rattle.tipc_two_nodes.proofs.deeds.Opening.{is_named}
 use Rattle.tipc_two_nodes.proofs.deeds.Pairs.{of_turned}
 use Rattle.tipc_two_nodes.proofs.deeds.Stepping.{CanHand}
@@ -145,7 +145,7 @@ reset_kept v y x number es shown h pair ends fits told can showable =
     (λ higher. (
     let q = (risen x number).pair in
     let alone = risen_alone x number in
-    let m = risen_takes v y x number h pair higher fits in
+    let m = risen_takes v y x number h pair higher fits (contact_shown (said_by y) x.bearer es number told) in
     reset_near_kept m.0 y q es shown (all_paired v y m.0 h m.1.did.does) m.1.pair (risen_kept x number ends) (subst (λ b. IsNoticed (said_by y) b es q.seen) (sym alone.bearer_is) (subst (IsNoticed (said_by y) x.bearer es) (sym alone.seen_is) told))
     (hand_none m.0 q m.1.pair alone.near alone.far) showable))
 
@@ -160,7 +160,7 @@ activate_kept v y x number es er p by shown h pair ends fits told notice row =
     (λ same. met_at_kept v y x x.near (ActivateArrives es er) es er p by shown h pair ends refl (subst (IsShown y.told x.bearer es er) (same ∙ sym pair.seen) told) (λ e. row e (is_up_at x.far)) silent)
     (λ higher. (
     let alone = risen_alone x number in
-    let m = risen_takes v y x number h pair higher fits in
+    let m = risen_takes v y x number h pair higher fits (contact_shown (said_by y) x.bearer es number (shown_told y x.bearer es er number told)) in
     let kept = risen_kept x number ends in
     elim (in_contact x) as (λ t. IsPairOfEnds (activates t (risen x number) (behind (risen x number) meet)).course.pair) [
       | true ↦ kept

@@ -31,7 +31,7 @@ use Rattle.tipc_paired.specs.Views.{View, er_of, es_of, said_by}
 use Rattle.tipc_two_nodes.proofs.deeds.Calling.{released_takes}
 use Rattle.tipc_two_nodes.proofs.deeds.Calls.{can_hand}
 use Rattle.tipc_two_nodes.proofs.deeds.Meeting.{MayHear, met_takes}
-use Rattle.tipc_two_nodes.proofs.deeds.Noticing.{followed_alone, hand_none, reset_near_takes, risen_alone, risen_reset_takes, risen_takes}
+use Rattle.tipc_two_nodes.proofs.deeds.Noticing.{contact_shown, followed_alone, hand_none, reset_near_takes, risen_alone, risen_reset_takes, risen_takes}
 use Rattle.tipc_two_nodes.proofs.deeds.Opening.{IsOpenable, opens_takes}
 use Rattle.tipc_two_nodes.proofs.deeds.Pairs.{takes_as, takes_rest, takes_then}
 use Rattle.tipc_two_nodes.proofs.deeds.Placing.{at_place_opened, hears_some}
@@ -138,7 +138,7 @@ activate_higher_takes v y x number es er p by shown h pair higher fits told show
     let meet = met_near es er p by shown in
     let q = (risen x number).pair in
     let alone = risen_alone x number in
-    let first = risen_takes v y x number h pair higher fits in
+    let first = risen_takes v y x number h pair higher fits (contact_shown (said_by y) x.bearer es number (shown_told y x.bearer es er number told)) in
     elim (in_contact x) as (λ t. Takes v y (activates t (risen x number) (behind (risen x number) meet)).course none_more none_more) [
       | true ↦ first
       | false ↦ takes_then v y (risen x number) (λ z. (meet z).course) none_more none_more none_more none_more h first

@@ -16,7 +16,7 @@ work_told : (x y v : View) → Works x y v → (more : List Frame) × (v.told �
 work_told x y _ (makes b none) = ([], sym (append-nil x.told))
 work_told x y _ (turns b e mended is) = ([], sym (append-nil x.told))
 work_told x y _ (calls b e call is may quiet) = ([], sym (append-nil x.told))
-work_told x y _ (shows number higher fits apart) = ([], sym (append-nil x.told))
+work_told x y _ (shows number higher fits apart heard) = ([], sym (append-nil x.told))
 work_told x y _ (releases b e s p up a) = ([], sym (append-nil x.told))
 work_told x y _ (notes b e s shown unanswered owes up) = ([], sym (append-nil x.told))
 work_told x y _ (numbers b e s up) = ([], sym (append-nil x.told))

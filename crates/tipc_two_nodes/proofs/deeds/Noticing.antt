@@ -1,11 +1,12 @@
 -- A RESET arrives on the near link, or a packet that shows a higher contact number.
-use Rattle.std.proofs.Common.{◌≡◌, ◌<◌, ◌+◌, ◌^◌, ◌&&◌, ◌||◌, ℕ, Bool, true, false, if◌then◌else◌, [], ◌++◌, Option, Some, None, option_map, refl, sym, ap, ◌∙◌, subst, inl, inr, append-nil}
+use Rattle.std.proofs.Common.{◌≡◌, ◌<◌, ◌+◌, ◌^◌, ◌&&◌, ◌||◌, ℕ, Bool, true, false, if◌then◌else◌, List, [], ◌++◌, Option, Some, None, option_map, refl, sym, ap, ◌∙◌, subst, inl, inr, append-nil}
 use Rattle.std.specs.Prelude.{not}
 use Rattle.std.specs.List.{flat_map}
 use Rattle.std.proofs.lemmas.Bool.{and_parts, cases_Bool, true≢false}
 use Rattle.tipc_types.specs.LinkStates.{is_up}
 use Rattle.tipc_types.specs.declared.link_words.BroadcastState.{BroadcastState}
-use Rattle.tipc_contact.specs.Sides.{IsNoticed}
+use Rattle.tipc_contact.specs.Order.{IsContactShown}
+use Rattle.tipc_contact.specs.Sides.{IsNoticed, Notice}
 use Rattle.tipc_link.specs.Links.{LinkEnd, after, is_down, reset_frames}
 use Rattle.tipc_link.specs.Parts.{IsShowable}
 use Rattle.tipc_link.proofs.LinkLaw.{Each}
@@ -108,6 +109,10 @@ reset_near_takes v y x es shown h pair told can showable =
 
 -- ---- a higher contact number
 
+-- a notice of an epoch shows its contact number
+pub contact_shown : (notices : List Notice) (bearer epoch contact : ℕ) → IsNoticed notices bearer epoch contact → IsContactShown notices contact
+contact_shown notices bearer epoch contact h = record { place = h.place; notice = h.notice; there = h.there; contact_is = h.contact_is }
+
 -- an end of the node is up
 record HasUp (v : View) : Type 0 where
   bearer : ℕ
@@ -121,8 +126,8 @@ has_up v x pair contact = elim (cases_Bool (is_up_at x.near)) [
   | inr down ↦ (let at = up_end x.far (ap (λ t. t || is_up_at x.far) (sym down) ∙ contact) in record { bearer = other x.bearer; end = at.0; end_is = pair.far ∙ at.1; up = at.2 })
 ]
 
-ended_risen_takes : (v y : View) (x : PairEnds) (number : ℕ) → ArePaired v y → IsOfPair v x → x.seen < number → number < 2 ^ 64 → in_contact x ≡ true → Takes v y (contact_ends (record x { seen = number }) (x.contact, x.seen) number) none_more none_more
-ended_risen_takes v y x number h pair higher fits contact =
+ended_risen_takes : (v y : View) (x : PairEnds) (number : ℕ) → ArePaired v y → IsOfPair v x → x.seen < number → number < 2 ^ 64 → IsContactShown (said_by y) number → in_contact x ≡ true → Takes v y (contact_ends (record x { seen = number }) (x.contact, x.seen) number) none_more none_more
+ended_risen_takes v y x number h pair higher fits named contact =
     let at = has_up v x pair contact in
     let next = v.node.contact + 1 in
     let v1 = parted_view v in
@@ -130,7 +135,7 @@ ended_risen_takes v y x number h pair higher fits contact =
     let h1 = does_paired v y v1 h one in
     let apart1 : (b : ℕ) (e : LinkEnd) → (v1.wires b).end ≡ Some e → is_up e.fsm.state ≡ false = λ b e is. (let from = mapped_end (ended_with next) (v.wires b).end e is in ap (λ (k : LinkEnd). is_up k.fsm.state) (sym from.2) ∙ ended_down next from.0) in
     let v2 = risen_view v1 number in
-    let two : DoesDeed v1 y v2 = works v2 (shows number (subst (λ n. n < number) (sym pair.seen) higher) fits apart1) in
+    let two : DoesDeed v1 y v2 = works v2 (shows number (subst (λ n. n < number) (sym pair.seen) higher) fits apart1 named) in
     let h2 = does_paired v1 y v2 h1 two in
     let q = parted_pair (record x { seen = number }) in
     let same : next ≡ x.contact + 1 = ap (λ n. n + 1) pair.contact in
@@ -161,10 +166,10 @@ ended_risen_takes v y x number h pair higher fits contact =
     )
 
 -- without contact each end forgets the peer's epoch
-forgotten_takes : (v y : View) (x : PairEnds) (number : ℕ) → IsOfPair v x → x.seen < number → number < 2 ^ 64 → is_up_at x.near ≡ false → is_up_at x.far ≡ false → Takes v y (rests (forgotten x number)) none_more none_more
-forgotten_takes v y x number pair higher fits near far =
+forgotten_takes : (v y : View) (x : PairEnds) (number : ℕ) → IsOfPair v x → x.seen < number → number < 2 ^ 64 → IsContactShown (said_by y) number → is_up_at x.near ≡ false → is_up_at x.far ≡ false → Takes v y (rests (forgotten x number)) none_more none_more
+forgotten_takes v y x number pair higher fits named near far =
     let v1 = risen_view v number in
-    let one : DoesDeed v y v1 = works v1 (shows number (subst (λ n. n < number) (sym pair.seen) higher) fits (apart_of v x pair near far)) in (
+    let one : DoesDeed v y v1 = works v1 (shows number (subst (λ n. n < number) (sym pair.seen) higher) fits (apart_of v x pair near far) named) in (
       v1,
       record {
         did = did_quietly v y v1 one refl (λ b k. refl) (λ b k. refl);
@@ -181,10 +186,10 @@ forgotten_takes v y x number pair higher fits near far =
       },
     )
 
-pub risen_takes : (v y : View) (x : PairEnds) (number : ℕ) → ArePaired v y → IsOfPair v x → x.seen < number → number < 2 ^ 64 → Takes v y (risen x number) none_more none_more
-risen_takes v y x number h pair higher fits = elim (in_contact x) as (λ t. in_contact x ≡ t → Takes v y (if t then contact_ends (record x { seen = number }) (x.contact, x.seen) number else rests (forgotten x number)) none_more none_more) [
-  | true ↦ λ contact. ended_risen_takes v y x number h pair higher fits contact
-  | false ↦ λ none. (let both = apart_both (is_up_at x.near) (is_up_at x.far) none in forgotten_takes v y x number pair higher fits both.0 both.1)
+pub risen_takes : (v y : View) (x : PairEnds) (number : ℕ) → ArePaired v y → IsOfPair v x → x.seen < number → number < 2 ^ 64 → IsContactShown (said_by y) number → Takes v y (risen x number) none_more none_more
+risen_takes v y x number h pair higher fits named = elim (in_contact x) as (λ t. in_contact x ≡ t → Takes v y (if t then contact_ends (record x { seen = number }) (x.contact, x.seen) number else rests (forgotten x number)) none_more none_more) [
+  | true ↦ λ contact. ended_risen_takes v y x number h pair higher fits named contact
+  | false ↦ λ none. (let both = apart_both (is_up_at x.near) (is_up_at x.far) none in forgotten_takes v y x number pair higher fits named both.0 both.1)
 ] refl
 
 -- no link is up then
@@ -204,6 +209,6 @@ pub risen_reset_takes : (v y : View) (x : PairEnds) (number es : ℕ) (shown : B
 risen_reset_takes v y x number es shown h pair higher fits told showable =
     let q = (risen x number).pair in
     let alone = risen_alone x number in
-    takes_then v y (risen x number) (λ z. (reset_near es shown z).course) none_more none_more none_more none_more h (risen_takes v y x number h pair higher fits)
+    takes_then v y (risen x number) (λ z. (reset_near es shown z).course) none_more none_more none_more none_more h (risen_takes v y x number h pair higher fits (contact_shown (said_by y) x.bearer es number told))
     (λ mid paired took. subst (λ n. Takes mid y (reset_near es shown q).course n none_more) (called_alone q q.near es (is_up_at q.far) alone.far)
     (reset_near_takes mid y q es shown paired took.pair (subst (λ b. IsNoticed (said_by y) b es q.seen) (sym alone.bearer_is) (subst (IsNoticed (said_by y) x.bearer es) (sym alone.seen_is) told)) (hand_none mid q took.pair alone.near alone.far) showable))

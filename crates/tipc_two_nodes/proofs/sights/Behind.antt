@@ -81,7 +81,7 @@ work_counted : (x y v : View) → AreLastCounted x → ArePaired v y → Works x
 work_counted x y _ h paired (makes b none) = counted_on x b _ h (λ d s is has. absurd (let wrong : ⊥ = cc in wrong))
 work_counted x y _ h paired (turns b e mended is) = counted_on x b _ h (λ d s is_d has. (let same : record e { mended = mended } ≡ d = cc in h b e s is (ap (λ (k : LinkEnd). k.session) same ∙ has)))
 work_counted x y _ h paired (calls b e call is may quiet) = counted_on x b _ h (called_counted (x.wires b) e call (h b) is (quiet_no_up (outcome e.fsm call).change quiet))
-work_counted x y _ h paired (shows number higher fits apart) = λ b. mapped_counted (forgot_with number) (x.wires b) (λ e. refl) (h b)
+work_counted x y _ h paired (shows number higher fits apart heard) = λ b. mapped_counted (forgot_with number) (x.wires b) (λ e. refl) (h b)
 work_counted x y _ h paired (releases b e s p up a) = up_on_put x y b _ (with_session e _) _ h paired (record { end_is = refl; up = up.up; session_is = refl })
 work_counted x y _ h paired (notes b e s shown unanswered owes up) = up_on_put x y b _ (with_session e _) _ h paired (record { end_is = refl; up = up.up; session_is = refl })
 work_counted x y _ h paired (numbers b e s up) = up_on_put x y b _ (with_session e (flushed s)) (flushed s) h paired (record { end_is = refl; up = up.up; session_is = refl })
@@ -154,7 +154,7 @@ told_by_work : (x y v : View) (k : ℕ) (f : Frame) → Works x y v → slice_ge
 told_by_work x y _ k f (makes b none) there = inl there
 told_by_work x y _ k f (turns b e mended is) there = inl there
 told_by_work x y _ k f (calls b e call is may quiet) there = inl there
-told_by_work x y _ k f (shows number higher fits apart) there = inl there
+told_by_work x y _ k f (shows number higher fits apart heard) there = inl there
 told_by_work x y _ k f (releases b e s p up a) there = inl there
 told_by_work x y _ k f (notes b e s shown unanswered owes up) there = inl there
 told_by_work x y _ k f (numbers b e s up) there = inl there
@@ -215,7 +215,7 @@ works_same : (x y v : View) → Works x y v → IsSameNode x.node v.node
 works_same x y _ (makes b none) = same_node x.node x.node refl
 works_same x y _ (turns b e mended is) = same_node x.node x.node refl
 works_same x y _ (calls b e call is may quiet) = same_node x.node x.node refl
-works_same x y _ (shows number higher fits apart) = record { own = refl; peer = refl }
+works_same x y _ (shows number higher fits apart heard) = record { own = refl; peer = refl }
 works_same x y _ (releases b e s p up a) = same_node x.node x.node refl
 works_same x y _ (notes b e s shown unanswered owes up) = same_node x.node x.node refl
 works_same x y _ (numbers b e s up) = same_node x.node x.node refl

@@ -136,12 +136,12 @@ told_seen x y after v v' w frames put given o h seen there s node numbers t =
 -- ---- a node after a turn
 
 -- what a turn made of the node, beside what the world tells of it
-record Turned (x y after : Talker) (v v' w : Sight) (frames : List Outgoing) (put given : List (List ℕ)) : Type 0 where
-  talking : AreTalking x y
-  seen : IsSeen x v
-  there : IsSeen y w
-  stepped : Stepped x y after frames put given
-  goes : Goes v v' w after.pair frames put given
+pub record Turned (x y after : Talker) (v v' w : Sight) (frames : List Outgoing) (put given : List (List ℕ)) : Type 0 where
+  pub talking : AreTalking x y
+  pub seen : IsSeen x v
+  pub there : IsSeen y w
+  pub stepped : Stepped x y after frames put given
+  pub goes : Goes v v' w after.pair frames put given
 
 node_seen : (x y after : Talker) (v v' w : Sight) (frames : List Outgoing) (put given : List (List ℕ)) → Turned x y after v v' w frames put given → after.view.node ≡ v'.node
 node_seen x y after v v' w frames put given t =
@@ -207,7 +207,7 @@ numbered_seen x y after v v' w frames put given t b k = elim (has_session (v'.en
   ]
 ]
 
-seen_after : (x y after : Talker) (v v' w : Sight) (frames : List Outgoing) (put given : List (List ℕ)) → Turned x y after v v' w frames put given → IsSeen after v'
+pub seen_after : (x y after : Talker) (v v' w : Sight) (frames : List Outgoing) (put given : List (List ℕ)) → Turned x y after v v' w frames put given → IsSeen after v'
 seen_after x y after v v' w frames put given t =
     let node = node_seen x y after v v' w frames put given t in
     let numbers = numbered_seen x y after v v' w frames put given t in
@@ -228,7 +228,7 @@ seen_after x y after v v' w frames put given t =
     }
 
 -- two nodes talk on after a turn, as the world tells of them
-pub turned_seen : (v v' w : Sight) (pair : PairEnds) (frames : List Outgoing) (put given : List (List ℕ)) → (h : AreSeen v w) → Goes v v' w pair frames put given → (after : Talker) → Stepped h.here h.there after frames put given → after.pair ≡ pair → AreSeen v' w
+unfoldable pub turned_seen : (v v' w : Sight) (pair : PairEnds) (frames : List Outgoing) (put given : List (List ℕ)) → (h : AreSeen v w) → Goes v v' w pair frames put given → (after : Talker) → Stepped h.here h.there after frames put given → after.pair ≡ pair → AreSeen v' w
 turned_seen v v' w pair frames put given h g after s is = record {
   here = after;
   there = h.there;

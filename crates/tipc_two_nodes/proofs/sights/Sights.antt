@@ -1,14 +1,15 @@
 -- Two nodes talk on as a world tells of them, whatever either does.
 use Rattle.std.specs.Prelude.{All, slice_get}
-use Rattle.std.proofs.Common.{◌≡◌, ◌≤◌, ◌⊎◌, ℕ, ◌+◌, zero, suc, List, [], ◌++◌, Some, None, refl, sym, ap, ◌∙◌, subst, inl, inr, append-nil, arith}
+use Rattle.std.proofs.Common.{◌≡◌, ◌≤◌, ◌⊎◌, ℕ, ◌+◌, zero, suc, List, [], ◌++◌, Option, Some, None, refl, sym, ap, ◌∙◌, subst, inl, inr, append-nil, arith}
 use Rattle.tipc_types.specs.Prefixes.{IsPrefixOf}
 use Rattle.tipc_header.specs.Spelling.{Fields}
+use Rattle.tipc_outside.specs.declared.outgoing.Outgoing.{Outgoing}
 use Rattle.tipc_fragments.specs.Joining.{fresh}
 use Rattle.tipc_reassembly.specs.Slots.{packets_in}
 use Rattle.tipc_contact.specs.Sides.{first_number}
 use Rattle.tipc_pair.specs.Facing.{PairEnds, alone, facing}
 use Rattle.tipc_pair.specs.Messages.{IsMessage, opened_in}
-use Rattle.tipc_pair.specs.PairTurns.{Happened, Opening, Outset}
+use Rattle.tipc_pair.specs.PairTurns.{Happened, Opening, Outset, PairTurn, Reply, ShowsAtLast, ShowsIn}
 use Rattle.tipc_pair.specs.PairTurns.Opening.{cuts, hears, makes, mends, rests, ticks}
 use Rattle.tipc_paired.proofs.wires.Wires.{none_some}
 use Rattle.tipc_paired.specs.Paired.{IsEnd}
@@ -22,7 +23,7 @@ use Rattle.tipc_pair.proofs.PairSends.{second_is as facing_second}
 use Rattle.tipc_two_nodes.proofs.calls.TalkerTurns.{new_are_talking, restarts_talk}
 use Rattle.tipc_two_nodes.proofs.calls.Talkers.{given_is_front, turned_talk}
 use Rattle.tipc_two_nodes.proofs.sights.Turning.{turned_steps}
-use Rattle.tipc_two_nodes.proofs.sights.TurnParts.{Stepped}
+use Rattle.tipc_two_nodes.proofs.sights.TurnParts.{Stepped, StepsTo}
 use Rattle.tipc_two_nodes.proofs.sights.TurnSteps.{MayBegin, Opened, opened}
 
 -- ---- the beginning, and a restart
@@ -37,7 +38,7 @@ new_talker v = record {
 }
 
 -- the pair of a node that keeps nothing of its peer
-alone_seen : (v : Sight) (boot : ℕ) → v.node.contact ≡ first_number boot → v.node.seen ≡ 0 → ((b : ℕ) → v.ends b ≡ None) → v.partial ≡ fresh → alone v.node.own v.node.peer boot ≡ pair_seen v
+pub alone_seen : (v : Sight) (boot : ℕ) → v.node.contact ≡ first_number boot → v.node.seen ≡ 0 → ((b : ℕ) → v.ends b ≡ None) → v.partial ≡ fresh → alone v.node.own v.node.peer boot ≡ pair_seen v
 alone_seen v boot contact seen ends begun = λ i. record {
   own = v.node.own;
   peer = v.node.peer;
@@ -80,10 +81,10 @@ starts v w h k = record {
   seen_there = new_seen w k;
 }
 
-pub turned : TurnedSeen
+unfoldable pub turned : TurnedSeen
 turned v w h = record { here = h.there; there = h.here; talking = turned_talk h.here h.there h.talking; seen_here = h.seen_there; seen_there = h.seen_here }
 
-pub restarted : RestartsSeen
+unfoldable pub restarted : RestartsSeen
 restarted v v' w h r fits =
     let x = h.here in
     let s = h.seen_here in
@@ -151,8 +152,10 @@ may_begin v w (mends b) h may = tt
 may_begin v w (cuts b) h may = tt
 may_begin v w (ticks shown) h may = tt
 
-pub turns : TurnsSeen
-turns v v' w opening messages reply pair frames h may showable showable' are t g =
+-- the node after a turn
+pub turn_steps : (v w : Sight) (opening : Opening) (messages : List (List ℕ)) (reply : Option Reply) (pair : PairEnds) (frames : List Outgoing) → (h : AreSeen v w) → MayHappen v w opening → ShowsIn opening → ShowsAtLast reply → All (IsMessage v.node.own) messages
+    → (t : PairTurn (pair_seen v) opening messages reply pair frames) → StepsTo h.here h.there pair frames messages (packets_in (opened_in t.first.given))
+turn_steps v w opening messages reply pair frames h may showable showable' are t =
     let x = h.here in
     let o = t.first in
     let given = packets_in (opened_in o.given) in
@@ -160,7 +163,12 @@ turns v v' w opening messages reply pair frames h may showable showable' are t g
     let happened = subst (λ q. Happened q opening o) (sym same) t.happened in
     let are' = subst (λ (n : Node). All (IsMessage n.own) messages) (sym h.seen_here.node) are in
     let steps = turned_steps x h.there opening o messages t.put_frames t.put reply h.talking (may_begin v w opening h may) showable showable' are' happened t.puts in
-    turned_seen v v' w pair frames messages given h g steps.0 (subst (λ fs. Stepped x h.there steps.0 fs messages given) (sym t.frames_are) steps.1) (steps.2 ∙ sym t.after)
+    (steps.0, subst (λ fs. Stepped x h.there steps.0 fs messages given) (sym t.frames_are) steps.1, steps.2 ∙ sym t.after)
+
+pub turns : TurnsSeen
+turns v v' w opening messages reply pair frames h may showable showable' are t g =
+    let steps = turn_steps v w opening messages reply pair frames h may showable showable' are t in
+    turned_seen v v' w pair frames messages (packets_in (opened_in t.first.given)) h g steps.0 steps.1 steps.2
 
 -- What is given with what was given before it in the contact of the node: nothing is given, or the node was and is in it.
 given_before : (x y : Talker) (o : Outset) → AreTalking x y → (p : Opened x y o) → IsPrefixOf (x.given x.view.node.contact x.view.node.seen ++ packets_in (opened_in o.given)) (y.put x.view.node.seen x.view.node.contact)
