@@ -1,5 +1,7 @@
 //! What is promised of a caster and all its members. The functions do nothing: their contracts are the laws.
 ghost use Rattle.tipc_casters.specs.Laws.{Begins, Enters, GivesAPrefix, Hears, IsTold, Joins, Leaves, Quits, Restarts, Sends, States, StatesApart, Tells, TellsMember};
+ghost use Rattle.tipc_casters.specs.Messages.{GivesMessages};
+ghost use Rattle.tipc_casters.specs.Reading.{FramesAreRead};
 
 /// A caster that did nothing yet and members that were in no contact with it stand in the law of broadcast; and they go on to stand
 /// there, whatever happens to any of them: contacts begin and end on either side, messages are sent, STATEs and broadcast frames
@@ -24,4 +26,16 @@ pub fn a_caster_and_its_members()
 /// once and in order.
 pub fn each_member_is_given_a_prefix()
     ensures { GivesAPrefix }
+{}
+
+/// The packets that a member was given in a contact, past ones too, are joined to whole messages, and these are a front of the messages that
+/// were accepted for it in that contact: where it was given all packets, they are the messages, and none is begun.
+pub fn each_member_is_given_a_front_of_the_messages()
+    ensures { GivesMessages }
+{}
+
+/// What is decoded of a broadcast frame in the air is what was cast: its boot and its members, and the packet as it was accepted, under its
+/// number.
+pub fn frames_are_read_as_they_were_cast()
+    ensures { FramesAreRead }
 {}

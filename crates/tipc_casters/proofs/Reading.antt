@@ -1,0 +1,57 @@
+-- A broadcast frame is read as it was written.
+use Rattle.std.proofs.Common.{◌≡◌, ℕ, ◌+◌, ◌<◌, ◌^◌, List, ◌++◌, drop, get_or, sym, ap, ◌∙◌, arith}
+use Rattle.std.proofs.lemmas.List.{drop_at}
+use Rattle.tipc_types.specs.Position.{number_of}
+use Rattle.tipc_types.proofs.PositionLaws.{number_of-below}
+use Rattle.tipc_header.specs.Frames.{envelope, frame_of, sent_as, stamped}
+use Rattle.tipc_header.specs.Grammar.{Fits}
+use Rattle.tipc_header.specs.Reading.{long_at, word_at}
+use Rattle.tipc_header.specs.Spelling.{Fields, spelling, two_words}
+use Rattle.tipc_header.proofs.FrameWords.{length-envelope, stamped-spelling}
+use Rattle.tipc_header.proofs.Places.{long-joined}
+use Rattle.tipc_header.proofs.RoundTrip.{one_packet}
+use Rattle.tipc_header.proofs.Words.{AreWords, word_at-words}
+use Rattle.tipc_broadcast.specs.Contacts.{as_accepted}
+use Rattle.tipc_casters.specs.Reading.{FramesAreRead}
+
+-- ---- the envelope
+
+are_words : (a b : ℕ) → a < 2 ^ 64 → b < 2 ^ 64 → AreWords (two_words a ++ two_words b)
+are_words a b fit_a fit_b = (omega arith, (omega arith, (omega arith, (omega arith, tt))))
+
+envelope_word : (i a b : ℕ) (rest : List ℕ) → a < 2 ^ 64 → b < 2 ^ 64 → i < 4 → word_at i (frame_of a b rest) ≡ get_or (two_words a ++ two_words b) i 0
+unfolding envelope
+envelope_word i a b rest fit_a fit_b low = word_at-words i (two_words a ++ two_words b) rest (are_words a b fit_a fit_b) low
+
+first_read : (a b : ℕ) (rest : List ℕ) → a < 2 ^ 64 → b < 2 ^ 64 → long_at 0 (frame_of a b rest) ≡ a
+first_read a b rest fit_a fit_b =
+    let high = envelope_word 0 a b rest fit_a fit_b (omega arith) in
+    let low = envelope_word 1 a b rest fit_a fit_b (omega arith) in
+    rw (high, low) (long-joined a)
+
+second_read : (a b : ℕ) (rest : List ℕ) → a < 2 ^ 64 → b < 2 ^ 64 → long_at 2 (frame_of a b rest) ≡ b
+second_read a b rest fit_a fit_b =
+    let high = envelope_word 2 a b rest fit_a fit_b (omega arith) in
+    let low = envelope_word 3 a b rest fit_a fit_b (omega arith) in
+    rw (high, low) (long-joined b)
+
+-- ---- the packet
+
+same_packet : (a b c d : ℕ) (p q : Fields) → Fits p → Fits q → frame_of a b (spelling p) ≡ frame_of c d (spelling q) → p ≡ q
+same_packet a b c d p q p_fits q_fits same =
+    one_packet p q p_fits q_fits (sym (drop_at (envelope a b) (spelling p) 16 (length-envelope a b)) ∙ ap (drop 16) same ∙ drop_at (envelope c d) (spelling q) 16 (length-envelope c d))
+
+pub frames_are_read : FramesAreRead
+frames_are_read g own f boot members by p boot_fits members_fit fits bytes written c =
+    let w = written c in
+    let q = w.piece.fields in
+    let number = number_of (c.place + 1) in
+    let sent = sent_as 0 number own q in
+    let same : frame_of boot members (spelling p) ≡ frame_of c.boot c.set (spelling sent) =
+    sym bytes ∙ (c.bytes ∙ (ap (λ (b : List ℕ). frame_of c.boot c.set (stamped 0 number own b)) w.piece.spelled ∙ ap (λ (b : List ℕ). frame_of c.boot c.set b) (stamped-spelling q 0 number own))) in
+    let packet : p ≡ sent = same_packet boot members c.boot c.set p sent fits (w.piece.fits number (number_of-below (c.place + 1))) same in (
+      sym (first_read boot members (spelling p) boot_fits members_fit) ∙ (ap (long_at 0) same ∙ first_read c.boot c.set (spelling sent) w.boot_fits w.set_fits),
+      sym (second_read boot members (spelling p) boot_fits members_fit) ∙ (ap (long_at 2) same ∙ second_read c.boot c.set (spelling sent) w.boot_fits w.set_fits),
+      ap (λ (k : Fields). k.sequence) packet,
+      ap (λ (k : Fields). spelling (as_accepted k)) packet ∙ (ap spelling (sym w.piece.as_it_waits) ∙ sym w.piece.spelled),
+    )
