@@ -1,4 +1,5 @@
 pub mod Users
+pub mod Contents
 pub mod Spelling
 pub mod Grammar
 pub mod Reading

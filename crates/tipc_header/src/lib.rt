@@ -2,6 +2,7 @@
 #![tactic(auto)]
 
 mod bits;
+mod contents;
 mod decoding;
 mod encoding;
 mod fault;
@@ -11,6 +12,7 @@ mod packet;
 mod reading;
 mod reserved;
 
+pub use contents::{HeaderContent, Notice};
 pub use decoding::{CHANGEOVER_USER, decode, message_size, user_number};
 pub use encoding::encode;
 pub use fault::HeaderFault;

@@ -79,11 +79,7 @@ inside_tunnels (header.Payload m) fits = refl
 inside_tunnels (header.NameDistributor n) fits = refl
 inside_tunnels (header.Bundler b) fits = refl
 inside_tunnels (header.Fragmenter f) fits = refl
-inside_tunnels (header.State s) fits = fits
-inside_tunnels (header.Reset r) fits = fits
-inside_tunnels (header.Activate a) fits = fits
-inside_tunnels (header.Changeover c) fits = fits
-inside_tunnels (header.Discovery d) fits = fits
+inside_tunnels other fits = fits
 
 inner_inside : (packet : List ℕ) → IsInner packet → MayStandInside packet
 inner_inside packet h = record { packet = h.packet; fits = h.fits; spelled = h.spelled; inside = inside_tunnels h.packet.header h.inside }

@@ -26,22 +26,13 @@ waiting_numbering (header.State s) acknowledgement sequence is = refl
 waiting_numbering (header.Reset r) acknowledgement sequence is = (refl, refl)
 waiting_numbering (header.Activate a) acknowledgement sequence is = (refl, refl)
 waiting_numbering (header.Discovery d) acknowledgement sequence is = (refl, refl)
-waiting_numbering (header.Payload m) acknowledgement sequence is = tt
-waiting_numbering (header.Bundler b) acknowledgement sequence is = tt
-waiting_numbering (header.Changeover c) acknowledgement sequence is = tt
-waiting_numbering (header.NameDistributor n) acknowledgement sequence is = tt
-waiting_numbering (header.Fragmenter f) acknowledgement sequence is = tt
+waiting_numbering other acknowledgement sequence is = tt
 
 previous_fits : (h : Header) (previous : ℕ) → previous < 2 ^ 32 → previous_waiting h previous < 2 ^ 32
 previous_fits (header.Bundler b) previous fits = omega arith
 previous_fits (header.Changeover c) previous fits = omega arith
 previous_fits (header.Fragmenter f) previous fits = omega arith
-previous_fits (header.State s) previous fits = fits
-previous_fits (header.Reset r) previous fits = fits
-previous_fits (header.Activate a) previous fits = fits
-previous_fits (header.Discovery d) previous fits = fits
-previous_fits (header.Payload m) previous fits = fits
-previous_fits (header.NameDistributor n) previous fits = fits
+previous_fits other previous fits = fits
 
 -- a packet as it waited fits, too
 pub waiting_fits : (p : Fields) → Fits p → Fits (as_waiting p)

@@ -1,7 +1,6 @@
 -- Bytes that name another user are no tunnel packet.
-use Rattle.std.proofs.Common.{◌≡◌, ◌==◌, ◌<◌, ℕ, Bool, true, false, List, is_none, length, refl, ap, sym, ◌∙◌, arith}
+use Rattle.std.proofs.Common.{◌≡◌, ◌==◌, ℕ, Bool, true, false, List, is_none, refl}
 use Rattle.std.specs.Prelude.{◌&&◌, if◌then◌else◌, nat_le}
-use Rattle.tipc_header.specs.declared.packet.Header.{Header}
 use Rattle.tipc_header.specs.declared.packet.Header.TheVariants as header
 use Rattle.tipc_header.specs.Faults.{fault_of}
 use Rattle.tipc_header.specs.Reading.{bundle_at, changeover_at, discovery_at, distribution_at, fields_at, fragment_at, header_at, payload_at, reset_at, state_at, type_at, user_at}

@@ -13,6 +13,10 @@ use Rattle.tipc_types.specs.declared.packet_lists.Taken.{Taken}
 use Rattle.tipc_outside.specs.declared.outgoing.Outgoing.{Outgoing}
 use Rattle.tipc_header.specs.declared.packet.Header.{Header}
 use Rattle.tipc_header.specs.declared.packet.Header.TheVariants as header
+use Rattle.tipc_header.specs.declared.contents.HeaderContent.{HeaderContent}
+use Rattle.tipc_header.specs.declared.contents.HeaderContent.TheVariants as content
+use Rattle.tipc_header.specs.declared.contents.Notice.TheVariants as notices
+use Rattle.tipc_header.specs.Contents.{header_content}
 use Rattle.tipc_header.specs.declared.packet.Reset.{Reset}
 use Rattle.tipc_header.specs.Spelling.{Fields, spelling}
 use Rattle.tipc_header.specs.Frames.{frame_of}
@@ -265,12 +269,16 @@ frames_with e taken asks shown = if is_up e.fsm.state then session_answer (optio
 
 -- ---- an arrival
 
+-- what the link states make of a packet that is this to the link
+abbrev pub outcome_as : Fsm → HeaderContent → ℕ → ℕ → Bool → Outcome
+outcome_as s (content.Notice (notices.Reset r)) es er held = on_reset s es held
+outcome_as s (content.Notice (notices.Activate a)) es er held = on_activate s es er
+outcome_as s content.Discovery es er held = gives s (Ignore why.Epoch)
+outcome_as s other es er held = on_traffic s es er
+
 -- what the link states make of a packet
 abbrev pub outcome_of : Fsm → Header → ℕ → ℕ → Bool → Outcome
-outcome_of s (header.Reset r) es er held = on_reset s es held
-outcome_of s (header.Activate a) es er held = on_activate s es er
-outcome_of s (header.Discovery d) es er held = gives s (Ignore why.Epoch)
-outcome_of s other es er held = on_traffic s es er
+outcome_of s h es er held = outcome_as s (header_content h) es er held
 
 -- whether the link states took it as a packet of the session
 abbrev pub is_taken : Change → Bool
@@ -278,12 +286,15 @@ is_taken Up = true
 is_taken Stay = true
 is_taken other = false
 
--- whether packets with this header belong to a session: STATE, and all that have a number
+-- whether what is this to its link belongs to a session: STATE, and all that has a number
+abbrev pub is_of_session : HeaderContent → Bool
+is_of_session (content.State s) = true
+is_of_session content.Numbered = true
+is_of_session other = false
+
+-- whether packets with this header belong to a session
 abbrev pub is_traffic : Header → Bool
-is_traffic (header.Reset r) = false
-is_traffic (header.Activate a) = false
-is_traffic (header.Discovery d) = false
-is_traffic other = true
+is_traffic h = is_of_session (header_content h)
 
 -- a STATE or a numbered packet of the session is heard by it
 abbrev pub is_heard : Header → Change → Bool

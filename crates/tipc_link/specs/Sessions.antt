@@ -9,6 +9,9 @@ use Rattle.tipc_types.specs.declared.packet_lists.Taken.{Taken}
 use Rattle.tipc_outside.specs.declared.outgoing.Outgoing.{Outgoing}
 use Rattle.tipc_header.specs.declared.packet.Header.{Header}
 use Rattle.tipc_header.specs.declared.packet.Header.TheVariants as header
+use Rattle.tipc_header.specs.declared.contents.HeaderContent.{HeaderContent}
+use Rattle.tipc_header.specs.declared.contents.HeaderContent.TheVariants as content
+use Rattle.tipc_header.specs.Contents.{header_content}
 use Rattle.tipc_header.specs.Spelling.{Fields, spelling}
 use Rattle.tipc_header.specs.Frames.{frame_of, sent_as, stamped}
 use Rattle.tipc_send_window.specs.Sending.{Sending, fresh, offered, acknowledged, emptied, kept_of, swapped, without_waiting}
@@ -107,21 +110,24 @@ pub data Content : Type 0 where
   Carries : (number : ℕ) (packet : List ℕ) → Content
   Nothing : Content
 
--- what a packet brings, by its header; `packet` are its bytes as they waited to be sent
-abbrev pub content_by : Header → ℕ → List ℕ → Content
-content_by (header.State state) sequence packet = Shows state.next state.gap state.probe
-content_by (header.Reset reset) sequence packet = Nothing
-content_by (header.Activate activate) sequence packet = Nothing
-content_by (header.Discovery discovery) sequence packet = Nothing
-content_by _ sequence packet = Carries sequence packet
+-- what a packet brings that is this to its link; `packet` are its bytes as they waited to be sent
+abbrev pub content_as : HeaderContent → ℕ → List ℕ → Content
+content_as (content.State state) sequence packet = Shows state.next state.gap state.probe
+content_as content.Numbered sequence packet = Carries sequence packet
+content_as other sequence packet = Nothing
 
--- whether a packet with this header has a number: all but STATE and what sets a link up
+-- what a packet brings, by its header
+abbrev pub content_by : Header → ℕ → List ℕ → Content
+content_by h sequence packet = content_as (header_content h) sequence packet
+
+-- whether what is this to its link has a number
+abbrev pub is_sequenced : HeaderContent → Bool
+is_sequenced content.Numbered = true
+is_sequenced other = false
+
+-- whether a packet with this header has a number
 abbrev pub is_numbered : Header → Bool
-is_numbered (header.State state) = false
-is_numbered (header.Reset reset) = false
-is_numbered (header.Activate activate) = false
-is_numbered (header.Discovery discovery) = false
-is_numbered other = true
+is_numbered h = is_sequenced (header_content h)
 
 -- the previous node that a packet shows while it waits: a message names its node from the start, and what a link makes of other
 -- packets (a bundle, a tunnel packet, a fragment) names none before it is sent

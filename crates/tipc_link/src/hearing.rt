@@ -9,7 +9,7 @@ ghost use Rattle.tipc_link.specs.Sessions.{as_waiting, is_deferred, placed, prev
 
 use std::alloc::Global;
 use std::marker::Model;
-use tipc_header::{Header, Packet, encode};
+use tipc_header::{Header, HeaderContent, Packet, encode};
 use tipc_link_fsm::Change;
 use tipc_recv_window::{LinkOutcome, Place, RecvWindow, WindowArrival};
 use tipc_types::{Bytes, NoMemory, TakenList, Why};
@@ -66,12 +66,7 @@ fn previous_waiting(packet: &Packet<'_>) -> u32
 {
     match packet.header {
         Header::Bundler(_) | Header::Changeover(_) | Header::Fragmenter(_) => 0,
-        Header::Payload(_)
-        | Header::State(_)
-        | Header::Reset(_)
-        | Header::Activate(_)
-        | Header::NameDistributor(_)
-        | Header::Discovery(_) => packet.previous,
+        _ => packet.previous,
     }
 }
 
@@ -122,16 +117,9 @@ pub(crate) fn outcome_at(place: Place, due: TakenList) -> LinkOutcome
 pub fn is_traffic(header: &Header) -> bool
     ensures { result ≡ is_traffic header.now }
 {
-    match header {
-        Header::Reset(_) => false,
-        Header::Activate(_) => false,
-        Header::Discovery(_) => false,
-        Header::State(_) => true,
-        Header::Payload(_) => true,
-        Header::Bundler(_) => true,
-        Header::Changeover(_) => true,
-        Header::NameDistributor(_) => true,
-        Header::Fragmenter(_) => true,
+    match header.content() {
+        HeaderContent::State(_) | HeaderContent::Numbered => true,
+        HeaderContent::Notice(_) | HeaderContent::Discovery => false,
     }
 }
 

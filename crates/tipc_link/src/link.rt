@@ -17,7 +17,7 @@ use crate::record::Record;
 use crate::session::Session;
 use std::alloc::{AllocError, Global};
 use std::marker::Model;
-use tipc_header::{Header, Packet, Reset, encode_frame};
+use tipc_header::{Header, HeaderContent, Notice, Packet, Reset, encode_frame};
 use tipc_link_fsm::{Change, LinkFsm};
 use tipc_outside::Outbox;
 use tipc_recv_window::LinkOutcome;
@@ -724,16 +724,11 @@ fn change_of(fsm: &mut LinkFsm, header: &Header, es: u64, er: u64, held: bool) -
     ensures change { result ≡ (outcome_of fsm.old header.now es er held).change }
     ensures after { fsm.new ≡ (outcome_of fsm.old header.now es er held).after }
 {
-    match header {
-        Header::Reset(_) => fsm.on_reset(es, held),
-        Header::Activate(_) => fsm.on_activate(es, er),
-        Header::Discovery(_) => Change::Ignore(Why::Epoch),
-        Header::State(_) => fsm.on_traffic(es, er),
-        Header::Payload(_) => fsm.on_traffic(es, er),
-        Header::Bundler(_) => fsm.on_traffic(es, er),
-        Header::Changeover(_) => fsm.on_traffic(es, er),
-        Header::NameDistributor(_) => fsm.on_traffic(es, er),
-        Header::Fragmenter(_) => fsm.on_traffic(es, er),
+    match header.content() {
+        HeaderContent::Notice(Notice::Reset(_)) => fsm.on_reset(es, held),
+        HeaderContent::Notice(Notice::Activate(_)) => fsm.on_activate(es, er),
+        HeaderContent::State(_) | HeaderContent::Numbered => fsm.on_traffic(es, er),
+        HeaderContent::Discovery => Change::Ignore(Why::Epoch),
     }
 }
 

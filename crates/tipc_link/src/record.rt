@@ -11,7 +11,7 @@ use crate::changeover::is_changeover;
 use crate::hearing::{Hearing, outcome_at, waiting_bytes};
 use std::alloc::Global;
 use std::marker::Model;
-use tipc_header::{Header, Packet};
+use tipc_header::{HeaderContent, Packet};
 use tipc_recv_window::{LinkOutcome, RecvWindow, WindowArrival};
 use tipc_types::{NoMemory, Taken, TakenList, Why};
 
@@ -124,18 +124,14 @@ impl Record {
         ensures hearing { IfOk result (λ h. IsWindowHearing (window_of self.now) (view packet.now) h) }
         ensures numbered { OnErr result (is_numbered packet.now.header ≡ true) }
     {
-        match packet.header {
-            Header::Reset(_) | Header::Activate(_) | Header::Discovery(_) => {
+        match packet.header.content() {
+            HeaderContent::Notice(_) | HeaderContent::Discovery => {
                 Ok(Hearing::without_window(by, LinkOutcome::Ignored(Why::Epoch)))
             }
-            Header::State(_) => {
+            HeaderContent::State(_) => {
                 Ok(Hearing::without_window(by, LinkOutcome::Took(TakenList::new(alloc))))
             }
-            Header::Payload(_)
-            | Header::Bundler(_)
-            | Header::Changeover(_)
-            | Header::NameDistributor(_)
-            | Header::Fragmenter(_) => self.prepare_numbered(alloc, packet, by),
+            HeaderContent::Numbered => self.prepare_numbered(alloc, packet, by),
         }
     }
 

@@ -14,7 +14,7 @@ use crate::hearing::{Hearing, is_heard};
 use crate::link::{Link, LinkArrival};
 use crate::session::Session;
 use std::alloc::Global;
-use tipc_header::{Header, Packet, State};
+use tipc_header::{HeaderContent, Packet, State};
 use tipc_outside::Outbox;
 use tipc_recv_window::LinkOutcome;
 use tipc_types::{BroadcastState, NoMemory};
@@ -73,14 +73,9 @@ impl Session {
         ensures after { self.new ≡ moved_at (content_of (view packet.now)) self.old }
         ensures frames { Adds out.old out.new (moved_frames (content_of (view packet.now)) self.old) }
     {
-        match packet.header {
-            Header::Reset(_) | Header::Activate(_) | Header::Discovery(_) => {}
-            Header::State(_)
-            | Header::Payload(_)
-            | Header::Bundler(_)
-            | Header::Changeover(_)
-            | Header::NameDistributor(_)
-            | Header::Fragmenter(_) => self.flush(alloc, out),
+        match packet.header.content() {
+            HeaderContent::Notice(_) | HeaderContent::Discovery => {}
+            HeaderContent::State(_) | HeaderContent::Numbered => self.flush(alloc, out),
         }
     }
 
@@ -99,17 +94,13 @@ impl Session {
         ensures frames { Adds out.old out.new (again_frames self.old packet.now.acknowledgement
             (content_of (view packet.now))) }
     {
-        match packet.header {
-            Header::Reset(_) | Header::Activate(_) | Header::Discovery(_) => hearing.outcome,
-            Header::State(state) => {
+        match packet.header.content() {
+            HeaderContent::Notice(_) | HeaderContent::Discovery => hearing.outcome,
+            HeaderContent::State(state) => {
                 self.hear_state(alloc, packet.acknowledgement, &state, out);
                 hearing.outcome
             }
-            Header::Payload(_) => self.hear_numbered(packet.acknowledgement, hearing),
-            Header::Bundler(_) => self.hear_numbered(packet.acknowledgement, hearing),
-            Header::Changeover(_) => self.hear_numbered(packet.acknowledgement, hearing),
-            Header::NameDistributor(_) => self.hear_numbered(packet.acknowledgement, hearing),
-            Header::Fragmenter(_) => self.hear_numbered(packet.acknowledgement, hearing),
+            HeaderContent::Numbered => self.hear_numbered(packet.acknowledgement, hearing),
         }
     }
 
