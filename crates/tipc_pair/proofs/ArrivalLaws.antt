@@ -134,13 +134,7 @@ hears_far (header.Activate said) es er p by shown x =
     let hear = met_near es er p by shown in
     by_number_far x said.contact (hear x) (activate_higher said.contact hear x) (far_of x _ (met_goes es er p by shown x x.near refl))
     (λ differs. activates_far x said.contact hear (λ y. met_goes es er p by shown y y.near refl) differs)
-hears_far (header.Discovery said) es er p by shown x = far_of x _ (met_goes es er p by shown x x.near refl)
-hears_far (header.State said) es er p by shown x = far_of x _ (met_goes es er p by shown x x.near refl)
-hears_far (header.Payload said) es er p by shown x = far_of x _ (met_goes es er p by shown x x.near refl)
-hears_far (header.Bundler said) es er p by shown x = far_of x _ (met_goes es er p by shown x x.near refl)
-hears_far (header.Changeover said) es er p by shown x = far_of x _ (met_goes es er p by shown x x.near refl)
-hears_far (header.NameDistributor said) es er p by shown x = far_of x _ (met_goes es er p by shown x x.near refl)
-hears_far (header.Fragmenter said) es er p by shown x = far_of x _ (met_goes es er p by shown x x.near refl)
+hears_far other es er p by shown x = far_of x _ (met_goes es er p by shown x x.near refl)
 
 -- ---- a tunnel packet
 

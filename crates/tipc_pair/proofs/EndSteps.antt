@@ -82,12 +82,7 @@ pub outcome_moves : (f : Fsm) (h : Header) (es er : ℕ) (held : Bool) → Moves
 outcome_moves f (header.Reset r) es er held = on_reset_moves f es held _
 outcome_moves f (header.Activate a) es er held = on_activate_moves f es er
 outcome_moves f (header.Discovery d) es er held = stays refl refl refl
-outcome_moves f (header.State x) es er held = on_traffic_moves f es er
-outcome_moves f (header.Payload x) es er held = on_traffic_moves f es er
-outcome_moves f (header.Bundler x) es er held = on_traffic_moves f es er
-outcome_moves f (header.Changeover x) es er held = on_traffic_moves f es er
-outcome_moves f (header.NameDistributor x) es er held = on_traffic_moves f es er
-outcome_moves f (header.Fragmenter x) es er held = on_traffic_moves f es er
+outcome_moves f other es er held = on_traffic_moves f es er
 
 activate_falls : (f : Fsm) (es er : ℕ) → Falls f (on_activate f es er)
 unfolding on_activate
@@ -106,12 +101,7 @@ pub outcome_falls : (f : Fsm) (h : Header) (es er : ℕ) (held : Bool) → Falls
 outcome_falls f (header.Reset r) es er held = on_reset_falls f es held
 outcome_falls f (header.Activate a) es er held = activate_falls f es er
 outcome_falls f (header.Discovery d) es er held = λ e. cc
-outcome_falls f (header.State x) es er held = traffic_falls f es er
-outcome_falls f (header.Payload x) es er held = traffic_falls f es er
-outcome_falls f (header.Bundler x) es er held = traffic_falls f es er
-outcome_falls f (header.Changeover x) es er held = traffic_falls f es er
-outcome_falls f (header.NameDistributor x) es er held = traffic_falls f es er
-outcome_falls f (header.Fragmenter x) es er held = traffic_falls f es er
+outcome_falls f other es er held = traffic_falls f es er
 
 pub up_part : (a b : Bool) → (a && b) ≡ true → a ≡ true
 up_part true b h = refl

@@ -8,7 +8,7 @@ use Rattle.tipc_types.specs.declared.link_words.BroadcastState.{BroadcastState}
 use Rattle.tipc_outside.specs.Frames.{Out}
 use Rattle.tipc_outside.specs.declared.outgoing.Outgoing.{Outgoing}
 use Rattle.tipc_bundle.specs.Bundles.{joined}
-use Rattle.tipc_link.specs.Links.{LinkEnd, after, answered_with, mended_end, tunnels_of, with_session}
+use Rattle.tipc_link.specs.Links.{LinkEnd, answered_with, mended_end, tunnels_of, with_session}
 use Rattle.tipc_link.specs.Records.{is_tunnel}
 use Rattle.tipc_link.specs.Sessions.{IsPut, SessionEnd, answered, flushed, joins, last_of, room, waits, with_broadcast}
 use Rattle.tipc_link_fsm.specs.Table.{Fsm, is_held}
@@ -16,7 +16,6 @@ use Rattle.tipc_pair.specs.Courses.{Course}
 use Rattle.tipc_pair.specs.Facing.{PairEnds, facing, turned, with_made, with_near}
 use Rattle.tipc_pair.specs.PairCalls.{SendsWithin, answered_at, at_bearer, mended_near}
 use Rattle.tipc_pair.specs.PairFacts.{AreHeldRightly, HasCarrier}
-use Rattle.tipc_pair.proofs.EndSteps.{session_is}
 use Rattle.tipc_pair.proofs.HeldLaws.{rightly_facing}
 use Rattle.tipc_pair.proofs.PairSends.{PutNear, bearer_stays}
 use Rattle.tipc_pair.proofs.Putting.{carries_plain}

@@ -94,12 +94,7 @@ pub outcome_holds : (f : Fsm) (h : Header) (es er : ℕ) (held : Bool) → Holds
 outcome_holds f (header.Reset r) es er held = reset_holds f es held
 outcome_holds f (header.Activate a) es er held = activate_holds f es er
 outcome_holds f (header.Discovery d) es er held = same_holds f _
-outcome_holds f (header.State x) es er held = traffic_holds f es er
-outcome_holds f (header.Payload x) es er held = traffic_holds f es er
-outcome_holds f (header.Bundler x) es er held = traffic_holds f es er
-outcome_holds f (header.Changeover x) es er held = traffic_holds f es er
-outcome_holds f (header.NameDistributor x) es er held = traffic_holds f es er
-outcome_holds f (header.Fragmenter x) es er held = traffic_holds f es er
+outcome_holds f other es er held = traffic_holds f es er
 
 -- which calls never take a link up
 pub reset_quiet : (f : Fsm) (es : ℕ) (held : Bool) → is_going_up (on_reset f es held).change ≡ false

@@ -10,15 +10,8 @@ use Rattle.tipc_pair.specs.Runs.{BeginsWithTunnel}
 use Rattle.tipc_pair.proofs.Listed.{both_ways, spelled_tunnel}
 
 inside_plain : (h : Header) → may_stand_inside h ≡ true → is_changeover h ≡ false
-inside_plain (header.Payload m) e = refl
-inside_plain (header.NameDistributor n) e = refl
-inside_plain (header.Bundler b) e = refl
-inside_plain (header.State s) e = refl
-inside_plain (header.Reset r) e = refl
-inside_plain (header.Activate a) e = refl
-inside_plain (header.Fragmenter f) e = refl
-inside_plain (header.Discovery d) e = refl
 inside_plain (header.Changeover c) e = both_ways false e refl
+inside_plain other e = refl
 
 pub inner_plain : (packet : List ℕ) → IsInner packet → is_tunnel packet ≡ false
 inner_plain packet h = ap is_tunnel h.spelled ∙ (spelled_tunnel h.packet h.fits ∙ inside_plain h.packet.header h.inside)

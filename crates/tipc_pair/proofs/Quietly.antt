@@ -123,19 +123,7 @@ hears_quietly (header.Reset said) es er p by shown x e is standing near quiet =
     by_same x said.contact _ _ standing ∙ reset_quietly es p by shown x e (ap (λ k. is_heard k (on_reset e.fsm es (is_up_at x.far)).change) is) near quiet
 hears_quietly (header.Activate said) es er p by shown x e is standing near quiet =
     by_same x said.contact _ _ standing ∙ (sym (met_near_is es er p by shown x e (is_up_at x.far) near refl) ∙ ap (λ k. met x e (outcome_of e.fsm k es er (is_up_at x.far)) p es by shown) is)
-hears_quietly (header.Discovery said) es er p by shown x e is standing near quiet =
-    sym (met_near_is es er p by shown x e (is_up_at x.far) near refl) ∙ ap (λ k. met x e (outcome_of e.fsm k es er (is_up_at x.far)) p es by shown) is
-hears_quietly (header.State said) es er p by shown x e is standing near quiet =
-    sym (met_near_is es er p by shown x e (is_up_at x.far) near refl) ∙ ap (λ k. met x e (outcome_of e.fsm k es er (is_up_at x.far)) p es by shown) is
-hears_quietly (header.Payload said) es er p by shown x e is standing near quiet =
-    sym (met_near_is es er p by shown x e (is_up_at x.far) near refl) ∙ ap (λ k. met x e (outcome_of e.fsm k es er (is_up_at x.far)) p es by shown) is
-hears_quietly (header.Bundler said) es er p by shown x e is standing near quiet =
-    sym (met_near_is es er p by shown x e (is_up_at x.far) near refl) ∙ ap (λ k. met x e (outcome_of e.fsm k es er (is_up_at x.far)) p es by shown) is
-hears_quietly (header.Changeover said) es er p by shown x e is standing near quiet =
-    sym (met_near_is es er p by shown x e (is_up_at x.far) near refl) ∙ ap (λ k. met x e (outcome_of e.fsm k es er (is_up_at x.far)) p es by shown) is
-hears_quietly (header.NameDistributor said) es er p by shown x e is standing near quiet =
-    sym (met_near_is es er p by shown x e (is_up_at x.far) near refl) ∙ ap (λ k. met x e (outcome_of e.fsm k es er (is_up_at x.far)) p es by shown) is
-hears_quietly (header.Fragmenter said) es er p by shown x e is standing near quiet =
+hears_quietly other es er p by shown x e is standing near quiet =
     sym (met_near_is es er p by shown x e (is_up_at x.far) near refl) ∙ ap (λ k. met x e (outcome_of e.fsm k es er (is_up_at x.far)) p es by shown) is
 
 -- ---- what is taken is plain

@@ -1,5 +1,5 @@
 -- Frames of a box that go out behind others.
-use Rattle.std.proofs.Common.{◌≡◌, ◌≤◌, ◌<◌, refl, true, false, List, [], ◌++◌, length, take, min, sym, subst, ap, ◌∙◌, arith}
+use Rattle.std.proofs.Common.{◌≡◌, ◌≤◌, ◌<◌, refl, true, false, List, [], ◌++◌, length, take, min, subst, ap, ◌∙◌, arith}
 use Rattle.std.proofs.lemmas.List.{length-take, take-take, take_all}
 use Rattle.tipc_outside.specs.Frames.{Adds, Out}
 use Rattle.tipc_outside.proofs.Adding.{adds_all, adds_fewer, adds_missing}

@@ -8,7 +8,10 @@ use Rattle.tipc_types.specs.declared.packet_lists.Taken.{Taken}
 use Rattle.tipc_header.specs.declared.packet.ChangeoverType.{ChangeoverType}
 use Rattle.tipc_header.specs.declared.packet.ChangeoverType.TheVariants as kind
 use Rattle.tipc_header.specs.declared.packet.Header.{Header}
-use Rattle.tipc_header.specs.declared.packet.Header.TheVariants as header
+use Rattle.tipc_header.specs.declared.contents.HeaderContent.{HeaderContent}
+use Rattle.tipc_header.specs.declared.contents.HeaderContent.TheVariants as content
+use Rattle.tipc_header.specs.declared.contents.Notice.TheVariants as notice
+use Rattle.tipc_header.specs.Contents.{header_content}
 use Rattle.tipc_header.specs.Faults.{fault_of}
 use Rattle.tipc_header.specs.Grammar.{Fits}
 use Rattle.tipc_header.specs.Reading.{fields_at}
@@ -113,11 +116,15 @@ activate_higher number meet x = activates (in_contact x) (risen x number) (behin
 abbrev pub activate_shown : ℕ → (PairEnds → Heard) → PairEnds → Heard
 activate_shown number meet x = by_number x number (meet x) (activate_higher number meet x)
 
--- what the near link makes of a packet of any kind, under the epochs es and er
+-- what the near link makes of a packet that is this to it, under the epochs es and er
+abbrev pub hears_as : HeaderContent → ℕ → ℕ → Fields → ℕ → BroadcastState → PairEnds → Heard
+hears_as (content.Notice (notice.Reset said)) es er p by shown x = reset_shown said.contact es shown x
+hears_as (content.Notice (notice.Activate said)) es er p by shown x = activate_shown said.contact (met_near es er p by shown) x
+hears_as other es er p by shown x = met_near es er p by shown x
+
+-- what the near link makes of a packet of any kind
 abbrev pub hears : Header → ℕ → ℕ → Fields → ℕ → BroadcastState → PairEnds → Heard
-hears (header.Reset said) es er p by shown x = reset_shown said.contact es shown x
-hears (header.Activate said) es er p by shown x = activate_shown said.contact (met_near es er p by shown) x
-hears other es er p by shown x = met_near es er p by shown x
+hears h es er p by shown x = hears_as (header_content h) es er p by shown x
 
 -- the pair is as after this, and so is what was told and sent, and the outcome
 pub record IsHeardAs (h : Heard) (after : PairEnds) (old new : LeavingState) (outcome : LinkOutcome) : Type 0 where

@@ -4,7 +4,10 @@ use Rattle.std.specs.Prelude.{◌≡◌, ◌==◌, ◌&&◌, ℕ, Bool, true, no
 use Rattle.std.specs.List.{list_all}
 use Rattle.tipc_types.specs.declared.packet_lists.Taken.{Taken}
 use Rattle.tipc_header.specs.declared.packet.Header.{Header}
-use Rattle.tipc_header.specs.declared.packet.Header.TheVariants as header
+use Rattle.tipc_header.specs.declared.contents.HeaderContent.{HeaderContent}
+use Rattle.tipc_header.specs.declared.contents.HeaderContent.TheVariants as content
+use Rattle.tipc_header.specs.declared.contents.Notice.TheVariants as notice
+use Rattle.tipc_header.specs.Contents.{header_content}
 use Rattle.tipc_header.specs.Spelling.{Fields}
 use Rattle.tipc_tunnel.specs.Tunnels.{Tunnelled}
 use Rattle.tipc_contact.specs.declared.contact.Standing.{Standing}
@@ -64,11 +67,15 @@ pub record Opens (x : PairEnds) (outcome : LinkOutcome) (given : PairOutcome) (a
 abbrev pub standing_of : ℕ → ℕ → Standing
 standing_of number seen = if nat_lt number seen then Lower else (if number == seen then Same else Higher)
 
--- and one that a packet shows; a packet that shows none stands as the highest
+-- and one that a packet shows which is this to its link; a packet that shows none stands as the highest
+abbrev pub standing_as : PairEnds → HeaderContent → Standing
+standing_as x (content.Notice (notice.Reset said)) = standing_of said.contact x.seen
+standing_as x (content.Notice (notice.Activate said)) = standing_of said.contact x.seen
+standing_as x other = Same
+
+-- how the contact number that a packet shows stands to the highest seen
 abbrev pub standing_with : PairEnds → Header → Standing
-standing_with x (header.Reset said) = standing_of said.contact x.seen
-standing_with x (header.Activate said) = standing_of said.contact x.seen
-standing_with x other = Same
+standing_with x h = standing_as x (header_content h)
 
 -- a packet that was taken has bytes, and is no tunnel packet
 abbrev pub is_plain : Taken → Bool

@@ -13,7 +13,7 @@ use crate::leaving::Leaving;
 use crate::link_ends::LinkEnds;
 use std::alloc::Global;
 use tipc_contact::Standing;
-use tipc_header::{Header, Packet, decode};
+use tipc_header::{HeaderContent, Notice, Packet, decode};
 use tipc_link::{Link, is_down, waiting_bytes};
 use tipc_link_fsm::Change;
 use tipc_recv_window::LinkOutcome;
@@ -76,22 +76,20 @@ impl LinkEnds {
             (view incoming.now.packet) incoming.now.by incoming.now.shown self.old)
             self.new event.old event.new outcome) }
     {
-        match incoming.packet.header {
-            Header::Reset(said) => self.hear_reset(
+        match incoming.packet.header.content() {
+            HeaderContent::Notice(Notice::Reset(said)) => self.hear_reset(
                 alloc,
                 incoming.sender_epoch,
                 said.contact,
                 incoming.shown,
                 event,
             ),
-            Header::Activate(said) => { self.hear_activate(alloc, said.contact, incoming, event) }
-            Header::Discovery(_) => self.meet(alloc, incoming, event),
-            Header::State(_) => self.meet(alloc, incoming, event),
-            Header::Payload(_) => self.meet(alloc, incoming, event),
-            Header::Bundler(_) => self.meet(alloc, incoming, event),
-            Header::Changeover(_) => self.meet(alloc, incoming, event),
-            Header::NameDistributor(_) => self.meet(alloc, incoming, event),
-            Header::Fragmenter(_) => self.meet(alloc, incoming, event),
+            HeaderContent::Notice(Notice::Activate(said)) => {
+                self.hear_activate(alloc, said.contact, incoming, event)
+            }
+            HeaderContent::State(_) => self.meet(alloc, incoming, event),
+            HeaderContent::Numbered => self.meet(alloc, incoming, event),
+            HeaderContent::Discovery => self.meet(alloc, incoming, event),
         }
     }
 

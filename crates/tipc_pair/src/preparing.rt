@@ -16,7 +16,7 @@ use crate::link_ends::{LinkEnds, is_up};
 use crate::transitions::Transition;
 use std::alloc::Global;
 use tipc_contact::Standing;
-use tipc_header::{Header, Packet};
+use tipc_header::{Header, HeaderContent, Notice, Packet};
 use tipc_link::{Arriving, is_tunnel};
 use tipc_link_fsm::Change;
 use tipc_reassembly::Reassembly;
@@ -296,16 +296,12 @@ impl LinkEnds {
     fn standing_with(&self, header: &Header) -> Standing
         ensures { result ≡ standing_with self.now header.now }
     {
-        match header {
-            Header::Reset(said) => self.standing(said.contact),
-            Header::Activate(said) => self.standing(said.contact),
-            Header::Discovery(_) => Standing::Same,
-            Header::State(_) => Standing::Same,
-            Header::Payload(_) => Standing::Same,
-            Header::Bundler(_) => Standing::Same,
-            Header::Changeover(_) => Standing::Same,
-            Header::NameDistributor(_) => Standing::Same,
-            Header::Fragmenter(_) => Standing::Same,
+        match header.content() {
+            HeaderContent::Notice(Notice::Reset(said)) => self.standing(said.contact),
+            HeaderContent::Notice(Notice::Activate(said)) => self.standing(said.contact),
+            HeaderContent::State(_) => Standing::Same,
+            HeaderContent::Numbered => Standing::Same,
+            HeaderContent::Discovery => Standing::Same,
         }
     }
 }

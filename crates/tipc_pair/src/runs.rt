@@ -20,13 +20,7 @@ fn previous_sent(own: u32, packet: &Packet<'_>) -> u32
     match packet.header {
         Header::Bundler(_) => own,
         Header::Fragmenter(_) => own,
-        Header::Payload(_) => packet.previous,
-        Header::State(_) => packet.previous,
-        Header::Reset(_) => packet.previous,
-        Header::Activate(_) => packet.previous,
-        Header::Changeover(_) => packet.previous,
-        Header::NameDistributor(_) => packet.previous,
-        Header::Discovery(_) => packet.previous,
+        _ => packet.previous,
     }
 }
 

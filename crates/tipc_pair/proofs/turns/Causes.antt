@@ -264,12 +264,7 @@ meeting_stays : (s : Fsm) (h : Header) (es er : ℕ) (held : Bool) → ((said : 
 meeting_stays s (header.Reset said) es er held other_kind = absurd (other_kind said refl)
 meeting_stays s (header.Activate said) es er held other_kind = activate_stays s es er
 meeting_stays s (header.Discovery said) es er held other_kind = tt
-meeting_stays s (header.State said) es er held other_kind = traffic_stays s es er
-meeting_stays s (header.Payload said) es er held other_kind = traffic_stays s es er
-meeting_stays s (header.Bundler said) es er held other_kind = traffic_stays s es er
-meeting_stays s (header.Changeover said) es er held other_kind = traffic_stays s es er
-meeting_stays s (header.NameDistributor said) es er held other_kind = traffic_stays s es er
-meeting_stays s (header.Fragmenter said) es er held other_kind = traffic_stays s es er
+meeting_stays s other es er held other_kind = traffic_stays s es er
 
 rise_tells : (y : PairEnds) (e : LinkEnd) → y.near ≡ Some e → (epoch : ℕ) → MayRise y (following y Up epoch).changes
 rise_tells y e is epoch =

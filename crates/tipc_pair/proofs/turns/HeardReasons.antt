@@ -257,13 +257,7 @@ hears_hold (header.Activate said) x es er p by shown number shows higher there =
     let meet = met_near es er p by shown in
     subst (λ n. EndsBy x number (by_number x n (meet x) (activate_higher n meet x))) (sym same)
     (subst (EndsBy x number) (sym (by_higher x number (meet x) (activate_higher number meet x) higher ∙ ap (λ b. activates b (risen x number) (behind (risen x number) meet)) there)) (risen_holds x number there))
-hears_hold (header.Discovery said) x es er p by shown number shows higher there = absurd (let wrong : ⊥ = cc in wrong)
-hears_hold (header.State said) x es er p by shown number shows higher there = absurd (let wrong : ⊥ = cc in wrong)
-hears_hold (header.Payload said) x es er p by shown number shows higher there = absurd (let wrong : ⊥ = cc in wrong)
-hears_hold (header.Bundler said) x es er p by shown number shows higher there = absurd (let wrong : ⊥ = cc in wrong)
-hears_hold (header.Changeover said) x es er p by shown number shows higher there = absurd (let wrong : ⊥ = cc in wrong)
-hears_hold (header.NameDistributor said) x es er p by shown number shows higher there = absurd (let wrong : ⊥ = cc in wrong)
-hears_hold (header.Fragmenter said) x es er p by shown number shows higher there = absurd (let wrong : ⊥ = cc in wrong)
+hears_hold other x es er p by shown number shows higher there = absurd (let wrong : ⊥ = cc in wrong)
 
 -- ---- a tunnel packet
 

@@ -79,12 +79,7 @@ pub outcome_turns : (f : Fsm) (h : Header) (es er : ℕ) (held : Bool) → Knows
 outcome_turns f (header.Reset r) es er held knows = reset_turns f es held knows
 outcome_turns f (header.Activate a) es er held knows = activate_turns f es er knows
 outcome_turns f (header.Discovery d) es er held knows = ((refl, refl, λ _. refl), knows)
-outcome_turns f (header.State x) es er held knows = traffic_turns f es er knows
-outcome_turns f (header.Payload x) es er held knows = traffic_turns f es er knows
-outcome_turns f (header.Bundler x) es er held knows = traffic_turns f es er knows
-outcome_turns f (header.Changeover x) es er held knows = traffic_turns f es er knows
-outcome_turns f (header.NameDistributor x) es er held knows = traffic_turns f es er knows
-outcome_turns f (header.Fragmenter x) es er held knows = traffic_turns f es er knows
+outcome_turns f other es er held knows = traffic_turns f es er knows
 
 pub unheard_up : (f : Fsm) → is_up (unheard f).state ≡ true
 unheard_up f = tested (λ st. is_up st ≡ true) (nat_le 1 f.silent) WorkingUnknown WorkingWorking (λ t. refl) (λ t. refl)

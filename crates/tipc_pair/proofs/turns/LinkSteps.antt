@@ -121,12 +121,7 @@ pub outcome_steps : (f : Fsm) (h : Header) (es er : ℕ) (held : Bool) → Steps
 outcome_steps f (header.Reset r) es er held = reset_steps f es held
 outcome_steps f (header.Activate a) es er held = activate_steps f es er
 outcome_steps f (header.Discovery d) es er held = ignores f _ (same_steps f)
-outcome_steps f (header.State x) es er held = traffic_steps f es er
-outcome_steps f (header.Payload x) es er held = traffic_steps f es er
-outcome_steps f (header.Bundler x) es er held = traffic_steps f es er
-outcome_steps f (header.Changeover x) es er held = traffic_steps f es er
-outcome_steps f (header.NameDistributor x) es er held = traffic_steps f es er
-outcome_steps f (header.Fragmenter x) es er held = traffic_steps f es er
+outcome_steps f other es er held = traffic_steps f es er
 
 -- ---- release, and the end of a contact
 

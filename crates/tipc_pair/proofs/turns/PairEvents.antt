@@ -293,12 +293,7 @@ heard_up : (f : Fsm) (h : Header) (es er : ℕ) (held : Bool) → is_heard h (ou
 heard_up f (header.Reset r) es er held is = cc
 heard_up f (header.Activate a) es er held is = cc
 heard_up f (header.Discovery d) es er held is = cc
-heard_up f (header.State x) es er held is = traffic_up f es er is
-heard_up f (header.Payload x) es er held is = traffic_up f es er is
-heard_up f (header.Bundler x) es er held is = traffic_up f es er is
-heard_up f (header.Changeover x) es er held is = traffic_up f es er is
-heard_up f (header.NameDistributor x) es er held is = traffic_up f es er is
-heard_up f (header.Fragmenter x) es er held is = traffic_up f es er is
+heard_up f other es er held is = traffic_up f es er is
 
 heard_taken : (h : Header) (c : Change) → is_heard h c ≡ true → is_taken c ≡ true
 heard_taken h c is = (and_parts (is_traffic h) (is_taken c) is).1
@@ -430,13 +425,7 @@ hears_so (header.Reset said) es er p by shown x is h =
     number_so x said.contact (reset_near es shown x) (behind (risen x said.contact) (reset_near es shown)) h (reset_so es shown x h) (behind_reset x said.contact es shown h)
 hears_so (header.Activate said) es er p by shown x is h =
     number_so x said.contact (met_near es er p by shown x) (activate_higher said.contact (met_near es er p by shown) x) h (met_so es er p by shown x x.near refl h) (activate_so es er p by shown said x is h)
-hears_so (header.Discovery said) es er p by shown x is h = met_so es er p by shown x x.near refl h
-hears_so (header.State said) es er p by shown x is h = met_so es er p by shown x x.near refl h
-hears_so (header.Payload said) es er p by shown x is h = met_so es er p by shown x x.near refl h
-hears_so (header.Bundler said) es er p by shown x is h = met_so es er p by shown x x.near refl h
-hears_so (header.Changeover said) es er p by shown x is h = met_so es er p by shown x x.near refl h
-hears_so (header.NameDistributor said) es er p by shown x is h = met_so es er p by shown x x.near refl h
-hears_so (header.Fragmenter said) es er p by shown x is h = met_so es er p by shown x x.near refl h
+hears_so other es er p by shown x is h = met_so es er p by shown x x.near refl h
 
 -- ---- what was taken is opened, while the near link is up
 

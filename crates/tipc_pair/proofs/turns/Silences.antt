@@ -134,12 +134,7 @@ outcome_hushes : (f : Fsm) (h : Header) (es er : ℕ) (held : Bool) → Hushes f
 outcome_hushes f (header.Reset r) es er held = reset_hushes f es held
 outcome_hushes f (header.Activate a) es er held = activate_hushes f es er
 outcome_hushes f (header.Discovery d) es er held = ignores f why.Epoch
-outcome_hushes f (header.State x) es er held = traffic_hushes f es er
-outcome_hushes f (header.Payload x) es er held = traffic_hushes f es er
-outcome_hushes f (header.Bundler x) es er held = traffic_hushes f es er
-outcome_hushes f (header.Changeover x) es er held = traffic_hushes f es er
-outcome_hushes f (header.NameDistributor x) es er held = traffic_hushes f es er
-outcome_hushes f (header.Fragmenter x) es er held = traffic_hushes f es er
+outcome_hushes f other es er held = traffic_hushes f es er
 
 if_most : (t : Bool) (n : ℕ) → (if t then n else 0) ≤ n
 if_most true n = omega arith
@@ -429,13 +424,7 @@ hears_listens (header.Activate said) es er p by shown x two =
     let at : (y : PairEnds) → Listens y (meet y) = λ y. met_near_listens es er p by shown y y.near refl in
     number_listens x said.contact (meet x) (activate_higher said.contact meet x) (at x)
     (activates_listens (in_contact x) x up (behind up meet) rises (down_zero up.pair.near (let down = risen_down x said.contact in down.near)) (behind_listens x up meet two rises (at up.pair)))
-hears_listens (header.Discovery said) es er p by shown x two = met_near_listens es er p by shown x x.near refl
-hears_listens (header.State said) es er p by shown x two = met_near_listens es er p by shown x x.near refl
-hears_listens (header.Payload said) es er p by shown x two = met_near_listens es er p by shown x x.near refl
-hears_listens (header.Bundler said) es er p by shown x two = met_near_listens es er p by shown x x.near refl
-hears_listens (header.Changeover said) es er p by shown x two = met_near_listens es er p by shown x x.near refl
-hears_listens (header.NameDistributor said) es er p by shown x two = met_near_listens es er p by shown x x.near refl
-hears_listens (header.Fragmenter said) es er p by shown x two = met_near_listens es er p by shown x x.near refl
+hears_listens other es er p by shown x two = met_near_listens es er p by shown x x.near refl
 
 -- ---- an arrival, with what was opened and released
 
