@@ -24,14 +24,7 @@ fn previous_before(packet: &Packet<'_>) -> u32
 {
     match packet.header {
         Header::Fragmenter(_) => 0,
-        Header::Payload(_)
-        | Header::Bundler(_)
-        | Header::State(_)
-        | Header::Reset(_)
-        | Header::Activate(_)
-        | Header::Changeover(_)
-        | Header::NameDistributor(_)
-        | Header::Discovery(_) => packet.previous,
+        _ => packet.previous,
     }
 }
 

@@ -34,17 +34,7 @@ pub struct HeardPacket {
 fn is_state(header: &Header) -> bool
     ensures { result ≡ is_state header.now }
 {
-    match header {
-        Header::State(_) => true,
-        Header::Reset(_) => false,
-        Header::Activate(_) => false,
-        Header::Payload(_) => false,
-        Header::Bundler(_) => false,
-        Header::Changeover(_) => false,
-        Header::NameDistributor(_) => false,
-        Header::Fragmenter(_) => false,
-        Header::Discovery(_) => false,
-    }
+    matches!(header, Header::State(_))
 }
 
 /// Whether an arrival gave what its link took.
