@@ -1,5 +1,5 @@
 -- A packet that joins the last one that waits.
-use Rattle.std.proofs.Common.{◌≡◌, ℕ, ◌-◌, ◌<◌, ◌≤◌, true, List, [], ◌∷◌, ◌++◌, Option, Some, None, Result, Ok, Err, length, slice_get, inl, inr, refl, sym, ap, subst, ◌∙◌, arith}
+use Rattle.std.proofs.Common.{◌≡◌, ℕ, ◌-◌, ◌≤◌, true, List, [], ◌∷◌, ◌++◌, Option, Some, None, Result, Ok, Err, length, slice_get, inl, inr, refl, sym, ap, subst, ◌∙◌, arith}
 use Rattle.std.specs.Prelude.{IfNone, OnOk}
 use Rattle.std.proofs.lemmas.Option.{get_or_from_slice_get, slice_get_within}
 use Rattle.tipc_header.specs.declared.packet.Bundle.{Bundle}
@@ -55,17 +55,11 @@ joined_is_put e pieces bundle h =
     subst (λ ps. IsPut e ps (with_last e bundle)) (sym h.alone) (subst (λ q. IsPut e (h.packet ∷ []) (with_last e q)) (sym h.joined.joined) (joins h.packets h.packet h.may_join))
 
 -- packets that may not join wait behind the others
-pub waiting_is_put : {F : Type 0} (r : Result (Unit {0}) F) (e after : SessionEnd) (pieces : List (List ℕ)) (limit : ℕ)
+pub waiting_is_put : {F : Type 0} (r : Result (Unit {0}) F) (e after : SessionEnd) (pieces : List (List ℕ))
     → ((packets : List (List ℕ)) (packet : List ℕ) → pieces ≡ packet ∷ [] → MayJoin e packets packet → ⊥)
-    → OnOk r ((length e.sending.waiting < limit) × (after ≡ put e pieces)) → OnOk r ((length e.sending.waiting < limit) × IsPut e pieces after)
-waiting_is_put (Ok done) e after pieces limit none ok = (ok.0, subst (IsPut e pieces) (sym ok.1) (waits pieces none))
-waiting_is_put (Err fault) e after pieces limit none ok = ok
-
--- and at the limit no packet waits
-pub waits_for_nothing : {F : Type 0} (r : Result (Unit {0}) F) (e after : SessionEnd) (pieces : List (List ℕ)) (limit : ℕ) → limit ≤ length e.sending.waiting
-    → OnOk r ((length e.sending.waiting < limit) × (after ≡ put e pieces)) → OnOk r ((length e.sending.waiting < limit) × IsPut e pieces after)
-waits_for_nothing (Ok done) e after pieces limit full ok = absurd (omega (arith, full, ok.0))
-waits_for_nothing (Err fault) e after pieces limit full ok = ok
+    → OnOk r (after ≡ put e pieces) → OnOk r (IsPut e pieces after)
+waiting_is_put (Ok done) e after pieces none ok = subst (IsPut e pieces) (sym ok) (waits pieces none)
+waiting_is_put (Err fault) e after pieces none ok = ok
 
 pub none_given : (o : Option (List ℕ)) (P : Type 0) → ((x : List ℕ) → o ≡ Some x → ⊥) → IfNone o P → P
 none_given None P none h = h

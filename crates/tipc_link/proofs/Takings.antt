@@ -55,18 +55,18 @@ IsSession-joined bearer unanswered window after r packet waits sending is h = rw
 })
 
 -- more packets wait, or none
-pub IsSession-offered : {F : Type 0} (r : Result (Unit {0}) F) (bearer : ℕ) (unanswered : Unanswered) (limit : ℕ) (window after : Sending) (kept : Received) (pieces : List (List ℕ))
-    → All IsWaiting pieces → IsSending after → OnOk r ((length window.waiting < limit) × (after ≡ offered window pieces)) → OnErr r (after ≡ window)
+pub IsSession-offered : {F : Type 0} (r : Result (Unit {0}) F) (bearer : ℕ) (unanswered : Unanswered) (window after : Sending) (kept : Received) (pieces : List (List ℕ))
+    → All IsWaiting pieces → IsSending after → OnOk r (after ≡ offered window pieces) → OnErr r (after ≡ window)
     → IsSession bearer unanswered window kept → IsSession bearer unanswered after kept
-IsSession-offered (Ok done) bearer unanswered limit window after kept pieces all sending ok err h = rw (ok.1) (record {
+IsSession-offered (Ok done) bearer unanswered window after kept pieces all sending ok err h = rw ok (record {
   two_bearers = h.two_bearers;
   few = h.few;
   answers = h.answers;
-  sending = subst IsSending ok.1 sending;
+  sending = subst IsSending ok sending;
   waiting = All-append IsWaiting window.waiting pieces h.waiting all;
   unacked = h.unacked;
 })
-IsSession-offered (Err fault) bearer unanswered limit window after kept pieces all sending ok err h = rw err h
+IsSession-offered (Err fault) bearer unanswered window after kept pieces all sending ok err h = rw err h
 
 -- what is acknowledged doesn't bear on what is taken
 pub took-released : (e : SessionEnd) (acknowledgement : ℕ) (t : Taken) → after_acknowledgement (took e t) acknowledgement ≡ took (after_acknowledgement e acknowledgement) t

@@ -289,11 +289,12 @@ impl Link {
         change
     }
 
-    /// Puts packets on a link that is up, and sends those that the window of 50 has room for: as [`Session::send`].
+    /// Puts packets on a link that is up, unless too many wait there: as [`Link::put`].
     ///
     /// # Errors
     ///
-    /// Congested exactly where at least `limit` packets wait; else NoMemory. Either changes nothing.
+    /// Congested exactly where at least `limit` packets wait, with the counts of the packets unacknowledged and waiting; else
+    /// NoMemory. Either changes nothing.
     pub fn send(
         &mut self,
         alloc: Global,
@@ -314,8 +315,32 @@ impl Link {
             result ≡ Err (OfferFault.Congested in_flight waiting) → limit ≤ length s.sending.waiting }
         ensures err { OnErr result ((self.new ≡ self.old) × (out.new ≡ out.old)) }
     {
+        let Some((in_flight, waiting)) = self.load() else {
+            unreachable!()
+        };
+        if waiting >= limit {
+            return Err(OfferFault::Congested { in_flight, waiting });
+        }
+        self.put(alloc, pieces, out)?;
+        Ok(())
+    }
+
+    /// Puts packets on a link that is up, and sends those that the window of 50 has room for: as [`Session::send`].
+    ///
+    /// # Errors
+    ///
+    /// Where memory runs out. Nothing is changed then.
+    pub fn put(&mut self, alloc: Global, pieces: Pieces, out: &mut Outbox) -> Result<(), NoMemory>
+        requires up { is_up self.old.fsm.state ≡ true }
+        requires session { is_some self.old.session ≡ true }
+        requires pieces { All IsWaiting pieces }
+        ensures ok { (s : SessionEnd) → self.old.session ≡ Some s →
+            OnOk result ((put : SessionEnd) × IsPut s pieces put × (self.new ≡ with_session self.old (flushed put)) ×
+            Adds out.old out.new (flush_frames put)) }
+        ensures err { OnErr result ((self.new ≡ self.old) × (out.new ≡ out.old)) }
+    {
         match &mut self.session {
-            Some(session) => session.send(alloc, pieces, limit, out),
+            Some(session) => session.send(alloc, pieces, out),
             None => unreachable!(),
         }
     }

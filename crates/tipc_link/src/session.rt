@@ -23,7 +23,7 @@ use tipc_bundle::may_be_bundled;
 use tipc_header::{Header, Packet, State, encode_frame, stamp_frame};
 use tipc_outside::Outbox;
 use tipc_recv_window::{LinkOutcome, Place, RecvWindow, WindowArrival};
-use tipc_send_window::{OfferFault, SendWindow, WINDOW};
+use tipc_send_window::{SendWindow, WINDOW};
 use tipc_types::{
     Addr, BroadcastState, Bytes, Kept, NoMemory, OldSession, Pieces, Taken, To, number_distance,
     sequence_number,
@@ -189,63 +189,38 @@ impl Session {
     ///
     /// # Errors
     ///
-    /// Congested exactly where at least `limit` packets wait, with the numbers of packets unacknowledged and
-    /// waiting; else NoMemory. Either changes nothing.
-    pub fn send(
-        &mut self,
-        alloc: Global,
-        pieces: Pieces,
-        limit: u32,
-        out: &mut Outbox,
-    ) -> Result<(), OfferFault>
+    /// Where memory runs out. Nothing is changed then.
+    pub fn send(&mut self, alloc: Global, pieces: Pieces, out: &mut Outbox) -> Result<(), NoMemory>
         requires { All IsWaiting pieces }
-        ensures ok { OnOk result ((length self.old.sending.waiting < limit) ×
-            ((put : SessionEnd) × IsPut self.old pieces put × (self.new ≡ flushed put) ×
-            Adds out.old out.new (flush_frames put))) }
-        ensures congested { limit ≤ length self.old.sending.waiting →
-            result ≡ Err (OfferFault.Congested (length self.old.sending.unacked) (length self.old.sending.waiting)) }
-        ensures congested_only { (in_flight waiting : ℕ) → result ≡ Err (OfferFault.Congested in_flight waiting) →
-            (limit ≤ length self.old.sending.waiting) × (in_flight ≡ length self.old.sending.unacked) ×
-            (waiting ≡ length self.old.sending.waiting) }
+        ensures ok { OnOk result ((put : SessionEnd) × IsPut self.old pieces put × (self.new ≡ flushed put) ×
+            Adds out.old out.new (flush_frames put)) }
         ensures err { OnErr result ((self.new ≡ self.old) × (out.new ≡ out.old)) }
     {
-        self.put(alloc, pieces, limit)?;
+        self.put(alloc, pieces)?;
         self.flush(alloc, out);
         Ok(())
     }
 
     /// Puts packets behind those that wait, or joins one to the last of them.
-    fn put(&mut self, alloc: Global, pieces: Pieces, limit: u32) -> Result<(), OfferFault>
+    fn put(&mut self, alloc: Global, pieces: Pieces) -> Result<(), NoMemory>
         requires { All IsWaiting pieces }
-        ensures ok { OnOk result ((length self.old.sending.waiting < limit) × IsPut self.old pieces self.new) }
-        ensures congested { limit ≤ length self.old.sending.waiting →
-            result ≡ Err (OfferFault.Congested (length self.old.sending.unacked) (length self.old.sending.waiting)) }
-        ensures congested_only { (in_flight waiting : ℕ) → result ≡ Err (OfferFault.Congested in_flight waiting) →
-            (limit ≤ length self.old.sending.waiting) × (in_flight ≡ length self.old.sending.unacked) ×
-            (waiting ≡ length self.old.sending.waiting) }
+        ensures ok { OnOk result (IsPut self.old pieces self.new) }
         ensures err { OnErr result (self.new ≡ self.old) }
     {
-        if self.load().1 < limit {
-            if let Some(bundle) = self.bundle_with(alloc, &pieces)? {
-                self.join(bundle);
-                return Ok(());
-            }
+        if let Some(bundle) = self.bundle_with(alloc, &pieces)? {
+            self.join(bundle);
+            return Ok(());
         }
-        self.wait(pieces, limit)
+        self.wait(pieces)
     }
 
     /// Puts packets behind those that wait.
-    fn wait(&mut self, pieces: Pieces, limit: u32) -> Result<(), OfferFault>
+    fn wait(&mut self, pieces: Pieces) -> Result<(), NoMemory>
         requires { All IsWaiting pieces }
-        ensures ok { OnOk result ((length self.old.sending.waiting < limit) × (self.new ≡ put self.old pieces)) }
-        ensures congested { limit ≤ length self.old.sending.waiting →
-            result ≡ Err (OfferFault.Congested (length self.old.sending.unacked) (length self.old.sending.waiting)) }
-        ensures congested_only { (in_flight waiting : ℕ) → result ≡ Err (OfferFault.Congested in_flight waiting) →
-            (limit ≤ length self.old.sending.waiting) × (in_flight ≡ length self.old.sending.unacked) ×
-            (waiting ≡ length self.old.sending.waiting) }
+        ensures ok { OnOk result (self.new ≡ put self.old pieces) }
         ensures err { OnErr result (self.new ≡ self.old) }
     {
-        self.window.offer(pieces, limit)
+        self.window.put(pieces)
     }
 
     /// The bundle of the last packet that waits and the only one of these. None exactly where they may not be joined.

@@ -471,8 +471,6 @@ fn load(alloc: Global, link: &mut Link, pieces: Pieces, out: &mut Outbox) -> Res
         OnOk result (Adds out.old out.new (flush_frames (put s pieces))) }
     ensures err { OnErr result (link.new ≡ link.old) }
 {
-    match link.send(alloc, pieces, u32::MAX, out) {
-        Ok(()) => Ok(()),
-        Err(_) => Err(NoMemory),
-    }
+    link.put(alloc, pieces, out)?;
+    Ok(())
 }

@@ -175,10 +175,13 @@ impl SendWindow {
         self.stored.len() - self.released
     }
 
-    /// Puts packets behind all others, to wait: Congested exactly where at least `limit` packets wait, and then
-    /// with the counts of the packets unacknowledged and waiting, else NoMemory. The offer may pass the limit.
-    /// It makes the room that `due` needs. More than 4,294,967,295 waiting packets, and positions past 2^62, count
-    /// as want of memory. (Limits: this project's profile.)
+    /// Puts packets behind all others, to wait, unless too many wait already: as [`SendWindow::put`]. The offer may pass the
+    /// limit. (Limits: this project's profile.)
+    ///
+    /// # Errors
+    ///
+    /// Congested exactly where at least `limit` packets wait, with the counts of the packets unacknowledged and waiting; else
+    /// NoMemory. Either changes nothing.
     pub fn offer(&mut self, pieces: Pieces, limit: u32) -> Result<(), OfferFault>
         ensures ok { OnOk result ((length self.old.waiting < limit) × (self.new ≡ offered self.old pieces)) }
         ensures congested { limit ≤ length self.old.waiting →
@@ -191,16 +194,30 @@ impl SendWindow {
     {
         let waiting = self.waiting();
         if waiting >= limit {
-            return Err(OfferFault::Congested {
-                in_flight: self.in_flight() as u32,
-                waiting,
-            });
+            let in_flight = (self.stored.len() - self.released) as u32;
+            return Err(OfferFault::Congested { in_flight, waiting });
         }
+        self.put(pieces)?;
+        Ok(())
+    }
+
+    /// Puts packets behind all others, to wait. It makes the room that `due` needs.
+    ///
+    /// # Errors
+    ///
+    /// Where memory runs out. More than 4,294,967,295 waiting packets, and positions past 2^62, count as that. Nothing is
+    /// changed then.
+    pub fn put(&mut self, pieces: Pieces) -> Result<(), NoMemory>
+        ensures ok { OnOk result (self.new ≡ offered self.old pieces) }
+        ensures err { OnErr result (self.new ≡ self.old) }
+        ensures window { IsSending self.new }
+    {
+        let waiting = self.waiting();
         let more = pieces.len();
         if more as u64 > LAST_POSITION - self.numbered - waiting as u64
             || more > (u32::MAX - waiting) as usize
         {
-            return Err(OfferFault::NoMemory);
+            return Err(NoMemory);
         }
         self.stored.reserve(ROOM - self.stored.len())?;
         self.waiting
