@@ -4,11 +4,11 @@ use Rattle.tipc_types.specs.declared.link_words.BroadcastState.{BroadcastState}
 use Rattle.tipc_outside.specs.declared.outgoing.Outgoing.{Outgoing}
 use Rattle.tipc_outside.specs.Frames.{Adds, Out}
 use Rattle.tipc_outside.proofs.Adding.{adds_none}
-use Rattle.tipc_link.specs.Sessions.{SessionEnd, answer_frames, gap, is_due, state_fields, state_frame, with_broadcast}
+use Rattle.tipc_link.specs.Sessions.{SessionEnd, answer_frames, is_due, state_fields, state_frame, with_broadcast}
 
 -- what is counted doesn't bear on what a STATE says
 pub state_counted : (e : SessionEnd) (taken : ℕ) (asks : Bool) (shown : BroadcastState) (probe : Bool) → state_frame (with_broadcast e taken asks) shown probe ≡ state_frame e shown probe
-unfolding state_fields gap
+unfolding state_fields
 state_counted e taken asks shown probe = refl
 
 -- the frames where one is due, and where none is

@@ -18,7 +18,7 @@ use Rattle.tipc_send_window.specs.Sending.{Sending, fresh, offered, acknowledged
 use Rattle.tipc_recv_window.specs.declared.outcomes.LinkOutcome.{LinkOutcome}
 use Rattle.tipc_recv_window.specs.declared.outcomes.Place.{Place}
 use Rattle.tipc_recv_window.specs.declared.outcomes.Place.TheVariants as place
-use Rattle.tipc_recv_window.specs.Receiving.{Receiving, arrived_at, deferred_count, gap_of, past_wanted, place_at, run_of}
+use Rattle.tipc_recv_window.specs.Receiving.{Receiving, ahead, arrived_at, deferred_count, gap_to, outcome_at, past_wanted, place_at, run_of, shows_more}
 use Rattle.tipc_link.specs.Records.{Received, is_tunnel, standing, unheard}
 use Rattle.tipc_bundle.specs.Bundles.{Carries as Waits, IsInner, joined}
 use Rattle.tipc_bundle.specs.Splitting.{IsBundle}
@@ -83,25 +83,13 @@ receiving e = record { wanted = e.taken + 1; held = e.held }
 abbrev pub past : SessionEnd → ℕ → ℕ
 past e number = past_wanted (receiving e) number
 
--- how far a next number is ahead of the wanted one: 0 where it is more than 32,767 ahead, and so behind
-unfoldable pub ahead : SessionEnd → ℕ → ℕ
-ahead e number = if nat_le (past e number) 32767 then past e number else 0
-
 -- the highest next position, after the peer has shown this number
 unfoldable pub highest : SessionEnd → ℕ → ℕ
-highest e number = max e.shown (e.taken + 1 + ahead e number)
-
--- a next number is 1 to 50 past the own one: the peer has sent more than was taken
-abbrev pub shows_more : SessionEnd → ℕ → Bool
-shows_more e number = nat_lt 0 (past e number) && nat_le (past e number) 50
-
--- how many packets are missing where none is held: up to the next position shown, as far as a window reaches
-abbrev pub missing : SessionEnd → ℕ
-missing e = if nat_le (e.shown - (e.taken + 1)) 50 then e.shown - (e.taken + 1) else 0
+highest e number = max e.shown (e.taken + 1 + ahead (receiving e) number)
 
 -- how many packets are missing: up to the first that is held, or up to the next position shown
-unfoldable pub gap : SessionEnd → ℕ
-gap e = if gap_of (receiving e) == 0 then missing e else gap_of (receiving e)
+abbrev pub gap : SessionEnd → ℕ
+gap e = gap_to (receiving e) e.shown
 
 -- what a packet of the session brings: the peer's next number, how many packets it misses, and whether it asks for a STATE; a
 -- packet under a number; or nothing
@@ -185,7 +173,7 @@ took e t = record e {
 
 -- a next number was shown; one that is past the own one asks for a STATE, and a probe does
 abbrev pub noted : SessionEnd → ℕ → Bool → SessionEnd
-noted e next probe = record e { shown = highest e next; owes = probe || shows_more e next }
+noted e next probe = record e { shown = highest e next; owes = probe || shows_more (receiving e) next }
 
 -- the unacknowledged packets among the `gap` ones behind an acknowledgement
 abbrev pub is_behind : ℕ → ℕ → Kept → Bool
@@ -210,9 +198,7 @@ heard e by acknowledgement Nothing = e
 
 -- what an arrival answers; a packet that is taken is kept as it waited to be sent
 abbrev pub placed : Place → List Taken → LinkOutcome
-placed place.InOrder due = LinkOutcome.Took due
-placed place.Deferred due = LinkOutcome.Deferred
-placed place.Old due = LinkOutcome.Ignored why.Old
+placed place due = outcome_at place due
 
 -- what an arrival answers, by what it brings
 abbrev pub outcome : SessionEnd → ℕ → Content → LinkOutcome

@@ -5,14 +5,14 @@ ghost use Rattle.tipc_recv_window.specs.Receiving.{deferred_count};
 ghost use Rattle.tipc_header.specs.Spelling.{spelling, view};
 ghost use Rattle.tipc_header.specs.Grammar.{Fits};
 ghost use Rattle.tipc_link.specs.Links.{is_heard, is_taken, is_traffic};
-ghost use Rattle.tipc_link.specs.Sessions.{as_waiting, is_deferred, placed, previous_waiting};
+ghost use Rattle.tipc_link.specs.Sessions.{as_waiting, is_deferred, previous_waiting};
 
 use std::alloc::Global;
 use std::marker::Model;
 use tipc_header::{Header, HeaderContent, Packet, encode};
 use tipc_link_fsm::Change;
 use tipc_recv_window::{LinkOutcome, Place, RecvWindow, WindowArrival};
-use tipc_types::{Bytes, NoMemory, TakenList, Why};
+use tipc_types::{Bytes, NoMemory};
 
 /// What a packet will make of a session.
 #[derive(Drop)]
@@ -99,17 +99,6 @@ pub(crate) fn is_only_deferred(place: Place, window: &RecvWindow) -> bool
         Place::Deferred => window.deferred() == 1,
         Place::InOrder => false,
         Place::Old => false,
-    }
-}
-
-/// What a packet at this place brings, where these packets are due.
-pub(crate) fn outcome_at(place: Place, due: TakenList) -> LinkOutcome
-    ensures { result ≡ placed place due }
-{
-    match place {
-        Place::InOrder => LinkOutcome::Took(due),
-        Place::Deferred => LinkOutcome::Deferred,
-        Place::Old => LinkOutcome::Ignored(Why::Old),
     }
 }
 

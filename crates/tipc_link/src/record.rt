@@ -8,7 +8,7 @@ ghost use Rattle.tipc_header.specs.Grammar.{Fits};
 ghost use Rattle.tipc_recv_window.specs.Receiving.{coming, next_of};
 
 use crate::changeover::is_changeover;
-use crate::hearing::{Hearing, outcome_at, waiting_bytes};
+use crate::hearing::{Hearing, waiting_bytes};
 use std::alloc::Global;
 use std::marker::Model;
 use tipc_header::{HeaderContent, Packet};
@@ -181,7 +181,7 @@ impl Record {
             by,
         };
         let (arrival, due) = self.window().prepare(alloc, taken)?;
-        let outcome = outcome_at(arrival.place(), due);
+        let outcome = LinkOutcome::at(arrival.place(), due);
         Ok(Hearing {
             by,
             window: Some(arrival),

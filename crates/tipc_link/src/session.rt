@@ -32,9 +32,6 @@ use tipc_types::{
 /// How many packets may be taken before a STATE is sent. (This project's profile.)
 const UNANSWERED: u64 = 16;
 
-/// A number further ahead of the wanted one lies behind it.
-const FURTHEST_AHEAD: u16 = 32_767;
-
 /// What one end of a link to a peer on one bearer keeps in one session: what it sends, and the receiving record.
 #[derive(Drop)]
 pub(crate) struct Session {
@@ -80,7 +77,7 @@ impl Model for Session {
 }
 
 impl Session {
-    ghost use Rattle.tipc_link.specs.Sessions.{ahead, all_answered, answer_frames, answered, begun_with, flush_frames, flushed, gap, given_up, highest, is_due, is_numbered, missing, noted, packet_frame, past, put, priority_of, receiving, receiving_record, after_acknowledgement, repeat_frames, repeated, room, sent, shows_more, spoke, state_fields, state_frame, after_state, took, tunnel_count, waiting_given, wanted, with_broadcast, with_last, with_record, IsPut, IsWaiting, MayJoin, SessionEnd};
+    ghost use Rattle.tipc_link.specs.Sessions.{all_answered, answer_frames, answered, begun_with, flush_frames, flushed, gap, given_up, highest, is_due, is_numbered, noted, packet_frame, put, priority_of, receiving, receiving_record, after_acknowledgement, repeat_frames, repeated, room, sent, spoke, state_fields, state_frame, after_state, took, tunnel_count, waiting_given, wanted, with_broadcast, with_last, with_record, IsPut, IsWaiting, MayJoin, SessionEnd};
     ghost use Rattle.tipc_link.specs.Hearings.{coming_of, IsHearing, IsJoined};
 
     /// An end that is up, in the session of these two epochs, over a bearer 0 or 1, with this receiving record.
@@ -323,38 +320,14 @@ impl Session {
         self.received.window()
     }
 
-    /// How far a number lies past the wanted one.
-    fn past(&self, number: u16) -> u16
-        ensures { result ≡ past self.now number }
-    {
-        number_distance(self.receive_window().wanted(), number)
-    }
-
-    /// How far a number is ahead of the wanted one: 0 where it lies behind.
-    #[tactic(auto, unfolding(crate::specs::Sessions::ahead))]
-    fn ahead(&self, number: u16) -> u16
-        ensures value { result ≡ ahead self.now number }
-        ensures within { result ≤ 32767 }
-    {
-        let past = self.past(number);
-        if past <= FURTHEST_AHEAD { past } else { 0 }
-    }
-
-    /// Whether a next number shows that the peer has sent more than was taken.
-    fn shows_more(&self, number: u16) -> bool
-        ensures { result ≡ shows_more self.now number }
-    {
-        let past = self.past(number);
-        0 < past && past <= WINDOW as u16
-    }
-
     /// Keeps the highest next position that the peer has shown, and asks for a STATE where more is missing, or at a probe.
     #[tactic(auto, unfolding(crate::specs::Sessions::highest))]
     pub(crate) fn note(&mut self, next: u16, probe: bool)
         ensures { self.new ≡ noted self.old next probe }
     {
-        let position = self.receive_window().wanted_position() + self.ahead(next) as u64;
-        self.owes = probe || self.shows_more(next);
+        let window = self.receive_window();
+        let position = window.wanted_position() + u64::from(window.ahead(next));
+        self.owes = probe || window.shows_more(next);
         self.received.show(position);
     }
 
@@ -606,28 +579,12 @@ impl Session {
         }
     }
 
-    /// How many packets are missing where none is held, as far as a window reaches.
-    fn missing(&self) -> u16
-        ensures value { result ≡ missing self.now }
-        ensures within { result ≤ 50 }
-    {
-        let wanted = self.receive_window().wanted_position();
-        let missing = self.received.shown().saturating_sub(wanted);
-        if missing <= WINDOW as u64 {
-            missing as u16
-        } else {
-            0
-        }
-    }
-
     /// How many packets are missing: up to the first that is held, or up to the next position that was shown.
-    #[tactic(auto, unfolding(crate::specs::Sessions::gap))]
     fn gap(&self) -> u16
         ensures value { result ≡ gap self.now }
         ensures within { result ≤ 50 }
     {
-        let gap = self.receive_window().gap();
-        if gap == 0 { self.missing() } else { gap }
+        self.receive_window().gap_to(self.received.shown())
     }
 
     /// The priority of the bearer's links.

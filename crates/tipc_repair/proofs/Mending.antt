@@ -13,11 +13,11 @@ use Rattle.tipc_types.proofs.PositionLaws.{distance_of-ahead}
 use Rattle.tipc_send_window.specs.Sending.{Sending, acked_of, acknowledged, kept_after, kept_of, release_count}
 use Rattle.tipc_send_window.proofs.Keeping.{kept_at}
 use Rattle.tipc_send_window.proofs.WindowLaws.{kept_after-at}
-use Rattle.tipc_recv_window.specs.Receiving.{Receiving, arrived_at, gap_of, past_wanted, run_of}
+use Rattle.tipc_recv_window.specs.Receiving.{Receiving, arrived_at, gap_of, past_wanted, run_of, ahead, gap_to, missing}
 use Rattle.tipc_recv_window.proofs.ArrivalLaws.{place_at-wanted}
 use Rattle.tipc_recv_window.proofs.Comings.{due_in_order}
 use Rattle.tipc_link.specs.Records.{is_early_tunnel, is_tunnel, standing}
-use Rattle.tipc_link.specs.Sessions.{SessionEnd, Carries, ahead, brought, content_of, due_with, gap, highest, is_behind, missing, past, receiving, after_acknowledgement, repeated, spoke, state_fields}
+use Rattle.tipc_link.specs.Sessions.{SessionEnd, Carries, brought, content_of, due_with, gap, highest, is_behind, past, receiving, after_acknowledgement, repeated, spoke, state_fields}
 use Rattle.tipc_link.specs.Direction.{IsDirection, IsReceiver}
 use Rattle.tipc_link.proofs.Directions.{taken_recently}
 use Rattle.tipc_repair.specs.Laws.{GapsAreRepeated, GapsAreTold, RepeatsAreTaken, SendsTo, StatesRelease, StatesShow}
@@ -72,7 +72,7 @@ held_gap r line h (Some d) is some =
     let sent = slice_get_within line (r.taken + d) found.0.packet (h.holds d found.0 found.1) in
     (omega (arith, within, window), omega (arith, sent))
 
-missing_is : (r : SessionEnd) (numbered : ℕ) → r.taken + 1 < r.shown → r.shown ≤ numbered + 1 → numbered ≤ r.taken + 50 → missing r ≡ r.shown - (r.taken + 1)
+missing_is : (r : SessionEnd) (numbered : ℕ) → r.taken + 1 < r.shown → r.shown ≤ numbered + 1 → numbered ≤ r.taken + 50 → missing (receiving r) r.shown ≡ r.shown - (r.taken + 1)
 missing_is r numbered more shown near =
     let test : nat_le (r.shown - (r.taken + 1)) 50 ≡ true = grind (arith, nat_tests) in
     rw test refl
@@ -81,14 +81,14 @@ abbrev IsGap : SessionEnd → SessionEnd → ℕ → Type 0
 IsGap s r n = (1 ≤ n) × (n ≤ 50) × (r.taken + n ≤ s.sending.numbered)
 
 gap_is : (s r : SessionEnd) (line : List (List ℕ)) → SendsTo s r line → r.taken + 1 < r.shown → IsGap s r (gap r)
-unfolding gap
+unfolding gap_to
 gap_is s r line h more =
     let d = h.direction in
     let near = taken_recently s.sending r.taken line d in
     let shown = h.shown in
     let count = d.count in
     let none = missing_is r s.sending.numbered more shown near in
-    elim (gap_of (receiving r) == 0) as (λ b. (gap_of (receiving r) == 0) ≡ b → IsGap s r (if b then missing r else gap_of (receiving r))) [
+    elim (gap_of (receiving r) == 0) as (λ b. (gap_of (receiving r) == 0) ≡ b → IsGap s r (if b then missing (receiving r) r.shown else gap_of (receiving r))) [
       | true ↦ λ _. (omega (arith, none, more), omega (arith, none, shown, near), omega (arith, none, more, shown))
       | false ↦ λ other.
           let some : 1 ≤ gap_of (receiving r) = grind (arith, nat_tests) in

@@ -17,10 +17,10 @@ use Rattle.tipc_header.proofs.FrameWords.{length-envelope, stamped-spelling}
 use Rattle.tipc_header.proofs.Places.{long-joined}
 use Rattle.tipc_header.proofs.RoundTrip.{one_packet}
 use Rattle.tipc_header.proofs.Words.{AreWords, word_at-words}
-use Rattle.tipc_recv_window.specs.Receiving.{gap_of}
+use Rattle.tipc_recv_window.specs.Receiving.{gap_of, gap_to, missing}
 use Rattle.tipc_link.specs.Direction.{IsCarried}
 use Rattle.tipc_link.specs.Links.{is_traffic}
-use Rattle.tipc_link.specs.Sessions.{Carries, SessionEnd, Shows, as_waiting, content_by, content_of, gap, missing, packet_frame, packet_frames, receiving, state_fields, state_frame}
+use Rattle.tipc_link.specs.Sessions.{Carries, SessionEnd, Shows, as_waiting, content_by, content_of, gap, packet_frame, packet_frames, receiving, state_fields, state_frame}
 use Rattle.tipc_link.specs.Parts.{IsShowable}
 use Rattle.tipc_paired.specs.Paired.{IsPacket, ShowsContact}
 use Rattle.tipc_paired.specs.Views.{er_of, es_of}
@@ -90,15 +90,15 @@ first_small : {A : Type 0} (p : A → Bool) (xs : List A) (d : A) (o : Option �
 first_small p xs d None is = omega arith
 first_small p xs d (Some i) is = let at = position-Some p xs i d is in let within = at.0 in omega arith
 
-missing_small : (s : SessionEnd) → missing s ≤ 50
+missing_small : (s : SessionEnd) → missing (receiving s) s.shown ≤ 50
 missing_small s = grind (arith, nat_tests)
 
 gap_small : (s : SessionEnd) → length s.held ≤ 50 → gap s ≤ 50
-unfolding gap
+unfolding gap_to
 gap_small s window =
     let held = first_small (λ t. is_some t) s.held None (position (λ t. is_some t) s.held) refl in
     let none = missing_small s in
-    elim (gap_of (receiving s) == 0) as (λ b. (if b then missing s else gap_of (receiving s)) ≤ 50) [ true ↦ none | false ↦ omega (arith, held, window) ]
+    elim (gap_of (receiving s) == 0) as (λ b. (if b then missing (receiving s) s.shown else gap_of (receiving s)) ≤ 50) [ true ↦ none | false ↦ omega (arith, held, window) ]
 
 state_fits : (own : ℕ) (s : SessionEnd) (shown : BroadcastState) (probe : Bool) → IsWorded own s → length s.held ≤ 50 → IsShowable shown → Fits (state_fields s shown probe)
 unfolding state_fields

@@ -6,7 +6,7 @@ use Rattle.tipc_types.specs.declared.link_words.Cause.{Cause}
 use Rattle.tipc_outside.specs.declared.outgoing.Outgoing.{Outgoing}
 use Rattle.tipc_link.specs.Links.{LinkEnd, after, cut_end, follow_frames, followed, frames, session_answer, with_session}
 use Rattle.tipc_link.specs.Parts.{IsShowable}
-use Rattle.tipc_link.specs.Sessions.{IsPut, SessionEnd, answer_frames, answered, flush_frames, flushed, gap, is_due, joins, moving, state_fields, state_frame, waits, with_broadcast}
+use Rattle.tipc_link.specs.Sessions.{IsPut, SessionEnd, answer_frames, answered, flush_frames, flushed, is_due, joins, moving, state_fields, state_frame, waits, with_broadcast}
 use Rattle.tipc_link.proofs.LinkLaw.{Each, Each-none, Each-one}
 use Rattle.tipc_link_fsm.specs.declared.changes.Change.TheVariants.{Down, Stay}
 use Rattle.tipc_link_fsm.specs.Runs.{BearerIsCut, TickPasses}
@@ -164,7 +164,7 @@ abbrev read : ℕ → Bool → SessionEnd → SessionEnd
 read taken asks s = with_broadcast s taken asks
 
 read_says : (s : SessionEnd) (taken : ℕ) (asks : Bool) (shown : BroadcastState) → state_frame (read taken asks s) shown false ≡ state_frame s shown false
-unfolding state_fields gap
+unfolding state_fields
 read_says s taken asks shown = refl
 
 answer_takes_up : (v y : View) (x : PairEnds) (e : LinkEnd) (s : SessionEnd) (taken : ℕ) (asks : Bool) (shown : BroadcastState) → ArePaired v y → IsOfPair v x → IsUp (v.wires x.bearer) e s → IsShowable shown
