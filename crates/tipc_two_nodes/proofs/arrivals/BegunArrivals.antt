@@ -27,7 +27,6 @@ use Rattle.tipc_pair.proofs.HeldLaws.{GoesQuietly, near_quietly, not_in, outcome
 use Rattle.tipc_two_nodes.proofs.links.receiver.BegunKept.{KeepsBegun, begun_same, begun_then, following_begun}
 use Rattle.tipc_two_nodes.proofs.links.calls.Noticing.{outcome_turns}
 use Rattle.tipc_two_nodes.specs.links.Turning.{Turns, goes_down, is_rise, goes_up, stays_so}
-use Rattle.tipc_changeover.specs.Links.{Reset}
 use Rattle.tipc_two_nodes.proofs.messages.Begun.{stepped_begun}
 use Rattle.tipc_two_nodes.proofs.calls.TurnCourses.{following_numbers}
 use Rattle.tipc_two_nodes.proofs.links.receiver.Quiet.{going_up as going_up_is}

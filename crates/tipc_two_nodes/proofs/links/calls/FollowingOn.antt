@@ -1,5 +1,5 @@
 -- What follows where a link of a pair goes up or down, as events of the sender.
-use Rattle.std.proofs.Common.{◌≡◌, ◌≢◌, ◌==◌, ℕ, ◌+◌, ◌≤◌, true, false, if◌then◌else◌, Option, Some, None, option_map, ◌-◌, refl, sym, ap, ◌∙◌, subst, arith}
+use Rattle.std.proofs.Common.{◌≡◌, ◌≢◌, ◌==◌, ℕ, ◌+◌, ◌≤◌, true, false, if◌then◌else◌, Option, Some, None, option_map, refl, sym, ap, ◌∙◌, subst, arith}
 use Rattle.std.proofs.lemmas.Bool.{eqb-true}
 use Rattle.std.proofs.lemmas.Bool.Decides.{nat_tests}
 use Rattle.tipc_types.specs.LinkStates.{is_up}
@@ -15,7 +15,7 @@ use Rattle.tipc_link.specs.Sessions.{SessionEnd, after_state}
 use Rattle.tipc_pair.specs.Changeovers.{following}
 use Rattle.tipc_pair.specs.Facing.{PairEnds, is_up_at}
 use Rattle.tipc_pair.specs.Runs.{old_of}
-use Rattle.tipc_changeover.specs.Links.{Bearer, First, Held, Reset, Second, State, Up}
+use Rattle.tipc_changeover.specs.Links.{Bearer, First, Held, Reset, Second, Up}
 use Rattle.tipc_two_nodes.specs.links.Sending.{end_seen, number_as, state_as, window_in}
 use Rattle.tipc_two_nodes.specs.links.Steps.{CanTravel}
 use Rattle.tipc_two_nodes.specs.links.Ends.{IsFallen, IsRisen}

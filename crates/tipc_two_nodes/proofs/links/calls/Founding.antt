@@ -11,7 +11,6 @@ use Rattle.tipc_pair.specs.PairArrivals.{restored}
 use Rattle.tipc_pair.specs.Runs.{IsListed}
 use Rattle.tipc_pair.proofs.EndSteps.{far_of, near_of, session_is}
 use Rattle.tipc_pair.proofs.Followings.{some_there}
-use Rattle.tipc_changeover.specs.Reached.{begun}
 use Rattle.tipc_two_nodes.specs.links.Ends.{AreListed}
 use Rattle.tipc_two_nodes.specs.links.Turning.{AreEnds, IsRunning, IsUnderOwn}
 
