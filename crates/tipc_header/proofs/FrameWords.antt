@@ -1,12 +1,13 @@
 -- What stands where in a frame, and a packet's words 2 and 3 written anew.
-use Rattle.std.proofs.Common.{◌≡◌, ℕ, ◌+◌, ◌≤◌, List, [], ◌∷◌, ◌++◌, length, take, drop, refl, sym, ap, ◌∙◌, append_assoc, append-nil, length-append, subst, arith}
+use Rattle.std.proofs.Common.{◌≡◌, ℕ, ◌+◌, ◌≤◌, ◌<◌, ◌^◌, true, List, [], ◌∷◌, ◌++◌, length, take, drop, refl, sym, ap, ◌∙◌, append_assoc, append-nil, length-append, subst, arith}
+use Rattle.std.proofs.lemmas.Bool.Decides.{nat_tests}
 use Rattle.std.proofs.lemmas.List.{drop_at, take_at}
 use Rattle.std.proofs.lemmas.List.Concat.{flat_map-cons}
 use Rattle.tipc_header.specs.Spelling.{Fields, from_bit, word, words, word_0, word_1, word_2, two_words, spelling, user_words, number_words}
-use Rattle.tipc_header.specs.Frames.{envelope, stamped, sent_as}
+use Rattle.tipc_header.specs.Frames.{envelope, first_of, frame_of, is_epoch, is_of_link, stamped, sent_as}
 use Rattle.tipc_header.specs.Reading.{word_at, long_at}
-use Rattle.tipc_header.proofs.Places.{long-high, long-low}
-use Rattle.tipc_header.proofs.Words.{IsBytes, length-word, length-words, word_at-below, words_of_all}
+use Rattle.tipc_header.proofs.Places.{long-high, long-joined, long-low}
+use Rattle.tipc_header.proofs.Words.{AreWords, IsBytes, length-word, length-words, word_at-below, word_at-words, words_of_all}
 
 pub length-envelope : (first second : ℕ) → length (envelope first second) ≡ 16
 unfolding envelope
@@ -62,6 +63,20 @@ pub length-spelling : (p : Fields) → 16 ≤ length (spelling p)
 length-spelling p =
     let behind = words (user_words p.header ++ number_words p.header) ++ p.rest in
     subst (λ xs. 16 ≤ length xs) (sym (spelled p)) (omega (arith, length-append (word (word_0 p)) (word (word_1 p.header) ++ (word (word_2 p) ++ (word p.previous ++ behind))), length-append (word (word_1 p.header)) (word (word_2 p) ++ (word p.previous ++ behind)), length-append (word (word_2 p)) (word p.previous ++ behind), length-append (word p.previous) behind, length-word (word_0 p), length-word (word_1 p.header), length-word (word_2 p), length-word p.previous))
+
+-- the first number of a frame is read back
+pub first_of-frame : (first second : ℕ) (rest : List ℕ) → first < 2 ^ 64 → first_of (frame_of first second rest) ≡ first
+unfolding envelope
+first_of-frame first second rest fits =
+    let parts : words (two_words first ++ two_words second) ++ rest ≡ words (two_words first) ++ (words (two_words second) ++ rest) = simp (flat_map-cons, append_assoc) in
+    let two : AreWords (two_words first) = (omega arith, (omega arith, tt)) in
+    let high = word_at-words 0 (two_words first) (words (two_words second) ++ rest) two (omega arith) in
+    let low = word_at-words 1 (two_words first) (words (two_words second) ++ rest) two (omega arith) in
+    ap first_of parts ∙ rw (high, low) (long-joined first)
+
+-- a frame under an epoch is one of a link
+pub of_link : (first second : ℕ) (rest : List ℕ) → 4294967296 ≤ first → first < 2 ^ 64 → is_of_link (frame_of first second rest) ≡ true
+of_link first second rest least fits = ap is_epoch (first_of-frame first second rest fits) ∙ grind (arith, nat_tests, least)
 
 -- the envelope that a frame begins with, read and written again
 pub envelope-reads : (b : List ℕ) → IsBytes b → 16 ≤ length b → b ≡ envelope (long_at 0 b) (long_at 2 b) ++ drop 16 b

@@ -3,12 +3,12 @@
 ghost use Rattle.std.specs.Prelude.{◌≡◌, ◌+◌, [], ◌∷◌, take, drop, ◌^◌, ◌<◌, ◌≤◌, ◌⊎◌, ◌↔◌, ◌++◌, List, ℕ, length, IfOk, IfSome, IsNone, vec_len, vec_capacity};
 ghost use Rattle.tipc_header.specs.Grammar.{Fits};
 ghost use Rattle.tipc_header.specs.Spelling.{from_bit, spelling, view, words};
-ghost use Rattle.tipc_header.specs.Frames.{envelope, frame_of, stamped};
+ghost use Rattle.tipc_header.specs.Frames.{envelope, first_of, frame_of, kind_of, stamped};
 ghost use Rattle.tipc_header.specs.Reading.{long_at};
 
 use crate::bits::long;
 use crate::encoding::{encode, put_bytes, put_long, put_words};
-use crate::packet::Packet;
+use crate::packet::{Header, Packet};
 use std::alloc::{AllocError, Global};
 
 /// The most bytes of a frame: an envelope and a packet of 1,500 bytes. (This project's profile.)
@@ -26,11 +26,36 @@ pub struct Frame<'a> {
     pub packet: &'a [u8],
 }
 
+/// What kind a frame is, by the first number of its envelope and the header of its packet. (This project's profile.)
+#[derive(Clone, Copy, Debug, PartialEq, Eq)]
+pub enum FrameKind {
+    /// A discovery packet, by which nodes find one another.
+    Finds,
+    /// A broadcast packet, which a node casts to all of its peers: payload or a fragment, under the boot number of its sender.
+    Casts,
+    /// A link packet: every other one. Those that a link sends are under its epoch, which is 2^32 or more.
+    Links,
+}
+
+/// The lowest number that can be an epoch: the boot number, from 1 on, is above the 32 lower bits.
+const LEAST_EPOCH: u64 = 4_294_967_296;
+
+/// What kind a packet with this header is, under an envelope with this first number.
+pub fn kind_of(first: u64, header: &Header) -> FrameKind
+    ensures { result ≡ kind_of first header.now }
+{
+    match header {
+        Header::Discovery(_) => FrameKind::Finds,
+        Header::Payload(_) | Header::Fragmenter(_) if first < LEAST_EPOCH => FrameKind::Casts,
+        _ => FrameKind::Links,
+    }
+}
+
 /// Opens a frame: None exactly where it has fewer than 16 bytes or more than 1,516.
 pub fn open_frame(bytes: &[u8]) -> Option<Frame<'_>>
     ensures none { IsNone result ↔ ((length bytes.now < 16) ⊎ (1516 < length bytes.now)) }
     ensures some { IfSome result (λ f. bytes.now ≡ frame_of f.first f.second f.packet.now) }
-    ensures places { IfSome result (λ f. (f.first ≡ long_at 0 bytes.now) × (f.second ≡ long_at 2 bytes.now) ×
+    ensures places { IfSome result (λ f. (f.first ≡ first_of bytes.now) × (f.second ≡ long_at 2 bytes.now) ×
         (f.packet.now ≡ drop 16 bytes.now)) }
 {
     if bytes.len() < 16 || bytes.len() > MOST_FRAME_BYTES {

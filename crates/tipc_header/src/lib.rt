@@ -16,7 +16,9 @@ pub use contents::{HeaderContent, Notice};
 pub use decoding::{CHANGEOVER_USER, decode, message_size, user_number};
 pub use encoding::encode;
 pub use fault::HeaderFault;
-pub use frames::{Frame, MOST_FRAME_BYTES, encode_frame, open_frame, stamp_frame};
+pub use frames::{
+    Frame, FrameKind, MOST_FRAME_BYTES, encode_frame, kind_of, open_frame, stamp_frame,
+};
 pub use laws::{
     length_of_spelling, one_packet_a_spelling, size_field_of_spelling, spellings_are_read_again,
     word_2_stands_alone,

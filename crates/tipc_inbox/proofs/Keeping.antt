@@ -7,7 +7,7 @@ use Rattle.crossbeam_queue.specs.Fifo.{Forks, Learns, Merges, Pops, Pushes}
 use Rattle.crossbeam_queue.proofs.Lists.{at_set}
 use Rattle.tipc_types.specs.declared.message_forms.Message.{Message}
 use Rattle.tipc_inbox.specs.declared.rule.Log.{Log}
-use Rattle.tipc_inbox.specs.Turns.{idle, log, Gives, InTurn, Takes}
+use Rattle.tipc_inbox.specs.Turns.{idle, log, GivesInTurn, InTurn, TakesInTurn}
 
 -- ---- facts of each end, when the view of one changes or one comes
 
@@ -29,10 +29,10 @@ each_more F views w all last j u at =
     ⊎_elim (all j u) (λ (e : (j ≡ length views) × (w ≡ u)). subst (λ (y : ℕ × Log). F y.0 y.1) (λ k. (sym e.0 k, e.1 k)) last) (at_end views w j u at)
 
 -- what neither gives nor takes fits any state
-no_gives : (v : Log) → v.gives ≡ false → (giver : ℕ) (offered taken : List Message) (end : ℕ) → Gives giver offered taken end v
+no_gives : (v : Log) → v.gives ≡ false → (giver : ℕ) (offered taken : List Message) (end : ℕ) → GivesInTurn giver offered taken end v
 no_gives v not giver offered taken end gives = absurd (true≢false (sym gives ∙ not))
 
-no_takes : (v : Log) → v.takes ≡ false → (taker : ℕ) (offered taken : List Message) (end : ℕ) → Takes taker offered taken end v
+no_takes : (v : Log) → v.takes ≡ false → (taker : ℕ) (offered taken : List Message) (end : ℕ) → TakesInTurn taker offered taken end v
 no_takes v not taker offered taken end takes = absurd (true≢false (sym takes ∙ not))
 
 -- ---- the steps
@@ -45,8 +45,8 @@ begins = record {
   taken = [];
   turn = refl;
   few = omega arith;
-  gives = each_more (Gives 0 [] []) [] (log true true [] [] 0 0) (λ _ v at. absurd (some-ne-none v (sym at))) (λ _. (refl, refl, omega arith));
-  takes = each_more (Takes 0 [] []) [] (log true true [] [] 0 0) (λ _ v at. absurd (some-ne-none v (sym at))) (λ _. (refl, refl, omega arith));
+  gives = each_more (GivesInTurn 0 [] []) [] (log true true [] [] 0 0) (λ _ v at. absurd (some-ne-none v (sym at))) (λ _. (refl, refl, omega arith));
+  takes = each_more (TakesInTurn 0 [] []) [] (log true true [] [] 0 0) (λ _ v at. absurd (some-ne-none v (sym at))) (λ _. (refl, refl, omega arith));
 }
 
 pub offers : (most i : ℕ) (v : Log) (m : Message) → most ≡ 128 → v.gives ≡ true
@@ -64,9 +64,9 @@ offers most i v m is may held views room h at =
         taken = h.taken;
         turn = ap (λ (xs : List Message). xs ++ m ∷ []) h.turn ∙ append_assoc h.taken held (m ∷ []);
         few = let longer = length-append held (m ∷ []) in omega (arith, longer, room, is);
-        gives = each_set (Gives h.giver offered h.taken) views i w (λ _. (mine.0, ap (λ (xs : List Message). xs ++ m ∷ []) mine.1, mine.2))
+        gives = each_set (GivesInTurn h.giver offered h.taken) views i w (λ _. (mine.0, ap (λ (xs : List Message). xs ++ m ∷ []) mine.1, mine.2))
             (λ j u other e gives. absurd (other ((h.gives j u e gives).0 ∙ sym mine.0)));
-        takes = each_set (Takes h.taker offered h.taken) views i w (λ takes. let t = h.takes i v at takes in (t.0, t.1, let low = t.2 in omega (arith, low, longer)))
+        takes = each_set (TakesInTurn h.taker offered h.taken) views i w (λ takes. let t = h.takes i v at takes in (t.0, t.1, let low = t.2 in omega (arith, low, longer)))
             (λ j u other e takes. let t = h.takes j u e takes in (t.0, t.1, let low = t.2 in omega (arith, low, longer)));
       },
       refl,
@@ -86,9 +86,9 @@ takes i v may m held views h at =
         taken = taken;
         turn = h.turn ∙ sym (append_assoc h.taken (m ∷ []) held);
         few = let few = h.few in omega (arith, few);
-        gives = each_set (Gives h.giver h.offered taken) views i w (λ gives. let g = h.gives i v at gives in (g.0, g.1, let low = g.2 in omega (arith, low, longer)))
+        gives = each_set (GivesInTurn h.giver h.offered taken) views i w (λ gives. let g = h.gives i v at gives in (g.0, g.1, let low = g.2 in omega (arith, low, longer)))
             (λ j u other e gives. let g = h.gives j u e gives in (g.0, g.1, let low = g.2 in omega (arith, low, longer)));
-        takes = each_set (Takes h.taker h.offered taken) views i w (λ _. (mine.0, ap (λ (xs : List Message). xs ++ m ∷ []) mine.1, mine.2))
+        takes = each_set (TakesInTurn h.taker h.offered taken) views i w (λ _. (mine.0, ap (λ (xs : List Message). xs ++ m ∷ []) mine.1, mine.2))
             (λ j u other e takes. absurd (other ((h.takes j u e takes).0 ∙ sym mine.0)));
       },
       refl,
@@ -109,11 +109,11 @@ parts i v may may' held views h at =
       taken = h.taken;
       turn = h.turn;
       few = h.few;
-      gives = each_more (Gives h.giver h.offered h.taken) left r
-          (each_set (Gives h.giver h.offered h.taken) views i l (λ _. (g.0, g.1, let all = ap (λ (xs : List Message). length xs) t.1 in omega (arith, all))) (λ j u other e. h.gives j u e))
+      gives = each_more (GivesInTurn h.giver h.offered h.taken) left r
+          (each_set (GivesInTurn h.giver h.offered h.taken) views i l (λ _. (g.0, g.1, let all = ap (λ (xs : List Message). length xs) t.1 in omega (arith, all))) (λ j u other e. h.gives j u e))
           (no_gives r refl h.giver h.offered h.taken (length left));
-      takes = each_more (Takes (length left) h.offered h.taken) left r
-          (each_set (Takes (length left) h.offered h.taken) views i l (no_takes l refl (length left) h.offered h.taken i) (λ j u other e takes. absurd (other ((h.takes j u e takes).0 ∙ sym t.0))))
+      takes = each_more (TakesInTurn (length left) h.offered h.taken) left r
+          (each_set (TakesInTurn (length left) h.offered h.taken) views i l (no_takes l refl (length left) h.offered h.taken i) (λ j u other e takes. absurd (other ((h.takes j u e takes).0 ∙ sym t.0))))
           (λ _. (refl, t.1, let all = ap (λ (xs : List Message). length xs) g.1 in omega (arith, all)));
     }
 
@@ -127,10 +127,10 @@ spares i v held views h at =
       taken = h.taken;
       turn = h.turn;
       few = h.few;
-      gives = each_more (Gives h.giver h.offered h.taken) (set views i v) idle
-          (each_set (Gives h.giver h.offered h.taken) views i v (h.gives i v at) (λ j u other e. h.gives j u e)) (no_gives idle refl h.giver h.offered h.taken _);
-      takes = each_more (Takes h.taker h.offered h.taken) (set views i v) idle
-          (each_set (Takes h.taker h.offered h.taken) views i v (h.takes i v at) (λ j u other e. h.takes j u e)) (no_takes idle refl h.taker h.offered h.taken _);
+      gives = each_more (GivesInTurn h.giver h.offered h.taken) (set views i v) idle
+          (each_set (GivesInTurn h.giver h.offered h.taken) views i v (h.gives i v at) (λ j u other e. h.gives j u e)) (no_gives idle refl h.giver h.offered h.taken _);
+      takes = each_more (TakesInTurn h.taker h.offered h.taken) (set views i v) idle
+          (each_set (TakesInTurn h.taker h.offered h.taken) views i v (h.takes i v at) (λ j u other e. h.takes j u e)) (no_takes idle refl h.taker h.offered h.taken _);
     }
 
 -- the taker's end goes over to the giver's
@@ -147,10 +147,10 @@ unites i v j u may may' held views h at apart at' =
       taken = h.taken;
       turn = h.turn;
       few = h.few;
-      gives = each_set (Gives h.giver h.offered h.taken) (set views i both) j idle (no_gives idle refl h.giver h.offered h.taken j)
-          (λ k x _ e. each_set (Gives h.giver h.offered h.taken) views i both (λ _. g) (λ k x _ e. h.gives k x e) k x e);
-      takes = each_set (Takes i h.offered h.taken) (set views i both) j idle (no_takes idle refl i h.offered h.taken j)
-          (λ k x other e. each_set (λ k x. k ≢ j → Takes i h.offered h.taken k x) views i both (λ _ _. (refl, t.1, t.2))
+      gives = each_set (GivesInTurn h.giver h.offered h.taken) (set views i both) j idle (no_gives idle refl h.giver h.offered h.taken j)
+          (λ k x _ e. each_set (GivesInTurn h.giver h.offered h.taken) views i both (λ _. g) (λ k x _ e. h.gives k x e) k x e);
+      takes = each_set (TakesInTurn i h.offered h.taken) (set views i both) j idle (no_takes idle refl i h.offered h.taken j)
+          (λ k x other e. each_set (λ k x. k ≢ j → TakesInTurn i h.offered h.taken k x) views i both (λ _ _. (refl, t.1, t.2))
           (λ k x _ e other takes. absurd (other ((h.takes k x e takes).0 ∙ sym t.0))) k x e other);
     }
 

@@ -15,12 +15,12 @@ abbrev pub idle : Log
 idle = log false false [] [] 0 0
 
 -- where it gives, it is the giver, knows all that was offered, and heard of no more takings than there were
-abbrev pub Gives : ℕ → List Message → List Message → ℕ → Log → Type 0
-Gives giver offered taken end v = v.gives ≡ true → (end ≡ giver) × (v.offered ≡ offered) × (v.takings ≤ length taken)
+abbrev pub GivesInTurn : ℕ → List Message → List Message → ℕ → Log → Type 0
+GivesInTurn giver offered taken end v = v.gives ≡ true → (end ≡ giver) × (v.offered ≡ offered) × (v.takings ≤ length taken)
 
 -- where it takes, it is the taker, knows all that was taken, and heard of no more offers than there were
-abbrev pub Takes : ℕ → List Message → List Message → ℕ → Log → Type 0
-Takes taker offered taken end v = v.takes ≡ true → (end ≡ taker) × (v.taken ≡ taken) × (v.offers ≤ length offered)
+abbrev pub TakesInTurn : ℕ → List Message → List Message → ℕ → Log → Type 0
+TakesInTurn taker offered taken end v = v.takes ≡ true → (end ≡ taker) × (v.taken ≡ taken) × (v.offers ≤ length offered)
 
 -- The rule: what was offered is what was taken and then what is held, which is at most 128 messages; one end gives, and one
 -- takes.
@@ -31,5 +31,5 @@ pub record InTurn (held : List Message) (views : List Log) : Type 0 where
   pub taken : List Message
   pub turn : offered ≡ taken ++ held
   pub few : length held ≤ 128
-  pub gives : (end : ℕ) (v : Log) → get_elem? views end ≡ some v → Gives giver offered taken end v
-  pub takes : (end : ℕ) (v : Log) → get_elem? views end ≡ some v → Takes taker offered taken end v
+  pub gives : (end : ℕ) (v : Log) → get_elem? views end ≡ some v → GivesInTurn giver offered taken end v
+  pub takes : (end : ℕ) (v : Log) → get_elem? views end ≡ some v → TakesInTurn taker offered taken end v

@@ -1,2 +1,3 @@
 pub mod Adding
+mod Boxes
 mod Reaching

@@ -12,7 +12,7 @@ mod transport;
 
 pub use medium::Medium;
 pub use memory_bearer::MemoryBearer;
-pub use outgoing::{Outbox, Outgoing};
+pub use outgoing::{Class, Outbox, Outgoing};
 pub use pacing::{Clock, FreeGate, Gate, StepClock};
 pub use standard::{StdClock, StdSink, StdSource};
 pub use streams::{Failed, MemorySink, MemorySource, Sink, SinkFault, Source};

@@ -64,7 +64,7 @@ link_accepted text a b x h =
 
 mark_accepted : (text : List ℕ) → Asks text Mark → IsAccepted text Mark
 unfolding row_of row_fault first_fault end_fault
-mark_accepted text h = spelled text mark_row [] Mark h refl refl refl refl refl
+mark_accepted text h = spelled text mark_row [] Mark h.1 refl refl refl refl refl
 
 socket_accepted : (text : List ℕ) (n : ℕ) → Asks text (Socket n) → IsAccepted text (Socket n)
 unfolding row_of row_fault first_fault end_fault

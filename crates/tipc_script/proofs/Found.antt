@@ -61,7 +61,7 @@ link_found text left e h =
     )
 
 mark_found : IsFound mark_row
-mark_found text left e h = respelled text mark_row.word left.tokens [] e h
+mark_found text left e h = (tt, respelled text mark_row.word left.tokens [] e h)
 
 socket_found : IsFound socket_row
 socket_found text left e h =

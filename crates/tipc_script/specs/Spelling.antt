@@ -182,32 +182,4 @@ Fits (Flow from to) = IsNode from × IsNode to
 -- a text asks for a line: it is a remark, which asks for nothing, or the spelling of the line
 abbrev pub Asks : List ℕ → Line → Type 0
 Asks text Nothing = is_remark text ≡ true
-Asks text (Node node) = Fits (Node node) × (text ≡ spelling_of (Node node))
-Asks text (Mend node bearer) = Fits (Mend node bearer) × (text ≡ spelling_of (Mend node bearer))
-Asks text (Cut node bearer) = Fits (Cut node bearer) × (text ≡ spelling_of (Cut node bearer))
-Asks text (Tick node) = Fits (Tick node) × (text ≡ spelling_of (Tick node))
-Asks text (Restart node) = Fits (Restart node) × (text ≡ spelling_of (Restart node))
-Asks text (Link first second bearer) = Fits (Link first second bearer) × (text ≡ spelling_of (Link first second bearer))
-Asks text Mark = text ≡ spelling_of Mark
-Asks text (Socket node) = Fits (Socket node) × (text ≡ spelling_of (Socket node))
-Asks text (Close node port) = Fits (Close node port) × (text ≡ spelling_of (Close node port))
-Asks text (Publish node port kind lower upper scope key) =
-    Fits (Publish node port kind lower upper scope key) × (text ≡ spelling_of (Publish node port kind lower upper scope key))
-Asks text (Withdraw node port key) = Fits (Withdraw node port key) × (text ≡ spelling_of (Withdraw node port key))
-Asks text (Subscribe node kind lower upper timeout filter) =
-    Fits (Subscribe node kind lower upper timeout filter) × (text ≡ spelling_of (Subscribe node kind lower upper timeout filter))
-Asks text (Event node number) = Fits (Event node number) × (text ≡ spelling_of (Event node number))
-Asks text (Cancel node number) = Fits (Cancel node number) × (text ≡ spelling_of (Cancel node number))
-Asks text (Send node port to importance body) = Fits (Send node port to importance body) × (text ≡ spelling_of (Send node port to importance body))
-Asks text (Repeat times node port to importance body) = Fits (Repeat times node port to importance body) × (text ≡ spelling_of (Repeat times node port to importance body))
-Asks text (Arrive node bearer frame) = Fits (Arrive node bearer frame) × (text ≡ spelling_of (Arrive node bearer frame))
-Asks text (Receive node port) = Fits (Receive node port) × (text ≡ spelling_of (Receive node port))
-Asks text (Drain node port) = Fits (Drain node port) × (text ≡ spelling_of (Drain node port))
-Asks text (Burst node port to_node to_port times body) = Fits (Burst node port to_node to_port times body) × (text ≡ spelling_of (Burst node port to_node to_port times body))
-Asks text (Pump bearer) = Fits (Pump bearer) × (text ≡ spelling_of (Pump bearer))
-Asks text (Settle rounds) = Fits (Settle rounds) × (text ≡ spelling_of (Settle rounds))
-Asks text (Air bearer) = Fits (Air bearer) × (text ≡ spelling_of (Air bearer))
-Asks text (Show bearer frame) = Fits (Show bearer frame) × (text ≡ spelling_of (Show bearer frame))
-Asks text (Links node) = Fits (Links node) × (text ≡ spelling_of (Links node))
-Asks text (Table node) = Fits (Table node) × (text ≡ spelling_of (Table node))
-Asks text (Flow from to) = Fits (Flow from to) × (text ≡ spelling_of (Flow from to))
+Asks text line = Fits line × (text ≡ spelling_of line)

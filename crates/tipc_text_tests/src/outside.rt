@@ -9,8 +9,8 @@ use std::test::Fail;
 use std::time::Duration;
 use std::{io, time};
 use tipc_outside::{
-    Clock, Failed, MemorySink, MemorySource, Outbox, Sink, SinkFault, Source, StdClock, StdSink,
-    StdSource, StepClock,
+    Class, Clock, Failed, MemorySink, MemorySource, Outbox, Sink, SinkFault, Source, StdClock,
+    StdSink, StdSource, StepClock,
 };
 use tipc_types::{Addr, Bytes, To};
 
@@ -158,6 +158,32 @@ fn frames_go_out_in_order_until_one_is_lost(rt: HostRuntime) -> Result<(), Fail>
     ];
     assert_eq!(rt; seen.as_slice(), expected.as_slice());
     assert_eq!(rt; kept, 2);
+    Ok(())
+}
+
+/// A box of frames to all of one byte each, of these classes.
+fn box_of(alloc: Global, frames: &[(Class, u8)]) -> Result<Outbox, Fail> {
+    let mut out = Outbox::new(alloc);
+    for (class, byte) in frames {
+        out.put(*class, 0, To::All, Bytes::from_slice(alloc, &[*byte])?);
+    }
+    Ok(out)
+}
+
+/// Link states and repeated packets leave first, also where two boxes of an event are one; the next event leaves behind it.
+#[test]
+fn link_states_leave_first(rt: HostRuntime) -> Result<(), Fail> {
+    let mut event = box_of(rt.alloc(), &[(Class::Numbered, 3), (Class::State, 1)])?;
+    event.merge(box_of(rt.alloc(), &[(Class::Answer, 4), (Class::Repeated, 2)])?);
+    let mut out = Outbox::new(rt.alloc());
+    out.append(event);
+    out.append(box_of(rt.alloc(), &[(Class::Numbered, 6), (Class::Notice, 5)])?);
+    let mut seen = Vec::new(rt.alloc());
+    for outgoing in out.frames() {
+        seen.push(outgoing.frame.as_slice().first().copied())?;
+    }
+    let expected = [Some(1), Some(2), Some(3), Some(4), Some(5), Some(6)];
+    assert_eq!(rt; seen.as_slice(), expected.as_slice());
     Ok(())
 }
 

@@ -1,4 +1,5 @@
 pub mod Address
+pub mod Limits
 pub mod LinkStates
 pub mod Matching
 pub mod Position
