@@ -1,11 +1,12 @@
 -- The bits of a member set.
-use Rattle.std.proofs.Common.{◌≡◌, ℕ, ◌-◌, ◌==◌, Bool, true, false, cond, if◌then◌else◌, List, [], ◌∷◌, max, fold, Some, is_some, refl, sym, ap, ◌∙◌, eqb-true, arith}
+use Rattle.std.proofs.Common.{◌≡◌, ℕ, ◌-◌, ◌^◌, ◌<◌, ◌==◌, Bool, true, false, cond, if◌then◌else◌, List, [], ◌∷◌, max, fold, Some, is_some, refl, sym, ap, ◌∙◌, eqb-true, arith}
 use Rattle.std.specs.Prelude.{All}
 use Rattle.std.specs.List.{find}
 use Rattle.std.specs.Int.{bit_at}
 use Rattle.std.specs.Int.Bits.{bit_or}
 use Rattle.std.proofs.lemmas.Bool.Decides.{nat_tests}
 use Rattle.std.proofs.lemmas.List.Elements.{All-head, All-tail}
+use Rattle.std.proofs.lemmas.Nat.{or_of_32, pow_below}
 use Rattle.std.proofs.lemmas.Nat.Bits.{bit_at-lt, bit_at-pow_other, bit_at-pow_same, bit_at-zero, bit_at_or}
 use Rattle.tipc_types.specs.Address.{IsNodeWord}
 use Rattle.tipc_broadcast.specs.declared.contacts.Contact.{Contact}
@@ -51,6 +52,20 @@ bits_are node set (c ∷ cs) here all =
           ]
       | false ↦ omega arith
     ]
+
+-- a set has 32 bits
+bit_below : (word : ℕ) → IsNodeWord word → bit_of word < 2 ^ 32
+bit_below word is = pow_below (word - 16781313) 32 (let high = is.1 in omega arith)
+
+joining_below : (set : ℕ) (cs : List Contact) → set < 2 ^ 32 → All (λ c. IsNodeWord c.peer.word) cs → joining set cs < 2 ^ 32
+joining_below set [] low all = low
+joining_below set (c ∷ cs) low all =
+    let P : Contact → Type 0 = λ d. IsNodeWord d.peer.word in
+    joining_below (bit_or set (bit_of c.peer.word)) cs (or_of_32 set (bit_of c.peer.word) low (bit_below c.peer.word (All-head P c cs all))) (All-tail P c cs all)
+
+pub sets_have_32_bits : (cs : List Contact) → All (λ c. IsNodeWord c.peer.word) cs → member_set cs < 2 ^ 32
+unfolding member_set
+sets_have_32_bits cs all = joining_below 0 cs (omega arith) all
 
 pub sets_tell_members : (cs : List Contact) (node : ℕ) → IsNodeWord node → All (λ c. IsNodeWord c.peer.word) cs → is_member node (member_set cs) ≡ has_joined node cs
 unfolding member_set

@@ -7,6 +7,7 @@ use Rattle.tipc_types.specs.declared.link_words.Why.{Why}
 use Rattle.tipc_types.specs.declared.link_words.Why.TheVariants as why
 use Rattle.tipc_types.specs.declared.packet_lists.Kept.{Kept}
 use Rattle.tipc_types.specs.declared.packet_lists.Taken.{Taken}
+use Rattle.tipc_types.specs.Limits.{most_frame_bytes, window_size}
 use Rattle.tipc_outside.specs.declared.outgoing.Outgoing.{Outgoing}
 use Rattle.tipc_header.specs.Spelling.{Fields}
 use Rattle.tipc_send_window.specs.Sending.{acked_of, fresh, kept_of, offered, passed_over, released, Sending}
@@ -48,7 +49,7 @@ next_start v = accepted v.sending + 1
 
 -- how many of the waiting packets the window has room for
 abbrev pub room : Sending → ℕ
-room s = min (50 - length s.unacked) (length s.waiting)
+room s = min (window_size - length s.unacked) (length s.waiting)
 
 -- the first n waiting packets are numbered
 abbrev pub advanced : ℕ → Sending → Sending
@@ -214,6 +215,6 @@ pub record IsCasting (own : ℕ) (sending : Sending) (peers : List Contact) : Ty
   pub few : length sending.waiting ≤ 246
   pub unacked : All (λ frame. 32 ≤ length frame) sending.unacked
   pub waiting : All (λ frame. 32 ≤ length frame) sending.waiting
-  pub short_unacked : All (λ frame. length frame ≤ 1516) sending.unacked
-  pub short_waiting : All (λ frame. length frame ≤ 1516) sending.waiting
+  pub short_unacked : All (λ frame. length frame ≤ most_frame_bytes) sending.unacked
+  pub short_waiting : All (λ frame. length frame ≤ most_frame_bytes) sending.waiting
   pub contacts : All (IsContact (acked_of sending) (accepted sending)) peers

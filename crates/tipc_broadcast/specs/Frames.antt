@@ -4,6 +4,7 @@ use Rattle.std.specs.Int.{w32, to_be_bytes}
 use Rattle.tipc_types.specs.Position.{number_of}
 use Rattle.tipc_types.specs.declared.identity.To.TheVariants as to
 use Rattle.tipc_types.specs.declared.packet_lists.Kept.{Kept}
+use Rattle.tipc_types.specs.Limits.{most_frame_bytes}
 use Rattle.tipc_outside.specs.declared.outgoing.Outgoing.{Outgoing}
 use Rattle.tipc_header.specs.Frames.{frame_of, stamped}
 
@@ -40,4 +41,4 @@ cast_again mended (kept ∷ others) = cast mended kept.number kept.packet ++ cas
 
 -- a frame that may be sent has at most 1,516 bytes
 abbrev pub IsShort : Outgoing → Type 0
-IsShort f = length f.frame ≤ 1516
+IsShort f = length f.frame ≤ most_frame_bytes

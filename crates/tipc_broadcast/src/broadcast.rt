@@ -1,6 +1,6 @@
 //! A node's broadcast link: what it sends to all its peers at once, and what it takes from each of them.
 
-ghost use Rattle.std.specs.Prelude.{[], ◌≡◌, ℕ, ◌+◌, ◌<◌, ◌≤◌, true, false, Err, Some, None, List, All, length, slice_get, IfNone, IfOk, IfSome, OnErr, OnOk};
+ghost use Rattle.std.specs.Prelude.{[], ◌≡◌, ℕ, ◌+◌, ◌^◌, ◌<◌, ◌≤◌, true, false, Err, Some, None, List, All, length, slice_get, IfNone, IfOk, IfSome, OnErr, OnOk};
 ghost use Rattle.tipc_types.specs.Address.{IsNodeWord};
 ghost use Rattle.tipc_types.specs.Position.{number_of};
 ghost use Rattle.tipc_types.specs.declared.packet_lists.Taken.{Taken};
@@ -16,7 +16,7 @@ use crate::frames::{accepted_frames, numbered_frame};
 use std::alloc::{AllocError, Global};
 use std::marker::Model;
 use tipc_header::Packet;
-use tipc_outside::Outbox;
+use tipc_outside::{Class, Outbox};
 use tipc_recv_window::{LinkOutcome, WindowArrival};
 use tipc_send_window::{OfferFault, SendWindow, WINDOW};
 use tipc_types::{
@@ -56,6 +56,7 @@ impl Model for Broadcast {
 }
 
 impl Broadcast {
+    ghost use Rattle.tipc_types.specs.Limits.{most_packet_bytes, window_size};
     ghost use Rattle.tipc_broadcast.specs.Frames.{cast, IsShort, numbered_frame, on_bearer};
     ghost use Rattle.tipc_broadcast.specs.Casting.{accepting, accepting_frames, answered, answered_frames, arriving, arriving_outcome, booted, coming_at, coming_of, credited, flush_frames, flushed, hearing, informed, IsCasting, joining, kept_for, left_frames, left_with, leaving, leaving_frames, next_start, refusal_of, repeat_frames, room, sent, settled, shown, stating, stating_frames, with_bearer, with_contacts, with_message, with_sending};
     ghost use Rattle.tipc_broadcast.specs.Contacts.{contact_with, deferred_of, has_joined, IsFree, shows_more_to, without};
@@ -107,7 +108,7 @@ impl Broadcast {
     pub fn load(&self) -> (u32, u32)
         ensures unacked { result.0 ≡ length self.now.sending.unacked }
         ensures waiting { result.1 ≡ length self.now.sending.waiting }
-        ensures within { result.0 ≤ 50 }
+        ensures within { result.0 ≤ window_size }
         ensures few { result.1 ≤ 246 }
     {
         (self.window.unacked().len() as u32, self.window.waiting())
@@ -118,7 +119,9 @@ impl Broadcast {
         ensures value { result ≡ self.now.sending.numbered }
         ensures window { IsSending self.now.sending }
         ensures casting { IsCasting self.now.own self.now.sending self.now.contacts }
+        ensures boot { self.now.boot < 2 ^ 32 }
     {
+        let _boot = self.boot;
         self.window.numbered()
     }
 
@@ -202,6 +205,7 @@ impl Broadcast {
     }
 
     /// Sends a frame under a number on a bearer, where that is mended.
+    #[tactic(auto, using(tipc_outside::proofs::Adding::gains_none))]
     fn cast_on(&self, alloc: Global, bearer: u8, number: u16, frame: &[u8], out: &mut Outbox)
         requires bearer { bearer ≤ 1 }
         requires long { 32 ≤ length frame.now }
@@ -209,8 +213,8 @@ impl Broadcast {
     {
         if self.mended[bearer as usize] {
             match numbered_frame(alloc, number, frame) {
-                Ok(frame) => out.push(bearer, To::All, frame),
-                Err(_) => out.mark_lost(),
+                Ok(frame) => out.put(Class::Broadcast, bearer, To::All, frame),
+                Err(_) => out.lose(Class::Broadcast),
             }
         }
     }
@@ -227,7 +231,7 @@ impl Broadcast {
     /// Numbers the first packet that waits, and sends it.
     fn send_next(&mut self, alloc: Global, out: &mut Outbox)
         requires waiting { 0 < length self.old.sending.waiting }
-        requires window { length self.old.sending.unacked < 50 }
+        requires window { length self.old.sending.unacked < window_size }
         ensures after { self.new ≡ sent 1 self.old }
         ensures frames { (q : List ℕ) → slice_get self.old.sending.waiting 0 ≡ Some q →
             Adds out.old out.new (cast self.old.mended (number_of (self.old.sending.numbered + 1)) q) }
@@ -273,7 +277,7 @@ impl Broadcast {
     /// Takes the packets of a message to wait, each for the peers that are in contact now.
     fn accept(&mut self, alloc: Global, pieces: &Pieces, limit: u32) -> Result<(), OfferFault>
         requires packets { All (λ piece. 16 ≤ length piece) pieces.now }
-        requires short { All (λ piece. length piece ≤ 1452) pieces.now }
+        requires short { All (λ piece. length piece ≤ most_packet_bytes) pieces.now }
         requires limit { limit ≤ 200 }
         requires message { length pieces.now ≤ 47 }
         ensures ok { OnOk result ((length self.old.sending.waiting < limit) ×
@@ -328,7 +332,7 @@ impl Broadcast {
         out: &mut Outbox,
     ) -> Result<(), OfferFault>
         requires packets { All (λ piece. 16 ≤ length piece) pieces }
-        requires short { All (λ piece. length piece ≤ 1452) pieces }
+        requires short { All (λ piece. length piece ≤ most_packet_bytes) pieces }
         requires limit { limit ≤ 200 }
         requires message { length pieces ≤ 47 }
         ensures ok { OnOk result ((length self.old.sending.waiting < limit) ×
@@ -356,6 +360,7 @@ impl Broadcast {
     }
 
     /// What a departure leaves: with nobody in contact everything is given up, else packets are released and move up.
+    #[tactic(auto, using(tipc_outside::proofs::Adding::gains_none))]
     fn follow_departure(&mut self, alloc: Global, out: &mut Outbox)
         ensures after { self.new ≡ left_with self.old.contacts self.old }
         ensures frames { Adds out.old out.new (left_frames self.old.contacts self.old) }
@@ -451,6 +456,7 @@ impl Broadcast {
     /// this node is in step with the peer's broadcast. Acknowledgement and gap are read where the peer says that it
     /// is in step: packets that all peers in contact acknowledged are released, those that the peer misses are
     /// sent again, and waiting packets move up. (TIPC 2.0 draft; start and in-step: this project's profile.)
+    #[tactic(auto, using(tipc_outside::proofs::Adding::gains_none))]
     pub fn state(&mut self, alloc: Global, peer: Addr, seen: BroadcastState, out: &mut Outbox)
         requires { has_joined peer.word self.old.contacts ≡ true }
         ensures after { self.new ≡ stating self.old peer.word seen }

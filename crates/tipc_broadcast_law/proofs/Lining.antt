@@ -1,5 +1,5 @@
 -- The frames in the caster's lists stay those of the packets at their places, and so are those that leave.
-use Rattle.std.proofs.Common.{◌≡◌, ℕ, zero, suc, ◌+◌, ◌-◌, ◌<◌, ◌≤◌, Bool, true, false, if◌then◌else◌, List, [], ◌∷◌, ◌++◌, length, take, drop, map, Option, Some, None, is_some, refl, sym, ap, ◌∙◌, subst, append_assoc, length-append, length-drop, arith}
+use Rattle.std.proofs.Common.{◌≡◌, ℕ, zero, suc, ◌+◌, ◌-◌, ◌^◌, ◌<◌, ◌≤◌, Bool, true, false, if◌then◌else◌, List, [], ◌∷◌, ◌++◌, length, take, drop, map, Option, Some, None, is_some, refl, sym, ap, ◌∙◌, subst, append_assoc, length-append, length-drop, arith}
 use Rattle.std.specs.Prelude.{All, slice_get, slice_index_or}
 use Rattle.std.proofs.lemmas.List.{get_or_append_left, length-take-le}
 use Rattle.std.proofs.lemmas.List.Elements.{All-append, All-cons, All-filter, All-head, All-nil, All-tail, All-weaker}
@@ -19,7 +19,7 @@ use Rattle.tipc_broadcast.specs.Frames.{accepted_frame, cast, cast_again, cast_a
 use Rattle.tipc_broadcast.specs.Casting.{accepted, accepting, accepting_frames, answered, answered_frames, Casting, credited, flush_frames, flushed, informed, is_behind, IsCasting, joining, kept_for, leaving, leaving_frames, left_frames, left_with, repeat_frames, room, settled, stating, stating_frames, with_contacts, with_message, with_sending}
 use Rattle.tipc_broadcast.proofs.FrameLaws.{frames_are_stamped}
 use Rattle.tipc_broadcast.proofs.Keeping.{acked_by_all-below, leave-keeps, offer-keeps, release-keeps, to_release}
-use Rattle.tipc_broadcast.proofs.SetLaws.{sets_tell_members}
+use Rattle.tipc_broadcast.proofs.SetLaws.{sets_have_32_bits, sets_tell_members}
 use Rattle.tipc_broadcast_law.specs.Groups.{Accepted, Caster, Group, Member}
 use Rattle.tipc_broadcast_law.specs.Events.{accepting_entry as accepting_one}
 use Rattle.tipc_broadcast_law.specs.Lines.{AreFramesAt, IsCastFrame, IsFrameAt, IsLined, KeepsLines}
@@ -60,20 +60,20 @@ grow_frames : (own boot : ℕ) (line more : List Accepted) (x : ℕ) (fs : List 
 grow_frames own boot line more x [] h = tt
 grow_frames own boot line more x (f ∷ fs) h =
     let one = h.0 in
-    (record { entry = one.entry; there = get_more line more x one.entry one.there; long = one.long; set = one.set; is = one.is; members = one.members }, grow_frames own boot line more (x + 1) fs h.1)
+    (record { entry = one.entry; there = get_more line more x one.entry one.there; long = one.long; set = one.set; set_fits = one.set_fits; is = one.is; members = one.members }, grow_frames own boot line more (x + 1) fs h.1)
 
 -- the frames of a message, whose packets stand behind all others
-message_frames : (g : Group) (own boot set : ℕ) (line : List Accepted) (pieces : List (List ℕ)) → All (λ piece. 16 ≤ length piece) pieces → ((node : ℕ) → IsNodeWord node → is_member node set ≡ is_some (g.members node).joined)
+message_frames : (g : Group) (own boot set : ℕ) (line : List Accepted) (pieces : List (List ℕ)) → set < 2 ^ 32 → All (λ piece. 16 ≤ length piece) pieces → ((node : ℕ) → IsNodeWord node → is_member node set ≡ is_some (g.members node).joined)
     → AreFramesAt own boot (line ++ map (accepting_one g) pieces) (length line) (map (accepted_frame own boot set) pieces)
-message_frames g own boot set line [] long members = tt
-message_frames g own boot set line (p ∷ ps) long members =
+message_frames g own boot set line [] fits long members = tt
+message_frames g own boot set line (p ∷ ps) fits long members =
     let e = accepting_one g p in
     let rest = map (accepting_one g) ps in
     let within : length line < length (line ++ e ∷ rest) = omega (arith, length-append line (e ∷ rest)) in
     let there : slice_get (line ++ e ∷ rest) (length line) ≡ Some e = slice_get-get_or (line ++ e ∷ rest) (length line) e within ∙ ap Some (get_or-append_seam line e rest e) in
     let longer : length (line ++ e ∷ []) ≡ length line + 1 = length-append line (e ∷ []) in
-    let more = message_frames g own boot set (line ++ e ∷ []) ps (All-tail (λ piece. 16 ≤ length piece) p ps long) members in (
-      record { entry = e; there = there; long = All-head (λ piece. 16 ≤ length piece) p ps long; set = set; is = refl; members = members },
+    let more = message_frames g own boot set (line ++ e ∷ []) ps fits (All-tail (λ piece. 16 ≤ length piece) p ps long) members in (
+      record { entry = e; there = there; long = All-head (λ piece. 16 ≤ length piece) p ps long; set = set; set_fits = fits; is = refl; members = members },
       subst (λ l. AreFramesAt own boot l (length line + 1) (map (accepted_frame own boot set) ps)) (append_assoc line (e ∷ []) rest) (frames_from own boot ((line ++ e ∷ []) ++ rest) (length (line ++ e ∷ [])) (length line + 1) (map (accepted_frame own boot set) ps) longer more),
     )
 
@@ -98,6 +98,7 @@ cast_one a own boot line n x bearer number mended frame h is at low high =
       in_boot = (let same = h.boot_is in omega arith);
       place = x;
       set = is.set;
+      set_fits = is.set_fits;
       packet = is.entry.packet;
       bytes = spelled;
       cast = record {
@@ -249,7 +250,7 @@ offered_lines g v pieces h is long lined =
     record {
       unacked = grow_frames v.own v.boot line more (acked_of s) s.unacked lined.unacked;
       waiting = join_frames v.own v.boot (line ++ more) s.numbered s.waiting (map (accepted_frame v.own v.boot set) pieces) (grow_frames v.own v.boot line more s.numbered s.waiting lined.waiting)
-          (frames_from v.own v.boot (line ++ more) (length line) (s.numbered + length s.waiting) (map (accepted_frame v.own v.boot set) pieces) end (message_frames g v.own v.boot set line pieces long members));
+          (frames_from v.own v.boot (line ++ more) (length line) (s.numbered + length s.waiting) (map (accepted_frame v.own v.boot set) pieces) end (message_frames g v.own v.boot set line pieces (sets_have_32_bits v.contacts (words v.own s v.contacts is)) long members));
     }
 
 kept_lines : (line : List Accepted) (v : Casting) (cs : List Contact) → IsSending v.sending → IsCasting v.own v.sending v.contacts → IsLined line v → KeepsLines v.own line (kept_for cs (flushed v)) (flush_frames v)

@@ -21,7 +21,7 @@ use Rattle.tipc_broadcast.specs.Contacts.{heard, heard_outcome, is_in_step, is_m
 use Rattle.tipc_broadcast_law.specs.Groups.{Accepted, Caster, Group, mark, mark_in, Member, packets, place, put, queue, window}
 use Rattle.tipc_broadcast_law.specs.Events.{changes, entered, go_on, in_step_from, left, member_begins, member_ends, none, Runs, steps_in, takes, taking}
 use Rattle.tipc_broadcast_law.specs.Law.{IsGroup}
-use Rattle.tipc_broadcast_law.specs.Listening.{given, HoldsAt, IsAt, IsCastAt, IsListening, IsWindow, stepped_member, TookIn, Turns}
+use Rattle.tipc_broadcast_law.specs.Listening.{given, HoldsAt, IsAt, IsCastAt, IsListening, IsWindow, stepped_member, TookIn, MemberTurns}
 use Rattle.tipc_broadcast_law.specs.Promises.{IsNear}
 use Rattle.tipc_broadcast_law.proofs.Consequences.{all_are_near}
 use Rattle.tipc_broadcast_law.proofs.MemberEvents.{place-want}
@@ -37,7 +37,7 @@ never_wanted k c within above = elim (k.want c) as (λ o. k.want c ≡ o → o �
 
 pub enter_runs : (g : Group) (m c peer start : ℕ) → IsGroup g → (g.members m).at ≡ None → (g.members m).last < c → (g.members m).boots c ≤ g.caster.boot
     → ((d s : ℕ) → (g.members m).begun d ≡ Some s → d ≤ c)
-    → Turns g m (λ l. l ≡ entered (g.members m) c) (Some (joined peer ((g.members m).boots c) start))
+    → MemberTurns g m (λ l. l ≡ entered (g.members m) c) (Some (joined peer ((g.members m).boots c) start))
 enter_runs g m c peer start h away above era newest =
     let k = g.members m in
     let l = entered k c in
@@ -52,7 +52,7 @@ enter_runs g m c peer start h away above era newest =
       listens = subst (λ (n : Member). (d : ℕ) × (n.at ≡ Some d) × (k.boots c ≡ n.boots d) × (n.want d ≡ None)) (sym here) (c, refl, refl, never_wanted k c (λ w e. (h.each m).want_last c w e) above);
     }
 
-pub quit_runs : (g : Group) (m : ℕ) → Turns g m (λ l. l ≡ left (g.members m)) None
+pub quit_runs : (g : Group) (m : ℕ) → MemberTurns g m (λ l. l ≡ left (g.members m)) None
 quit_runs g m =
     let l = left (g.members m) in
     let here = put_same m l g.members in
@@ -87,7 +87,7 @@ listens_as : (g : Group) (m c : ℕ) (k : Contact) (boot : ℕ) (o : Option Rece
 listens_as g m c k boot o boots windows at same is = (c, at, boots ∙ same, subst (IsWindow g m c) (sym windows) is)
 
 tell_in : (g : Group) (m c s next : ℕ) (k : Contact) (o : Option Receiving) → k.window ≡ o → (g.members m).at ≡ Some c → k.boot ≡ (g.members m).boots c → IsWindow g m c o → (g.members m).begun c ≡ Some s
-    → Turns g m (λ l. l ≡ stepped_member (g.members m) c s o) (Some (told (number_of (s + 1)) next k))
+    → MemberTurns g m (λ l. l ≡ stepped_member (g.members m) c s o) (Some (told (number_of (s + 1)) next k))
 tell_in g m c s next k None there at boots is begun =
     let n = g.members m in
     let l = in_step_from n c s in
@@ -124,7 +124,7 @@ same_contact : (g : Group) (m c d : ℕ) → (g.members m).at ≡ Some c → (g.
 same_contact g m c d one two = same_Some c d (sym one ∙ two)
 
 pub tell_runs : (g : Group) (m c s next : ℕ) (k : Contact) → IsListening g m (Some k) → (g.members m).at ≡ Some c → (g.members m).begun c ≡ Some s
-    → Turns g m (λ l. l ≡ stepped_member (g.members m) c s k.window) (Some (told (number_of (s + 1)) next k))
+    → MemberTurns g m (λ l. l ≡ stepped_member (g.members m) c s k.window) (Some (told (number_of (s + 1)) next k))
 tell_runs g m c s next k h at begun =
     let same = same_contact g m h.0 c h.1 at in
     tell_in g m c s next k k.window refl at (subst (λ d. k.boot ≡ (g.members m).boots d) same h.2) (subst (λ d. IsWindow g m d k.window) same h.3) begun
@@ -307,7 +307,7 @@ Hears g m ps l = (c : ℕ) × ((g.members m).at ≡ Some c) × TookIn (g.members
 
 hear_in : (g : Group) (m c boot x set stamp : ℕ) (k : Contact) (r : Receiving) (t : Taken) → IsGroup g → IsNodeWord m → (g.members m).at ≡ Some c → k.boot ≡ (g.members m).boots c → boot ≡ k.boot → IsWindow g m c (Some r) → next_of r ≡ None
     → IsCastAt g.caster boot x set stamp t.packet → is_member m set ≡ true → g.caster.numbered boot ≤ stamp + 30000 → t.number ≡ number_of (x + 1)
-    → Turns g m (Hears g m (given (outcome_in t (Some r)))) (Some (taken_in k t (Some r)))
+    → MemberTurns g m (Hears g m (given (outcome_in t (Some r)))) (Some (taken_in k t (Some r)))
 hear_in g m c boot x set stamp k r t h node at boots era is free cast member fresh number =
     let n = g.members m in
     let a = g.caster in
@@ -355,12 +355,12 @@ refused_none own boot members k =
 
 heard_in : (g : Group) (m c boot x set stamp : ℕ) (k : Contact) (o : Option Receiving) (t : Taken) → is_some o ≡ true → IsGroup g → IsNodeWord m → (g.members m).at ≡ Some c → k.boot ≡ (g.members m).boots c → boot ≡ k.boot → IsWindow g m c o → IsFree o
     → IsCastAt g.caster boot x set stamp t.packet → is_member m set ≡ true → g.caster.numbered boot ≤ stamp + 30000 → t.number ≡ number_of (x + 1)
-    → Turns g m (Hears g m (given (outcome_in t o))) (Some (taken_in k t o))
+    → MemberTurns g m (Hears g m (given (outcome_in t o))) (Some (taken_in k t o))
 heard_in g m c boot x set stamp k None t some h node at boots era is free cast member fresh number = absurd (let no : ⊥ = cc in no)
 heard_in g m c boot x set stamp k (Some r) t some h node at boots era is free cast member fresh number = hear_in g m c boot x set stamp k r t h node at boots era is free cast member fresh number
 
 hear_by : (g : Group) (m boot x set stamp : ℕ) (k : Contact) (t : Taken) (o : Option Why) → refusal m boot set k ≡ o → IsGroup g → IsNodeWord m → IsListening g m (Some k) → IsFree k.window → IsCastAt g.caster boot x set stamp t.packet → g.caster.numbered boot ≤ stamp + 30000 → t.number ≡ number_of (x + 1)
-    → Turns g m (Hears g m (given (heard_outcome t k o))) (Some (heard t k o))
+    → MemberTurns g m (Hears g m (given (heard_outcome t k o))) (Some (heard t k o))
 hear_by g m boot x set stamp k t (Some reason) refused h node listens free cast fresh number =
     record { after = g; runs = none; caster = refl; others = λ i never. refl; one = (listens.0, listens.1, took_none (g.members m) listens.0); listens = listens }
 hear_by g m boot x set stamp k t None refused h node listens free cast fresh number =
@@ -368,7 +368,7 @@ hear_by g m boot x set stamp k t None refused h node listens free cast fresh num
     heard_in g m listens.0 boot x set stamp k k.window t may.1 h node listens.1 listens.2 may.0 listens.3 free cast may.2 fresh number
 
 pub hear_runs : (g : Group) (m boot x set stamp : ℕ) (k : Contact) (t : Taken) → IsGroup g → IsNodeWord m → IsListening g m (Some k) → IsFree k.window → IsCastAt g.caster boot x set stamp t.packet → g.caster.numbered boot ≤ stamp + 30000 → t.number ≡ number_of (x + 1)
-    → Turns g m (Hears g m (given (heard_outcome t k (refusal m boot set k)))) (Some (heard t k (refusal m boot set k)))
+    → MemberTurns g m (Hears g m (given (heard_outcome t k (refusal m boot set k)))) (Some (heard t k (refusal m boot set k)))
 hear_runs g m boot x set stamp k t h node listens free cast fresh number = hear_by g m boot x set stamp k t (refusal m boot set k) refl h node listens free cast fresh number
 
 -- ---- what a STATE of the member shows

@@ -1,10 +1,11 @@
 -- What stands in the caster's lists: each frame is that of the packet at its place, with the set of the members for which that was
 -- accepted. So each frame that leaves is one of a packet of the law, also one that is sent again.
-use Rattle.std.specs.Prelude.{◌≡◌, ◌+◌, ◌<◌, ◌≤◌, ℕ, All, List, [], ◌∷◌, ◌++◌, length, map, slice_get, Some, is_some}
+use Rattle.std.specs.Prelude.{◌≡◌, ◌+◌, ◌^◌, ◌<◌, ◌≤◌, ℕ, All, List, [], ◌∷◌, ◌++◌, length, map, slice_get, Some, is_some}
 use Rattle.tipc_types.specs.Address.{IsNodeWord}
 use Rattle.tipc_types.specs.Position.{number_of}
 use Rattle.tipc_types.specs.declared.identity.To.TheVariants as to
 use Rattle.tipc_types.specs.declared.link_words.BroadcastState.{BroadcastState}
+use Rattle.tipc_types.specs.Limits.{most_packet_bytes}
 use Rattle.tipc_outside.specs.declared.outgoing.Outgoing.{Outgoing}
 use Rattle.tipc_header.specs.Frames.{frame_of, stamped}
 use Rattle.tipc_send_window.specs.Sending.{acked_of, IsSending}
@@ -22,6 +23,7 @@ pub record IsFrameAt (own boot : ℕ) (line : List Accepted) (x : ℕ) (frame : 
   pub there : slice_get line x ≡ Some entry
   pub long : 16 ≤ length entry.packet
   pub set : ℕ
+  pub set_fits : set < 2 ^ 32
   pub is : frame ≡ accepted_frame own boot set entry.packet
   pub members : (node : ℕ) → IsNodeWord node → is_member node set ≡ is_some (entry.members node)
 
@@ -43,6 +45,7 @@ pub record IsCastFrame (a : Caster) (own stamp : ℕ) (f : Outgoing) : Type 0 wh
   pub in_boot : boot ≤ a.boot
   pub place : ℕ
   pub set : ℕ
+  pub set_fits : set < 2 ^ 32
   pub packet : List ℕ
   pub bytes : f.frame ≡ frame_of boot set (stamped 0 (number_of (place + 1)) own packet)
   pub cast : IsCastAt a boot place set stamp packet
@@ -58,7 +61,7 @@ pub record KeepsLines (own : ℕ) (line : List Accepted) (v : Casting) (frames :
 -- a message: its packets stand behind all others, for the members in contact
 abbrev pub SendLines : Type 0
 SendLines = (g : Group) (v : Casting) (pieces : List (List ℕ)) → Casts g v → IsSending (with_message v pieces).sending → IsCasting v.own v.sending v.contacts
-    → All (λ piece. 16 ≤ length piece) pieces → All (λ piece. length piece ≤ 1452) pieces → length v.sending.waiting < 200 → length pieces ≤ 47
+    → All (λ piece. 16 ≤ length piece) pieces → All (λ piece. length piece ≤ most_packet_bytes) pieces → length v.sending.waiting < 200 → length pieces ≤ 47
     → IsLined (line_of g) v
     → KeepsLines v.own (line_of g ++ map (accepting_one g) pieces) (accepting v pieces) (accepting_frames v pieces)
 

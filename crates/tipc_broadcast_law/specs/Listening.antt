@@ -4,6 +4,7 @@ use Rattle.std.specs.Prelude.{◌≡◌, true, ℕ, ◌+◌, ◌<◌, ◌≤◌,
 use Rattle.tipc_types.specs.Address.{IsNodeWord}
 use Rattle.tipc_types.specs.Position.{number_of}
 use Rattle.tipc_types.specs.declared.packet_lists.Taken.{Taken}
+use Rattle.tipc_types.specs.Limits.{most_age}
 use Rattle.tipc_recv_window.specs.declared.outcomes.LinkOutcome.{LinkOutcome}
 use Rattle.tipc_recv_window.specs.declared.outcomes.LinkOutcome.TheVariants as outcome
 use Rattle.tipc_recv_window.specs.Receiving.{Receiving}
@@ -40,7 +41,7 @@ IsListening g m (Some k) = (c : ℕ) × ((g.members m).at ≡ Some c) × (k.boot
 
 -- After events of one member alone it keeps this of the caster. The caster and the other members are as they were, and the member
 -- is one of these.
-pub record Turns (g : Group) (m : ℕ) (IsOne : Member → Type 0) (kept : Option Contact) : Type 0 where
+pub record MemberTurns (g : Group) (m : ℕ) (IsOne : Member → Type 0) (kept : Option Contact) : Type 0 where
   pub after : Group
   pub runs : Runs g after
   pub caster : after.caster ≡ g.caster
@@ -52,11 +53,11 @@ pub record Turns (g : Group) (m : ℕ) (IsOne : Member → Type 0) (kept : Optio
 abbrev pub EnterRuns : Type 0
 EnterRuns = (g : Group) (m c peer start : ℕ) → IsGroup g → (g.members m).at ≡ None → (g.members m).last < c → (g.members m).boots c ≤ g.caster.boot
     → ((d s : ℕ) → (g.members m).begun d ≡ Some s → d ≤ c)
-    → Turns g m (λ l. l ≡ entered (g.members m) c) (Some (joined peer ((g.members m).boots c) start))
+    → MemberTurns g m (λ l. l ≡ entered (g.members m) c) (Some (joined peer ((g.members m).boots c) start))
 
 -- it ends
 abbrev pub QuitRuns : Type 0
-QuitRuns = (g : Group) (m : ℕ) → Turns g m (λ l. l ≡ left (g.members m)) None
+QuitRuns = (g : Group) (m : ℕ) → MemberTurns g m (λ l. l ≡ left (g.members m)) None
 
 -- the member after a STATE with its start in a contact: the first one takes it in step
 abbrev pub stepped_member : Member → ℕ → ℕ → Option Receiving → Member
@@ -66,7 +67,7 @@ stepped_member k c start (Some r) = k
 -- a STATE of the caster is taken, which shows the start of the contact
 abbrev pub TellRuns : Type 0
 TellRuns = (g : Group) (m c s next : ℕ) (k : Contact) → IsListening g m (Some k) → (g.members m).at ≡ Some c → (g.members m).begun c ≡ Some s
-    → Turns g m (λ l. l ≡ stepped_member (g.members m) c s k.window) (Some (told (number_of (s + 1)) next k))
+    → MemberTurns g m (λ l. l ≡ stepped_member (g.members m) c s k.window) (Some (told (number_of (s + 1)) next k))
 
 -- A broadcast packet that was sent: it is the one at a place of a boot, which has its number, with the set of the members for which it was
 -- accepted. `stamp` were numbered after the event that sent it.
@@ -100,8 +101,8 @@ pub record TookIn (k l : Member) (c : ℕ) (took : List (List ℕ)) : Type 0 whe
 -- the wanted place and behind it.
 abbrev pub HearRuns : Type 0
 HearRuns = (g : Group) (m boot x set stamp : ℕ) (k : Contact) (t : Taken) → IsGroup g → IsNodeWord m → IsListening g m (Some k) → IsFree k.window
-    → IsCastAt g.caster boot x set stamp t.packet → g.caster.numbered boot ≤ stamp + 30000 → t.number ≡ number_of (x + 1)
-    → Turns g m (λ l. (c : ℕ) × ((g.members m).at ≡ Some c) × TookIn (g.members m) l c (given (heard_outcome t k (refusal m boot set k))))
+    → IsCastAt g.caster boot x set stamp t.packet → g.caster.numbered boot ≤ stamp + most_age → t.number ≡ number_of (x + 1)
+    → MemberTurns g m (λ l. (c : ℕ) × ((g.members m).at ≡ Some c) × TookIn (g.members m) l c (given (heard_outcome t k (refusal m boot set k))))
     (Some (heard t k (refusal m boot set k)))
 
 -- what a STATE of the member shows where it says that it is in step: the number of the place that it wants

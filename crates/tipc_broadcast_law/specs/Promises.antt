@@ -1,6 +1,7 @@
 -- What follows for callers.
 use Rattle.std.specs.Prelude.{◌≡◌, ℕ, ◌+◌, ◌<◌, ◌≤◌, List, [], ◌++◌, map, Some, if◌then◌else◌}
 use Rattle.tipc_types.specs.Prefixes.{IsPrefixOf}
+use Rattle.tipc_types.specs.Limits.{most_age}
 use Rattle.tipc_broadcast_law.specs.Groups.{Accepted, accepted_for, Group, is_contact, mark, numbered_now, place, queue, window}
 use Rattle.tipc_broadcast_law.specs.Events.{accepting_entry, Happens, IsBegin, Runs}
 use Rattle.tipc_broadcast_law.specs.Law.{IsGroup}
@@ -56,7 +57,7 @@ WindowOf50 = (g : Group) → IsGroup g → (m c : ℕ) → (g.members m).joined 
 abbrev pub PacketsAreNear : Type 0
 PacketsAreNear = (g : Group) → IsGroup g → (m c s x stamp : ℕ) → (g.members m).begun c ≡ Some s
     → mark (g.caster.line ((g.members m).boots c)) m x ≡ Some c
-    → stamp < x + 1 + window + queue → g.caster.numbered ((g.members m).boots c) ≤ stamp + 30000
+    → stamp < x + 1 + window + queue → g.caster.numbered ((g.members m).boots c) ≤ stamp + most_age
     → (x < place (g.members m) c + window + queue) × (place (g.members m) c ≤ x + 30542)
 
 -- The same of a packet that is for the member in whatever contact, while the member is in a contact that the caster began.
@@ -70,5 +71,5 @@ pub record IsNear (g : Group) (m c d x : ℕ) : Type 0 where
 abbrev pub AllAreNear : Type 0
 AllAreNear = (g : Group) → IsGroup g → (m c d s x stamp : ℕ) → (g.members m).at ≡ Some c → (g.members m).begun c ≡ Some s
     → mark (g.caster.line ((g.members m).boots c)) m x ≡ Some d
-    → stamp < x + 1 + window + queue → g.caster.numbered ((g.members m).boots c) ≤ stamp + 30000
+    → stamp < x + 1 + window + queue → g.caster.numbered ((g.members m).boots c) ≤ stamp + most_age
     → IsNear g m c d x

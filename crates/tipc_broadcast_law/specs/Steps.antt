@@ -2,6 +2,7 @@
 use Rattle.std.specs.Prelude.{◌≡◌, ◌⊎◌, true, false, ℕ, ◌+◌, ◌-◌, ◌<◌, ◌≤◌, ◌++◌, All, List, length, map, Option, Some, None}
 use Rattle.tipc_types.specs.Position.{number_of}
 use Rattle.tipc_types.specs.declared.link_words.BroadcastState.{BroadcastState}
+use Rattle.tipc_types.specs.Limits.{most_age, most_packet_bytes, window_size}
 use Rattle.tipc_send_window.specs.Sending.{IsSending}
 use Rattle.tipc_broadcast.specs.declared.contacts.Contact.{Contact}
 use Rattle.tipc_broadcast.specs.Contacts.{acknowledged_to, contact_with}
@@ -60,7 +61,7 @@ pub record TellsPlace (numbered acked place : ℕ) : Type 0 where
 -- what is numbered, and at most 60,000 past the member's place. A member that took nothing yet names the place before its start,
 -- up to which all counts as acknowledged; what stands there may still wait for its number.
 abbrev pub AcknowledgementsTellPlaces : Type 0
-AcknowledgementsTellPlaces = (numbered acked place : ℕ) → numbered ≤ acked + 50 → (place ≤ numbered) ⊎ (place ≡ acked) → acked ≤ place + 60000
+AcknowledgementsTellPlaces = (numbered acked place : ℕ) → numbered ≤ acked + window_size → (place ≤ numbered) ⊎ (place ≡ acked) → acked ≤ place + 60000
     → TellsPlace numbered acked place
 
 -- A peer that isn't in contact joins in a contact that is above each that the caster began with it, of the present boot, while
@@ -79,7 +80,7 @@ LeaveRuns = (g : Group) (v : Casting) (peer : ℕ) → Casts g v → IsSending v
 -- each for the members that were in contact. What moves up is numbered.
 abbrev pub SendRuns : Type 0
 SendRuns = (g : Group) (v : Casting) (pieces : List (List ℕ)) → Casts g v → IsSending (with_message v pieces).sending → IsCasting v.own v.sending v.contacts
-    → All (λ piece. 16 ≤ length piece) pieces → All (λ piece. length piece ≤ 1452) pieces → length v.sending.waiting < 200 → length pieces ≤ 47 → Leads g (line_of g ++ map (accepting_one g) pieces) g.members (accepting v pieces)
+    → All (λ piece. 16 ≤ length piece) pieces → All (λ piece. length piece ≤ most_packet_bytes) pieces → length v.sending.waiting < 200 → length pieces ≤ 47 → Leads g (line_of g ++ map (accepting_one g) pieces) g.members (accepting v pieces)
 
 -- A number in a STATE of a peer is that of a place that the member had in the contact in which the caster is with it, at most
 -- 60,000 before what it acknowledged; at most 50 are numbered past that. The place is numbered, or is the member's start, up to
@@ -94,7 +95,7 @@ pub record Shows (g : Group) (v : Casting) (peer number : ℕ) : Type 0 where
   pub place : ℕ
   pub had : place ≤ wanted
   pub is_numbered : (place ≤ v.sending.numbered) ⊎ (place ≡ contact.acked)
-  pub in_window : v.sending.numbered ≤ contact.acked + 50
+  pub in_window : v.sending.numbered ≤ contact.acked + window_size
   pub recent : contact.acked ≤ place + 60000
   pub number_is : number ≡ number_of place
 
@@ -134,9 +135,9 @@ pub record ToldPlace (g : Group) (m c place stamp : ℕ) : Type 0 where
   pub wanted : ℕ
   pub wants : (g.members m).want c ≡ Some wanted
   pub had : place ≤ wanted
-  pub in_window : (g.members m).joined ≡ Some c → stamp ≤ place + 50
+  pub in_window : (g.members m).joined ≡ Some c → stamp ≤ place + window_size
 
 -- Where at most 30,000 were numbered since it left, its number tells the place.
 abbrev pub ToldPlacesShow : Type 0
 ToldPlacesShow = (g : Group) (v : Casting) (m c place stamp : ℕ) → IsGroup g → Casts g v → (g.members m).joined ≡ Some c → ToldPlace g m c place stamp
-    → numbered_now g.caster ≤ stamp + 30000 → Shows g v m (number_of place)
+    → numbered_now g.caster ≤ stamp + most_age → Shows g v m (number_of place)

@@ -1,6 +1,7 @@
 //! Putting packets together.
 
 ghost use Rattle.std.specs.Prelude.{◌≡◌, ◌+◌, ◌≤◌, ◌<◌, ◌^◌, ◌↔◌, ◌++◌, ◌∷◌, [], List, ℕ, Err, length, IfOk, OnErr, OnOk};
+ghost use Rattle.tipc_types.specs.Limits.{most_packet_bytes};
 ghost use Rattle.tipc_header.specs.Grammar.{Fits};
 ghost use Rattle.tipc_header.specs.Spelling.{spelling};
 ghost use Rattle.tipc_bundle.specs.Bundles.{bundle_with, in_a_row, joined, padded, Carries, IsInner};
@@ -101,9 +102,9 @@ pub fn with_added(alloc: Global, last: &[u8], packet: &[u8]) -> Result<Bytes, Bu
     requires packet { IsInner packet.now }
     ensures ok { (packets : List (List ℕ)) → Carries last.now packets →
         IfOk result (λ bundle. Carries bundle (packets ++ packet.now ∷ [])) }
-    ensures within { IfOk result (λ bundle. length bundle ≤ 1452) }
+    ensures within { IfOk result (λ bundle. length bundle ≤ most_packet_bytes) }
     ensures full { (packets : List (List ℕ)) → Carries last.now packets →
-        (result ≡ Err BundleFault.Full) ↔ (1452 < length (joined (packets ++ packet.now ∷ []))) }
+        (result ≡ Err BundleFault.Full) ↔ (most_packet_bytes < length (joined (packets ++ packet.now ∷ []))) }
 {
     let (count, waiting) = carried(last);
     let size = HEADER_BYTES + padded_size(waiting.len()) + padded_size(packet.len());
@@ -124,9 +125,9 @@ pub fn try_add(alloc: Global, last: &mut Bytes, packet: &[u8]) -> Result<(), Bun
     requires packet { IsInner packet.now }
     ensures ok { (packets : List (List ℕ)) → Carries last.old packets →
         OnOk result (Carries last.new (packets ++ packet.now ∷ [])) }
-    ensures within { OnOk result (length last.new ≤ 1452) }
+    ensures within { OnOk result (length last.new ≤ most_packet_bytes) }
     ensures full { (packets : List (List ℕ)) → Carries last.old packets →
-        (result ≡ Err BundleFault.Full) ↔ (1452 < length (joined (packets ++ packet.now ∷ []))) }
+        (result ≡ Err BundleFault.Full) ↔ (most_packet_bytes < length (joined (packets ++ packet.now ∷ []))) }
     ensures err { OnErr result (last.new ≡ last.old) }
 {
     match with_added(alloc, last.as_slice(), packet) {

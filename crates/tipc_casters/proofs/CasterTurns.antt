@@ -18,10 +18,15 @@ use Rattle.tipc_broadcast_law.proofs.Lining.{join_lines, leave_lines, send_lines
 use Rattle.tipc_broadcast_law.proofs.Places.{put_other, put_same, same_or_not}
 use Rattle.tipc_broadcast_law.proofs.calls.Calls.{join_runs, leave_runs, send_runs}
 use Rattle.tipc_broadcast_law.proofs.calls.Stating.{states_run, told_places_show}
+use Rattle.tipc_casters.specs.Pieces.{IsCastPiece}
 use Rattle.tipc_casters.specs.Sights.{Aired, boot_in, CasterSight, IsAired, IsCast, IsToldBy, MemberSight, Told}
 use Rattle.tipc_casters.specs.Turns.{aired, IsCall, IsRight, joins, leaves, restarted, sends, states}
 use Rattle.tipc_casters.proofs.Later.{runs_later}
 use Rattle.tipc_casters.proofs.Standing.{aired_later, member_later, same_put, same_side, SameMember}
+
+-- a packet that was accepted is one that the node can cast
+abbrev IsSpelled : ℕ → Accepted → Type 0
+IsSpelled own e = IsCastPiece own e.packet
 
 -- What the caster keeps after a turn that leads to a group with this list and these members.
 record IsTurn (a b : CasterSight) (g : Group) (line : List Accepted) (members : ℕ → Member) : Type 0 where
@@ -36,6 +41,7 @@ record IsTurn (a b : CasterSight) (g : Group) (line : List Accepted) (members : 
   numbered_now_is : b.numbered a.casting.boot ≡ b.casting.sending.numbered
   put : (m c : ℕ) → boot_in c ≡ a.casting.boot → accepted_for m c line ≡ b.put m c
   put_other : (m c : ℕ) → (boot_in c ≡ a.casting.boot → ⊥) → b.put m c ≡ a.put m c
+  spelled : All (IsSpelled a.casting.own) line
 
 turned : (a b : CasterSight) (ms : ℕ → MemberSight) (line : List Accepted) (members : ℕ → Member) (more : List Aired) (h : IsCast a ms) (leads : Leads h.group line members b.casting) → IsTurn a b h.group line members
     → b.sent ≡ a.sent ++ more → All (IsAired leads.after a.casting.own) more → IsCast b ms
@@ -71,6 +77,11 @@ turned a b ms line members more h leads turn sent_is came =
           | inr other ↦ ap (accepted_for m c) (is.lines (boot_in c) (λ e. other (e ∙ boot))) ∙ h.caster.put m c ∙ sym (turn.put_other m c other)
         ];
         sent = subst (λ n. All (IsAired i n) b.sent) (sym turn.own) (subst (All (IsAired i own)) (sym sent_is) (All-append (IsAired i own) a.sent more old came));
+        spelled = λ f. subst (λ n. All (IsSpelled n) (i.caster.line f)) (sym turn.own) (elim (same_or_not f g.caster.boot) [
+          | inl here ↦ subst (All (IsSpelled own)) (sym (ap i.caster.line here ∙ is.line_now)) turn.spelled
+          | inr other ↦ subst (All (IsSpelled own)) (sym (is.lines f other)) (h.caster.spelled f)
+        ]);
+        boot_fits = turn.right.boot;
         ahead = λ f past. (
             let low : g.caster.boot < f = subst (λ b. b < f) is.boot past in
             let was = h.caster.ahead f low in
@@ -129,6 +140,7 @@ cast_joins a ms m boot c h away above era free right =
       numbered_now_is = sym (h.caster.numbered a.casting.boot) ∙ ap g.caster.numbered (sym h.caster.boot) ∙ sym h.caster.stands.numbered;
       put = λ i d here. ap (accepted_for i d) (ap g.caster.line (h.caster.boot ∙ sym here)) ∙ h.caster.put i d;
       put_other = λ i d other. refl;
+      spelled = h.caster.spelled g.caster.boot;
     }) (sym (append-nil a.sent)) (All-nil (IsAired leads.after a.casting.own))
 
 -- ---- a contact ends
@@ -159,6 +171,7 @@ cast_leaves a ms m h call =
       numbered_now_is = put_same a.casting.boot v.sending.numbered a.numbered;
       put = λ i d here. ap (accepted_for i d) (ap g.caster.line (h.caster.boot ∙ sym here)) ∙ h.caster.put i d;
       put_other = λ i d other. refl;
+      spelled = h.caster.spelled g.caster.boot;
     }) refl (left_in a ms (line_of g) (put m l g.members) v (leaving_frames a.casting m) h leads call.boot keeps)
 
 -- ---- a message
@@ -172,8 +185,8 @@ joined_era : (a : CasterSight) (ms : ℕ → MemberSight) (m c : ℕ) → IsCast
 joined_era a ms m c h is = sym ((h.members m).boots c) ∙ (h.law.each m).joined_boot c (h.caster.joined m ∙ is) ∙ h.caster.boot
 
 pub cast_sends : (a : CasterSight) (ms : ℕ → MemberSight) (pieces : List (List ℕ)) → IsCast a ms → IsSending (with_message a.casting pieces).sending → All (λ piece. 16 ≤ length piece) pieces → All (λ piece. length piece ≤ 1452) pieces
-    → length a.casting.sending.waiting < 200 → length pieces ≤ 47 → IsCall a.casting (accepting a.casting pieces) → IsCast (sends a pieces) ms
-cast_sends a ms pieces h window long short few most call =
+    → All (IsCastPiece a.casting.own) pieces → length a.casting.sending.waiting < 200 → length pieces ≤ 47 → IsCall a.casting (accepting a.casting pieces) → IsCast (sends a pieces) ms
+cast_sends a ms pieces h window long short cast few most call =
     let g = h.group in
     let v = accepting a.casting pieces in
     let line = line_of g ++ map (accepting_one g) pieces in
@@ -194,6 +207,7 @@ cast_sends a ms pieces h window long short few most call =
         | true ↦ λ yes. (let at = joined_era a ms m c h (is_that c (a.joined m) yes) in absurd (other at))
         | false ↦ λ _. append-nil (a.put m c)
       ] refl;
+      spelled = All-append (IsSpelled a.casting.own) (line_of g) (map (accepting_one g) pieces) (h.caster.spelled g.caster.boot) (All-map (IsSpelled a.casting.own) (accepting_one g) pieces cast);
     }) refl (left_in a ms line g.members v (accepting_frames a.casting pieces) h leads call.boot keeps)
 
 -- ---- a STATE
@@ -217,6 +231,7 @@ stated a ms m seen members h leads sides joined begun same own right =
       numbered_now_is = put_same a.casting.boot v.sending.numbered a.numbered;
       put = λ i d here. ap (accepted_for i d) (ap g.caster.line (h.caster.boot ∙ sym here)) ∙ h.caster.put i d;
       put_other = λ i d other. refl;
+      spelled = h.caster.spelled g.caster.boot;
     }) refl (left_in a ms (line_of g) members v (stating_frames a.casting m seen) h leads same keeps)
 
 -- one that doesn't say that it is in step
@@ -283,6 +298,11 @@ cast_restarts a ms h right =
           | inr other ↦ ap (accepted_for m c) (put_other e [] g.caster.line (boot_in c) other) ∙ h.caster.put m c
         ];
         sent = All-weaker (IsAired g own) (IsAired i own) (λ f. aired_later g i own f later.caster) a.sent h.caster.sent;
+        spelled = λ f. elim (same_or_not f e) [
+          | inl here ↦ subst (All (IsSpelled own)) (sym (ap (put e [] g.caster.line) here ∙ fresh_line)) (All-nil (IsSpelled own))
+          | inr other ↦ subst (All (IsSpelled own)) (sym (put_other e [] g.caster.line f other)) (h.caster.spelled f)
+        ];
+        boot_fits = right.boot;
         ahead = λ f past. (
             let before : g.caster.boot < f = omega arith in
             let was = h.caster.ahead f before in

@@ -14,10 +14,10 @@ use Rattle.tipc_recv_window.proofs.Runs.{run_leaves}
 use Rattle.tipc_broadcast.specs.declared.contacts.Contact.{Contact}
 use Rattle.tipc_broadcast.specs.Contacts.{contact_with, heard, heard_outcome, is_in_step, IsFree, joined, noted_in, refusal, shown_in, stepped, taken_in, told}
 use Rattle.tipc_broadcast.specs.Casting.{accepted, booted, shown}
-use Rattle.tipc_broadcast_law.specs.Groups.{accepted_for, Caster, Group, length_now, Member, numbered_now, place, put}
+use Rattle.tipc_broadcast_law.specs.Groups.{Accepted, accepted_for, Caster, Group, length_now, Member, numbered_now, place, put}
 use Rattle.tipc_broadcast_law.specs.Events.{entered, left}
 use Rattle.tipc_broadcast_law.specs.Lines.{IsLined}
-use Rattle.tipc_broadcast_law.specs.Listening.{given, IsCastAt, IsListening, IsWindow, stepped_member, TookIn, Turns}
+use Rattle.tipc_broadcast_law.specs.Listening.{given, IsCastAt, IsListening, IsWindow, stepped_member, TookIn, MemberTurns}
 use Rattle.tipc_broadcast_law.specs.Steps.{IsSeen}
 use Rattle.tipc_broadcast_law.proofs.CasterEvents.{run_keeps}
 use Rattle.tipc_broadcast_law.proofs.Consequences.{begins_sound, taken_front}
@@ -26,6 +26,7 @@ use Rattle.tipc_broadcast_law.proofs.MemberEvents.{place-want}
 use Rattle.tipc_broadcast_law.proofs.calls.Stating.{starts_are_shown}
 use Rattle.tipc_broadcast_law.proofs.Places.{put_other, put_same, same_or_not}
 use Rattle.tipc_casters.specs.Later.{IsLater}
+use Rattle.tipc_casters.specs.Pieces.{IsCastPiece}
 use Rattle.tipc_casters.specs.Sights.{Aired, boot_in, CasterSight, IsAired, IsCast, IsCaster, IsMember, IsToldBy, IsToldTo, MemberSight, ReadsAs, Told}
 use Rattle.tipc_casters.specs.Turns.{enters, hears_packet, is_to_hear, is_told, IsRight, new_caster, new_member, quits, tells, with_member}
 use Rattle.tipc_casters.proofs.Later.{runs_later}
@@ -59,13 +60,15 @@ caster_still g h a m same later seen is =
       begun = λ i c. ap (λ (b : ℕ → Option ℕ). b c) (seen i).begun ∙ is.begun i c;
       put = λ i c. ap (λ (d : Caster). accepted_for i c (d.line (boot_in c))) same ∙ is.put i c;
       sent = All-weaker (IsAired g own) (IsAired h own) (λ f. aired_later g h own f later.caster) a.sent is.sent;
+      spelled = λ f. subst (λ (c : Caster). All (λ (e : Accepted). IsCastPiece own e.packet) (c.line f)) (sym same) (is.spelled f);
+      boot_fits = is.boot_fits;
       ahead = λ f past. (
           let was = is.ahead f (subst (λ (c : Caster). c.boot < f) same past) in
           (ap (λ (c : Caster). c.line f) same ∙ was.0, ap (λ (c : Caster). c.numbered f) same ∙ was.1));
     }
 
 -- a turn of one member
-turned_at : (a : CasterSight) (ms : ℕ → MemberSight) (m : ℕ) (s : MemberSight) (kept : Option Contact) (IsOne : Member → Type 0) (h : IsCast a ms) (turn : Turns h.group m IsOne kept) → SameSeen (h.group.members m) (turn.after.members m)
+turned_at : (a : CasterSight) (ms : ℕ → MemberSight) (m : ℕ) (s : MemberSight) (kept : Option Contact) (IsOne : Member → Type 0) (h : IsCast a ms) (turn : MemberTurns h.group m IsOne kept) → SameSeen (h.group.members m) (turn.after.members m)
     → (IsLater h.group turn.after → IsMember turn.after m s) → IsCast a (with_member ms m s)
 turned_at a ms m s kept IsOne h turn seen is =
     let g = h.group in
@@ -323,6 +326,8 @@ casters_begin own boot right =
         begun = λ m c. refl;
         put = λ m c. nothing_accepted m c;
         sent = All-nil (IsAired g own);
+        spelled = λ f. All-nil (λ (e : Accepted). IsCastPiece own e.packet);
+        boot_fits = right.boot;
         ahead = λ f past. (refl, refl);
       };
       members = λ m. record { boots = λ c. refl; at = refl; last = refl; listens = refl; free = tt; given = λ c. refl; told = All-nil (IsToldBy g m); hears = All-nil (IsToldTo g m) };

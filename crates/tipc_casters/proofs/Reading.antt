@@ -1,6 +1,8 @@
 -- A broadcast frame is read as it was written.
-use Rattle.std.proofs.Common.{◌≡◌, ℕ, ◌+◌, ◌<◌, ◌^◌, List, ◌++◌, drop, get_or, sym, ap, ◌∙◌, arith}
+use Rattle.std.proofs.Common.{◌≡◌, ℕ, ◌+◌, ◌<◌, ◌^◌, List, ◌++◌, drop, get_or, sym, ap, subst, ◌∙◌, arith}
 use Rattle.std.proofs.lemmas.List.{drop_at}
+use Rattle.std.proofs.lemmas.List.Elements.{All-get_or}
+use Rattle.std.proofs.lemmas.Option.{get_or_from_slice_get, slice_get_within}
 use Rattle.tipc_types.specs.Position.{number_of}
 use Rattle.tipc_types.proofs.PositionLaws.{number_of-below}
 use Rattle.tipc_header.specs.Frames.{envelope, frame_of, sent_as, stamped}
@@ -12,6 +14,8 @@ use Rattle.tipc_header.proofs.Places.{long-joined}
 use Rattle.tipc_header.proofs.RoundTrip.{one_packet}
 use Rattle.tipc_header.proofs.Words.{AreWords, word_at-words}
 use Rattle.tipc_broadcast.specs.Contacts.{as_accepted}
+use Rattle.tipc_broadcast_law.specs.Groups.{Accepted}
+use Rattle.tipc_casters.specs.Pieces.{IsCastPiece}
 use Rattle.tipc_casters.specs.Reading.{FramesAreRead}
 
 -- ---- the envelope
@@ -42,16 +46,23 @@ same_packet a b c d p q p_fits q_fits same =
     one_packet p q p_fits q_fits (sym (drop_at (envelope a b) (spelling p) 16 (length-envelope a b)) ∙ ap (drop 16) same ∙ drop_at (envelope c d) (spelling q) 16 (length-envelope c d))
 
 pub frames_are_read : FramesAreRead
-frames_are_read g own f boot members by p boot_fits members_fit fits bytes written c =
-    let w = written c in
-    let q = w.piece.fields in
+frames_are_read a ms h f boot members by p boot_fits members_fit fits bytes c =
+    let own = a.casting.own in
+    let line = h.group.caster.line c.boot in
+    let IsOne : Accepted → Type 0 = λ e. IsCastPiece own e.packet in
+    let e = c.cast.entry in
+    let stands : IsOne e = subst IsOne (get_or_from_slice_get line c.place e e c.cast.there) (All-get_or IsOne line c.place e (slice_get_within line c.place e c.cast.there) (h.caster.spelled c.boot)) in
+    let piece : IsCastPiece own c.packet = subst (IsCastPiece own) (sym c.cast.packet_is) stands in
+    let small : c.boot < 2 ^ 64 = let rises = c.in_boot in let same = h.caster.boot in let low = h.caster.boot_fits in omega arith in
+    let few : c.set < 2 ^ 64 = let low = c.set_fits in omega arith in
+    let q = piece.fields in
     let number = number_of (c.place + 1) in
     let sent = sent_as 0 number own q in
     let same : frame_of boot members (spelling p) ≡ frame_of c.boot c.set (spelling sent) =
-    sym bytes ∙ (c.bytes ∙ (ap (λ (b : List ℕ). frame_of c.boot c.set (stamped 0 number own b)) w.piece.spelled ∙ ap (λ (b : List ℕ). frame_of c.boot c.set b) (stamped-spelling q 0 number own))) in
-    let packet : p ≡ sent = same_packet boot members c.boot c.set p sent fits (w.piece.fits number (number_of-below (c.place + 1))) same in (
-      sym (first_read boot members (spelling p) boot_fits members_fit) ∙ (ap (long_at 0) same ∙ first_read c.boot c.set (spelling sent) w.boot_fits w.set_fits),
-      sym (second_read boot members (spelling p) boot_fits members_fit) ∙ (ap (long_at 2) same ∙ second_read c.boot c.set (spelling sent) w.boot_fits w.set_fits),
+    sym bytes ∙ (c.bytes ∙ (ap (λ (b : List ℕ). frame_of c.boot c.set (stamped 0 number own b)) piece.spelled ∙ ap (λ (b : List ℕ). frame_of c.boot c.set b) (stamped-spelling q 0 number own))) in
+    let packet : p ≡ sent = same_packet boot members c.boot c.set p sent fits (piece.fits number (number_of-below (c.place + 1))) same in (
+      sym (first_read boot members (spelling p) boot_fits members_fit) ∙ (ap (long_at 0) same ∙ first_read c.boot c.set (spelling sent) small few),
+      sym (second_read boot members (spelling p) boot_fits members_fit) ∙ (ap (long_at 2) same ∙ second_read c.boot c.set (spelling sent) small few),
       ap (λ (k : Fields). k.sequence) packet,
-      ap (λ (k : Fields). spelling (as_accepted k)) packet ∙ (ap spelling (sym w.piece.as_it_waits) ∙ sym w.piece.spelled),
+      ap (λ (k : Fields). spelling (as_accepted k)) packet ∙ (ap spelling (sym piece.as_it_waits) ∙ sym piece.spelled),
     )

@@ -82,6 +82,7 @@ aired_later g h own f later is =
       in_boot = omega arith;
       place = c.place;
       set = c.set;
+      set_fits = c.set_fits;
       packet = c.packet;
       bytes = c.bytes;
       cast = record { entry = at.entry; there = later.line c.boot c.place at.entry within at.there; packet_is = at.packet_is; numbered = omega arith; members = at.members; stamped = at.stamped };

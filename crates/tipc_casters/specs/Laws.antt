@@ -6,10 +6,12 @@ use Rattle.tipc_types.specs.Address.{IsNodeWord}
 use Rattle.tipc_types.specs.Prefixes.{IsPrefixOf}
 use Rattle.tipc_types.specs.declared.link_words.BroadcastState.{BroadcastState}
 use Rattle.tipc_types.specs.declared.packet_lists.Taken.{Taken}
+use Rattle.tipc_types.specs.Limits.{most_age, most_packet_bytes}
 use Rattle.tipc_send_window.specs.Sending.{IsSending}
 use Rattle.tipc_broadcast.specs.declared.contacts.Contact.{Contact}
 use Rattle.tipc_broadcast.specs.Contacts.{contact_with, shown_in}
 use Rattle.tipc_broadcast.specs.Casting.{accepting, booted, joining, leaving, shown, stating, with_message}
+use Rattle.tipc_casters.specs.Pieces.{IsCastPiece}
 use Rattle.tipc_casters.specs.Sights.{Aired, boot_in, CasterSight, IsCast, MemberSight, ReadsAs, Told}
 use Rattle.tipc_casters.specs.Turns.{enters, hears_packet, IsCall, is_to_hear, is_told, IsRight, joins, leaves, new_caster, new_member, quits, restarted, sends, states, tells, with_member}
 
@@ -30,11 +32,11 @@ Joins = (a : CasterSight) (ms : ℕ → MemberSight) (m boot c : ℕ) → IsCast
 abbrev pub Leaves : Type 0
 Leaves = (a : CasterSight) (ms : ℕ → MemberSight) (m : ℕ) → IsCast a ms → IsCall a.casting (leaving a.casting m) → IsCast (leaves a m) ms
 
--- a message of these packets is sent
+-- a message of these packets is sent, each of which the node can cast
 abbrev pub Sends : Type 0
 Sends = (a : CasterSight) (ms : ℕ → MemberSight) (pieces : List (List ℕ)) → IsCast a ms → IsSending (with_message a.casting pieces).sending
-    → All (λ piece. 16 ≤ length piece) pieces → All (λ piece. length piece ≤ 1452) pieces → length a.casting.sending.waiting < 200 → length pieces ≤ 47
-    → IsCall a.casting (accepting a.casting pieces) → IsCast (sends a pieces) ms
+    → All (λ piece. 16 ≤ length piece) pieces → All (λ piece. length piece ≤ most_packet_bytes) pieces → All (IsCastPiece a.casting.own) pieces
+    → length a.casting.sending.waiting < 200 → length pieces ≤ 47 → IsCall a.casting (accepting a.casting pieces) → IsCast (sends a pieces) ms
 
 -- A STATE of a member is taken: its acknowledgement is read only where it says that it is in step. Then it is one of those that the
 -- member told, in the present contact, with at most 30,000 numbered since.
@@ -44,7 +46,7 @@ StatesApart = (a : CasterSight) (ms : ℕ → MemberSight) (m : ℕ) (seen : Bro
 
 abbrev pub States : Type 0
 States = (a : CasterSight) (ms : ℕ → MemberSight) (m : ℕ) (t : Told) → IsCast a ms → Contains (ms m).told t → t.seen.in_step ≡ true
-    → a.joined m ≡ Some t.contact → a.numbered a.casting.boot ≤ t.stamp + 30000
+    → a.joined m ≡ Some t.contact → a.numbered a.casting.boot ≤ t.stamp + most_age
     → IsCall a.casting (stating a.casting m t.seen) → IsCast (states a m t.seen) ms
 
 -- the caster is restarted: the frames and STATEs of its past boots stay in the air
@@ -63,14 +65,14 @@ abbrev pub Quits : Type 0
 Quits = (a : CasterSight) (ms : ℕ → MemberSight) (m : ℕ) → IsCast a ms → IsCast a (with_member ms m (quits (ms m)))
 
 -- a STATE is taken that the caster told in the present contact
-abbrev pub IsTold : Type 0
-IsTold = (a : CasterSight) (ms : ℕ → MemberSight) (m : ℕ) (k : Contact) (t : Told) → IsCast a ms → (ms m).heard ≡ Some k → Contains (ms m).hears t
+abbrev pub HearsState : Type 0
+HearsState = (a : CasterSight) (ms : ℕ → MemberSight) (m : ℕ) (k : Contact) (t : Told) → IsCast a ms → (ms m).heard ≡ Some k → Contains (ms m).hears t
     → (ms m).at ≡ Some t.contact → IsCast a (with_member ms m (is_told (ms m) k t.seen))
 
 -- A broadcast frame of the caster arrives, any that it ever sent, with at most 30,000 numbered in its boot since.
 abbrev pub Hears : Type 0
 Hears = (a : CasterSight) (ms : ℕ → MemberSight) (m c boot members : ℕ) (f : Aired) (k : Contact) (t : Taken) (h : IsCast a ms) → IsNodeWord m
-    → (ms m).heard ≡ Some k → (ms m).at ≡ Some c → Contains a.sent f → ReadsAs h.group a.casting.own f boot members t → a.numbered boot ≤ f.stamp + 30000
+    → (ms m).heard ≡ Some k → (ms m).at ≡ Some c → Contains a.sent f → ReadsAs h.group a.casting.own f boot members t → a.numbered boot ≤ f.stamp + most_age
     → IsCast a (with_member ms m (hears_packet (ms m) m c boot members k t))
 
 -- ---- STATEs in the air

@@ -8,11 +8,12 @@ use Rattle.tipc_send_window.specs.Sending.{IsSending}
 use Rattle.tipc_broadcast.specs.declared.contacts.Contact.{Contact}
 use Rattle.tipc_broadcast.specs.Contacts.{IsFree}
 use Rattle.tipc_broadcast.specs.Casting.{Casting, IsCasting}
-use Rattle.tipc_broadcast_law.specs.Groups.{accepted_for, Group}
+use Rattle.tipc_broadcast_law.specs.Groups.{Accepted, accepted_for, Group}
 use Rattle.tipc_broadcast_law.specs.Law.{IsGroup}
 use Rattle.tipc_broadcast_law.specs.Lines.{IsCastFrame, IsLined}
 use Rattle.tipc_broadcast_law.specs.Listening.{IsListening}
 use Rattle.tipc_broadcast_law.specs.Steps.{Casts, line_of, ToldPlace}
+use Rattle.tipc_casters.specs.Pieces.{IsCastPiece}
 
 -- ---- contacts
 
@@ -100,6 +101,9 @@ pub record IsCaster (g : Group) (a : CasterSight) : Type 0 where
   pub begun : (m c : ℕ) → (g.members m).begun c ≡ a.begun m c
   pub put : (m c : ℕ) → accepted_for m c (g.caster.line (boot_in c)) ≡ a.put m c
   pub sent : All (IsAired g a.casting.own) a.sent
+  -- each packet that was accepted, in whatever boot, is one that the node can cast, and the boot has 32 bits
+  pub spelled : (f : ℕ) → All (λ (e : Accepted). IsCastPiece a.casting.own e.packet) (g.caster.line f)
+  pub boot_fits : a.casting.boot < 2 ^ 32
   -- in later boots nothing was done
   pub ahead : (f : ℕ) → g.caster.boot < f → (g.caster.line f ≡ []) × (g.caster.numbered f ≡ 0)
 

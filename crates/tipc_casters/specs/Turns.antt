@@ -1,5 +1,5 @@
 -- What may happen to a caster and its members, and the sights after it.
-use Rattle.std.specs.Prelude.{◌≡◌, ℕ, ◌+◌, List, [], ◌∷◌, ◌++◌, map, Some, None, if◌then◌else◌}
+use Rattle.std.specs.Prelude.{◌≡◌, ◌<◌, ◌^◌, ℕ, ◌+◌, List, [], ◌∷◌, ◌++◌, map, Some, None, if◌then◌else◌}
 use Rattle.tipc_types.specs.declared.link_words.BroadcastState.{BroadcastState}
 use Rattle.tipc_types.specs.declared.packet_lists.Taken.{Taken}
 use Rattle.tipc_outside.specs.declared.outgoing.Outgoing.{Outgoing}
@@ -15,6 +15,7 @@ use Rattle.tipc_casters.specs.Sights.{Aired, boot_in, CasterSight, MemberSight, 
 pub record IsRight (v : Casting) : Type 0 where
   pub window : IsSending v.sending
   pub casting : IsCasting v.own v.sending v.contacts
+  pub boot : v.boot < 2 ^ 32
 
 -- what a call makes of a broadcast link is one of the same node and boot
 pub record IsCall (v after : Casting) : Type 0 where

@@ -1,5 +1,5 @@
 //! What is promised of a caster and all its members. The functions do nothing: their contracts are the laws.
-ghost use Rattle.tipc_casters.specs.Laws.{Begins, Enters, GivesAPrefix, Hears, IsTold, Joins, Leaves, Quits, Restarts, Sends, States, StatesApart, Tells, TellsMember};
+ghost use Rattle.tipc_casters.specs.Laws.{Begins, Enters, GivesAPrefix, Hears, HearsState, Joins, Leaves, Quits, Restarts, Sends, States, StatesApart, Tells, TellsMember};
 ghost use Rattle.tipc_casters.specs.Messages.{GivesMessages};
 ghost use Rattle.tipc_casters.specs.Reading.{FramesAreRead};
 
@@ -16,7 +16,7 @@ pub fn a_caster_and_its_members()
     ensures restarts { Restarts }
     ensures enters { Enters }
     ensures quits { Quits }
-    ensures is_told { IsTold }
+    ensures is_told { HearsState }
     ensures hears { Hears }
     ensures tells { Tells }
     ensures tells_member { TellsMember }

@@ -2,6 +2,7 @@
 use Rattle.std.specs.Prelude.{◌≡◌, ℕ, ◌≤◌, All, List, [], ◌∷◌, ◌++◌, length, map, nat_le, if◌then◌else◌, None, Result, Ok, IsOk}
 use Rattle.std.specs.List.{flat_map}
 use Rattle.tipc_types.specs.Prefixes.{IsPrefixOf}
+use Rattle.tipc_types.specs.Limits.{most_packet_bytes}
 use Rattle.tipc_header.specs.Faults.{fault_of}
 use Rattle.tipc_fragments.specs.declared.joining.Joined.{Joined}
 use Rattle.tipc_fragments.specs.declared.joining.Joined.TheVariants.{Whole}
@@ -22,7 +23,7 @@ pub record IsMessage (message : List ℕ) : Type 0 where
 
 -- what is sent of a message: a packet where it fits one, else its fragments
 abbrev pub items_of : List ℕ → List Item
-items_of message = if nat_le (length message) 1452 then Single message ∷ [] else map Part (pieces_of message)
+items_of message = if nat_le (length message) most_packet_bytes then Single message ∷ [] else map Part (pieces_of message)
 
 -- A message in a packet of its own is answered at once; it leaves the begun message as it is.
 abbrev pub item_answer : Joining → Item → ℕ → Result Joined JoinFault

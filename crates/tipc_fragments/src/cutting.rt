@@ -1,6 +1,7 @@
 //! A long message is cut into fragments.
 
 ghost use Rattle.std.specs.Prelude.{◌≡◌, ◌+◌, ◌*◌, ◌/◌, ◌<◌, ◌≤◌, All, length, take, drop, IfOk};
+ghost use Rattle.tipc_types.specs.Limits.{most_packet_bytes};
 ghost use Rattle.tipc_fragments.specs.Cutting.{count_of, kind_of, fragment_fields, packets_of, piece_after};
 ghost use Rattle.tipc_header.specs.Spelling.{spelling};
 
@@ -77,7 +78,7 @@ pub fn cut(alloc: Global, message: &[u8]) -> Result<Pieces, NoMemory>
     requires long { 1453 ≤ length message.now }
     requires within { length message.now ≤ 66044 }
     ensures packets { IfOk result (λ packets. packets ≡ packets_of message.now) }
-    ensures sizes { IfOk result (All (λ packet. length packet ≤ 1452)) }
+    ensures sizes { IfOk result (All (λ packet. length packet ≤ most_packet_bytes)) }
 {
     let mut packets = Pieces::new(alloc);
     for before in 0..message.len().div_ceil(FRAGMENT_BYTES) {

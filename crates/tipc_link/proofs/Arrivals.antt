@@ -1,24 +1,17 @@
 -- What an arrival makes of a link, and what the link sends for it.
-use Rattle.std.proofs.Common.{◌≡◌, ℕ, ◌++◌, zero, suc, true, false, List, [], ◌∷◌, take, drop, filter, map, Some, Result, Ok, Err, refl, sym, ap, ◌∙◌, subst, append-nil}
+use Rattle.std.proofs.Common.{◌≡◌, ℕ, ◌++◌, true, false, [], Some, Result, Ok, Err, refl, sym, ap, ◌∙◌, subst, if◌then◌else◌}
 use Rattle.std.specs.Prelude.{IfOk}
 use Rattle.tipc_types.specs.declared.link_words.BroadcastState.{BroadcastState}
-use Rattle.tipc_outside.specs.Frames.{Adds, Out}
-use Rattle.tipc_outside.proofs.Adding.{adds_more, adds_none}
+use Rattle.tipc_outside.specs.Frames.{Adds, AddsFirst, Gains, Out, made_first}
+use Rattle.tipc_outside.proofs.Adding.{first_and_behind, gains_more, gains_none}
 use Rattle.tipc_header.specs.Spelling.{Fields}
-use Rattle.tipc_types.specs.declared.packet_lists.Kept.{Kept}
-use Rattle.tipc_send_window.specs.Sending.{Sending, acked_of, kept_after}
 use Rattle.tipc_recv_window.specs.Receiving.{Receiving}
 use Rattle.tipc_link_fsm.specs.declared.changes.Change.{Change}
-use Rattle.tipc_link_fsm.specs.declared.changes.Change.TheVariants.{Stay, Up, Down, Answer, Ignore}
+use Rattle.tipc_link_fsm.specs.declared.changes.Change.TheVariants.{Stay}
 use Rattle.tipc_link_fsm.specs.Table.{Fsm, Outcome}
-use Rattle.tipc_link.specs.Records.{Received}
-use Rattle.tipc_link.specs.Sessions.{SessionEnd, Content, Shows, Carries, Nothing, again_frames, arrival_frames, arrived, begun_with, content_of, due_with, flush_frames, heard, is_behind, moved_at, moved_frames, outcome, packet_frame, packet_frames, receiving, after_acknowledgement, repeat_frames, repeated, room, spoke}
-use Rattle.tipc_link.specs.Links.{LinkEnd, after, followed, frames, heard_by, heard_frames, heard_outcome, is_heard, link_frames, link_outcome, newly_numbered, numbers_at, repeats_at, sent_again}
+use Rattle.tipc_link.specs.Sessions.{SessionEnd, Content, Shows, Carries, Nothing, again_frames, arrival_frames, arrived, content_of, due_with, heard, moved_at, moved_frames, outcome, receiving}
+use Rattle.tipc_link.specs.Links.{LinkEnd, after, frames, heard_by, heard_outcome, is_heard, link_frames, link_outcome, newly_numbered, sent_again}
 use Rattle.tipc_link.specs.Hearings.{HearingState, IsArriving, IsHearing, IsWindowHearing, window_outcome}
-
--- a packet that the session doesn't hear
-pub unheard_frames : (e : LinkEnd) (o : Outcome) (p : Fields) (by : ℕ) (shown : BroadcastState) → is_heard p.header o.change ≡ false → link_frames e o p by shown ≡ frames e o shown
-unheard_frames e o p by shown unheard = rw unheard refl
 
 -- ---- what moves up behind what was heard
 
@@ -28,87 +21,30 @@ arrived_is e by acknowledgement (Carries number packet) = refl
 arrived_is e by acknowledgement Nothing = refl
 
 pub arrived_by : (e between after : SessionEnd) (by acknowledgement : ℕ) (c : Content) → between ≡ heard e by acknowledgement c → after ≡ moved_at c between → after ≡ arrived e by acknowledgement c
-arrived_by e between after by acknowledgement c first then = then ∙ ap (moved_at c) first ∙ arrived_is e by acknowledgement c
-
--- the two groups are all frames, in this order
-pub frames_apart : (e : SessionEnd) (by acknowledgement : ℕ) (c : Content) → again_frames e acknowledgement c ++ moved_frames c (heard e by acknowledgement c) ≡ arrival_frames e by acknowledgement c
-frames_apart e by acknowledgement (Shows next gap probe) = refl
-frames_apart e by acknowledgement (Carries number packet) = refl
-frames_apart e by acknowledgement Nothing = refl
+arrived_by e between after by acknowledgement c first second = second ∙ ap (moved_at c) first ∙ arrived_is e by acknowledgement c
 
 pub frames_by : (e between : SessionEnd) (a b d : Out) (by acknowledgement : ℕ) (c : Content) → between ≡ heard e by acknowledgement c
-    → Adds a b (again_frames e acknowledgement c) → Adds b d (moved_frames c between) → Adds a d (arrival_frames e by acknowledgement c)
-frames_by e between a b d by acknowledgement c is first then =
-    subst (Adds a d) (frames_apart e by acknowledgement c) (adds_more a b d _ _ first (subst (λ (s : SessionEnd). Adds b d (moved_frames c s)) is then))
+    → AddsFirst a b (again_frames e acknowledgement c) → Adds b d (moved_frames c between) → Gains a d (arrival_frames e by acknowledgement c)
+frames_by e between a b d by acknowledgement c is first second =
+    first_and_behind a b d _ _ first (subst (λ (s : SessionEnd). Adds b d (moved_frames c s)) is second)
 
-take-none : {A : Type 0} (n : ℕ) → take {A = A} n [] ≡ []
-take-none zero = refl
-take-none (suc n) = refl
+-- a packet that the session hears: its frames leave behind those of the link states, group by group
+pub heard_gains : (a b c : Out) (e : LinkEnd) (o : Outcome) (p : Fields) (by : ℕ) (shown : BroadcastState) → is_heard p.header o.change ≡ true
+    → AddsFirst a b (frames e o shown) → Gains b c (heard_by (after e o).session by p.acknowledgement (content_of p)) → Gains a c (link_frames e o p by shown)
+heard_gains a b c e o p by shown heard first second =
+    subst (λ h. Gains a c (record {
+      first = frames e o shown ++ (if h then sent_again (after e o).session p.acknowledgement (content_of p) else []);
+      behind = if h then newly_numbered (after e o).session by p.acknowledgement (content_of p) else [];
+    })) (sym heard) (gains_more a b c (made_first (frames e o shown)) (heard_by (after e o).session by p.acknowledgement (content_of p)) first second)
 
-drop-none : {A : Type 0} (n : ℕ) → drop {A = A} n [] ≡ []
-drop-none zero = refl
-drop-none (suc n) = refl
-
--- nothing moves up where nothing waits
-moves_none : (e : SessionEnd) → e.sending.waiting ≡ [] → flush_frames e ≡ []
-unfolding flush_frames
-moves_none e none = ap (λ ps. packet_frames e e.sending.numbered (take (room e.sending) ps)) none ∙ ap (packet_frames e e.sending.numbered) (take-none (room e.sending))
-
--- nothing is sent again where nothing is unacknowledged
-repeats_none : (e : SessionEnd) (acknowledgement gap : ℕ) → e.sending.unacked ≡ [] → repeat_frames e acknowledgement gap ≡ []
-unfolding repeat_frames repeated
-repeats_none e acknowledgement gap none = ap (λ ps. map (λ (k : Kept). packet_frame e k.number k.packet) (filter (is_behind acknowledgement gap) (kept_after (acked_of e.sending) ps))) none
-
-spoke-sending : {A : Type 0} (e : SessionEnd) (xs : List A) → (spoke e xs).sending ≡ e.sending
-spoke-sending e [] = refl
-spoke-sending e (x ∷ xs) = refl
-
--- a session that has just begun has nothing to send, whatever its record has
-begun_sends_none : (own peer bearer epoch peer_epoch : ℕ) (r : Received) (by acknowledgement : ℕ) (c : Content) → arrival_frames (begun_with own peer bearer epoch peer_epoch r) by acknowledgement c ≡ []
-begun_sends_none own peer bearer epoch peer_epoch r by acknowledgement (Shows next gap probe) =
-    let new = begun_with own peer bearer epoch peer_epoch r in
-    let e = after_acknowledgement new acknowledgement in
-    let again : repeat_frames e acknowledgement gap ≡ [] = repeats_none e acknowledgement gap (drop-none _) in
-    let more : flush_frames (heard new by acknowledgement (Shows next gap probe)) ≡ [] =
-    moves_none (heard new by acknowledgement (Shows next gap probe)) (ap (λ (s : Sending). s.waiting) (spoke-sending e (repeated e acknowledgement gap))) in
-    ap (λ fs. fs ++ flush_frames (heard new by acknowledgement (Shows next gap probe))) again ∙ more
-begun_sends_none own peer bearer epoch peer_epoch r by acknowledgement (Carries number packet) =
-    moves_none (heard (begun_with own peer bearer epoch peer_epoch r) by acknowledgement (Carries number packet)) refl
-begun_sends_none own peer bearer epoch peer_epoch r by acknowledgement Nothing = refl
-
-heard_is : (e : LinkEnd) (change : Change) (by acknowledgement : ℕ) (c : Content) → heard_by (followed e change).session by acknowledgement c ≡ heard_frames (followed e change) change by acknowledgement c
-heard_is e Up by acknowledgement c = begun_sends_none _ _ _ _ _ _ by acknowledgement c
-heard_is e Stay by acknowledgement c = refl
-heard_is e (Down cause) by acknowledgement c = refl
-heard_is e (Answer reply) by acknowledgement c = refl
-heard_is e (Ignore why) by acknowledgement c = refl
-
--- a packet that the session hears: its frames leave behind those of the link states
-pub heard_adds : (a b c : Out) (e : LinkEnd) (o : Outcome) (p : Fields) (by : ℕ) (shown : BroadcastState) → is_heard p.header o.change ≡ true
-    → Adds a b (frames e o shown) → Adds b c (heard_by (after e o).session by p.acknowledgement (content_of p)) → Adds a c (link_frames e o p by shown)
-heard_adds a b c e o p by shown heard first then =
-    let all : link_frames e o p by shown ≡ frames e o shown ++ heard_frames (after e o) o.change by p.acknowledgement (content_of p) = rw heard refl in
-    rw (all, sym (heard_is (record e { fsm = o.after }) o.change by p.acknowledgement (content_of p))) (adds_more a b c _ _ first then)
-
-pub unheard_adds : (a b : Out) (e : LinkEnd) (o : Outcome) (p : Fields) (by : ℕ) (shown : BroadcastState) → is_heard p.header o.change ≡ false
-    → Adds a b (frames e o shown) → Adds a b (link_frames e o p by shown)
-unheard_adds a b e o p by shown unheard first = rw (unheard_frames e o p by shown unheard) first
-
--- in two groups
-pub again_adds : (a b c : Out) (e : LinkEnd) (o : Outcome) (p : Fields) (shown : BroadcastState) → is_heard p.header o.change ≡ true
-    → Adds a b (frames e o shown) → Adds b c (sent_again (after e o).session p.acknowledgement (content_of p)) → Adds a c (frames e o shown ++ repeats_at e o p)
-again_adds a b c e o p shown heard first then = rw heard (adds_more a b c _ _ first then)
-
-pub none_again : (a b : Out) (e : LinkEnd) (o : Outcome) (p : Fields) (shown : BroadcastState) → is_heard p.header o.change ≡ false
-    → Adds a b (frames e o shown) → Adds a b (frames e o shown ++ repeats_at e o p)
-none_again a b e o p shown unheard first = rw (unheard, append-nil (frames e o shown)) first
-
-pub numbers_adds : (a b : Out) (e : LinkEnd) (o : Outcome) (p : Fields) (by : ℕ) → is_heard p.header o.change ≡ true
-    → Adds a b (newly_numbered (after e o).session by p.acknowledgement (content_of p)) → Adds a b (numbers_at e o p by)
-numbers_adds a b e o p by heard then = rw heard then
-
-pub none_numbered : (a : Out) (e : LinkEnd) (o : Outcome) (p : Fields) (by : ℕ) → is_heard p.header o.change ≡ false → Adds a a (numbers_at e o p by)
-none_numbered a e o p by unheard = rw unheard (adds_none a)
+-- one that no session hears
+pub unheard_gains : (a b : Out) (e : LinkEnd) (o : Outcome) (p : Fields) (by : ℕ) (shown : BroadcastState) → is_heard p.header o.change ≡ false
+    → AddsFirst a b (frames e o shown) → Gains a b (link_frames e o p by shown)
+unheard_gains a b e o p by shown unheard first =
+    subst (λ h. Gains a b (record {
+      first = frames e o shown ++ (if h then sent_again (after e o).session p.acknowledgement (content_of p) else []);
+      behind = if h then newly_numbered (after e o).session by p.acknowledgement (content_of p) else [];
+    })) (sym unheard) (gains_more a b b (made_first (frames e o shown)) (record { first = []; behind = [] }) first (gains_none b))
 
 link_outcome-heard : (e : LinkEnd) (o : Outcome) (p : Fields) (by : ℕ) → is_heard p.header o.change ≡ true → link_outcome e o p by ≡ heard_outcome (after e o).session by (content_of p)
 link_outcome-heard e o p by heard = rw heard refl

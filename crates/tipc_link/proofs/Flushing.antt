@@ -1,14 +1,17 @@
 -- Waiting packets that move up one after another.
-use Rattle.std.proofs.Common.{◌≡◌, ℕ, ◌+◌, ◌<◌, ◌≤◌, ◌==◌, false, List, [], ◌∷◌, ◌++◌, Some, length, take, drop, slice_get, refl, sym, ap, ◌∙◌, append_assoc, length-drop, get_or, add-zero, subst, arith}
+use Rattle.std.proofs.Common.{◌≡◌, ℕ, ◌+◌, ◌<◌, ◌≤◌, ◌==◌, false, List, [], ◌∷◌, ◌++◌, Some, length, take, drop, slice_get, refl, sym, ap, ◌∙◌, append_assoc, append-nil, length-drop, get_or, add-zero, subst, arith}
 use Rattle.std.proofs.lemmas.Bool.Decides.{nat_tests}
 use Rattle.std.proofs.lemmas.List.{drop-drop, get_or-drop, take_more, length-take-le}
 use Rattle.tipc_types.specs.Position.{number_of}
-use Rattle.tipc_outside.proofs.Adding.{adds_more}
+use Rattle.tipc_outside.proofs.Adding.{adds_more, adds_none}
 use Rattle.std.proofs.lemmas.Option.{slice_get-get_or}
 use Rattle.std.proofs.Math.Seq.{take-add}
 use Rattle.tipc_outside.specs.Frames.{Adds, Out}
 use Rattle.tipc_send_window.specs.Sending.{Sending}
 use Rattle.tipc_link.specs.Sessions.{SessionEnd, advanced, sent, room, packet_frame, packet_frames, flush_frames, flushed}
+
+advanced-none : (s : Sending) → advanced 0 s ≡ s
+advanced-none s = let u : s.unacked ++ [] ≡ s.unacked = append-nil s.unacked in let n : s.numbered + 0 ≡ s.numbered = omega arith in rw (u, n) refl
 
 advanced-more : (s : Sending) (i : ℕ) → advanced 1 (advanced i s) ≡ advanced (i + 1) s
 advanced-more s i =
@@ -16,6 +19,9 @@ advanced-more s i =
     let u : (s.unacked ++ take i s.waiting) ++ take 1 (drop i s.waiting) ≡ s.unacked ++ take (i + 1) s.waiting = append_assoc s.unacked (take i s.waiting) (take 1 (drop i s.waiting)) ∙ ap (λ xs. s.unacked ++ xs) (sym (take-add i 1 s.waiting)) in
     let w : drop 1 (drop i s.waiting) ≡ drop (i + 1) s.waiting = drop-drop 1 i s.waiting in
     rw (n, u, w) refl
+
+sent-none : (e : SessionEnd) → sent 0 e ≡ e
+sent-none e = rw (advanced-none e.sending) refl
 
 pub sent-more : (e : SessionEnd) (i : ℕ) → sent 1 (sent i e) ≡ sent (i + 1) e
 sent-more e i =
@@ -42,6 +48,9 @@ pub record IsFlushing (before : SessionEnd) (box_before : Out) (now : SessionEnd
   pub frames : Adds box_before box (packet_frames before before.sending.numbered (take i before.sending.waiting))
   pub count : n ≡ room before.sending
   pub within : i ≤ n
+
+pub flushing-start : (before : SessionEnd) (box : Out) (n : ℕ) → n ≡ room before.sending → IsFlushing before box before box 0 n
+flushing-start before box n is = record { state = sym (sent-none before); frames = adds_none box; count = is; within = omega arith }
 
 -- one more was sent
 pub flushing-step : (before now now' : SessionEnd) (box_before box box' : Out) (i n : ℕ) → IsFlushing before box_before now box i n → i < n → now' ≡ sent 1 now → ((q : List ℕ) → slice_get now.sending.waiting 0 ≡ Some q → Adds box box' (packet_frame now (number_of (now.sending.numbered + 1)) q ∷ [])) → IsFlushing before box_before now' box' (i + 1) n

@@ -6,9 +6,9 @@ use Rattle.std.specs.Prelude.{All, cond, count_by}
 use Rattle.std.proofs.lemmas.List.Sums.{sum_by-cons}
 use Rattle.tipc_types.specs.Position.{number_of}
 use Rattle.tipc_types.specs.declared.packet_lists.Kept.{Kept}
-use Rattle.tipc_outside.specs.Frames.{Adds, Out}
+use Rattle.tipc_outside.specs.Frames.{AddsFirst, Out}
 use Rattle.tipc_outside.specs.declared.outgoing.Outgoing.{Outgoing}
-use Rattle.tipc_outside.proofs.Adding.{adds_more, adds_none}
+use Rattle.tipc_outside.proofs.Adding.{first_more, gains_none}
 use Rattle.tipc_send_window.specs.Sending.{kept_after, kept_of}
 use Rattle.tipc_link.specs.Records.{is_tunnel}
 use Rattle.tipc_link.specs.Sessions.{SessionEnd, all_answered, is_behind, packet_frame, repeat_frames, repeated, spoke}
@@ -23,7 +23,7 @@ first_repeated e acknowledgement gap i = filter (is_behind acknowledgement gap) 
 -- the first i unacknowledged packets were looked at
 pub record IsRepeating (e : SessionEnd) (acknowledgement gap : ℕ) (box_before box : Out) (any : Bool) (i : ℕ) : Type 0 where
   pub spoken : (if any then record e { unanswered = all_answered } else e) ≡ spoke e (first_repeated e acknowledgement gap i)
-  pub frames : Adds box_before box (map (frame_again e) (first_repeated e acknowledgement gap i))
+  pub frames : AddsFirst box_before box (map (frame_again e) (first_repeated e acknowledgement gap i))
 
 spoke-push : (e : SessionEnd) (ks : List Kept) (k : Kept) → record e { unanswered = all_answered } ≡ spoke e (ks ++ k ∷ [])
 spoke-push e [] k = refl
@@ -31,7 +31,7 @@ spoke-push e (x ∷ ks) k = refl
 
 pub repeating-start : (e : SessionEnd) (acknowledgement gap : ℕ) (box : Out) → IsRepeating e acknowledgement gap box box false 0
 unfolding first_repeated
-repeating-start e acknowledgement gap box = record { spoken = refl; frames = adds_none box }
+repeating-start e acknowledgement gap box = record { spoken = refl; frames = gains_none box }
 
 first_repeated-more : (e : SessionEnd) (acknowledgement gap i : ℕ) (k : Kept) → i < length (kept_of e.sending) → get_or (kept_of e.sending) i k ≡ k
     → first_repeated e acknowledgement gap (i + 1) ≡ first_repeated e acknowledgement gap i ++ (if is_behind acknowledgement gap k then k ∷ [] else [])
@@ -54,7 +54,7 @@ repeating-pass e acknowledgement gap box_before box any i k items all before ite
     record { spoken = rw same h.spoken; frames = rw same h.frames }
 
 -- and one that is missing is sent again
-pub repeating-send : (e : SessionEnd) (acknowledgement gap : ℕ) (box_before box box' : Out) (any : Bool) (i : ℕ) (k : Kept) (items : List Kept) → items ≡ kept_of e.sending → i < length items → k ≡ get_or items i k → is_behind acknowledgement gap k ≡ true → Adds box box' (packet_frame e k.number k.packet ∷ [])
+pub repeating-send : (e : SessionEnd) (acknowledgement gap : ℕ) (box_before box box' : Out) (any : Bool) (i : ℕ) (k : Kept) (items : List Kept) → items ≡ kept_of e.sending → i < length items → k ≡ get_or items i k → is_behind acknowledgement gap k ≡ true → AddsFirst box box' (packet_frame e k.number k.packet ∷ [])
     → IsRepeating e acknowledgement gap box_before box any i → IsRepeating e acknowledgement gap box_before box' true (i + 1)
 repeating-send e acknowledgement gap box_before box box' any i k items all before item missing sent h =
     let within : i < length (kept_of e.sending) = subst (λ ks. i < length ks) all before in
@@ -63,15 +63,15 @@ repeating-send e acknowledgement gap box_before box box' any i k items all befor
     let more : first_repeated e acknowledgement gap (i + 1) ≡ ks ++ k ∷ [] = first_repeated-more e acknowledgement gap i k within is ∙ ap (λ t. ks ++ (if t then k ∷ [] else [])) missing in
     record {
       spoken = rw more (spoke-push e ks k);
-      frames = rw (more, map_push (frame_again e) ks k) (adds_more box_before box box' (map (frame_again e) ks) (frame_again e k ∷ []) h.frames sent);
+      frames = rw (more, map_push (frame_again e) ks k) (first_more box_before box box' (map (frame_again e) ks) (frame_again e k ∷ []) h.frames sent);
     }
 
 pub repeating-done : (e : SessionEnd) (acknowledgement gap : ℕ) (box_before box : Out) (any : Bool) (i : ℕ) (items : List Kept) → items ≡ kept_of e.sending → length items ≤ i → IsRepeating e acknowledgement gap box_before box any i
-    → ((if any then record e { unanswered = all_answered } else e) ≡ spoke e (repeated e acknowledgement gap)) × Adds box_before box (repeat_frames e acknowledgement gap)
+    → ((if any then record e { unanswered = all_answered } else e) ≡ spoke e (repeated e acknowledgement gap)) × AddsFirst box_before box (repeat_frames e acknowledgement gap)
 unfolding first_repeated repeated repeat_frames
 repeating-done e acknowledgement gap box_before box any i items all end h =
     let all : take i (kept_of e.sending) ≡ kept_of e.sending = take_all i (kept_of e.sending) (subst (λ ks. length ks ≤ i) all end) in
-    let P : List Kept → Type 0 = λ ks. ((if any then record e { unanswered = all_answered } else e) ≡ spoke e (filter (is_behind acknowledgement gap) ks)) × Adds box_before box (map (frame_again e) (filter (is_behind acknowledgement gap) ks)) in
+    let P : List Kept → Type 0 = λ ks. ((if any then record e { unanswered = all_answered } else e) ≡ spoke e (filter (is_behind acknowledgement gap) ks)) × AddsFirst box_before box (map (frame_again e) (filter (is_behind acknowledgement gap) ks)) in
     subst P all (h.spoken, h.frames)
 
 -- what is true of packets is true of them beside their numbers

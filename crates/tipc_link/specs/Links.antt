@@ -10,6 +10,7 @@ use Rattle.tipc_types.specs.declared.link_words.Why.TheVariants as why
 use Rattle.tipc_types.specs.declared.link_words.OldSession.{OldSession}
 use Rattle.tipc_types.specs.declared.packet_lists.Kept.{Kept}
 use Rattle.tipc_types.specs.declared.packet_lists.Taken.{Taken}
+use Rattle.tipc_outside.specs.Frames.{Made}
 use Rattle.tipc_outside.specs.declared.outgoing.Outgoing.{Outgoing}
 use Rattle.tipc_header.specs.declared.packet.Header.{Header}
 use Rattle.tipc_header.specs.declared.packet.Header.TheVariants as header
@@ -26,7 +27,7 @@ use Rattle.tipc_link_fsm.specs.Table.{Fsm, Outcome, fresh, gives, on_activate, o
 use Rattle.tipc_send_window.specs.Sending.{kept_of}
 use Rattle.tipc_recv_window.specs.declared.outcomes.LinkOutcome.{LinkOutcome}
 use Rattle.tipc_link.specs.Records.{Early, Received, early_of, early_record, kept_for, named, tunnelled}
-use Rattle.tipc_link.specs.Sessions.{SessionEnd, Content, again_frames, answer_frames, answered, arrival_frames, arrived, begun_with, content_of, given_up, heard, moved_frames, outcome, priority_of, receiving_record, state_frame, after_state, tunnel_count, waiting_given, with_broadcast, with_record}
+use Rattle.tipc_link.specs.Sessions.{SessionEnd, Content, again_frames, answer_frames, answered, arrived, begun_with, content_of, given_up, heard, moved_frames, outcome, priority_of, receiving_record, state_frame, after_state, tunnel_count, waiting_given, with_broadcast, with_record}
 
 -- one end of a link to a peer on one bearer, as contracts see it
 pub record LinkEnd : Type 0 where
@@ -304,12 +305,7 @@ is_heard h change = is_traffic h && is_taken change
 abbrev pub heard_end : LinkEnd → ℕ → ℕ → Content → LinkEnd
 heard_end e by acknowledgement c = record e { session = option_map (λ s. arrived s by acknowledgement c) e.session }
 
--- the frames that a session sends when it hears a packet; none where there is no session
-abbrev pub heard_by : Option SessionEnd → ℕ → ℕ → Content → List Outgoing
-heard_by None by acknowledgement c = []
-heard_by (Some s) by acknowledgement c = arrival_frames s by acknowledgement c
-
--- apart: the packets that a session sends again at an arrival, and those that are numbered then
+-- the frames of the packets that a session sends again at an arrival; none where there is no session
 abbrev pub sent_again : Option SessionEnd → ℕ → Content → List Outgoing
 sent_again None acknowledgement c = []
 sent_again (Some s) acknowledgement c = again_frames s acknowledgement c
@@ -319,10 +315,9 @@ abbrev pub newly_numbered : Option SessionEnd → ℕ → ℕ → Content → Li
 newly_numbered None by acknowledgement c = []
 newly_numbered (Some s) by acknowledgement c = moved_frames c (heard s by acknowledgement c)
 
--- what a session sends that hears a packet; nothing waits on one that has just begun
-abbrev pub heard_frames : LinkEnd → Change → ℕ → ℕ → Content → List Outgoing
-heard_frames e Up by acknowledgement c = []
-heard_frames e other by acknowledgement c = heard_by e.session by acknowledgement c
+-- the frames that a session sends when it hears a packet
+abbrev pub heard_by : Option SessionEnd → ℕ → ℕ → Content → Made
+heard_by session by acknowledgement c = record { first = sent_again session acknowledgement c; behind = newly_numbered session by acknowledgement c }
 
 -- what an arrival answers that a session hears
 abbrev pub heard_outcome : Option SessionEnd → ℕ → Content → LinkOutcome
@@ -338,18 +333,18 @@ change_outcome other = LinkOutcome.Took []
 abbrev pub arrival_end : LinkEnd → Outcome → Fields → ℕ → LinkEnd
 arrival_end e o p by = if is_heard p.header o.change then heard_end (after e o) by p.acknowledgement (content_of p) else after e o
 
--- the frames that an end sends at an arrival: those of its link states, and behind them those of its session
-abbrev pub link_frames : LinkEnd → Outcome → Fields → ℕ → BroadcastState → List Outgoing
-link_frames e o p by shown =
-    if is_heard p.header o.change then frames e o shown ++ heard_frames (after e o) o.change by p.acknowledgement (content_of p) else frames e o shown
-
--- the frames in two groups: behind those of the link states the packets that are sent again, and those that are numbered then
+-- the frames of the packets that are sent again at an arrival
 abbrev pub repeats_at : LinkEnd → Outcome → Fields → List Outgoing
 repeats_at e o p = if is_heard p.header o.change then sent_again (after e o).session p.acknowledgement (content_of p) else []
 
 -- the frames of the packets that are numbered at an arrival
 abbrev pub numbers_at : LinkEnd → Outcome → Fields → ℕ → List Outgoing
 numbers_at e o p by = if is_heard p.header o.change then newly_numbered (after e o).session by p.acknowledgement (content_of p) else []
+
+-- The frames that an end sends at an arrival: those of its link states and of the packets that are sent again leave first, and behind
+-- them those of the packets that are numbered then.
+abbrev pub link_frames : LinkEnd → Outcome → Fields → ℕ → BroadcastState → Made
+link_frames e o p by shown = record { first = frames e o shown ++ repeats_at e o p; behind = numbers_at e o p by }
 
 -- what an arrival answers
 abbrev pub link_outcome : LinkEnd → Outcome → Fields → ℕ → LinkOutcome

@@ -3,6 +3,7 @@
 use Rattle.std.specs.Prelude.{◌≡◌, ℕ, ◌+◌, ◌-◌, ◌<◌, ◌≤◌, List, Some, length, map, take, drop, slice_get}
 use Rattle.tipc_types.specs.Position.{number_of}
 use Rattle.tipc_types.specs.declared.packet_lists.Taken.{Taken}
+use Rattle.tipc_types.specs.Limits.{most_age, window_size}
 use Rattle.tipc_recv_window.specs.declared.outcomes.LinkOutcome.{LinkOutcome}
 use Rattle.tipc_link.specs.Records.{Received, kept_for, named, tunnelled, tunnelled_outcome}
 use Rattle.tipc_link.specs.Sessions.{SessionEnd, brought, receiving_record, took}
@@ -14,7 +15,7 @@ use Rattle.tipc_link.specs.Laws.{AreJoined, Side}
 pub record IsOf (r : Received) (line : List (List ℕ)) : Type 0 where
   pub receiver : IsReceiver r.held r.taken line
   pub within : r.taken ≤ length line
-  pub near : length line ≤ r.taken + 50
+  pub near : length line ≤ r.taken + window_size
 
 -- a packet, or a placeholder, of one of the last 50 packets that were numbered
 pub record IsLate (line : List (List ℕ)) (t : Taken) : Type 0 where
@@ -22,7 +23,7 @@ pub record IsLate (line : List (List ℕ)) (t : Taken) : Type 0 where
   pub positive : 1 ≤ position
   pub number_is : t.number ≡ number_of position
   pub sent : position ≤ length line
-  pub recent : length line < position + 50
+  pub recent : length line < position + window_size
 
 -- the record of an end that is joined with the sender
 abbrev pub JoinedAreOf : Type 0
@@ -42,7 +43,7 @@ TunnelsTakeNext = (r : Received) (line : List (List ℕ)) (epoch : ℕ) (t : Tak
 -- and when a frame of the session that isn't too old arrives itself
 abbrev pub FramesStayOf : Type 0
 FramesStayOf = (e : SessionEnd) (line : List (List ℕ)) (numbered number by : ℕ) (packet : List ℕ) → IsOf (receiving_record e) line
-    → numbered ≤ length line → length line ≤ numbered + 30000 → IsCarried line numbered number packet
+    → numbered ≤ length line → length line ≤ numbered + most_age → IsCarried line numbered number packet
     → IsOf (receiving_record (took e (brought number packet by))) line
 
 -- a link that goes up under the record's own epoch keeps it

@@ -3,6 +3,7 @@ use Rattle.std.specs.Prelude.{ℕ, ◌+◌, ◌-◌, Bool, true, false, List, []
 use Rattle.tipc_types.specs.Position.{number_of}
 use Rattle.tipc_types.specs.declared.link_words.Why.TheVariants as why
 use Rattle.tipc_types.specs.declared.packet_lists.Taken.{Taken}
+use Rattle.tipc_types.specs.Limits.{window_size}
 use Rattle.tipc_header.specs.declared.packet.Header.{Header}
 use Rattle.tipc_header.specs.declared.packet.Header.TheVariants as header
 use Rattle.tipc_header.specs.Faults.{fault_of}
@@ -69,7 +70,7 @@ is_early_tunnel w t = is_tunnel t.packet && nat_lt 0 (past_wanted w t.number)
 
 -- how far a packet stands from the wanted one: a tunnel packet that isn't wanted counts as one that lies behind the window
 unfoldable pub standing : Receiving → Taken → ℕ
-standing w t = if is_early_tunnel w t then 50 else past_wanted w t.number
+standing w t = if is_early_tunnel w t then window_size else past_wanted w t.number
 
 -- ---- packets that come through the other link
 

@@ -6,6 +6,8 @@ use Rattle.tipc_types.specs.declared.link_words.BroadcastState.{BroadcastState}
 use Rattle.tipc_types.specs.declared.link_words.Why.TheVariants as why
 use Rattle.tipc_types.specs.declared.packet_lists.Kept.{Kept}
 use Rattle.tipc_types.specs.declared.packet_lists.Taken.{Taken}
+use Rattle.tipc_types.specs.Limits.{most_packet_bytes, window_size}
+use Rattle.tipc_outside.specs.Frames.{Made}
 use Rattle.tipc_outside.specs.declared.outgoing.Outgoing.{Outgoing}
 use Rattle.tipc_header.specs.declared.packet.Header.{Header}
 use Rattle.tipc_header.specs.declared.packet.Header.TheVariants as header
@@ -211,7 +213,7 @@ outcome e by Nothing = LinkOutcome.Ignored why.Epoch
 -- A packet that may change over to the other link of a pair: it is a tunnel packet, or one of at most 1,452 bytes that may stand inside a
 -- tunnel packet, which are payload, bundles, name items and fragments.
 pub data MayChangeOver (packet : List ℕ) : Type 0 where
-  inside : MayStandInside packet → length packet ≤ 1452 → MayChangeOver packet
+  inside : MayStandInside packet → length packet ≤ most_packet_bytes → MayChangeOver packet
   tunnel : (t : Tunnelled) → IsTunnel t → packet ≡ spelling (tunnel_packet t) → MayChangeOver packet
 
 -- a packet that may wait: it may change over, and a bundle is one that was made of packets
@@ -238,7 +240,7 @@ pub record MayJoin (e : SessionEnd) (packets : List (List ℕ)) (packet : List �
   pub waits : 0 < length e.sending.waiting
   pub last : Waits (last_of e) packets
   pub inner : IsInner packet
-  pub fits : length (joined (packets ++ packet ∷ [])) ≤ 1452
+  pub fits : length (joined (packets ++ packet ∷ [])) ≤ most_packet_bytes
 
 -- The packets of a message are put: one that may join the last packet that waits does, and any others wait behind it.
 pub data IsPut (e : SessionEnd) : List (List ℕ) → SessionEnd → Type 0 where
@@ -284,7 +286,7 @@ tunnel_count e = min (count_by is_tunnel e.sending.unacked + count_by is_tunnel 
 
 -- how many of the waiting packets the window has room for
 abbrev pub room : Sending → ℕ
-room s = min (50 - length s.unacked) (length s.waiting)
+room s = min (window_size - length s.unacked) (length s.waiting)
 
 -- the first n waiting packets are numbered
 abbrev pub advanced : ℕ → Sending → Sending
@@ -331,14 +333,7 @@ arrived e by acknowledgement Nothing = e
 arrived e by acknowledgement (Shows next gap probe) = flushed (heard e by acknowledgement (Shows next gap probe))
 arrived e by acknowledgement (Carries number packet) = flushed (heard e by acknowledgement (Carries number packet))
 
--- packets that are sent again leave before those that move up
-abbrev pub arrival_frames : SessionEnd → ℕ → ℕ → Content → List Outgoing
-arrival_frames e by acknowledgement Nothing = []
-arrival_frames e by acknowledgement (Shows next gap probe) =
-    repeat_frames (after_acknowledgement e acknowledgement) acknowledgement gap ++ flush_frames (heard e by acknowledgement (Shows next gap probe))
-arrival_frames e by acknowledgement (Carries number packet) = flush_frames (heard e by acknowledgement (Carries number packet))
-
--- they are apart: what is sent again, and what then moves up on an end that has heard the packet; nothing moves up where it brought nothing
+-- the frames of the packets that are sent again at an arrival that brought this
 abbrev pub again_frames : SessionEnd → ℕ → Content → List Outgoing
 again_frames e acknowledgement (Shows next gap probe) = repeat_frames (after_acknowledgement e acknowledgement) acknowledgement gap
 again_frames e acknowledgement other = []
@@ -348,10 +343,14 @@ abbrev pub moved_at : Content → SessionEnd → SessionEnd
 moved_at Nothing e = e
 moved_at other e = flushed e
 
--- the frames that leave as packets move up at an arrival that brought this
+-- the frames that leave as packets move up, on an end that has heard an arrival that brought this; none where it brought nothing
 abbrev pub moved_frames : Content → SessionEnd → List Outgoing
 moved_frames Nothing e = []
 moved_frames other e = flush_frames e
+
+-- packets that are sent again leave before those that move up
+abbrev pub arrival_frames : SessionEnd → ℕ → ℕ → Content → Made
+arrival_frames e by acknowledgement c = record { first = again_frames e acknowledgement c; behind = moved_frames c (heard e by acknowledgement c) }
 
 -- the packets that move up at an arrival
 abbrev pub arrival_moving : SessionEnd → ℕ → ℕ → Content → List (List ℕ)

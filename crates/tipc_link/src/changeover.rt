@@ -2,7 +2,7 @@
 
 ghost use Rattle.std.specs.Prelude.{◌≡◌, ◌≤◌, false, true, is_some, length, option_map, Some, None, All, IfOk, IfSome, OnErr, OnOk};
 ghost use Rattle.tipc_types.specs.LinkStates.{is_up};
-ghost use Rattle.tipc_outside.specs.Frames.{Adds};
+ghost use Rattle.tipc_outside.specs.Frames.{AddsFirst};
 ghost use Rattle.tipc_types.specs.declared.packet_lists.Kept.{Kept};
 ghost use Rattle.tipc_types.specs.declared.packet_lists.Taken.{Taken};
 ghost use Rattle.tipc_types.specs.declared.link_words.OldSession.{OldSession};
@@ -36,6 +36,7 @@ pub struct HandedOver {
 }
 
 impl Link {
+    ghost use Rattle.tipc_types.specs.Limits.{window_size};
     ghost use Rattle.tipc_link.specs.Links.{handed_over, name_of, named_end, record_of, release_frames, tunnelled_down, tunnelled_end, tunnels_of, unacked_of, waiting_of, with_fsm, without_waiting};
 
     /// Gives the packets of a link that went down, unacknowledged and waiting, and the session in which they were numbered. The end
@@ -48,7 +49,7 @@ impl Link {
             × (result.old.bearer ≡ s.bearer) × (result.old.epoch ≡ s.epoch) × (result.own.word ≡ s.own) }
         ensures after { self.new ≡ handed_over self.old }
         ensures bearer { result.old.bearer ≤ 1 }
-        ensures few { length result.unacked ≤ 50 }
+        ensures few { length result.unacked ≤ window_size }
         ensures window { (s : SessionEnd) → self.old.session ≡ Some s → IsSending s.sending }
         // Each may be put on the other link, as it is or in a tunnel packet.
         ensures waited { All (λ (k : Kept). IsWaiting k.packet) result.unacked }
@@ -76,7 +77,7 @@ impl Link {
     /// packet, or is one. None where there was no session. (This project's profile.)
     pub fn unacked(&self) -> &[Kept]
         ensures kept { result.now ≡ unacked_of self.now.session }
-        ensures few { length result.now ≤ 50 }
+        ensures few { length result.now ≤ window_size }
         ensures waited { All (λ (k : Kept). IsWaiting k.packet) result.now }
     {
         match &self.session {
@@ -117,10 +118,11 @@ impl Link {
     }
 
     /// The other link has no tunnel packet any more: an end that is Held is released, and sends RESET. (This project's profile.)
+    #[tactic(auto, using(tipc_outside::proofs::Adding::gains_none))]
     pub fn release(&mut self, alloc: Global, out: &mut Outbox) -> Change
         ensures change { result ≡ (release self.old.fsm).change }
         ensures after { self.new ≡ with_fsm self.old (release self.old.fsm).after }
-        ensures frames { Adds out.old out.new (release_frames self.old) }
+        ensures frames { AddsFirst out.old out.new (release_frames self.old) }
     {
         let change = self.fsm.release();
         if is_answer(change) {

@@ -1,6 +1,7 @@
 //! Small packets that join the last packet that waits.
 
 ghost use Rattle.std.specs.Prelude.{◌≡◌, ◌<◌, ◌≤◌, ◌↔◌, ◌++◌, ◌∷◌, true, false, [], List, ℕ, length, IfOk, IfNone, IfSome, IsTrue};
+ghost use Rattle.tipc_types.specs.Limits.{most_packet_bytes};
 ghost use Rattle.tipc_bundle.specs.Bundles.{joined, Carries, IsInner};
 ghost use Rattle.tipc_bundle.specs.Splitting.{IsBundle};
 ghost use Rattle.tipc_link.specs.Sessions.{IsWaiting};
@@ -38,10 +39,10 @@ pub(crate) fn joined_with(
     requires last { (packets : List (List ℕ)) × Carries last.now packets }
     requires packet { IsInner packet.now }
     ensures some { IfOk result (λ given. IfSome given (λ bundle.
-        (length bundle ≤ 1452) × ((packets : List (List ℕ)) → Carries last.now packets →
+        (length bundle ≤ most_packet_bytes) × ((packets : List (List ℕ)) → Carries last.now packets →
         Carries bundle (packets ++ packet.now ∷ [])))) }
     ensures none { IfOk result (λ given. IfNone given ((packets : List (List ℕ)) → Carries last.now packets →
-        1452 < length (joined (packets ++ packet.now ∷ [])))) }
+        most_packet_bytes < length (joined (packets ++ packet.now ∷ [])))) }
 {
     match with_added(alloc, last, packet) {
         Ok(bundle) => Ok(Some(bundle)),

@@ -4,7 +4,7 @@ ghost use Rattle.std.specs.Prelude.{◌≡◌, ℕ, ◌⊎◌, ◌<◌, ◌≤�
 ghost use Rattle.tipc_types.specs.LinkStates.{is_up};
 ghost use Rattle.tipc_header.specs.Grammar.{Fits, ResetFits};
 ghost use Rattle.tipc_header.specs.Spelling.{view};
-ghost use Rattle.tipc_outside.specs.Frames.{Adds};
+ghost use Rattle.tipc_outside.specs.Frames.{Adds, AddsFirst};
 ghost use Rattle.tipc_link_fsm.specs.Table.{on_cut, on_reset, on_tick, contact_ended, forget_peer};
 ghost use Rattle.tipc_link.specs.Links.{change_outcome, is_down, is_heard, is_reset_unknown, known, outcome_of};
 ghost use Rattle.tipc_link.specs.Records.{kept_for, unheard};
@@ -19,7 +19,7 @@ use std::alloc::{AllocError, Global};
 use std::marker::Model;
 use tipc_header::{Header, HeaderContent, Notice, Packet, Reset, encode_frame};
 use tipc_link_fsm::{Change, LinkFsm};
-use tipc_outside::Outbox;
+use tipc_outside::{Class, Outbox};
 use tipc_recv_window::LinkOutcome;
 use tipc_send_window::OfferFault;
 use tipc_types::{
@@ -78,7 +78,7 @@ impl Model for Link {
 }
 
 impl Link {
-    ghost use Rattle.tipc_link.specs.Links.{activate_frames, after, answered_with, arrival_end, count_of, cut_end, ended_end, follow_frames, followed, forget_frames, frames, frames_with, heard_by, heard_end, heard_outcome, link_frames, link_outcome, session_load, made, mend_frames, mended_end, notice, numbers_of, on_bearer, record_of, reset_frames, session_of, shown_by, state_frames, with_fsm, with_session};
+    ghost use Rattle.tipc_link.specs.Links.{activate_frames, after, answered_with, count_of, cut_end, ended_end, follow_frames, followed, forget_frames, frames, frames_with, heard_outcome, session_load, made, mend_frames, mended_end, notice, numbers_of, on_bearer, record_of, reset_frames, session_of, shown_by, state_frames, with_fsm, with_session};
 
     /// A link end in RESET_UNKNOWN under this epoch, on a bearer 0 or 1 that counts as cut.
     pub fn new(own: Addr, peer: Addr, bearer: u8, epoch: u64) -> Link
@@ -158,30 +158,31 @@ impl Link {
     }
 
     /// Sends a RESET or an ACTIVATE, where the bearer is mended.
+    #[tactic(auto, using(tipc_outside::proofs::Adding::gains_none))]
     fn send_notice(&self, alloc: Global, header: Header, out: &mut Outbox)
         requires kind { (header ≡ Header.Reset (shown_by self.now)) ⊎ (header ≡ Header.Activate (shown_by self.now)) }
         requires fits { ResetFits (shown_by self.now) }
-        ensures { Adds out.old out.new (on_bearer self.now (notice self.now header)) }
+        ensures { AddsFirst out.old out.new (on_bearer self.now (notice self.now header)) }
     {
         if !self.mended {
             return;
         }
         match self.notice(alloc, header) {
-            Ok(frame) => out.push(self.bearer, To::Node(self.peer), frame),
-            Err(_) => out.mark_lost(),
+            Ok(frame) => out.put(Class::Notice, self.bearer, To::Node(self.peer), frame),
+            Err(_) => out.lose(Class::Notice),
         }
     }
 
     /// Sends a RESET.
     pub(crate) fn send_reset(&self, alloc: Global, out: &mut Outbox)
-        ensures { Adds out.old out.new (reset_frames self.now) }
+        ensures { AddsFirst out.old out.new (reset_frames self.now) }
     {
         self.send_notice(alloc, Header::Reset(self.shown()), out);
     }
 
     /// Sends an ACTIVATE.
     fn send_activate(&self, alloc: Global, out: &mut Outbox)
-        ensures { Adds out.old out.new (activate_frames self.now) }
+        ensures { AddsFirst out.old out.new (activate_frames self.now) }
     {
         self.send_notice(alloc, Header::Activate(self.shown()), out);
     }
@@ -202,7 +203,7 @@ impl Link {
     /// Begins a session, whose first frame is a STATE. It keeps a receiving record of the peer's epoch.
     fn begin(&mut self, alloc: Global, shown: BroadcastState, out: &mut Outbox)
         ensures after { self.new ≡ followed self.old Change.Up }
-        ensures frames { Adds out.old out.new (follow_frames self.old Change.Up shown) }
+        ensures frames { AddsFirst out.old out.new (follow_frames self.old Change.Up shown) }
     {
         let peer_epoch = known_epoch(&self.fsm);
         let received = kept_for(alloc, self.take_record(), peer_epoch);
@@ -215,22 +216,24 @@ impl Link {
             peer_epoch,
             received,
         );
-        session.tell(alloc, shown, false, out);
+        session.tell(alloc, Class::State, shown, false, out);
         self.session = Some(session);
     }
 
     /// Sends a STATE of the session.
+    #[tactic(auto, using(tipc_outside::proofs::Adding::gains_none))]
     fn tell(&mut self, alloc: Global, shown: BroadcastState, probe: bool, out: &mut Outbox)
         ensures after { self.new ≡ followed self.old (Change.Answer (Reply.State probe)) }
-        ensures frames { Adds out.old out.new (state_frames self.old.session shown probe) }
+        ensures frames { AddsFirst out.old out.new (state_frames self.old.session shown probe) }
     {
         match &mut self.session {
-            Some(session) => session.tell(alloc, shown, probe, out),
+            Some(session) => session.tell(alloc, Class::State, shown, probe, out),
             None => {}
         }
     }
 
     /// Does what a change of the link states calls for.
+    #[tactic(auto, using(tipc_outside::proofs::Adding::gains_none))]
     pub(crate) fn follow(
         &mut self,
         alloc: Global,
@@ -239,7 +242,7 @@ impl Link {
         out: &mut Outbox,
     )
         ensures after { self.new ≡ followed self.old change }
-        ensures frames { Adds out.old out.new (follow_frames self.old change shown) }
+        ensures frames { AddsFirst out.old out.new (follow_frames self.old change shown) }
     {
         match change {
             Change::Up => self.begin(alloc, shown, out),
@@ -253,9 +256,10 @@ impl Link {
     }
 
     /// The bearer is mended: an end in RESET_UNKNOWN sends RESET.
+    #[tactic(auto, using(tipc_outside::proofs::Adding::gains_none))]
     pub fn mend(&mut self, alloc: Global, out: &mut Outbox)
         ensures after { self.new ≡ mended_end self.old }
-        ensures frames { Adds out.old out.new (mend_frames self.old) }
+        ensures frames { AddsFirst out.old out.new (mend_frames self.old) }
     {
         self.mended = true;
         if is_reset_unknown(self.fsm.state()) {
@@ -282,7 +286,7 @@ impl Link {
     ) -> Change
         ensures change { result ≡ (on_tick self.old.fsm held).change }
         ensures after { self.new ≡ after self.old (on_tick self.old.fsm held) }
-        ensures frames { Adds out.old out.new (frames self.old (on_tick self.old.fsm held) shown) }
+        ensures frames { AddsFirst out.old out.new (frames self.old (on_tick self.old.fsm held) shown) }
     {
         let change = self.fsm.on_tick(held);
         self.follow(alloc, change, shown, out);
@@ -474,88 +478,6 @@ impl Link {
         }
     }
 
-    /// Takes a packet that arrived, as [`Link::prepare`] told of it when the link was as it is. `shown` fills the broadcast fields
-    /// of a STATE that is sent.
-    ///
-    /// What becomes of the link's state is told again, and what the session took. After Down(PeerReset) without another link that
-    /// is up the contact ends, and then the same RESET is to be given again.
-    pub fn commit(
-        &mut self,
-        alloc: Global,
-        arriving: Arriving,
-        packet: &Packet<'_>,
-        shown: BroadcastState,
-        out: &mut Outbox,
-    ) -> LinkArrival
-        requires { IsArriving self.old (view packet.now) arriving }
-        ensures change { result.change ≡ arriving.states.change }
-        ensures outcome { result.outcome ≡ link_outcome self.old arriving.states (view packet.now) arriving.hearing.by }
-        ensures after { self.new ≡ arrival_end self.old arriving.states (view packet.now) arriving.hearing.by }
-        ensures frames { Adds out.old out.new (link_frames self.old arriving.states
-            (view packet.now) arriving.hearing.by shown) }
-    {
-        let change = arriving.change;
-        self.fsm = arriving.fsm;
-        self.follow(alloc, change, shown, out);
-        let outcome = if is_heard(&packet.header, change) {
-            self.hear(alloc, arriving.hearing, packet, out)
-        } else {
-            arriving.hearing.into_outcome()
-        };
-        LinkArrival { change, outcome }
-    }
-
-    /// Takes a packet that arrived under an envelope of these two epochs: [`Link::prepare`] and [`Link::commit`] in one call.
-    ///
-    /// # Errors
-    ///
-    /// Where memory runs out. Nothing is changed then, and nothing is sent.
-    pub fn arrive(
-        &mut self,
-        alloc: Global,
-        es: u64,
-        er: u64,
-        packet: &Packet<'_>,
-        held: bool,
-        by: u64,
-        shown: BroadcastState,
-        out: &mut Outbox,
-    ) -> Result<LinkArrival, NoMemory>
-        requires { Fits (view packet.now) }
-        ensures change { IfOk result (λ a. a.change ≡ (outcome_of self.old.fsm packet.now.header es er held).change) }
-        ensures outcome { IfOk result (λ a. a.outcome ≡ link_outcome self.old
-            (outcome_of self.old.fsm packet.now.header es er held) (view packet.now) by) }
-        ensures after { OnOk result (self.new ≡ arrival_end self.old
-            (outcome_of self.old.fsm packet.now.header es er held) (view packet.now) by) }
-        ensures frames { OnOk result (Adds out.old out.new
-            (link_frames self.old (outcome_of self.old.fsm packet.now.header es er held) (view packet.now) by shown)) }
-        ensures err { OnErr result ((self.new ≡ self.old) × (out.new ≡ out.old)) }
-    {
-        let arriving = self.prepare(alloc, es, er, packet, held, by)?;
-        Ok(self.commit(alloc, arriving, packet, shown, out))
-    }
-
-    /// Gives a packet to the session that there is.
-    fn hear(
-        &mut self,
-        alloc: Global,
-        hearing: Hearing,
-        packet: &Packet<'_>,
-        out: &mut Outbox,
-    ) -> LinkOutcome
-        requires { (s : SessionEnd) → self.old.session ≡ Some s → IsHearing s (view packet.now) hearing }
-        ensures outcome { result ≡ hearing.outcome }
-        ensures after { self.new ≡ heard_end self.old hearing.by packet.now.acknowledgement
-            (content_of (view packet.now)) }
-        ensures frames { Adds out.old out.new (heard_by self.old.session hearing.by packet.now.acknowledgement
-            (content_of (view packet.now))) }
-    {
-        match &mut self.session {
-            Some(session) => session.hear(alloc, hearing, packet, out),
-            None => hearing.into_outcome(),
-        }
-    }
-
     /// Takes a RESET under this epoch of its sender: as [`Link::prepare`] and [`Link::commit`], but for want of
     /// memory, since it needs none but for its frame.
     pub fn reset(
@@ -569,7 +491,7 @@ impl Link {
         ensures change { result.change ≡ (on_reset self.old.fsm es held).change }
         ensures outcome { result.outcome ≡ change_outcome (on_reset self.old.fsm es held).change }
         ensures after { self.new ≡ after self.old (on_reset self.old.fsm es held) }
-        ensures frames { Adds out.old out.new (frames self.old (on_reset self.old.fsm es held) shown) }
+        ensures frames { AddsFirst out.old out.new (frames self.old (on_reset self.old.fsm es held) shown) }
     {
         let change = self.fsm.on_reset(es, held);
         self.follow(alloc, change, shown, out);
@@ -584,6 +506,7 @@ impl Link {
     ///
     /// The arrival took so many broadcast packets. `due` says that it asks for a STATE by the broadcast: it deferred the only deferred
     /// broadcast packet, or showed that the peer has broadcast more. `shown` fills the broadcast fields. (This project's profile.)
+    #[tactic(auto, using(tipc_outside::proofs::Adding::gains_none))]
     pub fn answer(
         &mut self,
         alloc: Global,
@@ -667,10 +590,11 @@ impl Link {
 
     /// The peer showed a higher contact number while there was no contact: the end forgets the peer's epoch. An end that is up has
     /// a contact, which ends.
+    #[tactic(auto, using(tipc_outside::proofs::Adding::gains_none))]
     pub fn forget_peer(&mut self, alloc: Global, out: &mut Outbox) -> Change
         ensures change { result ≡ (forget_peer self.old.fsm).change }
         ensures after { self.new ≡ with_fsm self.old (forget_peer self.old.fsm).after }
-        ensures frames { Adds out.old out.new (forget_frames self.old) }
+        ensures frames { AddsFirst out.old out.new (forget_frames self.old) }
     {
         let change = self.fsm.forget_peer();
         if is_down(change) {
@@ -683,7 +607,7 @@ impl Link {
     pub fn contact_ended(&mut self, alloc: Global, out: &mut Outbox) -> Change
         ensures change { result ≡ (contact_ended self.old.fsm).change }
         ensures after { self.new ≡ ended_end self.old }
-        ensures frames { Adds out.old out.new (reset_frames (ended_end self.old)) }
+        ensures frames { AddsFirst out.old out.new (reset_frames (ended_end self.old)) }
     {
         let change = self.fsm.contact_ended();
         self.send_reset(alloc, out);

@@ -4,7 +4,7 @@ ghost use Rattle.std.specs.Prelude.{◌≡◌, ◌+◌, ◌-◌, ◌<◌, ◌≤
 ghost use Rattle.tipc_types.specs.Position.{number_of};
 ghost use Rattle.tipc_header.specs.Spelling.{view};
 ghost use Rattle.tipc_header.specs.Grammar.{Fits};
-ghost use Rattle.tipc_outside.specs.Frames.{Adds};
+ghost use Rattle.tipc_outside.specs.Frames.{made_as, Adds, AddsFirst, Gains};
 ghost use Rattle.tipc_types.specs.declared.packet_lists.Kept.{Kept};
 ghost use Rattle.tipc_types.specs.declared.packet_lists.Taken.{Taken};
 ghost use Rattle.tipc_send_window.specs.Sending.{IsSending, kept_of};
@@ -21,7 +21,7 @@ use std::alloc::{AllocError, Global};
 use std::marker::Model;
 use tipc_bundle::may_be_bundled;
 use tipc_header::{Header, Packet, State, encode_frame, stamp_frame};
-use tipc_outside::Outbox;
+use tipc_outside::{Class, Outbox};
 use tipc_recv_window::{LinkOutcome, Place, RecvWindow, WindowArrival};
 use tipc_send_window::{SendWindow, WINDOW};
 use tipc_types::{
@@ -77,6 +77,7 @@ impl Model for Session {
 }
 
 impl Session {
+    ghost use Rattle.tipc_types.specs.Limits.{window_size};
     ghost use Rattle.tipc_link.specs.Sessions.{all_answered, answer_frames, answered, begun_with, flush_frames, flushed, gap, given_up, highest, is_due, is_numbered, noted, packet_frame, put, priority_of, receiving, receiving_record, after_acknowledgement, repeat_frames, repeated, room, sent, spoke, state_fields, state_frame, after_state, took, tunnel_count, waiting_given, wanted, with_broadcast, with_last, with_record, IsPut, IsWaiting, MayJoin, SessionEnd};
     ghost use Rattle.tipc_link.specs.Hearings.{coming_of, IsHearing, IsJoined};
 
@@ -263,27 +264,27 @@ impl Session {
     }
 
     /// Sends a packet under a number.
-    fn send_packet(&self, alloc: Global, number: u16, packet: &[u8], out: &mut Outbox)
+    fn send_packet(&self, alloc: Global, class: Class, number: u16, packet: &[u8], out: &mut Outbox)
         requires { 16 ≤ length packet.now }
-        ensures { Adds out.old out.new (packet_frame self.now number packet.now ∷ []) }
+        ensures { Gains out.old out.new (made_as class (packet_frame self.now number packet.now ∷ [])) }
     {
         match self.packet_frame(alloc, number, packet) {
-            Ok(frame) => out.push(self.bearer, To::Node(self.peer), frame),
-            Err(_) => out.mark_lost(),
+            Ok(frame) => out.put(class, self.bearer, To::Node(self.peer), frame),
+            Err(_) => out.lose(class),
         }
     }
 
     /// Numbers the first packet that waits, and sends it.
     fn send_next(&mut self, alloc: Global, out: &mut Outbox)
         requires waiting { 0 < length self.old.sending.waiting }
-        requires window { length self.old.sending.unacked < 50 }
+        requires window { length self.old.sending.unacked < window_size }
         ensures after { self.new ≡ sent 1 self.old }
         ensures frame { (q : List ℕ) → slice_get self.old.sending.waiting 0 ≡ Some q →
             Adds out.old out.new (packet_frame self.old (number_of (self.old.sending.numbered + 1)) q ∷ []) }
     {
         let number = sequence_number(self.window.numbered() + 1);
         match self.window.first() {
-            Some(packet) => self.send_packet(alloc, number, packet, out),
+            Some(packet) => self.send_packet(alloc, Class::Numbered, number, packet, out),
             None => unreachable!(),
         }
         let _number = self.window.due();
@@ -341,7 +342,7 @@ impl Session {
     /// The unacknowledged packets in order, beside their numbers.
     pub fn unacked(&self) -> &[Kept]
         ensures kept { result.now ≡ kept_of self.now.sending }
-        ensures few { length result.now ≤ 50 }
+        ensures few { length result.now ≤ window_size }
         ensures waited { All (λ (k : Kept). IsWaiting k.packet) result.now }
     {
         self.window.unacked()
@@ -350,7 +351,7 @@ impl Session {
     /// Sends the unacknowledged packets again that are among the `gap` ones behind an acknowledgement. (TIPC 2.0 draft.)
     pub(crate) fn repeat(&mut self, alloc: Global, acknowledgement: u16, gap: u16, out: &mut Outbox)
         ensures after { self.new ≡ spoke self.old (repeated self.old acknowledgement gap) }
-        ensures frames { Adds out.old out.new (repeat_frames self.old acknowledgement gap) }
+        ensures frames { AddsFirst out.old out.new (repeat_frames self.old acknowledgement gap) }
     {
         if self.send_missing(alloc, acknowledgement, gap, out) {
             self.unanswered = 0;
@@ -362,12 +363,13 @@ impl Session {
     fn send_missing(&self, alloc: Global, acknowledgement: u16, gap: u16, out: &mut Outbox) -> bool
         ensures after { (if result then record self.now { unanswered = all_answered } else self.now) ≡
             spoke self.now (repeated self.now acknowledgement gap) }
-        ensures frames { Adds out.old out.new (repeat_frames self.now acknowledgement gap) }
+        ensures frames { AddsFirst out.old out.new (repeat_frames self.now acknowledgement gap) }
     {
         let mut any = false;
         for kept in self.unacked() {
             if is_behind(acknowledgement, gap, kept) {
-                self.send_packet(alloc, kept.number, kept.packet.as_slice(), out);
+                let packet = kept.packet.as_slice();
+                self.send_packet(alloc, Class::Repeated, kept.number, packet, out);
                 any = true;
             }
         }
@@ -487,7 +489,7 @@ impl Session {
             (result.own.word ≡ self.old.own) }
         ensures after { self.new ≡ given_up self.old }
         ensures bearer { result.old.bearer ≤ 1 }
-        ensures few { length result.unacked ≤ 50 }
+        ensures few { length result.unacked ≤ window_size }
         ensures window { IsSending self.old.sending }
         ensures waited { All (λ (k : Kept). IsWaiting k.packet) result.unacked }
         ensures wait { All IsWaiting result.waiting }
@@ -552,37 +554,38 @@ impl Session {
         ensures frames { Adds out.old out.new (answer_frames (with_broadcast self.old broadcasts asks) shown) }
     {
         if self.is_due(broadcasts, asks) {
-            self.tell(alloc, shown, false, out);
+            self.tell(alloc, Class::Answer, shown, false, out);
         } else {
             self.broadcasts += u64::from(broadcasts);
         }
         self.owes = false;
     }
 
-    /// Sends a STATE.
+    /// Sends a STATE: one that the link's states ask for, or one that answers an arrival.
     pub(crate) fn tell(
         &mut self,
         alloc: Global,
+        class: Class,
         broadcast: BroadcastState,
         probe: bool,
         out: &mut Outbox,
     )
         ensures after { self.new ≡ after_state self.old }
-        ensures frames { Adds out.old out.new (state_frame self.old broadcast probe ∷ []) }
+        ensures frames { Gains out.old out.new (made_as class (state_frame self.old broadcast probe ∷ [])) }
     {
         let frame = self.state_frame(alloc, broadcast, probe);
         self.unanswered = 0;
         self.broadcasts = 0;
         match frame {
-            Ok(frame) => out.push(self.bearer, To::Node(self.peer), frame),
-            Err(_) => out.mark_lost(),
+            Ok(frame) => out.put(class, self.bearer, To::Node(self.peer), frame),
+            Err(_) => out.lose(class),
         }
     }
 
     /// How many packets are missing: up to the first that is held, or up to the next position that was shown.
     fn gap(&self) -> u16
         ensures value { result ≡ gap self.now }
-        ensures within { result ≤ 50 }
+        ensures within { result ≤ window_size }
     {
         self.receive_window().gap_to(self.received.shown())
     }

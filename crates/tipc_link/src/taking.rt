@@ -1,10 +1,10 @@
-//! Packets that arrive, as a session takes them: what is sent again leaves before what moves up, and the frames of the two may be had apart.
+//! Packets that arrive, as a link and its session take them: what is sent again leaves before what moves up.
 
-ghost use Rattle.std.specs.Prelude.{◌≡◌, ◌++◌, Some, IfOk, OnErr, OnOk};
+ghost use Rattle.std.specs.Prelude.{◌≡◌, Some, IfOk, OnErr, OnOk};
 ghost use Rattle.tipc_types.specs.declared.packet_lists.Taken.{Taken};
 ghost use Rattle.tipc_header.specs.Spelling.{view};
 ghost use Rattle.tipc_header.specs.Grammar.{Fits};
-ghost use Rattle.tipc_outside.specs.Frames.{Adds};
+ghost use Rattle.tipc_outside.specs.Frames.{Adds, AddsFirst, Gains};
 ghost use Rattle.tipc_link.specs.Links.{outcome_of};
 ghost use Rattle.tipc_link.specs.Sessions.{SessionEnd, content_of};
 ghost use Rattle.tipc_link.specs.Hearings.{IsArriving, IsHearing};
@@ -36,7 +36,7 @@ impl Session {
         ensures answer { result ≡ outcome self.old hearing.by (content_of (view packet.now)) }
         ensures after { self.new ≡ arrived self.old hearing.by packet.now.acknowledgement
             (content_of (view packet.now)) }
-        ensures frames { Adds out.old out.new (arrival_frames self.old hearing.by packet.now.acknowledgement
+        ensures frames { Gains out.old out.new (arrival_frames self.old hearing.by packet.now.acknowledgement
             (content_of (view packet.now))) }
     {
         let outcome = self.take_in(alloc, hearing, packet, out);
@@ -44,31 +44,8 @@ impl Session {
         outcome
     }
 
-    /// Takes such a packet, with its frames apart: `states` gets the packets that are sent again, and `numbered` those that move up.
-    pub fn hear_apart(
-        &mut self,
-        alloc: Global,
-        hearing: Hearing,
-        packet: &Packet<'_>,
-        states: &mut Outbox,
-        numbered: &mut Outbox,
-    ) -> LinkOutcome
-        requires { IsHearing self.old (view packet.now) hearing }
-        ensures answer { result ≡ outcome self.old hearing.by (content_of (view packet.now)) }
-        ensures after { self.new ≡ arrived self.old hearing.by packet.now.acknowledgement
-            (content_of (view packet.now)) }
-        ensures states { Adds states.old states.new (again_frames self.old packet.now.acknowledgement
-            (content_of (view packet.now))) }
-        ensures numbered { Adds numbered.old numbered.new (moved_frames (content_of (view packet.now))
-            (heard self.old hearing.by packet.now.acknowledgement (content_of (view packet.now)))) }
-    {
-        let outcome = self.take_in(alloc, hearing, packet, states);
-        self.move_up(alloc, packet, numbered);
-        outcome
-    }
-
     /// Sends what moves up once this packet was taken: nothing, where it is none of a session.
-    #[tactic(auto, unfolding(crate::specs::Sessions::content_of))]
+    #[tactic(auto, using(tipc_outside::proofs::Adding::gains_none), unfolding(crate::specs::Sessions::content_of))]
     fn move_up(&mut self, alloc: Global, packet: &Packet<'_>, out: &mut Outbox)
         ensures after { self.new ≡ moved_at (content_of (view packet.now)) self.old }
         ensures frames { Adds out.old out.new (moved_frames (content_of (view packet.now)) self.old) }
@@ -80,7 +57,7 @@ impl Session {
     }
 
     /// Takes such a packet, and sends again what the peer misses. Nothing moves up yet.
-    #[tactic(auto, using(tipc_outside::proofs::Adding::adds_none), unfolding(crate::specs::Sessions::content_of))]
+    #[tactic(auto, using(tipc_outside::proofs::Adding::gains_none), unfolding(crate::specs::Sessions::content_of))]
     fn take_in(
         &mut self,
         alloc: Global,
@@ -91,7 +68,7 @@ impl Session {
         requires { IsHearing self.old (view packet.now) hearing }
         ensures answer { result ≡ outcome self.old hearing.by (content_of (view packet.now)) }
         ensures after { self.new ≡ heard self.old hearing.by packet.now.acknowledgement (content_of (view packet.now)) }
-        ensures frames { Adds out.old out.new (again_frames self.old packet.now.acknowledgement
+        ensures frames { AddsFirst out.old out.new (again_frames self.old packet.now.acknowledgement
             (content_of (view packet.now))) }
     {
         match packet.header.content() {
@@ -108,7 +85,7 @@ impl Session {
     fn hear_state(&mut self, alloc: Global, acknowledgement: u16, state: &State, out: &mut Outbox)
         ensures after { self.new ≡ heard self.old 0 acknowledgement
             (Content.Shows state.now.next state.now.gap state.now.probe) }
-        ensures frames { Adds out.old out.new (again_frames self.old acknowledgement
+        ensures frames { AddsFirst out.old out.new (again_frames self.old acknowledgement
             (Content.Shows state.now.next state.now.gap state.now.probe)) }
     {
         self.acknowledge(acknowledgement);
@@ -135,46 +112,46 @@ impl Session {
 }
 
 impl Link {
-    ghost use Rattle.tipc_link.specs.Links.{arrival_end, frames, heard_end, link_outcome, newly_numbered, numbers_at, repeats_at, sent_again};
+    ghost use Rattle.tipc_link.specs.Links.{arrival_end, heard_by, heard_end, link_frames, link_outcome};
 
-    /// As [`Link::commit`], with the frames in two groups: `states` gets those of link states and the packets that are sent again, and
-    /// `numbered` the packets that are numbered then. (This project's profile.)
-    pub fn commit_apart(
+    /// Takes a packet that arrived, as [`Link::prepare`] told of it when the link was as it is. `shown` fills the broadcast fields
+    /// of a STATE that is sent.
+    ///
+    /// What becomes of the link's state is told again, and what the session took. After Down(PeerReset) without another link that
+    /// is up the contact ends, and then the same RESET is to be given again. Frames of link states and packets that are sent again
+    /// leave first, and behind them the packets that are numbered then. (This project's profile.)
+    pub fn commit(
         &mut self,
         alloc: Global,
         arriving: Arriving,
         packet: &Packet<'_>,
         shown: BroadcastState,
-        states: &mut Outbox,
-        numbered: &mut Outbox,
+        out: &mut Outbox,
     ) -> LinkArrival
         requires { IsArriving self.old (view packet.now) arriving }
         ensures change { result.change ≡ arriving.states.change }
         ensures outcome { result.outcome ≡ link_outcome self.old arriving.states (view packet.now) arriving.hearing.by }
         ensures after { self.new ≡ arrival_end self.old arriving.states (view packet.now) arriving.hearing.by }
-        ensures states { Adds states.old states.new (frames self.old arriving.states shown ++
-            repeats_at self.old arriving.states (view packet.now)) }
-        ensures numbered { Adds numbered.old numbered.new (numbers_at self.old arriving.states
-            (view packet.now) arriving.hearing.by) }
+        ensures frames { Gains out.old out.new (link_frames self.old arriving.states
+            (view packet.now) arriving.hearing.by shown) }
     {
         let change = arriving.change;
         self.fsm = arriving.fsm;
-        self.follow(alloc, change, shown, states);
+        self.follow(alloc, change, shown, out);
         let outcome = if is_heard(&packet.header, change) {
-            self.hear_apart(alloc, arriving.hearing, packet, states, numbered)
+            self.hear(alloc, arriving.hearing, packet, out)
         } else {
             arriving.hearing.into_outcome()
         };
         LinkArrival { change, outcome }
     }
 
-    /// As [`Link::arrive`], with the frames in two groups, so that others may leave between them: `states` gets those of link states and
-    /// the packets that are sent again, and `numbered` the packets that are numbered then. (This project's profile.)
+    /// Takes a packet that arrived under an envelope of these two epochs: [`Link::prepare`] and [`Link::commit`] in one call.
     ///
     /// # Errors
     ///
     /// Where memory runs out. Nothing is changed then, and nothing is sent.
-    pub fn arrive_apart(
+    pub fn arrive(
         &mut self,
         alloc: Global,
         es: u64,
@@ -183,8 +160,7 @@ impl Link {
         held: bool,
         by: u64,
         shown: BroadcastState,
-        states: &mut Outbox,
-        numbered: &mut Outbox,
+        out: &mut Outbox,
     ) -> Result<LinkArrival, NoMemory>
         requires { Fits (view packet.now) }
         ensures change { IfOk result (λ a. a.change ≡ (outcome_of self.old.fsm packet.now.header es er held).change) }
@@ -192,37 +168,32 @@ impl Link {
             (outcome_of self.old.fsm packet.now.header es er held) (view packet.now) by) }
         ensures after { OnOk result (self.new ≡ arrival_end self.old
             (outcome_of self.old.fsm packet.now.header es er held) (view packet.now) by) }
-        ensures states { OnOk result (Adds states.old states.new
-            (frames self.old (outcome_of self.old.fsm packet.now.header es er held) shown
-            ++ repeats_at self.old (outcome_of self.old.fsm packet.now.header es er held) (view packet.now))) }
-        ensures numbered { OnOk result (Adds numbered.old numbered.new
-            (numbers_at self.old (outcome_of self.old.fsm packet.now.header es er held) (view packet.now) by)) }
-        ensures err { OnErr result ((self.new ≡ self.old) × (states.new ≡ states.old) × (numbered.new ≡ numbered.old)) }
+        ensures frames { OnOk result (Gains out.old out.new
+            (link_frames self.old (outcome_of self.old.fsm packet.now.header es er held) (view packet.now) by shown)) }
+        ensures err { OnErr result ((self.new ≡ self.old) × (out.new ≡ out.old)) }
     {
         let arriving = self.prepare(alloc, es, er, packet, held, by)?;
-        Ok(self.commit_apart(alloc, arriving, packet, shown, states, numbered))
+        Ok(self.commit(alloc, arriving, packet, shown, out))
     }
 
-    /// As [`Link::hear`], with the frames in two groups: `states` gets the packets that are sent again, and `numbered` those that move up.
-    fn hear_apart(
+    /// Gives a packet to the session that there is.
+    #[tactic(auto, using(tipc_outside::proofs::Adding::gains_none))]
+    fn hear(
         &mut self,
         alloc: Global,
         hearing: Hearing,
         packet: &Packet<'_>,
-        states: &mut Outbox,
-        numbered: &mut Outbox,
+        out: &mut Outbox,
     ) -> LinkOutcome
         requires { (s : SessionEnd) → self.old.session ≡ Some s → IsHearing s (view packet.now) hearing }
         ensures outcome { result ≡ hearing.outcome }
         ensures after { self.new ≡ heard_end self.old hearing.by packet.now.acknowledgement
             (content_of (view packet.now)) }
-        ensures states { Adds states.old states.new (sent_again self.old.session packet.now.acknowledgement
+        ensures frames { Gains out.old out.new (heard_by self.old.session hearing.by packet.now.acknowledgement
             (content_of (view packet.now))) }
-        ensures numbered { Adds numbered.old numbered.new
-            (newly_numbered self.old.session hearing.by packet.now.acknowledgement (content_of (view packet.now))) }
     {
         match &mut self.session {
-            Some(session) => session.hear_apart(alloc, hearing, packet, states, numbered),
+            Some(session) => session.hear(alloc, hearing, packet, out),
             None => hearing.into_outcome(),
         }
     }

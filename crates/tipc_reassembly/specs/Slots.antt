@@ -3,6 +3,7 @@ use Rattle.std.specs.Prelude.{◌≡◌, ℕ, ◌<◌, ◌≤◌, ◌^◌, All, 
 use Rattle.std.specs.List.{flat_map}
 use Rattle.tipc_types.specs.Prefixes.{IsPrefixOf}
 use Rattle.tipc_types.specs.declared.packet_lists.Taken.{Taken}
+use Rattle.tipc_types.specs.Limits.{most_packet_bytes}
 use Rattle.tipc_header.specs.Spelling.{spelling}
 use Rattle.tipc_fragments.specs.Cutting.{fragment_fields, Piece}
 use Rattle.tipc_fragments.specs.Joining.{answer_of, fresh, Joining}
@@ -32,7 +33,7 @@ slot_items (Fragment piece) = Part piece ∷ []
 pub record IsGroup (packets : List (List ℕ)) : Type 0 where
   pub some : 0 < length packets
   pub inner : All IsInner packets
-  pub within : length (joined packets) ≤ 1452
+  pub within : length (joined packets) ≤ most_packet_bytes
 
 -- a fragment that can be sent
 pub record IsCut (piece : Piece) : Type 0 where

@@ -2,6 +2,7 @@
 use Rattle.std.specs.Prelude.{◌≡◌, ◌≢◌, ℕ, ◌+◌, ◌-◌, ◌<◌, ◌≤◌, ◌↔◌, Some, None}
 use Rattle.tipc_types.specs.Position.{number_of}
 use Rattle.tipc_types.specs.declared.packet_lists.Taken.{Taken}
+use Rattle.tipc_types.specs.Limits.{window_size}
 use Rattle.tipc_recv_window.specs.declared.outcomes.Place.TheVariants.{InOrder, Deferred, Old}
 use Rattle.tipc_recv_window.specs.Receiving.{advanced, arrived_at, held_at, IsReceiving, next_of, past_wanted, place_at, Receiving}
 
@@ -28,7 +29,7 @@ pub record AnswersByPosition (r : Receiving) (wanted position : ℕ) : Type 0 wh
   pub in_order : (place_at r (past_wanted r (number_of position)) ≡ InOrder)
       ↔ ((position ≡ wanted) × (held_at r 0 ≡ None))
   pub deferred : (place_at r (past_wanted r (number_of position)) ≡ Deferred)
-      ↔ ((wanted < position) × (position < wanted + 50) × (held_at r (position - wanted) ≡ None))
+      ↔ ((wanted < position) × (position < wanted + window_size) × (held_at r (position - wanted) ≡ None))
 
 -- A packet within 32,000 positions of the wanted one is answered by the distance of the positions. The window may count
 -- from elsewhere, as long as it wants the same number.

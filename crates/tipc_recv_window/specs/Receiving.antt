@@ -3,6 +3,7 @@ use Rattle.std.specs.Prelude.{◌≡◌, ℕ, ◌+◌, ◌-◌, ◌≤◌, ◌^�
 use Rattle.tipc_types.specs.Position.{distance_of, number_of}
 use Rattle.tipc_types.specs.declared.packet_lists.Taken.{Taken}
 use Rattle.tipc_types.specs.declared.link_words.Why.TheVariants as why
+use Rattle.tipc_types.specs.Limits.{window_size}
 use Rattle.tipc_recv_window.specs.declared.outcomes.LinkOutcome.{LinkOutcome}
 use Rattle.tipc_recv_window.specs.declared.outcomes.Place.{Place}
 use Rattle.tipc_recv_window.specs.declared.outcomes.Place.TheVariants.{InOrder, Deferred, Old}
@@ -23,13 +24,13 @@ held_at r d = slice_index_or r.held d None
 
 -- what is true of every receive window: a packet is held at the distance that its number tells
 pub record IsReceiving (r : Receiving) : Type 0 where
-  pub window : length r.held ≤ 50
+  pub window : length r.held ≤ window_size
   pub counted : r.wanted + length r.held ≤ 2 ^ 62
   pub numbers : (d : ℕ) (packet : Taken) → held_at r d ≡ Some packet → packet.number ≡ number_of (r.wanted + d)
 
 -- whether a packet at a distance is to be held: the wanted one and the next 49 are, unless they are held already
 abbrev pub is_new : Receiving → ℕ → Bool
-is_new r d = nat_lt d 50 && not (is_some (held_at r d))
+is_new r d = nat_lt d window_size && not (is_some (held_at r d))
 
 -- the receiving rule
 abbrev pub place_at : Receiving → ℕ → Place
@@ -85,11 +86,11 @@ ahead r number = if nat_le (past_wanted r number) 32767 then past_wanted r numbe
 
 -- a next number is 1 to 50 past the wanted one: the peer has sent more than was taken
 abbrev pub shows_more : Receiving → ℕ → Bool
-shows_more r number = nat_lt 0 (past_wanted r number) && nat_le (past_wanted r number) 50
+shows_more r number = nat_lt 0 (past_wanted r number) && nat_le (past_wanted r number) window_size
 
 -- how many packets are missing where none is held: up to the next position shown, as far as a window reaches
 abbrev pub missing : Receiving → ℕ → ℕ
-missing r shown = if nat_le (shown - r.wanted) 50 then shown - r.wanted else 0
+missing r shown = if nat_le (shown - r.wanted) window_size then shown - r.wanted else 0
 
 -- how many packets are missing: up to the first that is held, or up to the next position shown
 unfoldable pub gap_to : Receiving → ℕ → ℕ
@@ -138,7 +139,7 @@ coming r packet = record {
 -- positions behind the wanted one have 62 bits, at most a window's packets are taken, and there is room for a window where a packet is
 -- to be held
 pub record HasRoom (wanted : ℕ) (held : Option Taken) (count : ℕ) (room : List (Option Taken)) (capacity : ℕ) : Type 0 where
-  pub counted : wanted + 50 ≤ 2 ^ 62
-  pub few : count ≤ 50
+  pub counted : wanted + window_size ≤ 2 ^ 62
+  pub few : count ≤ window_size
   pub empty : room ≡ []
-  pub wide : is_some held ≡ true → 50 ≤ capacity
+  pub wide : is_some held ≡ true → window_size ≤ capacity

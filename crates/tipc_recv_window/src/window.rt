@@ -5,6 +5,7 @@ ghost use Rattle.std.specs.VecDeque.{deque_capacity};
 ghost use Rattle.tipc_types.specs.declared.packet_lists.Taken.{Taken};
 ghost use Rattle.tipc_recv_window.specs.Receiving.{filled};
 ghost use Rattle.tipc_types.specs.Position.{number_of};
+ghost use Rattle.tipc_types.specs.Limits.{window_size};
 
 use crate::outcomes::Place;
 use std::alloc::Global;
@@ -79,6 +80,7 @@ impl WindowArrival {
 }
 
 impl RecvWindow {
+    ghost use Rattle.tipc_types.specs.Limits.{window_size};
     ghost use Rattle.tipc_recv_window.specs.Receiving.{after_take, ahead, arrived_at, coming, deferred_count, drained, fresh, gap_of, gap_to, held_at, IsReceiving, missing, next_of, past_wanted, place_at, run_of, shows_more, with_packet};
 
     /// A window that wants the packet with the number `next` and holds none.
@@ -138,7 +140,7 @@ impl RecvWindow {
     /// How far the first packet that is held lies past the wanted one, and 0 where none is held.
     pub fn gap(&self) -> u16
         ensures value { result ≡ gap_of self.now }
-        ensures near { result < 50 }
+        ensures near { result < window_size }
     {
         self.first_held().unwrap_or(0) as u16
     }
@@ -171,7 +173,7 @@ impl RecvWindow {
     /// reaches.
     fn missing(&self, shown: u64) -> u16
         ensures value { result ≡ missing self.now shown }
-        ensures within { result ≤ 50 }
+        ensures within { result ≤ window_size }
     {
         let missing = shown.saturating_sub(self.wanted);
         if missing <= WINDOW as u64 {
@@ -186,7 +188,7 @@ impl RecvWindow {
     #[tactic(auto, unfolding(crate::specs::Receiving::gap_to))]
     pub fn gap_to(&self, shown: u64) -> u16
         ensures value { result ≡ gap_to self.now shown }
-        ensures within { result ≤ 50 }
+        ensures within { result ≤ window_size }
     {
         let gap = self.gap();
         if gap == 0 { self.missing(shown) } else { gap }
@@ -246,7 +248,7 @@ impl RecvWindow {
         ensures arrival { IfOk result (λ told. told.0 ≡ coming self.now packet) }
         ensures due { IfOk result (λ told. told.1 ≡ run_of (with_packet self.now packet).held) }
         ensures not_old { OnErr result (place_at self.now (past_wanted self.now packet.number) ≡ Place.Old →
-            2 ^ 62 < self.now.wanted + 50) }
+            2 ^ 62 < self.now.wanted + window_size) }
     {
         if self.is_last() {
             return Err(NoMemory);
@@ -284,8 +286,8 @@ impl RecvWindow {
 
     /// An arrival after which so many packets are taken, and none is held besides.
     fn passing(&self, alloc: Global, place: Place, count: usize) -> WindowArrival
-        requires counted { self.now.wanted + 50 ≤ 2 ^ 62 }
-        requires few { count ≤ 50 }
+        requires counted { self.now.wanted + window_size ≤ 2 ^ 62 }
+        requires few { count ≤ window_size }
         ensures { result ≡ record { wanted = self.now.wanted; place = place; held = None; count = count } }
     {
         WindowArrival {
@@ -299,7 +301,7 @@ impl RecvWindow {
 
     /// An arrival after which the packet is held.
     fn holding(&self, alloc: Global, packet: Taken) -> Result<WindowArrival, NoMemory>
-        requires { self.now.wanted + 50 ≤ 2 ^ 62 }
+        requires { self.now.wanted + window_size ≤ 2 ^ 62 }
         ensures { IfOk result (λ arrival. arrival ≡
             record { wanted = self.now.wanted; place = Place.Deferred; held = Some packet; count = 0 }) }
     {
@@ -329,8 +331,8 @@ impl RecvWindow {
 
     /// The first packets are taken, and the next one is wanted.
     fn pass(&mut self, count: usize)
-        requires few { count ≤ 50 }
-        requires counted { self.old.wanted + 50 ≤ 2 ^ 62 }
+        requires few { count ≤ window_size }
+        requires counted { self.old.wanted + window_size ≤ 2 ^ 62 }
         ensures { self.new ≡ record { wanted = self.old.wanted + count; held = drop count self.old.held } }
     {
         self.wanted += count as u64;
@@ -340,10 +342,10 @@ impl RecvWindow {
 
     /// Holds a packet behind the wanted one, in new room.
     fn hold(&mut self, room: VecDeque<Option<Taken>>, packet: Taken)
-        requires room { (room.items ≡ []) × (50 ≤ deque_capacity room) }
-        requires near { past_wanted self.old packet.number < 50 }
+        requires room { (room.items ≡ []) × (window_size ≤ deque_capacity room) }
+        requires near { past_wanted self.old packet.number < window_size }
         requires number { packet.number < 2 ^ 16 }
-        requires counted { self.old.wanted + 50 ≤ 2 ^ 62 }
+        requires counted { self.old.wanted + window_size ≤ 2 ^ 62 }
         ensures { self.new ≡ record {
           wanted = self.old.wanted;
           held = filled self.old.held
@@ -362,8 +364,8 @@ impl RecvWindow {
 
     /// Whether a position behind the wanted one is too high.
     fn is_last(&self) -> bool
-        ensures counted { result ≡ false → self.now.wanted + 50 ≤ 2 ^ 62 }
-        ensures last { result ≡ true → 2 ^ 62 < self.now.wanted + 50 }
+        ensures counted { result ≡ false → self.now.wanted + window_size ≤ 2 ^ 62 }
+        ensures last { result ≡ true → 2 ^ 62 < self.now.wanted + window_size }
         ensures window { IsReceiving self.now }
     {
         self.wanted > LAST_POSITION - WINDOW as u64
@@ -379,7 +381,7 @@ impl RecvWindow {
     /// Where a packet stands at a distance from the wanted one.
     fn place_at(&self, distance: usize) -> Place
         ensures value { result ≡ place_at self.now distance }
-        ensures near { distance < 50 ⊎ (result ≡ Place.Old) }
+        ensures near { distance < window_size ⊎ (result ≡ Place.Old) }
     {
         if distance >= WINDOW || self.is_held(distance) {
             Place::Old
@@ -403,7 +405,7 @@ impl RecvWindow {
     /// How far the first packet that is held lies past the wanted one.
     fn first_held(&self) -> Option<usize>
         ensures place { result ≡ position (λ packet. is_some packet) self.now.held }
-        ensures near { IfSome result (λ distance. distance < 50) }
+        ensures near { IfSome result (λ distance. distance < window_size) }
     {
         self.held.iter().position(|packet| packet.is_some())
     }
@@ -411,8 +413,8 @@ impl RecvWindow {
 
 /// Holds a packet at a place of a list that has room; places that it didn't have are made empty.
 fn fill(held: &mut VecDeque<Option<Taken>>, place: usize, packet: Taken)
-    requires near { place < 50 }
-    requires room { 50 ≤ deque_capacity held.old }
+    requires near { place < window_size }
+    requires room { window_size ≤ deque_capacity held.old }
     ensures { held.new.items ≡ filled held.old.items place packet }
 {
     widen(held, place);
@@ -421,8 +423,8 @@ fn fill(held: &mut VecDeque<Option<Taken>>, place: usize, packet: Taken)
 
 /// Makes a list that has room long enough for a place, by empty places at its end.
 fn widen(held: &mut VecDeque<Option<Taken>>, place: usize)
-    requires near { place < 50 }
-    requires room { 50 ≤ deque_capacity held.old }
+    requires near { place < window_size }
+    requires room { window_size ≤ deque_capacity held.old }
     ensures { held.new.items ≡ held.old.items ++ replicate (place + 1 - length held.old.items) None }
 {
     for _ in held.len()..place + 1 {

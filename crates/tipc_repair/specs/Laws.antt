@@ -4,6 +4,7 @@ use Rattle.tipc_types.specs.Position.{number_of}
 use Rattle.tipc_types.specs.declared.link_words.BroadcastState.{BroadcastState}
 use Rattle.tipc_types.specs.declared.packet_lists.Kept.{Kept}
 use Rattle.tipc_types.specs.declared.packet_lists.Taken.{Taken}
+use Rattle.tipc_types.specs.Limits.{window_size}
 use Rattle.tipc_header.specs.Spelling.{Fields}
 use Rattle.tipc_send_window.specs.Sending.{acked_of}
 use Rattle.tipc_link.specs.Records.{tunnelled}
@@ -68,7 +69,7 @@ StatesShow = (s r : SessionEnd) (line : List (List ℕ)) (broadcast : BroadcastS
 -- a receiver tells a gap of so many packets, which were numbered
 pub record TellsGap (s r : SessionEnd) : Type 0 where
   pub some : 1 ≤ gap r
-  pub most : gap r ≤ 50
+  pub most : gap r ≤ window_size
   pub numbered : r.taken + gap r ≤ s.sending.numbered
 
 -- it does where it was shown that the packet behind those that it took was numbered

@@ -2,6 +2,7 @@
 use Rattle.std.specs.Prelude.{◌≡◌, ℕ, ◌+◌, ◌-◌, ◌<◌, ◌≤◌, ◌^◌, List, [], ◌∷◌, ◌++◌, length, take, drop, map, nat_le, if◌then◌else◌}
 use Rattle.tipc_types.specs.Position.{distance_of, number_of}
 use Rattle.tipc_types.specs.declared.packet_lists.Kept.{Kept}
+use Rattle.tipc_types.specs.Limits.{window_size}
 
 -- The sending side of one direction of a link: how many packets were numbered so far, the last of them that are
 -- unacknowledged, and those behind them that wait without a number, each list in order. A packet is its bytes.
@@ -20,7 +21,7 @@ acked_of s = s.numbered - length s.unacked
 
 -- what is true of every send window
 pub record IsSending (s : Sending) : Type 0 where
-  pub window : length s.unacked ≤ 50
+  pub window : length s.unacked ≤ window_size
   pub numbered : length s.unacked ≤ s.numbered
   pub counted : s.numbered + length s.waiting ≤ 2 ^ 62
 
@@ -81,7 +82,7 @@ packets_of kept = map (λ k. k.packet) kept
 -- no more than the others, and as soon as a packet waits, there is room for a full window of those behind them.
 pub record IsStored (numbered released count capacity waiting : ℕ) (stored : List Kept) : Type 0 where
   pub half : released + released ≤ count
-  pub window : count ≤ released + 50
+  pub window : count ≤ released + window_size
   pub begun : count ≤ numbered + released
   pub bounded : numbered + waiting ≤ 2 ^ 62
   pub few : waiting < 2 ^ 32

@@ -86,6 +86,7 @@ impl Model for SendWindow {
 }
 
 impl SendWindow {
+    ghost use Rattle.tipc_types.specs.Limits.{window_size};
     ghost use Rattle.tipc_send_window.specs.Sending.{acknowledged, emptied, fresh, IsSending, kept_of, moved, offered, passed_over, released, swapped, without_waiting};
 
     /// A window in which nothing was numbered, so that the first packet will have number 1.
@@ -125,7 +126,7 @@ impl SendWindow {
     /// The unacknowledged packets in order, beside their numbers.
     pub fn unacked(&self) -> &[Kept]
         ensures kept { result.now ≡ kept_of self.now }
-        ensures within { length result.now ≤ 50 }
+        ensures within { length result.now ≤ window_size }
         ensures count { length result.now ≡ length self.now.unacked }
     {
         &self.stored[self.released..]
@@ -230,9 +231,9 @@ impl SendWindow {
     pub fn due(&mut self) -> Option<u16>
         ensures some { IfSome result (λ number.
             (number ≡ number_of (self.old.numbered + 1)) × (self.new ≡ moved self.old)
-            × (0 < length self.old.waiting) × (length self.old.unacked < 50)) }
+            × (0 < length self.old.waiting) × (length self.old.unacked < window_size)) }
         ensures none { IfNone result ((self.new ≡ self.old) ×
-            ((self.old.waiting ≡ []) ⊎ (length self.old.unacked ≡ 50))) }
+            ((self.old.waiting ≡ []) ⊎ (length self.old.unacked ≡ window_size))) }
         ensures window { IsSending self.new }
     {
         if self.in_flight() >= WINDOW {

@@ -11,7 +11,7 @@ use Rattle.tipc_header.specs.Grammar.{Fits}
 use Rattle.tipc_header.proofs.Again.{length-spelling}
 use Rattle.tipc_header.proofs.FrameWords.{stamped-spelling}
 use Rattle.tipc_header.proofs.RoundTrip.{one_packet}
-use Rattle.tipc_tunnel.specs.Tunnels.{header_of, numbered, told_of, tunnel_packet, Carries, IsNumbered, IsRun, IsTunnel, MayBeWrapped, Tunnelled}
+use Rattle.tipc_tunnel.specs.Tunnels.{header_of, numbered, told_by_header, tunnel_packet, Carries, IsNumbered, IsRun, IsTunnel, MayBeWrapped, Tunnelled}
 use Rattle.tipc_tunnel.proofs.InnerLaws.{length-numbered, numbered-none, numbered_inside}
 
 no_bytes : (bytes : List ℕ) → bytes ≡ [] → length bytes ≡ 0
@@ -72,7 +72,7 @@ carried_once packet t u g h =
     (sym g.rest ∙ h.rest)
 
 -- a header of changeover and what follows it carry what they tell
-pub told_carries : (packet : Fields) (c : Changeover) → packet.header ≡ header.Changeover c → (packet.rest ≡ []) ⊎ IsNumbered c.inner_number packet.rest → Carries packet (told_of c packet.rest)
+pub told_carries : (packet : Fields) (c : Changeover) → packet.header ≡ header.Changeover c → (packet.rest ≡ []) ⊎ IsNumbered c.inner_number packet.rest → Carries packet (told_by_header c packet.rest)
 told_carries packet c header inner = record { broadcast_acknowledgement = c.broadcast_acknowledgement; header = header; rest = refl; inner = inner }
 
 pub one_tunnel : (t u : Tunnelled) → IsTunnel t → IsTunnel u → spelling (tunnel_packet t) ≡ spelling (tunnel_packet u) → t ≡ u

@@ -7,7 +7,7 @@ use Rattle.tipc_header.specs.Spelling.{Fields}
 use Rattle.tipc_tunnel.specs.declared.unwrapping.Tunnel.{Tunnel}
 use Rattle.tipc_tunnel.specs.declared.unwrapping.TunnelFault.{TunnelFault}
 use Rattle.tipc_tunnel.specs.declared.unwrapping.TunnelFault.TheVariants as fault
-use Rattle.tipc_tunnel.specs.Tunnels.{told_of, Carries, IsNumbered, Tunnelled}
+use Rattle.tipc_tunnel.specs.Tunnels.{told_by_header, Carries, IsNumbered, Tunnelled}
 use Rattle.tipc_tunnel.specs.Unwrapped.{tunnelled}
 use Rattle.tipc_tunnel.proofs.TunnelLaws.{carried_once, same_change, told_carries}
 
@@ -21,12 +21,12 @@ may_follow packet c t header g =
     subst (λ (n : ℕ). (packet.rest ≡ []) ⊎ IsNumbered n packet.rest) number here
 
 pub ok_carries : (r : Result Tunnel TunnelFault) (packet : Fields) (c : Changeover) → packet.header ≡ header.Changeover c
-    → IfOk r (λ t. (tunnelled t ≡ told_of c packet.rest) × MayFollow packet c) → IfOk r (λ t. Carries packet (tunnelled t))
+    → IfOk r (λ t. (tunnelled t ≡ told_by_header c packet.rest) × MayFollow packet c) → IfOk r (λ t. Carries packet (tunnelled t))
 ok_carries (Ok t) packet c header h = subst (Carries packet) (sym h.0) (told_carries packet c header h.1)
 ok_carries (Err e) packet c header h = tt
 
 pub carried_is_given : (r : Result Tunnel TunnelFault) (packet : Fields) (c : Changeover) → packet.header ≡ header.Changeover c
-    → IfOk r (λ t. (tunnelled t ≡ told_of c packet.rest) × MayFollow packet c) → IfErr r (λ e. (e ≡ fault.BadInner) × (MayFollow packet c → ⊥))
+    → IfOk r (λ t. (tunnelled t ≡ told_by_header c packet.rest) × MayFollow packet c) → IfErr r (λ e. (e ≡ fault.BadInner) × (MayFollow packet c → ⊥))
     → (t : Tunnelled) → Carries packet t → IsOkAnd r (λ u. tunnelled u ≡ t)
 carried_is_given (Ok u) packet c header h bad t g = carried_once packet (tunnelled u) t (subst (Carries packet) (sym h.0) (told_carries packet c header h.1)) g
 carried_is_given (Err e) packet c header h bad t g = absurd (bad.1 (may_follow packet c t header g))

@@ -1,6 +1,7 @@
 -- Tunnel packets: what one tells and carries, and the packet that it is. A packet is its bytes.
 use Rattle.std.specs.Prelude.{ℕ, ◌≡◌, ◌<◌, ◌≤◌, ◌^◌, ◌⊎◌, Bool, true, false, List, [], ◌∷◌, length}
 use Rattle.tipc_types.specs.declared.link_words.OldSession.{OldSession}
+use Rattle.tipc_types.specs.Limits.{most_packet_bytes}
 use Rattle.tipc_header.specs.declared.packet.Changeover.{Changeover}
 use Rattle.tipc_header.specs.declared.packet.ChangeoverType.{ChangeoverType}
 use Rattle.tipc_header.specs.declared.packet.Header.{Header}
@@ -65,8 +66,8 @@ header_of broadcast_acknowledgement t = header.Changeover (record {
 })
 
 -- what a header of changeover tells beside what follows it
-abbrev pub told_of : Changeover → List ℕ → Tunnelled
-told_of c inner = record {
+abbrev pub told_by_header : Changeover → List ℕ → Tunnelled
+told_by_header c inner = record {
   kind = c.changeover_type;
   old = record { bearer = c.old_bearer; epoch = c.old_epoch };
   count = c.count;
@@ -93,7 +94,7 @@ pub record IsTunnel (t : Tunnelled) : Type 0 where
   pub number : t.number < 2 ^ 16
   pub run : IsRun t.count t.number t.inner
   pub inner : (t.inner ≡ []) ⊎ IsNumbered t.number t.inner
-  pub size : length t.inner ≤ 1452
+  pub size : length t.inner ≤ most_packet_bytes
 
 -- whether a packet is one of changeover
 abbrev pub is_tunnel : Header → Bool

@@ -2,7 +2,7 @@
 
 ghost use Rattle.std.specs.Prelude.{◌≡◌, ◌≢◌, ◌↔◌, ◌⊎◌, [], false, true, Err, IfErr, IfOk, IsOkAnd, IsTrue};
 ghost use Rattle.tipc_header.specs.Spelling.{view};
-ghost use Rattle.tipc_tunnel.specs.Tunnels.{is_tunnel, inner_number, told_of, IsNumbered, Tunnelled, Carries};
+ghost use Rattle.tipc_tunnel.specs.Tunnels.{is_tunnel, inner_number, told_by_header, IsNumbered, Tunnelled, Carries};
 ghost use Rattle.tipc_tunnel.specs.Unwrapped.{tunnelled};
 
 use crate::TunnelKind;
@@ -47,7 +47,7 @@ fn may_carry(number: u16, inner: &[u8]) -> bool
 
 /// What a tunnel packet with this header carries.
 fn carried<'a>(changeover: Changeover, inner: &'a [u8]) -> Result<Tunnel<'a>, TunnelFault>
-    ensures ok { IfOk result (λ t. (tunnelled t ≡ told_of changeover inner.now) ×
+    ensures ok { IfOk result (λ t. (tunnelled t ≡ told_by_header changeover inner.now) ×
         ((inner.now ≡ []) ⊎ IsNumbered changeover.inner_number inner.now)) }
     ensures err { IfErr result (λ e. (e ≡ TunnelFault.BadInner) ×
         (((inner.now ≡ []) ⊎ IsNumbered changeover.inner_number inner.now) → ⊥)) }

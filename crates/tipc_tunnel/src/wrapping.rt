@@ -1,6 +1,7 @@
 //! Putting a packet into a tunnel packet.
 
 ghost use Rattle.std.specs.Prelude.{◌≡◌, ◌≤◌, ◌<◌, ◌^◌, [], length, IfOk};
+ghost use Rattle.tipc_types.specs.Limits.{most_packet_bytes};
 ghost use Rattle.tipc_header.specs.Spelling.{spelling};
 ghost use Rattle.tipc_tunnel.specs.Tunnels.{header_of, numbered, tunnel_packet, MayBeWrapped, IsRun};
 
@@ -59,7 +60,7 @@ pub fn wrap(
     requires bearer { old.bearer ≤ 1 }
     requires run { IsRun count number inner.now }
     requires inner { MayBeWrapped inner.now }
-    requires size { length inner.now ≤ 1452 }
+    requires size { length inner.now ≤ most_packet_bytes }
     ensures packet { IfOk result (λ bytes. bytes ≡ spelling (tunnel_packet (record {
       kind = kind;
       old = old;

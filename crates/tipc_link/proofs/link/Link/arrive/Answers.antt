@@ -1,6 +1,6 @@
 use Rattle.std.proofs.Common.{◌∙◌, ap, subst}
 use Rattle.tipc_header.specs.Spelling.{view}
-use Rattle.tipc_outside.specs.Frames.{Adds}
+use Rattle.tipc_outside.specs.Frames.{Gains}
 use Rattle.tipc_link_fsm.specs.Table.{Outcome}
 use Rattle.tipc_link.specs.Links.{arrival_end, link_frames, link_outcome, outcome_of}
 use Rattle.tipc_link.proofs.link.Link.arrive.Goals as goal
@@ -26,5 +26,5 @@ pub returns-clause-frames : goal.returns-clause-frames
 returns-clause-frames c =
     let e = c.args.self.now in
     let p = view c.args.packet.now in
-    subst (λ by. Adds c.args.out.now c.commit.new.out (link_frames e (outcome_of e.fsm p.header c.args.es c.args.er c.args.held) p by c.args.shown)) c.in_ok-arriving.ensures.by
-    (subst (λ o. Adds c.args.out.now c.commit.new.out (link_frames e o p c.in_ok-arriving.arriving.hearing.by c.args.shown)) c.in_ok-arriving.ensures.states c.commit.ensures.frames)
+    subst (λ by. Gains c.args.out.now c.commit.new.out (link_frames e (outcome_of e.fsm p.header c.args.es c.args.er c.args.held) p by c.args.shown)) c.in_ok-arriving.ensures.by
+    (subst (λ o. Gains c.args.out.now c.commit.new.out (link_frames e o p c.in_ok-arriving.arriving.hearing.by c.args.shown)) c.in_ok-arriving.ensures.states c.commit.ensures.frames)

@@ -1,5 +1,8 @@
-use Rattle.tipc_link.proofs.Flushing.{flushing-done, flushing-step}
+use Rattle.tipc_link.proofs.Flushing.{flushing-done, flushing-start, flushing-step}
 use Rattle.tipc_link.proofs.session.Session.flush.Goals as goal
+
+pub loop-init : goal.loop-init
+loop-init c = flushing-start _ _ _ c.room-count.ensures
 
 pub loop-preserved : goal.loop-preserved
 loop-preserved c = flushing-step _ _ _ _ _ _ _ _ c.loop.invariant c.loop-test.true c.send_next.ensures.after c.send_next.ensures.frame

@@ -12,7 +12,7 @@ loop-kept-preserved c =
     elim c.if-is_behind.branch [
       | then-is_behind w ↦
           let missing = sym c.is_behind.ensures ∙ w.if-is_behind.true in
-          let sent = rw (w.as_slice.ensures) at w.send_packet.ensures in
+          let sent = rw (w.as_slice-packet.ensures) at w.send_packet.ensures in
           rw (w.out-is, w.any-is) (repeating-send _ _ _ _ _ _ _ _ c.kept-item.result _ items c.loop-kept-test.true c.kept-item.is missing sent c.loop-kept.invariant)
       | else-is_behind w ↦
           let other = sym c.is_behind.ensures ∙ w.if-is_behind.false in
