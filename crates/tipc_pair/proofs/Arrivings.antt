@@ -1,14 +1,13 @@
 -- What a packet makes of the near link of a pair, and what follows.
 use Rattle.std.specs.Prelude.{IfOk, ◌&&◌, not, if◌then◌else◌}
-use Rattle.std.proofs.Common.{◌≡◌, ◌∙◌, ℕ, Bool, true, false, [], ◌++◌, Some, Result, Ok, Err, sym, subst, ap, append-nil}
+use Rattle.std.proofs.Common.{◌≡◌, ◌∙◌, ℕ, Bool, true, false, Some, Result, Ok, Err, sym, subst, ap, append-nil}
 use Rattle.tipc_types.specs.declared.link_words.BroadcastState.{BroadcastState}
-use Rattle.tipc_outside.specs.Frames.{Adds}
-use Rattle.tipc_outside.proofs.Adding.{adds_none}
+use Rattle.tipc_outside.specs.Frames.{AddsFirst, Gains}
 use Rattle.tipc_header.specs.Spelling.{Fields}
 use Rattle.tipc_link_fsm.specs.declared.changes.Change.{Change}
 use Rattle.tipc_link_fsm.specs.Table.{Outcome, on_reset}
 use Rattle.tipc_recv_window.specs.declared.outcomes.LinkOutcome.{LinkOutcome}
-use Rattle.tipc_link.specs.Links.{LinkEnd, after, arrival_end, change_outcome, frames, is_down, numbers_at, outcome_of, repeats_at}
+use Rattle.tipc_link.specs.Links.{LinkEnd, after, arrival_end, change_outcome, frames, is_down, link_frames, outcome_of}
 use Rattle.tipc_pair.specs.Changeovers.{following}
 use Rattle.tipc_pair.specs.Courses.{AddsCourse, Course, LeavingState}
 use Rattle.tipc_pair.specs.Facing.{PairEnds, is_up_at, with_near}
@@ -18,15 +17,15 @@ use Rattle.tipc_pair.proofs.CourseLaws.{then_adds, then_after}
 
 pub met_does : (x now last : PairEnds) (e new : LinkEnd) (o : Outcome) (p : Fields) (es by : ℕ) (shown : BroadcastState) (change : Change) (given : LinkOutcome) (a b c : LeavingState)
     → now ≡ with_near x new → new ≡ arrival_end e o p by → change ≡ o.change → given ≡ (met x e o p es by shown).outcome → b.changes ≡ a.changes
-    → Adds a.states b.states (frames e o shown ++ repeats_at e o p) → Adds a.numbered b.numbered (numbers_at e o p by)
+    → Gains a.out b.out (link_frames e o p by shown)
     → last ≡ (following now change es).pair → AddsCourse b c (following now change es) → IsHeardAs (met x e o p es by shown) last a c given
-met_does x now last e new o p es by shown change given a b c now_is new_is change_is given_is changes states numbered last_is told =
+met_does x now last e new o p es by shown change given a b c now_is new_is change_is given_is changes made last_is told =
     let first = linked x e o p by shown in
     let there : now ≡ first.pair = now_is ∙ ap (with_near x) new_is in
     let same : following now change es ≡ following now o.change es = ap (λ k. following now k es) change_is in
     record {
       pair = then_after now last first (λ y. following y o.change es) there (last_is ∙ ap (λ (k : Course). k.pair) same);
-      told = then_adds a b c now first (λ y. following y o.change es) there (record { changes = changes ∙ sym (append-nil a.changes); states = states; numbered = numbered }) (subst (AddsCourse b c) same told);
+      told = then_adds a b c now first (λ y. following y o.change es) there (record { changes = changes ∙ sym (append-nil a.changes); made = made }) (subst (AddsCourse b c) same told);
       gives = given_is;
     }
 
@@ -39,8 +38,8 @@ met_near_is es er p by shown x e held near_is held_is =
 pub reset_does : (x now last : PairEnds) (e new : LinkEnd) (es : ℕ) (held : Bool) (shown : BroadcastState) (change : Change) (given : LinkOutcome) (a b c : LeavingState) → x.near ≡ Some e
     → now ≡ with_near x new → new ≡ after e (on_reset e.fsm es held) → change ≡ (on_reset e.fsm es held).change → given ≡ change_outcome (on_reset e.fsm es held).change
     → last ≡ (following now change es).pair → AddsCourse b c (following now change es)
-    → b.changes ≡ a.changes → Adds a.states b.states (frames e (on_reset e.fsm es held) shown) → b.numbered ≡ a.numbered → IsHeardAs (reset_given es held shown x x.near) last a c given
-reset_does x now last e new es held shown change given a b c near_is now_is new_is change_is given_is last_is told changes states numbered =
+    → b.changes ≡ a.changes → AddsFirst a.out b.out (frames e (on_reset e.fsm es held) shown) → IsHeardAs (reset_given es held shown x x.near) last a c given
+reset_does x now last e new es held shown change given a b c near_is now_is new_is change_is given_is last_is told changes states =
     let o = on_reset e.fsm es held in
     let same : following now change es ≡ following now o.change es = ap (λ k. following now k es) change_is in
     let first = stepped_first x e o shown in
@@ -49,8 +48,7 @@ reset_does x now last e new es held shown change given a b c near_is now_is new_
       pair = then_after now last first (λ y. following y o.change es) there (last_is ∙ ap (λ (k : Course). k.pair) same);
       told = then_adds a b c now first (λ y. following y o.change es) there (record {
         changes = changes ∙ sym (append-nil a.changes);
-        states = states;
-        numbered = subst (λ n. Adds a.numbered n []) (sym numbered) (adds_none a.numbered);
+        made = states;
       }) (subst (AddsCourse b c) same told);
       gives = given_is;
     } in

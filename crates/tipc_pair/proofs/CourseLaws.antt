@@ -1,7 +1,7 @@
 -- Steps of an event, one after the other.
 use Rattle.std.proofs.Common.{◌≡◌, ◌++◌, ◌∙◌, Result, Ok, Err, OnOk, refl, sym, subst, ap, append_assoc}
-use Rattle.tipc_outside.proofs.Adding.{adds_more}
-use Rattle.tipc_pair.specs.Courses.{AddsCourse, Course, LeavingState, going_on}
+use Rattle.tipc_outside.proofs.Adding.{gains_more}
+use Rattle.tipc_pair.specs.Courses.{AddsCourse, Course, LeavingState, going_on, made_in}
 use Rattle.tipc_pair.specs.Facing.{PairEnds}
 
 -- what two steps told and sent
@@ -9,8 +9,7 @@ pub adds_course : (a b c : LeavingState) (first : Course) (step : PairEnds → C
 unfolding going_on
 adds_course a b c first step h k = record {
   changes = k.changes ∙ (ap (λ xs. xs ++ (step first.pair).changes) h.changes ∙ append_assoc a.changes first.changes (step first.pair).changes);
-  states = adds_more a.states b.states c.states first.states (step first.pair).states h.states k.states;
-  numbered = adds_more a.numbered b.numbered c.numbered first.numbered (step first.pair).numbered h.numbered k.numbered;
+  made = gains_more a.out b.out c.out (made_in first) (made_in (step first.pair)) h.made k.made;
 }
 
 pub then_pair : (first : Course) (step : PairEnds → Course) → (going_on first step).pair ≡ (step first.pair).pair

@@ -50,7 +50,7 @@ not_next n going same = let more : n ≡ n + 1 = same ∙ ap (λ b. if b then n 
 
 -- ---- the link states
 
-states_moved : (contact : ℕ) (f : Fsm) (shown : Option (ℕ × ℕ)) (o : Outcome) → AreStatesOf contact f → Moves f shown o → AreStatesOf contact o.after
+pub states_moved : (contact : ℕ) (f : Fsm) (shown : Option (ℕ × ℕ)) (o : Outcome) → AreStatesOf contact f → Moves f shown o → AreStatesOf contact o.after
 states_moved contact f shown o h (stays own up change) = record {
   order = subst (λ n. contact ≤ n) (sym own) h.order;
   boot = ap boot_of own ∙ h.boot;
@@ -70,7 +70,7 @@ states_moved contact f shown o h (falls own down change) =
       going_on = λ is. absurd (let none : ⊥ = cc in none);
     }
 
-states_apart : (contact : ℕ) (f : Fsm) → AreStatesOf contact f → is_last contact ≡ false → AreStatesOf (contact + 1) (apart f)
+pub states_apart : (contact : ℕ) (f : Fsm) → AreStatesOf contact f → is_last contact ≡ false → AreStatesOf (contact + 1) (apart f)
 states_apart contact f h going = record {
   order = next_order contact f.own h.order going;
   boot = next_boot f.own ∙ (h.boot ∙ sym (more_boot contact going));

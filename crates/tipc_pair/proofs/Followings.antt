@@ -3,8 +3,8 @@ use Rattle.std.specs.Prelude.{IfSome, OnOk, ◌||◌}
 use Rattle.std.specs.List.{flat_map}
 use Rattle.std.proofs.Common.{◌≡◌, ◌≤◌, ◌+◌, ◌∙◌, ℕ, true, false, List, [], ◌∷◌, ◌++◌, Option, Some, None, Result, Ok, Err, refl, sym, subst, ap, arith, is_some, option_map, append_assoc, append-nil, if◌then◌else◌}
 use Rattle.tipc_types.specs.declared.link_words.LinkState.{LinkState}
-use Rattle.tipc_outside.specs.Frames.{Adds}
-use Rattle.tipc_outside.proofs.Adding.{adds_none}
+use Rattle.tipc_outside.specs.Frames.{Adds, AddsFirst, Gains}
+use Rattle.tipc_outside.proofs.Adding.{gains_none}
 use Rattle.tipc_fragments.specs.Joining.{Joining}
 use Rattle.tipc_link_fsm.specs.Table.{is_last}
 use Rattle.tipc_link.specs.Links.{LinkEnd, handed_over, reset_frames, without_waiting}
@@ -12,7 +12,7 @@ use Rattle.tipc_link.specs.Sessions.{SessionEnd, flush_frames, put}
 use Rattle.tipc_pair.specs.declared.transitions.Transition.{Transition}
 use Rattle.tipc_pair.specs.declared.transitions.Transition.TheVariants.{ContactDown}
 use Rattle.tipc_pair.specs.Changeovers.{contact_ends, ended_with, fail_over, fail_over_to, failing, forgetting, gone_down, loaded, parted, parted_end, switch, switch_from, switching}
-use Rattle.tipc_pair.specs.Courses.{AddsCourse, Course, LeavingState, rests, telling}
+use Rattle.tipc_pair.specs.Courses.{AddsCourse, Course, LeavingState, made_in, rests, telling}
 use Rattle.tipc_pair.specs.Facing.{PairEnds, ends_of, facing, in_contact, is_up_at, made_of, other, state_of, states_of, with_far, with_near}
 use Rattle.tipc_pair.specs.PairFacts.{IsEndOf, IsPairOfEnds}
 use Rattle.tipc_pair.specs.Runs.{left_by, taken_over}
@@ -24,13 +24,12 @@ use Rattle.tipc_pair.proofs.Facings.{facing_back, facing_one, facing_same}
 
 -- nothing is told or sent
 pub adds_rests : (a : LeavingState) (x : PairEnds) → AddsCourse a a (rests x)
-adds_rests a x = record { changes = sym (append-nil a.changes); states = adds_none a.states; numbered = adds_none a.numbered }
+adds_rests a x = record { changes = sym (append-nil a.changes); made = gains_none a.out }
 
 pub telling_adds : (a b c : LeavingState) (t : Transition) (course : Course) → b ≡ record a { changes = a.changes ++ t ∷ [] } → AddsCourse b c course → AddsCourse a c (telling t course)
 telling_adds a b c t course told h = record {
   changes = h.changes ∙ (ap (λ (l : LeavingState). l.changes ++ course.changes) told ∙ append_assoc a.changes (t ∷ []) course.changes);
-  states = subst (λ (l : LeavingState). Adds l.states c.states course.states) told h.states;
-  numbered = subst (λ (l : LeavingState). Adds l.numbered c.numbered course.numbered) told h.numbered;
+  made = subst (λ (l : LeavingState). Gains l.out c.out (made_in course)) told h.made;
 }
 
 -- where the step behind it found memory
@@ -87,10 +86,10 @@ parted_back seen x first now two first_is now_is =
 
 pub ended_adds : (seen shown : ℕ) (contact : ℕ × ℕ) (x first now : PairEnds) (a b c d : LeavingState) → x.bearer ≤ 1 → first ≡ facing 0 x
     → b ≡ record a { changes = a.changes ++ flat_map ended_with (made_of first.near ++ made_of first.far) } → now ≡ parting seen first
-    → c.changes ≡ b.changes → Adds b.states c.states (flat_map reset_frames (made_of now.near ++ made_of now.far)) → c.numbered ≡ b.numbered
+    → c.changes ≡ b.changes → AddsFirst b.out c.out (flat_map reset_frames (made_of now.near ++ made_of now.far))
     → d ≡ record c { changes = c.changes ++ ContactDown contact (state_of now.near, state_of now.far) shown ∷ [] }
     → AddsCourse a d (contact_ends (record x { seen = seen }) contact shown)
-ended_adds seen shown contact x first now a b c d two first_is told now_is changes states numbered last =
+ended_adds seen shown contact x first now a b c d two first_is told now_is changes states last =
     let now_first : now ≡ facing 0 (parting seen x) = now_is ∙ (ap (parting seen) first_is ∙ sym (parting_first seen x)) in
     let before : made_of first.near ++ made_of first.far ≡ ends_of (record x { seen = seen }) =
     ap (λ (y : PairEnds). made_of y.near ++ made_of y.far) first_is
@@ -103,17 +102,14 @@ ended_adds seen shown contact x first now a b c d two first_is told now_is chang
     let all : d.changes ≡ a.changes ++ (flat_map ended_with (made_of first.near ++ made_of first.far) ++ down ∷ []) =
     ap (λ (l : LeavingState). l.changes) last ∙ (ap (λ ts. ts ++ down ∷ []) (changes ∙ ap (λ (l : LeavingState). l.changes) told)
     ∙ append_assoc a.changes (flat_map ended_with (made_of first.near ++ made_of first.far)) (down ∷ [])) in
-    let to_d : c.states ≡ d.states = sym (ap (λ (l : LeavingState). l.states) last) in
-    let from_a : b.states ≡ a.states = ap (λ (l : LeavingState). l.states) told in
-    let same : a.numbered ≡ d.numbered =
-    sym (ap (λ (l : LeavingState). l.numbered) last ∙ (numbered ∙ ap (λ (l : LeavingState). l.numbered) told)) in
+    let to_d : c.out ≡ d.out = sym (ap (λ (l : LeavingState). l.out) last) in
+    let from_a : b.out ≡ a.out = ap (λ (l : LeavingState). l.out) told in
     record {
       changes = all ∙ (ap (λ es. a.changes ++ (flat_map ended_with es ++ down ∷ [])) before
           ∙ ap (λ st. a.changes ++ (flat_map ended_with (ends_of (record x { seen = seen })) ++ ContactDown contact st shown ∷ [])) ends);
-      states = subst (λ es. Adds a.states d.states (flat_map reset_frames es)) after
-          (subst (λ o. Adds o d.states (flat_map reset_frames (made_of now.near ++ made_of now.far))) from_a
-          (subst (λ o. Adds b.states o (flat_map reset_frames (made_of now.near ++ made_of now.far))) to_d states));
-      numbered = subst (λ o. Adds a.numbered o []) same (adds_none a.numbered);
+      made = subst (λ es. AddsFirst a.out d.out (flat_map reset_frames es)) after
+          (subst (λ o. AddsFirst o d.out (flat_map reset_frames (made_of now.near ++ made_of now.far))) from_a
+          (subst (λ o. AddsFirst b.out o (flat_map reset_frames (made_of now.near ++ made_of now.far))) to_d states));
     }
 
 -- a fact that holds whether memory was found or not
@@ -123,12 +119,12 @@ ok_so (Err fault) P h = tt
 
 pub ended_adds_ok : {T F : Type 0} (r : Result T F) (seen shown : ℕ) (contact told_contact : ℕ × ℕ) (told_states : Option LinkState × Option LinkState) (x first now : PairEnds) (a b c d : LeavingState)
     → x.bearer ≤ 1 → first ≡ facing 0 x → b ≡ record a { changes = a.changes ++ flat_map ended_with (made_of first.near ++ made_of first.far) } → now ≡ parting seen first
-    → c.changes ≡ b.changes → Adds b.states c.states (flat_map reset_frames (made_of now.near ++ made_of now.far)) → c.numbered ≡ b.numbered
+    → c.changes ≡ b.changes → AddsFirst b.out c.out (flat_map reset_frames (made_of now.near ++ made_of now.far))
     → told_contact ≡ contact → told_states ≡ (state_of now.near, state_of now.far) → OnOk r (d ≡ record c { changes = c.changes ++ ContactDown told_contact told_states shown ∷ [] })
     → OnOk r (AddsCourse a d (contact_ends (record x { seen = seen }) contact shown))
-ended_adds_ok (Err fault) seen shown contact told_contact told_states x first now a b c d two first_is told now_is changes states numbered contact_is states_is last = tt
-ended_adds_ok (Ok done) seen shown contact told_contact told_states x first now a b c d two first_is told now_is changes states numbered contact_is states_is last =
-    ended_adds seen shown contact x first now a b c d two first_is told now_is changes states numbered
+ended_adds_ok (Err fault) seen shown contact told_contact told_states x first now a b c d two first_is told now_is changes states contact_is states_is last = tt
+ended_adds_ok (Ok done) seen shown contact told_contact told_states x first now a b c d two first_is told now_is changes states contact_is states_is last =
+    ended_adds seen shown contact x first now a b c d two first_is told now_is changes states
     (last ∙ (ap (λ n. record c { changes = c.changes ++ ContactDown n told_states shown ∷ [] }) contact_is ∙ ap (λ n. record c { changes = c.changes ++ ContactDown contact n shown ∷ [] }) states_is))
 
 pub numbers_are : (numbers : ℕ × ℕ) (own seen : ℕ) → numbers.0 ≡ own → numbers.1 ≡ seen → numbers ≡ (own, seen)
@@ -202,16 +198,15 @@ failed_over (Ok done) x now near far near_now far_now pieces near_is far_is sess
 
 pub failed_adds : {T F : Type 0} (r : Result T F) (x : PairEnds) (near far : LinkEnd) (pieces : List (List ℕ)) (a b : LeavingState) → x.near ≡ Some near → x.far ≡ Some far
     → is_some near.session ≡ true → is_some far.session ≡ true → ((lost : SessionEnd) → near.session ≡ Some lost → pieces ≡ left_by lost)
-    → ((s : SessionEnd) → far.session ≡ Some s → OnOk r (Adds a.numbered b.numbered (flush_frames (put s pieces)))) → b.changes ≡ a.changes → b.states ≡ a.states
+    → ((s : SessionEnd) → far.session ≡ Some s → OnOk r (Adds a.out b.out (flush_frames (put s pieces)))) → b.changes ≡ a.changes
     → OnOk r (AddsCourse a b (fail_over x))
-failed_adds (Err fault) x near far pieces a b near_is far_is session carrier left got changes states = tt
-failed_adds (Ok done) x near far pieces a b near_is far_is session carrier left got changes states =
+failed_adds (Err fault) x near far pieces a b near_is far_is session carrier left got changes = tt
+failed_adds (Ok done) x near far pieces a b near_is far_is session carrier left got changes =
     let lost = some_there near.session session in
     let s = some_there far.session carrier in
     subst (AddsCourse a b) (sym (fail_over_is x near far lost.0 s.0 near_is far_is lost.1 s.1)) (record {
       changes = changes ∙ sym (append-nil a.changes);
-      states = subst (λ o. Adds a.states o []) (sym states) (adds_none a.states);
-      numbered = subst (λ ps. Adds a.numbered b.numbered (flush_frames (put s.0 ps))) (left lost.0 lost.1) (got s.0 s.1);
+      made = subst (λ ps. Adds a.out b.out (flush_frames (put s.0 ps))) (left lost.0 lost.1) (got s.0 s.1);
     })
 
 pub switched : {T F : Type 0} (r : Result T F) (x now : PairEnds) (near far near_now far_now : LinkEnd) (pieces : List (List ℕ)) → x.near ≡ Some near → x.far ≡ Some far
@@ -227,14 +222,13 @@ switched (Ok done) x now near far near_now far_now pieces near_is far_is session
 
 pub switched_adds : {T F : Type 0} (r : Result T F) (x : PairEnds) (near far : LinkEnd) (pieces : List (List ℕ)) (a b : LeavingState) → x.near ≡ Some near → x.far ≡ Some far
     → is_some near.session ≡ true → is_some far.session ≡ true → ((old : SessionEnd) → far.session ≡ Some old → pieces ≡ taken_over old)
-    → ((s : SessionEnd) → near.session ≡ Some s → OnOk r (Adds a.numbered b.numbered (flush_frames (put s pieces)))) → b.changes ≡ a.changes → b.states ≡ a.states
+    → ((s : SessionEnd) → near.session ≡ Some s → OnOk r (Adds a.out b.out (flush_frames (put s pieces)))) → b.changes ≡ a.changes
     → OnOk r (AddsCourse a b (switch x))
-switched_adds (Err fault) x near far pieces a b near_is far_is session kept taken got changes states = tt
-switched_adds (Ok done) x near far pieces a b near_is far_is session kept taken got changes states =
+switched_adds (Err fault) x near far pieces a b near_is far_is session kept taken got changes = tt
+switched_adds (Ok done) x near far pieces a b near_is far_is session kept taken got changes =
     let s = some_there near.session session in
     let old = some_there far.session kept in
     subst (AddsCourse a b) (sym (switch_is x near far s.0 old.0 near_is far_is s.1 old.1)) (record {
       changes = changes ∙ sym (append-nil a.changes);
-      states = subst (λ o. Adds a.states o []) (sym states) (adds_none a.states);
-      numbered = subst (λ ps. Adds a.numbered b.numbered (flush_frames (put s.0 ps))) (taken old.0 old.1) (got s.0 s.1);
+      made = subst (λ ps. Adds a.out b.out (flush_frames (put s.0 ps))) (taken old.0 old.1) (got s.0 s.1);
     })

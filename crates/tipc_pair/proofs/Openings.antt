@@ -50,7 +50,7 @@ opens_so x one two taken opened given last a b h brings two_is = record {
   course = with_begun h.course last;
   opens = opens h.unwraps (subst (λ ts. BringsAll h.course.pair.begun ts given last) h.opened_is (subst (λ (y : PairEnds). BringsAll y.begun opened given last) h.pair brings));
   pair = two_is ∙ ap (λ (y : PairEnds). record y { begun = last }) h.pair;
-  told = record { changes = h.told.changes; states = h.told.states; numbered = h.told.numbered };
+  told = record { changes = h.told.changes; made = h.told.made };
 }
 
 -- nothing is carried for the far link

@@ -5,7 +5,7 @@ use Rattle.std.proofs.Common.{◌≡◌, ◌∙◌, ℕ, Bool, true, false, List
 use Rattle.tipc_types.specs.declared.link_words.BroadcastState.{BroadcastState}
 use Rattle.tipc_types.specs.declared.link_words.Why.TheVariants as why
 use Rattle.tipc_types.specs.declared.packet_lists.Taken.{Taken}
-use Rattle.tipc_outside.specs.Frames.{Adds}
+use Rattle.tipc_outside.specs.Frames.{Gains}
 use Rattle.tipc_header.specs.declared.packet.Header.{Header}
 use Rattle.tipc_header.specs.declared.packet.Header.TheVariants as header
 use Rattle.tipc_header.specs.Spelling.{Fields}
@@ -17,7 +17,7 @@ use Rattle.tipc_link_fsm.specs.declared.changes.Change.{Change}
 use Rattle.tipc_link_fsm.specs.declared.changes.Change.TheVariants.{Answer, Down, Ignore, Stay, Up}
 use Rattle.tipc_link_fsm.specs.Table.{Outcome, on_reset}
 use Rattle.tipc_link.specs.Hearings.{ArrivingState}
-use Rattle.tipc_link.specs.Links.{LinkEnd, after, arrival_end, change_outcome, frames, heard_end, heard_outcome, is_down, is_heard, link_outcome, newly_numbered, numbers_at, outcome_of, repeats_at, sent_again}
+use Rattle.tipc_link.specs.Links.{LinkEnd, after, arrival_end, change_outcome, frames, heard_end, heard_outcome, is_down, is_heard, link_frames, link_outcome, newly_numbered, outcome_of, sent_again}
 use Rattle.tipc_link.specs.Records.{is_changeover, is_tunnel}
 use Rattle.tipc_link.specs.Sessions.{content_of}
 use Rattle.tipc_pair.specs.declared.changes.PairOutcome.{PairOutcome}
@@ -153,7 +153,7 @@ plain_opens one outcome given last a plain (took {taken = taken} {opened = items
   course = with_begun (rests one) last;
   opens = opens (none_unwrapped one taken (plain_none one taken plain)) (subst (λ ts. BringsAll one.begun ts items last) (sym (plain_bytes taken plain)) brings);
   pair = refl;
-  told = (let told = adds_rests a one in record { changes = told.changes; states = told.states; numbered = told.numbered });
+  told = (let told = adds_rests a one in record { changes = told.changes; made = told.made });
 }
 plain_opens one outcome given last a plain defers = rests_open one a LinkOutcome.Deferred PairOutcome.Deferred deferred
 plain_opens one outcome given last a plain (ignores {reason = reason}) = rests_open one a (LinkOutcome.Ignored reason) (PairOutcome.Ignored reason) ignored
@@ -179,10 +179,10 @@ quietly_kept x e new es er p by a begun h q near new_is =
 
 -- the near link hears a packet, and what it takes of that was opened
 pub hears_and_opens : (x last : PairEnds) (e new : LinkEnd) (es er : ℕ) (p : Fields) (by : ℕ) (shown : BroadcastState) (a : ArrivingState) (given : PairOutcome) (begun : Joining) (old b : LeavingState) → IsQuiet x es er p by a
-    → standing_with x p.header ≡ Same → x.near ≡ Some e → new ≡ arrival_end e a.states p a.hearing.by → b.changes ≡ old.changes → Adds old.states b.states (frames e a.states shown ++ repeats_at e a.states p)
-    → Adds old.numbered b.numbered (numbers_at e a.states p a.hearing.by) → OpensTo x.begun a.hearing.outcome given begun → last ≡ record (with_near x new) { begun = begun }
+    → standing_with x p.header ≡ Same → x.near ≡ Some e → new ≡ arrival_end e a.states p a.hearing.by → b.changes ≡ old.changes → Gains old.out b.out (link_frames e a.states p a.hearing.by shown)
+    → OpensTo x.begun a.hearing.outcome given begun → last ≡ record (with_near x new) { begun = begun }
     → HearsAndOpens (hears p.header es er p by shown x) given last old b
-hears_and_opens x last e new es er p by shown a given begun old b q standing near new_is changes states numbered opened last_is =
+hears_and_opens x last e new es er p by shown a given begun old b q standing near new_is changes made opened last_is =
     let same : q.end ≡ e = (let there : Some q.end ≡ Some e = sym q.end_is ∙ near in cc) in
     let o = outcome_of e.fsm p.header es er (is_up_at x.far) in
     let o_is : a.states ≡ o = quiet_outcome x e es er p by a q near in
@@ -191,11 +191,10 @@ hears_and_opens x last e new es er p by shown a given begun old b q standing nea
     let gives : a.hearing.outcome ≡ link_outcome e o p by =
     q.arriving.outcome ∙ (ap (λ d. link_outcome d a.states p a.hearing.by) same ∙ (ap (λ k. link_outcome e k p a.hearing.by) o_is ∙ ap (link_outcome e o p) q.by_is)) in
     let new_so : new ≡ arrival_end e o p by = new_is ∙ (ap (λ k. arrival_end e k p a.hearing.by) o_is ∙ ap (arrival_end e o p) q.by_is) in
-    let states_so = subst (λ (k : Outcome). Adds old.states b.states (frames e k shown ++ repeats_at e k p)) o_is states in
-    let numbered_so = subst (λ n. Adds old.numbered b.numbered (numbers_at e o p n)) q.by_is (subst (λ (k : Outcome). Adds old.numbered b.numbered (numbers_at e k p a.hearing.by)) o_is numbered) in
+    let made_so = subst (λ n. Gains old.out b.out (link_frames e o p n shown)) q.by_is (subst (λ (k : Outcome). Gains old.out b.out (link_frames e k p a.hearing.by shown)) o_is made) in
     let rested = quiet_follows one o.change es quiet in
     let met_it : IsHeardAs (met x e o p es by shown) one old b a.hearing.outcome =
-    met_does x one one e new o p es by shown o.change a.hearing.outcome old b b refl new_so refl gives changes states_so numbered_so (sym (ap (λ (c : Course). c.pair) rested)) (subst (AddsCourse b b) (sym rested) (adds_rests b one)) in
+    met_does x one one e new o p es by shown o.change a.hearing.outcome old b b refl new_so refl gives changes made_so (sym (ap (λ (c : Course). c.pair) rested)) (subst (AddsCourse b b) (sym rested) (adds_rests b one)) in
     record {
       one = one;
       outcome = a.hearing.outcome;

@@ -1,9 +1,8 @@
 -- What a call at the near link makes of the pair: what becomes of the link, and then what follows its change.
 use Rattle.std.specs.Prelude.{OnOk, if◌then◌else◌, ◌-◌}
-use Rattle.std.proofs.Common.{◌≡◌, ◌∙◌, ℕ, Bool, true, false, [], Some, Result, option_map, refl, sym, subst, ap, append-nil}
+use Rattle.std.proofs.Common.{◌≡◌, ◌∙◌, ℕ, Bool, true, false, Some, Result, option_map, refl, sym, subst, ap, append-nil}
 use Rattle.tipc_types.specs.declared.link_words.BroadcastState.{BroadcastState}
-use Rattle.tipc_outside.specs.Frames.{Adds}
-use Rattle.tipc_outside.proofs.Adding.{adds_none}
+use Rattle.tipc_outside.specs.Frames.{AddsFirst}
 use Rattle.tipc_link_fsm.specs.declared.changes.Change.{Change}
 use Rattle.tipc_link_fsm.specs.Table.{Outcome, on_cut, on_peer_tunnel, on_tick}
 use Rattle.tipc_link.specs.Links.{LinkEnd, after, cut_end, frames, tunnelled_down}
@@ -47,13 +46,12 @@ stepped_after r x now last e new o change epoch shown now_is new_is change_is h 
     (subst (λ k. OnOk r (last ≡ (following now k epoch).pair)) change_is h)
 
 pub stepped_adds : {T F : Type 0} (r : Result T F) (a b c : LeavingState) (x now : PairEnds) (e new : LinkEnd) (o : Outcome) (change : Change) (epoch : ℕ) (shown : BroadcastState)
-    → now ≡ with_near x new → new ≡ after e o → change ≡ o.change → OnOk r (AddsCourse b c (following now change epoch)) → b.changes ≡ a.changes → Adds a.states b.states (frames e o shown)
-    → b.numbered ≡ a.numbered → OnOk r (AddsCourse a c (stepped x e o epoch shown))
-stepped_adds r a b c x now e new o change epoch shown now_is new_is change_is h changes states numbered =
+    → now ≡ with_near x new → new ≡ after e o → change ≡ o.change → OnOk r (AddsCourse b c (following now change epoch)) → b.changes ≡ a.changes → AddsFirst a.out b.out (frames e o shown)
+    → OnOk r (AddsCourse a c (stepped x e o epoch shown))
+stepped_adds r a b c x now e new o change epoch shown now_is new_is change_is h changes states =
     then_adds_ok r a b c now (stepped_first x e o shown) (λ y. following y o.change epoch) (now_is ∙ ap (with_near x) new_is) (record {
       changes = changes ∙ sym (append-nil a.changes);
-      states = states;
-      numbered = subst (λ n. Adds a.numbered n []) (sym numbered) (adds_none a.numbered);
+      made = states;
     }) (subst (λ k. OnOk r (AddsCourse b c (following now k epoch))) change_is h)
 
 -- a tick of the near link
@@ -68,7 +66,7 @@ at_bearer_after bearer x first now last call first_is now_is last_is = last_is �
 
 pub at_bearer_adds : (bearer : ℕ) (a b : LeavingState) (x first : PairEnds) (call : PairEnds → Course) → first ≡ facing bearer x → AddsCourse a b (call first) → AddsCourse a b (at_bearer bearer x call)
 at_bearer_adds bearer a b x first call first_is h =
-    let there = subst (λ y. AddsCourse a b (call y)) first_is h in record { changes = there.changes; states = there.states; numbered = there.numbered }
+    let there = subst (λ y. AddsCourse a b (call y)) first_is h in record { changes = there.changes; made = there.made }
 
 -- ---- the bearer from which a pair is seen
 

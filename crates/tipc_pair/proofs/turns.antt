@@ -2,6 +2,7 @@
 pub mod Addressing
 pub mod ArrivalMoves
 pub mod Causes
+pub mod ContactEpochs
 pub mod ContactLoads
 pub mod CourseMoves
 pub mod EndEpochs

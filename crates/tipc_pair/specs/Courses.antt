@@ -1,7 +1,7 @@
 -- What an event makes of a pair: the pair after it, what is told of links and contact, and the frames that leave.
-use Rattle.std.specs.Prelude.{◌≡◌, false, List, [], ◌∷◌, ◌++◌}
+use Rattle.std.specs.Prelude.{◌≡◌, List, [], ◌∷◌, ◌++◌}
 use Rattle.tipc_outside.specs.declared.outgoing.Outgoing.{Outgoing}
-use Rattle.tipc_outside.specs.Frames.{Adds, Out}
+use Rattle.tipc_outside.specs.Frames.{Gains, Made, Out, no_frames}
 use Rattle.tipc_pair.specs.declared.transitions.Transition.{Transition}
 use Rattle.tipc_pair.specs.Facing.{PairEnds}
 
@@ -35,24 +35,21 @@ telling change c = record c { changes = change ∷ c.changes }
 abbrev pub sent_in : Course → List Outgoing
 sent_in c = c.states ++ c.numbered
 
+-- the frames of an event in the groups in which they leave
+abbrev pub made_in : Course → Made
+made_in c = record { first = c.states; behind = c.numbered }
+
 -- what an event has told so far, and its frames, of which some may be lost for want of memory
 pub record LeavingState : Type 0 where
   pub changes : List Transition
-  pub states : Out
-  pub numbered : Out
-
--- a box with no frame
-abbrev pub no_frames : Out
-no_frames = record { frames = []; lost = false }
+  pub out : Out
 
 -- what a step told was added, and its frames
 pub record AddsCourse (old new : LeavingState) (c : Course) : Type 0 where
   pub changes : new.changes ≡ old.changes ++ c.changes
-  pub states : Adds old.states new.states c.states
-  pub numbered : Adds old.numbered new.numbered c.numbered
+  pub made : Gains old.out new.out (made_in c)
 
 -- an event that began with nothing told this, and its frames are these, of which some may be lost for want of memory
 pub record IsToldOf (c : Course) (told : LeavingState) : Type 0 where
   pub changes : told.changes ≡ c.changes
-  pub states : Adds no_frames told.states c.states
-  pub numbered : Adds no_frames told.numbered c.numbered
+  pub made : Gains no_frames told.out (made_in c)

@@ -1,6 +1,7 @@
 -- What is read from the link ends of a pair: the epochs and the silence of a link that is up, its load, and what holds of each end.
 use Rattle.std.specs.Prelude.{◌≡◌, ◌≤◌, ◌⊎◌, IfSome, nat_le, ℕ, ◌||◌, true, [], Option, Some, None, if◌then◌else◌, is_some, length, option_and_then, option_map}
 use Rattle.tipc_types.specs.LinkStates.{is_up}
+use Rattle.tipc_types.specs.Limits.{window_size}
 use Rattle.tipc_link_fsm.specs.Table.{is_reset_reset}
 use Rattle.tipc_link.specs.Links.{LinkEnd, known}
 use Rattle.tipc_link.specs.Sessions.{SessionEnd}
@@ -39,7 +40,7 @@ pub record AreAbreast (x : PairEnds) : Type 0 where
 
 -- at a session 50 packets are unacknowledged at most, and as many are where packets wait
 abbrev pub IsPacked : SessionEnd → Type 0
-IsPacked s = (length s.sending.unacked ≤ 50) × ((s.sending.waiting ≡ []) ⊎ (length s.sending.unacked ≡ 50))
+IsPacked s = (length s.sending.unacked ≤ window_size) × ((s.sending.waiting ≡ []) ⊎ (length s.sending.unacked ≡ window_size))
 
 -- so it is at the session of a link end, where it has one
 abbrev pub IsPackedEnd : LinkEnd → Type 0

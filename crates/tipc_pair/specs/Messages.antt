@@ -2,6 +2,7 @@
 use Rattle.std.specs.Prelude.{◌≡◌, ℕ, true, List, [], ◌∷◌, length, nat_le, if◌then◌else◌, None}
 use Rattle.tipc_types.specs.declared.link_words.Why.{Why}
 use Rattle.tipc_types.specs.declared.packet_lists.Taken.{Taken}
+use Rattle.tipc_types.specs.Limits.{most_packet_bytes}
 use Rattle.tipc_header.specs.Frames.{sent_as}
 use Rattle.tipc_header.specs.Grammar.{Fits}
 use Rattle.tipc_header.specs.Spelling.{Fields, spelling}
@@ -45,4 +46,4 @@ pub record IsMessage (own : ℕ) (bytes : List ℕ) : Type 0 where
 
 -- the packets in which a message is sent: its own, or its fragments
 unfoldable pub pieces_for : List ℕ → List (List ℕ)
-pieces_for message = if nat_le (length message) 1452 then message ∷ [] else packets_of message
+pieces_for message = if nat_le (length message) most_packet_bytes then message ∷ [] else packets_of message

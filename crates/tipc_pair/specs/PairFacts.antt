@@ -1,6 +1,7 @@
 -- What is true of every pair that has a link end on each bearer.
 use Rattle.std.specs.Prelude.{◌≡◌, ◌≤◌, ◌<◌, ℕ, true, false, All, Option, IfSome, is_some, length}
 use Rattle.tipc_types.specs.LinkStates.{is_up}
+use Rattle.tipc_types.specs.Limits.{window_size}
 use Rattle.tipc_link_fsm.specs.declared.changes.Change.{Change}
 use Rattle.tipc_link_fsm.specs.declared.changes.Change.TheVariants.{Up}
 use Rattle.tipc_link_fsm.specs.Table.{Fsm, is_held, is_last}
@@ -20,7 +21,7 @@ pub record AreStatesOf (contact : ℕ) (fsm : Fsm) : Type 0 where
 -- a session on this bearer: its packets can be sent, and can travel on the other link
 pub record IsSessionOn (bearer : ℕ) (s : SessionEnd) : Type 0 where
   pub bearer_is : s.bearer ≡ bearer
-  pub few : length s.sending.unacked ≤ 50
+  pub few : length s.sending.unacked ≤ window_size
   pub waiting : All IsListed s.sending.waiting
   pub unacked : All IsListed s.sending.unacked
 

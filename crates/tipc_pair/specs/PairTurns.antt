@@ -78,15 +78,18 @@ pub data PutsAll : PairEnds → List (List ℕ) → List Outgoing → PairEnds �
 
 -- ---- the answer
 
--- the STATE that is due on a bearer is sent, with these broadcast fields
+-- The STATE that is due on a bearer is sent, with these broadcast fields. The arrival before it took so many broadcast packets, and may have
+-- asked for a STATE by the broadcast.
 pub record Reply : Type 0 where
   pub bearer : ℕ
+  pub taken : ℕ
+  pub asks : Bool
   pub shown : BroadcastState
 
 -- the course of the answer; no answer is nothing
 abbrev pub replied : Option Reply → PairEnds → Course
 replied None x = nothing x
-replied (Some r) x = at_bearer r.bearer x (answered_near 0 false r.shown)
+replied (Some r) x = at_bearer r.bearer x (answered_near r.taken r.asks r.shown)
 
 -- ---- the turn
 
@@ -113,10 +116,10 @@ abbrev pub ShowsAtLast : Option Reply → Type 0
 ShowsAtLast None = Unit {0}
 ShowsAtLast (Some r) = IsShowable r.shown
 
--- what happened at the pair first is the event of the step
+-- What happened at the pair first is the event of the step. An end is made by an arrival on its bearer, which is mended.
 abbrev pub Suits : EventNote → Opening → Type 0
 Suits note rests = Unit {0}
-Suits note (makes bearer is_mended) = ⊥
+Suits note (makes bearer is_mended) = (is_mended ≡ true) × ((by : ℕ) × (note ≡ event.Arrive bearer by))
 Suits note (mends bearer) = note ≡ event.Mend bearer
 Suits note (cuts bearer) = note ≡ event.Cut bearer
 Suits note (ticks shown) = note ≡ event.Tick
@@ -124,10 +127,16 @@ Suits note (hears bearer es er p by shown) = note ≡ event.Arrive bearer by
 
 -- it happened on one of the two bearers
 abbrev pub IsOnOne : Opening → Type 0
+IsOnOne (makes bearer is_mended) = bearer ≤ 1
 IsOnOne (mends bearer) = bearer ≤ 1
 IsOnOne (cuts bearer) = bearer ≤ 1
 IsOnOne (hears bearer es er p by shown) = bearer ≤ 1
 IsOnOne other = Unit {0}
+
+-- an end is made only where there is none
+abbrev pub MakesNew : PairEnds → Opening → Type 0
+MakesNew x (makes bearer is_mended) = (facing bearer x).near ≡ None
+MakesNew x other = Unit {0}
 
 -- the pair heard what arrived, and didn't ignore it
 abbrev pub IsTakenBy : Opening → PairOutcome → Type 0

@@ -2,6 +2,7 @@
 use Rattle.std.specs.Prelude.{◌≡◌, ◌≤◌, ℕ, true, List, [], ◌∷◌, ◌++◌, filter, length, map, not, if◌then◌else◌}
 use Rattle.tipc_types.specs.declared.link_words.OldSession.{OldSession}
 use Rattle.tipc_types.specs.declared.packet_lists.Kept.{Kept}
+use Rattle.tipc_types.specs.Limits.{most_packet_bytes}
 use Rattle.tipc_header.specs.declared.packet.ChangeoverType.{ChangeoverType}
 use Rattle.tipc_header.specs.declared.packet.ChangeoverType.TheVariants.{Duplicate, Original}
 use Rattle.tipc_header.specs.declared.packet.Header.{Header}
@@ -76,5 +77,5 @@ pub record IsTunnelPacket (packet : List ℕ) : Type 0 where
 
 -- a packet that waits or is unacknowledged may stand inside a tunnel packet, or is a tunnel packet
 pub data IsListed (packet : List ℕ) : Type 0 where
-  plain : IsWaiting packet → IsTunnellable packet → length packet ≤ 1452 → IsListed packet
+  plain : IsWaiting packet → IsTunnellable packet → length packet ≤ most_packet_bytes → IsListed packet
   tunnel : IsTunnelPacket packet → IsListed packet

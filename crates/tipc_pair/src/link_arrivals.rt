@@ -94,6 +94,7 @@ impl LinkEnds {
     }
 
     /// Gives a packet to the near link, and does what its change asks for.
+    #[tactic(auto, using(tipc_outside::proofs::Adding::gains_none))]
     fn meet(
         &mut self,
         alloc: Global,
@@ -110,7 +111,7 @@ impl LinkEnds {
         let Some(link) = &mut self.near else {
             return Ok(LinkOutcome::Ignored(Why::Unknown));
         };
-        let arrival = link.arrive_apart(
+        let arrival = link.arrive(
             alloc,
             incoming.sender_epoch,
             incoming.receiver_epoch,
@@ -118,8 +119,7 @@ impl LinkEnds {
             held,
             incoming.by,
             incoming.shown,
-            &mut event.states,
-            &mut event.numbered,
+            &mut event.out,
         )?;
         self.follow(alloc, arrival.change, incoming.sender_epoch, event)?;
         Ok(arrival.outcome)
@@ -225,6 +225,7 @@ impl LinkEnds {
     }
 
     /// Gives a RESET to the near end, and does what its change asks for.
+    #[tactic(auto, using(tipc_outside::proofs::Adding::gains_none))]
     fn give_reset(
         &mut self,
         alloc: Global,
@@ -240,7 +241,7 @@ impl LinkEnds {
         let Some(link) = &mut self.near else {
             return Ok((Change::Stay, LinkOutcome::Ignored(Why::Unknown)));
         };
-        let arrival = link.reset(alloc, es, held, shown, &mut event.states);
+        let arrival = link.reset(alloc, es, held, shown, &mut event.out);
         self.follow(alloc, arrival.change, es, event)?;
         Ok((arrival.change, arrival.outcome))
     }
@@ -345,6 +346,7 @@ impl LinkEnds {
 
     /// A packet of the far link came through the near one. If it is the original, a far link that is up under this epoch of the peer goes
     /// down.
+    #[tactic(auto, using(tipc_outside::proofs::Adding::gains_none))]
     fn take_far_down(
         &mut self,
         alloc: Global,
@@ -380,6 +382,7 @@ impl LinkEnds {
 
     /// The original of a packet of the near link came through the far one: a near link that is up under this epoch of the peer goes
     /// down.
+    #[tactic(auto, using(tipc_outside::proofs::Adding::gains_none))]
     fn take_down(&mut self, alloc: Global, epoch: u64, event: &mut Leaving) -> Result<(), NoMemory>
         ensures after { OnOk result (self.new ≡ (tunnelled_at epoch self.old self.old.near).pair) }
         ensures adds { OnOk result (AddsCourse event.old event.new (tunnelled_at epoch self.old self.old.near)) }

@@ -3,7 +3,7 @@
 ghost use Rattle.std.specs.Prelude.{◌≡◌, ◌+◌, ◌≤◌, [], ◌∷◌, ◌++◌, true, false, ℕ, List, Some, None, is_some, option_map, All, IfSome, IfOk, OnErr, OnOk};
 ghost use Rattle.std.specs.List.{flat_map};
 ghost use Rattle.tipc_types.specs.LinkStates.{is_up};
-ghost use Rattle.tipc_outside.specs.Frames.{Adds};
+ghost use Rattle.tipc_outside.specs.Frames.{Adds, AddsFirst};
 ghost use Rattle.tipc_link_fsm.specs.Table.{is_last};
 ghost use Rattle.tipc_link.specs.Links.{LinkEnd, handed_over, reset_frames, without_waiting};
 ghost use Rattle.tipc_link.specs.Sessions.{SessionEnd, IsWaiting, flush_frames, put};
@@ -36,6 +36,7 @@ impl LinkEnds {
     /// # Errors
     ///
     /// Where memory runs out. The pair may be in any state then.
+    #[tactic(auto, using(tipc_outside::proofs::Adding::gains_none))]
     pub(crate) fn follow(
         &mut self,
         alloc: Global,
@@ -83,6 +84,7 @@ impl LinkEnds {
 
     /// The first link that goes up begins the contact. A second one takes the traffic over where its priority is the higher one, which is
     /// bearer 0's.
+    #[tactic(auto, using(tipc_outside::proofs::Adding::gains_none))]
     fn begin_or_switch(&mut self, alloc: Global, event: &mut Leaving) -> Result<(), NoMemory>
         requires { is_up_at self.old.near ≡ true }
         ensures after { OnOk result (self.new ≡ (gone_up self.old).pair) }
@@ -133,6 +135,7 @@ impl LinkEnds {
     }
 
     /// The contact begins, with no message begun.
+    #[tactic(auto, using(tipc_outside::proofs::Adding::gains_none))]
     fn begin_contact(&mut self, alloc: Global, event: &mut Leaving) -> Result<(), NoMemory>
         ensures after { OnOk result (self.new ≡ (contact_begins self.old).pair) }
         ensures adds { OnOk result (AddsCourse event.old event.new (contact_begins self.old)) }
@@ -188,14 +191,13 @@ impl LinkEnds {
         requires { is_last self.old.contact ≡ false }
         ensures after { self.new ≡ parted (record self.old { seen = seen }) }
         ensures changes { event.new.changes ≡ event.old.changes }
-        ensures states { Adds event.old.states event.new.states
+        ensures frames { AddsFirst event.old.out event.new.out
             (flat_map reset_frames (made_of self.new.near ++ made_of self.new.far)) }
-        ensures numbered { event.new.numbered ≡ event.old.numbered }
     {
         let own = next_number(self.numbers.own);
         self.numbers = Contact { own, seen };
-        part_end(alloc, &mut self.near, own, seen, &mut event.states);
-        part_end(alloc, &mut self.far, own, seen, &mut event.states);
+        part_end(alloc, &mut self.near, own, seen, &mut event.out);
+        part_end(alloc, &mut self.far, own, seen, &mut event.out);
         self.reassembly = Reassembly::new(alloc);
     }
 
@@ -208,6 +210,7 @@ impl LinkEnds {
 
     /// The peer shows a contact number above the highest seen: a contact ends, and without contact each end forgets the peer's
     /// epoch.
+    #[tactic(auto, using(tipc_outside::proofs::Adding::gains_none))]
     pub(crate) fn rise(
         &mut self,
         alloc: Global,
@@ -229,13 +232,12 @@ impl LinkEnds {
         requires { in_contact self.old ≡ false }
         ensures after { self.new ≡ forgotten self.old seen }
         ensures changes { event.new.changes ≡ event.old.changes }
-        ensures states { Adds event.old.states event.new.states [] }
-        ensures numbered { event.new.numbered ≡ event.old.numbered }
+        ensures frames { AddsFirst event.old.out event.new.out [] }
     {
         let own = self.numbers.own;
         self.numbers.seen = seen;
-        forget_end(alloc, &mut self.near, own, seen, &mut event.states);
-        forget_end(alloc, &mut self.far, own, seen, &mut event.states);
+        forget_end(alloc, &mut self.near, own, seen, &mut event.out);
+        forget_end(alloc, &mut self.far, own, seen, &mut event.out);
     }
 
     /// The near link went down while the far one is up: that one gets, behind all that it has, originals of the unacknowledged
@@ -254,7 +256,7 @@ impl LinkEnds {
         let Some(far) = &mut self.far else {
             return Ok(());
         };
-        load(alloc, far, pieces, &mut event.numbered)
+        load(alloc, far, pieces, &mut event.out)
     }
 
     /// The near link went up, and becomes active in place of the far one: it gets duplicates of that one's unacknowledged packets, and
@@ -272,7 +274,7 @@ impl LinkEnds {
         let Some(near) = &mut self.near else {
             return Ok(());
         };
-        load(alloc, near, pieces, &mut event.numbered)
+        load(alloc, near, pieces, &mut event.out)
     }
 
     /// Releases either end that is held, once the other link has no tunnel packet any more.
@@ -293,6 +295,7 @@ impl LinkEnds {
     }
 
     /// Releases the near end, where it is held and the far link has no tunnel packet.
+    #[tactic(auto, using(tipc_outside::proofs::Adding::gains_none))]
     fn release_near(&mut self, alloc: Global, event: &mut Leaving)
         ensures after { self.new ≡ (release_near self.old).pair }
         ensures adds { AddsCourse event.old event.new (release_near self.old) }
@@ -301,7 +304,7 @@ impl LinkEnds {
         if !is_clear(&self.far) {
             return;
         }
-        let_go(alloc, &mut self.near, &mut event.states);
+        let_go(alloc, &mut self.near, &mut event.out);
     }
 }
 
@@ -316,9 +319,10 @@ fn is_clear(link: &Option<Link>) -> bool
 }
 
 /// Releases an end that is held.
+#[tactic(auto, using(tipc_outside::proofs::Adding::gains_none))]
 fn let_go(alloc: Global, link: &mut Option<Link>, out: &mut Outbox)
     ensures after { link.new ≡ option_map let_go link.old }
-    ensures frames { Adds out.old out.new (let_go_frames link.old) }
+    ensures frames { AddsFirst out.old out.new (let_go_frames link.old) }
 {
     match link {
         Some(link) => {
@@ -369,9 +373,10 @@ fn tell_end(link: &Option<Link>, bearer: u8, event: &mut Leaving) -> Result<(), 
 }
 
 /// An end takes its next epoch, and says RESET with these contact numbers.
+#[tactic(auto, using(tipc_outside::proofs::Adding::gains_none))]
 fn part_end(alloc: Global, link: &mut Option<Link>, own: u64, seen: u64, out: &mut Outbox)
     ensures after { link.new ≡ option_map (parted_end own seen) link.old }
-    ensures frames { Adds out.old out.new (flat_map reset_frames (made_of link.new)) }
+    ensures frames { AddsFirst out.old out.new (flat_map reset_frames (made_of link.new)) }
 {
     match link {
         Some(link) => {
@@ -383,11 +388,12 @@ fn part_end(alloc: Global, link: &mut Option<Link>, own: u64, seen: u64, out: &m
 }
 
 /// An end whose link isn't up forgets the peer's epoch, and shows these contact numbers, of which its own one stays.
+#[tactic(auto, using(tipc_outside::proofs::Adding::gains_none))]
 fn forget_end(alloc: Global, link: &mut Option<Link>, own: u64, seen: u64, out: &mut Outbox)
     requires contact { IfSome link.old (λ (e : LinkEnd). e.contact ≡ own) }
     requires down { is_up_at link.old ≡ false }
     ensures after { link.new ≡ option_map (forgetting seen) link.old }
-    ensures frames { Adds out.old out.new [] }
+    ensures frames { AddsFirst out.old out.new [] }
 {
     match link {
         Some(link) => {

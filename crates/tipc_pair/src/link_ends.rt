@@ -3,7 +3,7 @@
 ghost use Rattle.tipc_pair.specs.Runs.{IsListed};
 ghost use Rattle.tipc_outside.specs.declared.outgoing.Outgoing.{Outgoing};
 ghost use Rattle.std.specs.Prelude.{All, ℕ, List, ◌<◌, Err, ◌≡◌, ◌≤◌, ◌||◌, ◌==◌, [], ◌++◌, true, false, if◌then◌else◌, nat_lt, Some, None, length, IfOk, IfNone, IfSome, OnErr, OnOk};
-ghost use Rattle.tipc_outside.specs.Frames.{Adds};
+ghost use Rattle.tipc_outside.specs.Frames.{Adds, AddsFirst};
 ghost use Rattle.tipc_link.specs.Links.{LinkEnd};
 ghost use Rattle.tipc_pair.specs.Facing.{is_held_at, is_up_at, state_of};
 ghost use Rattle.tipc_pair.specs.PairCalls.{last_count_of, load_of, numbered_of};
@@ -179,9 +179,10 @@ impl LinkEnds {
     }
 
     /// The near link's bearer is mended: as [`Link::mend`].
+    #[tactic(auto, using(tipc_outside::proofs::Adding::gains_none))]
     pub(crate) fn mend(&mut self, alloc: Global, out: &mut Outbox)
         ensures after { self.new ≡ (mended self.old).pair }
-        ensures frames { Adds out.old out.new (mended self.old).states }
+        ensures frames { AddsFirst out.old out.new (mended self.old).states }
     {
         let Some(link) = &mut self.near else {
             return;
@@ -190,6 +191,7 @@ impl LinkEnds {
     }
 
     /// Sends the STATE that is due after an arrival on the near link: as [`Link::answer`].
+    #[tactic(auto, using(tipc_outside::proofs::Adding::gains_none))]
     pub(crate) fn answer(
         &mut self,
         alloc: Global,
@@ -273,6 +275,7 @@ impl LinkEnds {
     }
 
     /// The near link's bearer is cut: a link that is up goes down, and is held where the far link is up.
+    #[tactic(auto, using(tipc_outside::proofs::Adding::gains_none))]
     fn cut_link(&mut self, alloc: Global, event: &mut Leaving) -> Result<(), NoMemory>
         ensures after { OnOk result (self.new ≡ (cut_at self.old self.old.near).pair) }
         ensures adds { OnOk result (AddsCourse event.old event.new (cut_at self.old self.old.near)) }
@@ -323,6 +326,7 @@ impl LinkEnds {
     }
 
     /// A tick of the near link.
+    #[tactic(auto, using(tipc_outside::proofs::Adding::gains_none))]
     fn tick_near(
         &mut self,
         alloc: Global,
@@ -336,7 +340,7 @@ impl LinkEnds {
         let Some(link) = &mut self.near else {
             return Ok(());
         };
-        let change = link.tick(alloc, held, shown, &mut event.states);
+        let change = link.tick(alloc, held, shown, &mut event.out);
         self.follow(alloc, change, 0, event)
     }
 }

@@ -3,11 +3,11 @@
 ghost use Rattle.std.specs.Prelude.{◌≡◌, ℕ, ◌≤◌, ◌<◌, [], true, false, Some, None, Err, All, List, length, IfOk, OnErr, OnOk};
 ghost use Rattle.tipc_header.specs.Grammar.{Fits};
 ghost use Rattle.tipc_header.specs.Spelling.{view};
-ghost use Rattle.tipc_outside.specs.Frames.{Adds};
+ghost use Rattle.tipc_outside.specs.Frames.{Adds, Gains};
 ghost use Rattle.tipc_outside.specs.declared.outgoing.Outgoing.{Outgoing};
 ghost use Rattle.tipc_contact.specs.declared.contact.Standing.TheVariants as standing;
 ghost use Rattle.tipc_link.specs.Sessions.{SessionEnd};
-ghost use Rattle.tipc_pair.specs.Courses.{Course, sent_in};
+ghost use Rattle.tipc_pair.specs.Courses.{Course, made_in, sent_in};
 
 use crate::changes::{Incoming, PairArrival, PairOutcome};
 use crate::leaving::Leaving;
@@ -122,7 +122,7 @@ impl Pair {
     pub fn mend(&mut self, alloc: Global, bearer: u8, out: &mut Outbox)
         requires { bearer ≤ 1 }
         ensures after { self.new ≡ (at_bearer bearer self.old mended).pair }
-        ensures frames { Adds out.old out.new (sent_in (at_bearer bearer self.old mended)) }
+        ensures frames { Gains out.old out.new (made_in (at_bearer bearer self.old mended)) }
     {
         self.ends.face(bearer);
         self.ends.mend(alloc, out);
@@ -144,7 +144,7 @@ impl Pair {
         requires { bearer ≤ 1 }
         ensures after { OnOk result (self.new ≡ (at_bearer bearer self.old cut_near).pair) }
         ensures changes { IfOk result (λ changes. changes ≡ (at_bearer bearer self.old cut_near).changes) }
-        ensures frames { OnOk result (Adds out.old out.new (sent_in (at_bearer bearer self.old cut_near))) }
+        ensures frames { OnOk result (Gains out.old out.new (made_in (at_bearer bearer self.old cut_near))) }
         // The contact ends only where no link is up.
         ensures goes_on { in_contact self.old ≡ true → OnOk result (in_contact self.new ≡ true →
             self.new.contact ≡ self.old.contact) }
@@ -152,33 +152,6 @@ impl Pair {
     {
         let event = self.cut_ends(alloc, bearer)?;
         Ok(event.leave(out))
-    }
-
-    /// As [`Pair::cut`], with the frames in two boxes, so that others may leave between them: `states` gets those of link states and of
-    /// repeated packets, `numbered` those of packets that are numbered then.
-    ///
-    /// # Errors
-    ///
-    /// Where memory runs out. Nothing is changed then.
-    pub fn cut_apart(
-        &mut self,
-        alloc: Global,
-        bearer: u8,
-        states: &mut Outbox,
-        numbered: &mut Outbox,
-    ) -> Result<TransitionList, NoMemory>
-        requires { bearer ≤ 1 }
-        ensures after { OnOk result (self.new ≡ (at_bearer bearer self.old cut_near).pair) }
-        ensures changes { IfOk result (λ changes. changes ≡ (at_bearer bearer self.old cut_near).changes) }
-        ensures states { OnOk result (Adds states.old states.new (at_bearer bearer self.old cut_near).states) }
-        ensures numbered { OnOk result (Adds numbered.old numbered.new (at_bearer bearer self.old cut_near).numbered) }
-        // The contact ends only where no link is up.
-        ensures goes_on { in_contact self.old ≡ true → OnOk result (in_contact self.new ≡ true →
-            self.new.contact ≡ self.old.contact) }
-        ensures err { OnErr result ((self.new ≡ self.old) × (states.new ≡ states.old) × (numbered.new ≡ numbered.old)) }
-    {
-        let event = self.cut_ends(alloc, bearer)?;
-        Ok(event.leave_apart(states, numbered))
     }
 
     /// A bearer is cut, and this leaves with it.
@@ -213,7 +186,7 @@ impl Pair {
     ) -> Result<TransitionList, NoMemory>
         ensures after { OnOk result (self.new ≡ (ticked shown self.old).pair) }
         ensures changes { IfOk result (λ changes. changes ≡ (ticked shown self.old).changes) }
-        ensures frames { OnOk result (Adds out.old out.new (sent_in (ticked shown self.old))) }
+        ensures frames { OnOk result (Gains out.old out.new (made_in (ticked shown self.old))) }
         // The contact ends only where no link is up.
         ensures goes_on { in_contact self.old ≡ true → OnOk result (in_contact self.new ≡ true →
             self.new.contact ≡ self.old.contact) }
@@ -221,31 +194,6 @@ impl Pair {
     {
         let event = self.tick_ends(alloc, shown)?;
         Ok(event.leave(out))
-    }
-
-    /// As [`Pair::tick`], with the frames in two boxes, as of [`Pair::cut_apart`].
-    ///
-    /// # Errors
-    ///
-    /// Where memory runs out. Nothing is changed then.
-    pub fn tick_apart(
-        &mut self,
-        alloc: Global,
-        shown: BroadcastState,
-        states: &mut Outbox,
-        numbered: &mut Outbox,
-    ) -> Result<TransitionList, NoMemory>
-        ensures after { OnOk result (self.new ≡ (ticked shown self.old).pair) }
-        ensures changes { IfOk result (λ changes. changes ≡ (ticked shown self.old).changes) }
-        ensures states { OnOk result (Adds states.old states.new (ticked shown self.old).states) }
-        ensures numbered { OnOk result (Adds numbered.old numbered.new (ticked shown self.old).numbered) }
-        // The contact ends only where no link is up.
-        ensures goes_on { in_contact self.old ≡ true → OnOk result (in_contact self.new ≡ true →
-            self.new.contact ≡ self.old.contact) }
-        ensures err { OnErr result ((self.new ≡ self.old) × (states.new ≡ states.old) × (numbered.new ≡ numbered.old)) }
-    {
-        let event = self.tick_ends(alloc, shown)?;
-        Ok(event.leave_apart(states, numbered))
     }
 
     /// A tick of both links, and this leaves with it.
@@ -315,7 +263,7 @@ impl Pair {
         ensures ok { IfOk result (λ a. (c : Course) ×
             Arrives (facing bearer self.old) incoming.now.sender_epoch incoming.now.receiver_epoch
             (view incoming.now.packet) incoming.now.by incoming.now.shown c a.outcome ×
-            (self.new ≡ facing 0 c.pair) × (a.changes ≡ c.changes) × Adds out.old out.new (sent_in c)) }
+            (self.new ≡ facing 0 c.pair) × (a.changes ≡ c.changes) × Gains out.old out.new (made_in c)) }
         // The contact ends only where no link is up, or the peer showed a higher contact number.
         ensures goes_on { in_contact self.old ≡ true → OnOk result (in_contact self.new ≡ true →
             self.new.seen ≡ self.old.seen →
@@ -369,7 +317,7 @@ impl Pair {
         requires { (es : ℕ) × (er : ℕ) × (by : ℕ) × Prepares self.old es er (view packet.now) by shown arriving }
         ensures arrives { (es er by : ℕ) → Prepares self.old es er (view packet.now) by shown arriving → (c : Course) ×
             Arrives (facing arriving.bearer self.old) es er (view packet.now) by shown c result.outcome ×
-            (self.new ≡ facing 0 c.pair) × (result.changes ≡ c.changes) × Adds out.old out.new (sent_in c) }
+            (self.new ≡ facing 0 c.pair) × (result.changes ≡ c.changes) × Gains out.old out.new (made_in c) }
         ensures outcome { result.outcome ≡ arriving.outcome }
         ensures changes { result.changes ≡ changes_of arriving.way }
         // The contact ends only where no link is up, or the peer showed a higher contact number.

@@ -281,14 +281,7 @@ impl LinkEnds {
         let Some(link) = &mut self.near else {
             unreachable!()
         };
-        link.commit_apart(
-            alloc,
-            arriving,
-            packet,
-            shown,
-            &mut event.states,
-            &mut event.numbered,
-        );
+        link.commit(alloc, arriving, packet, shown, &mut event.out);
         self.reassembly = reassembly;
     }
 

@@ -2,6 +2,7 @@
 
 ghost use Rattle.std.specs.Prelude.{◌≡◌, ◌≤◌, ◌<◌, ◌^◌, ◌++◌, [], false, filter, length, not, All, IfOk, OnErr, OnOk};
 ghost use Rattle.tipc_types.specs.declared.packet_lists.Kept.{Kept};
+ghost use Rattle.tipc_types.specs.Limits.{most_packet_bytes};
 ghost use Rattle.tipc_link.specs.Records.{is_tunnel};
 ghost use Rattle.tipc_header.specs.Spelling.{spelling};
 ghost use Rattle.tipc_tunnel.specs.Tunnels.{numbered, tunnel_packet, IsTunnellable, IsRun, MayBeWrapped};
@@ -57,7 +58,7 @@ fn tunnel_of(
     requires bearer { bearer ≤ 1 }
     requires run { IsRun count number inner.now }
     requires inner { MayBeWrapped inner.now }
-    requires size { length inner.now ≤ 1452 }
+    requires size { length inner.now ≤ most_packet_bytes }
     ensures bytes { IfOk result (λ bytes. bytes ≡ spelling (tunnel_packet (record {
       kind = kind;
       old = record { bearer = bearer; epoch = epoch };

@@ -71,43 +71,51 @@ impl Node {
         frame: &Outgoing,
         reply: Option<u8>,
     ) -> Result<PairArrival, Fail> {
+        let mut event = Outbox::new(alloc);
         let arrival = if frame.bearer == 0 {
-            self.prepare_and_commit(alloc, frame)?
+            self.prepare_and_commit(alloc, frame, &mut event)?
         } else {
-            self.arrive(alloc, frame)?
+            self.arrive(alloc, frame, &mut event)?
         };
         if let Some(byte) = reply {
-            self.send(alloc, byte)?;
+            self.put(alloc, byte, &mut event)?;
         }
         let bearer = place(frame.bearer);
         self.pair
-            .answer(alloc, bearer, 0, false, NO_BROADCAST, &mut self.sent);
+            .answer(alloc, bearer, 0, false, NO_BROADCAST, &mut event);
+        self.sent.append(event);
         Ok(arrival)
     }
 
     /// A frame arrives on bearer 1, in one call.
-    fn arrive(&mut self, alloc: Global, frame: &Outgoing) -> Result<PairArrival, Fail> {
+    fn arrive(
+        &mut self,
+        alloc: Global,
+        frame: &Outgoing,
+        event: &mut Outbox,
+    ) -> Result<PairArrival, Fail> {
         let opened = open_frame(frame.frame.as_slice()).ok_or("no frame")?;
         let packet = decode(opened.packet).ok().ok_or("no packet")?;
         let incoming = incoming(&opened, packet);
-        let arrival = self.pair.arrive(alloc, 1, &incoming, &mut self.sent)?;
+        let arrival = self.pair.arrive(alloc, 1, &incoming, event)?;
         Ok(arrival)
     }
 
     /// A frame arrives on bearer 0, and it is told before what it gives.
-    fn prepare_and_commit(&mut self, alloc: Global, frame: &Outgoing) -> Result<PairArrival, Fail> {
+    fn prepare_and_commit(
+        &mut self,
+        alloc: Global,
+        frame: &Outgoing,
+        event: &mut Outbox,
+    ) -> Result<PairArrival, Fail> {
         let opened = open_frame(frame.frame.as_slice()).ok_or("no frame")?;
         let packet = decode(opened.packet).ok().ok_or("no packet")?;
         let incoming = incoming(&opened, packet);
         let arriving = self.pair.prepare(alloc, 0, &incoming)?;
         let told = arriving.outcome().clone()?;
-        let arrival = self.pair.commit(
-            alloc,
-            arriving,
-            &incoming.packet,
-            incoming.shown,
-            &mut self.sent,
-        );
+        let arrival = self
+            .pair
+            .commit(alloc, arriving, &incoming.packet, incoming.shown, event);
         if arrival.outcome != told {
             return Err("another outcome than was told".into());
         }
@@ -116,54 +124,49 @@ impl Node {
 
     /// Sends a message of one byte, this one.
     fn send(&mut self, alloc: Global, byte: u8) -> Result<(), Fail> {
+        let mut event = Outbox::new(alloc);
+        self.put(alloc, byte, &mut event)?;
+        self.sent.append(event);
+        Ok(())
+    }
+
+    /// Puts a message of one byte, this one, on the active link.
+    fn put(&mut self, alloc: Global, byte: u8, event: &mut Outbox) -> Result<(), Fail> {
         if self.pair.contact().is_none() {
             return Err("no contact".into());
         }
         let mut pieces = Pieces::new(alloc);
         pieces.push(message(alloc, byte)?)?;
-        let sent = self.pair.send(alloc, pieces, 50, &mut self.sent);
+        let sent = self.pair.send(alloc, pieces, 50, event);
         sent.ok().ok_or("refused")?;
         Ok(())
+    }
+
+    /// The bearer is mended.
+    fn mend(&mut self, alloc: Global, bearer: u8)
+        requires { bearer ≤ 1 }
+    {
+        let mut event = Outbox::new(alloc);
+        self.pair.mend(alloc, bearer, &mut event);
+        self.sent.append(event);
     }
 
     /// The bearer is cut, and its link goes down.
     fn lose(&mut self, alloc: Global, bearer: u8) -> Result<Option<Transition>, Fail>
         requires { bearer ≤ 1 }
     {
-        let changes = self.pair.cut(alloc, bearer, &mut self.sent)?;
+        let mut event = Outbox::new(alloc);
+        let changes = self.pair.cut(alloc, bearer, &mut event)?;
+        self.sent.append(event);
         Ok(changes.as_slice().first().copied())
     }
 
-    /// The same, with the frames in two boxes.
-    fn lose_apart(&mut self, alloc: Global, bearer: u8) -> Result<Option<Transition>, Fail>
-        requires { bearer ≤ 1 }
-    {
-        let mut states = Outbox::new(alloc);
-        let mut numbered = Outbox::new(alloc);
-        let changes = self
-            .pair
-            .cut_apart(alloc, bearer, &mut states, &mut numbered)?;
-        self.leave(states);
-        self.leave(numbered);
-        Ok(changes.as_slice().first().copied())
-    }
-
-    /// A tick passes, with the frames in two boxes.
-    fn tick_apart(&mut self, alloc: Global) -> Result<(), Fail> {
-        let mut states = Outbox::new(alloc);
-        let mut numbered = Outbox::new(alloc);
-        self.pair
-            .tick_apart(alloc, NO_BROADCAST, &mut states, &mut numbered)?;
-        self.leave(states);
-        self.leave(numbered);
+    /// A tick passes.
+    fn tick(&mut self, alloc: Global) -> Result<(), Fail> {
+        let mut event = Outbox::new(alloc);
+        self.pair.tick(alloc, NO_BROADCAST, &mut event)?;
+        self.sent.append(event);
         Ok(())
-    }
-
-    /// The frames of a box are sent.
-    fn leave(&mut self, frames: Outbox) {
-        for frame in frames.into_frames() {
-            self.sent.push(frame.bearer, frame.to, frame.frame);
-        }
     }
 }
 
@@ -326,7 +329,7 @@ impl Nodes {
             Step::Mend(bearer) => self.mend(alloc, bearer),
             Step::Send(byte) => self.left.send(alloc, byte)?,
             Step::CutLeft(bearer) => self.told = self.left.lose(alloc, place(bearer))?,
-            Step::CutRight(bearer) => self.told = self.right.lose_apart(alloc, place(bearer))?,
+            Step::CutRight(bearer) => self.told = self.right.lose(alloc, place(bearer))?,
             Step::Tick => self.tick(alloc)?,
             Step::Reply(byte) => {
                 self.one_to_right(alloc, Some(byte))?;
@@ -350,19 +353,13 @@ impl Nodes {
     }
 
     fn mend(&mut self, alloc: Global, bearer: u8) {
-        self.left
-            .pair
-            .mend(alloc, place(bearer), &mut self.left.sent);
-        self.right
-            .pair
-            .mend(alloc, place(bearer), &mut self.right.sent);
+        self.left.mend(alloc, place(bearer));
+        self.right.mend(alloc, place(bearer));
     }
 
     fn tick(&mut self, alloc: Global) -> Result<(), Fail> {
-        self.left
-            .pair
-            .tick(alloc, NO_BROADCAST, &mut self.left.sent)?;
-        self.right.tick_apart(alloc)
+        self.left.tick(alloc)?;
+        self.right.tick(alloc)
     }
 
     /// Whether what a step says is so, where it says what is seen.

@@ -3,6 +3,7 @@ use Rattle.std.specs.Prelude.{[], ◌+◌, ◌<◌, ◌^◌, ◌≡◌, ◌≢�
 use Rattle.tipc_types.specs.LinkStates.{is_up}
 use Rattle.tipc_types.specs.Position.{number_of}
 use Rattle.tipc_types.specs.Prefixes.{IsPrefixOf}
+use Rattle.tipc_types.specs.Limits.{window_size}
 use Rattle.tipc_header.specs.Frames.{frame_of, sent_as}
 use Rattle.tipc_header.specs.Grammar.{Fits}
 use Rattle.tipc_header.specs.Spelling.{Fields, spelling}
@@ -96,7 +97,7 @@ pub record IsWire (own : ℕ) (w v : Wire) : Type 0 where
   pub unborn : (epoch : ℕ) → w.begun epoch ≡ None → w.line epoch ≡ []
   pub packets : (epoch k : ℕ) (bytes : List ℕ) → slice_get (w.line epoch) k ≡ Some bytes → IsPacket own bytes
   -- in each session at most 50 packets were numbered behind those that the peer took, also once it is over
-  pub window : (epoch : ℕ) → length (w.line epoch) ≤ length (v.got epoch) + 50
+  pub window : (epoch : ℕ) → length (w.line epoch) ≤ length (v.got epoch) + window_size
   -- what was taken of a session of the peer is a prefix of what the peer numbered in it
   pub prefix : (epoch : ℕ) → IsPrefixOf (w.got epoch) (v.line epoch)
   pub going : (s : SessionEnd) → session_on w ≡ Some s → IsGoing own w v s
@@ -141,12 +142,12 @@ pub record IsOfSession (w v : Wire) (f : Frame) (es er : ℕ) (p : Fields) : Typ
   pub told : ℕ
   pub told_is : p.acknowledgement ≡ number_of told
   pub told_taken : told ≤ length (w.got er)
-  pub told_recent : f.peer_numbered ≤ told + 50
+  pub told_recent : f.peer_numbered ≤ told + window_size
   pub told_met : (told ≡ 0) ⊎ IsWith v er es
   -- what it carries was numbered in the session, and but for 50 packets the receiver had taken what was numbered
   pub carried : (number : ℕ) (bytes : List ℕ) → content_of p ≡ Carries number bytes
       → IsCarried (w.line es) f.numbered number bytes
-  pub recent : f.numbered ≤ length (v.got es) + 50
+  pub recent : f.numbered ≤ length (v.got es) + window_size
 
 -- a frame is an envelope and a packet of its node
 pub record IsFrame (own : ℕ) (w v : Wire) (f : Frame) : Type 0 where

@@ -1,6 +1,7 @@
 -- A node as one of the two of a pair: what it keeps of its peer, and all that happened on their links, by bearer and session.
 use Rattle.std.specs.Prelude.{◌≡◌, ℕ, false, ◌==◌, List, [], ◌∷◌, ◌++◌, Option, Some, None, map, option_map, if◌then◌else◌}
 use Rattle.tipc_types.specs.LinkStates.{is_up}
+use Rattle.tipc_header.specs.Frames.{first_of}
 use Rattle.tipc_header.specs.Reading.{long_at}
 use Rattle.tipc_link_fsm.specs.Table.{Fsm}
 use Rattle.tipc_contact.specs.Sides.{Notice, Side}
@@ -55,9 +56,9 @@ unused = record { end = None; begun = λ epoch. None; line = λ epoch. []; got =
 
 -- ---- look-ups
 
--- the epochs of an envelope
+-- the first epoch of an envelope: the sender's
 abbrev pub es_of : List ℕ → ℕ
-es_of bytes = long_at 0 bytes
+es_of bytes = first_of bytes
 
 -- the second epoch of an envelope: the receiver's, as the sender knew it
 abbrev pub er_of : List ℕ → ℕ

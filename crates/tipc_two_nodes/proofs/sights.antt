@@ -18,4 +18,5 @@ pub mod Holding
 pub mod Truth
 pub mod Reaching
 pub mod Ordered
+pub mod HeardIn
 pub mod Meeting

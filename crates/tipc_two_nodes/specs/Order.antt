@@ -2,15 +2,20 @@
 -- one for a younger.
 use Rattle.std.specs.Prelude.{◌≡◌, ◌<◌, ◌≤◌, ◌⊎◌, ℕ, ◌^◌, true, false, List, [], ◌∷◌, ◌++◌, Some, slice_get}
 use Rattle.tipc_types.specs.LinkStates.{is_up}
+use Rattle.tipc_types.specs.declared.link_words.BroadcastState.{BroadcastState}
+use Rattle.tipc_types.specs.declared.link_words.Why.TheVariants as why
 use Rattle.tipc_header.specs.Frames.{frame_of}
 use Rattle.tipc_header.specs.Grammar.{Fits}
 use Rattle.tipc_header.specs.Spelling.{Fields, spelling}
 use Rattle.tipc_link.specs.Links.{LinkEnd, is_traffic}
-use Rattle.tipc_pair.specs.Facing.{in_contact}
+use Rattle.tipc_link.specs.Parts.{IsShowable}
+use Rattle.tipc_pair.specs.declared.changes.PairOutcome.{PairOutcome}
+use Rattle.tipc_pair.specs.Facing.{PairEnds, in_contact}
+use Rattle.tipc_pair.specs.PairTurns.{Happened, Opening, Outset}
 use Rattle.tipc_paired.specs.Views.{Frame}
 use Rattle.tipc_two_nodes.specs.Carriages.{BeganIn}
 use Rattle.tipc_two_nodes.specs.Reaching.{Steps}
-use Rattle.tipc_two_nodes.specs.Sights.{AreSeen, Sight, pair_seen}
+use Rattle.tipc_two_nodes.specs.Sights.{AreSeen, Comes, Sight, pair_seen}
 use Rattle.tipc_two_nodes.specs.Talkers.{Talker}
 
 -- ---- the contacts that a node was in
@@ -57,6 +62,17 @@ pub record IsUpUnder (v : Sight) (bearer own peer : ℕ) : Type 0 where
   pub up : is_up end.fsm.state ≡ true
   pub own_is : end.fsm.own ≡ own
   pub peer_is : end.fsm.peer ≡ Some peer
+
+-- the pair didn't ignore a packet for want of a link end, or as one of another session
+pub record WasHeard (given : PairOutcome) : Type 0 where
+  pub unknown : given ≡ PairOutcome.Ignored why.Unknown → ⊥
+  pub epoch : given ≡ PairOutcome.Ignored why.Epoch → ⊥
+
+-- the pair is in the contact in which the frame was told
+pub record IsOfPresent (f : Frame) (x : PairEnds) : Type 0 where
+  pub there : in_contact x ≡ true
+  pub theirs : f.contact ≡ x.seen
+  pub own : f.peer_contact ≡ x.contact
 
 -- ---- what holds, whatever either does
 
@@ -105,7 +121,13 @@ EnteredNotYounger = (v w : Sight) (here there : List Contact) (k : ℕ) (c : Con
     → slice_get here k ≡ Some c → in_contact (pair_seen w) ≡ true → (c.own ≤ w.node.seen) × (c.theirs ≤ w.node.contact)
 
 -- A STATE or a numbered packet of the session in which a link is up was told in the contact in which the node is.
-abbrev pub HeardInContact : Type 0
-HeardInContact = (v w : Sight) (bearer es er : ℕ) (p : Fields) (f : Frame) → AreSeen v w → IsInAir w bearer es er p f
+abbrev pub SessionInContact : Type 0
+SessionInContact = (v w : Sight) (bearer es er : ℕ) (p : Fields) (f : Frame) → AreSeen v w → IsInAir w bearer es er p f
     → is_traffic p.header ≡ true → IsUpUnder v bearer er es
     → (f.contact ≡ v.node.seen) × (f.peer_contact ≡ v.node.contact)
+
+-- So was one that arrives and that the pair hears: then the pair is in the contact in which it was told.
+abbrev pub HeardInContact : Type 0
+HeardInContact = (v w : Sight) (bearer es er : ℕ) (p : Fields) (by : ℕ) (shown : BroadcastState) (o : Outset) → AreSeen v w
+    → bearer ≤ 1 → (c : Comes v w bearer es er p) → IsShowable shown → is_traffic p.header ≡ true
+    → Happened (pair_seen v) (Opening.hears bearer es er p by shown) o → WasHeard o.given → IsOfPresent c.frame o.course.pair

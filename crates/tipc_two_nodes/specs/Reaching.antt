@@ -6,7 +6,7 @@ use Rattle.tipc_reassembly.specs.Slots.{packets_in}
 use Rattle.tipc_pair.specs.Facing.{PairEnds}
 use Rattle.tipc_pair.specs.PairTurns.{Opening, PairTurn, Reply, ShowsAtLast, ShowsIn}
 use Rattle.tipc_pair.specs.Messages.{IsMessage, opened_in}
-use Rattle.tipc_two_nodes.specs.Sights.{AreSeen, Goes, IsNew, MayHappen, Restarts, Sight, pair_seen}
+use Rattle.tipc_two_nodes.specs.Sights.{AreSeen, PairBecomes, IsNew, MayHappen, Restarts, Sight, pair_seen}
 
 -- A step of v beside w: it takes a turn at its pair, whatever happens there first and whatever is put, or is restarted.
 pub data Steps (v w : Sight) : Sight → Type 0 where
@@ -14,7 +14,7 @@ pub data Steps (v w : Sight) : Sight → Type 0 where
       (frames : List Outgoing)
       → MayHappen v w opening → ShowsIn opening → ShowsAtLast reply → All (IsMessage v.node.own) messages
       → (t : PairTurn (pair_seen v) opening messages reply x frames)
-      → Goes v v' w x frames messages (packets_in (opened_in t.first.given)) → Steps v w v'
+      → PairBecomes v v' w x frames messages (packets_in (opened_in t.first.given)) → Steps v w v'
   restarts : (v' : Sight) → Restarts v v' → v.node.boot + 1 < 2 ^ 32 → Steps v w v'
 
 -- the two nodes at the beginning, or after any steps of either

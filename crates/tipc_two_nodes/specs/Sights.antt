@@ -3,6 +3,7 @@
 -- were lost.
 use Rattle.std.specs.Prelude.{◌≡◌, ◌<◌, ◌≤◌, ◌⊎◌, ℕ, ◌+◌, ◌^◌, ◌==◌, ◌&&◌, true, All, List, [], ◌++◌, Option, Some, None, length, slice_get, if◌then◌else◌}
 use Rattle.tipc_types.specs.Prefixes.{IsPrefixOf}
+use Rattle.tipc_types.specs.Limits.{most_age, window_size}
 use Rattle.tipc_outside.specs.declared.outgoing.Outgoing.{Outgoing}
 use Rattle.tipc_header.specs.Frames.{frame_of}
 use Rattle.tipc_header.specs.Grammar.{Fits}
@@ -55,7 +56,7 @@ pub record WasTold (x : View) (f : Frame) : Type 0 where
   pub bearer_is : frame.bearer ≡ f.bearer
   pub two_bearers : f.bearer ≤ 1
   pub bytes : frame.bytes ≡ f.bytes
-  pub numbered : f.numbered ≤ frame.numbered + 50
+  pub numbered : f.numbered ≤ frame.numbered + window_size
   pub peer_numbered : f.peer_numbered ≤ frame.peer_numbered
   pub contact : (es er : ℕ) (p : Fields) → Fits p → frame.bytes ≡ frame_of es er (spelling p)
       → is_traffic p.header ≡ true
@@ -118,7 +119,7 @@ IsSent v v' w frames f = ((place : ℕ) × (slice_get v.sent place ≡ Some f))
 
 -- The pair of v became x. These messages were put, and these given, in the contact whose numbers the node has after
 -- it. Some of these frames, or all of them, came into the air, each on its own bearer.
-pub record Goes (v v' w : Sight) (x : PairEnds) (frames : List Outgoing) (put given : List (List ℕ)) : Type 0 where
+pub record PairBecomes (v v' w : Sight) (x : PairEnds) (frames : List Outgoing) (put given : List (List ℕ)) : Type 0 where
   pub node : v'.node ≡ node_with v.node x
   pub first : v'.ends 0 ≡ (facing 0 x).near
   pub second : v'.ends 1 ≡ (facing 1 x).near
@@ -173,8 +174,8 @@ pub record Comes (v w : Sight) (bearer es er : ℕ) (p : Fields) : Type 0 where
   pub er_fits : er < 2 ^ 64
   pub fits : Fits p
   pub bytes : frame.bytes ≡ frame_of es er (spelling p)
-  pub own_fresh : is_traffic p.header ≡ true → v.numbered bearer er ≤ frame.peer_numbered + 30000
-  pub peer_fresh : is_traffic p.header ≡ true → w.numbered bearer es ≤ frame.numbered + 30000
+  pub own_fresh : is_traffic p.header ≡ true → v.numbered bearer er ≤ frame.peer_numbered + most_age
+  pub peer_fresh : is_traffic p.header ≡ true → w.numbered bearer es ≤ frame.numbered + most_age
 
 -- What happens is at one of the two bearers: an end is made where there is none, and what is heard comes out of the
 -- air.
@@ -230,7 +231,7 @@ TurnsSeen = (v v' w : Sight) (opening : Opening) (messages : List (List ℕ)) (r
     (frames : List Outgoing)
     → AreSeen v w → MayHappen v w opening → ShowsIn opening → ShowsAtLast reply → All (IsMessage v.node.own) messages
     → (t : PairTurn (pair_seen v) opening messages reply x frames)
-    → Goes v v' w x frames messages (packets_in (opened_in t.first.given))
+    → PairBecomes v v' w x frames messages (packets_in (opened_in t.first.given))
     → AreSeen v' w
 
 -- what happens first in a turn gives this, before the node has taken it

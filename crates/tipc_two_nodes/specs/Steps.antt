@@ -3,7 +3,7 @@ use Rattle.std.specs.Prelude.{◌≡◌, ◌<◌, ◌≤◌, ◌⊎◌, nat_lt, 
 use Rattle.tipc_link.specs.Records.{kept_for}
 use Rattle.tipc_link_fsm.specs.Table.{is_last}
 use Rattle.tipc_changeover.specs.Links.{First, Receiver, Reset, Sender, State}
-use Rattle.tipc_two_nodes.specs.links.Following.{Become, Takes}
+use Rattle.tipc_two_nodes.specs.links.Following.{Become, ReceiverFollows}
 use Rattle.tipc_two_nodes.specs.links.Receiving.{IsRecordFor, record_at}
 use Rattle.tipc_two_nodes.specs.links.Traffic.{Lines, Traffic}
 use Rattle.tipc_paired.specs.Views.{Begun, Frame, IsApart, View, epoch_on, es_of, put_at}
@@ -65,7 +65,7 @@ pub record Receives (y y' : View) (c : Carriage) : Type 0 where
   pub begun : (b epoch : ℕ) (g : Begun) → (y.wires b).begun epoch ≡ Some g → (y'.wires b).begun epoch ≡ Some g
   pub present : IsPresent y' y.node.contact y.node.seen → IsPresent y y.node.contact y.node.seen
   pub state : State
-  pub takes : Takes First c.state state
+  pub takes : ReceiverFollows First c.state state
   pub moved : (state ≡ c.state) ⊎ IsPresent y y.node.contact y.node.seen
   pub near : IsPresent y y.node.contact y.node.seen
       → IsRecordFor c.traffic.near (record_at (y'.wires 0).end) state.near_record

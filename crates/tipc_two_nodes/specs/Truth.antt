@@ -3,6 +3,7 @@
 use Rattle.std.specs.Prelude.{◌≡◌, ◌≤◌, ℕ, ◌+◌, true, not, All, List, [], ◌∷◌, Some, filter, length, map, slice_get, take}
 use Rattle.std.specs.List.{flat_map}
 use Rattle.tipc_types.specs.Position.{number_of}
+use Rattle.tipc_types.specs.Limits.{most_frame_bytes}
 use Rattle.tipc_header.specs.Frames.{frame_of}
 use Rattle.tipc_header.specs.Grammar.{Fits}
 use Rattle.tipc_header.specs.Spelling.{Fields, spelling}
@@ -97,4 +98,4 @@ TruthsSeen = (v w : Sight) → AreSeen v w → AreTrue v w
 
 -- Each frame in the air has at most 1,516 bytes, of which 16 are the envelope.
 abbrev pub FramesFit : Type 0
-FramesFit = (v w : Sight) (k : ℕ) (f : Frame) → AreSeen v w → slice_get v.sent k ≡ Some f → length f.bytes ≤ 1516
+FramesFit = (v w : Sight) (k : ℕ) (f : Frame) → AreSeen v w → slice_get v.sent k ≡ Some f → length f.bytes ≤ most_frame_bytes

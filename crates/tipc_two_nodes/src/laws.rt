@@ -1,6 +1,6 @@
 //! Laws of two nodes with a pair each. They do nothing when they run.
 
-ghost use Rattle.tipc_two_nodes.specs.Order.{BothInOne, EnteredNotYounger, EnteredPast, EnteredRise, EntersMet, HeardInContact, NoneMet, SeenNoHigher, StepsMet, TurnedMet};
+ghost use Rattle.tipc_two_nodes.specs.Order.{BothInOne, EnteredNotYounger, EnteredPast, EnteredRise, EntersMet, HeardInContact, NoneMet, SeenNoHigher, SessionInContact, StepsMet, TurnedMet};
 ghost use Rattle.tipc_two_nodes.specs.Reaching.{ReachedAreFronts, ReachedAreSeen};
 ghost use Rattle.tipc_two_nodes.specs.Sights.{EndsSeen, FramesSeen, FrontsSeen, GivesSeen, RestartsSeen, StartsSeen, TurnedSeen, TurnsSeen};
 ghost use Rattle.tipc_two_nodes.specs.Truth.{FramesFit, TruthsSeen};
@@ -23,8 +23,8 @@ pub fn two_nodes_are_seen()
 {}
 
 /// Two nodes that are seen to talk agree on the order of their contacts, whatever either does then: both in contact are in the same one; each contact
-/// that a node was in is older than its present one, and no younger than that of the other; and a STATE or a numbered packet of the session in which
-/// a link is up was told in the present contact.
+/// that a node was in is older than its present one, and no younger than that of the other; a STATE or a numbered packet of the session in which
+/// a link is up was told in the present contact; and so was one that a pair hears, in the contact in which the pair is after it.
 pub fn two_nodes_agree_on_their_contacts()
     ensures none { NoneMet }
     ensures turned { TurnedMet }
@@ -35,6 +35,7 @@ pub fn two_nodes_agree_on_their_contacts()
     ensures rise { EnteredRise }
     ensures past { EnteredPast }
     ensures no_younger { EnteredNotYounger }
+    ensures session { SessionInContact }
     ensures heard { HeardInContact }
 {}
 

@@ -157,7 +157,7 @@ MayHappen A x (hears bearer es er p by shown) = MayArrive A (facing bearer x) es
 pub record MayTurn (A : PairEnds → Act → Type 0) (x : PairEnds) (first : Opening) (messages : List (List ℕ)) (reply : Option Reply) : Type 0 where
   pub happens : MayHappen A x first
   pub puts : All (λ message. (y : PairEnds) → is_up_at y.near ≡ true → A y (putting (pieces_for message))) messages
-  pub answers : (r : Reply) → reply ≡ Some r → (y : PairEnds) → A y (answering 0 false r.shown)
+  pub answers : (r : Reply) → reply ≡ Some r → (y : PairEnds) → A y (answering r.taken r.asks r.shown)
 
 -- where an act may be done wherever a packet lets it be done
 pub hears_may : (A : PairEnds → Act → Type 0) (h : Header) (es er : ℕ) (p : Fields) (by : ℕ) (shown : BroadcastState) (x : PairEnds) → ((number : ℕ) → A x (counting number)) → ((y : PairEnds) → A y (resetting es shown))
@@ -447,9 +447,9 @@ module _ (A : PairEnds → Act → Type 0) where
       at None near = stays x
       at (Some e) near = acts x (answering taken asks shown) _ may (answered x e taken asks shown near)
 
-  pub replied_ran : (reply : Option Reply) (x : PairEnds) → x.bearer ≤ 1 → ((r : Reply) → reply ≡ Some r → (y : PairEnds) → A y (answering 0 false r.shown)) → Ran A x (replied reply x)
+  pub replied_ran : (reply : Option Reply) (x : PairEnds) → x.bearer ≤ 1 → ((r : Reply) → reply ≡ Some r → (y : PairEnds) → A y (answering r.taken r.asks r.shown)) → Ran A x (replied reply x)
   replied_ran None x two may = stays x
-  replied_ran (Some r) x two may = at_ran A r.bearer x (answered_near 0 false r.shown) two (answered_ran 0 false r.shown (facing r.bearer x) (may r refl (facing r.bearer x)))
+  replied_ran (Some r) x two may = at_ran A r.bearer x (answered_near r.taken r.asks r.shown) two (answered_ran r.taken r.asks r.shown (facing r.bearer x) (may r refl (facing r.bearer x)))
 
 -- the course of a whole turn
 abbrev pub turn_course : {x x' : PairEnds} {first : Opening} {messages : List (List ℕ)} {reply : Option Reply} {frames : List Outgoing} → PairTurn x first messages reply x' frames → Course
@@ -466,7 +466,7 @@ answered_none x (Some e) taken asks shown = refl
 
 replied_none : (reply : Option Reply) (x : PairEnds) → (replied reply x).changes ≡ []
 replied_none None x = refl
-replied_none (Some r) x = answered_none (facing r.bearer x) (facing r.bearer x).near 0 false r.shown
+replied_none (Some r) x = answered_none (facing r.bearer x) (facing r.bearer x).near r.taken r.asks r.shown
 
 pub turn_changes : (x x' : PairEnds) (first : Opening) (messages : List (List ℕ)) (reply : Option Reply) (frames : List Outgoing) (t : PairTurn x first messages reply x' frames) → (turn_course t).changes ≡ t.first.course.changes
 unfolding going_on

@@ -1,6 +1,6 @@
 -- What each act makes of a pair is as it tells, and so is what a packet that arrives makes of it.
 use Rattle.std.specs.Prelude.{◌||◌}
-use Rattle.std.proofs.Common.{◌≡◌, ◌==◌, ◌∙◌, ℕ, Bool, true, List, [], Some, is_some, refl, sym, ap}
+use Rattle.std.proofs.Common.{◌≡◌, ◌==◌, ◌∙◌, ℕ, Bool, true, List, [], Some, None, is_some, refl, sym, ap}
 use Rattle.tipc_types.specs.LinkStates.{is_up}
 use Rattle.tipc_types.specs.declared.link_words.BroadcastState.{BroadcastState}
 use Rattle.tipc_outside.specs.declared.outgoing.Outgoing.{Outgoing}
@@ -12,7 +12,7 @@ use Rattle.tipc_link.specs.Links.{LinkEnd, answered_with, mended_end, named_end,
 use Rattle.tipc_link.specs.Sessions.{flushed, with_record}
 use Rattle.tipc_pair.specs.Changeovers.{let_go}
 use Rattle.tipc_pair.specs.Courses.{Course, going_on}
-use Rattle.tipc_pair.specs.Facing.{PairEnds, is_up_at, with_near}
+use Rattle.tipc_pair.specs.Facing.{PairEnds, is_up_at, with_made, with_near}
 use Rattle.tipc_pair.specs.PairArrivals.{hears, inner_taken, inside_of}
 use Rattle.tipc_pair.proofs.acts.Acts.{Act, Acts, Ran, Steps}
 use Rattle.tipc_pair.proofs.acts.Acts.Act.{makes as making}
@@ -22,12 +22,12 @@ use Rattle.tipc_pair.proofs.acts.Acting.{hears_may, hears_ran}
 use Rattle.tipc_pair.proofs.acts.Walks.{Walk, walks, tested}
 use Rattle.tipc_pair.proofs.turns.CourseMoves.{follows, near_of, risen_runs, still_near}
 use Rattle.tipc_pair.proofs.turns.LinkMoves.{MovesTo, after_moves, arrival_moves, cut_moves, outcome_turns, release_moves, reset_turns, tick_turns, tunnel_moves}
-use Rattle.tipc_pair.proofs.turns.Moves.{Goes, IsApt, Runs, epochs_at, goes_turned, mapped_some, runs_on, same_contact, stays_itself, still_goes, turned_apt}
+use Rattle.tipc_pair.proofs.turns.Moves.{Goes, IsApt, Runs, epochs_at, goes_turned, mapped_some, runs_on, same_contact, stays_itself, still_goes, turned_apt, unknown_abreast}
 
--- no end is made
-abbrev pub Unmade : PairEnds → Act → Type 0
-Unmade x making = ⊥
-Unmade x other = Unit {0}
+-- an end is made only where there is none
+abbrev pub MadeNew : PairEnds → Act → Type 0
+MadeNew x making = x.near ≡ None
+MadeNew x other = Unit {0}
 
 abbrev Running : PairEnds → Course → Type 0
 Running x c = IsApt x → Runs x c
@@ -52,9 +52,15 @@ answered_so : (e : LinkEnd) (taken : ℕ) (asks : Bool) → ((answered_with e ta
 answered_so e taken asks = tested (λ (d : LinkEnd). (d.fsm ≡ e.fsm) × (d.bearer ≡ e.bearer) × (is_some e.session ≡ true → is_some d.session ≡ true)) (is_up e.fsm.state) _ _
     (λ _. (refl, refl, mapped_some _ e.session)) (λ _. (refl, refl, λ some. some))
 
-does : (x : PairEnds) (a : Act) (c : Course) → Unmade x a → Acts x a c → IsApt x → Runs x c
+does : (x : PairEnds) (a : Act) (c : Course) → MadeNew x a → Acts x a c → IsApt x → Runs x c
 unfolding going_on
-does _ _ _ may (made x) h = absurd may
+does _ _ _ may (made x) h = still_goes x (with_made x) (record {
+  apt = record { two = h.two; near = record { abreast = unknown_abreast _ refl; on = refl }; far = h.far };
+  bearer = refl;
+  contact = same_contact x (with_made x) (ap (λ b. b || is_up_at x.far) (ap is_up_at (sym may))) refl refl;
+  near = ap epochs_at (sym may);
+  far = refl;
+})
 does _ _ _ may (mended x e near) h = stays_so x e (mended_end e) h near refl refl (λ some. some)
 does _ _ _ may (moved x a e o e' states numbered epoch near step) h = follows x e e' o.change epoch h near (moves x a e o e' states numbered epoch h near step)
 does _ _ _ may (raised x number) h = risen_runs x number h
@@ -73,10 +79,10 @@ does _ _ _ may (put x e s pieces s' near has is) h = stays_so x e (with_session 
 does _ _ _ may (answered x e taken asks shown near) h = let s = answered_so e taken asks in stays_so x e (answered_with e taken asks) h near s.0 s.1 s.2
 
 -- so it is with a run of acts
-pub ran_runs : (x : PairEnds) (c : Course) → IsApt x → Ran Unmade x c → Runs x c
-ran_runs x c h run = walks Unmade Running w x c run h
+pub ran_runs : (x : PairEnds) (c : Course) → IsApt x → Ran MadeNew x c → Runs x c
+ran_runs x c h run = walks MadeNew Running w x c run h
   where
-    w : Walk Unmade Running
+    w : Walk MadeNew Running
     w = record {
       rests = λ y k. stays_itself y k;
       goes_on = λ y first step one two k. let a = one k in runs_on y first step a (two a.apt);
@@ -86,4 +92,4 @@ ran_runs x c h run = walks Unmade Running w x c run h
 
 -- a packet that arrives
 pub hears_runs : (t : Header) (x : PairEnds) (es er : ℕ) (p : Fields) (by : ℕ) (shown : BroadcastState) → IsApt x → Runs x (hears t es er p by shown x).course
-hears_runs t x es er p by shown h = ran_runs x _ h (hears_ran Unmade t es er p by shown x (hears_may Unmade t es er p by shown x (λ number. tt) (λ y. tt) (λ y. tt)))
+hears_runs t x es er p by shown h = ran_runs x _ h (hears_ran MadeNew t es er p by shown x (hears_may MadeNew t es er p by shown x (λ number. tt) (λ y. tt) (λ y. tt)))

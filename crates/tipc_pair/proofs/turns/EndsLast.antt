@@ -39,7 +39,7 @@ use Rattle.tipc_pair.specs.LinkReadings.{AreAbreast}
 use Rattle.tipc_pair.proofs.turns.ArrivalMoves.{hears_runs}
 use Rattle.tipc_pair.proofs.turns.Moves.{IsApt, abreast_apt, contact_by}
 use Rattle.tipc_pair.proofs.acts.Walks.{tested}
-use Rattle.tipc_pair.proofs.turns.TurnMoves.{MakesNone}
+use Rattle.tipc_pair.proofs.turns.TurnMoves.{made_changes}
 use Rattle.tipc_pair.proofs.turns.HeardReasons.{given_over, inner_none, last_change, over_by, plain_by, risen_changes, risen_over}
 use Rattle.tipc_link_fsm.proofs.Moves.{not_true}
 use Rattle.tipc_pair.proofs.turns.Reasons.{facing_apt}
@@ -281,11 +281,11 @@ ticked_last x shown first =
 -- ---- what happens first
 
 -- in any turn
-pub first_last : (x : PairEnds) (opening : Opening) (o : Outset) → AreAbreast x → MakesNone opening → Happened x opening o → EndsLast o.course.changes
-first_last x rests o abreast none is = subst (λ (u : Outset). EndsLast u.course.changes) (sym is) tt
-first_last x (makes bearer is_mended) o abreast none is = absurd none
-first_last x (mends bearer) o abreast none is = subst (λ (u : Outset). EndsLast u.course.changes) (sym is) tt
-first_last x (cuts bearer) o abreast none is = subst (λ (u : Outset). EndsLast u.course.changes) (sym is) (falls_last (facing bearer x) cause.Cut 0 (λ s. Unit {0}) (cut_near (facing bearer x)).changes (cuts_tell (facing bearer x)))
-first_last x (ticks shown) o abreast none is = subst (λ (u : Outset). EndsLast u.course.changes) (sym is) (ticked_last x shown abreast.first)
-first_last x (hears bearer es er p by shown) o abreast none is =
+pub first_last : (x : PairEnds) (opening : Opening) (o : Outset) → AreAbreast x → Happened x opening o → EndsLast o.course.changes
+first_last x rests o abreast is = subst (λ (u : Outset). EndsLast u.course.changes) (sym is) tt
+first_last x (makes bearer is_mended) o abreast is = subst (λ (u : Outset). EndsLast u.course.changes) (sym is) (subst EndsLast (sym (made_changes bearer is_mended x)) tt)
+first_last x (mends bearer) o abreast is = subst (λ (u : Outset). EndsLast u.course.changes) (sym is) tt
+first_last x (cuts bearer) o abreast is = subst (λ (u : Outset). EndsLast u.course.changes) (sym is) (falls_last (facing bearer x) cause.Cut 0 (λ s. Unit {0}) (cut_near (facing bearer x)).changes (cuts_tell (facing bearer x)))
+first_last x (ticks shown) o abreast is = subst (λ (u : Outset). EndsLast u.course.changes) (sym is) (ticked_last x shown abreast.first)
+first_last x (hears bearer es er p by shown) o abreast is =
     subst (λ (u : Outset). EndsLast u.course.changes) (sym is.3) (arrives_last (facing bearer x) es er p by shown is.0 is.1 (facing_apt bearer x (abreast_apt x abreast)) is.2)

@@ -17,7 +17,7 @@ use Rattle.tipc_pair.specs.Changeovers.{forgetting, let_go, parted, parted_end}
 use Rattle.tipc_pair.specs.Courses.{Course, going_on, rests as nothing}
 use Rattle.tipc_pair.specs.Facing.{PairEnds, ends_of, facing, is_up_at, made_of, other, turned, with_made}
 use Rattle.tipc_pair.specs.PairArrivals.{inside_of}
-use Rattle.tipc_pair.specs.PairTurns.{Opening, PairTurn, Reply}
+use Rattle.tipc_pair.specs.PairTurns.{MakesNew, Opening, PairTurn, Reply}
 use Rattle.tipc_pair.specs.PairTurns.Opening.{hears, makes, ticks}
 use Rattle.tipc_pair.specs.Runs.{left_by, taken_over}
 use Rattle.tipc_pair.proofs.EndSteps.{cut_quiet, tunnel_quiet}
@@ -60,11 +60,6 @@ May S show x (meeting es er p by shown) = IsShown S show shown
 May S show x (putting pieces) = is_up_at x.near ≡ true
 May S show x (answering taken asks shown) = IsShown S show shown
 May S show x other = Unit {0}
-
--- an end is made only where there is none
-abbrev pub MakesNew : PairEnds → Opening → Type 0
-MakesNew x (makes bearer is_mended) = (facing bearer x).near ≡ None
-MakesNew x other = Unit {0}
 
 abbrev Going : (S : Type 0) → (S → BroadcastState) → PairEnds → Course → Type 0
 Going S show x c = Both IsEndAt x → Under S show x c

@@ -33,13 +33,13 @@ use Rattle.tipc_pair.specs.declared.transitions.Transition.{Transition}
 use Rattle.tipc_pair.specs.declared.transitions.Transition.TheVariants.{ContactDown, ContactUp, LinkDown, LinkUp}
 use Rattle.tipc_pair.specs.Changeovers.{contact_ends, following, forgetting, forgotten, released, risen}
 use Rattle.tipc_pair.specs.Courses.{Course, going_on, rests as nothing}
-use Rattle.tipc_pair.specs.Facing.{PairEnds, other, facing, in_contact, is_up_at, turned, with_far, with_near}
+use Rattle.tipc_pair.specs.Facing.{PairEnds, other, facing, in_contact, is_up_at, turned, with_far, with_made, with_near}
 use Rattle.tipc_pair.specs.PairArrivals.{Arrives, Heard, OpensInto, Unwraps, activates, activate_higher, behind, by_number, hears as heard_by, inner_at, inner_taken, met_at, met_near, passing, reset_change, reset_given, reset_near, taken_down, tunnelled_at, with_begun, with_bytes}
 use Rattle.tipc_pair.specs.PairArrivals.OpensInto.{deferred, ignored, opens}
 use Rattle.tipc_pair.specs.PairArrivals.Unwraps.{as_it_is, none_taken, tunnel}
 use Rattle.tipc_pair.specs.PairCalls.{at_bearer, cut_at, cut_near, mended, mended_near, stepped, tick_at, tick_near, ticked}
 use Rattle.tipc_pair.specs.PairFacts.{IsEndOf, IsPairOfEnds}
-use Rattle.tipc_pair.specs.PairTurns.{Happened, Opening, Outset, quietly, seen_as}
+use Rattle.tipc_pair.specs.PairTurns.{Happened, MakesNew, Opening, Outset, made_near, quietly, seen_as}
 use Rattle.tipc_pair.specs.PairTurns.Opening.{cuts, hears, makes, mends, rests, ticks}
 use Rattle.tipc_pair.specs.Messages.{opened_in}
 use Rattle.tipc_pair.proofs.CourseLaws.{then_pair}
@@ -566,14 +566,20 @@ mended_still x (Some e) near = record { near = subst (λ o. AlikeAt o (Some (men
 mended_falls : (x : PairEnds) → x.bearer ≤ 1 → Falls x (mended x)
 mended_falls x two = falls_still x (mended x) (still_tells x (mended x) two refl (mended_still x x.near refl))
 
--- whether a packet arrives, and whether an end is made
+-- an end that is made tells nothing
+made_falls : (is_mended : Bool) (x : PairEnds) → x.bearer ≤ 1 → x.near ≡ None → Falls x (made_near is_mended x)
+unfolding going_on
+made_falls true x two new =
+    let made : AlikeAt x.near (mended (with_made x)).pair.near = subst (λ o. AlikeAt o (mended (with_made x)).pair.near) (sym new) (record { up = refl; epochs = refl }) in
+    falls_still x (made_near true x) (still_tells x (made_near true x) two refl (record { near = made; far = alike_itself x.far; contact = refl; seen = refl; bearer = refl }))
+made_falls false x two new =
+    let made : AlikeAt x.near (with_made x).near = subst (λ o. AlikeAt o (with_made x).near) (sym new) (record { up = refl; epochs = refl }) in
+    falls_still x (made_near false x) (still_tells x (made_near false x) two refl (record { near = made; far = alike_itself x.far; contact = refl; seen = refl; bearer = refl }))
+
+-- whether a packet arrives
 abbrev pub is_arrival : Opening → Bool
 is_arrival (hears bearer es er p by shown) = true
 is_arrival other = false
-
-abbrev pub is_making : Opening → Bool
-is_making (makes bearer is_mended) = true
-is_making other = false
 
 -- What happened first at a pair tells what is so. Only an arrival begins a contact.
 pub record HappenedSo (x : PairEnds) (opening : Opening) (o : Outset) : Type 0 where
@@ -584,16 +590,19 @@ pub record HappenedSo (x : PairEnds) (opening : Opening) (o : Outset) : Type 0 w
 fall_so : (x : PairEnds) (opening : Opening) (c : Course) → Falls x c → HappenedSo x opening (quietly c)
 fall_so x opening c f = record { tells = f.tells; falls = λ own. f.falls; lasts = λ g gs is. absurd (let wrong : [] ≡ g ∷ gs = is in cc) }
 
-pub happened_so : (x : PairEnds) (opening : Opening) (o : Outset) → On x → is_making opening ≡ false → Happened x opening o → HappenedSo x opening o
-happened_so x rests o h old is = subst (HappenedSo x rests) (sym is) (fall_so x rests (nothing x) (nothing_falls x h.two))
-happened_so x (makes bearer is_mended) o h old is = absurd (let wrong : true ≡ false = old in cc)
-happened_so x (mends bearer) o h old is =
+pub happened_so : (x : PairEnds) (opening : Opening) (o : Outset) → On x → MakesNew x opening → Happened x opening o → HappenedSo x opening o
+happened_so x rests o h new is = subst (HappenedSo x rests) (sym is) (fall_so x rests (nothing x) (nothing_falls x h.two))
+happened_so x (makes bearer is_mended) o h new is =
+    let there = both_facing OnBearer bearer x h in
+    subst (HappenedSo x (makes bearer is_mended)) (sym is)
+    (fall_so x (makes bearer is_mended) (at_bearer bearer x (made_near is_mended)) (at_falls bearer (made_near is_mended) x h.two (made_falls is_mended (facing bearer x) there.two new)))
+happened_so x (mends bearer) o h new is =
     let there = both_facing OnBearer bearer x h in
     subst (HappenedSo x (mends bearer)) (sym is) (fall_so x (mends bearer) (at_bearer bearer x mended) (at_falls bearer mended x h.two (mended_falls (facing bearer x) there.two)))
-happened_so x (cuts bearer) o h old is =
+happened_so x (cuts bearer) o h new is =
     subst (HappenedSo x (cuts bearer)) (sym is) (fall_so x (cuts bearer) (at_bearer bearer x cut_near) (at_falls bearer cut_near x h.two (cut_falls (facing bearer x) (both_facing OnBearer bearer x h))))
-happened_so x (ticks shown) o h old is = subst (HappenedSo x (ticks shown)) (sym is) (fall_so x (ticks shown) (ticked shown x) (ticked_falls shown x h))
-happened_so x (hears bearer es er p by shown) o h old is =
+happened_so x (ticks shown) o h new is = subst (HappenedSo x (ticks shown)) (sym is) (fall_so x (ticks shown) (ticked shown x) (ticked_falls shown x h))
+happened_so x (hears bearer es er p by shown) o h new is =
     let c = is.0 in
     let so = arrives_so (facing bearer x) es er p by shown c is.1 is.2 (both_facing OnBearer bearer x h) in
     let call : PairEnds → Course = λ y. c in

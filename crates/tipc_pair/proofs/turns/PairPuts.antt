@@ -107,7 +107,7 @@ answer_meets bearer x taken asks shown = meets_at bearer x (answered_near taken 
 
 pub replied_meets : (reply : Option Reply) (x : PairEnds) → MeetsAs x (replied reply x).pair
 replied_meets None x = meets_itself x
-replied_meets (Some r) x = answer_meets r.bearer x 0 false r.shown
+replied_meets (Some r) x = answer_meets r.bearer x r.taken r.asks r.shown
 
 -- ---- messages and then more of them
 

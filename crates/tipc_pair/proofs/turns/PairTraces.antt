@@ -160,7 +160,7 @@ module _ (P : ℕ → List ℕ → Type 0) where
 
   replied_by : (reply : Option Reply) (x : PairEnds) → PairBy P x → PairBy P (replied reply x).pair
   replied_by None x h = h
-  replied_by (Some r) x h = at_by r.bearer x (answered_near 0 false r.shown) (answered_ran (Came P) 0 false r.shown (facing r.bearer x) tt) h
+  replied_by (Some r) x h = at_by r.bearer x (answered_near r.taken r.asks r.shown) (answered_ran (Came P) r.taken r.asks r.shown (facing r.bearer x) tt) h
 
   puts_by : (x : PairEnds) (pieces : List (List ℕ)) (x' : PairEnds) (frames : List Outgoing) → PairBy P x → Puts x pieces x' frames → PairBy P x'
   puts_by x pieces x' frames h t = subst (PairBy P) (sym t.after) (near_by x _ h (flushed_by P t.end t.session t.put t.session_is (put_held t.session pieces t.put t.is_put) (some_by x.near t.end t.end_is h.near)))

@@ -34,7 +34,7 @@ use Rattle.tipc_pair.specs.PairArrivals.{Arrives, Heard, OpensInto, Unwraps, act
 use Rattle.tipc_pair.specs.PairArrivals.OpensInto.{deferred, ignored, opens}
 use Rattle.tipc_pair.specs.PairArrivals.Unwraps.{as_it_is, none_taken, tunnel}
 use Rattle.tipc_pair.specs.PairCalls.{at_bearer, cut_at, cut_near, mended, stepped, tick_at, tick_near, ticked}
-use Rattle.tipc_pair.specs.PairTurns.{Happened, Opening, Outset, seen_as, IsOnOne, IsTakenBy}
+use Rattle.tipc_pair.specs.PairTurns.{Happened, Opening, Outset, made_near, seen_as, IsOnOne, IsTakenBy}
 use Rattle.tipc_pair.specs.PairTurns.Opening.{cuts, hears, makes, mends, rests, ticks}
 use Rattle.tipc_pair.proofs.EndSteps.{cut_quiet, fsm_after, fsm_arrived, tunnel_quiet}
 use Rattle.tipc_pair.proofs.Facings.{facing_back, facing_two}
@@ -43,8 +43,8 @@ use Rattle.tipc_pair.specs.LinkReadings.{silence_in, silence_of}
 use Rattle.tipc_pair.proofs.turns.Moves.{down_silence}
 use Rattle.tipc_pair.proofs.acts.Walks.{tested}
 use Rattle.tipc_pair.proofs.turns.PairKept.{facing_bearer}
-use Rattle.tipc_pair.proofs.turns.TurnMoves.{MakesNone}
-use Rattle.tipc_pair.proofs.turns.Steady.{AreSteady, Ends, Steady, are_steady_itself, cut_near_steady, ends_facing, ends_here, ends_then, ends_there, mended_steady, met_steady, opens_steady, released_steady, risen_down, risen_steady, states_in, steady_facing, steady_then, stepped_steady, tick_near_steady}
+use Rattle.tipc_pair.proofs.turns.TurnMoves.{made_changes}
+use Rattle.tipc_pair.proofs.turns.Steady.{AreSteady, Ends, Steady, are_steady_itself, cut_near_steady, ends_facing, ends_here, ends_then, ends_there, made_steady, mended_steady, met_steady, opens_steady, released_steady, risen_down, risen_steady, states_in, steady_facing, steady_then, stepped_steady, tick_near_steady}
 
 -- ---- the silence of a link
 
@@ -552,17 +552,19 @@ heard_hushed x bearer c given two one h =
       λ is. zero (h.taken is),
     )
 
-pub opening_hushed : (x : PairEnds) (opening : Opening) (o : Outset) → x.bearer ≡ 0 → IsOnOne opening → MakesNone opening → Happened x opening o → IsHushed x opening o
-opening_hushed x rests o first one none is = subst (IsHushed x rests) (sym is) (record { ends = within_ends x x (are_steady_itself x); ups = tt; taken = λ taken. absurd taken })
-opening_hushed x (makes bearer is_mended) o first one none is = absurd none
-opening_hushed x (mends bearer) o first one none is =
+pub opening_hushed : (x : PairEnds) (opening : Opening) (o : Outset) → x.bearer ≡ 0 → IsOnOne opening → Happened x opening o → IsHushed x opening o
+opening_hushed x rests o first one is = subst (IsHushed x rests) (sym is) (record { ends = within_ends x x (are_steady_itself x); ups = tt; taken = λ taken. absurd taken })
+opening_hushed x (makes bearer is_mended) o first one is =
+    let two : x.bearer ≤ 1 = omega (arith, first) in
+    subst (IsHushed x (makes bearer is_mended)) (sym is) (record { ends = at_ends bearer x (made_near is_mended) two (made_steady is_mended (facing bearer x)); ups = subst (Ups _) (sym (made_changes bearer is_mended x)) tt; taken = λ taken. absurd taken })
+opening_hushed x (mends bearer) o first one is =
     let two : x.bearer ≤ 1 = omega (arith, first) in
     subst (IsHushed x (mends bearer)) (sym is) (record { ends = at_ends bearer x mended two (mended_steady (facing bearer x)); ups = tt; taken = λ taken. absurd taken })
-opening_hushed x (cuts bearer) o first one none is =
+opening_hushed x (cuts bearer) o first one is =
     let two : x.bearer ≤ 1 = omega (arith, first) in
     subst (IsHushed x (cuts bearer)) (sym is) (record { ends = at_ends bearer x cut_near two (cut_near_steady (facing bearer x)); ups = cut_ups _ (facing bearer x); taken = λ taken. absurd taken })
-opening_hushed x (ticks shown) o first one none is = subst (IsHushed x (ticks shown)) (sym is) (record { ends = ticked_ends shown x first; ups = ticked_ups _ shown x; taken = λ taken. absurd taken })
-opening_hushed x (hears bearer es er p by shown) o first one none is =
+opening_hushed x (ticks shown) o first one is = subst (IsHushed x (ticks shown)) (sym is) (record { ends = ticked_ends shown x first; ups = ticked_ups _ shown x; taken = λ taken. absurd taken })
+opening_hushed x (hears bearer es er p by shown) o first one is =
     let two : x.bearer ≤ 1 = omega (arith, first) in
     let h = heard_hushed x bearer is.0 is.1 two one (arrives_hears (facing bearer x) es er p by shown is.0 is.1 (facing_two bearer x two) is.2) in
     subst (IsHushed x (hears bearer es er p by shown)) (sym is.3) (record { ends = h.0; ups = h.1; taken = λ taken. h.2 (given_by bearer es er p by shown is.1 taken) })

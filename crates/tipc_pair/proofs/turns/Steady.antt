@@ -21,13 +21,13 @@ use Rattle.tipc_link.specs.Sessions.{SessionEnd, flushed}
 use Rattle.tipc_pair.specs.declared.changes.PairOutcome.{PairOutcome}
 use Rattle.tipc_pair.specs.Changeovers.{contact_begins, contact_ends, fail_over, fail_over_to, failing, following, forgetting, forgotten, gone_down, gone_up, is_clear, let_go, loaded, parted, release_near, released, risen, switch, switch_from, switching}
 use Rattle.tipc_pair.specs.Courses.{Course, going_on, rests}
-use Rattle.tipc_pair.specs.Facing.{PairEnds, facing, in_contact, is_up_at, other, turned, with_far, with_near}
+use Rattle.tipc_pair.specs.Facing.{PairEnds, facing, in_contact, is_up_at, other, turned, with_far, with_made, with_near}
 use Rattle.tipc_pair.specs.PairArrivals.{OpensInto, Unwraps, inner_at, inner_taken, met, taken_down, tunnelled_at}
 use Rattle.tipc_pair.specs.PairArrivals.OpensInto.{deferred, ignored, opens}
 use Rattle.tipc_pair.specs.PairArrivals.Unwraps.{as_it_is, none_taken, tunnel}
 use Rattle.tipc_pair.specs.PairCalls.{answered_at, answered_near, cut_at, cut_near, mended, mended_near, stepped, tick_at, tick_near}
 use Rattle.tipc_pair.specs.Messages.{pieces_for}
-use Rattle.tipc_pair.specs.PairTurns.{PutsAll, PutsOne, Reply, replied}
+use Rattle.tipc_pair.specs.PairTurns.{PutsAll, PutsOne, Reply, made_near, replied}
 use Rattle.tipc_pair.specs.PairTurns.PutsAll.{none_put, puts_one}
 use Rattle.tipc_pair.specs.Runs.{left_by, taken_over}
 use Rattle.tipc_pair.proofs.Facings.{facing_far, facing_near}
@@ -297,6 +297,15 @@ mended_to_steady x (Some e) is = near_steady x (mended_end e) (same_steady x.nea
 pub mended_steady : (x : PairEnds) → AreSteady x (mended x).pair
 mended_steady x = mended_to_steady x x.near refl
 
+-- an end that is made isn't up
+new_steady : (x : PairEnds) → AreSteady x (with_made x)
+new_steady x = record { near = steady_down x.near (with_made x).near refl; far = steady_itself x.far; bearer = λ two. refl }
+
+pub made_steady : (is_mended : Bool) (x : PairEnds) → AreSteady x (made_near is_mended x).pair
+unfolding going_on
+made_steady true x = are_steady_then x (with_made x) (mended (with_made x)).pair (new_steady x) (mended_steady (with_made x))
+made_steady false x = new_steady x
+
 pub cut_at_steady : (x : PairEnds) (o : Option LinkEnd) → x.near ≡ o → AreSteady x (cut_at x o).pair
 cut_at_steady x None is = are_steady_itself x
 cut_at_steady x (Some e) is =
@@ -383,4 +392,4 @@ pub replied_steady : (reply : Option Reply) (x : PairEnds) → x.bearer ≤ 1 �
 replied_steady None x two = are_steady_itself x
 replied_steady (Some r) x two =
     let y = facing r.bearer x in
-    steady_facing r.bearer x (answered_near 0 false r.shown y).pair two (answered_steady y y.near 0 false r.shown refl)
+    steady_facing r.bearer x (answered_near r.taken r.asks r.shown y).pair two (answered_steady y y.near r.taken r.asks r.shown refl)

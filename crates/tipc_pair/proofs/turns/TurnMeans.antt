@@ -8,11 +8,11 @@ use Rattle.tipc_pair.specs.declared.transitions.Transition.TheVariants.{ContactD
 use Rattle.tipc_link.specs.Links.{LinkEnd}
 use Rattle.tipc_pair.specs.Facing.{PairEnds, contact_between, in_contact, other}
 use Rattle.tipc_pair.specs.Messages.{opened_in}
-use Rattle.tipc_pair.specs.PairTurns.{Opening, Outset, PairTurn, Reply}
+use Rattle.tipc_pair.specs.PairTurns.{MakesNew, Opening, Outset, PairTurn, Reply}
 use Rattle.tipc_pair.specs.Contacts.{begins, is_of_contact}
 use Rattle.tipc_pair.specs.LinkReadings.{AreAbreast}
 use Rattle.tipc_pair.proofs.turns.Moves.{contact_by, contact_gone, contact_there}
-use Rattle.tipc_pair.proofs.turns.PairEvents.{On, OnBearer, begins_only, happened_so, is_arrival, is_making}
+use Rattle.tipc_pair.proofs.turns.PairEvents.{On, OnBearer, begins_only, happened_so, is_arrival}
 use Rattle.tipc_pair.proofs.turns.PairPuts.{MeetsAs, meets_then, puts_meet, replied_meets}
 use Rattle.tipc_pair.proofs.turns.PairTells.{IsFall, Means, Story, began, contact_changes, ended, stays}
 
@@ -89,10 +89,10 @@ pub meets_after : (x x' : PairEnds) (opening : Opening) (messages : List (List �
 meets_after x x' opening messages reply frames t =
     (puts_meet t.first.course.pair messages t.put_frames t.put t.puts, subst (MeetsAs t.put) (sym t.after) (replied_meets reply t.put))
 
-pub turn_means : (x x' : PairEnds) (opening : Opening) (messages : List (List ℕ)) (reply : Option Reply) (frames : List Outgoing) → AreAbreast x → is_making opening ≡ false → (t : PairTurn x opening messages reply x' frames)
+pub turn_means : (x x' : PairEnds) (opening : Opening) (messages : List (List ℕ)) (reply : Option Reply) (frames : List Outgoing) → AreAbreast x → MakesNew x opening → (t : PairTurn x opening messages reply x' frames)
     → TurnMeans x x' opening t.first
-turn_means x x' opening messages reply frames abreast old t =
-    let so = happened_so x opening t.first (on_bearers x abreast) old t.happened in
+turn_means x x' opening messages reply frames abreast new t =
+    let so = happened_so x opening t.first (on_bearers x abreast) new t.happened in
     let m = meets_after x x' opening messages reply frames t in
     let y = t.first.course.pair in
     let all = meets_then y t.put x' m.0 m.1 in

@@ -5,7 +5,6 @@ use Rattle.std.proofs.lemmas.List.Elements.{All-append, All-nil, All-weaker}
 use Rattle.tipc_types.specs.LinkStates.{is_up}
 use Rattle.tipc_types.specs.declared.link_words.BroadcastState.{BroadcastState}
 use Rattle.tipc_types.specs.declared.link_words.Cause.TheVariants as cause
-use Rattle.tipc_types.specs.declared.node_calls.EventNote.{EventNote}
 use Rattle.tipc_header.specs.Grammar.{Fits}
 use Rattle.tipc_link_fsm.specs.Table.{Fsm}
 use Rattle.tipc_link.specs.Links.{LinkEnd}
@@ -15,13 +14,13 @@ use Rattle.tipc_pair.specs.Changeovers.{released}
 use Rattle.tipc_pair.specs.Courses.{going_on}
 use Rattle.tipc_pair.specs.Facing.{PairEnds, facing, is_up_at}
 use Rattle.tipc_pair.specs.PairCalls.{at_bearer, cut_near, tick_near, ticked}
-use Rattle.tipc_pair.specs.PairTurns.{Happened, Opening, Outset, nothing_given, IsOnOne, Suits}
+use Rattle.tipc_pair.specs.PairTurns.{Happened, Opening, Outset, nothing_given, IsOnOne}
 use Rattle.tipc_pair.specs.PairTurns.Opening.{cuts, hears, makes, mends, rests, ticks}
 use Rattle.tipc_pair.proofs.Facings.{facing_near, facing_one}
 use Rattle.tipc_pair.proofs.turns.Causes.{cuts_tell, releases_tell, ticks_tell}
 use Rattle.tipc_pair.specs.LinkReadings.{AreAbreast, silence_in}
 use Rattle.tipc_pair.proofs.turns.Moves.{abreast_apt, up_silence}
-use Rattle.tipc_pair.proofs.turns.TurnMoves.{MakesNone}
+use Rattle.tipc_pair.proofs.turns.TurnMoves.{made_changes}
 use Rattle.tipc_pair.proofs.turns.HeardReasons.{arrival_reasons}
 use Rattle.tipc_pair.proofs.turns.Reasons.{IsReason, facing_apt, facing_reason, falls_all, goes_down}
 use Rattle.tipc_pair.proofs.turns.PairKept.{facing_bearer as facing_on}
@@ -101,15 +100,6 @@ tick_reasons x shown first =
 
 -- ---- what happens first
 
--- no end is made in a turn
-pub makes_none : (note : EventNote) (opening : Opening) → Suits note opening → MakesNone opening
-makes_none note rests suits = tt
-makes_none note (makes bearer is_mended) suits = suits
-makes_none note (mends bearer) suits = tt
-makes_none note (cuts bearer) suits = tt
-makes_none note (ticks shown) suits = tt
-makes_none note (hears bearer es er p by shown) suits = tt
-
 -- the packet that is heard fits
 abbrev pub BringsFit : Opening → Type 0
 BringsFit (hears bearer es er p by shown) = Fits p
@@ -119,13 +109,15 @@ BringsFit _ = Unit {0}
 abbrev pub AreReasons : PairEnds → Opening → Outset → Type 0
 AreReasons x opening o = All (IsReason x opening o.given o.course.changes) o.course.changes
 
-pub first_reasons : (x : PairEnds) (opening : Opening) (o : Outset) → AreAbreast x → MakesNone opening → IsOnOne opening → BringsFit opening → Happened x opening o → AreReasons x opening o
-first_reasons x rests o abreast none on fits is = subst (AreReasons x rests) (sym is) (All-nil (IsReason x rests nothing_given []))
-first_reasons x (makes bearer is_mended) o abreast none on fits is = absurd none
-first_reasons x (mends bearer) o abreast none on fits is = subst (AreReasons x (mends bearer)) (sym is) (All-nil (IsReason x (mends bearer) nothing_given []))
-first_reasons x (cuts bearer) o abreast none on fits is = subst (AreReasons x (cuts bearer)) (sym is) (cut_reasons x bearer on (abreast_apt x abreast).two)
-first_reasons x (ticks shown) o abreast none on fits is = subst (AreReasons x (ticks shown)) (sym is) (tick_reasons x shown abreast.first)
-first_reasons x (hears bearer es er p by shown) o abreast none on fits is =
+pub first_reasons : (x : PairEnds) (opening : Opening) (o : Outset) → AreAbreast x → IsOnOne opening → BringsFit opening → Happened x opening o → AreReasons x opening o
+first_reasons x rests o abreast on fits is = subst (AreReasons x rests) (sym is) (All-nil (IsReason x rests nothing_given []))
+first_reasons x (makes bearer is_mended) o abreast on fits is =
+    let reason = IsReason x (makes bearer is_mended) nothing_given in
+    subst (AreReasons x (makes bearer is_mended)) (sym is) (subst (λ cs. All (reason cs) cs) (sym (made_changes bearer is_mended x)) (All-nil (reason [])))
+first_reasons x (mends bearer) o abreast on fits is = subst (AreReasons x (mends bearer)) (sym is) (All-nil (IsReason x (mends bearer) nothing_given []))
+first_reasons x (cuts bearer) o abreast on fits is = subst (AreReasons x (cuts bearer)) (sym is) (cut_reasons x bearer on (abreast_apt x abreast).two)
+first_reasons x (ticks shown) o abreast on fits is = subst (AreReasons x (ticks shown)) (sym is) (tick_reasons x shown abreast.first)
+first_reasons x (hears bearer es er p by shown) o abreast on fits is =
     let apt = abreast_apt x abreast in
     let z = facing bearer x in
     let c = is.0 in

@@ -3,7 +3,7 @@ use Rattle.std.proofs.Common.{◌≡◌, ◌<◌, ◌≤◌, ◌⊎◌, ◌+◌,
 use Rattle.std.proofs.lemmas.Bool.{cases_lt}
 use Rattle.tipc_changeover.specs.Links.{First, Receiver, Sender, State}
 use Rattle.tipc_changeover.proofs.Staying.{reached_sound}
-use Rattle.tipc_two_nodes.specs.links.Following.{Takes}
+use Rattle.tipc_two_nodes.specs.links.Following.{ReceiverFollows}
 use Rattle.tipc_two_nodes.specs.links.Receiving.{IsRecordFor, record_at}
 use Rattle.tipc_two_nodes.specs.links.Traffic.{Lines, Traffic}
 use Rattle.tipc_paired.proofs.sessions.BesideDeeds.{begun_boot}
@@ -81,7 +81,7 @@ pub record TakesAt (x y y' : View) (c : Carriage) : Type 0 where
   pub epoch : ℕ
   pub shown : IsToldIn x.told bearer epoch y.node.seen y.node.contact
   pub state : State
-  pub takes : Takes First c.state state
+  pub takes : ReceiverFollows First c.state state
   pub near : IsRecordFor c.traffic.near (record_at (y'.wires 0).end) state.near_record
   pub far : IsRecordFor c.traffic.far (record_at (y'.wires 1).end) state.far_record
   pub counted : AreCounted x y' y.node.seen y.node.contact (record { traffic = c.traffic; state = state })

@@ -26,7 +26,7 @@ use Rattle.tipc_pair.proofs.Followings.{far_down, near_down}
 use Rattle.tipc_pair.proofs.HeldLaws.{GoesQuietly, near_quietly, not_in, outcome_holds, quietly_same, quietly_then, released_goes, reset_quiet, or_true}
 use Rattle.tipc_two_nodes.proofs.links.receiver.BegunKept.{KeepsBegun, begun_same, begun_then, following_begun}
 use Rattle.tipc_two_nodes.proofs.links.calls.Noticing.{outcome_turns}
-use Rattle.tipc_two_nodes.specs.links.Turning.{Turns, goes_down, is_rise, goes_up, stays_so}
+use Rattle.tipc_two_nodes.specs.links.Turning.{TurnsEnd, goes_down, is_rise, goes_up, stays_so}
 use Rattle.tipc_two_nodes.proofs.messages.Begun.{stepped_begun}
 use Rattle.tipc_two_nodes.proofs.calls.TurnCourses.{following_numbers}
 use Rattle.tipc_two_nodes.proofs.links.receiver.Quiet.{going_up as going_up_is}
@@ -71,7 +71,7 @@ first_fresh : (z : PairEnds) → is_up_at z.far ≡ false → (gone_up z).pair.b
 first_fresh z far = subst (λ t. (if t then (if z.bearer == 0 then switch z else rests z) else contact_begins z).pair.begun ≡ fresh) (sym far) refl
 
 -- it was down before
-rose_down : (held : Bool) (fsm : Fsm) (o : Outcome) → Turns held fsm o → o.change ≡ Up → is_up fsm.state ≡ false
+rose_down : (held : Bool) (fsm : Fsm) (o : Outcome) → TurnsEnd held fsm o → o.change ≡ Up → is_up fsm.state ≡ false
 rose_down held fsm o (goes_down cause change was after) up = absurd (let wrong : Down cause ≡ Up = sym change ∙ up in let no : ⊥ = cc in no)
 rose_down held fsm o (goes_up change reset own after) up = reset_down fsm.state reset
 rose_down held fsm o (stays_so rise down own after) up = absurd (let wrong : true ≡ false = sym (ap (λ k. is_rise k) up) ∙ rise in let no : ⊥ = cc in no)

@@ -20,7 +20,7 @@ use Rattle.tipc_pair.specs.Courses.{going_on, rests}
 use Rattle.tipc_pair.specs.Facing.{PairEnds, in_contact, is_up_at, with_near}
 use Rattle.tipc_pair.specs.PairArrivals.{Heard, activate_higher, activates, behind, by_number, hears, met, met_at, met_near, passing, reset_near}
 use Rattle.tipc_pair.proofs.HeldLaws.{Holds, outcome_holds}
-use Rattle.tipc_two_nodes.specs.links.Turning.{AreEnds, Turns}
+use Rattle.tipc_two_nodes.specs.links.Turning.{AreEnds, TurnsEnd}
 use Rattle.tipc_two_nodes.proofs.links.calls.Noticing.{outcome_turns}
 use Rattle.tipc_paired.proofs.wires.Sides.{shown_told}
 use Rattle.tipc_paired.specs.Paired.{IsShown}
@@ -46,7 +46,7 @@ use Rattle.tipc_two_nodes.proofs.arrivals.StepKeeps.{step_carried}
 
 -- it is given to the near end
 activate_given : (v y : View) (x : PairEnds) (e : LinkEnd) (o : Outcome) (es er : ℕ) (p : Fields) (by : ℕ) (shown : BroadcastState) (h : AreTwins v y) → IsOfPair v x → AreEnds x → CanHand v x → x.near ≡ Some e → IsShown y.told x.bearer es er v.node.seen → IsShowable shown
-    → is_traffic p.header ≡ false → o ≡ on_activate e.fsm es er → Holds e.fsm o → Turns (is_up_at x.far) e.fsm o → KeepsCarried v y h (met x e o p es by shown).course (met_more x e o p by)
+    → is_traffic p.header ≡ false → o ≡ on_activate e.fsm es er → Holds e.fsm o → TurnsEnd (is_up_at x.far) e.fsm o → KeepsCarried v y h (met x e o p es by shown).course (met_more x e o p by)
 activate_given v y x e o es er p by shown h pair ends hand near told showable notice is holds turn =
     let k = on_activate e.fsm es er in
     let step = step_carried v y x e (ActivateArrives es er) (is_up_at x.far) es shown h pair (record {
@@ -55,7 +55,7 @@ activate_given v y x e o es er p by shown h pair ends hand near told showable no
       near = near;
       may = told;
       holds = subst (Holds e.fsm) is holds;
-      turn = subst (Turns (is_up_at x.far) e.fsm) is turn;
+      turn = subst (TurnsEnd (is_up_at x.far) e.fsm) is turn;
       carried = λ up. up;
     }) showable in
     subst (λ (c : Outcome). KeepsCarried v y h (met x e c p es by shown).course (met_more x e c p by)) (sym is) (unheard_carried v y x e k es p by shown h (unheard p k.change notice) step)

@@ -20,7 +20,7 @@ use Rattle.tipc_pair.specs.PairFacts.{IsPairOfEnds}
 use Rattle.tipc_pair.proofs.Followings.{far_down, near_down}
 use Rattle.tipc_changeover.specs.Links.{Bearer, First, State}
 use Rattle.tipc_two_nodes.specs.links.Arriving.{Opens, Stands, heard_pair}
-use Rattle.tipc_two_nodes.specs.links.Following.{Takes, stays}
+use Rattle.tipc_two_nodes.specs.links.Following.{ReceiverFollows, stays}
 use Rattle.tipc_two_nodes.specs.links.Landing.{MayLand}
 use Rattle.tipc_two_nodes.specs.links.Receiving.{IsRecordFor, record_at}
 use Rattle.tipc_two_nodes.specs.links.Sending.{number_as}
@@ -58,7 +58,7 @@ use Rattle.tipc_two_nodes.proofs.arrivals.TunnelPlaces.{at_place, ignored_none, 
 -- By events of the receiver, which took nothing, a state became one for which the pair stands, and the packet lands.
 pub record IsReady (b : Bearer) (v y : View) (h : AreTwins v y) (x : PairEnds) (es er : ℕ) (p : Fields) : Type 0 where
   pub state : State
-  pub takes : Takes First (takes_in v y h).state state
+  pub takes : ReceiverFollows First (takes_in v y h).state state
   pub none : take (length state.delivered) (takes_in v y h).traffic.put ≡ taken_of (takes_in v y h)
   pub sent : IsSent y h.there v.node.seen v.node.contact (record { traffic = (takes_in v y h).traffic; state = state })
   pub stands : Stands x b (traffic_from b (takes_in v y h).traffic) (state_from b state) (take (length state.delivered) (takes_in v y h).traffic.put)

@@ -7,7 +7,7 @@ use Rattle.tipc_pair.specs.Facing.{PairEnds, other}
 use Rattle.tipc_changeover.specs.Links.{Bearer, First, Second, State}
 use Rattle.tipc_changeover.specs.Reached.{IsReached}
 use Rattle.tipc_two_nodes.specs.links.Arriving.{IsMadeFor, Opens, Stands}
-use Rattle.tipc_two_nodes.specs.links.Following.{Takes}
+use Rattle.tipc_two_nodes.specs.links.Following.{ReceiverFollows}
 use Rattle.tipc_two_nodes.specs.links.Receiving.{AreLines, IsRecordFor, bytes_in, record_at}
 use Rattle.tipc_two_nodes.specs.links.Sending.{number_as}
 use Rattle.tipc_two_nodes.proofs.links.sender.Turning.{follows_from, lines_turned}
@@ -69,7 +69,7 @@ far_sessions_from Second y own theirs bearer c is near far = subst (λ n. AreSes
 -- by events of the receiver the records of a node stand for those of a state, and these packets were taken behind others
 pub record TakesSo (v' : View) (c : Carriage) (before : List (List ℕ)) (carried : List Taken) : Type 0 where
   pub state : State
-  pub takes : Takes First c.state state
+  pub takes : ReceiverFollows First c.state state
   pub near : IsRecordFor c.traffic.near (record_at (v'.wires 0).end) state.near_record
   pub far : IsRecordFor c.traffic.far (record_at (v'.wires 1).end) state.far_record
   pub first_ones : take (length state.delivered) c.traffic.put ≡ before ++ bytes_in carried

@@ -23,7 +23,7 @@ use Rattle.tipc_two_nodes.specs.links.Acting.{Acted}
 use Rattle.tipc_two_nodes.specs.links.Receiving.{record_at}
 use Rattle.tipc_two_nodes.specs.links.Sending.{ends_seen, number_as}
 use Rattle.tipc_two_nodes.specs.links.Traffic.{Traffic}
-use Rattle.tipc_two_nodes.specs.links.Turning.{AreEnds, Turns, goes_up, is_rise}
+use Rattle.tipc_two_nodes.specs.links.Turning.{AreEnds, TurnsEnd, goes_up, is_rise}
 use Rattle.tipc_two_nodes.proofs.links.calls.Reacting.{MayTurn, Turned, fell, last, rose, still, turns}
 use Rattle.tipc_two_nodes.proofs.links.calls.States.{as_down, as_up}
 use Rattle.tipc_paired.proofs.sessions.RiseDeeds.{Went, went}
@@ -59,7 +59,7 @@ not_held WorkingUnknown so = refl
 not_held state.Held so = absurd (let wrong : ⊥ = cc in wrong)
 
 -- the near link goes up from reset
-turns_up : (v y : View) (x : PairEnds) (e : LinkEnd) (call : Call) (es : ℕ) → Went v y x.bearer e (after e (outcome e.fsm call)) es → (outcome e.fsm call).change ≡ Up → Turns (is_up_at x.far) e.fsm (outcome e.fsm call)
+turns_up : (v y : View) (x : PairEnds) (e : LinkEnd) (call : Call) (es : ℕ) → Went v y x.bearer e (after e (outcome e.fsm call)) es → (outcome e.fsm call).change ≡ Up → TurnsEnd (is_up_at x.far) e.fsm (outcome e.fsm call)
 turns_up v y x e call es m up =
     let o = outcome e.fsm call in
     let from = (rises_from e.fsm call up).1 in

@@ -25,7 +25,7 @@ use Rattle.tipc_pair.specs.Courses.{Course, going_on, rests}
 use Rattle.tipc_pair.specs.Facing.{PairEnds, is_up_at, other, turned, with_near}
 use Rattle.tipc_pair.specs.PairArrivals.{Arrives, Heard, OpensInto, Unwraps, activate_higher, as_it_is, deferred, hears, ignored, inner_at, met, met_at, met_near, none_taken, opens, taken_down, tunnel, tunnelled_at, tunnelled_through}
 use Rattle.tipc_pair.proofs.EndSteps.{fsm_after}
-use Rattle.tipc_two_nodes.specs.links.Turning.{Turns, goes_down, goes_up, stays_so}
+use Rattle.tipc_two_nodes.specs.links.Turning.{TurnsEnd, goes_down, goes_up, stays_so}
 use Rattle.tipc_pair.proofs.HeldLaws.{far_stays}
 use Rattle.tipc_two_nodes.proofs.links.calls.Noticing.{outcome_turns}
 use Rattle.tipc_two_nodes.proofs.links.receiver.Quiet.{number_shown}
@@ -106,7 +106,7 @@ outcome_quiet (header.NameDistributor said) fsm es er held other = traffic_quiet
 outcome_quiet (header.Fragmenter said) fsm es er held other = traffic_quiet fsm es er
 
 -- the end keeps its epoch
-turn_own : (held : Bool) (fsm : Fsm) (o : Outcome) → Turns held fsm o → is_down o.change ≡ false → o.after.own ≡ fsm.own
+turn_own : (held : Bool) (fsm : Fsm) (o : Outcome) → TurnsEnd held fsm o → is_down o.change ≡ false → o.after.own ≡ fsm.own
 turn_own held fsm o (goes_down cause down up low) quiet = absurd (let wrong : true ≡ false = sym (ap is_down down) ∙ quiet in let no : ⊥ = cc in no)
 turn_own held fsm o (goes_up up reset own state) quiet = own
 turn_own held fsm o (stays_so other so own state) quiet = own

@@ -13,7 +13,7 @@ use Rattle.tipc_pair.specs.Facing.{PairEnds, is_up_at, with_near}
 use Rattle.tipc_pair.specs.PairCalls.{stepped}
 use Rattle.tipc_pair.proofs.HeldLaws.{Holds, stepped_goes}
 use Rattle.tipc_changeover.proofs.Staying.{reached_sound}
-use Rattle.tipc_two_nodes.specs.links.Turning.{AreEnds, Turns}
+use Rattle.tipc_two_nodes.specs.links.Turning.{AreEnds, TurnsEnd}
 use Rattle.tipc_two_nodes.proofs.links.receiver.Quiet.{going_up, stepped_remains}
 use Rattle.tipc_two_nodes.proofs.links.calls.Reacting.{Turned, turns}
 use Rattle.tipc_two_nodes.proofs.links.calls.Ticking.{fall_may, may_fall, quiet_rise}
@@ -38,7 +38,7 @@ pub record MayStep (v y : View) (x : PairEnds) (e : LinkEnd) (call : Call) (held
   pub near : x.near ≡ Some e
   pub may : MayCall v y x.bearer call
   pub holds : Holds e.fsm (outcome e.fsm call)
-  pub turn : Turns held e.fsm (outcome e.fsm call)
+  pub turn : TurnsEnd held e.fsm (outcome e.fsm call)
   pub carried : is_up_at x.far ≡ true → held ≡ true
 
 lower_numbers : (p : PairEnds) (e : LinkEnd) (o : Outcome) (epoch : ℕ) (shown : BroadcastState) → (is_down o.change ≡ true → is_up_at p.far ≡ true) → KeepsNumbers p (stepped p e o epoch shown).pair

@@ -24,9 +24,9 @@ use Rattle.tipc_changeover.specs.Reached.{IsReached}
 use Rattle.tipc_changeover.specs.Slots.{Tunnel}
 use Rattle.tipc_changeover.specs.Sound.{Sound}
 use Rattle.tipc_two_nodes.specs.links.Arriving.{IsHeardIn, Stands}
-use Rattle.tipc_two_nodes.specs.links.Following.{Takes, stays}
+use Rattle.tipc_two_nodes.specs.links.Following.{ReceiverFollows, stays}
 use Rattle.tipc_two_nodes.specs.links.Landing.{MayLand}
-use Rattle.tipc_two_nodes.specs.links.Packets.{SpeaksOf, marks, told_by_marker, told_of, wraps}
+use Rattle.tipc_two_nodes.specs.links.Packets.{SpeaksOf, marks, told_by_marker, told_by_packet, wraps}
 use Rattle.tipc_two_nodes.specs.links.Receiving.{AreLines, AreNext, IsSessionRecord, IsRecordFor, record_at}
 use Rattle.tipc_two_nodes.specs.links.Sending.{beside}
 use Rattle.tipc_two_nodes.specs.links.Traffic.{Traffic, epoch_of}
@@ -49,7 +49,7 @@ use Rattle.tipc_two_nodes.proofs.arrivals.Making.{target_had}
 -- the packets that the near link takes are the next ones of a session, in a state for whose far record that of the pair stands
 pub record NextTaken (x : PairEnds) (b : Bearer) (t : Traffic) (s : State) (taken : List Taken) : Type 0 where
   pub state : State
-  pub takes : Takes b s state
+  pub takes : ReceiverFollows b s state
   pub lines : AreLines x.bearer t state
   pub reached : IsReached (seen b state)
   pub far : IsRecordFor t.far (record_at x.far) state.far_record
@@ -128,7 +128,7 @@ tells_of old q full line packet v (marks kind made is) told =
     let same = told_once packet (told_by_marker kind old) v made is told in
     record { epoch_is = ap (λ (w : Tunnelled). w.old.epoch) same; carries = λ some. absurd (true≢false (sym (ap (λ (w : Tunnelled). w.count == 0) same) ∙ some)) }
 tells_of old q full line packet v (wraps kind own count place inner some there may is) told =
-    let same = told_once packet (told_of kind old own count (record { number = number_of place; packet = inner })) v (may.made own place) is told in
+    let same = told_once packet (told_by_packet kind old own count (record { number = number_of place; packet = inner })) v (may.made own place) is told in
     record {
       epoch_is = ap (λ (w : Tunnelled). w.old.epoch) same;
       carries = λ _. (some, (let within = slice_get_within line (place - 1) inner there in omega arith), ap (λ (w : Tunnelled). w.number) same);

@@ -18,7 +18,7 @@ use Rattle.tipc_paired.proofs.wires.Wires.{session_of_up}
 use Rattle.tipc_paired.specs.Paired.{ArePaired}
 use Rattle.tipc_paired.specs.Views.{View}
 use Rattle.tipc_two_nodes.proofs.deeds.Pairs.{apart_of, up_end}
-use Rattle.tipc_two_nodes.specs.deeds.PairDeeds.{IsOfPair, Takes, Took, none_more}
+use Rattle.tipc_two_nodes.specs.deeds.PairDeeds.{IsOfPair, TakesCourse, Took, none_more}
 use Rattle.tipc_two_nodes.specs.Carriages.{IsPresent, ends_in, pair_of}
 use Rattle.tipc_two_nodes.specs.Carrying.{Carries, KeepsCarried, none_taken}
 use Rattle.tipc_two_nodes.specs.Pieces.{KeepsNumbers, RecordsStay, state_from, traffic_from}
@@ -147,5 +147,5 @@ pub course_carried : (b : Bearer) (v y : View) (h : AreTwins v y) (p : PairEnds)
 course_carried b v y h p c numbered pair is v' took m near far = (course_twins b v y h p c numbered pair is v' took m near far, course_carry b v y h p c numbered pair is v' took m near far)
 
 -- by these deeds
-pub with_carried : (v y : View) (h : AreTwins v y) (c : Course) (numbered : ℕ → ℕ → List (List ℕ)) (t : Takes v y c numbered none_more) → (k : AreTwins t.0 y) × Carries v t.0 y h k none_taken → KeepsCarried v y h c numbered
+pub with_carried : (v y : View) (h : AreTwins v y) (c : Course) (numbered : ℕ → ℕ → List (List ℕ)) (t : TakesCourse v y c numbered none_more) → (k : AreTwins t.0 y) × Carries v t.0 y h k none_taken → KeepsCarried v y h c numbered
 with_carried v y h c numbered t k = (t.0, t.1, k.0, k.1)

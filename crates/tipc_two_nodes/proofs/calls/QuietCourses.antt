@@ -30,7 +30,7 @@ use Rattle.tipc_paired.specs.Views.{View}
 use Rattle.tipc_two_nodes.proofs.deeds.Calling.{made_takes, mended_takes, released_takes}
 use Rattle.tipc_two_nodes.proofs.deeds.Calls.{answer_takes}
 use Rattle.tipc_two_nodes.proofs.deeds.Pairs.{of_facing, took_then}
-use Rattle.tipc_two_nodes.specs.deeds.PairDeeds.{IsOfPair, Takes, Took, both_more, none_more}
+use Rattle.tipc_two_nodes.specs.deeds.PairDeeds.{IsOfPair, TakesCourse, Took, both_more, none_more}
 use Rattle.tipc_two_nodes.specs.Carrying.{Carries, KeepsCarried, none_taken}
 use Rattle.tipc_two_nodes.specs.Pieces.{KeepsNumbers, state_from, traffic_from}
 use Rattle.tipc_two_nodes.specs.Twins.{AreTwins, sends_in}
@@ -95,7 +95,7 @@ quiet_both v y p c h pair v' took numbers seen records =
       acted = subst (λ e. Acted b (ends_seen p) e traffic state) (sym seen) (nothing_acted b p traffic state (stand_at b v y h p pair at.1));
     }) (λ epoch differ. refl) (λ epoch differ. refl)
 
-pub quiet_carried : (v y : View) (p : PairEnds) (c : Course) (h : AreTwins v y) → IsOfPair v p → Takes v y c none_more none_more → KeepsNumbers p c.pair → ends_seen c.pair ≡ ends_seen p → records_of c.pair ≡ records_of p → KeepsCarried v y h c none_more
+pub quiet_carried : (v y : View) (p : PairEnds) (c : Course) (h : AreTwins v y) → IsOfPair v p → TakesCourse v y c none_more none_more → KeepsNumbers p c.pair → ends_seen c.pair ≡ ends_seen p → records_of c.pair ≡ records_of p → KeepsCarried v y h c none_more
 quiet_carried v y p c h pair t numbers seen records = with_carried v y h c none_more t (quiet_both v y p c h pair t.0 t.1 numbers seen records)
 
 -- ---- an end is made, its bearer is mended, and a STATE is sent

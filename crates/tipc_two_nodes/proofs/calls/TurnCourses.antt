@@ -20,7 +20,7 @@ use Rattle.tipc_paired.proofs.wires.Wires.{epoch_of_end, on_put, put_other, same
 use Rattle.tipc_paired.specs.Paired.{ArePaired}
 use Rattle.tipc_paired.specs.Views.{View, epoch_on, put_at}
 use Rattle.tipc_two_nodes.proofs.deeds.Pairs.{up_end}
-use Rattle.tipc_two_nodes.specs.deeds.PairDeeds.{IsOfPair, Takes, failing_more, followed_more, more_at, none_more}
+use Rattle.tipc_two_nodes.specs.deeds.PairDeeds.{IsOfPair, TakesCourse, failing_more, followed_more, more_at, none_more}
 use Rattle.tipc_two_nodes.specs.Carrying.{KeepsCarried}
 use Rattle.tipc_two_nodes.specs.Pieces.{KeepsNumbers, state_from, traffic_from}
 use Rattle.tipc_two_nodes.specs.Twins.{AreTwins, sends_in}
@@ -106,7 +106,7 @@ turned_on b p q t s same (fell walk falls up down) = record { acted = walk.acted
 turned_on b p q t s same (rose walk so) = absurd (let wrong : ⊥ = cc in wrong)
 turned_on b p q t s same (last over) = absurd (let next = over.next in let wrong : ⊥ = omega arith in wrong)
 
-pub turn_carried : (b : Bearer) (v y : View) (h : AreTwins v y) (p z : PairEnds) (k : Change) (c : Course) → IsOfPair v p → p.bearer ≡ number_as b → z.bearer ≡ p.bearer → z.far ≡ p.far → Takes v y c (followed_more z k) none_more → is_going_up k ≡ false
+pub turn_carried : (b : Bearer) (v y : View) (h : AreTwins v y) (p z : PairEnds) (k : Change) (c : Course) → IsOfPair v p → p.bearer ≡ number_as b → z.bearer ≡ p.bearer → z.far ≡ p.far → TakesCourse v y c (followed_more z k) none_more → is_going_up k ≡ false
     → KeepsNumbers p c.pair → records_of c.pair ≡ records_of p → (in_contact c.pair ≡ true → in_contact p ≡ true) → Turned b p c.pair false (traffic_from b (sends_in v y h).traffic) (state_from b (sends_in v y h).state) → KeepsCarried v y h c (followed_more z k)
 turn_carried b v y h p z k c pair is bearer far t quiet numbers records before turned =
     let v' = t.0 in

@@ -5,7 +5,7 @@ use Rattle.std.proofs.lemmas.Bool.Decides.{nat_tests}
 use Rattle.tipc_changeover.specs.Links.{other, turned_state, Bearer, Receiver, Sender, State}
 use Rattle.tipc_changeover.specs.Events.{acted, opened, session_told, Acknowledge, Deferred, Event, Failover, Late, LinkUp, MayAct, Next, Number, Old, Opening, Passed, Put, Record, Release, Switch, TakePlain, TakeTunnel}
 use Rattle.tipc_changeover.specs.Parts.{Ends}
-use Rattle.tipc_two_nodes.specs.links.Following.{far, is_received, near, stays, Takes}
+use Rattle.tipc_two_nodes.specs.links.Following.{far, is_received, near, stays, ReceiverFollows}
 use Rattle.tipc_two_nodes.specs.links.Traffic.{Lines}
 use Rattle.tipc_paired.proofs.wires.Wires.{prefix_long, same_some}
 use Rattle.tipc_paired.specs.Paired.{ArePaired}
@@ -69,7 +69,7 @@ rise_then s s' s'' f g = record { near = rises_then s.near_record s'.near_record
 rise_turned : (s s' : State) → BothRise (turned_state s) (turned_state s') → BothRise s s'
 rise_turned s s' h = record { near = h.far; far = h.near }
 
-pub takes_rise : (b : Bearer) (s s' : State) → Takes b s s' → BothRise s s'
+pub takes_rise : (b : Bearer) (s s' : State) → ReceiverFollows b s s' → BothRise s s'
 takes_rise b s s' stays = record { near = same_rises s.near_record; far = same_rises s.far_record }
 takes_rise b s s' (near next event f may is) = rise_then s next _ (takes_rise b s next f) (rise_one b next event may is)
 takes_rise b s s' (far next event f may is) = rise_then s next _ (takes_rise b s next f) (rise_turned next (turned_state (acted (turned_state next) event)) (rise_one (other b) (turned_state next) event may is))

@@ -4,7 +4,7 @@ use Rattle.tipc_link.specs.Records.{Received}
 use Rattle.tipc_paired.specs.Views.{View}
 use Rattle.tipc_changeover.specs.Links.{turned_state, Bearer, First, Receiver, Sender, State}
 use Rattle.tipc_changeover.specs.Events.{acted, taken_out, Acknowledge, Event, Failover, LinkUp, Number, Put, Record, Release, Switch, TakePlain, TakeTunnel}
-use Rattle.tipc_two_nodes.specs.links.Following.{far, is_received, near, stays, Takes}
+use Rattle.tipc_two_nodes.specs.links.Following.{far, is_received, near, stays, ReceiverFollows}
 use Rattle.tipc_two_nodes.specs.links.Laws.{TakesNone}
 use Rattle.tipc_two_nodes.specs.links.Packets.{AreFor, IsFor}
 use Rattle.tipc_two_nodes.specs.links.Receiving.{AreLines, IsSessionRecord, IsRecordFor, record_at}
@@ -51,7 +51,7 @@ stay_then s s' s'' f g = record {
 stay_turned : (s s' : State) → SendersStay (turned_state s) (turned_state s') → SendersStay s s'
 stay_turned s s' h = record { near = h.far; far = h.near; put = h.put; more = h.more; delivered = h.delivered }
 
-pub takes_stay : (b : Bearer) (s s' : State) → Takes b s s' → SendersStay s s'
+pub takes_stay : (b : Bearer) (s s' : State) → ReceiverFollows b s s' → SendersStay s s'
 takes_stay b s s' stays = stay_same s
 takes_stay b s s' (near next event f may is) = stay_then s next _ (takes_stay b s next f) (stay_one next event is)
 takes_stay b s s' (far next event f may is) = stay_then s next _ (takes_stay b s next f) (stay_turned next (turned_state (acted (turned_state next) event)) (stay_one (turned_state next) event is))
@@ -72,7 +72,7 @@ lines_stay bearer t s s' h same = record {
 }
 
 -- what x sent stays so when the other node takes of it, which it doesn't do before x knows its number
-pub sent_taken : (x : View) (n : Numbers) (own theirs : ℕ) (c : Carriage) (s' : State) → IsSent x n own theirs c → Takes First c.state s' → (x.node.contact ≡ own → x.node.seen < theirs → ⊥)
+pub sent_taken : (x : View) (n : Numbers) (own theirs : ℕ) (c : Carriage) (s' : State) → IsSent x n own theirs c → ReceiverFollows First c.state s' → (x.node.contact ≡ own → x.node.seen < theirs → ⊥)
     → IsSent x n own theirs (record { traffic = c.traffic; state = s' })
 sent_taken x n own theirs c s' h takes known =
     let same = takes_stay First c.state s' takes in

@@ -3,7 +3,7 @@
 use Rattle.std.proofs.Common.{◌≡◌, ◌<◌, ◌≤◌, ◌⊎◌, ℕ, ◌+◌, ◌-◌, true, List, refl, sym, ap, ◌∙◌, subst, inl, inr, arith}
 use Rattle.tipc_changeover.specs.Links.{turned_state, Bearer, First, Held, Sender, State}
 use Rattle.tipc_changeover.specs.Events.{acted, Acknowledge, Event, Failover, LinkUp, Number, Put, Record, Release, Switch, TakePlain, TakeTunnel}
-use Rattle.tipc_two_nodes.specs.links.Following.{Follows, far, is_sent, near, stays}
+use Rattle.tipc_two_nodes.specs.links.Following.{SenderFollows, far, is_sent, near, stays}
 use Rattle.tipc_changeover.specs.Slots.{LinkSlot}
 use Rattle.tipc_two_nodes.specs.links.Laws.{TakesNone}
 use Rattle.tipc_two_nodes.specs.links.Sending.{IsSender}
@@ -58,7 +58,7 @@ goes_on s Failover is = record { near = inl (omega arith); far = inr (refl, λ h
 on_turned : (s s' : State) → BothGoOn (turned_state s) (turned_state s') → BothGoOn s s'
 on_turned s s' h = record { near = h.far; far = h.near }
 
-pub follows_on : (b : Bearer) (s s' : State) → Follows b s s' → BothGoOn s s'
+pub follows_on : (b : Bearer) (s s' : State) → SenderFollows b s s' → BothGoOn s s'
 follows_on b s s' stays = record { near = same_end s.near; far = same_end s.far }
 follows_on b s s' (near next event f may sent) = on_then s next _ (follows_on b s next f) (goes_on next event sent)
 follows_on b s s' (far next event f may sent) = on_then s next _ (follows_on b s next f) (on_turned next (turned_state (acted (turned_state next) event)) (goes_on (turned_state next) event sent))

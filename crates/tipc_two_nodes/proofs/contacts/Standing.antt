@@ -6,7 +6,7 @@ use Rattle.tipc_types.specs.declared.packet_lists.Taken.{Taken}
 use Rattle.tipc_link.specs.Direction.{IsReceiver}
 use Rattle.tipc_link.specs.Records.{Received, is_tunnel, kept_for, unheard}
 use Rattle.tipc_changeover.specs.Links.{turned_state, Bearer, First, Receiver, Second, Sender, State}
-use Rattle.tipc_two_nodes.specs.links.Following.{stays, Takes}
+use Rattle.tipc_two_nodes.specs.links.Following.{stays, ReceiverFollows}
 use Rattle.tipc_two_nodes.specs.links.Receiving.{AreLines, IsSessionRecord, IsRecordFor}
 use Rattle.tipc_two_nodes.specs.links.Traffic.{Lines, Traffic, epoch_of, turned_traffic as turned_traffic}
 use Rattle.tipc_two_nodes.proofs.links.sender.Happening.{follows_then}
@@ -23,7 +23,7 @@ MayStand l z a = (a.epoch < l.first) ⊎ (IsUnused a × IsShownIn l z a.epoch)
 -- the record of the near link stands for that of a state, and nothing else changed
 pub record StandsNear (b : Bearer) (bearer : ℕ) (t : Traffic) (s : State) (o : Option Received) : Type 0 where
   pub state : State
-  pub takes : Takes b s state
+  pub takes : ReceiverFollows b s state
   pub lines : AreLines bearer t state
   pub near_is : IsRecordFor t.near o state.near_record
   pub far_is : state.far_record ≡ s.far_record
@@ -64,7 +64,7 @@ stands_near b bearer t s (Some a) lines none may = elim (may a refl) [
 -- both records stand for those of a state
 pub record StandsBoth (t : Traffic) (s : State) (o o' : Option Received) : Type 0 where
   pub state : State
-  pub takes : Takes First s state
+  pub takes : ReceiverFollows First s state
   pub near : IsRecordFor t.near o state.near_record
   pub far : IsRecordFor t.far o' state.far_record
   pub delivered : state.delivered ≡ s.delivered

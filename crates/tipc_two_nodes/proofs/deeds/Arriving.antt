@@ -38,7 +38,7 @@ use Rattle.tipc_two_nodes.proofs.deeds.Placing.{at_place_opened, hears_some}
 use Rattle.tipc_two_nodes.proofs.deeds.Stepping.{CanHand}
 use Rattle.tipc_two_nodes.specs.deeds.Arriving.{Reaches, heard_more, heard_taken, hears_more, hears_taken, linked_taken, met_at_more, met_at_taken, met_more, opens_more, opens_taken}
 use Rattle.tipc_two_nodes.specs.deeds.Laws.{ArrivalsAreDeeds}
-use Rattle.tipc_two_nodes.specs.deeds.PairDeeds.{IsOfPair, Takes, both_more, called_more, followed_more, none_more}
+use Rattle.tipc_two_nodes.specs.deeds.PairDeeds.{IsOfPair, TakesCourse, both_more, called_more, followed_more, none_more}
 
 -- ---- the frame
 
@@ -72,32 +72,32 @@ reached_begun v y b es er p h r traffic =
 
 met_at_takes : (v y : View) (x : PairEnds) (o : Option LinkEnd) (call : Call) (es er : ℕ) (p : Fields) (by : ℕ) (shown : BroadcastState) → ArePaired v y → IsOfPair v x → x.near ≡ o → MayCall v y x.bearer call → CanHand v x → IsShowable shown
     → ((e : LinkEnd) → outcome_of e.fsm p.header es er (is_up_at x.far) ≡ outcome e.fsm call) → ((e : LinkEnd) → is_heard p.header (outcome e.fsm call).change ≡ true → MayHear v y x e call es er p)
-    → Takes v y (met_at es er p by shown x o).course (met_at_more es er p by x o) (met_at_taken es er p by x o)
+    → TakesCourse v y (met_at es er p by shown x o).course (met_at_more es er p by x o) (met_at_taken es er p by x o)
 met_at_takes v y x None call es er p by shown h pair near may can showable same hear = takes_rest v y x pair
 met_at_takes v y x (Some e) call es er p by shown h pair near may can showable same hear =
-    subst (λ (k : Outcome). Takes v y (met x e k p es by shown).course (met_more x e k p by) (linked_taken x e k p by)) (sym (same e)) (met_takes v y x e call es er p by shown h pair near may can showable (hear e))
+    subst (λ (k : Outcome). TakesCourse v y (met x e k p es by shown).course (met_more x e k p by) (linked_taken x e k p by)) (sym (same e)) (met_takes v y x e call es er p by shown h pair near may can showable (hear e))
 
 -- one that is ignored
 ignored_at_takes : (v y : View) (x : PairEnds) (o : Option LinkEnd) (es er : ℕ) (p : Fields) (by : ℕ) (shown : BroadcastState) → IsOfPair v x → x.near ≡ o → ((e : LinkEnd) → outcome_of e.fsm p.header es er (is_up_at x.far) ≡ gives e.fsm (Ignore why.Epoch))
-    → Takes v y (met_at es er p by shown x o).course (met_at_more es er p by x o) (met_at_taken es er p by x o)
+    → TakesCourse v y (met_at es er p by shown x o).course (met_at_more es er p by x o) (met_at_taken es er p by x o)
 unfolding going_on
 ignored_at_takes v y x None es er p by shown pair near same = takes_rest v y x pair
 ignored_at_takes v y x (Some e) es er p by shown pair near same =
     let k : Outcome = gives e.fsm (Ignore why.Epoch) in
     let unheard : is_heard p.header (Ignore why.Epoch) ≡ false = elim (is_traffic p.header) as (λ t. (t && false) ≡ false) [ true ↦ refl | false ↦ refl ] in
     let is : with_near x e ≡ x = ap (λ o. record x { near = o }) (sym near) in
-    let rest : Takes v y (rests (with_near x e)) none_more none_more = subst (λ q. Takes v y (rests q) none_more none_more) (sym is) (takes_rest v y x pair) in
-    subst (λ (o : Outcome). Takes v y (met x e o p es by shown).course (met_more x e o p by) (linked_taken x e o p by)) (sym (same e)) (rw unheard rest)
+    let rest : TakesCourse v y (rests (with_near x e)) none_more none_more = subst (λ q. TakesCourse v y (rests q) none_more none_more) (sym is) (takes_rest v y x pair) in
+    subst (λ (o : Outcome). TakesCourse v y (met x e o p es by shown).course (met_more x e o p by) (linked_taken x e o p by)) (sym (same e)) (rw unheard rest)
 
 -- ---- by the contact number that is shown
 
 -- below the highest it is passed over, and above it nothing is numbered
-by_number_takes : (v y : View) (x : PairEnds) (number : ℕ) (same higher : Heard) (n : ℕ → ℕ → List (List ℕ)) → IsOfPair v x → (number ≡ x.seen → Takes v y same.course n none_more) → (x.seen < number → Takes v y higher.course none_more none_more)
-    → Takes v y (by_number x number same higher).course (if number == x.seen then n else none_more) none_more
+by_number_takes : (v y : View) (x : PairEnds) (number : ℕ) (same higher : Heard) (n : ℕ → ℕ → List (List ℕ)) → IsOfPair v x → (number ≡ x.seen → TakesCourse v y same.course n none_more) → (x.seen < number → TakesCourse v y higher.course none_more none_more)
+    → TakesCourse v y (by_number x number same higher).course (if number == x.seen then n else none_more) none_more
 by_number_takes v y x number same higher n pair at above =
-    elim (nat_lt number x.seen) as (λ t. nat_lt number x.seen ≡ t → Takes v y (if t then passing x why.Contact else (if number == x.seen then same else higher)).course (if number == x.seen then n else none_more) none_more) [
-      | true ↦ λ low. (let other : (number == x.seen) ≡ false = grind (arith, nat_tests) in subst (λ t. Takes v y (rests x) (if t then n else none_more) none_more) (sym other) (takes_rest v y x pair))
-      | false ↦ λ not_low. (elim (number == x.seen) as (λ t. (number == x.seen) ≡ t → Takes v y (if t then same else higher).course (if t then n else none_more) none_more) [
+    elim (nat_lt number x.seen) as (λ t. nat_lt number x.seen ≡ t → TakesCourse v y (if t then passing x why.Contact else (if number == x.seen then same else higher)).course (if number == x.seen then n else none_more) none_more) [
+      | true ↦ λ low. (let other : (number == x.seen) ≡ false = grind (arith, nat_tests) in subst (λ t. TakesCourse v y (rests x) (if t then n else none_more) none_more) (sym other) (takes_rest v y x pair))
+      | false ↦ λ not_low. (elim (number == x.seen) as (λ t. (number == x.seen) ≡ t → TakesCourse v y (if t then same else higher).course (if t then n else none_more) none_more) [
         | true ↦ λ is. at (eqb-true number x.seen is)
         | false ↦ λ differs. above (let no_lower = ltb-false number x.seen not_low in let other = eqb-false number x.seen differs in omega (arith, other))
       ] refl)
@@ -125,24 +125,24 @@ notice_more x (Some e) es er p by notice down = notice_linked x e (outcome_of e.
 
 -- an ACTIVATE, which shows the highest contact number
 activate_takes : (v y : View) (x : PairEnds) (es er : ℕ) (p : Fields) (by : ℕ) (shown : BroadcastState) → ArePaired v y → IsOfPair v x → IsShown y.told x.bearer es er x.seen → CanHand v x → IsShowable shown
-    → is_traffic p.header ≡ false → ((e : LinkEnd) → outcome_of e.fsm p.header es er (is_up_at x.far) ≡ on_activate e.fsm es er) → Takes v y (met_near es er p by shown x).course (met_at_more es er p by x x.near) none_more
+    → is_traffic p.header ≡ false → ((e : LinkEnd) → outcome_of e.fsm p.header es er (is_up_at x.far) ≡ on_activate e.fsm es er) → TakesCourse v y (met_near es er p by shown x).course (met_at_more es er p by x x.near) none_more
 activate_takes v y x es er p by shown h pair told can showable notice same =
-    subst (λ t. Takes v y (met_near es er p by shown x).course (met_at_more es er p by x x.near) t) (notice_taken x x.near es er p by notice)
+    subst (λ t. TakesCourse v y (met_near es er p by shown x).course (met_at_more es er p by x x.near) t) (notice_taken x x.near es er p by notice)
     (met_at_takes v y x x.near (ActivateArrives es er) es er p by shown h pair refl (subst (IsShown y.told x.bearer es er) (sym pair.seen) told) can showable same
     (λ e is. absurd (true≢false (sym is ∙ unheard p (on_activate e.fsm es er).change notice))))
 
 -- or a higher one
 activate_higher_takes : (v y : View) (x : PairEnds) (number es er : ℕ) (p : Fields) (by : ℕ) (shown : BroadcastState) → ArePaired v y → IsOfPair v x → x.seen < number → number < 2 ^ 64 → IsShown y.told x.bearer es er number → IsShowable shown
-    → is_traffic p.header ≡ false → ((e : LinkEnd) (held : Bool) → outcome_of e.fsm p.header es er held ≡ on_activate e.fsm es er) → Takes v y (activate_higher number (met_near es er p by shown) x).course none_more none_more
+    → is_traffic p.header ≡ false → ((e : LinkEnd) (held : Bool) → outcome_of e.fsm p.header es er held ≡ on_activate e.fsm es er) → TakesCourse v y (activate_higher number (met_near es er p by shown) x).course none_more none_more
 activate_higher_takes v y x number es er p by shown h pair higher fits told showable notice same =
     let meet = met_near es er p by shown in
     let q = (risen x number).pair in
     let alone = risen_alone x number in
     let first = risen_takes v y x number h pair higher fits (contact_shown (said_by y) x.bearer es number (shown_told y x.bearer es er number told)) in
-    elim (in_contact x) as (λ t. Takes v y (activates t (risen x number) (behind (risen x number) meet)).course none_more none_more) [
+    elim (in_contact x) as (λ t. TakesCourse v y (activates t (risen x number) (behind (risen x number) meet)).course none_more none_more) [
       | true ↦ first
       | false ↦ takes_then v y (risen x number) (λ z. (meet z).course) none_more none_more none_more none_more h first
-          (λ mid paired took. subst (λ n. Takes mid y (meet q).course n none_more) (notice_more q q.near es er p by notice alone.far)
+          (λ mid paired took. subst (λ n. TakesCourse mid y (meet q).course n none_more) (notice_more q q.near es er p by notice alone.far)
           (activate_takes mid y q es er p by shown paired took.pair (subst (λ b. IsShown y.told b es er q.seen) (sym alone.bearer_is) (subst (IsShown y.told x.bearer es er) (sym alone.seen_is) told))
           (hand_none mid q took.pair alone.near alone.far) showable notice (λ e. same e (is_up_at q.far))))
     ]
@@ -152,7 +152,7 @@ pub notice_shown : (header_is : Header) (v y : View) (b es er : ℕ) (p : Fields
 notice_shown header_is v y b es er p number h r is shows = reached_shown v y b es er number p r (sym (shows (subst (λ k. ShowsContact k r.frame.contact r.frame.peer_contact) is (reached_contact v y b es er p h r))))
 
 pub hears_takes : (header_is : Header) (v y : View) (x : PairEnds) (es er : ℕ) (p : Fields) (by : ℕ) (shown : BroadcastState) → p.header ≡ header_is → ArePaired v y → IsOfPair v x → CanHand v x → IsShowable shown → Reaches v y x.bearer es er p
-    → Takes v y (hears header_is es er p by shown x).course (hears_more header_is es er p by x) (hears_taken header_is es er p by x)
+    → TakesCourse v y (hears header_is es er p by shown x).course (hears_more header_is es er p by x) (hears_taken header_is es er p by x)
 hears_takes (header.Reset said) v y x es er p by shown is h pair can showable r =
     let number = said.contact in
     let told = shown_told y x.bearer es er number (notice_shown (header.Reset said) v y x.bearer es er p number h r is (λ shows. shows.0)) in
@@ -188,9 +188,9 @@ arrives v y x es er p by shown c given h pair ends showable r a may =
     let some = hears_some p.header v y x es er p by shown first others refl h pair ends took_it in
     let there = at_place_opened y x z k first.by pair.two_bearers some.goes (may.tunnel first others k took_it speaks) in
     (some.ends, there.0, there.1)) in
-    let both : Takes v y (going_on heard.course (λ w. a.opened)) (both_more n m) (both_more t u) = takes_then v y heard.course (λ w. a.opened) n m t u h first
+    let both : TakesCourse v y (going_on heard.course (λ w. a.opened)) (both_more n m) (both_more t u) = takes_then v y heard.course (λ w. a.opened) n m t u h first
     (λ mid paired took. opens_takes mid y z heard.outcome a.opened given paired took.pair placed a.opens) in
     let all = going_on (going_on heard.course (λ w. a.opened)) released in
-    subst (λ k. Takes v y k (both_more n m) (both_more t u)) (sym a.course) (takes_as v y all (both_more (both_more n m) none_more) (both_more n m) (both_more (both_more t u) none_more) (both_more t u)
+    subst (λ k. TakesCourse v y k (both_more n m) (both_more t u)) (sym a.course) (takes_as v y all (both_more (both_more n m) none_more) (both_more n m) (both_more (both_more t u) none_more) (both_more t u)
     (takes_then v y (going_on heard.course (λ w. a.opened)) released (both_more n m) none_more (both_more t u) none_more h both (λ mid paired took. released_takes mid y (going_on heard.course (λ w. a.opened)).pair paired took.pair))
     (λ b k. append-nil (both_more n m b k)) (λ b k. append-nil (both_more t u b k)))

@@ -29,7 +29,7 @@ use Rattle.tipc_paired.specs.Paired.{ArePaired}
 use Rattle.tipc_paired.specs.Views.{View, Wire, with_end, with_wire}
 use Rattle.tipc_two_nodes.proofs.deeds.Chains.{did_as, did_nothing, did_on, did_tell, did_then, told_all}
 use Rattle.tipc_two_nodes.proofs.deeds.Pairs.{of_near, takes_far, takes_rest, takes_then, of_turned}
-use Rattle.tipc_two_nodes.specs.deeds.PairDeeds.{IsOfPair, Takes, both_more, none_more}
+use Rattle.tipc_two_nodes.specs.deeds.PairDeeds.{IsOfPair, TakesCourse, both_more, none_more}
 
 -- ---- frames are told
 
@@ -46,8 +46,8 @@ of_told v x y b frames h = record {
 }
 
 -- frames of link states, behind deeds that told none
-pub takes_tell : (v y : View) (x : PairEnds) (b : ℕ) (said : List Outgoing) (n t : ℕ → ℕ → List (List ℕ)) → (first : Takes v y (rests x) n t) → Each (MayTell (first.0.wires b)) said → Each (λ (o : Outgoing). o.bearer ≡ b) said
-    → Takes v y (record (rests x) { states = said }) n t
+pub takes_tell : (v y : View) (x : PairEnds) (b : ℕ) (said : List Outgoing) (n t : ℕ → ℕ → List (List ℕ)) → (first : TakesCourse v y (rests x) n t) → Each (MayTell (first.0.wires b)) said → Each (λ (o : Outgoing). o.bearer ≡ b) said
+    → TakesCourse v y (record (rests x) { states = said }) n t
 takes_tell v y x b said n t first may on =
     let mid = first.0 in
     let last = told_all mid y b said in (
@@ -71,7 +71,7 @@ resets_on b e on = on_bearer_each (λ (o : Outgoing). o.bearer ≡ b) e _ on
 
 -- ---- an end is made
 
-pub made_takes : (v y : View) (x : PairEnds) → ArePaired v y → IsOfPair v x → x.near ≡ None → Takes v y (rests (with_made x)) none_more none_more
+pub made_takes : (v y : View) (x : PairEnds) → ArePaired v y → IsOfPair v x → x.near ≡ None → TakesCourse v y (rests (with_made x)) none_more none_more
 made_takes v y x h pair none =
     let b = x.bearer in
     let end_is = pair.near ∙ none in
@@ -90,7 +90,7 @@ reset_unheld : (st : LinkState) → is_reset_unknown st ≡ true → is_held st 
 reset_unheld ResetUnknown reset = refl
 reset_unheld other reset = absurd (let wrong : ⊥ = cc in wrong)
 
-pub turned_takes : (v y : View) (x : PairEnds) (e : LinkEnd) (mended : Bool) → IsOfPair v x → x.near ≡ Some e → (m : Takes v y (rests (with_near x (record e { mended = mended }))) none_more none_more) × ((m.0.wires x.bearer).end ≡ Some (record e { mended = mended }))
+pub turned_takes : (v y : View) (x : PairEnds) (e : LinkEnd) (mended : Bool) → IsOfPair v x → x.near ≡ Some e → (m : TakesCourse v y (rests (with_near x (record e { mended = mended }))) none_more none_more) × ((m.0.wires x.bearer).end ≡ Some (record e { mended = mended }))
 turned_takes v y x e mended pair is =
     let w' = with_end (v.wires x.bearer) (record e { mended = mended }) in
     let v' = with_wire v x.bearer w' in (
@@ -98,7 +98,7 @@ turned_takes v y x e mended pair is =
       ap (λ (w : Wire). w.end) (put_same v.wires x.bearer w'),
     )
 
-mended_takes_at : (v y : View) (x : PairEnds) (o : Option LinkEnd) → ArePaired v y → IsOfPair v x → x.near ≡ o → Takes v y (record (rests (mended_near x o)) { states = mended_frames o }) none_more none_more
+mended_takes_at : (v y : View) (x : PairEnds) (o : Option LinkEnd) → ArePaired v y → IsOfPair v x → x.near ≡ o → TakesCourse v y (record (rests (mended_near x o)) { states = mended_frames o }) none_more none_more
 mended_takes_at v y x None h pair is = takes_rest v y x pair
 mended_takes_at v y x (Some e) h pair is =
     let m = turned_takes v y x e true pair is in
@@ -112,13 +112,13 @@ mended_takes_at v y x (Some e) h pair is =
     ] refl in
     takes_tell v y (with_near x (mended_end e)) x.bearer (mend_frames e) none_more none_more m.0 (each P (λ unheld. resets_may m.0.0 y x.bearer (mended_end e) m.1 unheld)) (each Q (λ unheld. resets_on x.bearer (mended_end e) end.bearer_is))
 
-pub mended_takes : (v y : View) (x : PairEnds) → ArePaired v y → IsOfPair v x → Takes v y (mended x) none_more none_more
+pub mended_takes : (v y : View) (x : PairEnds) → ArePaired v y → IsOfPair v x → TakesCourse v y (mended x) none_more none_more
 mended_takes v y x h pair = mended_takes_at v y x x.near h pair refl
 
 -- ---- it is called, and goes neither up nor down
 
 pub called_takes : (v y : View) (x : PairEnds) (e : LinkEnd) (call : Call) → IsOfPair v x → x.near ≡ Some e → MayCall v y x.bearer call → is_quiet (outcome e.fsm call).change ≡ true
-    → (m : Takes v y (rests (with_near x (after e (outcome e.fsm call)))) none_more none_more) × ((m.0.wires x.bearer).end ≡ Some (after e (outcome e.fsm call)))
+    → (m : TakesCourse v y (rests (with_near x (after e (outcome e.fsm call)))) none_more none_more) × ((m.0.wires x.bearer).end ≡ Some (after e (outcome e.fsm call)))
 called_takes v y x e call pair is may quiet =
     let w' = with_end (v.wires x.bearer) (after e (outcome e.fsm call)) in
     let v' = with_wire v x.bearer w' in (
@@ -129,7 +129,7 @@ called_takes v y x e call pair is may quiet =
 -- and says what its change asks for
 pub quiet_takes : (v y : View) (x : PairEnds) (e : LinkEnd) (call : Call) (shown : BroadcastState) (c : Change) → ArePaired v y → IsOfPair v x → x.near ≡ Some e → MayCall v y x.bearer call → (outcome e.fsm call).change ≡ c → is_quiet c ≡ true
     → ((probe : Bool) → c ≡ Answer (reply.State probe) → is_up e.fsm.state ≡ true) → IsShowable shown
-    → Takes v y (record (rests (with_near x (after e (outcome e.fsm call)))) { states = follow_frames (with_fsm e (outcome e.fsm call).after) c shown }) none_more none_more
+    → TakesCourse v y (record (rests (with_near x (after e (outcome e.fsm call)))) { states = follow_frames (with_fsm e (outcome e.fsm call).after) c shown }) none_more none_more
 quiet_takes v y x e call shown Up h pair near may is quiet says showable = absurd (let wrong : ⊥ = cc in wrong)
 quiet_takes v y x e call shown (Down cause) h pair near may is quiet says showable = absurd (let wrong : ⊥ = cc in wrong)
 quiet_takes v y x e call shown Stay h pair near may is quiet says showable = (called_takes v y x e call pair near may (ap is_quiet is ∙ quiet)).0
@@ -188,7 +188,7 @@ lets_go e = of (release_change e) where
   of (inl reset) = record { quiet = ap is_quiet reset; end = ap (followed (let_go e)) reset; said = λ _. ap says_notice reset }
   of (inr stay) = record { quiet = ap is_quiet stay; end = ap (followed (let_go e)) stay; said = λ answer. absurd (true≢false (sym answer ∙ ap is_answer stay)) }
 
-release_at : (v y : View) (x : PairEnds) (o : Option LinkEnd) → ArePaired v y → IsOfPair v x → x.near ≡ o → Takes v y (record (rests (record x { near = option_map let_go o })) { states = let_go_frames o }) none_more none_more
+release_at : (v y : View) (x : PairEnds) (o : Option LinkEnd) → ArePaired v y → IsOfPair v x → x.near ≡ o → TakesCourse v y (record (rests (record x { near = option_map let_go o })) { states = let_go_frames o }) none_more none_more
 release_at v y x None h pair is = (
   v,
   record {
@@ -205,18 +205,18 @@ release_at v y x (Some e) h pair is =
       | true ↦ λ answer. may (notices_unheld e.fsm Releases ((lets_go e).said answer))
       | false ↦ λ _. Each-none R
     ] refl in
-    let first : Takes v y (rests (with_near x (let_go e))) none_more none_more = (m.0.0, record { did = m.0.1.did; pair = subst (λ (d : LinkEnd). IsOfPair m.0.0 (with_near x d)) same m.0.1.pair }) in
+    let first : TakesCourse v y (rests (with_near x (let_go e))) none_more none_more = (m.0.0, record { did = m.0.1.did; pair = subst (λ (d : LinkEnd). IsOfPair m.0.0 (with_near x d)) same m.0.1.pair }) in
     takes_tell v y (with_near x (let_go e)) x.bearer (release_frames e) none_more none_more first
     (each (MayTell (m.0.0.wires x.bearer)) (λ unheld. resets_may m.0.0 y x.bearer (let_go e) (m.1 ∙ ap Some same) unheld)) (each (λ (q : Outgoing). q.bearer ≡ x.bearer) (λ unheld. resets_on x.bearer (let_go e) end.bearer_is))
 
-pub release_takes : (v y : View) (x : PairEnds) → ArePaired v y → IsOfPair v x → Takes v y (release_near x) none_more none_more
-release_takes v y x h pair = elim (is_clear x.far) as (λ t. Takes v y (if t then record (rests (record x { near = option_map let_go x.near })) { states = let_go_frames x.near } else rests x) none_more none_more) [
+pub release_takes : (v y : View) (x : PairEnds) → ArePaired v y → IsOfPair v x → TakesCourse v y (release_near x) none_more none_more
+release_takes v y x h pair = elim (is_clear x.far) as (λ t. TakesCourse v y (if t then record (rests (record x { near = option_map let_go x.near })) { states = let_go_frames x.near } else rests x) none_more none_more) [
   | true ↦ release_at v y x x.near h pair refl
   | false ↦ takes_rest v y x pair
 ]
 
 -- at the end of a call
-pub released_takes : (v y : View) (x : PairEnds) → ArePaired v y → IsOfPair v x → Takes v y (released x) none_more none_more
+pub released_takes : (v y : View) (x : PairEnds) → ArePaired v y → IsOfPair v x → TakesCourse v y (released x) none_more none_more
 unfolding released
 released_takes v y x h pair = takes_then v y (release_near x) (at_far release_near) none_more none_more none_more none_more h (release_takes v y x h pair)
     (λ mid paired took. takes_far mid y (release_near x).pair release_near none_more none_more (release_takes mid y (turned (release_near x).pair) paired (of_turned mid (release_near x).pair took.pair)))

@@ -31,7 +31,7 @@ use Rattle.tipc_two_nodes.proofs.deeds.Loading.{loads, waiting_in}
 use Rattle.tipc_two_nodes.proofs.deeds.Pairs.{of_changed, of_near, takes_rest}
 use Rattle.tipc_two_nodes.proofs.deeds.Stepping.{CanHand, stepped_takes}
 use Rattle.tipc_two_nodes.proofs.deeds.Wrapped.{CanHandOver, left_put, over_put}
-use Rattle.tipc_two_nodes.specs.deeds.PairDeeds.{Did, IsOfPair, Takes, Took, called_more, cut_at_more, followed_more, more_at, none_more, tick_more}
+use Rattle.tipc_two_nodes.specs.deeds.PairDeeds.{Did, IsOfPair, TakesCourse, Took, called_more, cut_at_more, followed_more, more_at, none_more, tick_more}
 
 -- ---- what a pair can hand over
 
@@ -56,11 +56,11 @@ can_hand v y x h pair ends = record {
 
 -- ---- a tick
 
-tick_takes_at : (v y : View) (x : PairEnds) (o : Option LinkEnd) (shown : BroadcastState) → ArePaired v y → IsOfPair v x → x.near ≡ o → CanHand v x → IsShowable shown → Takes v y (tick_at shown x o) (called_more x o (TickPasses (is_up_at x.far))) none_more
+tick_takes_at : (v y : View) (x : PairEnds) (o : Option LinkEnd) (shown : BroadcastState) → ArePaired v y → IsOfPair v x → x.near ≡ o → CanHand v x → IsShowable shown → TakesCourse v y (tick_at shown x o) (called_more x o (TickPasses (is_up_at x.far))) none_more
 tick_takes_at v y x None shown h pair is can showable = takes_rest v y x pair
 tick_takes_at v y x (Some e) shown h pair is can showable = stepped_takes v y x e (TickPasses (is_up_at x.far)) 0 shown h pair is tt can showable
 
-pub tick_takes : (v y : View) (x : PairEnds) (shown : BroadcastState) → ArePaired v y → IsOfPair v x → IsPairOfEnds x → IsShowable shown → Takes v y (tick_near shown x) (tick_more x) none_more
+pub tick_takes : (v y : View) (x : PairEnds) (shown : BroadcastState) → ArePaired v y → IsOfPair v x → IsPairOfEnds x → IsShowable shown → TakesCourse v y (tick_near shown x) (tick_more x) none_more
 tick_takes v y x shown h pair ends showable = tick_takes_at v y x x.near shown h pair refl (can_hand v y x h pair ends) showable
 
 -- ---- the bearer is cut
@@ -113,7 +113,7 @@ cut_took v y mid last x e t m =
       pair = subst (λ (k : Course). IsOfPair last k.pair) same m.pair;
     }
 
-cut_takes_link : (v y : View) (x : PairEnds) (e : LinkEnd) → ArePaired v y → IsOfPair v x → IsPairOfEnds x → x.near ≡ Some e → Takes v y (cut_link x e) (followed_more (with_near x (cut_end e (is_up_at x.far))) (on_cut e.fsm (is_up_at x.far)).change) none_more
+cut_takes_link : (v y : View) (x : PairEnds) (e : LinkEnd) → ArePaired v y → IsOfPair v x → IsPairOfEnds x → x.near ≡ Some e → TakesCourse v y (cut_link x e) (followed_more (with_near x (cut_end e (is_up_at x.far))) (on_cut e.fsm (is_up_at x.far)).change) none_more
 cut_takes_link v y x e h pair ends near =
     let held = is_up_at x.far in
     let d = unmended e in
@@ -132,7 +132,7 @@ cut_takes_link v y x e h pair ends near =
     let m = stepped_takes mid y z d (BearerIsCut held) 0 nothing_shown h' t.0.1.pair refl tt hand' nothing_showable in
     (m.0, cut_took v y mid m.0 x e t.0.1 m.1)
 
-pub cut_takes_at : (v y : View) (x : PairEnds) (o : Option LinkEnd) → ArePaired v y → IsOfPair v x → IsPairOfEnds x → x.near ≡ o → Takes v y (cut_at x o) (cut_at_more x o) none_more
+pub cut_takes_at : (v y : View) (x : PairEnds) (o : Option LinkEnd) → ArePaired v y → IsOfPair v x → IsPairOfEnds x → x.near ≡ o → TakesCourse v y (cut_at x o) (cut_at_more x o) none_more
 cut_takes_at v y x None h pair ends is = takes_rest v y x pair
 cut_takes_at v y x (Some e) h pair ends is = cut_takes_link v y x e h pair ends is
 
@@ -168,7 +168,7 @@ unfolding state_fields
 read_says s taken asks shown = refl
 
 answer_takes_up : (v y : View) (x : PairEnds) (e : LinkEnd) (s : SessionEnd) (taken : ℕ) (asks : Bool) (shown : BroadcastState) → ArePaired v y → IsOfPair v x → IsUp (v.wires x.bearer) e s → IsShowable shown
-    → Takes v y (record (rests (with_near x (with_session e (answered (read taken asks s))))) { states = answer_frames (read taken asks s) shown }) none_more none_more
+    → TakesCourse v y (record (rests (with_near x (with_session e (answered (read taken asks s))))) { states = answer_frames (read taken asks s) shown }) none_more none_more
 answer_takes_up v y x e s taken asks shown h pair up showable =
     let b = x.bearer in
     let said = answer_frames (read taken asks s) shown in
@@ -189,16 +189,16 @@ answer_takes_up v y x e s taken asks shown h pair up showable =
       },
     )
 
-answer_takes_at : (v y : View) (x : PairEnds) (o : Option LinkEnd) (taken : ℕ) (asks : Bool) (shown : BroadcastState) → ArePaired v y → IsOfPair v x → x.near ≡ o → IsShowable shown → Takes v y (answered_at x o taken asks shown) none_more none_more
+answer_takes_at : (v y : View) (x : PairEnds) (o : Option LinkEnd) (taken : ℕ) (asks : Bool) (shown : BroadcastState) → ArePaired v y → IsOfPair v x → x.near ≡ o → IsShowable shown → TakesCourse v y (answered_at x o taken asks shown) none_more none_more
 answer_takes_at v y x None taken asks shown h pair is showable = takes_rest v y x pair
 answer_takes_at v y x (Some e) taken asks shown h pair is showable =
-    elim (is_up e.fsm.state) as (λ t. is_up e.fsm.state ≡ t → Takes v y (record (rests (with_near x (if t then record e { session = option_map (λ s. answered (with_broadcast s taken asks)) e.session } else e))) {
+    elim (is_up e.fsm.state) as (λ t. is_up e.fsm.state ≡ t → TakesCourse v y (record (rests (with_near x (if t then record e { session = option_map (λ s. answered (with_broadcast s taken asks)) e.session } else e))) {
       states = if t then session_answer (option_map (λ s. with_broadcast s taken asks) e.session) shown else [];
     }) none_more none_more) [
       | true ↦ λ up.
           let going = (h.here.ends x.bearer e (pair.near ∙ is)).going up in
           let s = going.0 in
-          subst (λ o. Takes v y (record (rests (with_near x (record e { session = option_map (λ s. answered (with_broadcast s taken asks)) o }))) { states = session_answer (option_map (λ s. with_broadcast s taken asks) o) shown }) none_more none_more) (sym going.1)
+          subst (λ o. TakesCourse v y (record (rests (with_near x (record e { session = option_map (λ s. answered (with_broadcast s taken asks)) o }))) { states = session_answer (option_map (λ s. with_broadcast s taken asks) o) shown }) none_more none_more) (sym going.1)
           (answer_takes_up v y x e s taken asks shown h pair (record { end_is = pair.near ∙ is; up = up; session_is = going.1 }) showable)
       | false ↦ λ _. (
         v,
@@ -209,5 +209,5 @@ answer_takes_at v y x (Some e) taken asks shown h pair is showable =
       )
     ] refl
 
-pub answer_takes : (v y : View) (x : PairEnds) (taken : ℕ) (asks : Bool) (shown : BroadcastState) → ArePaired v y → IsOfPair v x → IsShowable shown → Takes v y (answered_near taken asks shown x) none_more none_more
+pub answer_takes : (v y : View) (x : PairEnds) (taken : ℕ) (asks : Bool) (shown : BroadcastState) → ArePaired v y → IsOfPair v x → IsShowable shown → TakesCourse v y (answered_near taken asks shown x) none_more none_more
 answer_takes v y x taken asks shown h pair showable = answer_takes_at v y x x.near taken asks shown h pair refl showable

@@ -15,7 +15,7 @@ use Rattle.tipc_paired.specs.Views.{View, with_end, with_wire}
 use Rattle.tipc_two_nodes.proofs.deeds.Chains.{did_as, did_on, did_then}
 use Rattle.tipc_two_nodes.proofs.deeds.Loading.{loads, waiting_in}
 use Rattle.tipc_two_nodes.proofs.deeds.Pairs.{of_changed, of_changed_far, of_far, of_near, takes_rest}
-use Rattle.tipc_two_nodes.specs.deeds.PairDeeds.{IsOfPair, Takes, both_more, failing_more, more_at, none_more, switching_more}
+use Rattle.tipc_two_nodes.specs.deeds.PairDeeds.{IsOfPair, TakesCourse, both_more, failing_more, more_at, none_more, switching_more}
 
 -- what waits on a link that is up, and these packets behind it, can be put
 behind_waiting : (v y : View) (b : ℕ) (e : LinkEnd) (s : SessionEnd) (packets : List (List ℕ)) → ArePaired v y → IsUp (v.wires b) e s → Each (IsPacket v.node.own) packets → Each (IsPacket v.node.own) (s.sending.waiting ++ packets)
@@ -25,7 +25,7 @@ behind_waiting v y b e s packets h up can =
 -- ---- a link that went down hands over
 
 pub failing_takes : (v y : View) (x : PairEnds) (near far : LinkEnd) (lost s : Option SessionEnd) → ArePaired v y → IsOfPair v x → x.near ≡ Some near → x.far ≡ Some far → far.session ≡ s → is_up near.fsm.state ≡ false → is_up far.fsm.state ≡ true
-    → ((l : SessionEnd) → lost ≡ Some l → Each (IsPacket v.node.own) (left_by l)) → Takes v y (failing x near far lost s) (failing_more (other x.bearer) lost s) none_more
+    → ((l : SessionEnd) → lost ≡ Some l → Each (IsPacket v.node.own) (left_by l)) → TakesCourse v y (failing x near far lost s) (failing_more (other x.bearer) lost s) none_more
 failing_takes v y x near far None s h pair near_is far_is session down up can = takes_rest v y x pair
 failing_takes v y x near far (Some l) None h pair near_is far_is session down up can = takes_rest v y x pair
 failing_takes v y x near far (Some l) (Some s) h pair near_is far_is session down up can =
@@ -52,7 +52,7 @@ given_is : (far : LinkEnd) (old : SessionEnd) → far.session ≡ Some old → w
 given_is far old is = ap (λ (o : Option SessionEnd). record far { session = o }) (sym (ap (option_map waiting_given) is))
 
 pub switching_takes : (v y : View) (x : PairEnds) (near far : LinkEnd) (s old : Option SessionEnd) → ArePaired v y → IsOfPair v x → x.near ≡ Some near → x.far ≡ Some far → near.session ≡ s → far.session ≡ old → is_up near.fsm.state ≡ true
-    → is_up far.fsm.state ≡ true → ((l : SessionEnd) → old ≡ Some l → Each (IsPacket v.node.own) (taken_over l)) → Takes v y (switching x near far s old) (switching_more x.bearer s old) none_more
+    → is_up far.fsm.state ≡ true → ((l : SessionEnd) → old ≡ Some l → Each (IsPacket v.node.own) (taken_over l)) → TakesCourse v y (switching x near far s old) (switching_more x.bearer s old) none_more
 switching_takes v y x near far None old h pair near_is far_is near_session far_session near_up far_up can = takes_rest v y x pair
 switching_takes v y x near far (Some s) None h pair near_is far_is near_session far_session near_up far_up can = takes_rest v y x pair
 switching_takes v y x near far (Some s) (Some old) h pair near_is far_is near_session far_session near_up far_up can =

@@ -20,10 +20,10 @@ use Rattle.tipc_paired.specs.Views.{Begun, View, Wire, with_wire}
 use Rattle.tipc_two_nodes.proofs.deeds.Hearing.{more_taken, none_taken_at}
 use Rattle.tipc_two_nodes.proofs.deeds.Pairs.{of_far, other_bearer, takes_as, takes_rest, up_end}
 use Rattle.tipc_two_nodes.specs.deeds.Arriving.{IsAtPlace, counted_in, inner_taken_at}
-use Rattle.tipc_two_nodes.specs.deeds.PairDeeds.{IsOfPair, IsToldSince, Takes, more_at, none_more}
+use Rattle.tipc_two_nodes.specs.deeds.PairDeeds.{IsOfPair, IsToldSince, TakesCourse, more_at, none_more}
 
 -- the deed
-pub counted_takes : (v y : View) (x : PairEnds) (e : LinkEnd) (r : Received) (more : List (List ℕ)) → IsOfPair v x → Counts v y (other x.bearer) e r more → Takes v y (rests (with_far x (recorded e r))) none_more (more_at (other x.bearer) r.epoch more)
+pub counted_takes : (v y : View) (x : PairEnds) (e : LinkEnd) (r : Received) (more : List (List ℕ)) → IsOfPair v x → Counts v y (other x.bearer) e r more → TakesCourse v y (rests (with_far x (recorded e r))) none_more (more_at (other x.bearer) r.epoch more)
 counted_takes v y x e r more pair m =
     let b = other x.bearer in
     let w' = with_counted (v.wires b) e r more in
@@ -43,10 +43,10 @@ counted_takes v y x e r more pair m =
     )
 
 -- a record that stays as it was
-stays_takes : (v y : View) (x : PairEnds) (e : LinkEnd) (r : Received) (epoch : ℕ) → IsOfPair v x → x.far ≡ Some e → record_of e ≡ Some r → Takes v y (rests (with_far x (recorded e r))) none_more (more_at (other x.bearer) epoch [])
+stays_takes : (v y : View) (x : PairEnds) (e : LinkEnd) (r : Received) (epoch : ℕ) → IsOfPair v x → x.far ≡ Some e → record_of e ≡ Some r → TakesCourse v y (rests (with_far x (recorded e r))) none_more (more_at (other x.bearer) epoch [])
 stays_takes v y x e r epoch pair far is =
     let same : with_far x (recorded e r) ≡ x = ap (with_far x) (same_records e r is) ∙ ap (λ o. record x { far = o }) (sym far) in
-    subst (λ q. Takes v y (rests q) none_more (more_at (other x.bearer) epoch [])) (sym same) (takes_as v y (rests x) none_more none_more none_more (more_at (other x.bearer) epoch []) (takes_rest v y x pair) (λ b k. refl) (none_taken_at (other x.bearer) epoch))
+    subst (λ q. TakesCourse v y (rests q) none_more (more_at (other x.bearer) epoch [])) (sym same) (takes_as v y (rests x) none_more none_more none_more (more_at (other x.bearer) epoch []) (takes_rest v y x pair) (λ b k. refl) (none_taken_at (other x.bearer) epoch))
 
 -- ---- what is named
 
@@ -84,10 +84,10 @@ names v y b epoch e g h is begun contact seen lasts no_lower = record {
 
 -- its session's record becomes what it becomes
 abbrev CountsOn : View → View → PairEnds → LinkEnd → ℕ → Received → List (List ℕ) → Type 0
-CountsOn v y x e epoch r more = Takes v y (rests (with_far x (recorded e r))) none_more (more_at (other x.bearer) epoch more)
+CountsOn v y x e epoch r more = TakesCourse v y (rests (with_far x (recorded e r))) none_more (more_at (other x.bearer) epoch more)
 
 counts_on : (v y : View) (x : PairEnds) (e : LinkEnd) (epoch : ℕ) (r : Received) (more : List (List ℕ)) → IsOfPair v x → r.epoch ≡ epoch → Counts v y (other x.bearer) e r more → CountsOn v y x e epoch r more
-counts_on v y x e epoch r more pair same m = subst (λ n. Takes v y (rests (with_far x (recorded e r))) none_more (more_at (other x.bearer) n more)) same (counted_takes v y x e r more pair m)
+counts_on v y x e epoch r more pair same m = subst (λ n. TakesCourse v y (rests (with_far x (recorded e r))) none_more (more_at (other x.bearer) n more)) same (counted_takes v y x e r more pair m)
 
 -- the near link is beside the far one
 beside_far : (v : View) (x : PairEnds) → IsOfPair v x → is_up_at x.near ≡ true → IsBeside v (other x.bearer)
@@ -97,7 +97,7 @@ beside_far v x pair up =
 
 -- the record is of an earlier session, or of this one
 present_takes : (v y : View) (x : PairEnds) (e : LinkEnd) (t : Tunnelled) (by : ℕ) → ArePaired v y → IsOfPair v x → x.far ≡ Some e → is_up_at x.near ≡ true → IsAtPlace y x t by → ((old : Received) → record_of e ≡ Some old → old.epoch ≤ t.old.epoch)
-    → Takes v y (inner_at t by x (Some e)) none_more (inner_taken_at y x t by (Some e))
+    → TakesCourse v y (inner_at t by x (Some e)) none_more (inner_taken_at y x t by (Some e))
 present_takes v y x e t by h pair far up at no_lower =
     let b = other x.bearer in
     let epoch = t.old.epoch in
@@ -107,7 +107,7 @@ present_takes v y x e t by h pair far up at no_lower =
     let m = names v y b epoch e at.begun h (pair.far ∙ far) at.begun_is (at.contact_is ∙ sym pair.contact) (at.seen_is ∙ sym pair.seen) (beside_far v x pair up) no_lower in
     let same = named_epoch (record_of e) epoch no_lower in
     let only = counts_on v y x e epoch r [] pair same (names_count v y b e epoch h m) in
-    elim (t.count == 0) as (λ k. (t.count == 0) ≡ k → Takes v y (rests (with_far x (if k then named_end e epoch else tunnelled_end e epoch u))) none_more (more_at b epoch (if k then [] else counted_in r epoch u line))) [
+    elim (t.count == 0) as (λ k. (t.count == 0) ≡ k → TakesCourse v y (rests (with_far x (if k then named_end e epoch else tunnelled_end e epoch u))) none_more (more_at b epoch (if k then [] else counted_in r epoch u line))) [
       | true ↦ λ _. only
       | false ↦ λ some. elim (is_next r epoch u) as (λ k. is_next r epoch u ≡ k → CountsOn v y x e epoch (if k then advanced_by r u else r) (if k then take (length (freed r u)) (drop r.taken line) else [])) [
         | true ↦ λ next. counts_on v y x e epoch (advanced_by r u) _ pair same (tunnels_count v y b e epoch u r h m refl (at.place e far some next))
@@ -123,7 +123,7 @@ past_next : (old : Received) (epoch : ℕ) (u : Taken) → epoch < old.epoch →
 unfolding is_next
 past_next old epoch u later = (let other : (epoch == old.epoch) ≡ false = grind (arith, nat_tests) in rw other refl)
 
-past_takes : (v y : View) (x : PairEnds) (e : LinkEnd) (t : Tunnelled) (by : ℕ) (old : Received) → IsOfPair v x → x.far ≡ Some e → record_of e ≡ Some old → t.old.epoch < old.epoch → Takes v y (inner_at t by x (Some e)) none_more (inner_taken_at y x t by (Some e))
+past_takes : (v y : View) (x : PairEnds) (e : LinkEnd) (t : Tunnelled) (by : ℕ) (old : Received) → IsOfPair v x → x.far ≡ Some e → record_of e ≡ Some old → t.old.epoch < old.epoch → TakesCourse v y (inner_at t by x (Some e)) none_more (inner_taken_at y x t by (Some e))
 past_takes v y x e t by old pair far is later =
     let b = other x.bearer in
     let epoch = t.old.epoch in
@@ -132,12 +132,12 @@ past_takes v y x e t by old pair far is later =
     let stays : named (record_of e) epoch ≡ old = ap (λ o. named o epoch) is ∙ named_past old epoch later in
     let not_next : is_next old epoch u ≡ false = past_next old epoch u later in
     let done = stays_takes v y x e old epoch pair far is in
-    let P : Received → Type 0 = λ r. Takes v y (rests (with_far x (if t.count == 0 then recorded e r else recorded e (if is_next r epoch u then advanced_by r u else r)))) none_more
+    let P : Received → Type 0 = λ r. TakesCourse v y (rests (with_far x (if t.count == 0 then recorded e r else recorded e (if is_next r epoch u then advanced_by r u else r)))) none_more
     (more_at b epoch (if t.count == 0 then [] else (if is_next r epoch u then take (length (freed r u)) (drop r.taken line) else []))) in
     subst P (sym stays) (
-    elim (t.count == 0) as (λ k. Takes v y (rests (with_far x (if k then recorded e old else recorded e (if is_next old epoch u then advanced_by old u else old)))) none_more (more_at b epoch (if k then [] else (if is_next old epoch u then take (length (freed old u)) (drop old.taken line) else [])))) [
+    elim (t.count == 0) as (λ k. TakesCourse v y (rests (with_far x (if k then recorded e old else recorded e (if is_next old epoch u then advanced_by old u else old)))) none_more (more_at b epoch (if k then [] else (if is_next old epoch u then take (length (freed old u)) (drop old.taken line) else [])))) [
       | true ↦ done
-      | false ↦ subst (λ k. Takes v y (rests (with_far x (recorded e (if k then advanced_by old u else old)))) none_more (more_at b epoch (if k then take (length (freed old u)) (drop old.taken line) else []))) (sym not_next) done
+      | false ↦ subst (λ k. TakesCourse v y (rests (with_far x (recorded e (if k then advanced_by old u else old)))) none_more (more_at b epoch (if k then take (length (freed old u)) (drop old.taken line) else []))) (sym not_next) done
     ])
 
 record_split : (o : Option Received) (epoch : ℕ) → ((old : Received) → o ≡ Some old → old.epoch ≤ epoch) ⊎ ((old : Received) × (o ≡ Some old) × (epoch < old.epoch))
@@ -147,7 +147,7 @@ record_split (Some r) epoch = elim (nat_lt epoch r.epoch) as (λ t. nat_lt epoch
   | false ↦ λ least. inl (λ old is. (let one : r ≡ old = cc in let most : r.epoch ≤ epoch = grind (arith, nat_tests) in subst (λ (k : Received). k.epoch ≤ epoch) one most))
 ] refl
 
-pub inner_takes : (v y : View) (x : PairEnds) (o : Option LinkEnd) (t : Tunnelled) (by : ℕ) → ArePaired v y → IsOfPair v x → x.far ≡ o → is_up_at x.near ≡ true → IsAtPlace y x t by → Takes v y (inner_at t by x o) none_more (inner_taken_at y x t by o)
+pub inner_takes : (v y : View) (x : PairEnds) (o : Option LinkEnd) (t : Tunnelled) (by : ℕ) → ArePaired v y → IsOfPair v x → x.far ≡ o → is_up_at x.near ≡ true → IsAtPlace y x t by → TakesCourse v y (inner_at t by x o) none_more (inner_taken_at y x t by o)
 inner_takes v y x None t by h pair far up at = takes_rest v y x pair
 inner_takes v y x (Some e) t by h pair far up at = elim (record_split (record_of e) t.old.epoch) [
   | inl no_lower ↦ present_takes v y x e t by h pair far up at no_lower

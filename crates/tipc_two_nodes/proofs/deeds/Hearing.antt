@@ -20,7 +20,7 @@ use Rattle.tipc_two_nodes.proofs.deeds.Chains.{did_as, did_on, did_tell, did_the
 use Rattle.tipc_two_nodes.proofs.deeds.Loading.{flushes, more_here}
 use Rattle.tipc_two_nodes.proofs.deeds.Pairs.{of_changed}
 use Rattle.tipc_two_nodes.specs.deeds.Arriving.{taken_of}
-use Rattle.tipc_two_nodes.specs.deeds.PairDeeds.{Did, IsOfPair, IsToldSince, Takes, both_more, more_at, none_more}
+use Rattle.tipc_two_nodes.specs.deeds.PairDeeds.{Did, IsOfPair, IsToldSince, TakesCourse, both_more, more_at, none_more}
 
 -- ---- what is taken
 
@@ -155,7 +155,7 @@ heard_epoch s p by (Shows next missed probe) = ap (λ (k : SessionEnd). k.epoch)
 heard_epoch s p by (Carries number packet) = refl
 
 pub heard_takes : (v y : View) (x : PairEnds) (e : LinkEnd) (s : SessionEnd) (p : Fields) (by : ℕ) (c : Content) → ArePaired v y → IsOfPair v x → IsUp (v.wires x.bearer) e s → Hears v y x.bearer s p → content_of p ≡ c → (c ≡ Nothing → ⊥)
-    → Takes v y (record (rests (with_near x (with_session e (arrived s by p.acknowledgement c)))) { states = sent_again (Some s) p.acknowledgement c; numbered = newly_numbered (Some s) by p.acknowledgement c })
+    → TakesCourse v y (record (rests (with_near x (with_session e (arrived s by p.acknowledgement c)))) { states = sent_again (Some s) p.acknowledgement c; numbered = newly_numbered (Some s) by p.acknowledgement c })
     (more_at x.bearer s.epoch (moving (heard s by p.acknowledgement c))) (more_at x.bearer s.peer_epoch (taken_of s p by c))
 heard_takes v y x e s p by c h pair up a is some =
     let b = x.bearer in

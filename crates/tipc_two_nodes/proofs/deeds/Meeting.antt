@@ -28,7 +28,7 @@ use Rattle.tipc_two_nodes.proofs.deeds.Hearing.{heard_takes}
 use Rattle.tipc_two_nodes.proofs.deeds.Pairs.{takes_as, takes_rest, takes_then}
 use Rattle.tipc_two_nodes.proofs.deeds.Stepping.{CanHand, First, called_fsm, first_takes, hand_far, stepped_takes, up_takes}
 use Rattle.tipc_two_nodes.specs.deeds.Arriving.{Reaches, heard_more, heard_taken, linked_taken, met_more}
-use Rattle.tipc_two_nodes.specs.deeds.PairDeeds.{IsOfPair, Takes, both_more, followed_more, none_more}
+use Rattle.tipc_two_nodes.specs.deeds.PairDeeds.{IsOfPair, TakesCourse, both_more, followed_more, none_more}
 
 -- ---- the link states
 
@@ -90,17 +90,17 @@ Listening z d p by = record (rests (with_near z (heard_end d by p.acknowledgemen
 }
 
 pub listening_takes : (v y : View) (z : PairEnds) (d : LinkEnd) (s : SessionEnd) (p : Fields) (by : ℕ) → ArePaired v y → IsOfPair v z → IsUp (v.wires z.bearer) d s → Hears v y z.bearer s p → is_traffic p.header ≡ true
-    → Takes v y (Listening z d p by) (heard_more z.bearer d.session p by) (heard_taken z.bearer d.session p by)
+    → TakesCourse v y (Listening z d p by) (heard_more z.bearer d.session p by) (heard_taken z.bearer d.session p by)
 listening_takes v y z d s p by h pair up a traffic =
     let c = content_of p in
     subst
-    (λ o. Takes v y (record (rests (with_near z (record d { session = option_map (λ k. arrived k by p.acknowledgement c) o }))) { states = sent_again o p.acknowledgement c; numbered = newly_numbered o by p.acknowledgement c })
+    (λ o. TakesCourse v y (record (rests (with_near z (record d { session = option_map (λ k. arrived k by p.acknowledgement c) o }))) { states = sent_again o p.acknowledgement c; numbered = newly_numbered o by p.acknowledgement c })
     (heard_more z.bearer o p by) (heard_taken z.bearer o p by)) (sym up.session_is) (heard_takes v y z d s p by c h pair up a refl (brings p traffic))
 
 -- the link goes up with a packet, or stays up, and its session hears it
 pub heard_first_takes : (v y : View) (x : PairEnds) (e : LinkEnd) (es er : ℕ) (p : Fields) (by : ℕ) (shown : BroadcastState) → ArePaired v y → IsOfPair v x → x.near ≡ Some e → Reaches v y x.bearer es er p → is_traffic p.header ≡ true → MayCall v y x.bearer (TrafficArrives es er) → IsShowable shown
     → IsTakenIn es er (on_traffic e.fsm es er) → is_taken (on_traffic e.fsm es er).change ≡ true
-    → Takes v y (going_on (First x e (TrafficArrives es er) (on_traffic e.fsm es er).change shown) (λ z. Listening z (after e (on_traffic e.fsm es er)) p by)) (heard_more x.bearer (after e (on_traffic e.fsm es er)).session p by) (heard_taken x.bearer (after e (on_traffic e.fsm es er)).session p by)
+    → TakesCourse v y (going_on (First x e (TrafficArrives es er) (on_traffic e.fsm es er).change shown) (λ z. Listening z (after e (on_traffic e.fsm es er)) p by)) (heard_more x.bearer (after e (on_traffic e.fsm es er)).session p by) (heard_taken x.bearer (after e (on_traffic e.fsm es er)).session p by)
 heard_first_takes v y x e es er p by shown h pair near r traffic may showable k taken =
     let call = TrafficArrives es er in
     let o = on_traffic e.fsm es er in
@@ -129,7 +129,7 @@ Linked x e o p by shown t = record (rests (with_near x (if t then heard_end (aft
 }
 
 abbrev Met : View → View → PairEnds → LinkEnd → Outcome → Fields → ℕ → ℕ → BroadcastState → Bool → Type 0
-Met v y x e o p es by shown t = Takes v y (going_on (Linked x e o p by shown t) (λ z. following z o.change es))
+Met v y x e o p es by shown t = TakesCourse v y (going_on (Linked x e o p by shown t) (λ z. following z o.change es))
     (both_more (if t then heard_more x.bearer (after e o).session p by else none_more) (followed_more (with_near x (if t then heard_end (after e o) by p.acknowledgement (content_of p) else after e o)) o.change))
     (if t then heard_taken x.bearer (after e o).session p by else none_more)
 
@@ -145,16 +145,16 @@ heard_met v y x e es er p by shown h pair near r may can showable traffic taken 
     let n = heard_more x.bearer d.session p by in
     let t = heard_taken x.bearer d.session p by in
     let up : is_up hd.fsm.state ≡ true = ap (λ (f : Fsm). is_up f.state) (called_fsm e (TrafficArrives es er)) ∙ k.up in
-    let linked : Takes v y (Linked x e o p by shown true) n t = heard_first_takes v y x e es er p by shown h pair near r traffic may showable k taken in
+    let linked : TakesCourse v y (Linked x e o p by shown true) n t = heard_first_takes v y x e es er p by shown h pair near r traffic may showable k taken in
     takes_as v y (going_on (Linked x e o p by shown true) (λ w. following w o.change es)) (both_more n (followed_more z o.change)) (both_more n (followed_more z o.change)) (both_more t none_more) t
     (takes_then v y (Linked x e o p by shown true) (λ w. following w o.change es) n (followed_more z o.change) t none_more h linked
     (λ mid paired took. elim k.change [
-      | inl rose ↦ subst (λ c. Takes mid y (following z c es) (followed_more z c) none_more) (sym rose) (up_takes mid y z hd es paired took.pair refl up (hand_far v mid x z pair took.pair refl refl refl can))
-      | inr stayed ↦ subst (λ c. Takes mid y (following z c es) (followed_more z c) none_more) (sym stayed) (takes_rest mid y z took.pair)
+      | inl rose ↦ subst (λ c. TakesCourse mid y (following z c es) (followed_more z c) none_more) (sym rose) (up_takes mid y z hd es paired took.pair refl up (hand_far v mid x z pair took.pair refl refl refl can))
+      | inr stayed ↦ subst (λ c. TakesCourse mid y (following z c es) (followed_more z c) none_more) (sym stayed) (takes_rest mid y z took.pair)
     ])) (λ i j. refl) (λ i j. append-nil (t i j))
 
 pub met_takes : (v y : View) (x : PairEnds) (e : LinkEnd) (call : Call) (es er : ℕ) (p : Fields) (by : ℕ) (shown : BroadcastState) → ArePaired v y → IsOfPair v x → x.near ≡ Some e → MayCall v y x.bearer call → CanHand v x → IsShowable shown
-    → (is_heard p.header (outcome e.fsm call).change ≡ true → MayHear v y x e call es er p) → Takes v y (met x e (outcome e.fsm call) p es by shown).course (met_more x e (outcome e.fsm call) p by) (linked_taken x e (outcome e.fsm call) p by)
+    → (is_heard p.header (outcome e.fsm call).change ≡ true → MayHear v y x e call es er p) → TakesCourse v y (met x e (outcome e.fsm call) p es by shown).course (met_more x e (outcome e.fsm call) p by) (linked_taken x e (outcome e.fsm call) p by)
 met_takes v y x e call es er p by shown h pair near may can showable hear =
     let o = outcome e.fsm call in
     elim (is_heard p.header o.change) as (λ t. is_heard p.header o.change ≡ t → Met v y x e o p es by shown t) [
@@ -165,6 +165,6 @@ met_takes v y x e call es er p by shown h pair near may can showable hear =
           (heard_met v y x e es er p by shown h pair near m.reaches (subst (MayCall v y x.bearer) m.call_is may) can showable both.0 (ap (λ c. is_taken (outcome e.fsm c).change) (sym m.call_is) ∙ both.1))
       | false ↦ λ _.
           let z = with_near x (after e o) in
-          subst (λ (fs : List Outgoing). Takes v y (going_on (record (rests z) { states = fs }) (λ w. following w o.change es)) (followed_more z o.change) none_more) (sym (append-nil (frames e o shown)))
+          subst (λ (fs : List Outgoing). TakesCourse v y (going_on (record (rests z) { states = fs }) (λ w. following w o.change es)) (followed_more z o.change) none_more) (sym (append-nil (frames e o shown)))
           (stepped_takes v y x e call es shown h pair near may can showable)
     ] refl

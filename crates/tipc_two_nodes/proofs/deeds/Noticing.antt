@@ -28,7 +28,7 @@ use Rattle.tipc_two_nodes.proofs.deeds.Chains.{did_as, did_quietly, did_then}
 use Rattle.tipc_two_nodes.proofs.deeds.Ending.{all_told}
 use Rattle.tipc_two_nodes.proofs.deeds.Pairs.{apart_of, takes_as, takes_rest, takes_then, up_end}
 use Rattle.tipc_two_nodes.proofs.deeds.Stepping.{CanHand, down_alone, stepped_takes}
-use Rattle.tipc_two_nodes.specs.deeds.PairDeeds.{IsOfPair, Takes, both_more, called_more, followed_more, none_more}
+use Rattle.tipc_two_nodes.specs.deeds.PairDeeds.{IsOfPair, TakesCourse, both_more, called_more, followed_more, none_more}
 -- ---- no link is up
 use Rattle.tipc_two_nodes.proofs.calls.PairViews.{or_false as apart_both}
 use Rattle.tipc_pair.proofs.HeldLaws.{parted_down}
@@ -54,7 +54,7 @@ called_alone x (Some e) es held down = followed_alone (with_near x (after e (on_
 -- ---- a RESET is given to the near end
 
 pub reset_given_takes : (v y : View) (x : PairEnds) (o : Option LinkEnd) (es : ℕ) (held : Bool) (shown : BroadcastState) → ArePaired v y → IsOfPair v x → x.near ≡ o → IsNoticed (said_by y) x.bearer es v.node.seen → CanHand v x → IsShowable shown
-    → Takes v y (reset_given es held shown x o).course (called_more x o (ResetArrives es held)) none_more
+    → TakesCourse v y (reset_given es held shown x o).course (called_more x o (ResetArrives es held)) none_more
 reset_given_takes v y x None es held shown h pair is told can showable = takes_rest v y x pair
 reset_given_takes v y x (Some e) es held shown h pair is told can showable = stepped_takes v y x e (ResetArrives es held) es shown h pair is told can showable
 
@@ -67,10 +67,10 @@ pub record IsAlone (seen bearer : ℕ) (q : PairEnds) : Type 0 where
 
 -- a RESET at such a pair
 pub alone_reset_takes : (v y : View) (q : PairEnds) (seen bearer es : ℕ) (held : Bool) (shown : BroadcastState) → ArePaired v y → IsOfPair v q → IsAlone seen bearer q → IsNoticed (said_by y) bearer es seen → IsShowable shown
-    → Takes v y (reset_given es held shown q q.near).course none_more none_more
+    → TakesCourse v y (reset_given es held shown q q.near).course none_more none_more
 alone_reset_takes v y q seen bearer es held shown h pair alone told showable =
     let told' : IsNoticed (said_by y) q.bearer es v.node.seen = subst (λ b. IsNoticed (said_by y) b es v.node.seen) (sym alone.bearer_is) (subst (IsNoticed (said_by y) bearer es) (sym (pair.seen ∙ alone.seen_is)) told) in
-    subst (λ n. Takes v y (reset_given es held shown q q.near).course n none_more) (called_alone q q.near es held alone.far)
+    subst (λ n. TakesCourse v y (reset_given es held shown q q.near).course n none_more) (called_alone q q.near es held alone.far)
     (reset_given_takes v y q q.near es held shown h pair refl told' (hand_none v q pair alone.near alone.far) showable)
 
 -- ---- a RESET that takes the last link down is given to the end again
@@ -90,14 +90,14 @@ not_up true is = absurd (let wrong : ⊥ = cc in wrong)
 not_up false is = refl
 
 pub reset_near_takes : (v y : View) (x : PairEnds) (es : ℕ) (shown : BroadcastState) → ArePaired v y → IsOfPair v x → IsNoticed (said_by y) x.bearer es x.seen → CanHand v x → IsShowable shown
-    → Takes v y (reset_near es shown x).course (called_more x x.near (ResetArrives es (is_up_at x.far))) none_more
+    → TakesCourse v y (reset_near es shown x).course (called_more x x.near (ResetArrives es (is_up_at x.far))) none_more
 reset_near_takes v y x es shown h pair told can showable =
     let held = is_up_at x.far in
     let more = called_more x x.near (ResetArrives es held) in
     let first = reset_given es held shown x x.near in
     let again : PairEnds → Heard = λ q. reset_given es false shown q q.near in
     let once = reset_given_takes v y x x.near es held shown h pair refl (subst (IsNoticed (said_by y) x.bearer es) (sym pair.seen) told) can showable in
-    elim (is_down (reset_change es held x.near) && not held) as (λ t. (is_down (reset_change es held x.near) && not held) ≡ t → Takes v y (if t then behind first.course again else first).course more none_more) [
+    elim (is_down (reset_change es held x.near) && not held) as (λ t. (is_down (reset_change es held x.near) && not held) ≡ t → TakesCourse v y (if t then behind first.course again else first).course more none_more) [
       | true ↦ λ ended.
           let both = and_parts (is_down (reset_change es held x.near)) (not held) ended in
           let alone = reset_alone x x.near es held shown both.0 (not_up held both.1) in
@@ -126,7 +126,7 @@ has_up v x pair contact = elim (cases_Bool (is_up_at x.near)) [
   | inr down ↦ (let at = up_end x.far (ap (λ t. t || is_up_at x.far) (sym down) ∙ contact) in record { bearer = other x.bearer; end = at.0; end_is = pair.far ∙ at.1; up = at.2 })
 ]
 
-ended_risen_takes : (v y : View) (x : PairEnds) (number : ℕ) → ArePaired v y → IsOfPair v x → x.seen < number → number < 2 ^ 64 → IsContactShown (said_by y) number → in_contact x ≡ true → Takes v y (contact_ends (record x { seen = number }) (x.contact, x.seen) number) none_more none_more
+ended_risen_takes : (v y : View) (x : PairEnds) (number : ℕ) → ArePaired v y → IsOfPair v x → x.seen < number → number < 2 ^ 64 → IsContactShown (said_by y) number → in_contact x ≡ true → TakesCourse v y (contact_ends (record x { seen = number }) (x.contact, x.seen) number) none_more none_more
 ended_risen_takes v y x number h pair higher fits named contact =
     let at = has_up v x pair contact in
     let next = v.node.contact + 1 in
@@ -166,7 +166,7 @@ ended_risen_takes v y x number h pair higher fits named contact =
     )
 
 -- without contact each end forgets the peer's epoch
-forgotten_takes : (v y : View) (x : PairEnds) (number : ℕ) → IsOfPair v x → x.seen < number → number < 2 ^ 64 → IsContactShown (said_by y) number → is_up_at x.near ≡ false → is_up_at x.far ≡ false → Takes v y (rests (forgotten x number)) none_more none_more
+forgotten_takes : (v y : View) (x : PairEnds) (number : ℕ) → IsOfPair v x → x.seen < number → number < 2 ^ 64 → IsContactShown (said_by y) number → is_up_at x.near ≡ false → is_up_at x.far ≡ false → TakesCourse v y (rests (forgotten x number)) none_more none_more
 forgotten_takes v y x number pair higher fits named near far =
     let v1 = risen_view v number in
     let one : DoesDeed v y v1 = works v1 (shows number (subst (λ n. n < number) (sym pair.seen) higher) fits (apart_of v x pair near far) named) in (
@@ -186,8 +186,8 @@ forgotten_takes v y x number pair higher fits named near far =
       },
     )
 
-pub risen_takes : (v y : View) (x : PairEnds) (number : ℕ) → ArePaired v y → IsOfPair v x → x.seen < number → number < 2 ^ 64 → IsContactShown (said_by y) number → Takes v y (risen x number) none_more none_more
-risen_takes v y x number h pair higher fits named = elim (in_contact x) as (λ t. in_contact x ≡ t → Takes v y (if t then contact_ends (record x { seen = number }) (x.contact, x.seen) number else rests (forgotten x number)) none_more none_more) [
+pub risen_takes : (v y : View) (x : PairEnds) (number : ℕ) → ArePaired v y → IsOfPair v x → x.seen < number → number < 2 ^ 64 → IsContactShown (said_by y) number → TakesCourse v y (risen x number) none_more none_more
+risen_takes v y x number h pair higher fits named = elim (in_contact x) as (λ t. in_contact x ≡ t → TakesCourse v y (if t then contact_ends (record x { seen = number }) (x.contact, x.seen) number else rests (forgotten x number)) none_more none_more) [
   | true ↦ λ contact. ended_risen_takes v y x number h pair higher fits named contact
   | false ↦ λ none. (let both = apart_both (is_up_at x.near) (is_up_at x.far) none in forgotten_takes v y x number pair higher fits named both.0 both.1)
 ] refl
@@ -205,10 +205,10 @@ risen_alone x number = elim (in_contact x) as (λ t. in_contact x ≡ t → IsAl
 
 -- and a RESET goes on
 pub risen_reset_takes : (v y : View) (x : PairEnds) (number es : ℕ) (shown : BroadcastState) → ArePaired v y → IsOfPair v x → x.seen < number → number < 2 ^ 64 → IsNoticed (said_by y) x.bearer es number → IsShowable shown
-    → Takes v y (behind (risen x number) (reset_near es shown)).course none_more none_more
+    → TakesCourse v y (behind (risen x number) (reset_near es shown)).course none_more none_more
 risen_reset_takes v y x number es shown h pair higher fits told showable =
     let q = (risen x number).pair in
     let alone = risen_alone x number in
     takes_then v y (risen x number) (λ z. (reset_near es shown z).course) none_more none_more none_more none_more h (risen_takes v y x number h pair higher fits (contact_shown (said_by y) x.bearer es number told))
-    (λ mid paired took. subst (λ n. Takes mid y (reset_near es shown q).course n none_more) (called_alone q q.near es (is_up_at q.far) alone.far)
+    (λ mid paired took. subst (λ n. TakesCourse mid y (reset_near es shown q).course n none_more) (called_alone q q.near es (is_up_at q.far) alone.far)
     (reset_near_takes mid y q es shown paired took.pair (subst (λ b. IsNoticed (said_by y) b es q.seen) (sym alone.bearer_is) (subst (IsNoticed (said_by y) x.bearer es) (sym alone.seen_is) told)) (hand_none mid q took.pair alone.near alone.far) showable))

@@ -14,7 +14,7 @@ use Rattle.tipc_paired.specs.Deeds.{IsBeside}
 use Rattle.tipc_paired.specs.Paired.{ArePaired}
 use Rattle.tipc_paired.specs.Views.{IsApart, Node, View, Wire, with_wire}
 use Rattle.tipc_two_nodes.proofs.deeds.Chains.{did_as, did_nothing, did_then, each_first, each_last}
-use Rattle.tipc_two_nodes.specs.deeds.PairDeeds.{IsOfPair, Takes, Took, both_more, none_more}
+use Rattle.tipc_two_nodes.specs.deeds.PairDeeds.{IsOfPair, TakesCourse, Took, both_more, none_more}
 
 -- ---- seen from either link
 
@@ -85,7 +85,7 @@ beside_of v x h up =
 
 -- ---- courses
 
-pub takes_rest : (v y : View) (x : PairEnds) → IsOfPair v x → Takes v y (rests x) none_more none_more
+pub takes_rest : (v y : View) (x : PairEnds) → IsOfPair v x → TakesCourse v y (rests x) none_more none_more
 takes_rest v y x h = (v, record { did = did_nothing v y; pair = h })
 
 -- the frames of two courses, those of link states first
@@ -106,22 +106,22 @@ took_then v y mid last c step n m t u first next =
       pair = next.pair;
     }
 
-pub takes_then : (v y : View) (c : Course) (step : PairEnds → Course) (n m t u : ℕ → ℕ → List (List ℕ)) → ArePaired v y → Takes v y c n t
-    → ((mid : View) → ArePaired mid y → Took v y mid c n t → Takes mid y (step c.pair) m u) → Takes v y (going_on c step) (both_more n m) (both_more t u)
+pub takes_then : (v y : View) (c : Course) (step : PairEnds → Course) (n m t u : ℕ → ℕ → List (List ℕ)) → ArePaired v y → TakesCourse v y c n t
+    → ((mid : View) → ArePaired mid y → Took v y mid c n t → TakesCourse mid y (step c.pair) m u) → TakesCourse v y (going_on c step) (both_more n m) (both_more t u)
 takes_then v y c step n m t u h first next =
     let mid = first.0 in
     let last = next mid (all_paired v y mid h first.1.did.does) first.1 in
     (last.0, took_then v y mid last.0 c step n m t u first.1 last.1)
 
 -- the same packets by other words
-pub takes_as : (v y : View) (c : Course) (n m t u : ℕ → ℕ → List (List ℕ)) → Takes v y c n t → ((b k : ℕ) → n b k ≡ m b k) → ((b k : ℕ) → t b k ≡ u b k) → Takes v y c m u
+pub takes_as : (v y : View) (c : Course) (n m t u : ℕ → ℕ → List (List ℕ)) → TakesCourse v y c n t → ((b k : ℕ) → n b k ≡ m b k) → ((b k : ℕ) → t b k ≡ u b k) → TakesCourse v y c m u
 takes_as v y c n m t u h same_n same_t = (h.0, record { did = did_as v y h.0 (sent_in c) (sent_in c) n m t u h.1.did (λ P each. each) same_n same_t; pair = h.1.pair })
 
 -- at the far link, and at the link of a bearer
-pub takes_far : (v y : View) (x : PairEnds) (step : PairEnds → Course) (n t : ℕ → ℕ → List (List ℕ)) → Takes v y (step (turned x)) n t → Takes v y (at_far step x) n t
+pub takes_far : (v y : View) (x : PairEnds) (step : PairEnds → Course) (n t : ℕ → ℕ → List (List ℕ)) → TakesCourse v y (step (turned x)) n t → TakesCourse v y (at_far step x) n t
 takes_far v y x step n t m = (m.0, record { did = m.1.did; pair = of_turned m.0 (step (turned x)).pair m.1.pair })
 
-pub takes_at : (v y : View) (b : ℕ) (x : PairEnds) (call : PairEnds → Course) (n t : ℕ → ℕ → List (List ℕ)) → Takes v y (call (facing b x)) n t → Takes v y (at_bearer b x call) n t
+pub takes_at : (v y : View) (b : ℕ) (x : PairEnds) (call : PairEnds → Course) (n t : ℕ → ℕ → List (List ℕ)) → TakesCourse v y (call (facing b x)) n t → TakesCourse v y (at_bearer b x call) n t
 takes_at v y b x call n t m = (m.0, record { did = m.1.did; pair = of_facing m.0 x.bearer (call (facing b x)).pair m.1.pair })
 
 -- ---- an end that changed, by whatever deeds

@@ -34,7 +34,7 @@ use Rattle.tipc_two_nodes.proofs.deeds.Chains.{did_as, did_nothing, did_on}
 use Rattle.tipc_two_nodes.proofs.deeds.Changing.{failing_takes, switching_takes}
 use Rattle.tipc_two_nodes.proofs.deeds.Ending.{ended_takes}
 use Rattle.tipc_two_nodes.proofs.deeds.Pairs.{apart_of, beside_of, of_near, takes_rest, takes_then, up_end}
-use Rattle.tipc_two_nodes.specs.deeds.PairDeeds.{Did, IsOfPair, Takes, Took, failing_more, followed_more, none_more, switching_more}
+use Rattle.tipc_two_nodes.specs.deeds.PairDeeds.{Did, IsOfPair, TakesCourse, Took, failing_more, followed_more, none_more, switching_more}
 
 -- What one link has can be put on the other: what the near one leaves, and what the far one hands to the near one.
 pub record CanHand (v : View) (x : PairEnds) : Type 0 where
@@ -54,7 +54,7 @@ followed_quiet x (Down cause) quiet = absurd (let wrong : ⊥ = cc in wrong)
 followed_quiet x other quiet = refl
 
 -- a course that also tells a change
-takes_telling : (v y : View) (c : Course) (told : Transition) (n t : ℕ → ℕ → List (List ℕ)) → Takes v y c n t → Takes v y (telling told c) n t
+takes_telling : (v y : View) (c : Course) (told : Transition) (n t : ℕ → ℕ → List (List ℕ)) → TakesCourse v y c n t → TakesCourse v y (telling told c) n t
 takes_telling v y c told n t m = (m.0, record { did = m.1.did; pair = m.1.pair })
 
 -- what the near end does first, where its change is this one
@@ -62,7 +62,7 @@ abbrev pub First : PairEnds → LinkEnd → Call → Change → BroadcastState �
 First x e call c shown = record (rests (with_near x (after e (outcome e.fsm call)))) { states = follow_frames (with_fsm e (outcome e.fsm call).after) c shown }
 
 abbrev Steps : View → View → PairEnds → LinkEnd → Call → Change → ℕ → BroadcastState → Type 0
-Steps v y x e call c epoch shown = Takes v y (going_on (First x e call c shown) (λ z. following z c epoch)) (followed_more (with_near x (after e (outcome e.fsm call))) c) none_more
+Steps v y x e call c epoch shown = TakesCourse v y (going_on (First x e call c shown) (λ z. following z c epoch)) (followed_more (with_near x (after e (outcome e.fsm call))) c) none_more
 
 quiet_steps : (v y : View) (x : PairEnds) (e : LinkEnd) (call : Call) (epoch : ℕ) (shown : BroadcastState) → ArePaired v y → IsOfPair v x → x.near ≡ Some e → MayCall v y x.bearer call → is_quiet (outcome e.fsm call).change ≡ true
     → ((probe : Bool) → (outcome e.fsm call).change ≡ Answer (reply.State probe) → is_up e.fsm.state ≡ true) → IsShowable shown → Steps v y x e call (outcome e.fsm call).change epoch shown
@@ -71,7 +71,7 @@ quiet_steps v y x e call epoch shown h pair near may quiet says showable =
     let z = with_near x (after e (outcome e.fsm call)) in
     takes_then v y (First x e call c shown) (λ z. following z c epoch) none_more (followed_more z c) none_more none_more h
     (quiet_takes v y x e call shown c h pair near may refl quiet says showable)
-    (λ mid paired took. subst (λ d. Takes mid y d (followed_more z c) none_more) (sym (following_quiet z c epoch quiet)) (subst (λ n. Takes mid y (rests z) n none_more) (sym (followed_quiet z c quiet)) (takes_rest mid y z took.pair)))
+    (λ mid paired took. subst (λ d. TakesCourse mid y d (followed_more z c) none_more) (sym (following_quiet z c epoch quiet)) (subst (λ n. TakesCourse mid y (rests z) n none_more) (sym (followed_quiet z c quiet)) (takes_rest mid y z took.pair)))
 
 same_own : (v mid : View) (x z : PairEnds) → IsOfPair v x → IsOfPair mid z → z.own ≡ x.own → v.node.own ≡ mid.node.own
 same_own v mid x z h k same = h.own ∙ sym same ∙ sym k.own
@@ -104,7 +104,7 @@ beside_falls v y x e f call epoch shown h pair near far far_up may can m =
     let v1 = with_wire v b w' in
     let up : is_up_at x.far ≡ true = ap is_up_at far ∙ far_up in
     let one : DoesDeed v y v1 = besides v1 (falls_beside b e call m.cause (pair.near ∙ near) may m.change (beside_of v x pair up)) in
-    let first : Takes v y (First x e call (Down m.cause) shown) none_more none_more = (v1, record { did = did_on v y b w' one (λ k. refl) (λ k. refl); pair = of_near v x w' d pair refl }) in
+    let first : TakesCourse v y (First x e call (Down m.cause) shown) none_more none_more = (v1, record { did = did_on v y b w' one (λ k. refl) (λ k. refl); pair = of_near v x w' d pair refl }) in
     let told = LinkDown z.bearer m.cause (shown_with m.cause epoch) in
     let failed = failing z d f d.session f.session in
     let more = failing_more (other z.bearer) d.session f.session in
@@ -114,8 +114,8 @@ beside_falls v y x e f call epoch shown h pair near far far_up may can m =
     let hand : (l : SessionEnd) → d.session ≡ Some l → Each (IsPacket mid.node.own) (left_by l) = λ l has.
     subst (λ n. Each (IsPacket n) (left_by l)) own (can.near e l (record { end_is = pair.near ∙ near; up = m.was; session_is = sym (fell_session e call m.cause m.change) ∙ has })) in
     let took_over = failing_takes mid y z d f d.session f.session paired took.pair refl far refl (ap (λ k. is_up k.state) (called_fsm e call) ∙ m.down) far_up hand in
-    subst (λ k. Takes mid y k (followed_more z (Down m.cause)) none_more) (sym (down_beside z d f m.cause epoch refl far far_up))
-    (subst (λ n. Takes mid y (telling told failed) n none_more) (sym (more_down z d f m.cause refl far far_up)) (takes_telling mid y failed told more none_more took_over))))
+    subst (λ k. TakesCourse mid y k (followed_more z (Down m.cause)) none_more) (sym (down_beside z d f m.cause epoch refl far far_up))
+    (subst (λ n. TakesCourse mid y (telling told failed) n none_more) (sym (more_down z d f m.cause refl far far_up)) (takes_telling mid y failed told more none_more took_over))))
 
 -- or as the last one, and the contact ends
 pub down_alone : (z : PairEnds) (cause : Cause) (epoch : ℕ) → is_up_at z.far ≡ false → following z (Down cause) epoch ≡ telling (LinkDown z.bearer cause (shown_with cause epoch)) (contact_ends z (z.contact, z.seen) 0)
@@ -162,7 +162,7 @@ up_alone z epoch down = ap (λ t. telling (up_told z.bearer z.near) (if t then (
 
 -- the link that went up, and the STATE that it says
 risen_first : (v y : View) (x : PairEnds) (e : LinkEnd) (call : Call) (shown : BroadcastState) → ArePaired v y → IsOfPair v x → x.near ≡ Some e → Rises e.fsm (shown_to call) (outcome e.fsm call) → IsShowable shown
-    → DoesDeed v y (with_wire v x.bearer (with_begun v.node (v.wires x.bearer) (after e (outcome e.fsm call)))) → Takes v y (First x e call Up shown) none_more none_more
+    → DoesDeed v y (with_wire v x.bearer (with_begun v.node (v.wires x.bearer) (after e (outcome e.fsm call)))) → TakesCourse v y (First x e call Up shown) none_more none_more
 risen_first v y x e call shown h pair near m showable one =
     let b = x.bearer in
     let o = outcome e.fsm call in
@@ -170,7 +170,7 @@ risen_first v y x e call shown h pair near m showable one =
     let s = session_of (with_fsm e o.after) in
     let w' = with_begun v.node (v.wires b) d in
     let v1 = with_wire v b w' in
-    let first : Takes v y (rests (with_near x d)) none_more none_more = (v1, record { did = did_on v y b w' one (λ k. refl) (λ k. refl); pair = of_near v x w' d pair refl }) in
+    let first : TakesCourse v y (rests (with_near x d)) none_more none_more = (v1, record { did = did_on v y b w' one (λ k. refl) (λ k. refl); pair = of_near v x w' d pair refl }) in
     let same : d ≡ record (with_fsm e o.after) { session = Some s; early = None } = ap (followed (with_fsm e o.after)) m.change in
     let end_is : (v1.wires b).end ≡ Some d = ap (λ (w : Wire). w.end) (put_same v.wires b w') in
     let on = session_of_up (v1.wires b) d s (record { end_is = end_is; up = ap (λ (k : LinkEnd). is_up k.fsm.state) same ∙ m.up; session_is = ap (λ (k : LinkEnd). k.session) same }) in
@@ -182,7 +182,7 @@ far_end : (o : Option LinkEnd) → (is_up_at o ≡ false) ⊎ ((f : LinkEnd) × 
 far_end o = elim (cases_Bool (is_up_at o)) [ inl up ↦ inr (up_end o up) | inr down ↦ inl down ]
 
 pub rises_takes : (v y : View) (x : PairEnds) (e : LinkEnd) (call : Call) (shown : BroadcastState) → ArePaired v y → IsOfPair v x → x.near ≡ Some e → MayCall v y x.bearer call → IsShowable shown → Rises e.fsm (shown_to call) (outcome e.fsm call)
-    → Takes v y (First x e call Up shown) none_more none_more
+    → TakesCourse v y (First x e call Up shown) none_more none_more
 rises_takes v y x e call shown h pair near may showable m =
     let b = x.bearer in
     let at = pair.near ∙ near in
@@ -192,7 +192,7 @@ rises_takes v y x e call shown h pair near may showable m =
     ])
 
 -- a contact begins
-begins_takes : (v y : View) (x : PairEnds) → IsOfPair v x → Takes v y (contact_begins x) none_more none_more
+begins_takes : (v y : View) (x : PairEnds) → IsOfPair v x → TakesCourse v y (contact_begins x) none_more none_more
 begins_takes v y x h = (
   v,
   record {
@@ -208,21 +208,21 @@ hand_far v mid x z pair later own bearer far can f l up =
 
 -- the near link went up: it may take over from the other one, or a contact begins
 pub up_takes : (v y : View) (z : PairEnds) (d : LinkEnd) (epoch : ℕ) → ArePaired v y → IsOfPair v z → z.near ≡ Some d → is_up d.fsm.state ≡ true → ((f : LinkEnd) (l : SessionEnd) → IsUp (v.wires (other z.bearer)) f l → Each (IsPacket v.node.own) (taken_over l))
-    → Takes v y (following z Up epoch) (followed_more z Up) none_more
+    → TakesCourse v y (following z Up epoch) (followed_more z Up) none_more
 up_takes v y z d epoch h pair near up can = elim (far_end z.far) [
   | inl down ↦
       let none : followed_more z Up ≡ none_more = ap (λ t. if t then (if z.bearer == 0 then switching_more z.bearer (session_at z.near) (session_at z.far) else none_more) else none_more) down in
-      subst (λ k. Takes v y k (followed_more z Up) none_more) (sym (up_alone z epoch down))
-      (subst (λ n. Takes v y (telling (up_told z.bearer z.near) (contact_begins z)) n none_more) (sym none) (takes_telling v y (contact_begins z) (up_told z.bearer z.near) none_more none_more (begins_takes v y z pair)))
+      subst (λ k. TakesCourse v y k (followed_more z Up) none_more) (sym (up_alone z epoch down))
+      (subst (λ n. TakesCourse v y (telling (up_told z.bearer z.near) (contact_begins z)) n none_more) (sym none) (takes_telling v y (contact_begins z) (up_told z.bearer z.near) none_more none_more (begins_takes v y z pair)))
   | inr far ↦ beside_up v y z d far.0 epoch h pair near far.1 up far.2 (λ l is. can far.0 l (record { end_is = pair.far ∙ far.1; up = far.2; session_is = is }))
 ]
   where
     beside_up : (v y : View) (z : PairEnds) (d f : LinkEnd) (epoch : ℕ) → ArePaired v y → IsOfPair v z → z.near ≡ Some d → z.far ≡ Some f → is_up d.fsm.state ≡ true → is_up f.fsm.state ≡ true → ((l : SessionEnd) → f.session ≡ Some l → Each (IsPacket v.node.own) (taken_over l))
-        → Takes v y (following z Up epoch) (followed_more z Up) none_more
+        → TakesCourse v y (following z Up epoch) (followed_more z Up) none_more
     beside_up v y z d f epoch h pair near far up far_up can =
         let told = up_told z.bearer z.near in
-        subst (λ k. Takes v y k (followed_more z Up) none_more) (sym (up_beside z d f epoch near far far_up)) (subst (λ n. Takes v y (telling told (if z.bearer == 0 then switching z d f d.session f.session else rests z)) n none_more) (sym (more_up z d f near far far_up))
-        (elim (z.bearer == 0) as (λ t. Takes v y (telling told (if t then switching z d f d.session f.session else rests z)) (if t then switching_more z.bearer d.session f.session else none_more) none_more) [
+        subst (λ k. TakesCourse v y k (followed_more z Up) none_more) (sym (up_beside z d f epoch near far far_up)) (subst (λ n. TakesCourse v y (telling told (if z.bearer == 0 then switching z d f d.session f.session else rests z)) n none_more) (sym (more_up z d f near far far_up))
+        (elim (z.bearer == 0) as (λ t. TakesCourse v y (telling told (if t then switching z d f d.session f.session else rests z)) (if t then switching_more z.bearer d.session f.session else none_more) none_more) [
           | true ↦ takes_telling v y (switching z d f d.session f.session) told (switching_more z.bearer d.session f.session) none_more (switching_takes v y z d f d.session f.session h pair near far refl refl up far_up can)
           | false ↦ takes_telling v y (rests z) told none_more none_more (takes_rest v y z pair)
         ]))
@@ -250,17 +250,17 @@ turn_steps v y x e call epoch shown h pair near may can showable (rise m) = subs
 
 -- a packet that the near end takes leaves it up, or takes it up
 pub first_takes : (v y : View) (x : PairEnds) (e : LinkEnd) (call : Call) (shown : BroadcastState) → ArePaired v y → IsOfPair v x → x.near ≡ Some e → MayCall v y x.bearer call → IsShowable shown → is_taken (outcome e.fsm call).change ≡ true
-    → Takes v y (First x e call (outcome e.fsm call).change shown) none_more none_more
+    → TakesCourse v y (First x e call (outcome e.fsm call).change shown) none_more none_more
 first_takes v y x e call shown h pair near may showable taken = (let named = call_named v y x.bearer call may in of (call_turns e.fsm call named.0 named.1)) where
-  of : Turn e.fsm (shown_to call) (outcome e.fsm call) → Takes v y (First x e call (outcome e.fsm call).change shown) none_more none_more
+  of : Turn e.fsm (shown_to call) (outcome e.fsm call) → TakesCourse v y (First x e call (outcome e.fsm call).change shown) none_more none_more
   of (stay m) = quiet_takes v y x e call shown (outcome e.fsm call).change h pair near may refl m.quiet m.says showable
   of (learn m) = absurd (true≢false (sym taken ∙ ap is_taken m.change))
   of (fall m) = absurd (true≢false (sym taken ∙ ap is_taken m.change))
-  of (rise m) = subst (λ c. Takes v y (First x e call c shown) none_more none_more) (sym m.change) (rises_takes v y x e call shown h pair near may showable m)
+  of (rise m) = subst (λ c. TakesCourse v y (First x e call c shown) none_more none_more) (sym m.change) (rises_takes v y x e call shown h pair near may showable m)
 
 -- the near end after a call, and what follows
 pub stepped_takes : (v y : View) (x : PairEnds) (e : LinkEnd) (call : Call) (epoch : ℕ) (shown : BroadcastState) → ArePaired v y → IsOfPair v x → x.near ≡ Some e → MayCall v y x.bearer call → CanHand v x → IsShowable shown
-    → Takes v y (stepped x e (outcome e.fsm call) epoch shown) (followed_more (with_near x (after e (outcome e.fsm call))) (outcome e.fsm call).change) none_more
+    → TakesCourse v y (stepped x e (outcome e.fsm call) epoch shown) (followed_more (with_near x (after e (outcome e.fsm call))) (outcome e.fsm call).change) none_more
 stepped_takes v y x e call epoch shown h pair near may can showable =
     let named = call_named v y x.bearer call may in
     turn_steps v y x e call epoch shown h pair near may can showable (call_turns e.fsm call named.0 named.1)

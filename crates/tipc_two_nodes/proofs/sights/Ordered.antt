@@ -1,7 +1,9 @@
 -- Two nodes agree on the order of their contacts: from the sessions that began in them and the frames that were told.
-use Rattle.std.proofs.Common.{◌≡◌, ◌<◌, ◌≤◌, ◌⊎◌, ℕ, true, Some, sym, ap, ◌∙◌, subst, inl, inr, arith}
+use Rattle.std.proofs.Common.{◌≡◌, ◌<◌, ◌≤◌, ◌⊎◌, ◌^◌, ℕ, true, Some, sym, ap, ◌∙◌, subst, inl, inr, arith}
 use Rattle.std.proofs.lemmas.Bool.{cases_lt}
-use Rattle.tipc_header.specs.Spelling.{Fields}
+use Rattle.tipc_header.specs.Frames.{frame_of}
+use Rattle.tipc_header.specs.Grammar.{Fits}
+use Rattle.tipc_header.specs.Spelling.{Fields, spelling}
 use Rattle.tipc_link.specs.Links.{LinkEnd, is_traffic}
 use Rattle.tipc_pair.specs.Facing.{in_contact, is_up_at}
 use Rattle.tipc_paired.proofs.PairedLaw.{turned as turned_pair}
@@ -11,8 +13,8 @@ use Rattle.tipc_paired.specs.Paired.{ArePaired, IsOfSession}
 use Rattle.tipc_paired.specs.Views.{Begun, Frame, Node, View, er_of, es_of, notice_of}
 use Rattle.tipc_two_nodes.specs.Carriages.{IsPresent, Numbers}
 use Rattle.tipc_two_nodes.specs.Numbers.{AreNumbers}
-use Rattle.tipc_two_nodes.specs.Order.{BothInOne, EnteredNotYounger, EnteredPast, EnteredRise, HeardInContact, SeenNoHigher}
-use Rattle.tipc_two_nodes.specs.Sights.{AreSeen, Sight, pair_seen}
+use Rattle.tipc_two_nodes.specs.Order.{BothInOne, EnteredNotYounger, EnteredPast, EnteredRise, SeenNoHigher, SessionInContact}
+use Rattle.tipc_two_nodes.specs.Sights.{AreSeen, Sight, WasTold, pair_seen}
 use Rattle.tipc_two_nodes.proofs.calls.PairViews.{in_contact_present, or_false}
 use Rattle.tipc_two_nodes.proofs.contacts.Hearing.{present_held}
 use Rattle.tipc_two_nodes.proofs.contacts.Stale.{apart_absent}
@@ -198,20 +200,23 @@ told_in_session x y b e es er p h end up own peer f of =
     let agree = (h.here.epochs b).agree s.epoch g.begun of.begun g.begun_is there (of.peer_is ∙ (sym own ∙ sym going.2)) in
     (of.contact_is ∙ (sym agree.1 ∙ now.1), of.seen_is ∙ (sym agree.0 ∙ now.0))
 
-pub heard_in_contact : HeardInContact
-heard_in_contact v w b es er p f h air traffic up =
-    let x = h.here.view in
-    let y = h.there.view in
-    let t = h.seen_there.sent air.place f air.there in
-    let paired = h.talking.twins.paired in
+-- likewise a frame in the air that the peer told
+pub told_in_contact : (x y : View) (b : ℕ) (e : LinkEnd) (es er : ℕ) (p : Fields) (f : Frame) → ArePaired x y → (x.wires b).end ≡ Some e → is_up_at (Some e) ≡ true → e.fsm.own ≡ er → e.fsm.peer ≡ Some es
+    → WasTold y f → f.bearer ≡ b → es < 2 ^ 64 → er < 2 ^ 64 → Fits p → f.bytes ≡ frame_of es er (spelling p) → is_traffic p.header ≡ true → (f.contact ≡ x.node.seen) × (f.peer_contact ≡ x.node.contact)
+told_in_contact x y b e es er p f paired end up own peer t bearer es_fits er_fits fits spells traffic =
     let is = paired.there.frames t.place t.frame t.there in
-    let bytes = t.bytes ∙ air.bytes in
-    let same : is.packet ≡ p = same_packet is.es is.er es er is.packet p is.fits air.fits (sym is.bytes ∙ bytes) in
-    let es_is : is.es ≡ es = sym (es_of-frame is.es is.er _ is.es_fits is.er_fits) ∙ (ap es_of (sym is.bytes ∙ bytes) ∙ es_of-frame es er _ air.es_fits air.er_fits) in
-    let er_is : is.er ≡ er = sym (er_of-frame is.es is.er _ is.es_fits is.er_fits) ∙ (ap er_of (sym is.bytes ∙ bytes) ∙ er_of-frame es er _ air.es_fits air.er_fits) in
-    let on = t.bearer_is ∙ air.bearer_is in
+    let bytes = t.bytes ∙ spells in
+    let same : is.packet ≡ p = same_packet is.es is.er es er is.packet p is.fits fits (sym is.bytes ∙ bytes) in
+    let es_is : is.es ≡ es = sym (es_of-frame is.es is.er _ is.es_fits is.er_fits) ∙ (ap es_of (sym is.bytes ∙ bytes) ∙ es_of-frame es er _ es_fits er_fits) in
+    let er_is : is.er ≡ er = sym (er_of-frame is.es is.er _ is.es_fits is.er_fits) ∙ (ap er_of (sym is.bytes ∙ bytes) ∙ er_of-frame es er _ es_fits er_fits) in
+    let on = t.bearer_is ∙ bearer in
     let of = subst (λ c. IsOfSession (y.wires c) (x.wires c) t.frame is.es is.er is.packet) on (is.session (ap (λ (q : Fields). is_traffic q.header) same ∙ traffic)) in
     let of_these = subst (λ k. IsOfSession (y.wires b) (x.wires b) t.frame k er is.packet) es_is (subst (λ k. IsOfSession (y.wires b) (x.wires b) t.frame is.es k is.packet) er_is of) in
-    let told = told_in_session x y b up.end es er is.packet paired (h.seen_here.ends b ∙ up.end_is) up.up up.own_is up.peer_is t.frame of_these in
-    let contact = t.contact es er p air.fits bytes traffic in
-    (sym contact.0 ∙ (told.0 ∙ seen_here v w h), sym contact.1 ∙ (told.1 ∙ contact_here v w h))
+    let told = told_in_session x y b e es er is.packet paired end up own peer t.frame of_these in
+    let contact = t.contact es er p fits bytes traffic in
+    (sym contact.0 ∙ told.0, sym contact.1 ∙ told.1)
+
+pub session_in_contact : SessionInContact
+session_in_contact v w b es er p f h air traffic up =
+    let told = told_in_contact h.here.view h.there.view b up.end es er p f h.talking.twins.paired (h.seen_here.ends b ∙ up.end_is) up.up up.own_is up.peer_is (h.seen_there.sent air.place f air.there) air.bearer_is air.es_fits air.er_fits air.fits air.bytes traffic in
+    (told.0 ∙ seen_here v w h, told.1 ∙ contact_here v w h)

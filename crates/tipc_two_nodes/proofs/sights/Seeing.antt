@@ -13,7 +13,7 @@ use Rattle.tipc_paired.specs.Deeds.{DoesAll, MayTell, activates, resets, sends, 
 use Rattle.tipc_paired.specs.Views.{Frame, Node, View, Wire, er_of, es_of}
 use Rattle.tipc_two_nodes.proofs.deeds.Chains.{told_behind}
 use Rattle.tipc_two_nodes.specs.deeds.PairDeeds.{IsToldSince}
-use Rattle.tipc_two_nodes.specs.Sights.{AreSeen, Goes, HasSession, IsSeen, Sight, WasTold, come, pair_seen, sent_as, told_in}
+use Rattle.tipc_two_nodes.specs.Sights.{AreSeen, PairBecomes, HasSession, IsSeen, Sight, WasTold, come, pair_seen, sent_as, told_in}
 use Rattle.tipc_two_nodes.specs.Talkers.{AreTalking, Talker}
 use Rattle.tipc_two_nodes.proofs.sights.Behind.{IsToldAt, AreLastCounted, all_counted, all_same, told_at, told_peer, told_taken}
 use Rattle.tipc_two_nodes.proofs.sights.ByContact.{by_contact, else_is, here_is, in_else, in_same, more_in}
@@ -141,7 +141,7 @@ pub record Turned (x y after : Talker) (v v' w : Sight) (frames : List Outgoing)
   pub seen : IsSeen x v
   pub there : IsSeen y w
   pub stepped : Stepped x y after frames put given
-  pub goes : Goes v v' w after.pair frames put given
+  pub goes : PairBecomes v v' w after.pair frames put given
 
 node_seen : (x y after : Talker) (v v' w : Sight) (frames : List Outgoing) (put given : List (List ℕ)) → Turned x y after v v' w frames put given → after.view.node ≡ v'.node
 node_seen x y after v v' w frames put given t =
@@ -228,11 +228,11 @@ seen_after x y after v v' w frames put given t =
     }
 
 -- two nodes talk on after a turn, as the world tells of them
-unfoldable pub turned_seen : (v v' w : Sight) (pair : PairEnds) (frames : List Outgoing) (put given : List (List ℕ)) → (h : AreSeen v w) → Goes v v' w pair frames put given → (after : Talker) → Stepped h.here h.there after frames put given → after.pair ≡ pair → AreSeen v' w
+unfoldable pub turned_seen : (v v' w : Sight) (pair : PairEnds) (frames : List Outgoing) (put given : List (List ℕ)) → (h : AreSeen v w) → PairBecomes v v' w pair frames put given → (after : Talker) → Stepped h.here h.there after frames put given → after.pair ≡ pair → AreSeen v' w
 turned_seen v v' w pair frames put given h g after s is = record {
   here = after;
   there = h.there;
   talking = s.talking;
-  seen_here = seen_after h.here h.there after v v' w frames put given (record { talking = h.talking; seen = h.seen_here; there = h.seen_there; stepped = s; goes = subst (λ q. Goes v v' w q frames put given) (sym is) g });
+  seen_here = seen_after h.here h.there after v v' w frames put given (record { talking = h.talking; seen = h.seen_here; there = h.seen_there; stepped = s; goes = subst (λ q. PairBecomes v v' w q frames put given) (sym is) g });
   seen_there = h.seen_there;
 }

@@ -144,7 +144,7 @@ none_there x v zero h low none = ap (λ q. (facing 0 q).near) h.pair ∙ (ap (λ
 none_there x v (suc zero) h low none = ap (λ q. (facing 1 q).near) h.pair ∙ (ap (λ (q : PairEnds). q.near) (facing_second (pair_seen v) refl) ∙ none)
 none_there x v (suc (suc b)) h low none = absurd (let wrong : ⊥ = omega arith in wrong)
 
-may_begin : (v w : Sight) (opening : Opening) → (h : AreSeen v w) → MayHappen v w opening → MayBegin h.here h.there opening
+pub may_begin : (v w : Sight) (opening : Opening) → (h : AreSeen v w) → MayHappen v w opening → MayBegin h.here h.there opening
 may_begin v w (makes b is_mended) h may = (may.0, none_there h.here v b h.seen_here may.0 may.1)
 may_begin v w (hears b es er p by shown) h may = (may.0, reached v w b es er p h may.1)
 may_begin v w rests h may = tt

@@ -1,5 +1,5 @@
 -- A part of a node's turn at its pair, as deeds of the node, and two nodes that go on talking.
-use Rattle.std.proofs.Common.{◌≡◌, ◌≤◌, ◌+◌, ◌⊎◌, ◌==◌, if◌then◌else◌, ℕ, true, false, List, [], ◌++◌, Option, Some, None, length, refl, sym, ap, ◌∙◌, inl, inr, append-nil, length-append, arith}
+use Rattle.std.proofs.Common.{◌≡◌, ◌≤◌, ◌+◌, ◌⊎◌, ◌==◌, if◌then◌else◌, ℕ, true, false, List, [], ◌++◌, Option, Some, None, length, refl, sym, ap, ◌∙◌, inl, inr, append-nil, length-append, arith, Bool}
 use Rattle.tipc_types.specs.declared.link_words.BroadcastState.{BroadcastState}
 use Rattle.tipc_outside.specs.declared.outgoing.Outgoing.{Outgoing}
 use Rattle.tipc_link.proofs.LinkLaw.{Each, Each-append}
@@ -36,9 +36,9 @@ pub near_mended : (z : PairEnds) (o : Option LinkEnd) → SameNumbers z (mended_
 near_mended z None = (refl, refl)
 near_mended z (Some e) = (refl, refl)
 
-pub near_answered : (z : PairEnds) (o : Option LinkEnd) (shown : BroadcastState) → SameNumbers z (answered_at_end z o 0 false shown).pair
-near_answered z None shown = (refl, refl)
-near_answered z (Some e) shown = (refl, refl)
+pub near_answered : (z : PairEnds) (o : Option LinkEnd) (taken : ℕ) (asks : Bool) (shown : BroadcastState) → SameNumbers z (answered_at_end z o taken asks shown).pair
+near_answered z None taken asks shown = (refl, refl)
+near_answered z (Some e) taken asks shown = (refl, refl)
 
 pub at_numbers : (b : ℕ) (x : PairEnds) (call : PairEnds → Course) → SameNumbers (facing b x) (call (facing b x)).pair → SameNumbers x (at_bearer b x call).pair
 at_numbers b x call same =
@@ -180,8 +180,8 @@ at_last b x call n two k = numbers_facing b x (call (facing b x)).pair n two k
 pub mended_at : (b : ℕ) (x : PairEnds) → x.bearer ≤ 1 → KeepsLast x (at_bearer b x mended).pair
 mended_at b x two = (at_last b x mended none_more two (quiet_last (facing b x) _ (mended_last (facing b x) (facing b x).near refl))).keeps
 
-pub answered_at : (b : ℕ) (x : PairEnds) (shown : BroadcastState) → x.bearer ≤ 1 → KeepsLast x (at_bearer b x (answered_near 0 false shown)).pair
-answered_at b x shown two = (at_last b x (answered_near 0 false shown) none_more two (quiet_last (facing b x) _ (answered_last (facing b x) (facing b x).near 0 false shown refl))).keeps
+pub answered_at : (b : ℕ) (x : PairEnds) (taken : ℕ) (asks : Bool) (shown : BroadcastState) → x.bearer ≤ 1 → KeepsLast x (at_bearer b x (answered_near taken asks shown)).pair
+answered_at b x taken asks shown two = (at_last b x (answered_near taken asks shown) none_more two (quiet_last (facing b x) _ (answered_last (facing b x) (facing b x).near taken asks shown refl))).keeps
 
 pub mends_stepped : (x y : Talker) (b : ℕ) → AreTalking x y → StepsTo x y (at_bearer b x.pair mended).pair (sent_in (at_bearer b x.pair mended)) [] []
 mends_stepped x y b h = talks_stepped x y (at_bearer b x.pair mended) none_more (mends_talk x y b h) (none_last (at_bearer b x.pair mended).pair) (numbers_so x.pair _ (at_numbers b x.pair mended (near_mended (facing b x.pair) (facing b x.pair).near)))

@@ -1,6 +1,6 @@
 -- A node takes a whole turn at its pair: behind what happens first, messages are put and the STATE that is due is sent.
 use Rattle.std.specs.Prelude.{All}
-use Rattle.std.proofs.Common.{◌≡◌, ◌+◌, ℕ, false, List, [], ◌∷◌, ◌++◌, Option, Some, None, length, refl, sym, ap, ◌∙◌, subst, append_assoc, append-nil, arith}
+use Rattle.std.proofs.Common.{◌≡◌, ◌+◌, ℕ, List, [], ◌∷◌, ◌++◌, Option, Some, None, length, refl, sym, ap, ◌∙◌, subst, append_assoc, append-nil, arith, Bool}
 use Rattle.std.proofs.lemmas.List.Elements.{All-head, All-tail}
 use Rattle.tipc_types.specs.declared.link_words.BroadcastState.{BroadcastState}
 use Rattle.tipc_outside.specs.declared.outgoing.Outgoing.{Outgoing}
@@ -88,24 +88,24 @@ puts_behind x y p q _ _ h is are (puts_one _ between last m messages first frame
 
 -- ---- the STATE that is due is sent
 
-none_numbered : (z : PairEnds) (o : Option LinkEnd) (shown : BroadcastState) → (answered_at_end z o 0 false shown).numbered ≡ []
-none_numbered z None shown = refl
-none_numbered z (Some e) shown = refl
+none_numbered : (z : PairEnds) (o : Option LinkEnd) (taken : ℕ) (asks : Bool) (shown : BroadcastState) → (answered_at_end z o taken asks shown).numbered ≡ []
+none_numbered z None taken asks shown = refl
+none_numbered z (Some e) taken asks shown = refl
 
-state_behind : (x y : Talker) (b : ℕ) (shown : BroadcastState) → AreTalking x y → IsShowable shown → Behind x y (at_bearer b x.pair (answered_near 0 false shown)).pair (at_bearer b x.pair (answered_near 0 false shown)).states []
-state_behind x y b shown h showable =
-    let c = at_bearer b x.pair (answered_near 0 false shown) in
+state_behind : (x y : Talker) (b taken : ℕ) (asks : Bool) (shown : BroadcastState) → AreTalking x y → IsShowable shown → Behind x y (at_bearer b x.pair (answered_near taken asks shown)).pair (at_bearer b x.pair (answered_near taken asks shown)).states []
+state_behind x y b taken asks shown h showable =
+    let c = at_bearer b x.pair (answered_near taken asks shown) in
     let z = facing b x.pair in
-    let s = talks_stepped x y c _ (answers_talk x y b 0 false shown h showable) (none_last c.pair) (numbers_so x.pair c.pair (at_numbers b x.pair (answered_near 0 false shown) (near_answered z z.near shown))) in
-    let only : sent_in c ≡ c.states = ap (λ fs. c.states ++ fs) (none_numbered z z.near shown) ∙ append-nil c.states in
-    let keeps = keeps_of x y s.0 (sent_in c) [] [] h s.1 (subst (SameNumbers x.pair) (sym s.2) (at_numbers b x.pair (answered_near 0 false shown) (near_answered z z.near shown)))
-    (subst (KeepsLast x.pair) (sym s.2) (answered_at b x.pair shown h.here.of.two_bearers))
-    (subst (GoesQuietly x.pair) (sym s.2) (at_quietly b x.pair (answered_near 0 false shown) (answered_quiet z z.near 0 false shown refl))) in
+    let s = talks_stepped x y c _ (answers_talk x y b taken asks shown h showable) (none_last c.pair) (numbers_so x.pair c.pair (at_numbers b x.pair (answered_near taken asks shown) (near_answered z z.near taken asks shown))) in
+    let only : sent_in c ≡ c.states = ap (λ fs. c.states ++ fs) (none_numbered z z.near taken asks shown) ∙ append-nil c.states in
+    let keeps = keeps_of x y s.0 (sent_in c) [] [] h s.1 (subst (SameNumbers x.pair) (sym s.2) (at_numbers b x.pair (answered_near taken asks shown) (near_answered z z.near taken asks shown)))
+    (subst (KeepsLast x.pair) (sym s.2) (answered_at b x.pair taken asks shown h.here.of.two_bearers))
+    (subst (GoesQuietly x.pair) (sym s.2) (at_quietly b x.pair (answered_near taken asks shown) (answered_quiet z z.near taken asks shown refl))) in
     (s.0, subst (λ fs. Stepped x y s.0 fs [] []) only s.1, s.2, keeps)
 
 reply_behind : (x y : Talker) (reply : Option Reply) → AreTalking x y → ShowsAtLast reply → Behind x y (replied reply x.pair).pair (replied reply x.pair).states []
 reply_behind x y None h showable = nothing_behind x y h
-reply_behind x y (Some r) h showable = state_behind x y r.bearer r.shown h showable
+reply_behind x y (Some r) h showable = state_behind x y r.bearer r.taken r.asks r.shown h showable
 
 -- ---- the turn
 

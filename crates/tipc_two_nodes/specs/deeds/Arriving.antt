@@ -3,6 +3,7 @@
 use Rattle.std.specs.Prelude.{◌≡◌, ◌<◌, ◌≤◌, ◌==◌, ℕ, ◌+◌, ◌^◌, true, false, List, [], ◌∷◌, Option, Some, None, drop, length, slice_get, take, if◌then◌else◌}
 use Rattle.tipc_types.specs.declared.link_words.BroadcastState.{BroadcastState}
 use Rattle.tipc_types.specs.declared.packet_lists.Taken.{Taken}
+use Rattle.tipc_types.specs.Limits.{most_age}
 use Rattle.tipc_header.specs.declared.packet.ChangeoverType.{ChangeoverType}
 use Rattle.tipc_header.specs.declared.packet.ChangeoverType.TheVariants as kind
 use Rattle.tipc_header.specs.declared.packet.Header.{Header}
@@ -39,7 +40,7 @@ pub record Reaches (x y : View) (bearer es er : ℕ) (p : Fields) : Type 0 where
   pub er_fits : er < 2 ^ 64
   pub fits : Fits p
   pub bytes : frame.bytes ≡ frame_of es er (spelling p)
-  pub own_fresh : is_traffic p.header ≡ true → length ((x.wires bearer).line er) ≤ frame.peer_numbered + 30000
+  pub own_fresh : is_traffic p.header ≡ true → length ((x.wires bearer).line er) ≤ frame.peer_numbered + most_age
   pub peer_fresh : is_traffic p.header ≡ true → length ((y.wires bearer).line es) ≤ frame.numbered + 30050
 
 -- ---- the near link

@@ -14,7 +14,7 @@ use Rattle.tipc_pair.specs.PairFacts.{IsPairOfEnds}
 use Rattle.tipc_paired.specs.Paired.{ArePaired, IsPacket}
 use Rattle.tipc_paired.specs.Views.{View}
 use Rattle.tipc_two_nodes.specs.deeds.Arriving.{MayOpen, Reaches, arrival_more, arrival_taken}
-use Rattle.tipc_two_nodes.specs.deeds.PairDeeds.{Did, IsOfPair, Takes, more_at, none_more}
+use Rattle.tipc_two_nodes.specs.deeds.PairDeeds.{Did, IsOfPair, TakesCourse, more_at, none_more}
 
 -- packets are put on the active link, where all that waits then can be put
 abbrev pub SendsAreDeeds : Type 0
@@ -30,7 +30,7 @@ ArrivalsAreDeeds = (v y : View) (x : PairEnds) (es er : ℕ) (p : Fields) (by : 
     (given : PairOutcome) → ArePaired v y → IsOfPair v x → IsPairOfEnds x → IsShowable shown
     → Reaches v y x.bearer es er p → (a : Arrives x es er p by shown c given)
     → MayOpen y x (hears p.header es er p by shown x)
-    → Takes v y c (arrival_more x es er p by shown c given a) (arrival_taken y x es er p by shown c given a)
+    → TakesCourse v y c (arrival_more x es er p by shown c given a) (arrival_taken y x es er p by shown c given a)
 
 -- and the pair is one of link ends again
 abbrev pub ArrivalsKeepEnds : Type 0

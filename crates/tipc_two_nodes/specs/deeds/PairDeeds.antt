@@ -61,8 +61,8 @@ pub record Took (v y after : View) (c : Course) (numbered taken : ℕ → ℕ �
   pub pair : IsOfPair after c.pair
 
 -- by deeds of v, beside y, the pair takes this course, and these packets are numbered and taken
-abbrev pub Takes : View → View → Course → (ℕ → ℕ → List (List ℕ)) → (ℕ → ℕ → List (List ℕ)) → Type 0
-Takes v y c numbered taken = (after : View) × Took v y after c numbered taken
+abbrev pub TakesCourse : View → View → Course → (ℕ → ℕ → List (List ℕ)) → (ℕ → ℕ → List (List ℕ)) → Type 0
+TakesCourse v y c numbered taken = (after : View) × Took v y after c numbered taken
 
 -- ---- what was numbered when one of two links went up or down
 

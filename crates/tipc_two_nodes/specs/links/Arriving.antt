@@ -18,7 +18,7 @@ use Rattle.tipc_changeover.specs.Reached.{IsReached}
 use Rattle.tipc_link.specs.Records.{Received, is_tunnel}
 use Rattle.tipc_changeover.specs.Distances.{Bounded}
 use Rattle.tipc_changeover.specs.Sound.{Sound}
-use Rattle.tipc_two_nodes.specs.links.Following.{Takes}
+use Rattle.tipc_two_nodes.specs.links.Following.{ReceiverFollows}
 use Rattle.tipc_two_nodes.specs.links.Receiving.{AreLines, AreNext, IsSessionRecord, IsRecordFor, ReceiveFor, bytes_in, record_at, records_of}
 use Rattle.tipc_two_nodes.specs.links.Traffic.{Lines, Traffic, epoch_of}
 
@@ -58,7 +58,7 @@ pub data Gives (begun : Joining) : List Taken → PairOutcome → Joining → Ty
 pub record Receives (b : Bearer) (bearer : ℕ) (t : Traffic) (s : State) (before : List (List ℕ)) (y : PairEnds)
     (carried : List Taken) : Type 0 where
   pub state : State
-  pub takes : Takes b s state
+  pub takes : ReceiverFollows b s state
   pub lines : AreLines bearer t state
   pub receive : ReceiveFor (records_of y) t (before ++ bytes_in carried) state
 

@@ -1,6 +1,7 @@
 -- What a pair's link ends do as senders, and how an end of a pair is seen when it goes up or down.
 use Rattle.std.specs.Prelude.{◌≡◌, ◌≤◌, ℕ, ◌+◌, ◌-◌, true, List, [], ◌∷◌, Option, Some, length}
 use Rattle.tipc_types.specs.LinkStates.{is_up}
+use Rattle.tipc_types.specs.Limits.{window_size}
 use Rattle.tipc_send_window.specs.Sending.{Sending, acknowledged, fresh}
 use Rattle.tipc_link.specs.Links.{LinkEnd}
 use Rattle.tipc_link.specs.Sessions.{SessionEnd, advanced, moving, put, room}
@@ -21,7 +22,7 @@ pub record IsUpAt (bearer : ℕ) (o : Option LinkEnd) (e : LinkEnd) (s : Session
   pub session_is : e.session ≡ Some s
   pub epoch_is : s.epoch ≡ e.fsm.own
   pub bearer_is : s.bearer ≡ bearer
-  pub few : length s.sending.unacked ≤ 50
+  pub few : length s.sending.unacked ≤ window_size
 
 -- the end stays up under its epoch, with this window
 pub record StaysUp (e e' : LinkEnd) (w : Sending) : Type 0 where

@@ -36,15 +36,15 @@ pub data Events (kind : Event → Bool) (b : Bearer) (s : State) : State → Typ
       → Events kind b s (acted_far next event)
 
 -- by events of the sender, or of the receiver, a state becomes another
-abbrev pub Follows : Bearer → State → State → Type 0
-Follows b s s' = Events is_sent b s s'
+abbrev pub SenderFollows : Bearer → State → State → Type 0
+SenderFollows b s s' = Events is_sent b s s'
 
 -- by events of the receiver a state becomes another
-abbrev pub Takes : Bearer → State → State → Type 0
-Takes b s s' = Events is_received b s s'
+abbrev pub ReceiverFollows : Bearer → State → State → Type 0
+ReceiverFollows b s s' = Events is_received b s s'
 
 -- by events of the sender a state becomes one for which these ends stand, which sent this
 pub record Become (b : Bearer) (x : SendingEnds) (t : Traffic) (s : State) : Type 0 where
   pub state : State
-  pub follows : Follows b s state
+  pub follows : SenderFollows b s state
   pub stand : StandFor b x t state

@@ -19,8 +19,8 @@ pub record IsPlain (put : List (List ℕ)) (index : ℕ) (packet : List ℕ) : T
   pub plain : is_tunnel packet ≡ false
 
 -- what the tunnel packets tell and carry: that of a packet of this node in a run of so many, and the marker of an empty run
-abbrev pub told_of : ChangeoverType → OldSession → ℕ → ℕ → Kept → Tunnelled
-told_of kind old own count k = record { kind = kind; old = old; count = count; number = k.number; inner = inner_of own k }
+abbrev pub told_by_packet : ChangeoverType → OldSession → ℕ → ℕ → Kept → Tunnelled
+told_by_packet kind old own count k = record { kind = kind; old = old; count = count; number = k.number; inner = inner_of own k }
 
 -- what the marker of an empty run tells: its session alone
 abbrev pub told_by_marker : ChangeoverType → OldSession → Tunnelled
@@ -30,7 +30,7 @@ told_by_marker kind old = record { kind = kind; old = old; count = 0; number = 0
 -- it back as it waited.
 pub record MayBeIn (kind : ChangeoverType) (old : OldSession) (count : ℕ) (packet : List ℕ) : Type 0 where
   pub some : 1 ≤ count
-  pub made : (own n : ℕ) → IsTunnel (told_of kind old own count (record { number = number_of n; packet = packet }))
+  pub made : (own n : ℕ) → IsTunnel (told_by_packet kind old own count (record { number = number_of n; packet = packet }))
   pub bytes : is_tunnel packet ≡ false → 1 ≤ length packet
   pub back : (own n : ℕ) → is_tunnel packet ≡ false → restored (numbered (number_of n) (shown_by own packet)) ≡ packet
 

@@ -9,7 +9,7 @@ use Rattle.tipc_pair.specs.PairArrivals.{with_bytes}
 use Rattle.tipc_changeover.specs.Links.{Bearer, Receiver, State}
 use Rattle.tipc_changeover.specs.Events.{after_next}
 use Rattle.tipc_types.specs.Position.{number_of}
-use Rattle.tipc_two_nodes.specs.links.Following.{Takes}
+use Rattle.tipc_two_nodes.specs.links.Following.{ReceiverFollows}
 use Rattle.tipc_two_nodes.specs.links.Packets.{AreFor, IsFor}
 use Rattle.tipc_two_nodes.specs.links.Sending.{beside}
 use Rattle.tipc_two_nodes.specs.links.Traffic.{Lines, Traffic}
@@ -80,7 +80,7 @@ pub record IsInside (line : List (List ℕ)) (place : ℕ) (full : Bool) (u : Ta
 pub record TookTunnel (b : Bearer) (bearer : ℕ) (t : Traffic) (s : State) (far : Received)
     (freed : List Taken) : Type 0 where
   pub state : State
-  pub takes : Takes b s state
+  pub takes : ReceiverFollows b s state
   pub lines : AreLines bearer t state
   pub near_is : state.near_record ≡ after_next s.near_record
   pub far_is : IsSessionRecord t.far far state.far_record
@@ -91,7 +91,7 @@ pub record TookTunnel (b : Bearer) (bearer : ℕ) (t : Traffic) (s : State) (far
 -- the near record became this one
 pub record Recorded (b : Bearer) (bearer : ℕ) (t : Traffic) (s : State) (near : Received) : Type 0 where
   pub state : State
-  pub takes : Takes b s state
+  pub takes : ReceiverFollows b s state
   pub lines : AreLines bearer t state
   pub near_is : IsSessionRecord t.near near state.near_record
   pub far_is : state.far_record ≡ s.far_record
@@ -101,7 +101,7 @@ pub record Recorded (b : Bearer) (bearer : ℕ) (t : Traffic) (s : State) (near 
 pub record TookMore (b : Bearer) (bearer : ℕ) (t : Traffic) (s : State) (count : ℕ)
     (packets : List (List ℕ)) : Type 0 where
   pub state : State
-  pub takes : Takes b s state
+  pub takes : ReceiverFollows b s state
   pub lines : AreLines bearer t state
   pub near_is : state.near_record ≡ record { session = s.near_record.session; taken = s.near_record.taken + count }
   pub far_is : state.far_record ≡ s.far_record
@@ -120,7 +120,7 @@ pub record AreNext (line : List (List ℕ)) (before : ℕ) (taken : List Taken) 
 pub record TookAll (b : Bearer) (bearer : ℕ) (t : Traffic) (s : State) (count : ℕ) (far : Option Received)
     (carried : List Taken) : Type 0 where
   pub state : State
-  pub takes : Takes b s state
+  pub takes : ReceiverFollows b s state
   pub lines : AreLines bearer t state
   pub near_is : state.near_record ≡ record { session = s.near_record.session; taken = s.near_record.taken + count }
   pub far_is : IsRecordFor t.far far state.far_record

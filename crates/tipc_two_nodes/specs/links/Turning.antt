@@ -23,14 +23,14 @@ is_rise other = false
 
 -- What a call makes of the link states of an end, which is to be held where it goes down: it goes down from up, goes
 -- up from reset, or stays as it was for the other link.
-pub data Turns (held : Bool) (fsm : Fsm) (o : Outcome) : Type 0 where
+pub data TurnsEnd (held : Bool) (fsm : Fsm) (o : Outcome) : Type 0 where
   goes_down : (cause : Cause) → o.change ≡ Down cause → is_up fsm.state ≡ true → o.after ≡ lowered fsm held
-      → Turns held fsm o
+      → TurnsEnd held fsm o
   goes_up : o.change ≡ GoesUp → state_as fsm.state ≡ Reset → o.after.own ≡ fsm.own → state_as o.after.state ≡ Up
-      → Turns held fsm o
+      → TurnsEnd held fsm o
   stays_so : is_rise o.change ≡ false → is_down o.change ≡ false → o.after.own ≡ fsm.own
       → state_as o.after.state ≡ state_as fsm.state
-      → Turns held fsm o
+      → TurnsEnd held fsm o
 
 -- ---- the ends of a pair
 

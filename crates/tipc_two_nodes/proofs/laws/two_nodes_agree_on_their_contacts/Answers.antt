@@ -1,5 +1,6 @@
 use Rattle.tipc_two_nodes.proofs.sights.Meeting.{enters_met, none_met, steps_met, turned_met}
-use Rattle.tipc_two_nodes.proofs.sights.Ordered.{both_in_one, entered_not_younger, entered_past, entered_rise, heard_in_contact, seen_no_higher}
+use Rattle.tipc_two_nodes.proofs.sights.Ordered.{both_in_one, entered_not_younger, entered_past, entered_rise, seen_no_higher, session_in_contact}
+use Rattle.tipc_two_nodes.proofs.sights.HeardIn.{heard_in_contact}
 use Rattle.tipc_two_nodes.proofs.laws.two_nodes_agree_on_their_contacts.Goals as goal
 
 pub returns-clause-none : goal.returns-clause-none
@@ -28,6 +29,9 @@ returns-clause-past c = entered_past
 
 pub returns-clause-no_younger : goal.returns-clause-no_younger
 returns-clause-no_younger c = entered_not_younger
+
+pub returns-clause-session : goal.returns-clause-session
+returns-clause-session c = session_in_contact
 
 pub returns-clause-heard : goal.returns-clause-heard
 returns-clause-heard c = heard_in_contact

@@ -24,7 +24,7 @@ use Rattle.tipc_two_nodes.specs.links.Sending.{StandFor, ends_seen, state_as}
 use Rattle.tipc_two_nodes.specs.links.Following.{Become}
 use Rattle.tipc_two_nodes.specs.links.Steps.{AreTaken, near_more, near_window}
 use Rattle.tipc_two_nodes.specs.links.Ends.{IsRisen, StaysUp, heard_window, session_by, up_beside}
-use Rattle.tipc_two_nodes.specs.links.Turning.{Turns, goes_down, goes_up, is_rise, stays_so}
+use Rattle.tipc_two_nodes.specs.links.Turning.{TurnsEnd, goes_down, goes_up, is_rise, stays_so}
 use Rattle.tipc_two_nodes.proofs.links.calls.Acted.{ActedNear, near_first}
 use Rattle.tipc_two_nodes.proofs.links.sender.LinkSteps.{after_seen, arrived_window, hears, near_seen}
 use Rattle.tipc_two_nodes.proofs.links.calls.Noticing.{MayChange}
@@ -113,7 +113,7 @@ hears_stay b x e es er p by shown t z is may traffic stay heard taken stand =
 
 -- ---- a link that goes up with it
 
-up_outcome : (fsm : Fsm) (o : Outcome) (held : Bool) → Turns held fsm o → o.change ≡ GoesUp → (state_as fsm.state ≡ Reset) × (o.after.own ≡ fsm.own) × (state_as o.after.state ≡ Up)
+up_outcome : (fsm : Fsm) (o : Outcome) (held : Bool) → TurnsEnd held fsm o → o.change ≡ GoesUp → (state_as fsm.state ≡ Reset) × (o.after.own ≡ fsm.own) × (state_as o.after.state ≡ Up)
 up_outcome fsm o held (goes_down cause change up low) rise = absurd (let wrong : true ≡ false = sym (ap is_down change) ∙ ap is_down rise in let no : ⊥ = cc in no)
 up_outcome fsm o held (goes_up change reset own state) rise = (reset, own, state)
 up_outcome fsm o held (stays_so other so own state) rise = absurd (let wrong : true ≡ false = sym (ap is_rise rise) ∙ other in let no : ⊥ = cc in no)

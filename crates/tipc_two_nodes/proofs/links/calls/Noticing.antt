@@ -20,7 +20,7 @@ use Rattle.tipc_changeover.specs.Links.{Bearer, State}
 use Rattle.tipc_changeover.specs.Sound.{Sound}
 use Rattle.tipc_two_nodes.specs.links.Traffic.{Traffic}
 use Rattle.tipc_two_nodes.specs.links.Sending.{StandFor, beside, end_seen, ends_seen, state_as, window_in}
-use Rattle.tipc_two_nodes.specs.links.Turning.{AreEnds, RunsWhereUp, Turns, goes_down, goes_up, is_rise, stays_so}
+use Rattle.tipc_two_nodes.specs.links.Turning.{AreEnds, RunsWhereUp, TurnsEnd, goes_down, goes_up, is_rise, stays_so}
 use Rattle.tipc_two_nodes.specs.links.Acting.{IsOver}
 use Rattle.tipc_two_nodes.proofs.links.calls.Ending.{Goes, Rests, goes_later, over_then, rests_same, rests_then, stops}
 use Rattle.tipc_two_nodes.proofs.links.calls.Freeing.{AreUp, UpWhere, ends_up}
@@ -49,7 +49,7 @@ passes_still b x t z up stand = turned_goes b x x false t z stand (rests_still b
 
 -- ---- a packet that isn't heard
 
-pub outcome_turns : (h : Header) (fsm : Fsm) (es er : ℕ) (held : Bool) → Turns held fsm (outcome_of fsm h es er held)
+pub outcome_turns : (h : Header) (fsm : Fsm) (es er : ℕ) (held : Bool) → TurnsEnd held fsm (outcome_of fsm h es er held)
 outcome_turns (header.Reset said) fsm es er held = reset_turns fsm es held
 outcome_turns (header.Activate said) fsm es er held = activate_turns fsm es er held
 outcome_turns (header.Discovery said) fsm es er held = stays_so refl refl refl refl
@@ -60,7 +60,7 @@ outcome_turns (header.Changeover said) fsm es er held = traffic_turns fsm es er 
 outcome_turns (header.NameDistributor said) fsm es er held = traffic_turns fsm es er held
 outcome_turns (header.Fragmenter said) fsm es er held = traffic_turns fsm es er held
 
-pub unheard_goes : (b : Bearer) (x : PairEnds) (e : LinkEnd) (o : Outcome) (p : Fields) (es by : ℕ) (shown : BroadcastState) (t : Traffic) (z : State) → x.near ≡ Some e → MayChange x → Turns (is_up_at x.far) e.fsm o → is_heard p.header o.change ≡ false
+pub unheard_goes : (b : Bearer) (x : PairEnds) (e : LinkEnd) (o : Outcome) (p : Fields) (es by : ℕ) (shown : BroadcastState) (t : Traffic) (z : State) → x.near ≡ Some e → MayChange x → TurnsEnd (is_up_at x.far) e.fsm o → is_heard p.header o.change ≡ false
     → StandFor b (ends_seen x) t z → Sound b z → Goes b x (met x e o p es by shown).course.pair t z
 unfolding going_on
 unheard_goes b x e o p es by shown t z is may turn unheard stand sound =
@@ -103,7 +103,7 @@ given_turned b x (Some e) es shown t z is may stand sound =
     (turns b x e (after e o) o es held t z (fall_may x e (after e o) o held may is (record { fsm = refl; session = refl }) (reset_turns e.fsm es held) (λ up. up) quiet) stand sound)
 
 -- one that takes the last link down ends the contact
-down_over : (x : PairEnds) (e : LinkEnd) (o : Outcome) (held : Bool) (es : ℕ) → MayTurn x e (after e o) o held → is_up_at x.far ≡ false → is_down o.change ≡ true → Turns held e.fsm o → IsOver x (following (with_near x (after e o)) o.change es).pair
+down_over : (x : PairEnds) (e : LinkEnd) (o : Outcome) (held : Bool) (es : ℕ) → MayTurn x e (after e o) o held → is_up_at x.far ≡ false → is_down o.change ≡ true → TurnsEnd held e.fsm o → IsOver x (following (with_near x (after e o)) o.change es).pair
 down_over x e o held es m alone down (goes_down cause change up low) = turns_over x e (after e o) o es held cause m change up alone
 down_over x e o held es m alone down (goes_up change reset own state) = absurd (let wrong : true ≡ false = sym down ∙ ap is_down change in let no : ⊥ = cc in no)
 down_over x e o held es m alone down (stays_so other so own state) = absurd (let wrong : true ≡ false = sym down ∙ so in let no : ⊥ = cc in no)

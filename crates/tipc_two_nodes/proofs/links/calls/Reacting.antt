@@ -16,7 +16,7 @@ use Rattle.tipc_two_nodes.specs.links.Traffic.{Traffic}
 use Rattle.tipc_two_nodes.specs.links.Sending.{StandFor, beside, ends_seen, state_as, window_in}
 use Rattle.tipc_two_nodes.specs.links.Following.{stays}
 use Rattle.tipc_two_nodes.specs.links.Ends.{IsFallen, IsRisen}
-use Rattle.tipc_two_nodes.specs.links.Turning.{RunsWhereUp, Turns, goes_down, goes_up, is_rise, stays_so}
+use Rattle.tipc_two_nodes.specs.links.Turning.{RunsWhereUp, TurnsEnd, goes_down, goes_up, is_rise, stays_so}
 use Rattle.tipc_two_nodes.specs.links.Acting.{Acted, IsOver, window_at}
 use Rattle.tipc_two_nodes.proofs.links.calls.Acted.{Falls, acted_none, numbers_same}
 use Rattle.tipc_two_nodes.proofs.links.calls.Ending.{Goes, Went, goes, stops}
@@ -42,7 +42,7 @@ pub record MayTurn (x : PairEnds) (e e' : LinkEnd) (o : Outcome) (held : Bool) :
   pub two_bearers : x.bearer ≤ 1
   pub near_is : x.near ≡ Some e
   pub alike : Alike (after e o) e'
-  pub turn : Turns held e.fsm o
+  pub turn : TurnsEnd held e.fsm o
   pub carried : is_up_at x.far ≡ true → held ≡ true
   pub up : AreUp x
   pub runs : is_up_at x.far ≡ true → RunsWhereUp x.bearer x.near
@@ -121,7 +121,7 @@ rests_turned b x e e' o epoch held t z m stand other so own state =
 pub turns : (b : Bearer) (x : PairEnds) (e e' : LinkEnd) (o : Outcome) (epoch : ℕ) (held : Bool) (t : Traffic) (z : State) → MayTurn x e e' o held → StandFor b (ends_seen x) t z → Sound b z → Turned b x (following (with_near x e') o.change epoch).pair (is_rise o.change) t z
 turns b x e e' o epoch held t z m stand sound = by_turn m.turn
   where
-    by_turn : Turns held e.fsm o → Turned b x (following (with_near x e') o.change epoch).pair (is_rise o.change) t z
+    by_turn : TurnsEnd held e.fsm o → Turned b x (following (with_near x e') o.change epoch).pair (is_rise o.change) t z
     by_turn (goes_down cause down up low) = elim (cases_Bool (is_up_at x.far)) [
       | inl far_up ↦ fails_turned b x e e' o epoch held t z cause m stand sound down up low far_up
       | inr alone ↦ last (turns_over x e e' o epoch held cause m down up alone)

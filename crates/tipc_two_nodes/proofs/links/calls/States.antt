@@ -10,7 +10,7 @@ use Rattle.tipc_link_fsm.specs.Table.{Fsm, is_held, is_in_reset, is_last, is_pee
 use Rattle.tipc_link_fsm.proofs.Moves.{cases_on}
 use Rattle.tipc_changeover.specs.Links.{Reset, Up}
 use Rattle.tipc_two_nodes.specs.links.Sending.{state_as}
-use Rattle.tipc_two_nodes.specs.links.Turning.{Turns, goes_down, goes_up, stays_so}
+use Rattle.tipc_two_nodes.specs.links.Turning.{TurnsEnd, goes_down, goes_up, stays_so}
 
 pub as_up : (s : LinkState) → is_up s ≡ true → state_as s ≡ Up
 as_up s up = rw up refl
@@ -32,53 +32,53 @@ reset_heard state.Held so = absurd (let wrong : ⊥ = cc in wrong)
 pub as_down : (s : LinkState) → is_up s ≡ false → is_held s ≡ false → state_as s ≡ Reset
 as_down s down other = rw (down, other) refl
 
-pub cut_turns : (fsm : Fsm) (held : Bool) → Turns held fsm (on_cut fsm held)
+pub cut_turns : (fsm : Fsm) (held : Bool) → TurnsEnd held fsm (on_cut fsm held)
 unfolding on_cut
-cut_turns fsm held = cases_on (Turns held fsm) (is_up fsm.state) _ _ (λ up. goes_down cause.Cut refl up refl) (λ down. stays_so refl refl refl refl)
+cut_turns fsm held = cases_on (TurnsEnd held fsm) (is_up fsm.state) _ _ (λ up. goes_down cause.Cut refl up refl) (λ down. stays_so refl refl refl refl)
 
 silent_up : (fsm : Fsm) → state_as (unheard fsm).state ≡ Up
 silent_up fsm = elim (nat_le 1 fsm.silent) as (λ b. state_as (if b then WorkingUnknown else WorkingWorking) ≡ Up) [ true ↦ refl | false ↦ refl ]
 
-ticked : (s : LinkState) (fsm : Fsm) (held : Bool) → fsm.state ≡ s → Turns held fsm (tick_in s fsm held)
+ticked : (s : LinkState) (fsm : Fsm) (held : Bool) → fsm.state ≡ s → TurnsEnd held fsm (tick_in s fsm held)
 ticked ResetUnknown fsm held is = stays_so refl refl refl refl
 ticked ResetReset fsm held is = stays_so refl refl refl refl
 ticked state.Held fsm held is = stays_so refl refl refl refl
-ticked WorkingWorking fsm held is = cases_on (Turns held fsm) (fsm.silent == 4) _ _ (λ so. goes_down cause.Silent refl (ap is_up is) refl) (λ so. stays_so refl refl refl (silent_up fsm ∙ sym (ap state_as is)))
-ticked WorkingUnknown fsm held is = cases_on (Turns held fsm) (fsm.silent == 4) _ _ (λ so. goes_down cause.Silent refl (ap is_up is) refl) (λ so. stays_so refl refl refl (silent_up fsm ∙ sym (ap state_as is)))
+ticked WorkingWorking fsm held is = cases_on (TurnsEnd held fsm) (fsm.silent == 4) _ _ (λ so. goes_down cause.Silent refl (ap is_up is) refl) (λ so. stays_so refl refl refl (silent_up fsm ∙ sym (ap state_as is)))
+ticked WorkingUnknown fsm held is = cases_on (TurnsEnd held fsm) (fsm.silent == 4) _ _ (λ so. goes_down cause.Silent refl (ap is_up is) refl) (λ so. stays_so refl refl refl (silent_up fsm ∙ sym (ap state_as is)))
 
-pub tick_turns : (fsm : Fsm) (held : Bool) → Turns held fsm (on_tick fsm held)
+pub tick_turns : (fsm : Fsm) (held : Bool) → TurnsEnd held fsm (on_tick fsm held)
 unfolding on_tick
 tick_turns fsm held = ticked fsm.state fsm held refl
 
-pub reset_turns : (fsm : Fsm) (es : ℕ) (held : Bool) → Turns held fsm (on_reset fsm es held)
+pub reset_turns : (fsm : Fsm) (es : ℕ) (held : Bool) → TurnsEnd held fsm (on_reset fsm es held)
 unfolding on_reset
 reset_turns fsm es held =
-    cases_on (Turns held fsm) (is_held fsm.state) _ _ (λ so. stays_so refl refl refl refl) (λ other.
-    cases_on (Turns held fsm) (nat_lt es fsm.highest || (is_up fsm.state && is_peer fsm.peer es)) _ _ (λ so. stays_so refl refl refl refl) (λ so.
-    cases_on (Turns held fsm) (is_up fsm.state) _ _ (λ up. goes_down cause.PeerReset refl up refl) (λ down. stays_so refl refl refl (sym (as_down fsm.state down other)))))
+    cases_on (TurnsEnd held fsm) (is_held fsm.state) _ _ (λ so. stays_so refl refl refl refl) (λ other.
+    cases_on (TurnsEnd held fsm) (nat_lt es fsm.highest || (is_up fsm.state && is_peer fsm.peer es)) _ _ (λ so. stays_so refl refl refl refl) (λ so.
+    cases_on (TurnsEnd held fsm) (is_up fsm.state) _ _ (λ up. goes_down cause.PeerReset refl up refl) (λ down. stays_so refl refl refl (sym (as_down fsm.state down other)))))
 
-pub activate_turns : (fsm : Fsm) (es er : ℕ) (held : Bool) → Turns held fsm (on_activate fsm es er)
+pub activate_turns : (fsm : Fsm) (es er : ℕ) (held : Bool) → TurnsEnd held fsm (on_activate fsm es er)
 unfolding on_activate
 activate_turns fsm es er held =
-    cases_on (Turns held fsm) (is_held fsm.state) _ _ (λ so. stays_so refl refl refl refl) (λ other.
-    cases_on (Turns held fsm) ((is_in_reset fsm.state && not (is_last fsm.own)) && ((er == fsm.own) && not (nat_lt es fsm.highest))) _ _
+    cases_on (TurnsEnd held fsm) (is_held fsm.state) _ _ (λ so. stays_so refl refl refl refl) (λ other.
+    cases_on (TurnsEnd held fsm) ((is_in_reset fsm.state && not (is_last fsm.own)) && ((er == fsm.own) && not (nat_lt es fsm.highest))) _ _
     (λ fits.
     let all = and_parts (is_in_reset fsm.state && not (is_last fsm.own)) _ fits in
     let may = and_parts (is_in_reset fsm.state) _ all.0 in
     goes_up refl (as_reset fsm.state may.0) refl refl)
-    (λ so. cases_on (Turns held fsm) (is_up fsm.state && is_session fsm es er) _ _ (λ fits. stays_so refl refl refl (sym (as_up fsm.state (and_parts (is_up fsm.state) _ fits).0))) (λ so. stays_so refl refl refl refl)))
+    (λ so. cases_on (TurnsEnd held fsm) (is_up fsm.state && is_session fsm es er) _ _ (λ fits. stays_so refl refl refl (sym (as_up fsm.state (and_parts (is_up fsm.state) _ fits).0))) (λ so. stays_so refl refl refl refl)))
 
-pub traffic_turns : (fsm : Fsm) (es er : ℕ) (held : Bool) → Turns held fsm (on_traffic fsm es er)
+pub traffic_turns : (fsm : Fsm) (es er : ℕ) (held : Bool) → TurnsEnd held fsm (on_traffic fsm es er)
 unfolding on_traffic
 traffic_turns fsm es er held =
-    cases_on (Turns held fsm) (is_session fsm es er && (is_reset_reset fsm.state && not (is_last fsm.own))) _ _
+    cases_on (TurnsEnd held fsm) (is_session fsm es er && (is_reset_reset fsm.state && not (is_last fsm.own))) _ _
     (λ fits.
     let all = and_parts (is_session fsm es er) _ fits in
     let may = and_parts (is_reset_reset fsm.state) _ all.1 in
     goes_up refl (reset_heard fsm.state may.0) refl refl)
-    (λ so. cases_on (Turns held fsm) (is_session fsm es er && is_up fsm.state) _ _ (λ fits. stays_so refl refl refl (sym (as_up fsm.state (and_parts (is_session fsm es er) _ fits).1))) (λ so. stays_so refl refl refl refl))
+    (λ so. cases_on (TurnsEnd held fsm) (is_session fsm es er && is_up fsm.state) _ _ (λ fits. stays_so refl refl refl (sym (as_up fsm.state (and_parts (is_session fsm es er) _ fits).1))) (λ so. stays_so refl refl refl refl))
 
-pub tunnel_turns : (fsm : Fsm) (epoch : ℕ) → Turns true fsm (on_peer_tunnel fsm epoch)
+pub tunnel_turns : (fsm : Fsm) (epoch : ℕ) → TurnsEnd true fsm (on_peer_tunnel fsm epoch)
 unfolding on_peer_tunnel
 tunnel_turns fsm epoch =
-    cases_on (Turns true fsm) (is_up fsm.state && is_peer fsm.peer epoch) _ _ (λ fits. goes_down cause.PeerTunnel refl (and_parts (is_up fsm.state) _ fits).0 refl) (λ so. stays_so refl refl refl refl)
+    cases_on (TurnsEnd true fsm) (is_up fsm.state && is_peer fsm.peer epoch) _ _ (λ fits. goes_down cause.PeerTunnel refl (and_parts (is_up fsm.state) _ fits).0 refl) (λ so. stays_so refl refl refl refl)

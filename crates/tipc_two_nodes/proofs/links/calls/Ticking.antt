@@ -21,7 +21,7 @@ use Rattle.tipc_changeover.specs.Links.{other, Bearer, First, Second, State}
 use Rattle.tipc_changeover.specs.Sound.{Sound}
 use Rattle.tipc_two_nodes.specs.links.Traffic.{Traffic}
 use Rattle.tipc_two_nodes.specs.links.Sending.{StandFor, beside, ends_seen, number_as, state_as, turned_sending as turned_ends}
-use Rattle.tipc_two_nodes.specs.links.Turning.{AreEnds, RunsWhereUp, Turns, goes_down, goes_up, is_rise, stays_so}
+use Rattle.tipc_two_nodes.specs.links.Turning.{AreEnds, RunsWhereUp, TurnsEnd, goes_down, goes_up, is_rise, stays_so}
 use Rattle.tipc_two_nodes.specs.links.Acting.{IsOver, window_at}
 use Rattle.tipc_two_nodes.proofs.links.calls.Ending.{Rests}
 use Rattle.tipc_two_nodes.proofs.links.calls.FollowingOn.{followed_window, rest_follows}
@@ -45,7 +45,7 @@ pub quiet_rise : (k : Change) → is_going_up k ≡ false → is_rise k ≡ fals
 quiet_rise GoesUp quiet = absurd (let wrong : ⊥ = cc in wrong)
 quiet_rise k quiet = refl
 
-pub fall_may : (x : PairEnds) (e e' : LinkEnd) (o : Outcome) (held : Bool) → MayFall x → x.near ≡ Some e → Alike (after e o) e' → Turns held e.fsm o → (is_up_at x.far ≡ true → held ≡ true) → is_going_up o.change ≡ false → MayTurn x e e' o held
+pub fall_may : (x : PairEnds) (e e' : LinkEnd) (o : Outcome) (held : Bool) → MayFall x → x.near ≡ Some e → Alike (after e o) e' → TurnsEnd held e.fsm o → (is_up_at x.far ≡ true → held ≡ true) → is_going_up o.change ≡ false → MayTurn x e e' o held
 fall_may x e e' o held h is alike turn carried quiet = record {
   two_bearers = h.two_bearers;
   near_is = is;
@@ -101,12 +101,12 @@ not_up_as s s' same down = elim (cases_Bool (is_up s')) [
 ]
 
 -- a call of the table that takes no link up leaves a pair out of contact as it was
-pub out_rests : (x : PairEnds) (e : LinkEnd) (o : Outcome) (held : Bool) (epoch : ℕ) → x.near ≡ Some e → in_contact x ≡ false → Turns held e.fsm o → is_going_up o.change ≡ false → Rests x (following (with_near x (after e o)) o.change epoch).pair
+pub out_rests : (x : PairEnds) (e : LinkEnd) (o : Outcome) (held : Bool) (epoch : ℕ) → x.near ≡ Some e → in_contact x ≡ false → TurnsEnd held e.fsm o → is_going_up o.change ≡ false → Rests x (following (with_near x (after e o)) o.change epoch).pair
 out_rests x e o held epoch is none turn quiet =
     let down : is_up e.fsm.state ≡ false = ap is_up_at (sym is) ∙ near_down x none in
     by_turn down (far_down x none) turn
   where
-    by_turn : is_up e.fsm.state ≡ false → is_up_at x.far ≡ false → Turns held e.fsm o → Rests x (following (with_near x (after e o)) o.change epoch).pair
+    by_turn : is_up e.fsm.state ≡ false → is_up_at x.far ≡ false → TurnsEnd held e.fsm o → Rests x (following (with_near x (after e o)) o.change epoch).pair
     by_turn down far (goes_down cause change up low) = absurd (let wrong : true ≡ false = sym up ∙ down in let no : ⊥ = cc in no)
     by_turn down far (goes_up change reset own state) = absurd (let wrong : true ≡ false = sym (ap is_going_up change) ∙ quiet in let no : ⊥ = cc in no)
     by_turn down far (stays_so other so own state) =

@@ -20,7 +20,7 @@ use Rattle.tipc_pair.specs.Facing.{PairEnds, in_contact, is_up_at, with_near}
 use Rattle.tipc_pair.specs.PairArrivals.{Arrives, Heard, activates, behind, by_number, hears, met, met_at, met_near, passing, taken_in}
 use Rattle.tipc_changeover.specs.Links.{Bearer, State}
 use Rattle.tipc_two_nodes.specs.links.Arriving.{HasTaken, MayBeginAt, Opens, ShowsLatest, Stands, heard_pair}
-use Rattle.tipc_two_nodes.specs.links.Following.{Takes, stays}
+use Rattle.tipc_two_nodes.specs.links.Following.{ReceiverFollows, stays}
 use Rattle.tipc_two_nodes.specs.links.Receiving.{AreLines, ReceiveFor, Records}
 use Rattle.tipc_two_nodes.specs.links.Traffic.{Traffic}
 use Rattle.tipc_two_nodes.proofs.links.receiver.Hearing.{arrives_from}
@@ -32,7 +32,7 @@ use Rattle.tipc_pair.proofs.turns.Causes.{neither_first as or_first}
 -- a record may have begun, and the near link took packets
 record Ready (x : PairEnds) (m : Heard) (b : Bearer) (t : Traffic) (s : State) (before : List (List ℕ)) : Type 0 where
   state : State
-  takes : Takes b s state
+  takes : ReceiverFollows b s state
   bearer : m.course.pair.bearer ≡ x.bearer
   taken : HasTaken m.course.pair b t state before (taken_in m.outcome)
 

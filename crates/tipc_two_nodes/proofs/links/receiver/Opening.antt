@@ -27,7 +27,7 @@ use Rattle.tipc_changeover.specs.Distances.{Bounded}
 use Rattle.tipc_pair.proofs.Restoring.{restored_none}
 use Rattle.tipc_two_nodes.specs.links.Arriving.{IsMadeFor}
 use Rattle.tipc_two_nodes.specs.links.Traffic.{Lines, Traffic, epoch_of}
-use Rattle.tipc_two_nodes.specs.links.Packets.{IsCarrier, IsFor, MayBeIn, SpeaksOf, marks, told_by_marker, told_of, wraps}
+use Rattle.tipc_two_nodes.specs.links.Packets.{IsCarrier, IsFor, MayBeIn, SpeaksOf, marks, told_by_marker, told_by_packet, wraps}
 use Rattle.tipc_two_nodes.specs.links.Sending.{beside}
 use Rattle.tipc_two_nodes.specs.links.Receiving.{AreLines, AreNext, IsInside, IsRecordFor, StandBehind, TookAll, TookTunnel, bytes_in, record_at}
 use Rattle.tipc_two_nodes.proofs.links.sender.Happening.{follows_sound, follows_then}
@@ -110,7 +110,7 @@ not_none true is = refl
 not_none false is = cc
 
 inside_so : (kind : ChangeoverType) (old : OldSession) (own count place : ℕ) (line : List (List ℕ)) (inner : List ℕ) (by : ℕ) → slice_get line (place - 1) ≡ Some inner → MayBeIn kind old count inner
-    → IsInside line place (not (is_tunnel inner)) (inside_of (told_of kind old own count (record { number = number_of place; packet = inner })) by)
+    → IsInside line place (not (is_tunnel inner)) (inside_of (told_by_packet kind old own count (record { number = number_of place; packet = inner })) by)
 inside_so kind old own count place line inner by there may = record {
   number = refl;
   whole = λ packet full at_place.
@@ -144,7 +144,7 @@ told_so b t s bearer f q full e first others two lines sound bounded h next slot
     }
 told_so b t s bearer f q full e first others two lines sound bounded h next slot low (wraps kind own count place inner some there may is) =
     let old : OldSession = record { bearer = beside bearer; epoch = epoch_of t.far.first f } in
-    let v = told_of kind old own count (record { number = number_of place; packet = inner }) in
+    let v = told_by_packet kind old own count (record { number = number_of place; packet = inner }) in
     let u = inside_of v first.by in
     let T = takes_tunnel b bearer t s (record_of e) f place (not (is_tunnel inner)) u two lines sound bounded h slot low some (inside_so kind old own count place (t.far.line f) inner first.by there may) in
     let test = some_count count may.some in
@@ -190,7 +190,7 @@ speaks_far y other f packet v h made = record {
 
 told_of_slot : (bearer f q : ℕ) (full : Bool) (other : Lines) (line : List (List ℕ)) (packet : List ℕ) → SpeaksOf (record { bearer = bearer; epoch = epoch_of other.first f }) line packet q full → (v : Tunnelled) × IsTold bearer other f packet v
 told_of_slot bearer f q full other line packet (marks kind made is) = (told_by_marker kind (record { bearer = bearer; epoch = epoch_of other.first f }), record { made = made; spelled = is; old_is = refl })
-told_of_slot bearer f q full other line packet (wraps kind own count place inner some there may is) = (told_of kind (record { bearer = bearer; epoch = epoch_of other.first f }) own count (record { number = number_of place; packet = inner }), record { made = may.made own place; spelled = is; old_is = refl })
+told_of_slot bearer f q full other line packet (wraps kind own count place inner some there may is) = (told_by_packet kind (record { bearer = bearer; epoch = epoch_of other.first f }) own count (record { number = number_of place; packet = inner }), record { made = may.made own place; spelled = is; old_is = refl })
 
 -- the far link's end
 an_end : (o : Option LinkEnd) → is_some o ≡ true → (e : LinkEnd) × (o ≡ Some e)

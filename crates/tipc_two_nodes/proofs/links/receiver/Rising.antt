@@ -18,7 +18,7 @@ use Rattle.tipc_pair.specs.Facing.{PairEnds, is_up_at, with_near}
 use Rattle.tipc_pair.specs.PairArrivals.{Arrives, met, taken_in}
 use Rattle.tipc_changeover.specs.Links.{Bearer, State}
 use Rattle.tipc_two_nodes.specs.links.Arriving.{HasTaken, IsHeardIn, MayBegin, Opens, Stands, heard_pair}
-use Rattle.tipc_two_nodes.specs.links.Following.{Takes}
+use Rattle.tipc_two_nodes.specs.links.Following.{ReceiverFollows}
 use Rattle.tipc_two_nodes.specs.links.Receiving.{IsSessionRecord, IsRecordFor, record_at, records_of}
 use Rattle.tipc_two_nodes.specs.links.Traffic.{Traffic, epoch_of}
 use Rattle.tipc_two_nodes.proofs.links.sender.Happening.{follows_reached, follows_then}
@@ -70,7 +70,7 @@ up_made x = elim (is_up_at x.far) as (λ b. StaysMade x (if b then (if x.bearer 
 
 -- ---- events one after the other
 
-pub opens_later : (b : Bearer) (bearer : ℕ) (t : Traffic) (s s' : State) (before : List (List ℕ)) (heard y : PairEnds) (given : PairOutcome) → Takes b s s' → Opens b bearer t s' before heard y given → Opens b bearer t s before heard y given
+pub opens_later : (b : Bearer) (bearer : ℕ) (t : Traffic) (s s' : State) (before : List (List ℕ)) (heard y : PairEnds) (given : PairOutcome) → ReceiverFollows b s s' → Opens b bearer t s' before heard y given → Opens b bearer t s before heard y given
 opens_later b bearer t s s' before heard y given first h =
     let R = h.receives in
     record { carried = h.carried; begun = h.begun; begun_is = h.begun_is; gives = h.gives; receives = record { state = R.state; takes = follows_then b s s' R.state first R.takes; lines = R.lines; receive = R.receive } }
@@ -89,7 +89,7 @@ up_record e o es up peer = ap (λ (k : Change). record_of (followed (with_fsm e 
 -- the state once the record of the link that went up is begun or kept, and the pair's records then
 pub record Begun (x : PairEnds) (e : LinkEnd) (b : Bearer) (t : Traffic) (s : State) (before : List (List ℕ)) (session es : ℕ) : Type 0 where
   pub state : State
-  pub takes : Takes b s state
+  pub takes : ReceiverFollows b s state
   pub stands : (e' : LinkEnd) → record_of e' ≡ Some (kept_for (record_of e) es) → Stands (with_near x e') b t state before
   pub near_is : IsSessionRecord t.near (kept_for (record_of e) es) state.near_record
   pub session_is : state.near_record.session ≡ session

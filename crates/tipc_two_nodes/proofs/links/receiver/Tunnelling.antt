@@ -19,7 +19,7 @@ use Rattle.tipc_changeover.specs.Sound.{Sound}
 use Rattle.tipc_two_nodes.specs.links.Traffic.{Lines, Traffic, epoch_of, turned_traffic as turned_traffic}
 use Rattle.tipc_two_nodes.specs.links.Sending.{beside}
 use Rattle.tipc_two_nodes.specs.links.Steps.{ArePlain}
-use Rattle.tipc_two_nodes.specs.links.Following.{Takes, stays}
+use Rattle.tipc_two_nodes.specs.links.Following.{ReceiverFollows, stays}
 use Rattle.tipc_two_nodes.specs.links.Receiving.{AreLines, IsInside, IsSessionRecord, IsRecordFor, Recorded, StandBehind, TookTunnel, bytes_in}
 use Rattle.tipc_two_nodes.proofs.links.sender.Happening.{follows_one, follows_then, sound_turned}
 use Rattle.tipc_two_nodes.proofs.links.sender.Turning.{follows_from, lines_back, lines_turned}
@@ -173,7 +173,7 @@ advanced_for l a r u h =
 -- ---- a tunnel packet is taken
 
 -- the packet inside was the wanted one: those that are held behind it are taken with it
-goes_on : (b : Bearer) (bearer : ℕ) (t : Traffic) (s s' : State) (a : Received) (r : Receiver) (u : Taken) → bearer ≤ 1 → Takes b s s' → AreLines bearer t s' → Sound b s' → s'.near_record ≡ after_next s.near_record
+goes_on : (b : Bearer) (bearer : ℕ) (t : Traffic) (s s' : State) (a : Received) (r : Receiver) (u : Taken) → bearer ≤ 1 → ReceiverFollows b s s' → AreLines bearer t s' → Sound b s' → s'.near_record ≡ after_next s.near_record
     → IsSessionRecord t.far a r → s'.far_record ≡ after_next r → take (length s'.delivered) t.put ≡ take (length s.delivered) t.put ++ bytes_in (u ∷ [])
     → TookTunnel b bearer t s (advanced_by a u) (u ∷ behind a)
 goes_on b bearer t s s' a r u two takes lines sound near_is h far_is longer =
@@ -202,7 +202,7 @@ goes_on b bearer t s s' a r u two takes lines sound near_is h far_is longer =
     }
 
 -- the packet inside was old, or of an older session: nothing comes of it
-stays_so : (b : Bearer) (bearer : ℕ) (t : Traffic) (s s' : State) (a : Received) (epoch : ℕ) (u : Taken) → Takes b s s' → AreLines bearer t s' → s'.near_record ≡ after_next s.near_record → IsSessionRecord t.far a s'.far_record
+stays_so : (b : Bearer) (bearer : ℕ) (t : Traffic) (s s' : State) (a : Received) (epoch : ℕ) (u : Taken) → ReceiverFollows b s s' → AreLines bearer t s' → s'.near_record ≡ after_next s.near_record → IsSessionRecord t.far a s'.far_record
     → s'.delivered ≡ s.delivered ++ [] → is_next a epoch u ≡ false → TookTunnel b bearer t s (tunnelled a epoch u) (taken_in (tunnelled_outcome a epoch u))
 stays_so b bearer t s s' a epoch u takes lines near_is h same not_next = record {
   state = s';
@@ -214,7 +214,7 @@ stays_so b bearer t s s' a epoch u takes lines near_is h same not_next = record 
       ∙ ap (λ ts. take (length s.delivered) t.put ++ bytes_in ts) (sym (freed_none a epoch u not_next));
 }
 
-goes_so : (b : Bearer) (bearer : ℕ) (t : Traffic) (s s' : State) (a : Received) (r : Receiver) (f : ℕ) (u : Taken) → bearer ≤ 1 → Takes b s s' → AreLines bearer t s' → Sound b s'
+goes_so : (b : Bearer) (bearer : ℕ) (t : Traffic) (s s' : State) (a : Received) (r : Receiver) (f : ℕ) (u : Taken) → bearer ≤ 1 → ReceiverFollows b s s' → AreLines bearer t s' → Sound b s'
     → s'.near_record ≡ after_next s.near_record → IsSessionRecord t.far a r → r.session ≡ f → u.number ≡ number_of (r.taken + 1) → s'.far_record ≡ after_next r → take (length s'.delivered) t.put ≡ take (length s.delivered) t.put ++ bytes_in (u ∷ [])
     → TookTunnel b bearer t s (tunnelled a (epoch_of t.far.first f) u) (taken_in (tunnelled_outcome a (epoch_of t.far.first f) u))
 goes_so b bearer t s s' a r f u two takes lines sound near_is h session number far_is longer =

@@ -7,7 +7,7 @@ use Rattle.tipc_changeover.specs.Sound.{Sound}
 use Rattle.tipc_changeover.specs.Distances.{Bounded}
 use Rattle.tipc_changeover.proofs.Reaching.{reached_bounded, seen_bounded}
 use Rattle.tipc_changeover.proofs.Staying.{acts, reached_sound}
-use Rattle.tipc_two_nodes.specs.links.Following.{Events, acted_far, far, is_sent, near, stays, Follows}
+use Rattle.tipc_two_nodes.specs.links.Following.{Events, acted_far, far, is_sent, near, stays, SenderFollows}
 use Rattle.tipc_two_nodes.specs.links.Laws.{TakesNone}
 
 pub follows_then : {kind : Event → Bool} (b : Bearer) (s s' s'' : State) → Events kind b s s' → Events kind b s' s'' → Events kind b s s''
@@ -87,7 +87,7 @@ none_then s s' s'' f g = record { near = g.near ∙ f.near; far = g.far ∙ f.fa
 none_turned : (s s' : State) → TakesNone (turned_state s) (turned_state s') → TakesNone s s'
 none_turned s s' h = record { near = h.far; far = h.near; delivered = h.delivered }
 
-pub follows_none : (b : Bearer) (s s' : State) → Follows b s s' → TakesNone s s'
+pub follows_none : (b : Bearer) (s s' : State) → SenderFollows b s s' → TakesNone s s'
 follows_none b s s' stays = record { near = refl; far = refl; delivered = refl }
 follows_none b s s' (near next event g may sent) = none_then s next _ (follows_none b s next g) (none_one next event sent)
 follows_none b s s' (far next event g may sent) = none_then s next _ (follows_none b s next g) (none_turned next (turned_state (acted (turned_state next) event)) (none_one (turned_state next) event sent))

@@ -11,7 +11,7 @@ use Rattle.tipc_pair.specs.Runs.{run_of, wrapped}
 use Rattle.tipc_changeover.specs.Slots.{at, or_marker, plain_slots, plains, run, tunnelled, Plain, LinkSlot, Tunnel}
 use Rattle.tipc_changeover.proofs.Runs.{HasNone}
 use Rattle.tipc_two_nodes.specs.links.Traffic.{Lines, epoch_of}
-use Rattle.tipc_two_nodes.specs.links.Packets.{AreFor, IsFor, MayBeIn, SpeaksOf, marks, told_by_marker, told_of, wraps}
+use Rattle.tipc_two_nodes.specs.links.Packets.{AreFor, IsFor, MayBeIn, SpeaksOf, marks, told_by_marker, told_by_packet, wraps}
 use Rattle.tipc_tunnel.specs.Tunnels.{IsTunnel}
 use Rattle.tipc_pair.proofs.Listed.{made_tunnel}
 use Rattle.tipc_two_nodes.specs.links.Steps.{ArePlain, EachWraps}
@@ -68,7 +68,7 @@ run_from put bearer l kind own count fullness e k (z ∷ zs) (p ∷ ps) low h st
     let first : slice_get (l.line e) (k + 1 - 1) ≡ Some p = (let place : k + 1 - 1 ≡ k + 0 = omega arith in rw place (stand 0 p refl)) in (
       record {
         begun = low;
-        tunnel = made_tunnel (told_of kind old own count (record { number = number_of (k + 1); packet = p })) (h.0.may.made own (k + 1));
+        tunnel = made_tunnel (told_by_packet kind old own count (record { number = number_of (k + 1); packet = p })) (h.0.may.made own (k + 1));
         speaks = subst (λ full. SpeaksOf old (l.line e) packet (k + 1) full) (sym h.0.full) (wraps kind own count (k + 1) p (omega arith) first h.0.may refl);
       },
       run_from put bearer l kind own count fullness e (k + 1) zs ps low h.1 (λ j inner there. (let place : k + 1 + j ≡ k + suc j = omega arith in rw place (stand (suc j) inner there))),

@@ -11,7 +11,7 @@ use Rattle.tipc_pair.specs.PairArrivals.{restored}
 use Rattle.tipc_pair.specs.Runs.{IsListed, plain, shown_by, tunnel}
 use Rattle.tipc_pair.proofs.Listed.{both_ways, listed_inner, made_tunnel}
 use Rattle.tipc_pair.proofs.Shown.{restored_inside, shown_may}
-use Rattle.tipc_two_nodes.specs.links.Packets.{MayBeIn, told_by_marker, told_of}
+use Rattle.tipc_two_nodes.specs.links.Packets.{MayBeIn, told_by_marker, told_by_packet}
 use Rattle.tipc_two_nodes.specs.links.Ends.{AreListed, WaitsAsListed}
 use Rattle.tipc_two_nodes.specs.links.Steps.{CanTravel, EachWraps}
 
@@ -36,7 +36,7 @@ placeholder_tunnel kind old count number bearer epoch c n some = record {
 }
 
 told_tunnel : (kind : ChangeoverType) (old : OldSession) (count : ℕ) (packet : List ℕ) → IsListed packet → old.bearer ≤ 1 → old.epoch < 2 ^ 64 → count < 2 ^ 16 → 1 ≤ count → (own n : ℕ)
-    → IsTunnel (told_of kind old own count (record { number = number_of n; packet = packet }))
+    → IsTunnel (told_by_packet kind old own count (record { number = number_of n; packet = packet }))
 told_tunnel kind old count packet listed bearer epoch few some own n = elim (cases_Bool (is_tunnel packet)) [
   | inl is ↦ subst (λ bytes. IsTunnel (record { kind = kind; old = old; count = count; number = number_of n; inner = bytes })) (sym (ap (λ t. if t then [] else numbered (number_of n) (shown_by own packet)) is))
       (placeholder_tunnel kind old count (number_of n) bearer epoch few (short_number n) some)

@@ -20,5 +20,5 @@ returns-clause-adds c =
     let x = c.args.self.now in
     let two : x.bearer ≤ 1 = subst (λ (v : PairEnds). v.bearer ≤ 1) c.self.view_is c.self.invariant.two_bearers in
     ended_adds_ok c.tell.result c.args.seen c.args.shown (x.contact, x.seen) c.contact_numbers-contact.result c.states-states.result x c.face.new.self c.part.new.self c.args.event.now
-    c.tell_ended.new.event c.part.new.event c.tell.new.self two c.face.ensures.after c.in_ok-tell_ended.ensures c.part.ensures.after c.part.ensures.changes c.part.ensures.states c.part.ensures.numbered
+    c.tell_ended.new.event c.part.new.event c.tell.new.self two c.face.ensures.after c.in_ok-tell_ended.ensures c.part.ensures.after c.part.ensures.changes c.part.ensures.frames
     (numbers_are c.contact_numbers-contact.result x.contact x.seen c.contact_numbers-contact.ensures.own c.contact_numbers-contact.ensures.seen) c.states-states.ensures c.tell.ensures

@@ -1,5 +1,5 @@
 use Rattle.std.proofs.Common.{◌≡◌, ◌∙◌, true, None, is_some, sym, subst, ap}
-use Rattle.tipc_outside.specs.Frames.{Adds}
+use Rattle.tipc_outside.specs.Frames.{AddsFirst}
 use Rattle.tipc_link_fsm.specs.Table.{on_reset}
 use Rattle.tipc_link_fsm.proofs.Moves.{on_reset_moves}
 use Rattle.tipc_link.specs.Links.{LinkEnd, after, frames}
@@ -33,5 +33,4 @@ returns-clause-does c =
     reset_does x _ c.follow.new.self e c.reset-arrival.new.self c.args.es c.args.held c.args.shown c.reset-arrival.result.change c.reset-arrival.result.outcome c.args.event.now _ c.follow.new.event
     (sym (ap (λ (v : PairEnds). v.near) c.self.view_is) ∙ c.in-Some.is) (ap (λ (v : PairEnds). with_near v c.reset-arrival.new.self) c.self.view_is) c.reset-arrival.ensures.after
     c.reset-arrival.ensures.change c.reset-arrival.ensures.outcome c.in_ok-follow.ensures.after c.in_ok-follow.ensures.adds (ap (λ (l : LeavingState). l.changes) c.event.view_is)
-    (subst (λ (l : LeavingState). Adds l.states c.reset-arrival.new.out (frames e (on_reset e.fsm c.args.es c.args.held) c.args.shown)) c.event.view_is c.reset-arrival.ensures.frames)
-    (ap (λ (l : LeavingState). l.numbered) c.event.view_is)
+    (subst (λ (l : LeavingState). AddsFirst l.out c.reset-arrival.new.out (frames e (on_reset e.fsm c.args.es c.args.held) c.args.shown)) c.event.view_is c.reset-arrival.ensures.frames)

@@ -15,7 +15,7 @@ returns-clause-adds c =
     let two = c.release_near-2.new.event in
     let far : c.turn.new.self ≡ turned (release_near x).pair = c.turn.ensures ∙ ap turned c.release_near.ensures.after in
     let k : AddsCourse one two (release_near (turned (release_near x).pair)) = subst (λ (y : PairEnds). AddsCourse one two (release_near y)) far c.release_near-2.ensures.adds in
-    let second : AddsCourse one two (at_far release_near (release_near x).pair) = record { changes = k.changes; states = k.states; numbered = k.numbered } in
+    let second : AddsCourse one two (at_far release_near (release_near x).pair) = record { changes = k.changes; made = k.made } in
     adds_course c.args.event.now one two (release_near x) (at_far release_near) c.release_near.ensures.adds second
 
 pub returns-then-not-is_held-2-clause-after : goal.returns-then-not-is_held-2-clause-after

@@ -50,5 +50,5 @@ returns-clause-adds c =
     let far_up : is_up f.fsm.state ≡ true = subst (λ o. is_up_at o ≡ true) far_is c.requires.far in
     switched_adds c.load.result x e f c.in_ok-pieces.pieces c.args.event.now _ near_is far_is ((near_of _ e c.self.invariant c.in-Some-near.is).begun near_up)
     ((far_of _ f c.self.invariant c.in-Some.is).begun far_up) c.in_ok-pieces.ensures.pieces
-    (λ s is. subst (λ (l : LeavingState). OnOk c.load.result (Adds l.numbered c.load.new.out (flush_frames (put s c.in_ok-pieces.pieces)))) c.event.view_is (c.load.ensures.frames s is))
-    (ap (λ (l : LeavingState). l.changes) c.event.view_is) (ap (λ (l : LeavingState). l.states) c.event.view_is)
+    (λ s is. subst (λ (l : LeavingState). OnOk c.load.result (Adds l.out c.load.new.out (flush_frames (put s c.in_ok-pieces.pieces)))) c.event.view_is (c.load.ensures.frames s is))
+    (ap (λ (l : LeavingState). l.changes) c.event.view_is)

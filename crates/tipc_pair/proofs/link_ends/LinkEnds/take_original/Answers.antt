@@ -11,4 +11,4 @@ returns-clause-after c =
 pub returns-clause-adds : goal.returns-clause-adds
 returns-clause-adds c =
     let k = subst (λ (y : PairEnds). AddsCourse c.args.event.now c.take_down.new.event (tunnelled_at c.args.epoch y y.near)) c.turn.ensures c.in_ok-take_down.ensures.adds in
-    record { changes = k.changes; states = k.states; numbered = k.numbered }
+    record { changes = k.changes; made = k.made }

@@ -9,4 +9,4 @@ returns-clause-told c = λ es er by given quiet opened.
     let last = c.release.new.event in
     let h = quietly_arrives c.args.self.now c.meet_quietly.new.self c.release.new.self es er (view c.args.packet.now) by c.args.shown given c.new-event.result c.meet_quietly.new.event last
     (c.meet_quietly.ensures.told es er by given quiet opened) c.release.ensures.after c.release.ensures.adds in
-    (h.0, h.1, h.2, told_alone c.new-event.result last h.0 begun.changes begun.states begun.numbered h.3)
+    (h.0, h.1, h.2, told_alone c.new-event.result last h.0 begun.changes begun.out h.3)

@@ -1,5 +1,5 @@
 use Rattle.std.proofs.Common.{◌≡◌, ◌∙◌, true, None, is_some, sym, subst, ap}
-use Rattle.tipc_outside.specs.Frames.{Adds}
+use Rattle.tipc_outside.specs.Frames.{AddsFirst}
 use Rattle.tipc_link_fsm.specs.Table.{on_tick}
 use Rattle.tipc_link_fsm.proofs.Moves.{on_tick_moves}
 use Rattle.tipc_link.specs.Links.{LinkEnd, after, frames}
@@ -47,5 +47,4 @@ returns-clause-adds c =
     (ticked_is x e held c.args.shown (sym (ap (λ (v : PairEnds). v.near) c.self.view_is) ∙ c.in-Some.is) c.far_is_up-held.ensures)
     (stepped_adds c.follow.result c.args.event.now _ c.follow.new.event x _ e c.tick-change.new.self (on_tick e.fsm held) c.tick-change.result 0 c.args.shown
     (ap (λ (v : PairEnds). with_near v c.tick-change.new.self) c.self.view_is) c.tick-change.ensures.after c.tick-change.ensures.change c.follow.ensures.adds
-    (ap (λ (l : LeavingState). l.changes) c.event.view_is) (subst (λ (l : LeavingState). Adds l.states c.tick-change.new.out (frames e (on_tick e.fsm held) c.args.shown)) c.event.view_is c.tick-change.ensures.frames)
-    (ap (λ (l : LeavingState). l.numbered) c.event.view_is))
+    (ap (λ (l : LeavingState). l.changes) c.event.view_is) (subst (λ (l : LeavingState). AddsFirst l.out c.tick-change.new.out (frames e (on_tick e.fsm held) c.args.shown)) c.event.view_is c.tick-change.ensures.frames))

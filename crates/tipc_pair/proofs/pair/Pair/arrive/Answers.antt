@@ -1,5 +1,6 @@
 use Rattle.std.proofs.Common.{◌∙◌, sym, subst, ap}
 use Rattle.tipc_header.specs.Spelling.{view}
+use Rattle.tipc_pair.specs.Courses.{made_in}
 use Rattle.tipc_pair.specs.Facing.{facing}
 use Rattle.tipc_pair.specs.PairArrivals.{Arrives}
 use Rattle.tipc_pair.specs.PairFacts.{AreHeldRightly}
@@ -15,7 +16,7 @@ returns-clause-ok c =
       subst (λ y. Arrives y c.args.incoming.now.sender_epoch c.args.incoming.now.receiver_epoch (view c.args.incoming.now.packet) c.args.incoming.now.by c.args.incoming.now.shown course c.in_ok-way.outcome) (ap (facing c.args.bearer) c.self.view_is) h.1,
       h.2 ∙ ap (λ n. facing n course.pair) c.self.invariant.0,
       c.leave-changes.ensures.changes ∙ h.3.changes,
-      c.leave-changes.ensures.frames course.states course.numbered h.3.states h.3.numbered,
+      c.leave-changes.ensures.frames (made_in course) h.3.made,
     )
 
 pub invariant_of-self : goal.invariant_of-self

@@ -20,9 +20,9 @@ pub returns-clause-told : goal.returns-clause-told
 returns-clause-told c =
     let begun = c.new-event.ensures in
     let event = c.cut.new.event in
-    let told = told_alone c.new-event.result event (cut_near c.face.new.self) begun.changes begun.states begun.numbered c.in_ok-cut.ensures.adds in
+    let told = told_alone c.new-event.result event (cut_near c.face.new.self) begun.changes begun.out c.in_ok-cut.ensures.adds in
     let there = subst (λ y. IsToldOf (cut_near y) event) (c.face.ensures.after ∙ ap (facing c.args.bearer) (c.in_ok-next.ensures ∙ c.self.view_is)) told in
-    record { changes = there.changes; states = there.states; numbered = there.numbered }
+    record { changes = there.changes; made = there.made }
 
 pub returns-clause-goes_on : goal.returns-clause-goes_on
 returns-clause-goes_on c = λ was there.

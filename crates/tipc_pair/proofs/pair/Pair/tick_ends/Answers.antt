@@ -19,7 +19,7 @@ returns-clause-told c =
     let begun = c.new-event.ensures in
     let event = c.tick.new.event in
     subst (λ y. IsToldOf (ticked c.args.shown y) event) (c.in_ok-next.ensures ∙ c.self.view_is)
-    (told_alone c.new-event.result event (ticked c.args.shown c.in_ok-next.next) begun.changes begun.states begun.numbered c.in_ok-tick.ensures.adds)
+    (told_alone c.new-event.result event (ticked c.args.shown c.in_ok-next.next) begun.changes begun.out c.in_ok-tick.ensures.adds)
 
 pub returns-clause-goes_on : goal.returns-clause-goes_on
 returns-clause-goes_on c = λ was there.

@@ -1,5 +1,0 @@
-use Rattle.tipc_outside.specs.Frames.{Adds}
-use Rattle.tipc_pair.proofs.leaving.push_all.Given as goal
-
-abbrev pub invariant-loop-frame : goal.invariant-loop-frame
-invariant-loop-frame l = Adds l.fn.out l.out l.yielded
