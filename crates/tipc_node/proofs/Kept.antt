@@ -19,7 +19,7 @@ use Rattle.tipc_node.specs.Turns.{AreNamed}
 use Rattle.tipc_node.proofs.journal.ArrivalTold.{arrives_told}
 use Rattle.tipc_node.proofs.turns.Arrivals.{arrives_turn}
 use Rattle.tipc_node.proofs.journal.FirstTold.{known_told, new_told}
-use Rattle.tipc_node.proofs.turns.Named.{known_named, turn_named}
+use Rattle.tipc_node.proofs.turns.Named.{IsBoot, known_named, new_named, turn_named}
 use Rattle.tipc_node.proofs.pairs.Packed.{known_packed, new_packed, turn_packed}
 use Rattle.tipc_node.proofs.turns.Performing.{performs_turn}
 use Rattle.tipc_node.proofs.names.SharedNames.{known_shares, new_shares, performs_shares}
@@ -33,19 +33,19 @@ pub record IsKept (n : NodeState) : Type 0 where
   pub shares : SharesNames n
 
 -- a node that knows nobody
-pub new_kept : (n : NodeState) → n.sockets ≡ no_sockets n.own n.boot → AreSockets n.sockets → n.journal ≡ [] → ((peer : ℕ) → neighbour_of n peer ≡ None) → IsKept n
-new_kept n none sound empty nobody = record {
+pub new_kept : (n : NodeState) → IsBoot n.boot → n.sockets ≡ no_sockets n.own n.boot → AreSockets n.sockets → n.journal ≡ [] → ((peer : ℕ) → neighbour_of n peer ≡ None) → IsKept n
+new_kept n boot none sound empty nobody = record {
   told = new_told n none sound empty nobody;
-  named = λ b x there. absurd (let alone = nobody b in let wrong : ⊥ = cc in wrong);
+  named = new_named n boot nobody;
   packed = new_packed n nobody;
   shares = new_shares n empty;
 }
 
 -- a link end is made
-pub known_kept : (n : NodeState) (peer bearer : ℕ) → 1 ≤ peer → end_with bearer (neighbour_of n peer) ≡ None → IsKept n → IsKept (known_node n peer bearer)
-known_kept n peer bearer some none k = record {
+pub known_kept : (n : NodeState) (peer bearer : ℕ) → IsBoot n.boot → 1 ≤ peer → end_with bearer (neighbour_of n peer) ≡ None → IsKept n → IsKept (known_node n peer bearer)
+known_kept n peer bearer boot some none k = record {
   told = known_told n peer bearer some none k.told;
-  named = known_named n peer bearer k.named;
+  named = known_named n peer bearer boot k.named;
   packed = known_packed n peer bearer k.told k.packed;
   shares = known_shares n peer bearer none k.told k.shares;
 }

@@ -3,3 +3,4 @@ pub mod Acquainting
 pub mod Calm
 pub mod Knowing
 pub mod Packed
+pub mod Strangers

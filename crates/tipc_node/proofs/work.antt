@@ -8,7 +8,6 @@ pub mod Greeting
 pub mod Heard
 pub mod Hearings
 pub mod Homing
-pub mod Leaving
 pub mod Loads
 pub mod Making
 pub mod Neighbouring

@@ -1,5 +1,6 @@
 -- What an arrival makes of a node, exactly.
 use Rattle.std.specs.Prelude.{◌≡◌, ◌≤◌, ◌<◌, ◌^◌, ℕ, Bool, true, false, List, [], ◌++◌, None, Some, is_some, slice_index_or, slice_set}
+use Rattle.tipc_types.specs.declared.message_forms.Flow.TheVariants.{Zero}
 use Rattle.tipc_types.specs.Address.{node_word}
 use Rattle.tipc_types.specs.declared.link_words.Why.{Why}
 use Rattle.tipc_types.specs.declared.message_forms.Message.{Message}
@@ -11,7 +12,8 @@ use Rattle.tipc_types.specs.declared.node_calls.EventNote.TheVariants.{Arrive}
 use Rattle.tipc_types.specs.declared.services.Publication.{Publication}
 use Rattle.tipc_outside.specs.declared.outgoing.Outgoing.{Outgoing}
 use Rattle.tipc_outside.specs.Frames.{Adds, Out}
-use Rattle.tipc_header.specs.Frames.{frame_of}
+use Rattle.tipc_header.specs.declared.frames.FrameKind.TheVariants.{Links}
+use Rattle.tipc_header.specs.Frames.{frame_of, kind_in}
 use Rattle.tipc_header.specs.Grammar.{Fits}
 use Rattle.tipc_header.specs.Spelling.{Fields, spelling}
 use Rattle.tipc_name_dist.specs.Items.{IsBulk}
@@ -23,9 +25,9 @@ use Rattle.tipc_node.specs.Calls.{CallTurn}
 use Rattle.tipc_node.specs.Neighbours.{HearsAt, answered_neighbour, answering, heard_neighbour}
 use Rattle.tipc_pair.specs.Contacts.{begins}
 use Rattle.tipc_node.specs.Nodes.{NodeState, arrival_answer, arrival_deliveries, change_entries, end_with, neighbour_of, stop_of, stopped_node}
-use Rattle.tipc_node.specs.Works.{DeliversAll, PutsEach, Work, concluded, noted}
+use Rattle.tipc_node.specs.Works.{DeliversAll, PutsEach, Work, begun, concluded, noted}
 
--- a frame brings a packet, under an envelope of two numbers, that is due at the link of a bearer to its sender, the peer of that number
+-- a frame brings a link packet, under an envelope of two numbers, that is due at the link of a bearer to its sender, the peer of that number
 pub record IsDue (n : NodeState) (bytes : List ℕ) (bearer peer first second : ℕ) (p : Fields) : Type 0 where
   pub range : (1 ≤ peer) × (peer ≤ 32)
   pub on_one : bearer ≤ 1
@@ -34,12 +36,13 @@ pub record IsDue (n : NodeState) (bytes : List ℕ) (bearer peer first second : 
   pub fits : Fits p
   pub opened : bytes ≡ frame_of first second (spelling p)
   pub previous : p.previous ≡ node_word peer
+  pub kind : kind_in bytes ≡ Links
   pub there : is_some (end_with bearer (neighbour_of n peer)) ≡ true
 
 -- the work on an arrival before anything is delivered: the pair heard the packet, and what became of the links and the contact is noted
 abbrev pub heard_work : NodeState → ℕ → Neighbour → Fields → Outset → Work
 heard_work n peer x p o =
-    noted (record { neighbours = slice_set n.neighbours peer (Some (heard_neighbour x p o)); sockets = n.sockets; inside = [] })
+    noted (record (begun n) { neighbours = slice_set n.neighbours peer (Some (heard_neighbour x p o)) })
     (change_entries peer o.course.changes)
 
 -- the messages with which a contact begins tell the peer of the live publications; where no contact begins there are none
@@ -76,12 +79,12 @@ pub record Hears (n n' : NodeState) (by : By) (bearer number : ℕ) (bytes : Lis
   pub greeting_put : PutsEach n.own peer (heard_work n peer neighbour packet out) greeting greeted greeting_frames
   pub work : Work
   pub returned : List Outgoing
-  pub delivers : DeliversAll n.own peer greeted (arrival_deliveries peer neighbour.pair out.given) work returned
+  pub delivers : DeliversAll n.own peer greeted (arrival_deliveries Zero peer neighbour.pair out.given) work returned
   pub then : Neighbour
   pub then_is : slice_index_or work.neighbours peer None ≡ Some then
   pub after : n' ≡ concluded n by (Arrive bearer number) (answered_work work peer bearer then) (answer.Arrived answered)
   pub frames_are : frames ≡ sent_in out.course ++ (greeting_frames ++ (returned ++ (answering bearer then).states))
-  pub answer_is : answered ≡ arrival_answer out.given (arrival_deliveries peer neighbour.pair out.given)
+  pub answer_is : answered ≡ arrival_answer out.given (arrival_deliveries Zero peer neighbour.pair out.given)
 
 -- a frame arrived on a bearer: it reached no link, or it brought a packet
 pub record Arrives (n n' : NodeState) (by : By) (bearer number : ℕ) (bytes : List ℕ) (frames : List Outgoing) (answered : Arrival) : Type 0 where

@@ -60,7 +60,7 @@ abbrev pub way_refusal : NodeState → Addr → ℕ → Option Answer
 way_refusal n node limit = if node.word == n.own then None else link_refusal (load_with (neighbour_at n.neighbours node)) limit
 
 -- A message of the node's goes its way: for the own node it has its fate here, and for another one it is accepted.
-pub record Goes (own : ℕ) (w : Work) (m : Message) (w' : Work) (frames : List Outgoing) : Type 0 where
+pub record GoesItsWay (own : ℕ) (w : Work) (m : Message) (w' : Work) (frames : List Outgoing) : Type 0 where
   pub home : comes_home (addr_of_word own) m ≡ true → GivesFate own w false m w' frames
   pub away : comes_home (addr_of_word own) m ≡ false → GoesAway own w m w' frames
 
@@ -69,7 +69,7 @@ pub record SendsTo (n n' : NodeState) (by : By) (event : EventNote) (m : Message
   pub refused : (reason : Answer) → way_refusal n (destination_of m) limit ≡ Some reason
       → (n' ≡ recorded n by event [] reason) × (frames ≡ []) × (answered ≡ reason)
   pub goes : way_refusal n (destination_of m) limit ≡ None
-      → (w : Work) × Goes n.own (begun n) m w frames × (n' ≡ concluded n by event w sent) × (answered ≡ sent)
+      → (w : Work) × GoesItsWay n.own (begun n) m w frames × (n' ≡ concluded n by event w sent) × (answered ≡ sent)
 
 -- a message to a port
 pub record SendsToPort (n n' : NodeState) (by : By) (port : ℕ) (to : PortId) (importance : Importance) (body : List ℕ) (frames : List Outgoing) (answered : Answer) : Type 0 where
@@ -102,7 +102,7 @@ IsPickedFrom gives turn n other answered = Unit {0}
 
 -- the work on what happens to all neighbours alike
 abbrev pub upkeep_work : Upkeep → NodeState → Work
-upkeep_work d n = noted (record { neighbours = after_all d n.neighbours; sockets = n.sockets; inside = [] }) (entries_all d 0 n.neighbours)
+upkeep_work d n = noted (record (begun n) { neighbours = after_all d n.neighbours }) (entries_all d 0 n.neighbours)
 
 -- something happened to all neighbours alike
 abbrev pub TakesPart : NodeState → By → Upkeep → NodeState → List Outgoing → Answer → Type 0

@@ -1,5 +1,5 @@
 -- A draft of a step that may fail: a node works on the step with copies of what its neighbours were.
-use Rattle.std.specs.Prelude.{◌≡◌, ℕ, false, List, [], ◌∷◌, Option, Some, None, filter, length, slice_index_or, slice_set}
+use Rattle.std.specs.Prelude.{◌≡◌, ℕ, List, [], ◌∷◌, Option, Some, None, filter, length, slice_index_or, slice_set}
 use Rattle.tipc_types.specs.declared.message_forms.Message.{Message}
 use Rattle.tipc_outside.specs.declared.outgoing.Outgoing.{Outgoing}
 use Rattle.tipc_outside.specs.Frames.{Adds, Out}
@@ -33,10 +33,6 @@ abbrev pub drafted : List (Option Neighbour) → SocketTable → Draft → Work
 drafted xs s d = work_of xs s d.inside.items
 
 -- ---- what is told to peers
-
--- a box of frames in which there are none
-abbrev pub nothing_out : Out
-nothing_out = record { frames = []; lost = false }
 
 -- messages were put for one peer, one behind the other, and what left for it is in the box
 pub record PutEach (own : ℕ) (w : Work) (peer : ℕ) (ms : List Message) (w' : Work) (box box' : Out) : Type 0 where

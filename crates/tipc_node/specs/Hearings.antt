@@ -1,5 +1,6 @@
 -- What an arrival makes of a node's parts, one after the other, and the frames that leave with it.
 use Rattle.std.specs.Prelude.{◌≡◌, ◌≤◌, ◌-◌, ℕ, Bool, true, false, List, [], Option, Some, None, is_some, length, slice_index_or, slice_set}
+use Rattle.tipc_types.specs.declared.message_forms.Flow.TheVariants.{Zero}
 use Rattle.tipc_types.specs.declared.message_forms.Message.{Message}
 use Rattle.tipc_types.specs.declared.node_calls.Arrival.{Arrival}
 use Rattle.tipc_types.specs.declared.node_calls.By.{By}
@@ -86,7 +87,7 @@ pub record IsPrepared (place : Option Neighbour) (d : Due) (h : Hearing) : Type 
   pub was : place ≡ Some neighbour
   pub arriving : Prepares neighbour.pair d.first d.second (view d.packet) h.number (no_broadcast neighbour.in_step) h.arriving
   pub bearer : h.arriving.bearer ≡ d.bearer
-  pub deliveries : h.deliveries.items ≡ arrival_deliveries d.peer neighbour.pair h.arriving.outcome
+  pub deliveries : h.deliveries.items ≡ arrival_deliveries Zero d.peer neighbour.pair h.arriving.outcome
   pub answer : h.answer ≡ arrival_answer h.arriving.outcome h.deliveries.items
   pub few : length h.deliveries.items ≤ free_entries - 4
 
@@ -104,7 +105,7 @@ pub record HasHeard (x : Neighbour) (d : Due) (number : ℕ) (y : Neighbour) (h 
   pub changes : h.changes ≡ out.course.changes
   -- no contact begins and ends by one packet
   pub once : begins h.changes ≡ true → ends h.changes ≡ false
-  pub deliveries : h.deliveries.items ≡ arrival_deliveries d.peer x.pair out.given
+  pub deliveries : h.deliveries.items ≡ arrival_deliveries Zero d.peer x.pair out.given
   pub answer : h.answer ≡ arrival_answer out.given h.deliveries.items
   pub adds : Adds box box' (sent_in out.course)
 

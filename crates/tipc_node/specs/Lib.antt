@@ -2,7 +2,6 @@ pub mod Arrivals
 pub mod Calls
 pub mod Drafts
 pub mod Hearings
-pub mod Limits
 pub mod Messages
 pub mod Neighbours
 pub mod Nodes

@@ -4,7 +4,7 @@ use Rattle.std.specs.List.{flat_map}
 use Rattle.tipc_types.specs.Address.{node_word}
 use Rattle.tipc_types.specs.declared.link_words.Why.{Why}
 use Rattle.tipc_types.specs.declared.link_words.Why.TheVariants as why
-use Rattle.tipc_types.specs.declared.message_forms.Flow.TheVariants.{Zero}
+use Rattle.tipc_types.specs.declared.message_forms.Flow.{Flow}
 use Rattle.tipc_types.specs.declared.message_forms.Message.{Message}
 use Rattle.tipc_types.specs.declared.node_calls.Answer.{Answer}
 use Rattle.tipc_types.specs.declared.node_calls.Answer.TheVariants as answer
@@ -13,12 +13,16 @@ use Rattle.tipc_types.specs.declared.node_calls.Arrival.TheVariants as arrival
 use Rattle.tipc_types.specs.declared.node_calls.By.{By}
 use Rattle.tipc_types.specs.declared.node_calls.EventNote.{EventNote}
 use Rattle.tipc_types.specs.declared.node_calls.EventNote.TheVariants as event
+use Rattle.tipc_outside.specs.Frames.{Made}
 use Rattle.tipc_outside.specs.declared.outgoing.Outgoing.{Outgoing}
 use Rattle.tipc_journal.specs.declared.entries.Entry.{Entry}
 use Rattle.tipc_journal.specs.declared.entries.Entry.TheVariants as entry
 use Rattle.tipc_journal.specs.Steps.{NodeStep, step_entries}
 use Rattle.tipc_header.specs.declared.fault.HeaderFault.{HeaderFault}
+use Rattle.tipc_header.specs.declared.frames.FrameKind.{FrameKind}
+use Rattle.tipc_header.specs.declared.frames.FrameKind.TheVariants.{Casts, Finds, Links}
 use Rattle.tipc_header.specs.Faults.{fault_of, number_of}
+use Rattle.tipc_header.specs.Frames.{kind_in}
 use Rattle.tipc_header.specs.Reading.{word_at}
 use Rattle.tipc_link.specs.Links.{LinkEnd}
 use Rattle.tipc_pair.specs.declared.transitions.Transition.{Transition}
@@ -35,7 +39,7 @@ use Rattle.tipc_node.specs.declared.arriving.Delivery.{Delivery}
 use Rattle.tipc_node.specs.declared.neighbours.Neighbour.{Neighbour}
 use Rattle.tipc_node.specs.declared.neighbours.Upkeep.{Upkeep}
 use Rattle.tipc_node.specs.declared.neighbours.Upkeep.TheVariants as upkeep
-use Rattle.tipc_node.specs.Limits.{most_frame_bytes}
+use Rattle.tipc_types.specs.Limits.{most_frame_bytes}
 use Rattle.tipc_node.specs.Messages.{message_in}
 use Rattle.tipc_node.specs.Neighbours.{done, making, neighbour, stranger}
 use Rattle.tipc_pair.specs.LinkReadings.{active_load}
@@ -139,6 +143,13 @@ numbered_all d xs = flat_map (numbered_one d) xs
 abbrev pub frames_all : Upkeep → List (Option Neighbour) → List Outgoing
 frames_all d xs = states_all d xs ++ numbered_all d xs
 
+-- the frames for one neighbour, and for all, in the groups in which they leave
+abbrev pub made_one : Upkeep → Option Neighbour → Made
+made_one d o = record { first = states_one d o; behind = numbered_one d o }
+
+abbrev pub made_all : Upkeep → List (Option Neighbour) → Made
+made_all d xs = record { first = states_all d xs; behind = numbered_all d xs }
+
 -- what is recorded of the links to all neighbours, of which the first has that number
 unfoldable pub entries_all : Upkeep → ℕ → List (Option Neighbour) → List Entry
 entries_all d number [] = []
@@ -176,9 +187,9 @@ load_all xs = (sum_by (λ x. (load_on 0 x).0 + (load_on 1 x).0) xs, sum_by (λ x
 abbrev pub node_load : NodeState → ℕ × ℕ
 node_load n = load_all n.neighbours
 
--- the entry of a message that is accepted for a peer, to which this is the pair
-abbrev pub accepted_entry : ℕ → PairEnds → Message → Entry
-accepted_entry peer x m = entry.Accepted (record { word = node_word peer }) (x.contact, x.seen) Zero m
+-- the entry of a message that is accepted in a flow for a peer, to which this is the pair
+abbrev pub accepted_entry : Flow → ℕ → PairEnds → Message → Entry
+accepted_entry flow peer x m = entry.Accepted (record { word = node_word peer }) (x.contact, x.seen) flow m
 
 -- ---- all neighbours at once
 
@@ -209,13 +220,21 @@ abbrev pub acquaintance : NodeState → ℕ → Option Neighbour → Neighbour
 acquaintance n peer None = stranger n.own peer n.boot
 acquaintance n peer (Some x) = x
 
+-- what is kept of the node of a number
+abbrev pub kept : NodeState → ℕ → Neighbour
+kept n b = acquaintance n b (neighbour_of n b)
+
+-- the pair to the node of a number: a stranger's where no link end to it is made
+abbrev pub pair_with : NodeState → ℕ → PairEnds
+pair_with n b = (kept n b).pair
+
 -- the end on a bearer is made, and says that it is mended where the bearer is
 abbrev pub known_course : NodeState → ℕ → ℕ → Course
-known_course n peer bearer = making bearer (is_mended_on n.mended bearer) (acquaintance n peer (neighbour_of n peer))
+known_course n peer bearer = making bearer (is_mended_on n.mended bearer) (kept n peer)
 
 -- what is kept of the peer then
 abbrev pub known_neighbour : NodeState → ℕ → ℕ → Neighbour
-known_neighbour n peer bearer = neighbour (known_course n peer bearer).pair (acquaintance n peer (neighbour_of n peer)).in_step
+known_neighbour n peer bearer = neighbour (known_course n peer bearer).pair (kept n peer).in_step
 
 -- the node that knows the peer on that bearer
 abbrev pub known_node : NodeState → ℕ → ℕ → NodeState
@@ -227,20 +246,20 @@ known_frames n peer bearer = (known_course n peer bearer).states
 
 -- ---- arrivals
 
--- what a whole packet that was given in a contact adds to the journal: its message with the arrivals that brought it, or that it
+-- what a whole packet that was given in a flow of a contact adds to the journal: its message with the arrivals that brought it, or that it
 -- carries none
-abbrev pub delivered_by : ℕ → ℕ × ℕ → Option Message → List ℕ → Entry
-delivered_by peer contact (Some m) number = entry.Delivered (record { word = node_word peer }) contact Zero m number
-delivered_by peer contact None number = entry.Dropped 0
+abbrev pub delivered_by : Flow → ℕ → ℕ × ℕ → Option Message → List ℕ → Entry
+delivered_by flow peer contact (Some m) number = entry.Delivered (record { word = node_word peer }) contact flow m number
+delivered_by flow peer contact None number = entry.Dropped 0
 
 -- what a member of what was given comes to: its entry, and its message where it has one
-abbrev pub delivery_of : ℕ → ℕ × ℕ → Opened → Delivery
-delivery_of peer contact (Whole packet number) = record { entry = delivered_by peer contact (message_in packet) number; message = message_in packet }
-delivery_of peer contact (Passed place) = record { entry = entry.Dropped place; message = None }
+abbrev pub delivery_of : Flow → ℕ → ℕ × ℕ → Opened → Delivery
+delivery_of flow peer contact (Whole packet number) = record { entry = delivered_by flow peer contact (message_in packet) number; message = message_in packet }
+delivery_of flow peer contact (Passed place) = record { entry = entry.Dropped place; message = None }
 
--- what all that was given in a contact comes to, in order
-abbrev pub deliveries_of : ℕ → ℕ × ℕ → List Opened → List Delivery
-deliveries_of peer contact opened = map (delivery_of peer contact) opened
+-- what all that was given in a flow of a contact comes to, in order
+abbrev pub deliveries_of : Flow → ℕ → ℕ × ℕ → List Opened → List Delivery
+deliveries_of flow peer contact opened = map (delivery_of flow peer contact) opened
 
 -- the entries of deliveries, in order
 abbrev pub entries_in : List Delivery → List Entry
@@ -266,10 +285,10 @@ arrival_answer (PairOutcome.Ignored reason) deliveries = arrival.Ignored reason
 abbrev pub shown_contact : PairEnds → ℕ × ℕ
 shown_contact x = (x.contact, x.seen)
 
--- what an arrival from a peer delivers, which found the pair like this: something is given only in a contact that lasts, or begins under
+-- what an arrival from a peer delivers in a flow, which found the pair like this: something is given only in a contact that lasts, or begins under
 -- these numbers
-abbrev pub arrival_deliveries : ℕ → PairEnds → PairOutcome → List Delivery
-arrival_deliveries peer x out = deliveries_of peer (shown_contact x) (opened_in out)
+abbrev pub arrival_deliveries : Flow → ℕ → PairEnds → PairOutcome → List Delivery
+arrival_deliveries flow peer x out = deliveries_of flow peer (shown_contact x) (opened_in out)
 
 -- ---- an arrival that reaches no link
 
@@ -281,21 +300,28 @@ is_frame_size bytes = nat_le 16 bytes && nat_le bytes most_frame_bytes
 unfoldable pub is_other : ℕ → ℕ → Bool
 is_other own word = nat_lt (node_word 0) word && (nat_le word (node_word 32) && not (word == own))
 
--- the sender that a frame names has to be another of the 32 nodes, and there has to be a link end to it on the bearer
-abbrev pub stop_by_sender : ℕ → List (Option Neighbour) → ℕ → ℕ → Option Why
-stop_by_sender own neighbours bearer word =
+-- a discovery packet and a broadcast packet are of no link: each link ignores them, as it ignores another epoch
+abbrev pub stop_by_kind : FrameKind → Option Why
+stop_by_kind Links = None
+stop_by_kind Finds = Some why.Epoch
+stop_by_kind Casts = Some why.Epoch
+
+-- the sender that a frame names has to be another of the 32 nodes, there has to be a link end to it on the bearer, and the packet has to be a
+-- link packet
+abbrev pub stop_by_sender : ℕ → List (Option Neighbour) → ℕ → ℕ → FrameKind → Option Why
+stop_by_sender own neighbours bearer word kind =
     if is_other own word
-    then (if is_some (end_with bearer (slice_index_or neighbours (word - node_word 0) None)) then None else Some why.Unknown)
+    then (if is_some (end_with bearer (slice_index_or neighbours (word - node_word 0) None)) then stop_by_kind kind else Some why.Unknown)
     else Some why.Own
 
 -- a packet that breaks a rule of the header reaches no link, and the rule is told by its number; one that breaks none
 -- may still be stopped by its sender
 abbrev pub stop_by_fault : ℕ → List (Option Neighbour) → ℕ → List ℕ → Option HeaderFault → Option Why
 stop_by_fault own neighbours bearer bytes (Some fault) = Some (why.Header (number_of fault))
-stop_by_fault own neighbours bearer bytes None = stop_by_sender own neighbours bearer (word_at 3 (drop 16 bytes))
+stop_by_fault own neighbours bearer bytes None = stop_by_sender own neighbours bearer (word_at 3 (drop 16 bytes)) (kind_in bytes)
 
 -- why a frame that arrives on a bearer reaches no link, the first reason that holds: the bearer is cut; it has no frame's size; its packet
--- has a fault; it names no other node as its sender; there is no link end to that on the bearer
+-- has a fault; it names no other node as its sender; there is no link end to that on the bearer; it is no link packet
 unfoldable pub stop_among : ℕ → Bool × Bool → List (Option Neighbour) → ℕ → List ℕ → Option Why
 stop_among own mended neighbours bearer bytes =
     if is_mended_on mended bearer

@@ -1,6 +1,6 @@
 -- What a node and its peers know of one another's names: what it told a peer in their contact makes the peer hold what it has published,
 -- and it holds what the peer told it.
-use Rattle.std.specs.Prelude.{◌≡◌, ◌<◌, ℕ, false, List, [], Some, None, filter}
+use Rattle.std.specs.Prelude.{◌≡◌, ◌<◌, ℕ, false, List, [], Some, filter}
 use Rattle.tipc_types.specs.Address.{node_word}
 use Rattle.tipc_types.specs.declared.message_forms.Flow.TheVariants.{Zero}
 use Rattle.tipc_types.specs.Tables.{is_of}
@@ -11,8 +11,7 @@ use Rattle.tipc_journal.specs.Streams.{Stream, accepted, delivered}
 use Rattle.tipc_name_dist.specs.Agreeing.{AreOwn}
 use Rattle.tipc_name_dist.specs.Applying.{held_after}
 use Rattle.tipc_pair.specs.Facing.{in_contact}
-use Rattle.tipc_node.specs.declared.neighbours.Neighbour.{Neighbour}
-use Rattle.tipc_node.specs.Nodes.{NodeState, neighbour_of}
+use Rattle.tipc_node.specs.Nodes.{NodeState, pair_with}
 use Rattle.tipc_node.specs.Turns.{addr_of}
 use Rattle.tipc_name_dist.specs.Told.{HasTold}
 
@@ -25,12 +24,10 @@ abbrev pub IsUnused : List Entry → ℕ → ℕ → Type 0
 IsUnused journal peer number = (theirs : ℕ)
     → (accepted journal (flow_with peer (number, theirs)) ≡ []) × (delivered journal (flow_with peer (number, theirs)) ≡ [])
 
--- so it is with a contact that is yet to begin: of a peer that isn't known, under a later number, and under the next one
+-- so it is with a contact that is yet to begin: under a later number, and under the next one
 pub record AreUnused (n : NodeState) : Type 0 where
-  pub strangers : (b number : ℕ) → neighbour_of n b ≡ None → IsUnused n.journal b number
-  pub later : (b number : ℕ) (x : Neighbour) → neighbour_of n b ≡ Some x → x.pair.contact < number → IsUnused n.journal b number
-  pub next : (b : ℕ) (x : Neighbour) → neighbour_of n b ≡ Some x → in_contact x.pair ≡ false
-      → IsUnused n.journal b x.pair.contact
+  pub later : (b number : ℕ) → (pair_with n b).contact < number → IsUnused n.journal b number
+  pub next : (b : ℕ) → in_contact (pair_with n b) ≡ false → IsUnused n.journal b (pair_with n b).contact
 
 -- What a node told its peers of its names, and what it holds of theirs, is right in each contact that there is.
 pub record SharesNames (n : NodeState) : Type 0 where

@@ -65,11 +65,7 @@ received_work n port = with_sockets_of (begun n) (with_queues n.sockets (with_fi
 
 -- a port is closed, behind the withdrawals of what is published there
 abbrev pub closed_work : NodeState → ℕ → Work
-closed_work n port = record {
-  neighbours = n.neighbours;
-  sockets = closed n.sockets port;
-  inside = map Withdrawn (filter (is_at port) n.sockets.live);
-}
+closed_work n port = record (begun n) { sockets = closed n.sockets port; inside = map Withdrawn (filter (is_at port) n.sockets.live) }
 
 -- ---- names
 

@@ -32,12 +32,12 @@ waiting_entries None = []
 waiting_entries (Some m) = Queued (port_of m ∷ []) ∷ []
 
 -- what is told of a delivery whose message waits at its port
-abbrev pub told_of : Delivery → List Entry
-told_of d = d.entry ∷ waiting_entries d.message
+abbrev pub told_of_delivery : Delivery → List Entry
+told_of_delivery d = d.entry ∷ waiting_entries d.message
 
 -- what is told of all deliveries, in order
 abbrev pub told_in : List Delivery → List Entry
-told_in ds = flat_map told_of ds
+told_in ds = flat_map told_of_delivery ds
 
 -- the sockets where each of these messages waits
 abbrev pub with_all_waiting : SocketTable → List Message → SocketTable

@@ -9,6 +9,7 @@ use Rattle.tipc_types.specs.declared.node_calls.Answer.TheVariants as answer
 use Rattle.tipc_types.specs.declared.node_calls.EventNote.{EventNote}
 use Rattle.tipc_types.specs.declared.node_calls.EventNote.TheVariants.{SendName, SendPort}
 use Rattle.tipc_types.specs.declared.services.Publication.{Publication}
+use Rattle.tipc_types.specs.Limits.{window_size}
 use Rattle.tipc_journal.specs.declared.entries.Entry.{Entry}
 use Rattle.tipc_journal.specs.Contacts.{contact, up_epochs}
 use Rattle.tipc_journal.specs.Counting.{AllAnsweredToCallers}
@@ -50,8 +51,8 @@ pub record TellsSockets (n : NodeState) : Type 0 where
 -- A send that was answered as congested told the truth: with 50 packets unacknowledged, at least as many waited as may before a message
 -- of its importance.
 abbrev pub IsFull : EventNote → Answer → Type 0
-IsFull (SendName port kind instance importance body) (answer.Congested in_flight waiting) = (in_flight ≡ 50) × (limit_of importance ≤ waiting)
-IsFull (SendPort port to importance body) (answer.Congested in_flight waiting) = (in_flight ≡ 50) × (limit_of importance ≤ waiting)
+IsFull (SendName port kind instance importance body) (answer.Congested in_flight waiting) = (in_flight ≡ window_size) × (limit_of importance ≤ waiting)
+IsFull (SendPort port to importance body) (answer.Congested in_flight waiting) = (in_flight ≡ window_size) × (limit_of importance ≤ waiting)
 IsFull event answered = Unit {0}
 
 -- so it was with each step of a journal

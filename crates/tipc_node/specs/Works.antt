@@ -2,6 +2,7 @@
 -- arrived, or that the node sent to itself, has its fate at once; a return goes back at once.
 use Rattle.std.specs.Prelude.{◌≡◌, ◌-◌, ℕ, Bool, true, false, List, [], ◌∷◌, ◌++◌, Option, Some, None, filter, fold, option_map, slice_index_or, slice_set}
 use Rattle.std.specs.List.{range_with_len}
+use Rattle.tipc_types.specs.declared.message_forms.Flow.TheVariants.{Zero}
 use Rattle.tipc_types.specs.Address.{node_word}
 use Rattle.tipc_types.specs.declared.identity.Addr.{Addr}
 use Rattle.tipc_types.specs.declared.message_forms.Message.{Message}
@@ -54,11 +55,11 @@ addr_of_word word = record { word = word }
 
 -- these happened, and are no fates: names are learned and forgotten by them, and those of a peer are purged with its contact
 abbrev pub noted : Work → List Entry → Work
-noted w entries = record { neighbours = w.neighbours; sockets = fold after_entry w.sockets entries; inside = w.inside ++ entries }
+noted w entries = record w { sockets = fold after_entry w.sockets entries; inside = w.inside ++ entries }
 
 -- a message has this fate
 abbrev pub fated : Work → Message → Fate → Work
-fated w m f = record { neighbours = w.neighbours; sockets = after_fate w.sockets m f; inside = w.inside ++ fate_entry f ∷ [] }
+fated w m f = record w { sockets = after_fate w.sockets m f; inside = w.inside ++ fate_entry f ∷ [] }
 
 -- ---- what is put
 
@@ -77,10 +78,9 @@ pub record Puts (own : ℕ) (w : Work) (peer : ℕ) (m : Message) (w' : Work) (f
   pub sendable : IsSendable own m
   pub then : Neighbour
   pub puts : PutsThere neighbour (pieces_for (bytes_of own m)) then frames
-  pub after : w' ≡ record {
+  pub after : w' ≡ record w {
     neighbours = slice_set w.neighbours peer (Some then);
-    sockets = w.sockets;
-    inside = w.inside ++ accepted_entry peer neighbour.pair m ∷ [];
+    inside = w.inside ++ accepted_entry Zero peer neighbour.pair m ∷ [];
   }
 
 -- what that makes of the neighbour alone, of what is told, and of the box of frames
@@ -88,7 +88,7 @@ pub record PutsOn (own : ℕ) (x x' : Neighbour) (peer : ℕ) (m : Message) (ins
   pub sendable : IsSendable own m
   pub frames : List Outgoing
   pub puts : PutsThere x (pieces_for (bytes_of own m)) x' frames
-  pub told : inside' ≡ inside ++ accepted_entry peer x.pair m ∷ []
+  pub told : inside' ≡ inside ++ accepted_entry Zero peer x.pair m ∷ []
   pub adds : Adds box box' frames
 
 -- it is put for the node that it is for

@@ -1,21 +1,24 @@
 //! What an arriving frame is to a node, and what it delivers.
 
 ghost use Rattle.std.specs.Prelude.{◌≡◌, ◌≤◌, ◌-◌, ◌↔◌, true, false, All, None, Some, is_some, length, slice_index_or, sum_by, IfErr, IfOk, IfSome, IfNone};
+ghost use Rattle.tipc_types.specs.declared.message_forms.Flow.TheVariants.{Zero};
 ghost use Rattle.tipc_types.specs.Address.{node_word};
+ghost use Rattle.tipc_header.specs.declared.frames.FrameKind.TheVariants.{Links};
 ghost use Rattle.tipc_header.specs.Faults.{fault_of};
-ghost use Rattle.tipc_header.specs.Frames.{frame_of};
+ghost use Rattle.tipc_header.specs.Frames.{frame_of, kind_in, kind_of};
 ghost use Rattle.tipc_header.specs.Grammar.{Fits};
 ghost use Rattle.tipc_header.specs.Spelling.{spelling, view};
+ghost use Rattle.tipc_types.specs.declared.link_words.Why.TheVariants as why;
 ghost use Rattle.tipc_journal.specs.Room.{entry_bytes, free_entries, free_message_bytes};
 ghost use Rattle.tipc_reassembly.specs.declared.opening.Opened.TheVariants.{Whole};
 ghost use Rattle.tipc_pair.specs.Messages.{opened_in, HasNoFault};
 ghost use Rattle.tipc_node.specs.Hearings.{IsPrepared};
-ghost use Rattle.tipc_node.specs.Nodes.{arrival_answer, deliveries_of, delivered_by, delivery_of, end_with, is_other, message_count, stop_among, taken_count};
+ghost use Rattle.tipc_node.specs.Nodes.{arrival_answer, deliveries_of, delivered_by, delivery_of, end_with, is_other, message_count, stop_among, stop_by_kind, taken_count};
 
 use crate::neighbours::{Bearers, Neighbour, is_mended_on, no_broadcast};
 use crate::recording::{FREE_ENTRIES, FREE_MESSAGE_BYTES};
 use std::alloc::Global;
-use tipc_header::{Packet, decode, open_frame};
+use tipc_header::{FrameKind, Header, Packet, decode, kind_of, open_frame};
 use tipc_journal::{Arrivals, Entry, entry_bytes};
 use tipc_message::message_from;
 use tipc_pair::{Incoming, PairArriving, PairOutcome};
@@ -25,7 +28,7 @@ use tipc_types::{Addr, Arrival, Flow, Message, NoMemory, Why};
 /// The most entries of what an arrival delivers, of the free entries that a call needs.
 const MOST_TOLD: usize = FREE_ENTRIES as usize - 4;
 
-/// A packet that is due at the link of a bearer to the node that it names as its sender, and the two numbers of its
+/// A link packet that is due at the link of a bearer to the node that it names as its sender, and the two numbers of its
 /// envelope.
 #[derive(Clone, Copy)]
 pub struct Due<'a> {
@@ -54,6 +57,7 @@ pub fn look<'a>(
         (frame.now ≡ frame_of d.first d.second (spelling (view d.packet))) × (d.packet.previous ≡ node_word d.peer) ×
         (is_some (end_with d.bearer (slice_index_or neighbours.now d.peer None)) ≡ true)) }
     ensures bearer { IfOk result (λ d. d.bearer ≡ bearer) }
+    ensures kind { IfOk result (λ d. kind_in frame.now ≡ Links) }
     ensures clear { IfOk result (λ d. stop_among own.word mended neighbours.now bearer frame.now ≡ None) }
     ensures stopped { IfErr result (λ why. stop_among own.word mended neighbours.now bearer frame.now ≡ Some why) }
 {
@@ -73,6 +77,9 @@ pub fn look<'a>(
     if !has_end(neighbours, peer, bearer) {
         return Err(Why::Unknown);
     }
+    if !is_link_packet(opened.first, &packet.header) {
+        return Err(Why::Epoch);
+    }
     Ok(Due {
         bearer,
         peer,
@@ -80,6 +87,14 @@ pub fn look<'a>(
         second: opened.second,
         packet,
     })
+}
+
+/// Whether a packet is a link packet, under an envelope with this first number.
+fn is_link_packet(first: u64, header: &Header) -> bool
+    ensures link { result ≡ true → kind_of first header.now ≡ Links }
+    ensures other { result ≡ false → stop_by_kind (kind_of first header.now) ≡ Some why.Epoch }
+{
+    matches!(kind_of(first, header), FrameKind::Links)
 }
 
 /// The number of the node that a packet names as its sender: None exactly where it names no other of the 32.
@@ -125,7 +140,7 @@ fn delivered_entry(
     arrivals: Arrivals,
 ) -> Entry
     requires peer { (1 ≤ peer) × (peer ≤ 32) }
-    ensures { result ≡ delivered_by peer contact message arrivals }
+    ensures { result ≡ delivered_by Zero peer contact message arrivals }
 {
     match message {
         Some(message) => Entry::Delivered {
@@ -149,7 +164,7 @@ fn whole_delivery(
 ) -> Result<Delivery, NoMemory>
     requires peer { (1 ≤ peer) × (peer ≤ 32) }
     requires sound { fault_of packet.now ≡ None }
-    ensures { IfOk result (λ d. d ≡ delivery_of peer contact (Whole packet.now by.now)) }
+    ensures { IfOk result (λ d. d ≡ delivery_of Zero peer contact (Whole packet.now by.now)) }
 {
     let Ok(packet) = decode(packet) else {
         unreachable!()
@@ -171,7 +186,7 @@ fn delivery_from(
 ) -> Result<Delivery, NoMemory>
     requires peer { (1 ≤ peer) × (peer ≤ 32) }
     requires sound { HasNoFault opened.now }
-    ensures { IfOk result (λ d. d ≡ delivery_of peer contact opened.now) }
+    ensures { IfOk result (λ d. d ≡ delivery_of Zero peer contact opened.now) }
 {
     match opened {
         Opened::Whole { packet, by } => {
@@ -193,7 +208,7 @@ fn deliveries(
 ) -> Result<Vec<Delivery>, NoMemory>
     requires peer { (1 ≤ peer) × (peer ≤ 32) }
     requires sound { All HasNoFault opened.now }
-    ensures { IfOk result (λ ds. ds.items ≡ deliveries_of peer contact opened.now) }
+    ensures { IfOk result (λ ds. ds.items ≡ deliveries_of Zero peer contact opened.now) }
 {
     let mut deliveries = Vec::new(alloc);
     for given in opened {
@@ -211,7 +226,7 @@ pub fn prepare_deliveries(
 ) -> Result<Vec<Delivery>, NoMemory>
     requires peer { (1 ≤ peer) × (peer ≤ 32) }
     requires sound { All HasNoFault (opened_in outcome.now) }
-    ensures { IfOk result (λ ds. ds.items ≡ deliveries_of peer contact (opened_in outcome.now)) }
+    ensures { IfOk result (λ ds. ds.items ≡ deliveries_of Zero peer contact (opened_in outcome.now)) }
 {
     match outcome {
         PairOutcome::Took(opened) => deliveries(alloc, peer, contact, opened.as_slice()),

@@ -12,7 +12,6 @@ ghost use Rattle.tipc_node.specs.Nodes.{end_with, is_mended_on, known_frames, kn
 ghost use Rattle.tipc_journal.specs.Room.{has_journal_room};
 
 use crate::arriving::fits;
-use crate::drafts::leave;
 use crate::neighbours::{
     Bearers, NUMBERS, Neighbour, Parting, Upkeep, acquaintance, is_mended_on, load_all, mended_by,
     part_of_all, upkeep_note,
@@ -141,13 +140,16 @@ impl Core {
         self.journal
     }
 
-    /// Its sockets hold together, and there is a place for each peer. It does nothing.
+    /// Its sockets hold together, its boot has a number from which contact numbers are made, and there is a place for each peer. It
+    /// does nothing.
     pub fn sound(&self)
         ensures sockets { AreSockets self.now.sockets }
         ensures boot { self.now.sockets.ports.boot ≡ self.now.boot }
+        ensures epochs { (1 ≤ self.now.boot) × (self.now.boot < 2 ^ 32) }
         ensures wide { length self.now.neighbours ≡ 33 }
     {
         let _ = self.sockets.live();
+        let _ = self.boot();
     }
 
     /// Makes the link end to a peer on a bearer, 0 or 1, on which there is none.
@@ -158,6 +160,7 @@ impl Core {
         ensures after { self.new ≡ known_node self.old peer bearer }
         ensures frames { Adds out.old out.new (known_frames self.old peer bearer) }
         ensures within { peer < length self.old.neighbours }
+        ensures boot { (1 ≤ self.old.boot) × (self.old.boot < 2 ^ 32) }
     {
         let mended = is_mended_on(self.mended, bearer);
         let place = self.neighbours[peer as usize].take();
@@ -299,8 +302,7 @@ impl Core {
         self.neighbours = after;
         purge_ended(&mut self.sockets, event.inside.as_slice());
         self.mended = mended_by(upkeep, self.mended);
-        leave(event.states, out);
-        leave(event.numbered, out);
+        out.append(event.out);
         record(
             &mut self.journal,
             by,
@@ -332,8 +334,7 @@ impl Core {
         self.neighbours = after;
         purge_ended(&mut self.sockets, &event.inside.as_slice()[..changed]);
         self.sockets.pass();
-        leave(event.states, out);
-        leave(event.numbered, out);
+        out.append(event.out);
         record(
             &mut self.journal,
             by,

@@ -3,7 +3,7 @@
 
 ghost use Rattle.std.specs.Prelude.{◌≡◌, ℕ, ◌+◌, ◌-◌, ◌<◌, ◌≤◌, ◌++◌, List, [], false, true, None, is_some, length, slice_index_or, sum_by, IfOk, OnOk};
 ghost use Rattle.tipc_outside.specs.declared.outgoing.Outgoing.{Outgoing};
-ghost use Rattle.tipc_outside.specs.Frames.{Adds, Out};
+ghost use Rattle.tipc_outside.specs.Frames.{no_frames, Adds};
 ghost use Rattle.tipc_journal.specs.Room.{entry_bytes, free_entries, free_message_bytes, has_journal_room};
 ghost use Rattle.tipc_journal.specs.Steps.{step_entries};
 ghost use Rattle.tipc_node.specs.Drafts.{restored, with_copy};
@@ -47,7 +47,7 @@ pub fn begin_draft(alloc: Global) -> Result<Draft, NoMemory>
     ensures wide { IfOk result (λ d. length d.copies.items ≡ 33) }
     ensures empty { IfOk result (λ d. (k : ℕ) → slice_index_or d.copies.items k None ≡ None) }
     ensures inside { IfOk result (λ d. d.inside.items ≡ []) }
-    ensures frames { IfOk result (λ d. (d.out.frames ≡ []) × (d.out.lost ≡ false)) }
+    ensures frames { IfOk result (λ d. d.out ≡ no_frames) }
 {
     Ok(Draft {
         copies: no_copies(alloc)?,
@@ -117,21 +117,6 @@ pub fn take_back(
     *sockets = before;
 }
 
-/// Puts the frames that left with a step behind those that left before.
-pub fn leave(leaving: Outbox, out: &mut Outbox)
-    ensures { (box : Out) (frames : List Outgoing) → box.frames ≡ [] → box.lost ≡ false →
-        Adds box leaving frames → Adds out.old out.new frames }
-{
-    let lost = leaving.lost();
-    let mut waiting = VecDeque::from_vec(leaving.into_frames());
-    while let Some(sent) = waiting.pop_front() {
-        out.push(sent.bearer, sent.to, sent.frame);
-    }
-    if lost {
-        out.mark_lost();
-    }
-}
-
 /// Records a step as it was drafted, and lets its frames leave.
 pub fn conclude(
     journal: &mut Journal,
@@ -147,9 +132,8 @@ pub fn conclude(
     requires bytes { sum_by entry_bytes draft.inside.items ≤ free_message_bytes }
     ensures journal { journal.new.entries ≡ journal.old.entries ++ step_entries
         (step_of by note draft.inside.items answer) }
-    ensures frames { (box : Out) (frames : List Outgoing) → box.frames ≡ [] → box.lost ≡ false →
-        Adds box draft.out frames → Adds out.old out.new frames }
+    ensures frames { (frames : List Outgoing) → Adds no_frames draft.out frames → Adds out.old out.new frames }
 {
-    leave(draft.out, out);
+    out.append(draft.out);
     record(journal, by, note, draft.inside, answer);
 }

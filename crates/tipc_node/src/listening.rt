@@ -86,7 +86,9 @@ impl Neighbour {
         self.pair.sound();
         let gets_in_step = gets_in_step(&packet.header, arriving.outcome());
         let shown = no_broadcast(self.in_step);
-        let arrival = self.pair.commit(alloc, arriving, packet, shown, out);
+        let mut event = Outbox::new(alloc);
+        let arrival = self.pair.commit(alloc, arriving, packet, shown, &mut event);
+        out.append(event);
         self.in_step = is_in_step(self.in_step, arrival.changes.as_slice(), gets_in_step);
         arrival.changes
     }

@@ -2,13 +2,15 @@
 
 ghost use Rattle.std.specs.Prelude.{◌≡◌, ◌+◌, ◌-◌, ◌^◌, ◌++◌, ◌≤◌, ◌&&◌, not, ℕ, List, [], true, false, All, Some, None, is_some, length, slice_index_or, unwrap_or, IfOk, IfSome, IfNone, IsErr, OnErr, OnOk};
 ghost use Rattle.std.specs.List.{list_any};
-ghost use Rattle.tipc_outside.specs.Frames.{Adds};
+ghost use Rattle.tipc_types.specs.declared.message_forms.Flow.TheVariants.{Zero};
+ghost use Rattle.tipc_outside.specs.Frames.{no_frames, Adds, Gains};
 ghost use Rattle.tipc_outside.specs.declared.outgoing.Outgoing.{Outgoing};
 ghost use Rattle.tipc_link.specs.Sessions.{SessionEnd};
+ghost use Rattle.tipc_pair.specs.Courses.{made_in};
 ghost use Rattle.tipc_pair.specs.Facing.{facing, in_contact};
 ghost use Rattle.tipc_pair.specs.PairCalls.{active_session};
 ghost use Rattle.tipc_pair.specs.Runs.{IsListed};
-ghost use Rattle.tipc_node.specs.Nodes.{accepted_entry, after_all, after_one, upkeep_note, entries_all, entries_one, load_all, load_on, load_with, mended_by, numbered_all, numbered_one, shown_contact, states_all, states_one, unacked_in, waiting_in, with_mended_on, is_mended_on};
+ghost use Rattle.tipc_node.specs.Nodes.{accepted_entry, after_all, after_one, upkeep_note, entries_all, entries_one, load_all, load_on, load_with, made_all, made_one, mended_by, shown_contact, unacked_in, waiting_in, with_mended_on, is_mended_on};
 ghost use Rattle.tipc_node.specs.Neighbours.{course_of, done, making, neighbour, no_broadcast, stays_in_step, stranger, IsOnBearer, PutsThere};
 ghost use Rattle.tipc_pair.specs.Contacts.{is_of_contact};
 
@@ -137,6 +139,7 @@ impl Neighbour {
     }
 
     /// Makes the link end on a bearer, 0 or 1, that has none; the bearer is mended, or it isn't.
+    #[tactic(auto, using(tipc_outside::proofs::Adding::gains_none))]
     pub fn make(&mut self, alloc: Global, bearer: u8, mended: bool, out: &mut Outbox)
         requires bearer { bearer ≤ 1 }
         requires none { (facing bearer self.old.pair).near ≡ None }
@@ -146,34 +149,33 @@ impl Neighbour {
         self.pair.sound();
         self.pair.make_end(bearer);
         if mended {
-            self.pair.mend(alloc, bearer, out);
+            let mut event = Outbox::new(alloc);
+            self.pair.mend(alloc, bearer, &mut event);
+            out.append(event);
         }
     }
 
-    /// Lets something happen at its pair. The frames of link states and of repeated packets go into `states`, and those of
-    /// packets that are numbered then into `numbered`.
+    /// Lets something happen at its pair.
     fn undergo(
         &mut self,
         alloc: Global,
         upkeep: Upkeep,
-        states: &mut Outbox,
-        numbered: &mut Outbox,
+        out: &mut Outbox,
     ) -> Result<TransitionList, NoMemory>
         requires { IsOnBearer upkeep }
         ensures after { OnOk result (self.new ≡ neighbour (course_of upkeep self.old).pair self.old.in_step) }
         ensures changes { IfOk result (λ changes. changes ≡ (course_of upkeep self.old).changes) }
-        ensures states { OnOk result (Adds states.old states.new (course_of upkeep self.old).states) }
-        ensures numbered { OnOk result (Adds numbered.old numbered.new (course_of upkeep self.old).numbered) }
+        ensures frames { OnOk result (Gains out.old out.new (made_in (course_of upkeep self.old))) }
     {
         match upkeep {
             Upkeep::Mend(bearer) => {
-                self.pair.mend(alloc, bearer, states);
+                self.pair.mend(alloc, bearer, out);
                 Ok(TransitionList::new(alloc))
             }
-            Upkeep::Cut(bearer) => self.pair.cut_apart(alloc, bearer, states, numbered),
+            Upkeep::Cut(bearer) => self.pair.cut(alloc, bearer, out),
             Upkeep::Tick => {
                 let shown = no_broadcast(self.in_step);
-                self.pair.tick_apart(alloc, shown, states, numbered)
+                self.pair.tick(alloc, shown, out)
             }
         }
     }
@@ -184,16 +186,14 @@ impl Neighbour {
         &mut self,
         alloc: Global,
         upkeep: Upkeep,
-        states: &mut Outbox,
-        numbered: &mut Outbox,
+        out: &mut Outbox,
     ) -> Result<TransitionList, NoMemory>
         requires { IsOnBearer upkeep }
         ensures after { OnOk result (self.new ≡ (done upkeep self.old).after) }
         ensures changes { IfOk result (λ changes. changes ≡ (done upkeep self.old).changes) }
-        ensures states { OnOk result (Adds states.old states.new (done upkeep self.old).states) }
-        ensures numbered { OnOk result (Adds numbered.old numbered.new (done upkeep self.old).numbered) }
+        ensures frames { OnOk result (Gains out.old out.new (made_in (course_of upkeep self.old))) }
     {
-        let changes = self.undergo(alloc, upkeep, states, numbered)?;
+        let changes = self.undergo(alloc, upkeep, out)?;
         self.in_step = stays_in_step(self.in_step, changes.as_slice());
         Ok(changes)
     }
@@ -231,7 +231,7 @@ impl Neighbour {
     /// The entry of a message that is accepted for the peer of this number.
     pub fn accepted(&self, peer: u8, message: Message) -> Entry
         requires { (1 ≤ peer) × (peer ≤ 32) }
-        ensures { result ≡ accepted_entry peer self.now.pair message }
+        ensures { result ≡ accepted_entry Zero peer self.now.pair message }
     {
         Entry::Accepted {
             peer: Addr::node(peer),
@@ -284,35 +284,31 @@ pub fn mended_by(upkeep: Upkeep, mended: Bearers) -> Bearers
     }
 }
 
-/// What happened at neighbours so far, and the frames that leave: those of link states and of repeated packets leave
-/// before those of packets that are numbered then.
+/// What happened at neighbours so far, and the frames that leave.
 #[derive(Drop)]
 pub struct Parting {
     /// What is told.
     pub inside: Vec<Entry>,
-    /// Frames of link states and of repeated packets.
-    pub states: Outbox,
-    /// Frames of packets that are numbered.
-    pub numbered: Outbox,
+    /// The frames that leave.
+    pub out: Outbox,
 }
 
 impl Parting {
     /// Nothing happened.
     pub fn new(alloc: Global) -> Parting
         ensures inside { result.inside.items ≡ [] }
-        ensures states { (result.states.frames ≡ []) × (result.states.lost ≡ false) }
-        ensures numbered { (result.numbered.frames ≡ []) × (result.numbered.lost ≡ false) }
+        ensures out { result.out ≡ no_frames }
     {
         Parting {
             inside: Vec::new(alloc),
-            states: Outbox::new(alloc),
-            numbered: Outbox::new(alloc),
+            out: Outbox::new(alloc),
         }
     }
 }
 
 /// The neighbour of that number, where there is one, as it is when this happened to it; and what became of the links to
 /// it is told.
+#[tactic(auto, using(tipc_outside::proofs::Adding::gains_none))]
 fn part_of(
     place: &Option<Neighbour>,
     alloc: Global,
@@ -325,14 +321,13 @@ fn part_of(
     ensures after { IfOk result (λ after. after ≡ after_one upkeep place.now) }
     ensures entries { OnOk result (event.new.inside.items ≡ event.old.inside.items ++
         entries_one upkeep number place.now) }
-    ensures states { OnOk result (Adds event.old.states event.new.states (states_one upkeep place.now)) }
-    ensures numbered { OnOk result (Adds event.old.numbered event.new.numbered (numbered_one upkeep place.now)) }
+    ensures frames { OnOk result (Gains event.old.out event.new.out (made_one upkeep place.now)) }
 {
     let Some(neighbour) = place else {
         return Ok(None);
     };
     let mut after = neighbour.copy()?;
-    let changes = after.take_part(alloc, upkeep, &mut event.states, &mut event.numbered)?;
+    let changes = after.take_part(alloc, upkeep, &mut event.out)?;
     event.inside.reserve(changes.len())?;
     note_changes(&mut event.inside, number, changes.as_slice());
     Ok(Some(after))
@@ -352,8 +347,7 @@ pub fn part_of_all(
     requires empty { event.old.inside.items ≡ [] }
     ensures after { IfOk result (λ after. after.items ≡ after_all upkeep neighbours.now) }
     ensures entries { OnOk result (event.new.inside.items ≡ entries_all upkeep 0 neighbours.now) }
-    ensures states { OnOk result (Adds event.old.states event.new.states (states_all upkeep neighbours.now)) }
-    ensures numbered { OnOk result (Adds event.old.numbered event.new.numbered (numbered_all upkeep neighbours.now)) }
+    ensures frames { OnOk result (Gains event.old.out event.new.out (made_all upkeep neighbours.now)) }
 {
     let mut after = Vec::new(alloc);
     after.push(None)?;

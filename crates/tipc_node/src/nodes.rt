@@ -1,6 +1,6 @@
 //! The node, its calls, and what arrives at it.
 
-ghost use Rattle.std.specs.Prelude.{◌≡◌, ℕ, ◌+◌, ◌%◌, ◌^◌, ◌<◌, ◌≤◌, [], true, false, if◌then◌else◌, None, Some, Err, length, is_some, unwrap_or, IfOk, IfSome, IfNone, OnErr, OnOk};
+ghost use Rattle.std.specs.Prelude.{All, ◌≡◌, ℕ, ◌+◌, ◌%◌, ◌^◌, ◌<◌, ◌≤◌, [], true, false, if◌then◌else◌, None, Some, Err, length, is_some, unwrap_or, IfOk, IfSome, IfNone, OnErr, OnOk};
 ghost use Rattle.tipc_types.specs.Address.{node_word, IsNodeWord};
 ghost use Rattle.tipc_outside.specs.Frames.{Adds};
 ghost use Rattle.tipc_journal.specs.Streams.{accepted, delivered};
@@ -16,6 +16,7 @@ ghost use Rattle.tipc_node.specs.Nodes.{contact_with, end_with, is_mended_on, kn
 ghost use Rattle.tipc_journal.specs.Room.{has_journal_room};
 ghost use Rattle.tipc_node.specs.Sharing.{SharesNames};
 ghost use Rattle.tipc_node.specs.Telling.{IsTold};
+ghost use Rattle.tipc_node.specs.Turns.{IsRouted};
 
 use crate::cores::Core;
 use crate::neighbours::Neighbour;
@@ -208,6 +209,7 @@ impl Node {
         ensures after { self.new ≡ known_node self.old peer bearer }
         ensures frames { Adds out.old out.new (known_frames self.old peer bearer) }
         ensures within { peer < length self.old.neighbours }
+        ensures routed { All (IsRouted (known_node self.old peer bearer)) (known_frames self.old peer bearer) }
         ensures told { IsTold self.new }
         ensures shares { SharesNames self.new }
     {

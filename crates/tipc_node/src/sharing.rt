@@ -7,7 +7,8 @@ ghost use Rattle.tipc_journal.specs.Room.{counted_bytes, entry_bytes, free_entri
 ghost use Rattle.tipc_name_dist.specs.Items.{telling, tellings};
 ghost use Rattle.tipc_pair.specs.Facing.{in_contact};
 ghost use Rattle.tipc_sockets.specs.SocketTables.{SocketTable};
-ghost use Rattle.tipc_node.specs.Drafts.{drafted, nothing_out, peer_in_contact, taken_back, AreTables, PutEach, ToldEach, ToldPeers};
+ghost use Rattle.tipc_outside.specs.Frames.{no_frames};
+ghost use Rattle.tipc_node.specs.Drafts.{drafted, peer_in_contact, taken_back, AreTables, PutEach, ToldEach, ToldPeers};
 ghost use Rattle.tipc_node.specs.Nodes.{load_with, waiting_in};
 ghost use Rattle.tipc_node.specs.Sockets.{crowd_refusal, crowded_answer, first_crowded};
 ghost use Rattle.tipc_node.specs.Works.{is_in_contact, work_of};
@@ -270,7 +271,7 @@ pub fn share(
     requires light { (sum_by counted_bytes messages.now ≤ 20480) × (sum_by entry_bytes inside.items ≡ 0) }
     ensures told { IfOk result (λ d. (s : SocketTable) → ToldPeers own.word
         (work_of neighbours.old.items s inside.items) messages.now (drafted neighbours.new.items s d)
-        nothing_out d.out) }
+        no_frames d.out) }
     ensures journal { journal.new.entries ≡ journal.old.entries }
     ensures spare { IfOk result (λ d. length d.inside.items + 2 ≤ journal.new.spare) }
     ensures fits { IfOk result (λ d. (length d.inside.items ≤ free_entries - 2) ×

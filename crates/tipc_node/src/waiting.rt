@@ -7,7 +7,7 @@ ghost use Rattle.tipc_journal.specs.Room.{entry_bytes, free_entries, free_messag
 ghost use Rattle.tipc_journal.specs.Steps.{step_entries};
 ghost use Rattle.tipc_sockets.specs.Fates.{port_of};
 ghost use Rattle.tipc_node.specs.Nodes.{step_of};
-ghost use Rattle.tipc_node.specs.Sure.{all_wait, are_sure, message_of, messages_in, told_in, told_of, waits_surely, with_all_waiting};
+ghost use Rattle.tipc_node.specs.Sure.{all_wait, are_sure, message_of, messages_in, told_in, told_of_delivery, waits_surely, with_all_waiting};
 
 use crate::arriving::Delivery;
 use crate::recording::record;
@@ -59,7 +59,7 @@ fn queued_entry(alloc: Global, m: &Message) -> Result<Entry, NoMemory>
 
 /// Tells one delivery more.
 fn tell(alloc: Global, told: &mut Waiting, delivery: Delivery) -> Result<(), NoMemory>
-    ensures entries { OnOk result (told.new.entries.items ≡ told.old.entries.items ++ told_of delivery) }
+    ensures entries { OnOk result (told.new.entries.items ≡ told.old.entries.items ++ told_of_delivery delivery) }
     ensures messages { OnOk result (told.new.messages.items ≡
         told.old.messages.items ++ message_of delivery.message) }
 {

@@ -4,6 +4,7 @@ use Rattle.std.specs.Prelude.{◌⊎◌, IfSome, if◌then◌else◌, map, optio
 use Rattle.std.proofs.lemmas.Bool.{cases_eq, cases_lt}
 use Rattle.std.proofs.lemmas.Bool.Decides.{nat_tests}
 use Rattle.std.proofs.lemmas.List.{get_or-set_other}
+use Rattle.tipc_types.specs.declared.message_forms.Flow.TheVariants.{Zero}
 use Rattle.tipc_types.specs.Address.{node_word}
 use Rattle.tipc_types.specs.declared.identity.Addr.{Addr}
 use Rattle.tipc_types.specs.declared.link_words.Why.{Why}
@@ -74,7 +75,7 @@ HeardSo x bearer first second number p o = HappenedSo x.pair (hears bearer first
 heard_so : (n : NodeState) (bearer peer first second number : ℕ) (x : Neighbour) (p : Fields) (o : Outset) → IsTold n → neighbour_of n peer ≡ Some x → HearsAt x bearer first second p number o → HeardSo x bearer first second number p o
 heard_so n bearer peer first second number x p o h was heard =
     let abreast = subst (λ a. IfSome a AreAbreast) (ap (option_map (λ (y : Neighbour). y.pair)) was) (h.links peer).abreast in
-    happened_so x.pair (hears bearer first second p number (no_broadcast x.in_step)) o (on_bearers x.pair abreast) refl heard
+    happened_so x.pair (hears bearer first second p number (no_broadcast x.in_step)) o (on_bearers x.pair abreast) tt heard
 
 heard_linked : (n : NodeState) (peer : ℕ) (x : Neighbour) (p : Fields) (o : Outset) → IsTold n → neighbour_of n peer ≡ Some x → Tells x.pair o.course → IsLinked n (heard_work n peer x p o)
 heard_linked n peer x p o h was tells = record { contacts = λ a. contacts a (cases_lt a.word (node_word 0)); two = λ b z there. two_at b z there (cases_eq b peer); nobody = nobody }
@@ -142,7 +143,7 @@ heard_worked : (n : NodeState) (peer : ℕ) (x : Neighbour) (p : Fields) (o : Ou
 heard_worked n peer x p o h was other tells =
     let xs = slice_set n.neighbours peer (Some (heard_neighbour x p o)) in
     let beside = worked_beside n NothingDue NothingDue [] [] (begun n) xs (begun_worked n NothingDue h) in (
-      all_noted n NothingDue [] [] (record { neighbours = xs; sockets = n.sockets; inside = [] }) (change_entries peer o.course.changes) beside (changes_quiet n.own peer o.course.changes other),
+      all_noted n NothingDue [] [] (record (begun n) { neighbours = xs }) (change_entries peer o.course.changes) beside (changes_quiet n.own peer o.course.changes other),
       heard_linked n peer x p o h was tells,
     )
 
@@ -160,10 +161,10 @@ peer_place xs peer x y was =
 
 heard_in_contact : (n n' : NodeState) (by : By) (bearer number : ℕ) (bytes : List ℕ) (frames : List Outgoing) (answered : Arrival) (heard : Hears n n' by bearer number bytes frames answered)
     → HeardSo heard.neighbour bearer heard.first heard.second number heard.packet heard.out
-    → IsInContact heard.peer (heard_work n heard.peer heard.neighbour heard.packet heard.out) (arrival_deliveries heard.peer heard.neighbour.pair heard.out.given)
+    → IsInContact heard.peer (heard_work n heard.peer heard.neighbour heard.packet heard.out) (arrival_deliveries Zero heard.peer heard.neighbour.pair heard.out.given)
 heard_in_contact n n' by bearer number bytes frames answered heard so d ds some =
     let y = heard_neighbour heard.neighbour heard.packet heard.out in
-    let opened = mapped_some (delivery_of heard.peer (shown_contact heard.neighbour.pair)) (opened_in heard.out.given) d ds some in
+    let opened = mapped_some (delivery_of Zero heard.peer (shown_contact heard.neighbour.pair)) (opened_in heard.out.given) d ds some in
     let lasts = so.lasts opened.0 opened.1 opened.2 in
     ap is_some (peer_place n.neighbours heard.peer heard.neighbour y heard.was) ∙ contact_is_some y.pair ∙ lasts.0
 
@@ -187,7 +188,7 @@ heard_told n n' by bearer number bytes frames answered inside h passes heard t s
     let so = heard_so n bearer heard.peer heard.first heard.second number x heard.packet heard.out h heard.was heard.hears in
     let first = heard_worked n heard.peer x heard.packet heard.out h heard.was other so.tells in
     let given = all_given heard.peer (shown_contact x.pair) (opened_in heard.out.given) in
-    let ds = arrival_deliveries heard.peer x.pair heard.out.given in
+    let ds = arrival_deliveries Zero heard.peer x.pair heard.out.given in
     let start = heard_work n heard.peer x heard.packet heard.out in
     let told : IsDone n NothingDue [] [] heard.greeted = (
       puts_each_worked n NothingDue [] [] start heard.peer heard.greeting heard.greeted heard.greeting_frames first.0 (greets_items n.sockets.live heard.out.course.changes heard.greeting heard.greets) heard.greeting_put,

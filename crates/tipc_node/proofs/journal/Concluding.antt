@@ -40,7 +40,7 @@ use Rattle.tipc_node.specs.Works.{Work, addr_of_word}
 use Rattle.tipc_node.proofs.Filters.{filter-none}
 use Rattle.tipc_node.proofs.journal.Noting.{IsWorked}
 use Rattle.tipc_node.proofs.journal.Telling.{contact_step, folded}
-use Rattle.tipc_node.proofs.journal.Turned.{turn_links, turn_whole}
+use Rattle.tipc_node.proofs.journal.Turned.{turn_links, turn_nobody, turn_whole}
 
 -- ---- the step that was recorded
 
@@ -158,7 +158,7 @@ call_told n n' bytes by note inside kept given frames w s h before journal is so
     record {
       whole = turn_whole n n' bytes st frames h t;
       links = turn_links n n' bytes st frames h t;
-      nobody = t.alone 0 h.nobody;
+      nobody = turn_nobody n n' bytes st frames h t;
       alone = ap (λ o. contact n'.journal (addr_of_word o)) t.own ∙ ap (λ es. contact es own) t.journal ∙ contact_whole n.journal st own ∙ c.worked.alone;
       below = low_told n n' bytes st frames h t;
       sockets = sockets_told n n' bytes st frames s h t sound is c.kept;

@@ -47,7 +47,7 @@ IsDone n d sends asked w = IsWorked n d NothingDue sends asked w × IsLinked n w
 
 -- an entry that tells of no contact
 pub linked_more : (n : NodeState) (w : Work) (e : Entry) (s : SocketTable) → IsLinked n w → ((a : Addr) (z : Option (ℕ × ℕ)) → contact_after a z e ≡ z)
-    → IsLinked n (record { neighbours = w.neighbours; sockets = s; inside = w.inside ++ e ∷ [] })
+    → IsLinked n (record w { sockets = s; inside = w.inside ++ e ∷ [] })
 linked_more n w e s h leaves = record {
   contacts = λ a. contact_inside n.journal w.inside e a ∙ leaves a (contact (n.journal ++ w.inside) a) ∙ h.contacts a;
   two = h.two;

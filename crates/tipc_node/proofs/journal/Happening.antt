@@ -26,7 +26,7 @@ use Rattle.tipc_node.specs.Sockets.{kept_answer}
 use Rattle.tipc_node.specs.Telling.{IsTold}
 use Rattle.tipc_pair.specs.LinkReadings.{AreAbreast}
 use Rattle.tipc_node.specs.Turns.{NodeTurn}
-use Rattle.tipc_node.specs.Works.{addr_of_word}
+use Rattle.tipc_node.specs.Works.{addr_of_word, begun}
 use Rattle.tipc_node.proofs.journal.Calling.{done_answered}
 use Rattle.tipc_node.proofs.journal.Concluding.{IsCall, call_told, others_kept}
 use Rattle.tipc_node.proofs.pairs.Calm.{upkeep_happens, opening_of, own_calm}
@@ -100,7 +100,7 @@ pub upkeep_worked : (n : NodeState) (d : Upkeep) → IsTold n → IsWorked n Not
 upkeep_worked n d h =
     let es = entries_all d 0 n.neighbours in
     let quiet : AreQuiet n.own es = all_quiet n d 0 n.neighbours h (λ k x there. subst (λ j. neighbour_of n j ≡ Some x) (omega arith) there) in (
-      all_noted n NothingDue [] [] (record { neighbours = after_all d n.neighbours; sockets = n.sockets; inside = [] }) es
+      all_noted n NothingDue [] [] (record (begun n) { neighbours = after_all d n.neighbours }) es
           (worked_beside n NothingDue NothingDue [] [] _ (after_all d n.neighbours) (begun_worked n NothingDue h)) quiet,
       quiet,
     )

@@ -47,7 +47,7 @@ withdrawn_worked : (n : NodeState) (sends asks : List Entry) (w : Work) (p : Pub
 withdrawn_worked n sends asks w p h mine found =
     let e = entry.Withdrawn p in
     let s = withdrawn w.sockets p.at.node.word p.key in
-    let after : Work = record { neighbours = w.neighbours; sockets = s; inside = w.inside ++ e ∷ [] } in
+    let after : Work = record w { sockets = s; inside = w.inside ++ e ∷ [] } in
     subst (λ es. IsWorked n NothingDue NothingDue es (asks ++ e ∷ []) after) (append-nil sends)
     (worked_more n NothingDue NothingDue sends asks w e s w.neighbours h (record {
       told = told_entry (addr_of_word n.own) n.journal NothingDue w.inside w.sockets h.told h.sound e mine (λ port. queues_none port _ e h.due) refl found;
@@ -62,15 +62,15 @@ withdrawn_worked n sends asks w p h mine found =
 all_withdrawn : (n : NodeState) (sends asks : List Entry) (w : Work) (ps : List Publication) → IsWorked n NothingDue NothingDue sends asks w → list_all (is_of n.own) ps ≡ true → AreRemovable w.sockets.names ps
     → IsWorked n NothingDue NothingDue sends (asks ++ map entry.Withdrawn ps) (noted w (map entry.Withdrawn ps))
 all_withdrawn n sends asks w [] h mine may =
-    subst (λ (xs : List Entry). IsWorked n NothingDue NothingDue sends (asks ++ []) (record { neighbours = w.neighbours; sockets = w.sockets; inside = xs })) (sym (append-nil w.inside))
+    subst (λ (xs : List Entry). IsWorked n NothingDue NothingDue sends (asks ++ []) (record w { inside = xs })) (sym (append-nil w.inside))
     (subst (λ es. IsWorked n NothingDue NothingDue sends es w) (sym (append-nil asks)) h)
 all_withdrawn n sends asks w (p ∷ ps) h mine may =
     let both = and_parts (is_of n.own p) (list_all (is_of n.own) ps) mine in
     let e = entry.Withdrawn p in
     let rest = all_withdrawn n sends (asks ++ e ∷ []) (noted w (e ∷ [])) ps (withdrawn_worked n sends asks w p h both.0 (removable_found p ps w.sockets.names may)) both.1 (removable_rest p ps w.sockets.names may) in
     let s = fold after_entry (after_entry w.sockets e) (map entry.Withdrawn ps) in
-    subst (λ es. IsWorked n NothingDue NothingDue sends es (record { neighbours = w.neighbours; sockets = s; inside = w.inside ++ (e ∷ map entry.Withdrawn ps) })) (append_assoc asks (e ∷ []) (map entry.Withdrawn ps))
-    (subst (λ (xs : List Entry). IsWorked n NothingDue NothingDue sends ((asks ++ e ∷ []) ++ map entry.Withdrawn ps) (record { neighbours = w.neighbours; sockets = s; inside = xs }))
+    subst (λ es. IsWorked n NothingDue NothingDue sends es (record w { sockets = s; inside = w.inside ++ (e ∷ map entry.Withdrawn ps) })) (append_assoc asks (e ∷ []) (map entry.Withdrawn ps))
+    (subst (λ (xs : List Entry). IsWorked n NothingDue NothingDue sends ((asks ++ e ∷ []) ++ map entry.Withdrawn ps) (record w { sockets = s; inside = xs }))
     (append_assoc w.inside (e ∷ []) (map entry.Withdrawn ps)) rest)
 
 -- the live publications are the node's own

@@ -80,7 +80,7 @@ pub record IsNext (n : NodeState) (d now : Due) (w : Work) (e : Entry) (s : Sock
   pub leaves : (z : Option (ℕ × ℕ)) → contact_after (addr_of_word n.own) z e ≡ z
 
 pub worked_more : (n : NodeState) (d now : Due) (sends asked : List Entry) (w : Work) (e : Entry) (s : SocketTable) (xs : List (Option Neighbour)) → IsWorked n d now sends asked w → IsNext n d now w e s
-    → IsWorked n d (due_after (addr_of_word n.own) now e) (sends ++ sent_by now e) (asked ++ filter is_asked_for (e ∷ [])) (record { neighbours = xs; sockets = s; inside = w.inside ++ e ∷ [] })
+    → IsWorked n d (due_after (addr_of_word n.own) now e) (sends ++ sent_by now e) (asked ++ filter is_asked_for (e ∷ [])) (record w { neighbours = xs; sockets = s; inside = w.inside ++ e ∷ [] })
 worked_more n d now sends asked w e s xs h k =
     let own = addr_of_word n.own in record {
       told = k.told;
@@ -97,9 +97,9 @@ worked_more n d now sends asked w e s xs h k =
 -- one that is no send and isn't asked for
 pub worked_on : (n : NodeState) (d now next : Due) (sends asked : List Entry) (w : Work) (e : Entry) (s : SocketTable) (xs : List (Option Neighbour)) → IsWorked n d now sends asked w → IsNext n d now w e s
     → due_after (addr_of_word n.own) now e ≡ next → sent_by now e ≡ [] → filter is_asked_for (e ∷ []) ≡ []
-    → IsWorked n d next sends asked (record { neighbours = xs; sockets = s; inside = w.inside ++ e ∷ [] })
+    → IsWorked n d next sends asked (record w { neighbours = xs; sockets = s; inside = w.inside ++ e ∷ [] })
 worked_on n d now next sends asked w e s xs h k due unsent unasked =
-    let after : Work = record { neighbours = xs; sockets = s; inside = w.inside ++ e ∷ [] } in
+    let after : Work = record w { neighbours = xs; sockets = s; inside = w.inside ++ e ∷ [] } in
     let one = worked_more n d now sends asked w e s xs h k in
     let two = subst (λ x. IsWorked n d x (sends ++ sent_by now e) (asked ++ filter is_asked_for (e ∷ [])) after) due one in
     let three = subst (λ es. IsWorked n d next es (asked ++ filter is_asked_for (e ∷ [])) after) (ap (λ es. sends ++ es) unsent ∙ append-nil sends) two in
@@ -107,7 +107,7 @@ worked_on n d now next sends asked w e s xs h k due unsent unasked =
 
 -- other neighbours
 pub worked_beside : (n : NodeState) (d now : Due) (sends asked : List Entry) (w : Work) (xs : List (Option Neighbour)) → IsWorked n d now sends asked w
-    → IsWorked n d now sends asked (record { neighbours = xs; sockets = w.sockets; inside = w.inside })
+    → IsWorked n d now sends asked (record w { neighbours = xs })
 worked_beside n d now sends asked w xs h = record {
   told = h.told;
   sound = h.sound;
@@ -256,9 +256,9 @@ quiet_worked n d sends asked w e h quiet =
     worked_on n d NothingDue NothingDue sends asked w e (after_entry w.sockets e) w.neighbours h (quiet_next n d sends asked w e h quiet) is.0 is.1 is.2
 
 pub all_noted : (n : NodeState) (d : Due) (sends asked : List Entry) (w : Work) (es : List Entry) → IsWorked n d NothingDue sends asked w → AreQuiet n.own es → IsWorked n d NothingDue sends asked (noted w es)
-all_noted n d sends asked w [] h quiet = subst (λ (xs : List Entry). IsWorked n d NothingDue sends asked (record { neighbours = w.neighbours; sockets = w.sockets; inside = xs })) (sym (append-nil w.inside)) h
+all_noted n d sends asked w [] h quiet = subst (λ (xs : List Entry). IsWorked n d NothingDue sends asked (record w { inside = xs })) (sym (append-nil w.inside)) h
 all_noted n d sends asked w (e ∷ es) h quiet =
-    subst (λ (xs : List Entry). IsWorked n d NothingDue sends asked (record { neighbours = w.neighbours; sockets = fold after_entry (after_entry w.sockets e) es; inside = xs })) (append_assoc w.inside (e ∷ []) es)
+    subst (λ (xs : List Entry). IsWorked n d NothingDue sends asked (record w { sockets = fold after_entry (after_entry w.sockets e) es; inside = xs })) (append_assoc w.inside (e ∷ []) es)
     (all_noted n d sends asked (noted w (e ∷ [])) es (quiet_worked n d sends asked w e h quiet.0) quiet.1)
 
 -- ---- subscriptions time out
@@ -282,12 +282,12 @@ pub all_timed_out : (n : NodeState) (d : Due) (sends asked : List Entry) (w : Wo
     → IsWorked n d NothingDue sends (asked ++ map entry.TimedOut numbers) (noted w (map entry.TimedOut numbers))
 all_timed_out n d sends asked w [] h =
     subst (λ (xs : List Entry). IsWorked n d NothingDue sends xs (noted w [])) (sym (append-nil asked))
-    (subst (λ (xs : List Entry). IsWorked n d NothingDue sends asked (record { neighbours = w.neighbours; sockets = w.sockets; inside = xs })) (sym (append-nil w.inside)) h)
+    (subst (λ (xs : List Entry). IsWorked n d NothingDue sends asked (record w { inside = xs })) (sym (append-nil w.inside)) h)
 all_timed_out n d sends asked w (number ∷ numbers) h =
     let e = entry.TimedOut number in
     let es = map entry.TimedOut numbers in
     subst (λ (xs : List Entry). IsWorked n d NothingDue sends xs (noted w (e ∷ es))) (append_assoc asked (e ∷ []) es)
-    (subst (λ (xs : List Entry). IsWorked n d NothingDue sends ((asked ++ e ∷ []) ++ es) (record { neighbours = w.neighbours; sockets = fold after_entry (after_entry w.sockets e) es; inside = xs })) (append_assoc w.inside (e ∷ []) es)
+    (subst (λ (xs : List Entry). IsWorked n d NothingDue sends ((asked ++ e ∷ []) ++ es) (record w { sockets = fold after_entry (after_entry w.sockets e) es; inside = xs })) (append_assoc w.inside (e ∷ []) es)
     (all_timed_out n d sends (asked ++ e ∷ []) (noted w (e ∷ [])) numbers (timeout_worked n d sends asked w number h)))
 
 -- ---- a message is delivered

@@ -76,10 +76,10 @@ puts_linked n w peer m w' frames h p = subst (IsLinked n) (sym p.after) (record 
     xs : List (Option Neighbour)
     xs = slice_set w.neighbours peer (Some y)
 
-    more : IsLinked n (record { neighbours = w.neighbours; sockets = w.sockets; inside = w.inside ++ accepted_entry peer p.neighbour.pair m ∷ [] })
-    more = linked_more n w (accepted_entry peer p.neighbour.pair m) w.sockets h (λ a z. refl)
+    more : IsLinked n (record w { inside = w.inside ++ accepted_entry Zero peer p.neighbour.pair m ∷ [] })
+    more = linked_more n w (accepted_entry Zero peer p.neighbour.pair m) w.sockets h (λ a z. refl)
 
-    contacts : (a : Addr) → contact (n.journal ++ (w.inside ++ accepted_entry peer p.neighbour.pair m ∷ [])) a ≡ contact_at xs a
+    contacts : (a : Addr) → contact (n.journal ++ (w.inside ++ accepted_entry Zero peer p.neighbour.pair m ∷ [])) a ≡ contact_at xs a
     contacts a = more.contacts a ∙ sym (contact_set w.neighbours peer p.neighbour y p.was (put_alike n.own w peer m w' frames p) a)
 
     two : (b : ℕ) (x : Neighbour) → slice_index_or xs b None ≡ Some x → (b ≡ peer) ⊎ (b ≡ peer → ⊥) → x.pair.bearer ≤ 1
@@ -137,12 +137,12 @@ sent_one peer numbers (Items withdrawal items) payload = absurd cc
 
 -- a message that the node sends
 pub sent_worked : (n : NodeState) (d : Due) (asked : List Entry) (w : Work) (peer : ℕ) (m : Message) (w' : Work) (frames : List Outgoing) → IsWorked n d NothingDue [] asked w → is_payload m ≡ true
-    → (p : Puts n.own w peer m w' frames) → IsWorked n d NothingDue (accepted_entry peer p.neighbour.pair m ∷ []) asked w'
+    → (p : Puts n.own w peer m w' frames) → IsWorked n d NothingDue (accepted_entry Zero peer p.neighbour.pair m ∷ []) asked w'
 sent_worked n d asked w peer m w' frames h payload p =
     let numbers = shown_contact p.neighbour.pair in
     let e = entry.Accepted (addr_of_word (node_word peer)) numbers Zero m in
     let xs = slice_set w.neighbours peer (Some p.then) in
-    let after : Work = record { neighbours = xs; sockets = w.sockets; inside = w.inside ++ e ∷ [] } in
+    let after : Work = record w { neighbours = xs; inside = w.inside ++ e ∷ [] } in
     let one = worked_more n d NothingDue [] asked w e w.sockets xs h (put_next n d NothingDue [] asked w (addr_of_word (node_word peer)) numbers m h tt) in
     let two = subst (λ es. IsWorked n d NothingDue es (asked ++ []) after) (sent_one (addr_of_word (node_word peer)) numbers m payload) one in
     subst (IsWorked n d NothingDue (e ∷ []) asked) (sym p.after) (subst (λ es. IsWorked n d NothingDue (e ∷ []) es after) (append-nil asked) two)
@@ -224,15 +224,15 @@ abbrev pub AreGiven : List Delivery → Type 0
 AreGiven [] = Unit {0}
 AreGiven (d ∷ ds) = IsGiven d.entry d.message × AreGiven ds
 
-given_one : (peer : ℕ) (numbers : ℕ × ℕ) (o : Opened) → IsGiven (delivery_of peer numbers o).entry (delivery_of peer numbers o).message
+given_one : (peer : ℕ) (numbers : ℕ × ℕ) (o : Opened) → IsGiven (delivery_of Zero peer numbers o).entry (delivery_of Zero peer numbers o).message
 given_one peer numbers (Whole packet by) = of (message_in packet)
   where
-    of : (x : Option Message) → IsGiven (delivered_by peer numbers x by) x
+    of : (x : Option Message) → IsGiven (delivered_by Zero peer numbers x by) x
     of None = tt
     of (Some m) = refl
 given_one peer numbers (Passed place) = tt
 
-pub all_given : (peer : ℕ) (numbers : ℕ × ℕ) (opened : List Opened) → AreGiven (deliveries_of peer numbers opened)
+pub all_given : (peer : ℕ) (numbers : ℕ × ℕ) (opened : List Opened) → AreGiven (deliveries_of Zero peer numbers opened)
 all_given peer numbers [] = tt
 all_given peer numbers (o ∷ opened) = (given_one peer numbers o, all_given peer numbers opened)
 

@@ -23,7 +23,7 @@ use Rattle.tipc_pair.specs.Facing.{PairEnds, active, contact_between, facing, tu
 use Rattle.tipc_pair.specs.PairCalls.{load_in, load_of as link_load}
 use Rattle.tipc_sockets.specs.Telling.{is_for_one_there, is_payload}
 use Rattle.tipc_node.specs.declared.neighbours.Neighbour.{Neighbour}
-use Rattle.tipc_node.specs.Calls.{Goes, link_refusal, way_refusal}
+use Rattle.tipc_node.specs.Calls.{GoesItsWay, link_refusal, way_refusal}
 use Rattle.tipc_node.specs.Messages.{destination_of}
 use Rattle.tipc_node.specs.Nodes.{NodeState, neighbour_of, load_with, shown_contact}
 use Rattle.tipc_node.specs.Telling.{ArePacked, IsTold}
@@ -145,7 +145,7 @@ accepted_there journal m node peer numbers there is =
 
 pub goes_worked : (n : NodeState) (m : Message) (w : Work) (frames : List Outgoing) → IsTold n → is_payload m ≡ true
     → accepted_of (addr_of_word n.own) n.journal (Some m) ≡ (if comes_home (addr_of_word n.own) m then [] else accepted_for n.journal Zero m (destination_of m))
-    → (comes_home (addr_of_word n.own) m ≡ true → is_for_one_there n.sockets m ≡ true) → Goes n.own (begun n) m w frames
+    → (comes_home (addr_of_word n.own) m ≡ true → is_for_one_there n.sockets m ≡ true) → GoesItsWay n.own (begun n) m w frames
     → IsWorked n (due_of_sent (addr_of_word n.own) (Some m)) NothingDue (accepted_of (addr_of_word n.own) n.journal (Some m)) [] w
 goes_worked n m w frames h payload accepts there goes = by (comes_home (addr_of_word n.own) m) refl
   where

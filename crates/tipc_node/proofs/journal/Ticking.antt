@@ -147,9 +147,9 @@ pub ticks_from : (n : NodeState) (by : By) (xs : List (Option Neighbour)) (mid s
     → mid ≡ fold after_entry n.sockets (entries_all upkeep.Tick 0 n.neighbours)
     → s ≡ with_watchers mid (passed (fold (λ t number. ended_at number t) mid.watchers (due mid.watchers.kept)))
     → journal ≡ n.journal ++ step_entries (step_of by event.Tick (entries_all upkeep.Tick 0 n.neighbours ++ timeouts_of n.sockets) answer.Done)
-    → record { own = n.own; boot = n.boot; mended = n.mended; neighbours = xs; sockets = s; journal = journal } ≡ concluded n by event.Tick (tick_work n) answer.Done
+    → record n { neighbours = xs; sockets = s; journal = journal } ≡ concluded n by event.Tick (tick_work n) answer.Done
 ticks_from n by xs mid s journal neighbours between passes told =
-    (λ i. record { own = n.own; boot = n.boot; mended = n.mended; neighbours = neighbours i; sockets = sockets i; journal = told i })
+    (λ i. record n { neighbours = neighbours i; sockets = sockets i; journal = told i })
   where
     first : SocketTable
     first = fold after_entry n.sockets (entries_all upkeep.Tick 0 n.neighbours)
@@ -173,6 +173,6 @@ front_of told more all count is counted = (λ i. take (counted i) (is i)) ∙ ta
 pub takes_from : (n : NodeState) (by : By) (d : Upkeep) (mended : Bool × Bool) (xs : List (Option Neighbour)) (s : SocketTable) (journal : List Entry) → mended ≡ mended_by d n.mended → xs ≡ after_all d n.neighbours
     → s ≡ fold after_entry n.sockets (entries_all d 0 n.neighbours)
     → journal ≡ n.journal ++ step_entries (step_of by (upkeep_note d) (entries_all d 0 n.neighbours) answer.Done)
-    → record { own = n.own; boot = n.boot; mended = mended; neighbours = xs; sockets = s; journal = journal } ≡ concluded (with_mended n (mended_by d n.mended)) by (upkeep_note d) (upkeep_work d n) answer.Done
+    → record n { mended = mended; neighbours = xs; sockets = s; journal = journal } ≡ concluded (with_mended n (mended_by d n.mended)) by (upkeep_note d) (upkeep_work d n) answer.Done
 takes_from n by d mended xs s journal repaired neighbours sockets told =
-    (λ i. record { own = n.own; boot = n.boot; mended = repaired i; neighbours = neighbours i; sockets = sockets i; journal = told i })
+    (λ i. record n { mended = repaired i; neighbours = neighbours i; sockets = sockets i; journal = told i })

@@ -49,6 +49,7 @@ use Rattle.tipc_node.proofs.names.SharingEntries.{is_beside, is_plain_for, keeps
 use Rattle.tipc_node.proofs.names.SharingFlows.{accepted_then, delivered_of_peer, delivered_then}
 use Rattle.tipc_node.proofs.names.SharingHeard.{IsHeardAt, all_of_arrival, delivery_plain, heard_accepts, heard_at, heard_changes, heard_delivers, is_arrival_of, no_change, no_delivery, no_naming, none_learned, none_told}
 use Rattle.tipc_node.proofs.names.SharingSteps.{SharesAt, contact_there, other_than, shares_from, shown_by}
+use Rattle.tipc_node.proofs.pairs.Strangers.{pair_there}
 use Rattle.tipc_sockets.proofs.ToldNames.{told_bulk, told_users}
 use Rattle.tipc_node.proofs.journal.Telling.{contact_goes, contact_told}
 
@@ -124,7 +125,8 @@ greeted_stay n peer numbers greeting shares before none = record {
 greeted_anew : (n : NodeState) (peer : ℕ) (numbers : ℕ × ℕ) (greeting : List Message) (x : Neighbour) → IsTold n → SharesNames n → neighbour_of n peer ≡ Some x → in_contact x.pair ≡ false → numbers.0 ≡ x.pair.contact
     → (node_word peer == n.own) ≡ false → IsBulk n.sockets.live greeting → IsGreeted n peer numbers greeting n.sockets
 greeted_anew n peer numbers greeting x h shares was down number apart bulk =
-    let unused = subst (λ k. IsUnused n.journal peer k) (sym number) (shares.unused.next peer x was down) numbers.1 in
+    let same = pair_there n peer x was in
+    let unused = subst (IsUnused n.journal peer) (ap (λ (y : PairEnds). y.contact) same ∙ sym number) (shares.unused.next peer (ap in_contact same ∙ down)) numbers.1 in
     let alone : contact n.journal (addr_of peer) ≡ None = contact_there n peer x h was ∙ contact_gone x.pair down in
     record {
       told = subst (HasTold n.own (live n.journal)) (sym (ap (λ ms. ms ++ greeting) unused.0)) (told_bulk n.own (live n.journal) greeting shares.own_names (subst (λ ps. IsBulk ps greeting) (sockets_live n h) bulk));

@@ -170,7 +170,7 @@ dropped_heard peer numbers w w' place sound is = subst (λ v. HearsOf peer numbe
 })
 
 -- one delivery
-one_heard : (own peer : ℕ) (numbers : ℕ × ℕ) (o : Option Message) (by : List ℕ) (w w' : Work) (frames : List Outgoing) → IsTable w.sockets.names → DeliversTo own peer (noted w (delivered_by peer numbers o by ∷ [])) o w' frames
+one_heard : (own peer : ℕ) (numbers : ℕ × ℕ) (o : Option Message) (by : List ℕ) (w w' : Work) (frames : List Outgoing) → IsTable w.sockets.names → DeliversTo own peer (noted w (delivered_by Zero peer numbers o by ∷ [])) o w' frames
     → HearsOf peer numbers w w' (option_to_list o)
 one_heard own peer numbers None by w w' frames sound h = dropped_heard peer numbers w w' 0 sound h.0
 one_heard own peer numbers (Some (Items withdrawal items)) by w w' frames sound h =
@@ -197,7 +197,7 @@ abbrev AreHeard : (own peer : ℕ) → ℕ × ℕ → List Delivery → Type 0
 AreHeard own peer numbers [] = Unit {0}
 AreHeard own peer numbers (d ∷ ds) = IsHeard own peer numbers d × AreHeard own peer numbers ds
 
-are_heard : (own peer : ℕ) (numbers : ℕ × ℕ) (opened : List Opened) → AreHeard own peer numbers (deliveries_of peer numbers opened)
+are_heard : (own peer : ℕ) (numbers : ℕ × ℕ) (opened : List Opened) → AreHeard own peer numbers (deliveries_of Zero peer numbers opened)
 are_heard own peer numbers [] = tt
 are_heard own peer numbers (Passed place ∷ opened) = (λ w w' frames sound h. dropped_heard peer numbers w w' place sound h.0, are_heard own peer numbers opened)
 are_heard own peer numbers (Whole packet by ∷ opened) = (λ w w' frames sound h. one_heard own peer numbers (message_in packet) by w w' frames sound h, are_heard own peer numbers opened)
@@ -213,7 +213,7 @@ all_heard own peer numbers w _ w' _ sound heard (one_more _ v _ d ds fs fs' one 
     hears_then peer numbers w v w' (option_to_list d.message) (messages_in ds) first (all_heard own peer numbers v ds w' fs' first.table heard.1 all)
 
 -- the messages that a peer delivered
-pub delivers_hears : (own peer : ℕ) (numbers : ℕ × ℕ) (opened : List Opened) (w w' : Work) (frames : List Outgoing) → IsTable w.sockets.names → DeliversAll own peer w (deliveries_of peer numbers opened) w' frames
+pub delivers_hears : (own peer : ℕ) (numbers : ℕ × ℕ) (opened : List Opened) (w w' : Work) (frames : List Outgoing) → IsTable w.sockets.names → DeliversAll own peer w (deliveries_of Zero peer numbers opened) w' frames
     → (ms : List Message) × HearsOf peer numbers w w' ms
 delivers_hears own peer numbers opened w w' frames sound h =
-    let ds = deliveries_of peer numbers opened in (messages_in ds, all_heard own peer numbers w ds w' frames sound (are_heard own peer numbers opened) h)
+    let ds = deliveries_of Zero peer numbers opened in (messages_in ds, all_heard own peer numbers w ds w' frames sound (are_heard own peer numbers opened) h)

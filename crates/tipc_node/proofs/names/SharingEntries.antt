@@ -3,6 +3,7 @@ use Rattle.std.proofs.Common.{◌≡◌, ◌==◌, ◌&&◌, ◌||◌, ℕ, Bool
 use Rattle.std.specs.List.{cons_option, list_all}
 use Rattle.std.proofs.lemmas.Bool.{and_from, and_parts}
 use Rattle.std.proofs.lemmas.List.Elements.{filter-append}
+use Rattle.tipc_types.specs.declared.message_forms.Flow.TheVariants.{Zero}
 use Rattle.tipc_types.specs.Address.{node_word}
 use Rattle.tipc_types.specs.declared.message_forms.Message.{Message}
 use Rattle.tipc_types.specs.declared.services.Publication.{Publication}
@@ -13,7 +14,7 @@ use Rattle.tipc_journal.specs.Dues.{NothingDue}
 use Rattle.tipc_journal.specs.Matches.{arranged, names}
 use Rattle.tipc_journal.specs.Names.{AreAtHome, learned, learned_after, live, live_after}
 use Rattle.tipc_journal.specs.Steps.{NodeStep, step_entries}
-use Rattle.tipc_journal.specs.Streams.{accepted, accepted_message}
+use Rattle.tipc_journal.specs.Streams.{accepted, accepted_message, flow_eq}
 use Rattle.tipc_journal.proofs.MatchLaws.{filter_arranged, live_at_home}
 use Rattle.tipc_journal.proofs.NameLaws.{learned_append, live_append}
 use Rattle.tipc_journal.proofs.WholeSteps.{learned_step, live_step}
@@ -185,5 +186,5 @@ plain_accepted b numbers (entry.Accepted peer c flow m ∷ es) all =
         → list_all is_payload (cons_option (accepted_message (flow_with b numbers) (entry.Accepted peer c flow m)) (accepted es (flow_with b numbers))) ≡ true
     by true user is later = one_plain (accepted_message (flow_with b numbers) (entry.Accepted peer c flow m)) _ m user refl (accepted es (flow_with b numbers)) later
     by false user is later =
-        ap (λ o. list_all is_payload (cons_option o (accepted es (flow_with b numbers)))) (accepted_elsewhere b numbers (entry.Accepted peer c flow m) (not_so (peer.word == node_word b) is)) ∙ later
+        ap (λ o. list_all is_payload (cons_option o (accepted es (flow_with b numbers)))) (accepted_elsewhere b numbers (entry.Accepted peer c flow m) (ap (λ t. t && flow_eq flow Zero) (not_so (peer.word == node_word b) is))) ∙ later
 plain_accepted b numbers (other ∷ es) all = plain_accepted b numbers es (and_parts (is_plain_for b other) (list_all (is_plain_for b) es) all).1

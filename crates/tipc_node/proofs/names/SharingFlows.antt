@@ -32,19 +32,25 @@ filter_map_filtered {X} {Y} h p (x ∷ xs) none = case (filter_map_filtered h p 
     case rest true is = ap (λ ys. cons_option (h x) ys) rest
     case rest false is = rest ∙ ap (λ o. cons_option o (filter_map h xs)) (sym (none x is))
 
-other_peer : (word other : ℕ) (c d : ℕ × ℕ) (flow flow' : Flow) → (word == other) ≡ false
-    → stream_eq (record { peer = record { word = word }; contact = c; flow = flow }) (record { peer = record { word = other }; contact = d; flow = flow' }) ≡ false
+none_of : (a b c d : Bool) → (a && d) ≡ false → (a && (b && (c && d))) ≡ false
+none_of false b c d is = refl
+none_of true false c d is = refl
+none_of true true false d is = refl
+none_of true true true d is = is
+
+other_stream : (word other : ℕ) (c d : ℕ × ℕ) (flow : Flow) → ((word == other) && flow_eq flow Zero) ≡ false
+    → stream_eq (record { peer = record { word = word }; contact = c; flow = flow }) (record { peer = record { word = other }; contact = d; flow = Zero }) ≡ false
 unfolding stream_eq
-other_peer word other c d flow flow' apart = ap (λ t. t && ((c.0 == d.0) && ((c.1 == d.1) && flow_eq flow flow'))) apart
+other_stream word other c d flow apart = none_of (word == other) (c.0 == d.0) (c.1 == d.1) (flow_eq flow Zero) apart
 
 pub accepted_elsewhere : (b : ℕ) (numbers : ℕ × ℕ) (e : Entry) → is_accepted_for b e ≡ false → accepted_message (flow_with b numbers) e ≡ None
 accepted_elsewhere b numbers (entry.Accepted peer c flow message) apart =
-    ap (λ t. if t then Some message else None) (other_peer peer.word (node_word b) c numbers flow Zero apart)
+    ap (λ t. if t then Some message else None) (other_stream peer.word (node_word b) c numbers flow apart)
 accepted_elsewhere b numbers other apart = refl
 
 pub delivered_elsewhere : (b : ℕ) (numbers : ℕ × ℕ) (e : Entry) → is_delivered_from b e ≡ false → delivered_message (flow_with b numbers) e ≡ None
 delivered_elsewhere b numbers (entry.Delivered peer c flow message by) apart =
-    ap (λ t. if t then Some message else None) (other_peer peer.word (node_word b) c numbers flow Zero apart)
+    ap (λ t. if t then Some message else None) (other_stream peer.word (node_word b) c numbers flow apart)
 delivered_elsewhere b numbers other apart = refl
 
 accepted_here : (b : ℕ) (numbers : ℕ × ℕ) (entries : List Entry) → accepted (filter (is_accepted_for b) entries) (flow_with b numbers) ≡ accepted entries (flow_with b numbers)
@@ -90,41 +96,41 @@ pub puts_to_other : (b c : ℕ) (numbers shown : ℕ × ℕ) (ms : List Message)
 unfolding accepted accepted_in
 puts_to_other b c numbers shown [] apart = refl
 puts_to_other b c numbers shown (m ∷ ms) apart =
-    ap (λ o. cons_option o (accepted (map (accepted_in c shown) ms) (flow_with b numbers))) (accepted_elsewhere b numbers (entry.Accepted (addr_of c) shown Zero m) apart)
+    ap (λ o. cons_option o (accepted (map (accepted_in c shown) ms) (flow_with b numbers))) (accepted_elsewhere b numbers (entry.Accepted (addr_of c) shown Zero m) (ap (λ t. t && true) apart))
     ∙ puts_to_other b c numbers shown ms apart
 
 -- as a turn tells of them
-pub entries_in : (b : ℕ) (x : PairEnds) (ms : List Message) → map (accepted_entry b x) ms ≡ map (accepted_in b (shown_contact x)) ms
+pub entries_in : (b : ℕ) (x : PairEnds) (ms : List Message) → map (accepted_entry Zero b x) ms ≡ map (accepted_in b (shown_contact x)) ms
 unfolding accepted_in
 entries_in b x ms = refl
 
 -- ---- what a peer gave
 
-message_elsewhere : (b : ℕ) (numbers shown : ℕ × ℕ) (o : Option Message) (by : List ℕ) → (shown.0 ≡ numbers.0 → ⊥) → filter_map (delivered_message (flow_with b numbers)) (given_message b shown o by) ≡ []
+message_elsewhere : (b : ℕ) (numbers shown : ℕ × ℕ) (o : Option Message) (by : List ℕ) → (shown.0 ≡ numbers.0 → ⊥) → filter_map (delivered_message (flow_with b numbers)) (given_message Zero b shown o by) ≡ []
 message_elsewhere b numbers shown None by apart = refl
 message_elsewhere b numbers shown (Some m) by apart = ap (λ t. cons_option (if t then Some m else None) []) (apart_flows b b numbers shown apart)
 
-opened_elsewhere : (b : ℕ) (numbers shown : ℕ × ℕ) (o : Opened) → (shown.0 ≡ numbers.0 → ⊥) → filter_map (delivered_message (flow_with b numbers)) (delivered_of b shown o) ≡ []
+opened_elsewhere : (b : ℕ) (numbers shown : ℕ × ℕ) (o : Opened) → (shown.0 ≡ numbers.0 → ⊥) → filter_map (delivered_message (flow_with b numbers)) (delivered_of Zero b shown o) ≡ []
 opened_elsewhere b numbers shown (Whole packet by) apart = message_elsewhere b numbers shown (message_in packet) by apart
 opened_elsewhere b numbers shown (Passed place) apart = refl
 
-all_elsewhere : (b : ℕ) (numbers shown : ℕ × ℕ) (opened : List Opened) → (shown.0 ≡ numbers.0 → ⊥) → filter_map (delivered_message (flow_with b numbers)) (flat_map (delivered_of b shown) opened) ≡ []
+all_elsewhere : (b : ℕ) (numbers shown : ℕ × ℕ) (opened : List Opened) → (shown.0 ≡ numbers.0 → ⊥) → filter_map (delivered_message (flow_with b numbers)) (flat_map (delivered_of Zero b shown) opened) ≡ []
 all_elsewhere b numbers shown [] apart = refl
 all_elsewhere b numbers shown (o ∷ os) apart =
     let h = delivered_message (flow_with b numbers) in
-    filter_map-append h (delivered_of b shown o) (flat_map (delivered_of b shown) os)
-    ∙ ap (λ xs. xs ++ filter_map h (flat_map (delivered_of b shown) os)) (opened_elsewhere b numbers shown o apart)
+    filter_map-append h (delivered_of Zero b shown o) (flat_map (delivered_of Zero b shown) os)
+    ∙ ap (λ xs. xs ++ filter_map h (flat_map (delivered_of Zero b shown) os)) (opened_elsewhere b numbers shown o apart)
     ∙ all_elsewhere b numbers shown os apart
 
 -- in another contact
-pub given_elsewhere : (b : ℕ) (numbers : ℕ × ℕ) (x : PairEnds) (given : PairOutcome) → (x.contact ≡ numbers.0 → ⊥) → delivered (given_entries b x given) (flow_with b numbers) ≡ []
+pub given_elsewhere : (b : ℕ) (numbers : ℕ × ℕ) (x : PairEnds) (given : PairOutcome) → (x.contact ≡ numbers.0 → ⊥) → delivered (given_entries Zero b x given) (flow_with b numbers) ≡ []
 unfolding delivered
 given_elsewhere b numbers x given apart = all_elsewhere b numbers (shown_contact x) (opened_in given) apart
 
 -- nothing
-pub given_nothing : (b : ℕ) (numbers : ℕ × ℕ) (x : PairEnds) (given : PairOutcome) → opened_in given ≡ [] → delivered (given_entries b x given) (flow_with b numbers) ≡ []
+pub given_nothing : (b : ℕ) (numbers : ℕ × ℕ) (x : PairEnds) (given : PairOutcome) → opened_in given ≡ [] → delivered (given_entries Zero b x given) (flow_with b numbers) ≡ []
 unfolding delivered
-given_nothing b numbers x given none = ap (λ os. filter_map (delivered_message (flow_with b numbers)) (flat_map (delivered_of b (shown_contact x)) os)) none
+given_nothing b numbers x given none = ap (λ os. filter_map (delivered_message (flow_with b numbers)) (flat_map (delivered_of Zero b (shown_contact x)) os)) none
 
 -- ---- a step
 

@@ -1,8 +1,10 @@
 -- The entries of an arrival from a peer: of the change of the link, of the greeting where a contact began, and of what was delivered.
 use Rattle.std.proofs.Common.{◌≡◌, ◌≢◌, ◌==◌, ◌&&◌, ◌||◌, ℕ, Bool, true, false, not, List, [], ◌∷◌, ◌++◌, Some, None, filter, fold, map, refl, sym, ap, ◌∙◌, subst, append-nil, true≢false, eqb-true}
 use Rattle.std.specs.Prelude.{IfSome, option_map, slice_index_or}
+use Rattle.std.proofs.lemmas.Bool.{and_parts}
 use Rattle.std.specs.List.{list_all}
 use Rattle.std.proofs.lemmas.List.Elements.{filter-append}
+use Rattle.tipc_types.specs.declared.message_forms.Flow.TheVariants.{Zero}
 use Rattle.tipc_types.specs.Address.{node_word}
 use Rattle.tipc_types.specs.declared.message_forms.Message.{Message}
 use Rattle.tipc_types.specs.declared.node_calls.Arrival.{Arrival}
@@ -14,7 +16,7 @@ use Rattle.tipc_name_dist.specs.Applying.{held_after}
 use Rattle.tipc_name_dist.proofs.Applied.{same_number}
 use Rattle.tipc_journal.specs.declared.entries.Entry.{Entry}
 use Rattle.tipc_journal.specs.declared.entries.Entry.TheVariants as entry
-use Rattle.tipc_journal.specs.Streams.{accepted, delivered}
+use Rattle.tipc_journal.specs.Streams.{accepted, delivered, flow_eq}
 use Rattle.tipc_journal.proofs.StreamLaws.{accepted_append, accepted_nil, delivered_append, delivered_nil}
 use Rattle.tipc_reassembly.specs.declared.opening.Opened.{Opened}
 use Rattle.tipc_pair.specs.declared.changes.PairOutcome.{PairOutcome}
@@ -70,7 +72,7 @@ no_change b peer apart (entry.ContactDown c numbers states shown) is = apart_fro
 no_change b peer apart other is = refl
 
 pub no_delivery : (b peer : ℕ) → peer ≢ b → (e : Entry) → is_arrival_of peer e ≡ true → is_delivered_from b e ≡ false
-no_delivery b peer apart (entry.Delivered c numbers flow message by) is = apart_from b peer c.word apart (or_left _ is)
+no_delivery b peer apart (entry.Delivered c numbers flow message by) is = ap (λ t. t && flow_eq flow Zero) (apart_from b peer c.word apart (or_left _ is))
 no_delivery b peer apart other is = refl
 
 pub no_naming : (peer : ℕ) (e : Entry) → is_arrival_of peer e ≡ true → keeps_live e ≡ true
@@ -87,9 +89,9 @@ none_learned b peer apart other is = refl
 pub none_told : (b peer : ℕ) → peer ≢ b → (e : Entry) → is_arrival_of peer e ≡ true → is_plain_for b e ≡ true
 none_told b peer apart (entry.Accepted c numbers flow m) is = by (is_payload m) is
   where
-    by : (t : Bool) → t || ((c.word == node_word peer) || false) ≡ true → t || not (c.word == node_word b) ≡ true
+    by : (t : Bool) → t || (((c.word == node_word peer) && flow_eq flow Zero) || false) ≡ true → t || not (c.word == node_word b) ≡ true
     by true k = refl
-    by false k = ap not (apart_from b peer c.word apart (or_left _ k))
+    by false k = ap not (apart_from b peer c.word apart (and_parts (c.word == node_word peer) (flow_eq flow Zero) (or_left _ k)).0)
 none_told b peer apart other is = refl
 
 -- ---- what the packet did
@@ -122,20 +124,20 @@ changed_table s peer (ContactDown numbers states shown ∷ cs) sound = changed_t
 
 -- what was given is of a contact that lasts, under the numbers of before
 given_then : (peer : ℕ) (x y : PairEnds) (given : PairOutcome) → ((g : Opened) (gs : List Opened) → opened_in given ≡ g ∷ gs → (in_contact y ≡ true) × (y.contact ≡ x.contact) × (y.seen ≡ x.seen))
-    → deliveries_of peer (shown_contact x) (opened_in given) ≡ deliveries_of peer (shown_contact y) (opened_in given)
+    → deliveries_of Zero peer (shown_contact x) (opened_in given) ≡ deliveries_of Zero peer (shown_contact y) (opened_in given)
 given_then peer x y given lasts = by (opened_in given) refl
   where
-    by : (opened : List Opened) → opened_in given ≡ opened → deliveries_of peer (shown_contact x) opened ≡ deliveries_of peer (shown_contact y) opened
+    by : (opened : List Opened) → opened_in given ≡ opened → deliveries_of Zero peer (shown_contact x) opened ≡ deliveries_of Zero peer (shown_contact y) opened
     by [] is = refl
     by (g ∷ gs) is =
         let l = lasts g gs is in
-        ap (λ k. deliveries_of peer (k, x.seen) (g ∷ gs)) (sym l.1) ∙ ap (λ k. deliveries_of peer (y.contact, k) (g ∷ gs)) (sym l.2)
+        ap (λ k. deliveries_of Zero peer (k, x.seen) (g ∷ gs)) (sym l.1) ∙ ap (λ k. deliveries_of Zero peer (y.contact, k) (g ∷ gs)) (sym l.2)
 
 pub heard_at : (n n' : NodeState) (by : By) (bearer number : ℕ) (bytes : List ℕ) (frames : List Outgoing) (answered : Arrival) → IsTold n → (h : Hears n n' by bearer number bytes frames answered) → IsHeardAt n n' h.work.inside h.peer
 heard_at n n' by bearer number bytes frames answered told h =
     let x = h.neighbour.pair in
     let abreast = subst (λ o. IfSome o AreAbreast) (ap (option_map (λ (z : Neighbour). z.pair)) h.was) (told.links h.peer).abreast in
-    let so = happened_so x (hears bearer h.first h.second h.packet number (no_broadcast h.neighbour.in_step)) h.out (on_bearers x abreast) refl h.hears in
+    let so = happened_so x (hears bearer h.first h.second h.packet number (no_broadcast h.neighbour.in_step)) h.out (on_bearers x abreast) tt h.hears in
     let start = heard_work n h.peer h.neighbour h.packet h.out in
     let y = heard_neighbour h.neighbour h.packet h.out in
     let c = shown_contact h.out.course.pair in
@@ -202,7 +204,7 @@ or_right false b is = is
 
 greeting_of_arrival : (peer : ℕ) (numbers : ℕ × ℕ) (m : Message) → is_arrival_of peer (accepted_in peer numbers m) ≡ true
 unfolding accepted_in
-greeting_of_arrival peer numbers m = or_right (is_payload m) _ (ap (λ t. t || false) (same_number (node_word peer)))
+greeting_of_arrival peer numbers m = or_right (is_payload m) _ (ap (λ t. (t && true) || false) (same_number (node_word peer)))
 
 delivery_of_arrival : (peer : ℕ) (e : Entry) → is_delivery_of peer e ≡ true → is_arrival_of peer e ≡ true
 delivery_of_arrival peer e is = ap (λ t. t || (is_accepted_for peer e || is_change_of peer e)) is

@@ -1,5 +1,5 @@
 -- A node shares its names with its peers after a call that changes them: each peer in contact was told of the change.
-use Rattle.std.proofs.Common.{◌≡◌, ◌≤◌, ◌<◌, ◌==◌, ◌&&◌, ℕ, zero, suc, Bool, true, false, cond, not, List, [], ◌∷◌, ◌++◌, Option, Some, None, filter, find, fold, length, map, if◌then◌else◌, refl, sym, ap, ◌∙◌, subst, true≢false, arith}
+use Rattle.std.proofs.Common.{◌≡◌, ◌≤◌, ◌<◌, ◌==◌, ◌&&◌, ℕ, zero, suc, Bool, true, false, cond, not, List, [], ◌∷◌, ◌++◌, Option, Some, None, filter, find, fold, length, map, if◌then◌else◌, is_some, refl, sym, ap, ◌∙◌, subst, true≢false, arith}
 use Rattle.std.specs.Prelude.{count_by, nat_le, nat_lt, option_map, option_to_list, slice_index_or, unwrap_or}
 use Rattle.std.specs.List.{list_all, list_any}
 use Rattle.std.proofs.lemmas.Bool.{and_from, and_parts}
@@ -136,7 +136,11 @@ tells_shares n n' by note reason w told inside frames answered h h' shares t own
     refused why is = record_shares n n' by note inside [] why frames answered h h' shares t own is refl
 
     within : (b : ℕ) (x : Neighbour) → neighbour_of n b ≡ Some x → b ≤ 32
-    within b x there = let at = t.turns b x there in let inner = is_within n'.neighbours b at.after at.after_is in omega (arith, inner, wide)
+    within b x there = case (neighbour_of n' b) refl (t.lasts b (ap is_some there))
+      where
+        case : (o : Option Neighbour) → neighbour_of n' b ≡ o → is_some (neighbour_of n' b) ≡ true → b ≤ 32
+        case None none some = absurd (let wrong : false ≡ true = sym (ap is_some none) ∙ some in cc)
+        case (Some y) is some = let inner = is_within n'.neighbours b y is in omega (arith, inner, wide)
 
     told_all : reason ≡ None → crowd_refusal n.neighbours told ≡ None → SharesNames n'
     told_all none free =

@@ -1,6 +1,6 @@
 -- A node shares its names with its peers after a step, where it does with each peer that is in contact then.
 use Rattle.std.proofs.Common.{◌≡◌, ◌==◌, ℕ, Bool, true, false, List, [], Option, Some, None, filter, refl, sym, ap, ◌∙◌, subst, true≢false, eqb-true}
-use Rattle.std.specs.Prelude.{IfSome, if◌then◌else◌, option_and_then, option_map}
+use Rattle.std.specs.Prelude.{if◌then◌else◌, option_and_then, option_map}
 use Rattle.tipc_types.specs.Address.{node_word}
 use Rattle.tipc_types.specs.declared.node_calls.EventNote.{EventNote}
 use Rattle.tipc_types.specs.declared.node_calls.EventNote.TheVariants as event
@@ -18,11 +18,10 @@ use Rattle.tipc_pair.specs.PairTurns.{Happened, Opening, Outset, Suits}
 use Rattle.tipc_pair.specs.PairTurns.Opening.{cuts, hears, makes, mends, rests, ticks}
 use Rattle.tipc_node.specs.declared.neighbours.Neighbour.{Neighbour}
 use Rattle.tipc_pair.specs.Contacts.{is_of_contact}
-use Rattle.tipc_node.specs.Nodes.{NodeState, neighbour_of, shown_contact}
+use Rattle.tipc_node.specs.Nodes.{NodeState, neighbour_of, pair_with, shown_contact}
 use Rattle.tipc_node.specs.Sharing.{SharesNames, flow_with}
 use Rattle.tipc_name_dist.specs.Told.{HasTold}
 use Rattle.tipc_node.specs.Telling.{IsTold}
-use Rattle.tipc_pair.specs.LinkReadings.{AreAbreast}
 use Rattle.tipc_node.specs.Turns.{NodeTurn, PeerTurn, addr_of}
 use Rattle.tipc_node.specs.Works.{addr_of_word}
 use Rattle.tipc_pair.proofs.turns.Moves.{same_contact}
@@ -30,7 +29,8 @@ use Rattle.tipc_pair.proofs.turns.PairEvents.{is_arrival}
 use Rattle.tipc_pair.proofs.turns.PairTells.{IsFall, Means, Story, began, contact_changes, ended, stays}
 use Rattle.tipc_node.proofs.names.SharingEntries.{is_end_of, none_ends}
 use Rattle.tipc_node.proofs.names.SharingFlows.{delivered_of_peer, given_nothing}
-use Rattle.tipc_node.proofs.names.SharingUnused.{peer_means, turn_unused, was_there}
+use Rattle.tipc_node.proofs.names.SharingUnused.{peer_means, turn_unused}
+use Rattle.tipc_node.proofs.pairs.Strangers.{kept_tells, pair_there}
 
 -- ---- a contact
 
@@ -99,7 +99,7 @@ IsOwnCall other = Unit {0}
 -- then nothing is given at any pair
 calm : (note : EventNote) (x : PairEnds) (opening : Opening) (o : Outset) → IsOwnCall note → Suits note opening → Happened x opening o → (is_arrival opening ≡ false) × (opened_in o.given ≡ [])
 calm note x rests o own suits is = (refl, ap (λ (p : Outset). opened_in p.given) is)
-calm note x (makes bearer is_mended) o own suits is = absurd suits
+calm note x (makes bearer is_mended) o own suits is = absurd (subst IsOwnCall suits.1.1 own)
 calm note x (mends bearer) o own suits is = (refl, ap (λ (p : Outset). opened_in p.given) is)
 calm note x (cuts bearer) o own suits is = (refl, ap (λ (p : Outset). opened_in p.given) is)
 calm note x (ticks shown) o own suits is = (refl, ap (λ (p : Outset). opened_in p.given) is)
@@ -111,20 +111,21 @@ pub record IsSteady (n : NodeState) (s : NodeStep) (b : ℕ) (numbers : ℕ × �
   pub no_end : filter (is_end_of b) s.inside ≡ []
   pub none_delivered : delivered s.inside (flow_with b numbers) ≡ []
 
-steady_at : (n : NodeState) (bytes : List ℕ) (s : NodeStep) (frames : List Outgoing) (b : ℕ) (numbers : ℕ × ℕ) (x y : Neighbour) → IsTold n → neighbour_of n b ≡ Some x → PeerTurn n.own bytes s frames b x.pair y.pair → IsOwnCall s.event
-    → in_contact y.pair ≡ true → contact_between y.pair ≡ Some numbers → IsSteady n s b numbers
-steady_at n bytes s frames b numbers x y h there p own up met =
+steady_at : (n : NodeState) (bytes : List ℕ) (s : NodeStep) (frames : List Outgoing) (b : ℕ) (numbers : ℕ × ℕ) (y : PairEnds) → IsTold n → PeerTurn n.own bytes s frames b (pair_with n b) y → IsOwnCall s.event
+    → in_contact y ≡ true → contact_between y ≡ Some numbers → IsSteady n s b numbers
+steady_at n bytes s frames b numbers y h p own up met =
     let first = p.turn.first in
-    let abreast = subst (λ o. IfSome o AreAbreast) (ap (option_map (λ (z : Neighbour). z.pair)) there) (h.links b).abreast in
-    let m = peer_means n.own bytes s frames b x.pair y.pair abreast p in
-    let quiet = calm s.event x.pair p.opening first own p.suits p.turn.happened in
+    let x = pair_with n b in
+    let was = kept_tells n b h in
+    let m = peer_means n.own bytes s frames b x y was.abreast p in
+    let quiet = calm s.event x p.opening first own p.suits p.turn.happened in
     by m.story m.story_is m.means (m.falls quiet.0) quiet.1
   where
-    by : (story : Story) → filter is_of_contact p.turn.first.course.changes ≡ contact_changes story → Means x.pair y.pair story → IsFall story → opened_in p.turn.first.given ≡ [] → IsSteady n s b numbers
+    by : (story : Story) → filter is_of_contact p.turn.first.course.changes ≡ contact_changes story → Means (pair_with n b) y story → IsFall story → opened_in p.turn.first.given ≡ [] → IsSteady n s b numbers
     by stays is means fall nothing = record {
-      before = contact_there n b x h there ∙ sym (same_contact x.pair y.pair means.0 means.1 (means.2 (sym means.0 ∙ up))) ∙ met;
+      before = (kept_tells n b h).contact_is ∙ sym (same_contact (pair_with n b) y means.0 means.1 (means.2 (sym means.0 ∙ up))) ∙ met;
       no_end = none_ends b s.inside p.turn.first.course.changes p.changes is;
-      none_delivered = delivered_of_peer b numbers s.inside _ [] p.delivered (given_nothing b numbers x.pair p.turn.first.given nothing);
+      none_delivered = delivered_of_peer b numbers s.inside _ [] p.delivered (given_nothing b numbers (pair_with n b) p.turn.first.given nothing);
     }
     by (began fresh) is means fall nothing = absurd fall
     by (ended gone states shown) is means fall nothing = absurd (true≢false (sym up ∙ means.2))
@@ -133,5 +134,4 @@ pub call_steady : (n n' : NodeState) (bytes : List ℕ) (s : NodeStep) (frames :
     → IsSteady n s b numbers
 call_steady n n' bytes s frames b numbers h h' t own is =
     let now = linked_by n' b numbers h' is in
-    let was = was_there n n' bytes s frames b now.neighbour t now.there in
-    steady_at n bytes s frames b numbers was.0 now.neighbour h was.1 was.2 own now.up (sym (contact_there n' b now.neighbour h' now.there) ∙ is)
+    steady_at n bytes s frames b numbers (pair_with n' b) h (t.turns b) own (ap in_contact (pair_there n' b now.neighbour now.there) ∙ now.up) (sym (kept_tells n' b h').contact_is ∙ is)

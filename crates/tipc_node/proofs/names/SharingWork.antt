@@ -13,7 +13,7 @@ use Rattle.tipc_journal.specs.Dues.{comes_home}
 use Rattle.tipc_sockets.specs.declared.fates.Fate.{Fate}
 use Rattle.tipc_sockets.specs.declared.fates.Fate.TheVariants.{Dropped, Queued, ReturnDropped, Returned}
 use Rattle.tipc_sockets.specs.Telling.{fate_entry, is_payload}
-use Rattle.tipc_node.specs.Calls.{Goes}
+use Rattle.tipc_node.specs.Calls.{GoesItsWay}
 use Rattle.tipc_node.specs.Works.{Follows, GoesBack, Puts, GivesFate, Work, addr_of_word, fate_of, fated}
 use Rattle.tipc_node.proofs.journal.Fating.{returned_is, fate_names}
 
@@ -73,7 +73,7 @@ pub settles_adds : (test : Entry → Bool) (own : ℕ) (w : Work) (arrived : Boo
 settles_adds test own w arrived m w' frames free h =
     follows_adds test own w m (fate_of w arrived m) w' frames free (λ back is. (let r = returned_is (addr_of_word own) w.sockets arrived _ m back is in r.payload)) h
 
-pub goes_adds : (test : Entry → Bool) (own : ℕ) (w : Work) (m : Message) (w' : Work) (frames : List Outgoing) → IsOpen test → is_payload m ≡ true → Goes own w m w' frames → AddsOf test w w'
+pub goes_adds : (test : Entry → Bool) (own : ℕ) (w : Work) (m : Message) (w' : Work) (frames : List Outgoing) → IsOpen test → is_payload m ≡ true → GoesItsWay own w m w' frames → AddsOf test w w'
 goes_adds test own w m w' frames free user h = by (comes_home (addr_of_word own) m) refl
   where
     by : (home : Bool) → comes_home (addr_of_word own) m ≡ home → AddsOf test w w'

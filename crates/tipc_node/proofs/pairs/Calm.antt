@@ -17,7 +17,7 @@ use Rattle.tipc_pair.specs.Courses.{Course, going_on}
 use Rattle.tipc_pair.specs.Facing.{PairEnds, ends_of, facing, is_up_at, states_of, turned}
 use Rattle.tipc_pair.specs.PairCalls.{at_bearer, cut_at, cut_near, stepped, tick_at, tick_near, ticked}
 use Rattle.tipc_pair.specs.Messages.{opened_in}
-use Rattle.tipc_pair.specs.PairTurns.{Happened, Opening, Outset, quietly}
+use Rattle.tipc_pair.specs.PairTurns.{Happened, MakesNew, Opening, Outset, quietly}
 use Rattle.tipc_pair.specs.PairTurns.Opening.{cuts, hears, makes, mends, rests, ticks}
 use Rattle.tipc_pair.proofs.EndSteps.{cut_quiet}
 use Rattle.tipc_node.specs.declared.neighbours.Upkeep.{Upkeep}
@@ -26,7 +26,6 @@ use Rattle.tipc_node.specs.declared.neighbours.Neighbour.{Neighbour}
 use Rattle.tipc_node.specs.Neighbours.{course_of, no_broadcast}
 use Rattle.tipc_pair.specs.Contacts.{begins, is_beginning}
 use Rattle.tipc_pair.proofs.acts.Walks.{tested}
-use Rattle.tipc_pair.proofs.turns.TurnMoves.{MakesNone}
 
 -- a course by which no contact begins
 abbrev pub IsCalm : Course → Type 0
@@ -124,7 +123,7 @@ opening_of (upkeep.Cut bearer) x = cuts bearer
 opening_of upkeep.Tick x = ticks (no_broadcast x.in_step)
 
 -- it happens first at the pair to a neighbour
-pub upkeep_happens : (d : Upkeep) (x : Neighbour) → Happened x.pair (opening_of d x) (quietly (course_of d x)) × IsOwn (opening_of d x) × MakesNone (opening_of d x)
+pub upkeep_happens : (d : Upkeep) (x : Neighbour) → Happened x.pair (opening_of d x) (quietly (course_of d x)) × IsOwn (opening_of d x) × MakesNew x.pair (opening_of d x)
 upkeep_happens (upkeep.Mend bearer) x = (refl, tt, tt)
 upkeep_happens (upkeep.Cut bearer) x = (refl, tt, tt)
 upkeep_happens upkeep.Tick x = (refl, tt, tt)

@@ -19,12 +19,13 @@ use Rattle.tipc_pair.specs.PairTurns.{made_near, quietly}
 use Rattle.tipc_pair.specs.PairTurns.Opening.{makes}
 use Rattle.tipc_pair.specs.PairCalls.{at_bearer}
 use Rattle.tipc_node.specs.declared.neighbours.Neighbour.{Neighbour}
-use Rattle.tipc_node.specs.Nodes.{NodeState, acquaintance, is_mended_on, known_neighbour, known_node, neighbour_of}
+use Rattle.tipc_node.specs.Nodes.{NodeState, acquaintance, is_mended_on, known_neighbour, known_node, neighbour_of, pair_with}
 use Rattle.tipc_node.specs.Telling.{ArePacked, IsTold}
 use Rattle.tipc_pair.specs.LinkReadings.{AreAbreast, IsPacked, IsPackedEnd, IsPackedPair}
 use Rattle.tipc_node.specs.Turns.{NodeTurn}
 use Rattle.tipc_pair.proofs.turns.PairKept.{Both, Closed, both_facing, happened_kept, turn_kept}
 use Rattle.tipc_node.proofs.Places.{set_cases}
+use Rattle.tipc_node.proofs.pairs.Strangers.{kept_abreast, kept_by, pair_there}
 
 -- ---- a session
 
@@ -155,18 +156,14 @@ first_bearer n b x is_told there =
     abreast.first
 
 pub turn_packed : (n n' : NodeState) (bytes : List ℕ) (s : NodeStep) (frames : List Outgoing) → IsTold n → ArePacked n → NodeTurn n n' bytes s frames → ArePacked n'
-turn_packed n n' bytes s frames is_told packed t b x' there = by (neighbour_of n b) refl
-  where
-    by : (o : Option Neighbour) → neighbour_of n b ≡ o → IsPackedPair x'.pair
-    by None is = absurd (let none = t.alone b is in let wrong : None ≡ Some x' = sym none ∙ there in cc)
-    by (Some x) is =
-        let at = t.turns b x is in
-        let same : at.after ≡ x' = (let e : Some at.after ≡ Some x' = sym at.after_is ∙ there in cc) in
-        let first = first_bearer n b x is_told is in
-        let two : x.pair.bearer ≤ 1 = omega (arith, first) in
-        let before = packed b x is in
-        let after = turn_kept Packed Any packed_closed x.pair at.after.pair at.turn.opening _ at.turn.reply at.turn.own_frames (made_packed x.pair two before) (both_packed x.pair two before) at.turn.turn in
-        subst (λ (y : Neighbour). IsPackedPair y.pair) same (pair_packed at.after.pair after.0)
+turn_packed n n' bytes s frames is_told packed t b x' there =
+    let at = t.turns b in
+    let x = pair_with n b in
+    let first : x.bearer ≡ 0 = (kept_abreast n b is_told).first in
+    let two : x.bearer ≤ 1 = omega (arith, first) in
+    let before : IsPackedPair x = kept_by IsPackedPair n b (λ none. record { near = tt; far = tt }) (packed b) in
+    let after = turn_kept Packed Any packed_closed x (pair_with n' b) at.opening _ at.reply at.own_frames (made_packed x two before) (both_packed x two before) at.turn in
+    subst IsPackedPair (pair_there n' b x' there) (pair_packed (pair_with n' b) after.0)
 
 -- a link end that is made has no session
 pub known_packed : (n : NodeState) (peer bearer : ℕ) → IsTold n → ArePacked n → ArePacked (known_node n peer bearer)

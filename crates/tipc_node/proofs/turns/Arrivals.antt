@@ -1,10 +1,11 @@
 -- Each arrival is a turn of the node.
-use Rattle.std.proofs.Common.{◌≡◌, ◌≢◌, ℕ, Bool, true, List, [], ◌++◌, Option, Some, None, drop, filter, is_some, inl, inr, refl, sym, ap, ◌∙◌, subst, append-nil, append_assoc, arith}
+use Rattle.std.proofs.Common.{◌≡◌, ◌≢◌, ℕ, Bool, true, List, [], ◌++◌, Option, Some, None, drop, filter, is_some, inl, inr, refl, sym, ap, ◌∙◌, subst, append-nil, append_assoc, arith, false}
 use Rattle.std.specs.Prelude.{slice_index_or, slice_set}
 use Rattle.std.specs.List.{All}
 use Rattle.std.proofs.lemmas.Bool.{cases_eq}
 use Rattle.std.proofs.lemmas.List.{drop_at, get_or-set_other}
 use Rattle.std.proofs.lemmas.List.Elements.{All-append, filter-append}
+use Rattle.tipc_types.specs.declared.message_forms.Flow.TheVariants.{Zero}
 use Rattle.tipc_types.specs.Address.{node_word}
 use Rattle.tipc_types.specs.declared.link_words.Why.{Why}
 use Rattle.tipc_types.specs.declared.node_calls.Answer.TheVariants as answer
@@ -29,7 +30,7 @@ use Rattle.tipc_node.specs.declared.neighbours.Neighbour.{Neighbour}
 use Rattle.tipc_node.specs.Arrivals.{Arrives, Hears, heard_work}
 use Rattle.tipc_node.specs.Neighbours.{answered_neighbour, answering, heard_neighbour, no_broadcast}
 use Rattle.tipc_node.specs.Nodes.{NodeState, arrival_answer, arrival_deliveries, change_entries, entries_in, neighbour_of, shown_contact, step_of, stop_of, stopped_node}
-use Rattle.tipc_node.specs.Turns.{AreNamed, IsFrom, IsPlaced, IsRouted, IsTakenIn, NeighbourTurn, NodeTurn, PeerTurn, frames_to, is_accepted_for, is_change_of, is_delivered_from, is_out_to}
+use Rattle.tipc_node.specs.Turns.{AreNamed, IsFrom, IsPlaced, IsRouted, IsTakenIn, NodeTurn, PeerTurn, frames_to, is_accepted_for, is_change_of, is_delivered_from, is_out_to}
 use Rattle.tipc_pair.specs.PairTurns.{IsTakenBy}
 use Rattle.tipc_pair.specs.Addressed.{Names}
 use Rattle.tipc_node.specs.Works.{Work, begun}
@@ -37,11 +38,12 @@ use Rattle.tipc_pair.proofs.turns.Addressing.{AreFor}
 use Rattle.tipc_node.proofs.turns.Entries.{changes_accept, changes_deliver, changes_inside, changes_other, changes_own, changes_placed, given_in, given_other, given_own, inside_both, routed_to}
 use Rattle.tipc_node.proofs.turns.MessageRuns.{delivers_all_run, idle_run}
 use Rattle.tipc_node.proofs.turns.Named.{IsNamed, first_named, replied_named}
+use Rattle.tipc_node.proofs.pairs.Strangers.{named_there}
 use Rattle.tipc_node.proofs.Places.{set_none, set_there}
 use Rattle.tipc_node.proofs.journal.PeersTold.{puts_each_run}
 use Rattle.tipc_node.proofs.turns.Runs.{IsRun, RunAt, Runs, accepted_now, both_parts, run_then, stand_set}
 use Rattle.tipc_node.proofs.turns.Shares.{frames_to-other, frames_to-own}
-use Rattle.tipc_node.proofs.turns.Turning.{IsTurn, named_stand, rests_turn, run_turn, shows_none, turn_as}
+use Rattle.tipc_node.proofs.turns.Turning.{IsTurn, NeighbourTurn, named_stand, node_turn, rests_turn, run_turn, shows_none, turn_as}
 
 -- ---- what a frame brings
 
@@ -103,28 +105,28 @@ heard_from n n' by bearer number bytes frames answered h = record { es_fits = h.
 -- the run of work behind it, in which such entries were noted
 abbrev RunsBehind : (n n' : NodeState) (by : By) (bearer number : ℕ) (bytes : List ℕ) (frames : List Outgoing) (answered : Arrival) → Hears n n' by bearer number bytes frames answered → List Entry → Type 0
 RunsBehind n n' by bearer number bytes frames answered h told =
-    Runs n (heard_work n h.peer h.neighbour h.packet h.out) told (entries_in (arrival_deliveries h.peer h.neighbour.pair h.out.given)) (between n n' by bearer number bytes frames answered h) h.work
+    Runs n (heard_work n h.peer h.neighbour h.packet h.out) told (entries_in (arrival_deliveries Zero h.peer h.neighbour.pair h.out.given)) (between n n' by bearer number bytes frames answered h) h.work
 
 heard_names : (n n' : NodeState) (by : By) (bearer number : ℕ) (bytes : List ℕ) (frames : List Outgoing) (answered : Arrival) → AreNamed n → (h : Hears n n' by bearer number bytes frames answered)
     → IsNamed (node_word h.peer) h.out.course.pair (sent_in h.out.course)
 heard_names n n' by bearer number bytes frames answered named h =
-    first_named (node_word h.peer) h.neighbour.pair (hears bearer h.first h.second h.packet number (no_broadcast h.neighbour.in_step)) h.out (named h.peer h.neighbour h.was) h.hears
+    first_named (node_word h.peer) h.neighbour.pair (hears bearer h.first h.second h.packet number (no_broadcast h.neighbour.in_step)) h.out (named_there n h.peer h.neighbour named h.was) h.hears
 
 -- the STATE that is due is for the sender
 answer_names : (n n' : NodeState) (by : By) (bearer number : ℕ) (bytes : List ℕ) (frames : List Outgoing) (answered : Arrival) (h : Hears n n' by bearer number bytes frames answered) → Names (node_word h.peer) h.then.pair
     → AreFor (node_word h.peer) (answering bearer h.then).states
 answer_names n n' by bearer number bytes frames answered h named =
-    (replied_named (node_word h.peer) (Some (record { bearer = bearer; shown = no_broadcast h.then.in_step })) h.then.pair named).frames_are
+    (replied_named (node_word h.peer) (Some (record { bearer = bearer; taken = 0; asks = false; shown = no_broadcast h.then.in_step })) h.then.pair named).frames_are
 
 heard_run : (n n' : NodeState) (by : By) (bearer number : ℕ) (bytes : List ℕ) (frames : List Outgoing) (answered : Arrival) → AreNamed n → (h : Hears n n' by bearer number bytes frames answered)
-    → IsRun n (heard_work n h.peer h.neighbour h.packet h.out) (entries_in (arrival_deliveries h.peer h.neighbour.pair h.out.given)) (between n n' by bearer number bytes frames answered h) h.work
+    → IsRun n (heard_work n h.peer h.neighbour h.packet h.out) (entries_in (arrival_deliveries Zero h.peer h.neighbour.pair h.out.given)) (between n n' by bearer number bytes frames answered h) h.work
 heard_run n n' by bearer number bytes frames answered named h =
     let there : is_some (neighbour_of n h.peer) ≡ true = ap is_some h.was in
     let y = heard_neighbour h.neighbour h.packet h.out in
     let heard = heard_work n h.peer h.neighbour h.packet h.out in
     let stand = stand_set n n.neighbours h.peer y (named_stand n named) (heard_names n n' by bearer number bytes frames answered named h).pair_is there in
     let greets = puts_each_run n h.peer heard h.greeting h.greeted h.greeting_frames stand h.greeting_put in
-    run_then n heard h.greeted h.work [] (entries_in (arrival_deliveries h.peer h.neighbour.pair h.out.given)) h.greeting_frames h.returned greets
+    run_then n heard h.greeted h.work [] (entries_in (arrival_deliveries Zero h.peer h.neighbour.pair h.out.given)) h.greeting_frames h.returned greets
     (delivers_all_run n h.greeted h.work h.peer (shown_contact h.neighbour.pair) (opened_in h.out.given) h.returned there greets.runs.stand h.delivers)
 
 -- ---- the turn at the sender
@@ -138,11 +140,12 @@ sender_turn n n' by bearer number bytes frames answered h told inside run tells 
   opening = hears bearer h.first h.second h.packet number (no_broadcast h.neighbour.in_step);
   suits = refl;
   on_one = h.due.on_one;
-  brought = heard_from n n' by bearer number bytes frames answered h;
+  anew = tt;
+  brought = (heard_from n n' by bearer number bytes frames answered h, h.due.kind);
   shows = shows_none h.neighbour.in_step;
   messages = run.messages;
   sendable = run.sendable;
-  reply = Some (record { bearer = bearer; shown = no_broadcast h.then.in_step });
+  reply = Some (record { bearer = bearer; taken = 0; asks = false; shown = no_broadcast h.then.in_step });
   shows_last = shows_none h.then.in_step;
   own_frames = h.out.course.states ++ (h.out.course.numbered ++ (frames_to h.peer (between n n' by bearer number bytes frames answered h) ++ (answering bearer h.then).states));
   turn = record {
@@ -160,8 +163,8 @@ sender_turn n n' by bearer number bytes frames answered h told inside run tells 
       ∙ append-nil (filter (is_change_of h.peer) (change_entries h.peer h.out.course.changes)) ∙ changes_own h.peer h.out.course.changes;
   accepted = tells.accepted ∙ accepted_now n.own h.peer told (between n n' by bearer number bytes frames answered h) (heard_neighbour h.neighbour h.packet h.out) h.then run;
   delivered = tells.delivered ∙ delivered ∙ given_own h.peer (shown_contact h.neighbour.pair) (opened_in h.out.given);
-  taken = λ a es er p is taken from.
-      given_taken bearer h.first h.second h.packet number h.neighbour.in_step h.out.given (arrival_deliveries h.peer h.neighbour.pair h.out.given)
+  taken = λ a es er p is taken from link.
+      given_taken bearer h.first h.second h.packet number h.neighbour.in_step h.out.given (arrival_deliveries Zero h.peer h.neighbour.pair h.out.given)
       (subst IsTakenIn (let same : a ≡ answered = cc in same ∙ h.answer_is) taken);
 }
 
@@ -204,7 +207,7 @@ hears_turns n n' by bearer number bytes frames answered named h told r b x there
               changes = tells.changes ∙ ap (λ zs. zs ++ filter (is_change_of b) told) (changes_other b h.peer h.out.course.changes apart);
               accepted = tells.accepted;
               delivered = tells.delivered ∙ r.delivered b ∙ given_other b h.peer (shown_contact h.neighbour.pair) (opened_in h.out.given) apart;
-              taken = λ a es er q is taken from. apart (one_sender b h.peer es er h.first h.second bytes q h.packet from (heard_from n n' by bearer number bytes frames answered h));
+              taken = λ a es er q is taken from link. apart (one_sender b h.peer es er h.first h.second bytes q h.packet from (heard_from n n' by bearer number bytes frames answered h));
             }) at.run;
           }
     ]
@@ -220,7 +223,7 @@ hears_turn n n' by bearer number bytes frames answered named h told r =
     let last = answer_names n n' by bearer number bytes frames answered h (r.stand.named h.peer h.then h.then_is) in
     let y = heard_neighbour h.neighbour h.packet h.out in
     let answer_frames = (answering bearer h.then).states in
-    record {
+    node_turn n n' bytes (step_of by (event.Arrive bearer number) h.work.inside (answer.Arrived answered)) frames (record {
       own = ap (λ (k : NodeState). k.own) h.after;
       boot = ap (λ (k : NodeState). k.boot) h.after;
       journal = ap (λ (k : NodeState). k.journal) h.after;
@@ -229,11 +232,14 @@ hears_turn n n' by bearer number bytes frames answered named h told r =
       alone = λ b none.
           ap (λ (k : NodeState). neighbour_of k b) h.after
           ∙ set_none h.work.neighbours h.peer b h.then (answered_neighbour bearer h.then) h.then_is (r.alone b (set_none n.neighbours h.peer b h.neighbour y h.was none));
+      untaken = λ b none a es er q is taken from link.
+          let same = one_sender b h.peer es er h.first h.second bytes q h.packet from (heard_from n n' by bearer number bytes frames answered h) in
+          let wrong : Some h.neighbour ≡ None = sym h.was ∙ subst (λ k. neighbour_of n k ≡ None) (sym same) none in cc;
       routed = subst (All (IsRouted n)) (sym (frames_between n n' by bearer number bytes frames answered h))
           (All-append (IsRouted n) (sent_in h.out.course) ((between n n' by bearer number bytes frames answered h) ++ answer_frames) (routed_to n h.peer (sent_in h.out.course) there first)
           (All-append (IsRouted n) (between n n' by bearer number bytes frames answered h) answer_frames r.routed (routed_to n h.peer answer_frames there last)));
       placed = subst (All (IsPlaced n)) (sym r.inside_is) (All-append (IsPlaced n) (change_entries h.peer h.out.course.changes) told (changes_placed n h.peer h.out.course.changes there) r.placed);
-    }
+    })
 
 pub arrives_turn : (n n' : NodeState) (by : By) (bearer number : ℕ) (bytes : List ℕ) (frames : List Outgoing) (answered : Arrival) → AreNamed n → Arrives n n' by bearer number bytes frames answered
     → (inside : List Entry) × NodeTurn n n' bytes (step_of by (event.Arrive bearer number) inside (answer.Arrived answered)) frames

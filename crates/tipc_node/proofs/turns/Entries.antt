@@ -5,6 +5,7 @@ use Rattle.std.specs.List.{flat_map, list_all}
 use Rattle.std.proofs.lemmas.Bool.Decides.{nat_tests}
 use Rattle.std.proofs.lemmas.List.Elements.{All-append, All-cons, All-nil, filter-append}
 use Rattle.std.proofs.lemmas.List.Folds.{list_all-append}
+use Rattle.tipc_types.specs.declared.message_forms.Flow.TheVariants.{Zero}
 use Rattle.tipc_types.specs.Address.{node_word}
 use Rattle.tipc_outside.specs.declared.outgoing.Outgoing.{Outgoing}
 use Rattle.tipc_journal.specs.declared.entries.Entry.{Entry}
@@ -102,21 +103,21 @@ changes_placed n peer (t ∷ cs) there = All-cons (IsPlaced n) (change_entry pee
 -- ---- the entries of what was given
 
 abbrev pub given_in : ℕ → ℕ × ℕ → List Opened → List Entry
-given_in peer contact opened = entries_in (deliveries_of peer contact opened)
+given_in peer contact opened = entries_in (deliveries_of Zero peer contact opened)
 
-pub given_own : (b : ℕ) (contact : ℕ × ℕ) (opened : List Opened) → filter (is_delivered_from b) (given_in b contact opened) ≡ flat_map (delivered_of b contact) opened
+pub given_own : (b : ℕ) (contact : ℕ × ℕ) (opened : List Opened) → filter (is_delivered_from b) (given_in b contact opened) ≡ flat_map (delivered_of Zero b contact) opened
 given_own b contact [] = refl
 given_own b contact (Passed place ∷ opened) = given_own b contact opened
 given_own b contact (Whole packet by ∷ opened) =
-    elim (message_in packet) as (λ m. filter (is_delivered_from b) (delivered_by b contact m by ∷ given_in b contact opened) ≡ delivered_entries b contact m by ++ flat_map (delivered_of b contact) opened) [
+    elim (message_in packet) as (λ m. filter (is_delivered_from b) (delivered_by Zero b contact m by ∷ given_in b contact opened) ≡ delivered_entries Zero b contact m by ++ flat_map (delivered_of Zero b contact) opened) [
       | None ↦ given_own b contact opened
-      | Some m ↦ rw (own_word b) (ap (λ es. delivered_by b contact (Some m) by ∷ es) (given_own b contact opened))
+      | Some m ↦ rw (own_word b) (ap (λ es. delivered_by Zero b contact (Some m) by ∷ es) (given_own b contact opened))
     ]
 
 pub given_other : (b peer : ℕ) (contact : ℕ × ℕ) (opened : List Opened) → peer ≢ b → filter (is_delivered_from b) (given_in peer contact opened) ≡ []
 given_other b peer contact [] apart = refl
 given_other b peer contact (Passed place ∷ opened) apart = given_other b peer contact opened apart
-given_other b peer contact (Whole packet by ∷ opened) apart = elim (message_in packet) as (λ m. filter (is_delivered_from b) (delivered_by peer contact m by ∷ given_in peer contact opened) ≡ []) [
+given_other b peer contact (Whole packet by ∷ opened) apart = elim (message_in packet) as (λ m. filter (is_delivered_from b) (delivered_by Zero peer contact m by ∷ given_in peer contact opened) ≡ []) [
   | None ↦ given_other b peer contact opened apart
   | Some m ↦ rw (other_word b peer apart) (given_other b peer contact opened apart)
 ]
@@ -216,7 +217,7 @@ all_placed n d = placed_from n d 0 n.neighbours (all_of n)
 
 pub routed_to : (n : NodeState) (b : ℕ) (frames : List Outgoing) → is_some (neighbour_of n b) ≡ true → AreFor (node_word b) frames → All (IsRouted n) frames
 routed_to n b [] there all = All-nil (IsRouted n)
-routed_to n b (o ∷ os) there all = All-cons (IsRouted n) o os (record { peer = b; there = there; to_is = all.0 }) (routed_to n b os there all.1)
+routed_to n b (o ∷ os) there all = All-cons (IsRouted n) o os (record { peer = b; there = there; to_is = all.0.0; link = all.0.1 }) (routed_to n b os there all.1)
 
 -- each neighbour's frames are for it: those of one part of what it sends
 abbrev AreEach : (Neighbour → List Outgoing) → ℕ → List (Option Neighbour) → Type 0

@@ -5,6 +5,7 @@ use Rattle.std.specs.List.{All}
 use Rattle.std.proofs.lemmas.Bool.{cases_eq}
 use Rattle.std.proofs.lemmas.List.{get_or-set_other}
 use Rattle.std.proofs.lemmas.List.Elements.{All-append, All-cons, All-nil}
+use Rattle.tipc_types.specs.declared.message_forms.Flow.TheVariants.{Zero}
 use Rattle.tipc_types.specs.Address.{node_word}
 use Rattle.tipc_types.specs.declared.message_forms.Item.{Item}
 use Rattle.tipc_types.specs.declared.message_forms.Message.{Message}
@@ -26,7 +27,7 @@ use Rattle.tipc_sockets.specs.declared.fates.Fate.TheVariants.{Dropped, Queued, 
 use Rattle.tipc_sockets.specs.Telling.{fate_entry}
 use Rattle.tipc_node.specs.declared.arriving.Delivery.{Delivery}
 use Rattle.tipc_node.specs.declared.neighbours.Neighbour.{Neighbour}
-use Rattle.tipc_node.specs.Calls.{Goes}
+use Rattle.tipc_node.specs.Calls.{GoesItsWay}
 use Rattle.tipc_node.specs.Messages.{IsSendable, bytes_of, message_in}
 use Rattle.tipc_node.specs.Nodes.{NodeState, accepted_entry, deliveries_of, delivered_by, entries_in, neighbour_of}
 use Rattle.tipc_node.specs.Turns.{IsOfNeighbour, IsPlaced, addr_of, is_accepted_for, is_change_of, is_delivered_from}
@@ -80,7 +81,7 @@ idle_run n w w' stand same inside = quiet_run n w w' [] [] stand same (inside �
 
 -- where it is put
 own_put : (own peer : ℕ) (x y : Neighbour) (m : Message) (frames : List Outgoing) → PutsOne x.pair (pieces_for (bytes_of own m)) y.pair frames → IsSendable own m → AreFor (node_word peer) frames
-    → RunAt own peer (accepted_entry peer x.pair m ∷ []) frames x y
+    → RunAt own peer (accepted_entry Zero peer x.pair m ∷ []) frames x y
 own_put own peer x y m frames put sendable all = record {
   messages = m ∷ [];
   sendable = All-cons (IsSendable own) m [] sendable (All-nil (IsSendable own));
@@ -90,16 +91,16 @@ own_put own peer x y m frames put sendable all = record {
 }
 
 -- and where another message isn't
-other_put : (own b peer : ℕ) (x y : Neighbour) (m : Message) (frames : List Outgoing) → peer ≢ b → AreFor (node_word peer) frames → RunAt own b (accepted_entry peer x.pair m ∷ []) frames y y
+other_put : (own b peer : ℕ) (x y : Neighbour) (m : Message) (frames : List Outgoing) → peer ≢ b → AreFor (node_word peer) frames → RunAt own b (accepted_entry Zero peer x.pair m ∷ []) frames y y
 other_put own b peer x y m frames apart all =
-    still_at own b (accepted_entry peer x.pair m ∷ []) frames y (frames_to-other b peer frames apart all) refl (rw (other_word b peer apart) refl)
+    still_at own b (accepted_entry Zero peer x.pair m ∷ []) frames y (frames_to-other b peer frames apart all) refl (rw (other_word b peer apart) refl)
 
 -- the run of it, in what is known of the neighbour
 put_runs : (n : NodeState) (w w' : Work) (peer : ℕ) (x z : Neighbour) (m : Message) (frames : List Outgoing) → StandFor n w.neighbours → slice_index_or w.neighbours peer None ≡ Some x
-    → PutsOne x.pair (pieces_for (bytes_of n.own m)) z.pair frames → IsSendable n.own m → w'.neighbours ≡ slice_set w.neighbours peer (Some z) → w'.inside ≡ w.inside ++ accepted_entry peer x.pair m ∷ []
-    → Runs n w (accepted_entry peer x.pair m ∷ []) [] frames w'
+    → PutsOne x.pair (pieces_for (bytes_of n.own m)) z.pair frames → IsSendable n.own m → w'.neighbours ≡ slice_set w.neighbours peer (Some z) → w'.inside ≡ w.inside ++ accepted_entry Zero peer x.pair m ∷ []
+    → Runs n w (accepted_entry Zero peer x.pair m ∷ []) [] frames w'
 put_runs n w w' peer x z m frames stand was put sendable after inside =
-    let es = accepted_entry peer x.pair m ∷ [] in
+    let es = accepted_entry Zero peer x.pair m ∷ [] in
     let there = stand.within peer x was in
     let named = put_named (node_word peer) x.pair (pieces_for (bytes_of n.own m)) z.pair frames (stand.named peer x was) put in
     let of : IsOfNeighbour n (addr_of peer) = (peer, there, refl) in record {
@@ -121,14 +122,14 @@ put_runs n w w' peer x z m frames stand was put sendable after inside =
       alone = λ b none. ap (λ xs. slice_index_or xs b None) after ∙ set_none w.neighbours peer b x z was none;
       delivered = λ b. refl;
       inside = refl;
-      placed = All-cons (IsPlaced n) (accepted_entry peer x.pair m) [] of (All-nil (IsPlaced n));
+      placed = All-cons (IsPlaced n) (accepted_entry Zero peer x.pair m) [] (of, refl) (All-nil (IsPlaced n));
       routed = routed_to n peer frames there named.frames_are;
       stand = subst (StandFor n) (sym after) (stand_set n w.neighbours peer z stand named.pair_is there);
     }
 
 pub put_run : (n : NodeState) (w w' : Work) (peer : ℕ) (m : Message) (frames : List Outgoing) → StandFor n w.neighbours → Puts n.own w peer m w' frames → IsRun n w [] frames w'
 put_run n w w' peer m frames stand h = record {
-  noted = accepted_entry peer h.neighbour.pair m ∷ [];
+  noted = accepted_entry Zero peer h.neighbour.pair m ∷ [];
   runs = put_runs n w w' peer h.neighbour h.then m frames stand h.was h.puts.puts h.sendable (ap (λ (v : Work). v.neighbours) h.after) (ap (λ (v : Work). v.inside) h.after);
 }
 
@@ -167,7 +168,7 @@ follows_run n w w' m Dropped frames stand h = run_as n w (fated w m Dropped) w' 
 settles_run : (n : NodeState) (w w' : Work) (arrived : Bool) (m : Message) (frames : List Outgoing) → StandFor n w.neighbours → GivesFate n.own w arrived m w' frames → IsRun n w [] frames w'
 settles_run n w w' arrived m frames stand h = follows_run n w w' m (fate_of w arrived m) frames stand h
 
-pub goes_run : (n : NodeState) (w w' : Work) (m : Message) (frames : List Outgoing) → StandFor n w.neighbours → Goes n.own w m w' frames → IsRun n w [] frames w'
+pub goes_run : (n : NodeState) (w w' : Work) (m : Message) (frames : List Outgoing) → StandFor n w.neighbours → GoesItsWay n.own w m w' frames → IsRun n w [] frames w'
 goes_run n w w' m frames stand h = by (comes_home (addr_of_word n.own) m) refl
   where
     by : (home : Bool) → comes_home (addr_of_word n.own) m ≡ home → IsRun n w [] frames w'
@@ -215,13 +216,13 @@ AllQuiet n (d ∷ ds) = AreQuiet n (d.entry ∷ []) (d.entry ∷ []) × AllQuiet
 not_given : (n : NodeState) (e : Entry) → AreQuiet n (e ∷ []) [] → AreQuiet n (e ∷ []) (e ∷ [])
 not_given n e quiet = record { changes = quiet.changes; accepted = quiet.accepted; delivered = λ b. refl; inside = quiet.inside; placed = quiet.placed }
 
-one_given : (n : NodeState) (peer : ℕ) (contact : ℕ × ℕ) (o : Option Message) (by : List ℕ) → is_some (neighbour_of n peer) ≡ true → AreQuiet n (delivered_by peer contact o by ∷ []) (delivered_by peer contact o by ∷ [])
+one_given : (n : NodeState) (peer : ℕ) (contact : ℕ × ℕ) (o : Option Message) (by : List ℕ) → is_some (neighbour_of n peer) ≡ true → AreQuiet n (delivered_by Zero peer contact o by ∷ []) (delivered_by Zero peer contact o by ∷ [])
 one_given n peer contact None by there = not_given n (entry.Dropped 0) (quiet_one n (entry.Dropped 0) (λ b. refl) (λ b. refl) (λ b. refl) refl tt)
 one_given n peer contact (Some m) by there =
     let of : IsOfNeighbour n (addr_of peer) = (peer, there, refl) in
-    record { changes = λ b. refl; accepted = λ b. refl; delivered = λ b. refl; inside = refl; placed = All-cons (IsPlaced n) (delivered_by peer contact (Some m) by) [] of (All-nil (IsPlaced n)) }
+    record { changes = λ b. refl; accepted = λ b. refl; delivered = λ b. refl; inside = refl; placed = All-cons (IsPlaced n) (delivered_by Zero peer contact (Some m) by) [] (of, refl) (All-nil (IsPlaced n)) }
 
-all_given : (n : NodeState) (peer : ℕ) (contact : ℕ × ℕ) (opened : List Opened) → is_some (neighbour_of n peer) ≡ true → AllQuiet n (deliveries_of peer contact opened)
+all_given : (n : NodeState) (peer : ℕ) (contact : ℕ × ℕ) (opened : List Opened) → is_some (neighbour_of n peer) ≡ true → AllQuiet n (deliveries_of Zero peer contact opened)
 all_given n peer contact [] there = tt
 all_given n peer contact (Passed place ∷ opened) there = (not_given n (entry.Dropped place) (quiet_one n (entry.Dropped place) (λ b. refl) (λ b. refl) (λ b. refl) refl tt), all_given n peer contact opened there)
 all_given n peer contact (Whole packet by ∷ opened) there = (one_given n peer contact (message_in packet) by there, all_given n peer contact opened there)
@@ -247,5 +248,5 @@ quiet_all_run n peer w w' _ _ stand quiet (one_more _ v _ d ds fs fs' one all) =
     run_then n w v w' (d.entry ∷ []) (entries_in ds) fs fs' first (quiet_all_run n peer v w' ds fs' first.runs.stand quiet.1 all)
 
 pub delivers_all_run : (n : NodeState) (w w' : Work) (peer : ℕ) (contact : ℕ × ℕ) (opened : List Opened) (frames : List Outgoing) → is_some (neighbour_of n peer) ≡ true → StandFor n w.neighbours
-    → DeliversAll n.own peer w (deliveries_of peer contact opened) w' frames → IsRun n w (entries_in (deliveries_of peer contact opened)) frames w'
-delivers_all_run n w w' peer contact opened frames there stand h = quiet_all_run n peer w w' (deliveries_of peer contact opened) frames stand (all_given n peer contact opened there) h
+    → DeliversAll n.own peer w (deliveries_of Zero peer contact opened) w' frames → IsRun n w (entries_in (deliveries_of Zero peer contact opened)) frames w'
+delivers_all_run n w w' peer contact opened frames there stand h = quiet_all_run n peer w w' (deliveries_of Zero peer contact opened) frames stand (all_given n peer contact opened there) h

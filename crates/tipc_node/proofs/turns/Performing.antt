@@ -40,8 +40,9 @@ use Rattle.tipc_node.proofs.turns.Named.{first_frames}
 use Rattle.tipc_node.proofs.journal.PeersTold.{tells_each_run}
 use Rattle.tipc_node.proofs.turns.Plain.{IsPlain, IsPlainIn, crowd_plain, next_untaken, number_plain, plain_reason, port_plain, publication_plain, received_untaken, sender_plain, socket_plain, subscription_plain, way_plain, withdrawal_plain}
 use Rattle.tipc_node.proofs.turns.Runs.{IsRun, run_then}
+use Rattle.tipc_node.proofs.pairs.Strangers.{named_there}
 use Rattle.tipc_node.proofs.turns.Shares.{after_at, shares}
-use Rattle.tipc_node.proofs.turns.Turning.{IsTurn, IsUntaken, named_stand, opens_turn, run_turn, shows_none, turn_as}
+use Rattle.tipc_node.proofs.turns.Turning.{IsTurn, IsUntaken, named_stand, node_turn, opens_turn, run_turn, shows_none, turn_as}
 
 -- a call was a turn
 abbrev IsCall : NodeState → NodeState → By → EventNote → List Outgoing → Answer → Type 0
@@ -166,6 +167,7 @@ opened_turn : (own : ℕ) (d : Upkeep) (s : NodeStep) (frames : List Outgoing) (
 opened_turn own d s frames b x h suits on_one brought shows = opens_turn own [] s frames b x.pair (opening_of d x) (quietly (course_of d x)) (record {
   suits = suits;
   on_one = on_one;
+  anew = (upkeep_happens d x).2;
   brought = brought;
   shows = shows;
   happened = (upkeep_happens d x).0;
@@ -173,7 +175,7 @@ opened_turn own d s frames b x h suits on_one brought shows = opens_turn own [] 
   changes = h.changes;
   accepted = h.accepted;
   delivered = h.delivered;
-  taken = λ answered es er p is taken from. absurd (let wrong : answer.Done ≡ answer.Arrived answered = sym h.answer_is ∙ is in cc);
+  taken = λ answered es er p is taken from link. absurd (let wrong : answer.Done ≡ answer.Arrived answered = sym h.answer_is ∙ is in cc);
 })
 
 done_turn : (own : ℕ) (d : Upkeep) (s : NodeStep) (frames : List Outgoing) (b : ℕ) (x : Neighbour) → IsOnBearer d → IsDone d s frames b x → PeerTurn own [] s frames b x.pair (done d x).after.pair
@@ -185,7 +187,7 @@ abbrev upkeep_node : NodeState → By → Upkeep → NodeState
 upkeep_node n by d = concluded (with_mended n (mended_by d n.mended)) by (upkeep_note d) (upkeep_work d n) answer.Done
 
 upkeep_turn : (n : NodeState) (by : By) (d : Upkeep) → AreNamed n → IsOnBearer d → NodeTurn n (upkeep_node n by d) [] (step_of by (upkeep_note d) (entries_all d 0 n.neighbours) answer.Done) (frames_all d n.neighbours)
-upkeep_turn n by d named one = record {
+upkeep_turn n by d named one = node_turn n (upkeep_node n by d) [] (step_of by (upkeep_note d) (entries_all d 0 n.neighbours) answer.Done) (frames_all d n.neighbours) (record {
   own = refl;
   boot = refl;
   journal = refl;
@@ -203,12 +205,13 @@ upkeep_turn n by d named one = record {
     });
   };
   alone = λ b none. after_at d n.neighbours b ∙ ap (after_one d) none;
+  untaken = λ b none a es er p is taken from link. (let wrong : answer.Done ≡ answer.Arrived a = is in cc);
   routed = all_routed n d each;
   placed = all_placed n d;
-}
+})
   where
     each : (b : ℕ) (x : Neighbour) → slice_index_or n.neighbours b None ≡ Some x → AreFor (node_word b) (done d x).states × AreFor (node_word b) (done d x).numbered
-    each b x there = done_for d b x (named b x there)
+    each b x there = done_for d b x (named_there n b x named there)
 
 takes_part_turn : (n n' : NodeState) (by : By) (d : Upkeep) (call : EventNote) (frames : List Outgoing) (answered : Answer) → AreNamed n → IsOnBearer d → call ≡ upkeep_note d → TakesPart n by d n' frames answered → IsCall n n' by call frames answered
 takes_part_turn n n' by d call frames answered named one is h =
@@ -237,7 +240,7 @@ tick_node n by = concluded n by event.Tick (tick_work n) answer.Done
 
 tick_turn : (n : NodeState) (by : By) → AreNamed n
     → NodeTurn n (tick_node n by) [] (step_of by event.Tick (entries_all upkeep.Tick 0 n.neighbours ++ timeouts_of n.sockets) answer.Done) (frames_all upkeep.Tick n.neighbours)
-tick_turn n by named = record {
+tick_turn n by named = node_turn n (tick_node n by) [] (step_of by event.Tick (es ++ ts) answer.Done) (frames_all upkeep.Tick n.neighbours) (record {
   own = refl;
   boot = refl;
   journal = refl;
@@ -255,9 +258,10 @@ tick_turn n by named = record {
     });
   };
   alone = λ b none. after_at upkeep.Tick n.neighbours b ∙ ap (after_one upkeep.Tick) none;
+  untaken = λ b none a es er p is taken from link. (let wrong : answer.Done ≡ answer.Arrived a = is in cc);
   routed = all_routed n upkeep.Tick each;
   placed = All-append (IsPlaced n) es ts (all_placed n upkeep.Tick) quiet.placed;
-}
+})
   where
     es : List Entry
     es = entries_all upkeep.Tick 0 n.neighbours
@@ -269,7 +273,7 @@ tick_turn n by named = record {
     quiet = timed_quiet n (due n.sockets.watchers.kept)
 
     each : (b : ℕ) (x : Neighbour) → slice_index_or n.neighbours b None ≡ Some x → AreFor (node_word b) (done upkeep.Tick x).states × AreFor (node_word b) (done upkeep.Tick x).numbered
-    each b x there = done_for upkeep.Tick b x (named b x there)
+    each b x there = done_for upkeep.Tick b x (named_there n b x named there)
 
 -- ---- every call
 

@@ -53,7 +53,7 @@ pub record RunAt (own b : ℕ) (es : List Entry) (frames : List Outgoing) (x x' 
   pub sendable : All (IsSendable own) messages
   pub puts : PutsAll x.pair (map (bytes_of own) messages) (frames_to b frames) x'.pair
   pub changes : filter (is_change_of b) es ≡ []
-  pub accepted : filter (is_accepted_for b) es ≡ map (accepted_entry b x.pair) messages
+  pub accepted : filter (is_accepted_for b) es ≡ map (accepted_entry Zero b x.pair) messages
 
 -- what of both parts passes a test
 pub both_parts : (test : Entry → Bool) (xs ys front back : List Entry) → filter test xs ≡ front → filter test ys ≡ back → filter test (xs ++ ys) ≡ front ++ back
@@ -77,13 +77,13 @@ then_at own b es es' fs fs' x y z h k =
           (subst (λ gs. PutsAll x.pair packets gs z.pair) (sym (filter-append (is_out_to b) fs fs')) all);
       changes = both_parts (is_change_of b) es es' [] [] h.changes k.changes;
       accepted =
-          both_parts (is_accepted_for b) es es' (map (accepted_entry b x.pair) h.messages) (map (accepted_entry b x.pair) k.messages) h.accepted
+          both_parts (is_accepted_for b) es es' (map (accepted_entry Zero b x.pair) h.messages) (map (accepted_entry Zero b x.pair) k.messages) h.accepted
           (k.accepted ∙ ap (λ contact. map (accepted_in b contact) k.messages) same)
-          ∙ sym (map-append (accepted_entry b x.pair) h.messages k.messages);
+          ∙ sym (map-append (accepted_entry Zero b x.pair) h.messages k.messages);
     }
 
 -- they are accepted in the contact that there is behind them
-pub accepted_now : (own b : ℕ) (es : List Entry) (frames : List Outgoing) (x x' : Neighbour) (h : RunAt own b es frames x x') → filter (is_accepted_for b) es ≡ map (accepted_entry b x'.pair) h.messages
+pub accepted_now : (own b : ℕ) (es : List Entry) (frames : List Outgoing) (x x' : Neighbour) (h : RunAt own b es frames x x') → filter (is_accepted_for b) es ≡ map (accepted_entry Zero b x'.pair) h.messages
 accepted_now own b es frames x x' h =
     h.accepted ∙ ap (λ contact. map (accepted_in b contact) h.messages) (sym (puts_stay x.pair (map (bytes_of own) h.messages) (frames_to b frames) x'.pair h.puts))
 

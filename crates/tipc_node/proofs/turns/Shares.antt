@@ -1,5 +1,5 @@
 -- Of the frames of a upkeep those to one node are those of that neighbour.
-use Rattle.std.proofs.Common.{◌≡◌, ◌≢◌, ℕ, zero, suc, ◌+◌, ◌<◌, true, false, List, [], ◌∷◌, ◌++◌, Option, Some, None, map, slice_index_or, refl, ap, ◌∙◌, subst, append-nil, arith}
+use Rattle.std.proofs.Common.{◌≡◌, ◌≢◌, ◌&&◌, ℕ, zero, suc, ◌+◌, ◌<◌, true, false, List, [], ◌∷◌, ◌++◌, Option, Some, None, map, slice_index_or, refl, ap, ◌∙◌, subst, append-nil, arith}
 use Rattle.std.specs.List.{flat_map}
 use Rattle.std.proofs.lemmas.Bool.Decides.{nat_tests}
 use Rattle.std.proofs.lemmas.List.Elements.{filter-append}
@@ -7,29 +7,36 @@ use Rattle.tipc_types.specs.Address.{node_word}
 use Rattle.tipc_types.specs.declared.identity.To.{To}
 use Rattle.tipc_types.specs.declared.identity.To.TheVariants as to
 use Rattle.tipc_outside.specs.declared.outgoing.Outgoing.{Outgoing}
+use Rattle.tipc_header.specs.Frames.{is_of_link}
 use Rattle.tipc_node.specs.declared.neighbours.Upkeep.{Upkeep}
 use Rattle.tipc_node.specs.declared.neighbours.Neighbour.{Neighbour}
 use Rattle.tipc_node.specs.Neighbours.{done}
 use Rattle.tipc_node.specs.Nodes.{after_all, after_one, frames_all, numbered_all, numbered_one, states_all, states_one}
 use Rattle.tipc_node.specs.Turns.{frames_to, is_out_to, is_to}
-use Rattle.tipc_pair.proofs.turns.Addressing.{AreFor}
+use Rattle.tipc_pair.proofs.turns.Addressing.{AreFor, IsFor}
 use Rattle.tipc_node.proofs.turns.Entries.{numbered_are, part_of, states_are}
 
 -- ---- frames that are all for one node
 
-for_it : (b : ℕ) (t : To) → t ≡ to.Node (record { word = node_word b }) → is_to b t ≡ true
-for_it b t is = ap (is_to b) is ∙ grind (arith, nat_tests)
+to_it : (b : ℕ) (t : To) → t ≡ to.Node (record { word = node_word b }) → is_to b t ≡ true
+to_it b t is = ap (is_to b) is ∙ grind (arith, nat_tests)
 
-for_another : (b c : ℕ) (t : To) → c ≢ b → t ≡ to.Node (record { word = node_word c }) → is_to b t ≡ false
-for_another b c t apart is = ap (is_to b) is ∙ grind (arith, nat_tests, apart)
+to_another : (b c : ℕ) (t : To) → c ≢ b → t ≡ to.Node (record { word = node_word c }) → is_to b t ≡ false
+to_another b c t apart is = ap (is_to b) is ∙ grind (arith, nat_tests, apart)
+
+for_it : (b : ℕ) (o : Outgoing) → IsFor (node_word b) o → is_out_to b o ≡ true
+for_it b o is = ap (λ t. t && is_of_link o.frame) (to_it b o.to is.0) ∙ is.1
+
+for_another : (b c : ℕ) (o : Outgoing) → c ≢ b → IsFor (node_word c) o → is_out_to b o ≡ false
+for_another b c o apart is = ap (λ t. t && is_of_link o.frame) (to_another b c o.to apart is.0)
 
 pub frames_to-own : (b : ℕ) (frames : List Outgoing) → AreFor (node_word b) frames → frames_to b frames ≡ frames
 frames_to-own b [] all = refl
-frames_to-own b (o ∷ os) all = rw (for_it b o.to all.0) (ap (λ zs. o ∷ zs) (frames_to-own b os all.1))
+frames_to-own b (o ∷ os) all = rw (for_it b o all.0) (ap (λ zs. o ∷ zs) (frames_to-own b os all.1))
 
 pub frames_to-other : (b c : ℕ) (frames : List Outgoing) → c ≢ b → AreFor (node_word c) frames → frames_to b frames ≡ []
 frames_to-other b c [] apart all = refl
-frames_to-other b c (o ∷ os) apart all = rw (for_another b c o.to apart all.0) (frames_to-other b c os apart all.1)
+frames_to-other b c (o ∷ os) apart all = rw (for_another b c o apart all.0) (frames_to-other b c os apart all.1)
 
 -- ---- the frames of all neighbours
 

@@ -1,29 +1,39 @@
 -- How a turn of a node is put together from what happened first at each pair and from a run of work.
-use Rattle.std.proofs.Common.{◌≡◌, ℕ, Bool, List, [], ◌++◌, None, filter, is_some, refl, sym, ap, ◌∙◌, subst, append-nil, arith}
+use Rattle.std.proofs.Common.{◌≡◌, ◌==◌, ◌&&◌, ℕ, Bool, true, false, List, [], ◌++◌, Option, Some, None, filter, is_some, inl, refl, sym, ap, ◌∙◌, subst, append-nil, arith}
 use Rattle.std.specs.List.{All}
 use Rattle.std.proofs.lemmas.List.Elements.{All-nil}
+use Rattle.tipc_types.specs.Address.{node_word}
+use Rattle.tipc_types.specs.declared.identity.Addr.{Addr}
+use Rattle.tipc_types.specs.declared.message_forms.Flow.TheVariants.{Zero}
 use Rattle.tipc_types.specs.declared.node_calls.Answer.{Answer}
 use Rattle.tipc_types.specs.declared.node_calls.Answer.TheVariants as answer
 use Rattle.tipc_types.specs.declared.node_calls.Arrival.{Arrival}
 use Rattle.tipc_types.specs.declared.node_calls.By.{By}
 use Rattle.tipc_types.specs.declared.node_calls.EventNote.{EventNote}
 use Rattle.tipc_outside.specs.declared.outgoing.Outgoing.{Outgoing}
+use Rattle.tipc_header.specs.declared.frames.FrameKind.TheVariants.{Links}
+use Rattle.tipc_header.specs.Frames.{is_of_link, kind_in}
+use Rattle.tipc_journal.specs.Streams.{flow_eq}
 use Rattle.tipc_header.specs.Spelling.{Fields}
 use Rattle.tipc_journal.specs.declared.entries.Entry.{Entry}
-use Rattle.tipc_journal.specs.Steps.{IsInside, NodeStep}
+use Rattle.tipc_journal.specs.declared.entries.Entry.TheVariants as entry
+use Rattle.tipc_journal.specs.Steps.{IsInside, NodeStep, step_entries}
 use Rattle.tipc_pair.specs.Courses.{rests as nothing}
-use Rattle.tipc_pair.specs.Facing.{PairEnds}
-use Rattle.tipc_pair.specs.PairTurns.{Happened, Opening, Outset, ShowsIn, quietly, IsOnOne, IsTakenBy, Suits}
+use Rattle.tipc_pair.specs.Facing.{PairEnds, alone}
+use Rattle.tipc_pair.specs.PairTurns.{Happened, MakesNew, Opening, Outset, ShowsIn, quietly, IsOnOne, IsTakenBy, Suits}
 use Rattle.tipc_link.specs.Parts.{IsShowable}
 use Rattle.tipc_pair.specs.PairTurns.Opening.{rests}
 use Rattle.tipc_pair.specs.PairTurns.PutsAll.{none_put}
 use Rattle.tipc_node.specs.declared.neighbours.Neighbour.{Neighbour}
 use Rattle.tipc_node.specs.Messages.{IsSendable}
-use Rattle.tipc_node.specs.Neighbours.{no_broadcast}
-use Rattle.tipc_node.specs.Nodes.{NodeState, change_entries, step_of}
-use Rattle.tipc_node.specs.Turns.{AreNamed, IsBrought, IsFrom, IsPlaced, IsTakenIn, NodeTurn, PeerTurn, frames_to, given_entries, is_accepted_for, is_change_of, is_delivered_from}
+use Rattle.tipc_node.specs.Neighbours.{no_broadcast, stranger}
+use Rattle.tipc_node.specs.Nodes.{NodeState, acquaintance, change_entries, neighbour_of, pair_with, step_of}
+use Rattle.tipc_node.specs.Turns.{AreNamed, IsBrought, IsFrom, IsOfNeighbour, IsPlaced, IsRouted, IsTakenIn, NodeTurn, PeerTurn, frames_to, given_entries, is_accepted_for, is_change_of, is_delivered_from, is_out_to, is_to}
 use Rattle.tipc_node.specs.Works.{Work, begun, concluded}
-use Rattle.tipc_node.proofs.turns.Runs.{IsRun, RunAt, Runs, StandFor, accepted_now}
+use Rattle.tipc_node.proofs.turns.Runs.{IsRun, RunAt, Runs, StandFor, accepted_now, still_at}
+use Rattle.tipc_node.proofs.turns.Entries.{other_word as apart_word}
+use Rattle.tipc_node.proofs.Filters.{filter-none}
+use Rattle.tipc_node.proofs.pairs.Strangers.{named_there, pair_alone, pair_there}
 
 -- what a node shows of broadcast fits its places
 pub shows_none : (in_step : Bool) → IsShowable (no_broadcast in_step)
@@ -43,14 +53,15 @@ not_taken kept answered untaken is = subst IsUntaken is untaken
 pub record Opens (bytes : List ℕ) (s : NodeStep) (frames : List Outgoing) (b : ℕ) (x : PairEnds) (opening : Opening) (o : Outset) : Type 0 where
   pub suits : Suits s.event opening
   pub on_one : IsOnOne opening
+  pub anew : MakesNew x opening
   pub brought : IsBrought b bytes opening
   pub shows : ShowsIn opening
   pub happened : Happened x opening o
   pub frames_are : frames_to b frames ≡ o.course.states ++ o.course.numbered
   pub changes : filter (is_change_of b) s.inside ≡ change_entries b o.course.changes
   pub accepted : filter (is_accepted_for b) s.inside ≡ []
-  pub delivered : filter (is_delivered_from b) s.inside ≡ given_entries b x o.given
-  pub taken : (answered : Arrival) (es er : ℕ) (p : Fields) → s.answer ≡ answer.Arrived answered → IsTakenIn answered → IsFrom b bytes es er p → IsTakenBy opening o.given
+  pub delivered : filter (is_delivered_from b) s.inside ≡ given_entries Zero b x o.given
+  pub taken : (answered : Arrival) (es er : ℕ) (p : Fields) → s.answer ≡ answer.Arrived answered → IsTakenIn answered → IsFrom b bytes es er p → kind_in bytes ≡ Links → IsTakenBy opening o.given
 
 pub opens_turn : (own : ℕ) (bytes : List ℕ) (s : NodeStep) (frames : List Outgoing) (b : ℕ) (x : PairEnds) (opening : Opening) (o : Outset) → Opens bytes s frames b x opening o
     → PeerTurn own bytes s frames b x o.course.pair
@@ -58,6 +69,7 @@ opens_turn own bytes s frames b x opening o h = record {
   opening = opening;
   suits = h.suits;
   on_one = h.on_one;
+  anew = h.anew;
   brought = h.brought;
   shows = h.shows;
   messages = [];
@@ -81,7 +93,7 @@ pub record IsRested (bytes : List ℕ) (s : NodeStep) (frames : List Outgoing) (
   pub changes : filter (is_change_of b) s.inside ≡ filter (is_change_of b) es
   pub accepted : filter (is_accepted_for b) s.inside ≡ filter (is_accepted_for b) es
   pub delivered : filter (is_delivered_from b) s.inside ≡ []
-  pub taken : (answered : Arrival) (es er : ℕ) (p : Fields) → s.answer ≡ answer.Arrived answered → IsTakenIn answered → IsFrom b bytes es er p → ⊥
+  pub taken : (answered : Arrival) (es er : ℕ) (p : Fields) → s.answer ≡ answer.Arrived answered → IsTakenIn answered → IsFrom b bytes es er p → kind_in bytes ≡ Links → ⊥
 
 pub rests_turn : (own : ℕ) (bytes : List ℕ) (s : NodeStep) (frames : List Outgoing) (b : ℕ) (es : List Entry) (own_frames : List Outgoing) (x x' : Neighbour)
     → IsRested bytes s frames b es own_frames → RunAt own b es own_frames x x' → PeerTurn own bytes s frames b x.pair x'.pair
@@ -89,6 +101,7 @@ rests_turn own bytes s frames b es own_frames x x' h run = record {
   opening = rests;
   suits = tt;
   on_one = tt;
+  anew = tt;
   brought = tt;
   shows = tt;
   messages = run.messages;
@@ -112,14 +125,98 @@ rests_turn own bytes s frames b es own_frames x x' h run = record {
   taken = h.taken;
 }
 
+-- ---- a stranger
+
+other_word : (n : NodeState) (b : ℕ) (word : ℕ) → neighbour_of n b ≡ None → (c : ℕ) → is_some (neighbour_of n c) ≡ true → word ≡ node_word c → (word == node_word b) ≡ false
+other_word n b word none c there is = ap (λ w. w == node_word b) is ∙ apart_word b c (λ same. let has = ap (λ k. is_some (neighbour_of n k)) (sym same) ∙ there in let wrong : false ≡ true = sym (ap is_some none) ∙ has in cc)
+
+-- what tells of a neighbour tells of no stranger
+pub of_other : (n : NodeState) (b : ℕ) (peer : Addr) → neighbour_of n b ≡ None → IsOfNeighbour n peer → (peer.word == node_word b) ≡ false
+of_other n b peer none of = other_word n b peer.word none of.0 of.1 (ap (λ (a : Addr). a.word) of.2)
+
+never_changed : (n : NodeState) (b : ℕ) → neighbour_of n b ≡ None → (e : Entry) → IsPlaced n e → is_change_of b e ≡ false
+never_changed n b none (entry.LinkUp peer bearer own theirs) of = of_other n b peer none of
+never_changed n b none (entry.LinkDown peer bearer cause shown) of = of_other n b peer none of
+never_changed n b none (entry.ContactUp peer numbers) of = of_other n b peer none of
+never_changed n b none (entry.ContactDown peer numbers states shown) of = of_other n b peer none of
+never_changed n b none other of = refl
+
+never_accepted : (n : NodeState) (b : ℕ) → neighbour_of n b ≡ None → (e : Entry) → IsPlaced n e → is_accepted_for b e ≡ false
+never_accepted n b none (entry.Accepted peer numbers flow message) of = ap (λ t. t && flow_eq flow Zero) (of_other n b peer none of.0)
+never_accepted n b none other of = refl
+
+never_delivered : (n : NodeState) (b : ℕ) → neighbour_of n b ≡ None → (e : Entry) → IsPlaced n e → is_delivered_from b e ≡ false
+never_delivered n b none (entry.Delivered peer numbers flow message by) of = ap (λ t. t && flow_eq flow Zero) (of_other n b peer none of.0)
+never_delivered n b none other of = refl
+
+never_out : (n : NodeState) (b : ℕ) → neighbour_of n b ≡ None → (o : Outgoing) → IsRouted n o → is_out_to b o ≡ false
+never_out n b none o r = ap (λ t. t && is_of_link o.frame) (ap (is_to b) r.to_is ∙ other_word n b (node_word r.peer) none r.peer r.there refl)
+
+-- the turn at a neighbour, which stays one
+pub record NeighbourTurn (n n' : NodeState) (bytes : List ℕ) (s : NodeStep) (frames : List Outgoing) (b : ℕ) (x : Neighbour) : Type 0 where
+  pub after : Neighbour
+  pub after_is : neighbour_of n' b ≡ Some after
+  pub turn : PeerTurn n.own bytes s frames b x.pair after.pair
+
+-- The node took a turn at each neighbour, and knows no other one then; what was taken didn't come from a stranger.
+pub record TurnsTaken (n n' : NodeState) (bytes : List ℕ) (s : NodeStep) (frames : List Outgoing) : Type 0 where
+  pub own : n'.own ≡ n.own
+  pub boot : n'.boot ≡ n.boot
+  pub journal : n'.journal ≡ n.journal ++ step_entries s
+  pub inside : IsInside s.inside
+  pub turns : (b : ℕ) (x : Neighbour) → neighbour_of n b ≡ Some x → NeighbourTurn n n' bytes s frames b x
+  pub alone : (b : ℕ) → neighbour_of n b ≡ None → neighbour_of n' b ≡ None
+  pub untaken : (b : ℕ) → neighbour_of n b ≡ None → (answered : Arrival) (es er : ℕ) (p : Fields) → s.answer ≡ answer.Arrived answered → IsTakenIn answered → IsFrom b bytes es er p → kind_in bytes ≡ Links → ⊥
+  pub routed : All (IsRouted n) frames
+  pub placed : All (IsPlaced n) s.inside
+
+-- at a stranger the node rests
+stranger_turn : (n n' : NodeState) (bytes : List ℕ) (s : NodeStep) (frames : List Outgoing) (b : ℕ) → TurnsTaken n n' bytes s frames → neighbour_of n b ≡ None
+    → PeerTurn n.own bytes s frames b (alone n.own (node_word b) n.boot) (alone n.own (node_word b) n.boot)
+stranger_turn n n' bytes s frames b h none =
+    let x = stranger n.own b n.boot in
+    rests_turn n.own bytes s frames b [] [] x x (record {
+      frames_are = filter-none (is_out_to b) frames (IsRouted n) (never_out n b none) h.routed;
+      changes = filter-none (is_change_of b) s.inside (IsPlaced n) (never_changed n b none) h.placed;
+      accepted = filter-none (is_accepted_for b) s.inside (IsPlaced n) (never_accepted n b none) h.placed;
+      delivered = filter-none (is_delivered_from b) s.inside (IsPlaced n) (never_delivered n b none) h.placed;
+      taken = h.untaken b none;
+    }) (still_at n.own b [] [] x refl refl refl)
+
+-- so it took a turn at all
+pub node_turn : (n n' : NodeState) (bytes : List ℕ) (s : NodeStep) (frames : List Outgoing) → TurnsTaken n n' bytes s frames → NodeTurn n n' bytes s frames
+node_turn n n' bytes s frames h = record {
+  own = h.own;
+  boot = h.boot;
+  journal = h.journal;
+  inside = h.inside;
+  turns = λ b. by b (neighbour_of n b) refl;
+  lasts = λ b. lasts b (neighbour_of n b) refl;
+  stays = λ b none. inl (h.alone b none);
+  routed = h.routed;
+  placed = h.placed;
+}
+  where
+    by : (b : ℕ) (o : Option Neighbour) → neighbour_of n b ≡ o → PeerTurn n.own bytes s frames b (acquaintance n b o).pair (pair_with n' b)
+    by b None none =
+        let there : pair_with n' b ≡ alone n.own (node_word b) n.boot = pair_alone n' b (h.alone b none) ∙ ap (λ own. alone own (node_word b) n'.boot) h.own ∙ ap (alone n.own (node_word b)) h.boot in
+        subst (PeerTurn n.own bytes s frames b (alone n.own (node_word b) n.boot)) (sym there) (stranger_turn n n' bytes s frames b h none)
+    by b (Some x) is =
+        let at = h.turns b x is in
+        subst (PeerTurn n.own bytes s frames b x.pair) (sym (pair_there n' b at.after at.after_is)) at.turn
+
+    lasts : (b : ℕ) (o : Option Neighbour) → neighbour_of n b ≡ o → is_some o ≡ true → is_some (neighbour_of n' b) ≡ true
+    lasts b None is some = absurd (let wrong : false ≡ true = some in cc)
+    lasts b (Some x) is some = let at = h.turns b x is in ap is_some at.after_is
+
 -- ---- a step that is a run of work
 
 pub named_stand : (n : NodeState) → AreNamed n → StandFor n n.neighbours
-named_stand n named = record { named = named; within = λ b x is. ap is_some is }
+named_stand n named = record { named = λ b x is. named_there n b x named is; within = λ b x is. ap is_some is }
 
 runs_turn : (n : NodeState) (by : By) (note : EventNote) (bytes : List ℕ) (kept : Answer) (w : Work) (es : List Entry) (frames : List Outgoing) → IsUntaken kept → Runs n (begun n) es [] frames w
     → NodeTurn n (concluded n by note w kept) bytes (step_of by note w.inside kept) frames
-runs_turn n by note bytes kept w es frames untaken h = record {
+runs_turn n by note bytes kept w es frames untaken h = node_turn n (concluded n by note w kept) bytes (step_of by note w.inside kept) frames (record {
   own = refl;
   boot = refl;
   journal = refl;
@@ -132,13 +229,14 @@ runs_turn n by note bytes kept w es frames untaken h = record {
       changes = ap (filter (is_change_of b)) h.inside_is;
       accepted = ap (filter (is_accepted_for b)) h.inside_is;
       delivered = ap (filter (is_delivered_from b)) h.inside_is ∙ h.delivered b;
-      taken = λ answered es er p is taken from. not_taken kept answered untaken is taken;
+      taken = λ answered es er p is taken from link. not_taken kept answered untaken is taken;
     }) at.run;
   });
   alone = h.alone;
+  untaken = λ b none answered es er p is taken from link. not_taken kept answered untaken is taken;
   routed = h.routed;
   placed = subst (All (IsPlaced n)) (sym h.inside_is) h.placed;
-}
+})
 
 -- a step of a node was a turn of it in which such entries were recorded
 abbrev pub IsTurn : NodeState → NodeState → By → EventNote → List ℕ → List Outgoing → Answer → Type 0

@@ -9,7 +9,7 @@ use Rattle.tipc_types.specs.declared.node_calls.By.{By}
 use Rattle.tipc_types.specs.declared.node_calls.EventNote.{EventNote}
 use Rattle.tipc_types.specs.declared.services.Publication.{Publication}
 use Rattle.tipc_outside.specs.declared.outgoing.Outgoing.{Outgoing}
-use Rattle.tipc_outside.specs.Frames.{Adds, Out}
+use Rattle.tipc_outside.specs.Frames.{Adds, Out, no_frames}
 use Rattle.tipc_outside.proofs.Adding.{adds_none}
 use Rattle.tipc_journal.specs.declared.entries.Entry.{Entry}
 use Rattle.tipc_journal.specs.Steps.{step_entries}
@@ -17,7 +17,7 @@ use Rattle.tipc_name_dist.specs.Items.{telling, tellings}
 use Rattle.tipc_sockets.specs.SocketTables.{SocketTable}
 use Rattle.tipc_node.specs.declared.neighbours.Neighbour.{Neighbour}
 use Rattle.tipc_node.specs.Calls.{Tells}
-use Rattle.tipc_node.specs.Drafts.{ToldPeers, nothing_out}
+use Rattle.tipc_node.specs.Drafts.{ToldPeers}
 use Rattle.tipc_node.specs.Nodes.{NodeState, recorded, step_of}
 use Rattle.tipc_node.specs.Sockets.{crowd_refusal}
 use Rattle.tipc_node.specs.Works.{Work, work_of}
@@ -74,8 +74,8 @@ crowd_same n xs ms told same is = ap (λ ys. crowd_refusal ys ms) same ∙ ap (c
 -- What was drafted, and what the call made of the rest of the node: every peer in contact is told behind these entries, the sockets are these,
 -- and the step is recorded. What is in the box of the draft leaves.
 pub record IsDrafted (k : NodeState) (by : By) (event : EventNote) (front : List Entry) (told : List Message) (xs : List (Option Neighbour)) (es journal : List Entry) (drafted box box' : Out) : Type 0 where
-  pub tells : (s : SocketTable) → ToldPeers k.own (work_of k.neighbours s front) told (work_of xs s es) nothing_out drafted
-  pub leaves : (frames : List Outgoing) → Adds nothing_out drafted frames → Adds box box' frames
+  pub tells : (s : SocketTable) → ToldPeers k.own (work_of k.neighbours s front) told (work_of xs s es) no_frames drafted
+  pub leaves : (frames : List Outgoing) → Adds no_frames drafted frames → Adds box box' frames
   pub recorded_is : journal ≡ k.journal ++ step_entries (step_of by event es answer.Done)
 
 pub announced : (k : NodeState) (by : By) (event : EventNote) (reason : Option Answer) (w : Work) (front : List Entry) (told given : List Message) (xs : List (Option Neighbour)) (s : SocketTable) (es journal : List Entry) (drafted box box' : Out)
@@ -83,9 +83,9 @@ pub announced : (k : NodeState) (by : By) (event : EventNote) (reason : Option A
     → IsAnnounced k (node_of k xs s journal) by event reason w told box box' answer.Done
 announced k by event reason w front told given xs s es journal drafted box box' none clear same first neighbours sockets h =
     let t = h.tells w.sockets in
-    let one = subst (λ ms. ToldPeers k.own (work_of k.neighbours w.sockets front) ms (work_of xs w.sockets es) nothing_out drafted) same t in
-    let two = subst (λ fs. ToldPeers k.own (work_of k.neighbours w.sockets fs) told (work_of xs w.sockets es) nothing_out drafted) first one in
-    let all = subst (λ ys. ToldPeers k.own (work_of ys w.sockets w.inside) told (work_of xs w.sockets es) nothing_out drafted) (sym neighbours) two in
+    let one = subst (λ ms. ToldPeers k.own (work_of k.neighbours w.sockets front) ms (work_of xs w.sockets es) no_frames drafted) same t in
+    let two = subst (λ fs. ToldPeers k.own (work_of k.neighbours w.sockets fs) told (work_of xs w.sockets es) no_frames drafted) first one in
+    let all = subst (λ ys. ToldPeers k.own (work_of ys w.sockets w.inside) told (work_of xs w.sockets es) no_frames drafted) (sym neighbours) two in
     let free : crowd_refusal k.neighbours told ≡ None = ap (crowd_refusal k.neighbours) (sym same) ∙ clear in (
       all.frames,
       record {

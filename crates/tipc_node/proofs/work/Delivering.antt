@@ -2,6 +2,7 @@
 use Rattle.std.proofs.Common.{◌≡◌, ℕ, Bool, true, List, [], ◌∷◌, ◌++◌, Option, Some, None, Result, Ok, Err, refl, sym, ap, subst, ◌∙◌}
 use Rattle.std.specs.Prelude.{OnOk, fold}
 use Rattle.std.specs.List.{list_all}
+use Rattle.tipc_types.specs.declared.message_forms.Flow.TheVariants.{Zero}
 use Rattle.tipc_types.specs.Address.{node_word}
 use Rattle.tipc_types.specs.declared.message_forms.Item.{Item}
 use Rattle.tipc_types.specs.declared.message_forms.Message.{Message}
@@ -45,11 +46,11 @@ plain_note s (entry.Cancelled number) plain = absurd cc
 plain_note s (entry.TimedOut number) plain = absurd cc
 plain_note s (entry.Answered caller call answer) plain = absurd cc
 
-plain_message : (peer : ℕ) (contact : ℕ × ℕ) (m : Option Message) (by : List ℕ) → is_plain (delivered_by peer contact m by) ≡ true
+plain_message : (peer : ℕ) (contact : ℕ × ℕ) (m : Option Message) (by : List ℕ) → is_plain (delivered_by Zero peer contact m by) ≡ true
 plain_message peer contact None by = refl
 plain_message peer contact (Some m) by = refl
 
-pub all_plain : (peer : ℕ) (contact : ℕ × ℕ) (opened : List Opened) → list_all is_plain (entries_in (deliveries_of peer contact opened)) ≡ true
+pub all_plain : (peer : ℕ) (contact : ℕ × ℕ) (opened : List Opened) → list_all is_plain (entries_in (deliveries_of Zero peer contact opened)) ≡ true
 all_plain peer contact [] = refl
 all_plain peer contact (Passed place ∷ opened) = all_plain peer contact opened
 all_plain peer contact (Whole packet by ∷ opened) =

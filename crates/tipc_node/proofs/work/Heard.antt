@@ -75,10 +75,10 @@ heard_worked n by bytes x d number answered w' box box' due was h =
 pub journal_heard : (n m : NodeState) (by : By) (bytes : List ℕ) (bearer number : ℕ) (answered : Arrival) (w : Work) (es journal : List Entry) (box box' : Out)
     → IsHeard n (concluded n by (Arrive bearer number) w (answer.Arrived answered)) by bearer number bytes box box' answered
     → es ≡ journal ++ step_entries (step_of by (Arrive bearer number) w.inside (answer.Arrived answered)) → journal ≡ n.journal → n ≡ m
-    → IsHeard m (record { own = n.own; boot = n.boot; mended = n.mended; neighbours = w.neighbours; sockets = w.sockets; journal = es }) by bearer number bytes box box' answered
+    → IsHeard m (record n { neighbours = w.neighbours; sockets = w.sockets; journal = es }) by bearer number bytes box box' answered
 journal_heard n m by bytes bearer number answered w es journal box box' h recorded kept same =
     let steps = step_entries (step_of by (Arrive bearer number) w.inside (answer.Arrived answered)) in
     let there = recorded ∙ ap (λ js. js ++ steps) kept in
-    let the_node : List Entry → NodeState = λ js. record { own = n.own; boot = n.boot; mended = n.mended; neighbours = w.neighbours; sockets = w.sockets; journal = js } in
+    let the_node : List Entry → NodeState = λ js. record n { neighbours = w.neighbours; sockets = w.sockets; journal = js } in
     subst (λ (k : NodeState). IsHeard k (the_node es) by bearer number bytes box box' answered) same
     (subst (λ (n' : NodeState). IsHeard n n' by bearer number bytes box box' answered) (ap the_node (sym there)) h)

@@ -5,6 +5,7 @@ use Rattle.tipc_outside.specs.Frames.{Out}
 use Rattle.tipc_header.specs.Spelling.{view}
 use Rattle.tipc_pair.specs.declared.changes.PairOutcome.{PairOutcome}
 use Rattle.tipc_pair.specs.Preparing.{Prepares}
+use Rattle.tipc_types.specs.declared.message_forms.Flow.TheVariants.{Zero}
 use Rattle.tipc_node.specs.declared.arriving.Due.{Due}
 use Rattle.tipc_node.specs.declared.arriving.Hearing.{Hearing}
 use Rattle.tipc_node.specs.declared.listening.HeardPacket.{HeardPacket}
@@ -34,14 +35,14 @@ pub taken_heard : (x : Neighbour) (d : Due) (h : Hearing) (y : Neighbour) (given
 taken_heard x d h y given box box' prepared took deliveries answer once =
     let o = took.0 in
     let same = same_neighbour prepared.neighbour x (sym prepared.was) in
-    let there : h.deliveries.items ≡ arrival_deliveries d.peer x.pair h.arriving.outcome = prepared.deliveries ∙ ap (λ (z : Neighbour). arrival_deliveries d.peer z.pair h.arriving.outcome) same in
+    let there : h.deliveries.items ≡ arrival_deliveries Zero d.peer x.pair h.arriving.outcome = prepared.deliveries ∙ ap (λ (z : Neighbour). arrival_deliveries Zero d.peer z.pair h.arriving.outcome) same in
     record {
       out = o;
       hears = subst (λ b. HearsAt x b d.first d.second (view d.packet) h.number o) prepared.bearer took.1;
       after = took.4;
       changes = sym took.3;
       once = once;
-      deliveries = deliveries ∙ (there ∙ ap (arrival_deliveries d.peer x.pair) (sym took.2));
+      deliveries = deliveries ∙ (there ∙ ap (arrival_deliveries Zero d.peer x.pair) (sym took.2));
       answer = answer ∙ (prepared.answer ∙ (ap (λ (g : PairOutcome). arrival_answer g h.deliveries.items) (sym took.2) ∙ ap (arrival_answer o.given) (sym deliveries)));
       adds = took.5;
     }

@@ -6,4 +6,4 @@ use Rattle.tipc_node.specs.declared.neighbours.Neighbour.{Neighbour}
 use Rattle.tipc_node.specs.Nodes.{NodeState}
 
 abbrev pub node_of : NodeState → List (Option Neighbour) → SocketTable → List Entry → NodeState
-node_of n neighbours sockets journal = record { own = n.own; boot = n.boot; mended = n.mended; neighbours = neighbours; sockets = sockets; journal = journal }
+node_of n neighbours sockets journal = record n { neighbours = neighbours; sockets = sockets; journal = journal }

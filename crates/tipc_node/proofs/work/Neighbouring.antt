@@ -92,7 +92,7 @@ pub taken_contact : (x : Neighbour) (bearer es er : ℕ) (p : Fields) (by : ℕ)
     → HasTaken x bearer es er p by given changes y box box' → begins changes ≡ true → in_contact y.pair ≡ true
 taken_contact x bearer es er p by given changes y box box' sound h is =
     let o = h.0 in
-    let so = happened_so x.pair (hears bearer es er p by (no_broadcast x.in_step)) o (pair_on x.pair sound) refl h.1 in
+    let so = happened_so x.pair (hears bearer es er p by (no_broadcast x.in_step)) o (pair_on x.pair sound) tt h.1 in
     ap (λ (z : Neighbour). in_contact z.pair) h.4 ∙ begins_there x.pair o.course so.tells (ap begins h.3 ∙ is)
 
 -- and none ends
@@ -100,5 +100,5 @@ pub taken_once : (x : Neighbour) (bearer es er : ℕ) (p : Fields) (by : ℕ) (g
     → HasTaken x bearer es er p by given changes y box box' → begins changes ≡ true → ends changes ≡ false
 taken_once x bearer es er p by given changes y box box' sound h is =
     let o = h.0 in
-    let so = happened_so x.pair (hears bearer es er p by (no_broadcast x.in_step)) o (pair_on x.pair sound) refl h.1 in
+    let so = happened_so x.pair (hears bearer es er p by (no_broadcast x.in_step)) o (pair_on x.pair sound) tt h.1 in
     ap ends (sym h.3) ∙ begins_once x.pair o.course so.tells (ap begins h.3 ∙ is)

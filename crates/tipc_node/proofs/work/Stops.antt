@@ -6,14 +6,15 @@ use Rattle.std.proofs.Math.Seq.{drop-append_seam}
 use Rattle.tipc_types.specs.Address.{node_word}
 use Rattle.tipc_types.specs.declared.link_words.Why.TheVariants as why
 use Rattle.tipc_header.specs.declared.fault.HeaderFault.{HeaderFault}
+use Rattle.tipc_header.specs.declared.frames.FrameKind.{FrameKind}
 use Rattle.tipc_header.specs.Faults.{fault_of, number_of}
-use Rattle.tipc_header.specs.Frames.{envelope, frame_of}
+use Rattle.tipc_header.specs.Frames.{envelope, first_of, frame_of, kind_in, kind_of}
 use Rattle.tipc_header.specs.Reading.{fields_at, word_at}
 use Rattle.tipc_header.specs.Spelling.{Fields}
 use Rattle.tipc_header.proofs.FrameWords.{length-envelope}
 use Rattle.tipc_node.specs.declared.neighbours.Neighbour.{Neighbour}
-use Rattle.tipc_node.specs.Limits.{most_frame_bytes}
-use Rattle.tipc_node.specs.Nodes.{end_with, is_frame_size, is_mended_on, is_other, stop_among, stop_by_fault, stop_by_sender}
+use Rattle.tipc_types.specs.Limits.{most_frame_bytes}
+use Rattle.tipc_node.specs.Nodes.{end_with, is_frame_size, is_mended_on, is_other, stop_among, stop_by_fault, stop_by_kind, stop_by_sender}
 use Rattle.tipc_node.proofs.work.Senders.{previous_at}
 
 abbrev pub IsBadSize : ℕ → Type 0
@@ -53,29 +54,39 @@ stop_header own mended xs bearer bytes first second packet fault o has =
 
 -- the packet has no fault: by the sender that it names
 pub by_sender : (own : ℕ) (mended : Bool × Bool) (xs : List (Option Neighbour)) (bearer : ℕ) (bytes : List ℕ) (first second : ℕ) (packet : List ℕ) (p : Fields) → IsOpened mended bearer bytes first second packet
-    → fault_of packet ≡ None → p ≡ fields_at packet → stop_among own mended xs bearer bytes ≡ stop_by_sender own xs bearer p.previous
+    → fault_of packet ≡ None → p ≡ fields_at packet → stop_among own mended xs bearer bytes ≡ stop_by_sender own xs bearer p.previous (kind_in bytes)
 by_sender own mended xs bearer bytes first second packet p o none read =
     by_fault own mended xs bearer bytes first second packet o
     ∙ ap (stop_by_fault own xs bearer bytes) (ap fault_of (packet_in first second packet bytes o.opened) ∙ none)
-    ∙ ap (stop_by_sender own xs bearer) (ap (word_at 3) (packet_in first second packet bytes o.opened) ∙ sym (previous_at packet) ∙ ap (λ (q : Fields). q.previous) (sym read))
+    ∙ ap (λ word. stop_by_sender own xs bearer word (kind_in bytes)) (ap (word_at 3) (packet_in first second packet bytes o.opened) ∙ sym (previous_at packet) ∙ ap (λ (q : Fields). q.previous) (sym read))
 
 -- it is no other node
-pub sender_own : (own : ℕ) (xs : List (Option Neighbour)) (bearer word : ℕ) → is_other own word ≡ false → stop_by_sender own xs bearer word ≡ Some why.Own
-sender_own own xs bearer word self = rw self refl
+pub sender_own : (own : ℕ) (xs : List (Option Neighbour)) (bearer word : ℕ) (kind : FrameKind) → is_other own word ≡ false → stop_by_sender own xs bearer word kind ≡ Some why.Own
+sender_own own xs bearer word kind self = rw self refl
 
-by_neighbour : (own : ℕ) (xs : List (Option Neighbour)) (bearer peer word : ℕ) (known : Bool) → is_other own word ≡ true → word ≡ node_word peer → is_some (end_with bearer (slice_index_or xs peer None)) ≡ known
-    → stop_by_sender own xs bearer word ≡ (if known then None else Some why.Unknown)
-by_neighbour own xs bearer peer word known other is has =
+by_neighbour : (own : ℕ) (xs : List (Option Neighbour)) (bearer peer word : ℕ) (kind : FrameKind) (known : Bool) → is_other own word ≡ true → word ≡ node_word peer → is_some (end_with bearer (slice_index_or xs peer None)) ≡ known
+    → stop_by_sender own xs bearer word kind ≡ (if known then stop_by_kind kind else Some why.Unknown)
+by_neighbour own xs bearer peer word kind known other is has =
     let number : word - node_word 0 ≡ peer = omega (arith, is) in
-    (rw other refl) ∙ ap (λ k. if is_some (end_with bearer (slice_index_or xs k None)) then None else Some why.Unknown) number ∙ ap (λ b. if b then None else Some why.Unknown) has
+    (rw other refl) ∙ ap (λ k. if is_some (end_with bearer (slice_index_or xs k None)) then stop_by_kind kind else Some why.Unknown) number ∙ ap (λ b. if b then stop_by_kind kind else Some why.Unknown) has
 
 -- there is no link end to the sender
-pub sender_unknown : (own : ℕ) (xs : List (Option Neighbour)) (bearer peer word : ℕ) → is_other own word ≡ true → word ≡ node_word peer → is_some (end_with bearer (slice_index_or xs peer None)) ≡ false → stop_by_sender own xs bearer word ≡ Some why.Unknown
-sender_unknown own xs bearer peer word other is has = by_neighbour own xs bearer peer word false other is has
+pub sender_unknown : (own : ℕ) (xs : List (Option Neighbour)) (bearer peer word : ℕ) (kind : FrameKind) → is_other own word ≡ true → word ≡ node_word peer → is_some (end_with bearer (slice_index_or xs peer None)) ≡ false
+    → stop_by_sender own xs bearer word kind ≡ Some why.Unknown
+sender_unknown own xs bearer peer word kind other is has = by_neighbour own xs bearer peer word kind false other is has
 
--- there is one
-pub sender_known : (own : ℕ) (xs : List (Option Neighbour)) (bearer peer word : ℕ) → is_other own word ≡ true → word ≡ node_word peer → is_some (end_with bearer (slice_index_or xs peer None)) ≡ true → stop_by_sender own xs bearer word ≡ None
-sender_known own xs bearer peer word other is has = by_neighbour own xs bearer peer word true other is has
+-- there is one: by the kind of the packet
+pub sender_known : (own : ℕ) (xs : List (Option Neighbour)) (bearer peer word : ℕ) (kind : FrameKind) → is_other own word ≡ true → word ≡ node_word peer → is_some (end_with bearer (slice_index_or xs peer None)) ≡ true
+    → stop_by_sender own xs bearer word kind ≡ stop_by_kind kind
+sender_known own xs bearer peer word kind other is has = by_neighbour own xs bearer peer word kind true other is has
+
+-- the kind of a frame by its packet
+pub kind_is : (mended : Bool × Bool) (bearer : ℕ) (bytes : List ℕ) (first second : ℕ) (packet : List ℕ) (p : Fields) → IsOpened mended bearer bytes first second packet → first ≡ first_of bytes → p ≡ fields_at packet
+    → kind_in bytes ≡ kind_of first p.header
+unfolding kind_in
+kind_is mended bearer bytes first second packet p o number read =
+    ap (λ k. kind_of k (fields_at (drop 16 bytes)).header) (sym number)
+    ∙ ap (λ xs. kind_of first (fields_at xs).header) (packet_in first second packet bytes o.opened) ∙ ap (λ (q : Fields). kind_of first q.header) (sym read)
 
 -- a bearer that is mended is one of the two
 pub mended_two : (mended : Bool × Bool) (bearer : ℕ) → is_mended_on mended bearer ≡ true → bearer ≤ 1

@@ -170,8 +170,8 @@ worked_same own xs s x d number answered w' box box' h =
 
 -- a node whose parts are as they were
 pub same_parts : (n m : NodeState) (xs : List (Option Neighbour)) (s : SocketTable) (es : List Entry) → xs ≡ n.neighbours → s ≡ n.sockets → es ≡ n.journal → n ≡ m
-    → record { own = n.own; boot = n.boot; mended = n.mended; neighbours = xs; sockets = s; journal = es } ≡ m
+    → record n { neighbours = xs; sockets = s; journal = es } ≡ m
 same_parts n m xs s es one two three is =
-    ap (λ (ys : List (Option Neighbour)). record { own = n.own; boot = n.boot; mended = n.mended; neighbours = ys; sockets = s; journal = es }) one
-    ∙ ap (λ (t : SocketTable). record { own = n.own; boot = n.boot; mended = n.mended; neighbours = n.neighbours; sockets = t; journal = es }) two
-    ∙ ap (λ (fs : List Entry). record { own = n.own; boot = n.boot; mended = n.mended; neighbours = n.neighbours; sockets = n.sockets; journal = fs }) three ∙ is
+    ap (λ (ys : List (Option Neighbour)). record n { neighbours = ys; sockets = s; journal = es }) one
+    ∙ ap (λ (t : SocketTable). record n { sockets = t; journal = es }) two
+    ∙ ap (λ (fs : List Entry). record n { journal = fs }) three ∙ is

@@ -7,6 +7,7 @@ use Rattle.std.proofs.lemmas.Bool.Decides.{nat_tests}
 use Rattle.std.proofs.lemmas.List.{get_or-set_other, set-get_or, set-set, take_more}
 use Rattle.std.proofs.lemmas.List.Elements.{All-append, All-cons, All-nil, filter-append}
 use Rattle.std.proofs.lemmas.List.Sums.{sum_by-append, sum_by_push}
+use Rattle.tipc_types.specs.declared.message_forms.Flow.TheVariants.{Zero}
 use Rattle.tipc_types.specs.declared.message_forms.Message.{Message}
 use Rattle.tipc_types.specs.declared.message_forms.Message.TheVariants.{Items}
 use Rattle.tipc_types.specs.declared.services.Publication.{Publication}
@@ -170,8 +171,8 @@ putting_next own peer ms x y z before inside inside' a b c count m h within is p
     let more : take count ms ++ m ∷ [] ≡ take (count + 1) ms = ap (λ n. take count ms ++ n ∷ []) is ∙ sym (take_more ms count m within) in
     let few = h.few in
     let light = h.light in
-    let longer = ap length p.told ∙ length-append inside (accepted_entry peer y.pair m ∷ []) in
-    let heavier : sum_by entry_bytes inside' ≡ sum_by entry_bytes inside + counted_bytes m = ap (sum_by entry_bytes) p.told ∙ sum_by_push entry_bytes inside (accepted_entry peer y.pair m) in
+    let longer = ap length p.told ∙ length-append inside (accepted_entry Zero peer y.pair m ∷ []) in
+    let heavier : sum_by entry_bytes inside' ≡ sum_by entry_bytes inside + counted_bytes m = ap (sum_by entry_bytes) p.told ∙ sum_by_push entry_bytes inside (accepted_entry Zero peer y.pair m) in
     let counted : sum_by counted_bytes (take (count + 1) ms) ≡ sum_by counted_bytes (take count ms) + counted_bytes m = ap (sum_by counted_bytes) (sym more) ∙ sum_by_push counted_bytes (take count ms) m in
     record {
       puts = λ xs s was.

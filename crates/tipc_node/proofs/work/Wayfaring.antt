@@ -20,7 +20,7 @@ use Rattle.tipc_pair.specs.Facing.{active, facing, in_contact}
 use Rattle.tipc_pair.specs.PairCalls.{load_of as link_load}
 use Rattle.tipc_sockets.specs.SocketTables.{SocketTable}
 use Rattle.tipc_node.specs.declared.neighbours.Neighbour.{Neighbour}
-use Rattle.tipc_node.specs.Calls.{Goes, SendsTo, link_refusal, way_refusal}
+use Rattle.tipc_node.specs.Calls.{GoesItsWay, SendsTo, link_refusal, way_refusal}
 use Rattle.tipc_node.specs.Messages.{destination_of}
 use Rattle.tipc_node.specs.Nodes.{NodeState, is_met, load_with, recorded, step_of}
 use Rattle.tipc_node.specs.Works.{Puts, PutsOn, GivesFate, Work, addr_of_word, begun, concluded, neighbour_at, work_of}
@@ -92,7 +92,7 @@ way_refused n n' by note m limit _ why answered box some is = (
   adds_none box,
 )
 
-clear_way : (n n' : NodeState) (by : By) (note : EventNote) (m : Message) (limit : ℕ) (sent : Answer) (box box' : Out) (w : Work) (frames : List Outgoing) → way_refusal n (destination_of m) limit ≡ None → Goes n.own (begun n) m w frames
+clear_way : (n n' : NodeState) (by : By) (note : EventNote) (m : Message) (limit : ℕ) (sent : Answer) (box box' : Out) (w : Work) (frames : List Outgoing) → way_refusal n (destination_of m) limit ≡ None → GoesItsWay n.own (begun n) m w frames
     → n' ≡ concluded n by note w sent → Adds box box' frames → IsSentTo n n' by note m limit sent box box' None
 clear_way n n' by note m limit _ box box' w frames none goes after adds = (
   frames,

@@ -6,9 +6,9 @@ pub loop-number-init : goal.loop-number-init
 loop-number-init c =
     let event = c.args.event.now in
     let old = c.args.neighbours.now in
-    subst (λ es. IsPartway c.args.upkeep old c.push.new.self.items es event.states event.states event.numbered event.numbered 1) (sym c.requires.empty)
-    (subst (λ xs. IsPartway c.args.upkeep old xs [] event.states event.states event.numbered event.numbered 1) (sym c.in_ok-push.ensures.items)
-    (subst (λ xs. IsPartway c.args.upkeep old (xs ++ None ∷ []) [] event.states event.states event.numbered event.numbered 1) (sym c.new-after.ensures.items) (part_first c.args.upkeep old event.states event.numbered c.requires.wide c.requires.nobody)))
+    subst (λ es. IsPartway c.args.upkeep old c.push.new.self.items es event.out event.out 1) (sym c.requires.empty)
+    (subst (λ xs. IsPartway c.args.upkeep old xs [] event.out event.out 1) (sym c.in_ok-push.ensures.items)
+    (subst (λ xs. IsPartway c.args.upkeep old (xs ++ None ∷ []) [] event.out event.out 1) (sym c.new-after.ensures.items) (part_first c.args.upkeep old event.out c.requires.wide c.requires.nobody)))
 
 pub loop-number-preserved : goal.loop-number-preserved
 loop-number-preserved c =
@@ -16,16 +16,16 @@ loop-number-preserved c =
     let part = c.in_ok-part_of.ensures in
     let wide = c.requires.wide in
     let below = c.loop-number-test.true in
-    subst (λ xs. IsPartway c.args.upkeep c.args.neighbours.now xs c.part_of.new.event.inside.items event.states c.part_of.new.event.states event.numbered c.part_of.new.event.numbered (c.loop-number.number + 1)) (sym c.in_ok-push-2.ensures.items)
-    (part_next c.args.upkeep c.args.neighbours.now c.loop-number.after.items c.loop-number.event.inside.items c.part_of.new.event.inside.items event.states c.loop-number.event.states c.part_of.new.event.states
-    event.numbered c.loop-number.event.numbered c.part_of.new.event.numbered c.loop-number.number c.index-neighbours-number.result _ c.loop-number.invariant (omega (arith, wide, below)) c.index-neighbours-number.is part.after part.states part.numbered part.entries)
+    subst (λ xs. IsPartway c.args.upkeep c.args.neighbours.now xs c.part_of.new.event.inside.items event.out c.part_of.new.event.out (c.loop-number.number + 1)) (sym c.in_ok-push-2.ensures.items)
+    (part_next c.args.upkeep c.args.neighbours.now c.loop-number.after.items c.loop-number.event.inside.items c.part_of.new.event.inside.items event.out c.loop-number.event.out c.part_of.new.event.out
+    c.loop-number.number c.index-neighbours-number.result _ c.loop-number.invariant (omega (arith, wide, below)) c.index-neighbours-number.is part.after part.frames part.entries)
 
 pub returns-clause-after : goal.returns-clause-after
 returns-clause-after c =
     let event = c.args.event.now in
     let wide = c.requires.wide in
     let past = c.loop-number-test.false in
-    (part_last c.args.upkeep c.args.neighbours.now c.loop-number.after.items c.loop-number.event.inside.items event.states c.loop-number.event.states event.numbered c.loop-number.event.numbered c.loop-number.number
+    (part_last c.args.upkeep c.args.neighbours.now c.loop-number.after.items c.loop-number.event.inside.items event.out c.loop-number.event.out c.loop-number.number
     c.loop-number.invariant (omega (arith, wide, past))).neighbours
 
 pub returns-clause-entries : goal.returns-clause-entries
@@ -33,21 +33,13 @@ returns-clause-entries c =
     let event = c.args.event.now in
     let wide = c.requires.wide in
     let past = c.loop-number-test.false in
-    (part_last c.args.upkeep c.args.neighbours.now c.loop-number.after.items c.loop-number.event.inside.items event.states c.loop-number.event.states event.numbered c.loop-number.event.numbered c.loop-number.number
+    (part_last c.args.upkeep c.args.neighbours.now c.loop-number.after.items c.loop-number.event.inside.items event.out c.loop-number.event.out c.loop-number.number
     c.loop-number.invariant (omega (arith, wide, past))).entries
 
-pub returns-clause-states : goal.returns-clause-states
-returns-clause-states c =
+pub returns-clause-frames : goal.returns-clause-frames
+returns-clause-frames c =
     let event = c.args.event.now in
     let wide = c.requires.wide in
     let past = c.loop-number-test.false in
-    (part_last c.args.upkeep c.args.neighbours.now c.loop-number.after.items c.loop-number.event.inside.items event.states c.loop-number.event.states event.numbered c.loop-number.event.numbered c.loop-number.number
-    c.loop-number.invariant (omega (arith, wide, past))).states_are
-
-pub returns-clause-numbered : goal.returns-clause-numbered
-returns-clause-numbered c =
-    let event = c.args.event.now in
-    let wide = c.requires.wide in
-    let past = c.loop-number-test.false in
-    (part_last c.args.upkeep c.args.neighbours.now c.loop-number.after.items c.loop-number.event.inside.items event.states c.loop-number.event.states event.numbered c.loop-number.event.numbered c.loop-number.number
-    c.loop-number.invariant (omega (arith, wide, past))).numbered_are
+    (part_last c.args.upkeep c.args.neighbours.now c.loop-number.after.items c.loop-number.event.inside.items event.out c.loop-number.event.out c.loop-number.number
+    c.loop-number.invariant (omega (arith, wide, past))).frames_are

@@ -12,3 +12,6 @@ returns-in-Cancel-clause-ok g c = call_alone c.cancel.result c.args.self.now c.c
 
 pub returns-in-NextEvent-clause-ok : goal.returns-in-NextEvent-clause-ok
 returns-in-NextEvent-clause-ok g c = call_alone c.next_event.result c.args.self.now c.next_event.new.self c.args.by c.args.call _ c.args.out.now c.in-NextEvent.is c.next_event.ensures.ok
+
+pub returns-in-Socket-clause-ok : goal.returns-in-Socket-clause-ok
+returns-in-Socket-clause-ok g c = call_alone c.socket.result c.args.self.now c.socket.new.self c.args.by c.args.call _ c.args.out.now c.in-Socket.is c.socket.ensures.ok

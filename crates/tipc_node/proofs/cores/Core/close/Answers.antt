@@ -11,7 +11,6 @@ use Rattle.tipc_journal.specs.Steps.{step_entries}
 use Rattle.tipc_name_dist.specs.Items.{tellings}
 use Rattle.tipc_sockets.specs.SocketTables.{AreSockets}
 use Rattle.tipc_node.specs.contracts.cores.Core.{the_view}
-use Rattle.tipc_node.specs.Drafts.{nothing_out}
 use Rattle.tipc_node.specs.Nodes.{NodeState, step_of}
 use Rattle.tipc_node.specs.Sockets.{closed_work, crowd_refusal, port_refusal, told_closing}
 use Rattle.tipc_node.proofs.work.Announcing.{IsAnnounced, announced, announced_crowded, announced_refused, crowd_same}
@@ -73,6 +72,6 @@ returns-clause-ok c =
     (announced k a.by note (port_refusal k.sockets a.port) (closed_work k a.port) c.in_ok-inside.inside.items (told_closing k.sockets a.port) given xs c.close.new.self d.inside.items journal d.out
     a.out.now c.conclude.new.out none clear told (c.in_ok-inside.ensures ∙ ap (map Withdrawn) (c.as_slice-4.ensures ∙ c.in_ok-those.ensures)) refl c.in-Ok.ensures.ok (record {
       tells = c.in_ok-draft.ensures.told;
-      leaves = λ frames adds. c.conclude.ensures.frames nothing_out frames refl refl adds;
+      leaves = λ frames adds. c.conclude.ensures.frames frames adds;
       recorded_is = c.conclude.ensures.journal ∙ ap (λ es. es ++ step_entries (step_of a.by note d.inside.items answer.Done)) c.share.ensures.journal;
     }))

@@ -1,6 +1,7 @@
 use Rattle.std.proofs.Common.{List, Option, None, length, ap, sym, subst, refl, ◌∙◌}
 use Rattle.std.specs.Prelude.{is_some, slice_index_or}
 use Rattle.tipc_header.specs.Spelling.{view}
+use Rattle.tipc_outside.specs.Frames.{Adds}
 use Rattle.tipc_ports.specs.Numbers.{PortTable}
 use Rattle.tipc_sockets.specs.SocketTables.{SocketTable}
 use Rattle.tipc_node.specs.contracts.cores.Core.{the_view}
@@ -57,6 +58,6 @@ returns-clause-heard c = λ bytes due.
     let w = work_of c.hear_in.new.neighbours.items c.hear_in.new.sockets c.hear_in.new.draft.inside.items in
     let box = c.in_ok-draft.draft.out in
     let heard = heard_worked n c.args.by bytes x.0 d number c.in-Ok.answer w box c.hear_in.new.draft.out due_here x.1 (c.in-Ok.ensures.worked x.0 x.1) in
-    let left = c.conclude.ensures.frames box heard.0 c.in_ok-draft.ensures.frames.0 c.in_ok-draft.ensures.frames.1 heard.2 in
+    let left = c.conclude.ensures.frames heard.0 (subst (λ b. Adds b c.hear_in.new.draft.out heard.0) c.in_ok-draft.ensures.frames heard.2) in
     journal_heard n c.args.self.now c.args.by bytes d.bearer number c.in-Ok.answer w c.conclude.new.journal.entries c.hear_in.new.journal.entries c.args.out.now c.conclude.new.out (heard.0, heard.1, left)
     c.conclude.ensures.journal c.hear_in.ensures.journal c.self.view_is

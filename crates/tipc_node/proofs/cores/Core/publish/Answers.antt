@@ -6,7 +6,6 @@ use Rattle.tipc_journal.specs.Steps.{step_entries}
 use Rattle.tipc_name_dist.specs.Items.{telling}
 use Rattle.tipc_sockets.specs.Publishing.{own_publication, published}
 use Rattle.tipc_node.specs.contracts.cores.Core.{the_view}
-use Rattle.tipc_node.specs.Drafts.{nothing_out}
 use Rattle.tipc_node.specs.Nodes.{NodeState, step_of}
 use Rattle.tipc_node.specs.Sockets.{crowd_refusal, publication_refusal, published_work}
 use Rattle.tipc_node.proofs.work.Announcing.{IsAnnounced, announced, announced_crowded, announced_refused, crowd_same}
@@ -59,6 +58,6 @@ returns-clause-ok c =
     (announced k a.by note (publication_refusal k.sockets a.port a.range.kind a.key) (published_work k a.port a.range a.scope a.key) c.in_ok-inside.inside.items (telling false p) given xs c.publish_allowed.new.sockets d.inside.items journal d.out
     a.out.now c.conclude.new.out none clear (c.as_slice-3.ensures.value ∙ told) (c.in_ok-inside.ensures ∙ ap (λ q. Published q ∷ []) published_is) refl sockets (record {
       tells = c.in_ok-draft.ensures.told;
-      leaves = λ frames adds. c.conclude.ensures.frames nothing_out frames refl refl adds;
+      leaves = λ frames adds. c.conclude.ensures.frames frames adds;
       recorded_is = c.conclude.ensures.journal ∙ ap (λ es. es ++ step_entries (step_of a.by note d.inside.items answer.Done)) c.share.ensures.journal;
     }))

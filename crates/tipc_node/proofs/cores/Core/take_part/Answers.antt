@@ -1,8 +1,8 @@
-use Rattle.std.proofs.Common.{◌∙◌, ◌++◌, List, None, ap, fold, length, refl, slice_index_or}
+use Rattle.std.proofs.Common.{◌∙◌, ◌++◌, List, None, ap, fold, length, refl, slice_index_or, subst}
 use Rattle.std.specs.List.{list_all}
 use Rattle.tipc_types.specs.declared.node_calls.Answer.TheVariants as answer
 use Rattle.tipc_types.specs.declared.node_calls.EventNote.{EventNote}
-use Rattle.tipc_outside.proofs.Adding.{adds_more}
+use Rattle.tipc_outside.specs.Frames.{Gains}
 use Rattle.tipc_journal.specs.declared.entries.Entry.{Entry}
 use Rattle.tipc_journal.specs.Room.{JournalState}
 use Rattle.tipc_journal.specs.Steps.{step_entries}
@@ -10,7 +10,7 @@ use Rattle.tipc_ports.specs.Numbers.{PortTable}
 use Rattle.tipc_sockets.specs.SocketTables.{SocketTable}
 use Rattle.tipc_sockets.specs.Telling.{after_entry}
 use Rattle.tipc_node.specs.Calls.{upkeep_work}
-use Rattle.tipc_node.specs.Nodes.{NodeState, after_all, upkeep_note, entries_all, frames_all, is_change, mended_by, numbered_all, states_all, step_of, with_mended}
+use Rattle.tipc_node.specs.Nodes.{NodeState, after_all, upkeep_note, entries_all, frames_all, is_change, made_all, mended_by, step_of, with_mended}
 use Rattle.tipc_node.specs.Works.{concluded}
 use Rattle.tipc_node.proofs.work.Changes.{all_changes, same_folded}
 use Rattle.tipc_node.proofs.turns.Parts.{all_nobody, all_wide}
@@ -48,9 +48,7 @@ returns-clause-ok c =
     ∙ ap (λ (e : EventNote). w.journal.entries ++ step_entries (step_of c.args.by e c.part_of_all.new.event.inside.items answer.Done)) c.upkeep_note.ensures
     ∙ ap (λ (es : List Entry). w.journal.entries ++ step_entries (step_of c.args.by (upkeep_note d) es answer.Done)) entries in
     let fresh = c.new-event.ensures in
-    let box = c.new-event.result in
-    let first = c.leave.ensures box.states (states_all d c.as_slice.result.now) fresh.states.0 fresh.states.1 c.in_ok-after.ensures.states in
-    let then = c.leave-2.ensures box.numbered (numbered_all d c.as_slice.result.now) fresh.numbered.0 fresh.numbered.1 c.in_ok-after.ensures.numbered in (
+    let whole = subst (λ b. Gains b c.part_of_all.new.event.out (made_all d c.as_slice.result.now)) fresh.out c.in_ok-after.ensures.frames in (
       frames_all d c.as_slice.result.now,
       (
         takes_from n c.args.by d c.mended_by-self-inside.result c.in_ok-after.after.items c.purge_ended.new.sockets c.record.new.journal.entries c.mended_by-self-inside.ensures (c.in_ok-after.ensures.after ∙ ap (after_all d) read) between told
@@ -58,5 +56,5 @@ returns-clause-ok c =
         ap (frames_all d) read ∙ ap (λ (m : NodeState). frames_all d m.neighbours) c.self.view_is,
         refl,
       ),
-      adds_more c.args.out.now c.leave.new.out c.leave-2.new.out (states_all d c.as_slice.result.now) (numbered_all d c.as_slice.result.now) first then,
+      c.append.ensures (made_all d c.as_slice.result.now) whole,
     )

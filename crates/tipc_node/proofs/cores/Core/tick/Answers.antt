@@ -1,8 +1,8 @@
-use Rattle.std.proofs.Common.{◌++◌, ◌∙◌, List, None, ap, fold, length, map, refl, slice_index_or, take}
+use Rattle.std.proofs.Common.{◌++◌, ◌∙◌, List, None, ap, fold, length, map, refl, slice_index_or, take, subst}
 use Rattle.std.specs.List.{list_all}
 use Rattle.tipc_types.specs.declared.node_calls.Answer.TheVariants as answer
 use Rattle.tipc_types.specs.declared.node_calls.EventNote.TheVariants as event
-use Rattle.tipc_outside.proofs.Adding.{adds_more}
+use Rattle.tipc_outside.specs.Frames.{Gains}
 use Rattle.tipc_journal.specs.declared.entries.Entry.{Entry}
 use Rattle.tipc_journal.specs.declared.entries.Entry.TheVariants as entry
 use Rattle.tipc_journal.specs.Room.{JournalState}
@@ -12,7 +12,7 @@ use Rattle.tipc_sockets.specs.SocketTables.{SocketTable}
 use Rattle.tipc_sockets.specs.Telling.{after_entry}
 use Rattle.tipc_node.specs.declared.neighbours.Upkeep.TheVariants as upkeep
 use Rattle.tipc_node.specs.Calls.{tick_work}
-use Rattle.tipc_node.specs.Nodes.{NodeState, after_all, entries_all, frames_all, is_change, numbered_all, states_all, step_of}
+use Rattle.tipc_node.specs.Nodes.{NodeState, after_all, entries_all, frames_all, is_change, made_all, step_of}
 use Rattle.tipc_node.specs.Works.{concluded}
 use Rattle.tipc_node.proofs.work.Changes.{all_changes, same_folded}
 use Rattle.tipc_node.proofs.turns.Parts.{all_nobody, all_wide}
@@ -57,9 +57,7 @@ returns-clause-ok c =
     ∙ ap (λ (es : List Entry). es ++ step_entries (step_of c.args.by event.Tick c.note_timeouts.new.inside.items answer.Done)) (ap (λ (j : JournalState). j.entries) c.in_ok-reserve-2.ensures.ok)
     ∙ ap (λ (es : List Entry). w.journal.entries ++ step_entries (step_of c.args.by event.Tick es answer.Done)) inside in
     let fresh = c.new-event.ensures in
-    let box = c.new-event.result in
-    let first = c.leave.ensures box.states (states_all upkeep.Tick c.as_slice.result.now) fresh.states.0 fresh.states.1 c.in_ok-after.ensures.states in
-    let then = c.leave-2.ensures box.numbered (numbered_all upkeep.Tick c.as_slice.result.now) fresh.numbered.0 fresh.numbered.1 c.in_ok-after.ensures.numbered in (
+    let whole = subst (λ b. Gains b c.part_of_all.new.event.out (made_all upkeep.Tick c.as_slice.result.now)) fresh.out c.in_ok-after.ensures.frames in (
       frames_all upkeep.Tick c.as_slice.result.now,
       (
         ticks_from n c.args.by c.in_ok-after.after.items c.purge_ended.new.sockets c.pass.new.self c.record.new.journal.entries (c.in_ok-after.ensures.after ∙ ap (after_all upkeep.Tick) read) between c.pass.ensures.parts told
@@ -67,5 +65,5 @@ returns-clause-ok c =
         ap (frames_all upkeep.Tick) read ∙ ap (λ (m : NodeState). frames_all upkeep.Tick m.neighbours) c.self.view_is,
         refl,
       ),
-      adds_more c.args.out.now c.leave.new.out c.leave-2.new.out (states_all upkeep.Tick c.as_slice.result.now) (numbered_all upkeep.Tick c.as_slice.result.now) first then,
+      c.append.ensures (made_all upkeep.Tick c.as_slice.result.now) whole,
     )

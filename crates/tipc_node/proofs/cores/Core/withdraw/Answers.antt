@@ -4,7 +4,6 @@ use Rattle.tipc_types.specs.declared.node_calls.EventNote.TheVariants.{Withdraw}
 use Rattle.tipc_journal.specs.Steps.{step_entries}
 use Rattle.tipc_sockets.specs.SocketTables.{AreSockets}
 use Rattle.tipc_node.specs.contracts.cores.Core.{the_view}
-use Rattle.tipc_node.specs.Drafts.{nothing_out}
 use Rattle.tipc_node.specs.Nodes.{NodeState, step_of}
 use Rattle.tipc_node.specs.Sockets.{crowd_refusal, told_withdrawal, withdrawal_refusal, withdrawn_work}
 use Rattle.tipc_node.proofs.work.Announcing.{IsAnnounced, announced, announced_crowded, announced_refused, crowd_same, telling_alone}
@@ -67,6 +66,6 @@ returns-clause-ok c =
     (announced k a.by note (withdrawal_refusal k.sockets a.port a.key) (withdrawn_work k a.port a.key) c.in_ok-inside.inside.items (told_withdrawal k.sockets a.port a.key) given xs c.withdraw_at.new.self d.inside.items journal d.out
     a.out.now c.conclude.new.out none clear told (c.in_ok-inside.ensures ∙ withdrawn_inside k a.port a.key p found) refl (withdrawn_sockets k a.port a.key p c.withdraw_at.new.self sound found c.in-Ok.ensures.after) (record {
       tells = c.in_ok-draft.ensures.told;
-      leaves = λ frames adds. c.conclude.ensures.frames nothing_out frames refl refl adds;
+      leaves = λ frames adds. c.conclude.ensures.frames frames adds;
       recorded_is = c.conclude.ensures.journal ∙ ap (λ es. es ++ step_entries (step_of a.by note d.inside.items answer.Done)) c.share.ensures.journal;
     }))

@@ -11,7 +11,7 @@ invariant_of-result c =
     let n = c.in_ok-core.core in
     let made = c.in_ok-core.ensures in
     let none = made.empty.0 ∙ ap (λ w. no_sockets w c.args.boot) (sym made.own.0) ∙ ap (no_sockets n.own) (sym made.own.1) in
-    held_of n (new_kept n none c.sound.ensures.sockets made.empty.1 made.alone)
+    held_of n (new_kept n c.sound.ensures.epochs none c.sound.ensures.sockets made.empty.1 made.alone)
 
 pub returns-clause-told : goal.returns-clause-told
 returns-clause-told c =
