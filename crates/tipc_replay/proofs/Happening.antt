@@ -7,10 +7,9 @@ use Rattle.tipc_types.specs.Address.{node_word}
 use Rattle.tipc_types.specs.declared.node_calls.Answer.{Answer}
 use Rattle.tipc_types.specs.declared.node_calls.By.{By}
 use Rattle.tipc_outside.specs.declared.outgoing.Outgoing.{Outgoing}
-use Rattle.tipc_outside.specs.Frames.{Adds, Out}
+use Rattle.tipc_outside.specs.Frames.{Adds, Out, frames_leaving, no_frames}
 use Rattle.tipc_node.specs.declared.neighbours.Neighbour.{Neighbour}
 use Rattle.tipc_link.specs.Links.{LinkEnd}
-use Rattle.tipc_pair.specs.Courses.{no_frames}
 use Rattle.tipc_pair.specs.Facing.{facing}
 use Rattle.tipc_node.specs.Nodes.{end_with, neighbour_of}
 use Rattle.tipc_replay.specs.declared.air.Sent.{Sent}
@@ -43,7 +42,7 @@ same_emits : (air air' : AirState) (met met' : ℕ → Option (ℕ × ℕ)) (mem
     → Emits air air' met members a box lost → Emits air air' met' members a box lost
 same_emits air air' met met' members a box lost same emits = record {
   count = emits.count;
-  air = emits.air ∙ ap (λ f. with_both air (map f (filter (is_on 0) (take emits.count box.frames))) (map f (filter (is_on 1) (take emits.count box.frames)))) (fun_ext (same_frame met met' members a same));
+  air = emits.air ∙ ap (λ f. with_both air (map f (filter (is_on 0) (take emits.count (frames_leaving box)))) (map f (filter (is_on 1) (take emits.count (frames_leaving box))))) (fun_ext (same_frame met met' members a same));
   lost_is = emits.lost_is;
 }
 

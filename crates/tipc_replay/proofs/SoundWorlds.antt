@@ -1,5 +1,5 @@
 -- Nodes and the air between them are sound at the beginning, when a node comes in, and after every step.
-use Rattle.std.proofs.Common.{◌≡◌, ◌≢◌, ◌==◌, ◌≤◌, ◌<◌, ◌+◌, ◌-◌, ◌^◌, ℕ, zero, suc, Bool, List, [], Option, Some, None, map, option_map, option_and_then, slice_index_or, unwrap_or, refl, sym, ap, ◌∙◌, subst, inl, inr, arith}
+use Rattle.std.proofs.Common.{◌≡◌, ◌≢◌, ◌==◌, ◌≤◌, ◌<◌, ◌+◌, ◌-◌, ◌^◌, ℕ, zero, suc, Bool, List, [], Option, Some, None, map, option_map, option_and_then, slice_index_or, unwrap_or, refl, sym, ap, ◌∙◌, subst, inl, inr, arith, true}
 use Rattle.std.specs.Prelude.{false, if◌then◌else◌, is_some, slice_get}
 use Rattle.std.specs.Map.{lookup}
 use Rattle.std.proofs.lemmas.Bool.{cases_eq}
@@ -24,7 +24,7 @@ use Rattle.tipc_node.specs.Turns.{pair_in}
 use Rattle.tipc_replay.specs.Members.{IsNewcomer, Tally}
 use Rattle.tipc_replay.specs.Numbers.{begun_of, end_on, own_in, seen_in}
 use Rattle.tipc_replay.specs.Skies.{AirState, air_on, empty_air}
-use Rattle.tipc_replay.specs.Sound.{IsAirborne, IsNumber, IsSound}
+use Rattle.tipc_replay.specs.Sound.{IsNumber, IsSound}
 use Rattle.tipc_replay.specs.States.{has_member, MemberState, boot_at, count_at, count_in, count_of, history, history_at, member_at, pair_at, same_session, stream_of}
 use Rattle.tipc_replay.specs.Events.{JoinsAt}
 use Rattle.tipc_replay.specs.Steps.{Becomes, IsArrival, Stage}
@@ -212,6 +212,12 @@ joined_absent old new n first b j none = elim (cases_eq b n) [
   | inr other ↦ sym (j.others b other) ∙ none
 ]
 
+joined_there : (old new : List (Option MemberState)) (n first b : ℕ) → JoinsAt old new n first → has_member old b ≡ true → has_member new b ≡ true
+joined_there old new n first b j there = elim (cases_eq b n) [
+  | inl same ↦ ap (has_member new) same ∙ ap is_some j.here
+  | inr other ↦ ap is_some (j.others b other) ∙ there
+]
+
 joined_pairs : (old new : List (Option MemberState)) (air : AirState) (n first a b : ℕ) → slice_index_or old n None ≡ None → 1 ≤ first → first < 2 ^ 32 → JoinsAt old new n first → a ≢ b
     → AreSeen (sight_at old air a b) (sight_at old air b a) → AreSeen (sight_at new air a b) (sight_at new air b a)
 joined_pairs old new air n first a b none from few j apart h = elim (cases_eq a n) [
@@ -244,6 +250,7 @@ joined_sound old new air n first number from few none sound j =
       delivered = streams.delivered;
       nothing = streams.nothing;
       frames = sound.frames;
+      senders = λ bearer k f there. (let by = sound.senders bearer k f there in (by.0, by.1, joined_there old new n first by.0 j by.2));
     }
 
 -- a node that isn't there
@@ -281,8 +288,8 @@ new_sight a b a_is b_is =
     }
 
 -- no frame is in an air in which none was sent
-none_flies : (bearer k : ℕ) (f : Sent) → slice_get (air_on bearer empty_air) k ≡ Some f → IsAirborne f
-none_flies bearer k f there = absurd (
+none_flies : (bearer k : ℕ) (f : Sent) → slice_get (air_on bearer empty_air) k ≡ Some f → ⊥
+none_flies bearer k f there = (
     let none : air_on bearer empty_air ≡ [] = (λ i. if bearer == 0 then [] else either_way (bearer == 1) [] i) ∙ either_way (bearer == 0) [] in
     let gone : slice_get [] k ≡ Some f = subst (λ fs. slice_get fs k ≡ Some f) none there in
     let wrong : ⊥ = cc in wrong)
@@ -299,5 +306,6 @@ start_sound = record {
   accepted = streams_start.accepted;
   delivered = streams_start.delivered;
   nothing = streams_start.nothing;
-  frames = none_flies;
+  frames = λ bearer k f there. absurd (none_flies bearer k f there);
+  senders = λ bearer k f there. absurd (none_flies bearer k f there);
 }

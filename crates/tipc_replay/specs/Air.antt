@@ -1,14 +1,15 @@
 -- Frames that are sent, and the air that keeps them.
-use Rattle.std.specs.Prelude.{◌≡◌, ◌≢◌, ◌≤◌, ℕ, ◌-◌, ◌==◌, Bool, true, ◌&&◌, ◌||◌, ◌++◌, List, None, Option, Some, filter, if◌then◌else◌, map, nat_lt, slice_index_or, take, length, unwrap_or}
+use Rattle.std.specs.Prelude.{◌≡◌, ◌≤◌, ℕ, ◌-◌, ◌==◌, Bool, true, ◌&&◌, ◌||◌, ◌++◌, List, [], false, None, Option, Some, filter, if◌then◌else◌, map, nat_lt, slice_index_or, take, length, unwrap_or}
 use Rattle.tipc_types.specs.Address.{node_word}
 use Rattle.tipc_types.specs.declared.identity.To.{To}
 use Rattle.tipc_types.specs.declared.identity.To.TheVariants as to
 use Rattle.tipc_outside.specs.declared.outgoing.Outgoing.{Outgoing}
-use Rattle.tipc_outside.specs.Frames.{Adds, Out}
-use Rattle.tipc_pair.specs.Courses.{no_frames}
+use Rattle.tipc_outside.specs.Frames.{Adds, Out, is_lost, frames_leaving, no_frames}
+use Rattle.tipc_header.specs.Frames.{is_of_link}
 use Rattle.tipc_paired.specs.Views.{Frame, er_of, es_of}
 use Rattle.tipc_node.specs.Nodes.{is_frame_size}
-use Rattle.tipc_node.specs.Turns.{addr_of, is_to}
+use Rattle.tipc_node.specs.Turns.{is_to}
+use Rattle.tipc_replay.specs.Addressed.{IsAddressed}
 use Rattle.tipc_replay.specs.declared.air.Sent.{Sent}
 use Rattle.tipc_replay.specs.declared.flying.Met.{Met}
 use Rattle.tipc_replay.specs.declared.flying.Met.TheVariants.{Lasting, Sender, Everyone}
@@ -58,22 +59,23 @@ leaving_on bearer met members a frames = map (airborne met members a) (filter (i
 abbrev pub with_leaving : AirState → (ℕ → Option (ℕ × ℕ)) → List (Option MemberState) → ℕ → List Outgoing → AirState
 with_leaving air met members a frames = with_both air (leaving_on 0 met members a frames) (leaving_on 1 met members a frames)
 
--- A frame of node a may come into the air: it is on one of the two bearers, for another one of the 32 nodes, and has a frame's size.
+-- A frame of node a may come into the air: it is on one of the two bearers, is addressed by its kind, and has a frame's size.
 pub record IsOut (a : ℕ) (o : Outgoing) : Type 0 where
   pub bearer : o.bearer ≤ 1
-  pub receiver : ℕ
-  pub number : (1 ≤ receiver) × (receiver ≤ 32)
-  pub apart : receiver ≢ a
-  pub to_is : o.to ≡ to.Node (addr_of receiver)
+  pub addressed : IsAddressed a o.frame o.to
   pub size : is_frame_size (length o.frame) ≡ true
+
+-- frames that stand in no box yet, as a box in which they leave one behind the other
+abbrev pub loose : List Outgoing → Out
+loose frames = record { first = record { frames = []; lost = false }; behind = record { frames = frames; lost = false } }
 
 -- What node a put into a box came into the air, in order: all of it, or the first so many frames. A frame is lost exactly where the box
 -- tells so, or fewer frames came into the air than are in it.
 pub record Emits (old new : AirState) (met : ℕ → Option (ℕ × ℕ)) (members : List (Option MemberState)) (a : ℕ) (box : Out)
     (lost : Bool) : Type 0 where
   pub count : ℕ
-  pub air : new ≡ with_leaving old met members a (take count box.frames)
-  pub lost_is : lost ≡ (box.lost || nat_lt count (length box.frames))
+  pub air : new ≡ with_leaving old met members a (take count (frames_leaving box))
+  pub lost_is : lost ≡ (is_lost box || nat_lt count (length (frames_leaving box)))
 
 -- The frames that leave node a in an event went into a box, and from there into the air.
 pub record Leaves (old new : AirState) (met : ℕ → Option (ℕ × ℕ)) (members : List (Option MemberState)) (a : ℕ)
@@ -82,9 +84,9 @@ pub record Leaves (old new : AirState) (met : ℕ → Option (ℕ × ℕ)) (memb
   pub boxed : Adds no_frames box frames
   pub emits : Emits old new met members a box lost
 
--- the frames that node a ever sent to node b
+-- a frame in the air is of the links from node a to node b
 abbrev pub goes : ℕ → ℕ → Sent → Bool
-goes a b f = (f.from.word == node_word a) && is_to b f.to
+goes a b f = (f.from.word == node_word a) && (is_to b f.to && is_of_link f.frame)
 
 -- a frame in the air of a bearer as the pair of its nodes has it
 abbrev pub as_frame : ℕ → Sent → Frame
@@ -97,6 +99,7 @@ as_frame bearer f = record {
   peer_numbered = f.peer_numbered;
 }
 
+-- what the link from node a to node b ever sent on a bearer, among these frames
 abbrev pub sent_on : ℕ → List Sent → ℕ → ℕ → List Frame
 sent_on bearer sent a b = map (as_frame bearer) (filter (goes a b) sent)
 

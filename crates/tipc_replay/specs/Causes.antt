@@ -12,7 +12,8 @@ use Rattle.tipc_types.specs.declared.node_calls.EventNote.TheVariants as event
 use Rattle.tipc_header.specs.declared.packet.Changeover.{Changeover}
 use Rattle.tipc_header.specs.declared.packet.ChangeoverType.TheVariants.{Original}
 use Rattle.tipc_header.specs.declared.packet.Header.TheVariants as header
-use Rattle.tipc_header.specs.Frames.{frame_of}
+use Rattle.tipc_header.specs.declared.frames.FrameKind.TheVariants.{Links}
+use Rattle.tipc_header.specs.Frames.{frame_of, kind_in}
 use Rattle.tipc_header.specs.Grammar.{Fits}
 use Rattle.tipc_header.specs.Spelling.{Fields, spelling}
 use Rattle.tipc_journal.specs.declared.entries.Entry.TheVariants as entry
@@ -105,15 +106,16 @@ pub record BringsUp (s : NodeStep) (peer : Addr) (bearer : ℕ) : Type 0 where
   pub theirs : ℕ
   pub entry_is : slice_get s.inside place ≡ Some (entry.LinkUp peer bearer own theirs)
 
--- a step is the arrival of a frame of the peer on a bearer, which the link took, or deferred
+-- a step is the arrival of a link packet of the peer on a bearer, which the link took, or deferred
 pub record IsTakenFrom (seen : Seen) (s : NodeStep) (peer : Addr) (bearer : ℕ) : Type 0 where
   pub frame : Sent
   pub arrives : IsArrivalOf seen s bearer frame peer
+  pub link : kind_in frame.frame ≡ Links
   pub answered : Arrival
   pub answer_is : s.answer ≡ answer.Arrived answered
   pub taken : IsTakenIn answered
 
--- At least so many ticks stand after each of these steps in which the link to the peer on a bearer went up or took a frame of it.
+-- At least so many ticks stand after each of these steps in which the link to the peer on a bearer went up or took a link packet of it.
 abbrev pub HasTicked : Seen → List PlacedStep → Addr → ℕ → ℕ → Type 0
 HasTicked seen made peer bearer least = (k : ℕ) (s : PlacedStep) → slice_get made k ≡ Some s
     → BringsUp s.step peer bearer ⊎ IsTakenFrom seen s.step peer bearer → least ≤ ticks (drop (k + 1) made)

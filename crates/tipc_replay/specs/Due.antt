@@ -1,10 +1,12 @@
 -- Which frame arrives, and how old it is.
-use Rattle.std.specs.Prelude.{◌≡◌, ◌⊎◌, false, ℕ, ◌-◌, ◌==◌, Bool, true, List, Option, Some, None, drop, length, max, nat_lt, slice_get, if◌then◌else◌}
+use Rattle.std.specs.Prelude.{◌≡◌, ◌⊎◌, false, ℕ, ◌-◌, ◌==◌, Bool, true, List, Option, Some, None, drop, length, max, nat_lt, not, slice_get, if◌then◌else◌}
 use Rattle.tipc_types.specs.Address.{node_word}
+use Rattle.tipc_types.specs.declared.identity.Addr.{Addr}
 use Rattle.tipc_types.specs.declared.identity.To.{To}
 use Rattle.tipc_types.specs.declared.identity.To.TheVariants as to
 use Rattle.tipc_types.specs.declared.node_calls.Answer.{Answer}
 use Rattle.tipc_types.specs.declared.node_calls.Answer.TheVariants as answer
+use Rattle.tipc_types.specs.Limits.{most_age}
 use Rattle.tipc_header.specs.declared.fault.HeaderFault.{HeaderFault}
 use Rattle.tipc_header.specs.Faults.{fault_of}
 use Rattle.tipc_header.specs.Reading.{fields_at}
@@ -16,15 +18,15 @@ use Rattle.tipc_replay.specs.Air.{number_of_node}
 use Rattle.tipc_replay.specs.Skies.{AirState, air_on}
 use Rattle.tipc_replay.specs.States.{MemberState, count_at}
 
--- whether a frame is for node n
-abbrev pub is_for : To → ℕ → Bool
-is_for (to.Node address) n = address.word == node_word n
-is_for to.All n = true
+-- whether a frame from this address is for node n: one to all is for each node but its sender
+abbrev pub is_for : Addr → To → ℕ → Bool
+is_for from (to.Node address) n = address.word == node_word n
+is_for from to.All n = not (from.word == node_word n)
 
 -- a frame, where there is one and it is for node n
 abbrev pub kept_for : Option Sent → ℕ → Option Sent
 kept_for None n = None
-kept_for (Some f) n = if is_for f.to n then Some f else None
+kept_for (Some f) n = if is_for f.from f.to n then Some f else None
 
 -- the k-th frame of a bearer's air, where it is for node n
 unfoldable pub frame_for : AirState → ℕ → ℕ → ℕ → Option Sent
@@ -68,7 +70,7 @@ HasNoSession bytes = (is_frame_size (length bytes) ≡ false)
 abbrev pub stopped_by_age : List (Option MemberState) → ℕ → ℕ → Option Sent → Option Answer
 stopped_by_age members n bearer None = Some answer.NoFrame
 stopped_by_age members n bearer (Some f) =
-    if nat_lt 30000 (age_of members f n bearer) then Some (answer.TooOld (age_of members f n bearer)) else None
+    if nat_lt most_age (age_of members f n bearer) then Some (answer.TooOld (age_of members f n bearer)) else None
 
 -- why a frame doesn't arrive: there is no such frame for that node, or it is too old
 unfoldable pub unarrived : List (Option MemberState) → AirState → ℕ → ℕ → ℕ → Option Answer

@@ -35,7 +35,7 @@ IsLawfulEntry seen earlier s (entry.ContactDown peer numbers states number) =
     × ((number ≡ 0) ⊎ (IsNumberOf seen s.step peer number × (numbers.1 < number)))
 IsLawfulEntry seen earlier s (entry.Accepted peer numbers flow message) = contact (after s) peer ≡ Some numbers
 IsLawfulEntry seen earlier s (entry.Delivered peer numbers flow message by) = (contact (after s) peer ≡ Some numbers)
-    × IsSpelled seen s.step peer message by
+    × IsSpelled seen s.step flow peer message by
 IsLawfulEntry seen earlier s other = Unit {0}
 
 -- one step of a journal, after those earlier ones

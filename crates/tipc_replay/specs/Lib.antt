@@ -1,6 +1,7 @@
 pub mod Skies
 pub mod Numbers
 pub mod States
+pub mod Addressed
 pub mod Air
 pub mod Due
 pub mod Calls

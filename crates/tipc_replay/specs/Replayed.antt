@@ -4,14 +4,12 @@ use Rattle.std.specs.List.Sorted.{IsStrictlySortedBy}
 use Rattle.std.specs.Ordering.{nat_cmp}
 use Rattle.tipc_types.specs.Address.{node_word}
 use Rattle.tipc_types.specs.Prefixes.{IsPrefixOf}
-use Rattle.tipc_types.specs.declared.identity.To.TheVariants as to
 use Rattle.tipc_types.specs.declared.message_forms.Flow.{Flow}
-use Rattle.tipc_header.specs.Frames.{frame_of}
-use Rattle.tipc_header.specs.Grammar.{Fits}
-use Rattle.tipc_header.specs.Spelling.{Fields, spelling}
+use Rattle.tipc_types.specs.Limits.{most_frame_bytes}
 use Rattle.tipc_node.specs.Turns.{addr_of}
 use Rattle.tipc_two_nodes.specs.Truth.{AreTrue}
 use Rattle.tipc_replay.specs.declared.air.Sent.{Sent}
+use Rattle.tipc_replay.specs.Addressed.{IsAddressed, IsPacketOf}
 use Rattle.tipc_replay.specs.Lawful.{AreLawful, HasBegun}
 use Rattle.tipc_replay.specs.Answered.{AllAnswered}
 use Rattle.tipc_replay.specs.Entered.{numbers_entered}
@@ -24,20 +22,15 @@ use Rattle.tipc_replay.specs.Told.{IsToldOf}
 use Rattle.tipc_replay.specs.States.{MemberState, accepted_at, delivered_at, history_at}
 use Rattle.tipc_replay.specs.Views.{sight_at}
 
--- A frame is true: node a sent it to node b, it has at most 1,516 bytes, and it is a packet of a under an envelope.
+-- A frame is true: one of the 32 nodes sent it, it is addressed by its kind, it has at most 1,516 bytes, and it is a packet of its sender under an
+-- envelope.
 pub record IsTrue (f : Sent) : Type 0 where
   pub a : ℕ
-  pub b : ℕ
-  pub apart : IsNumber a × IsNumber b × (a ≢ b)
+  pub number : IsNumber a
   pub from_is : f.from.word ≡ node_word a
-  pub to_is : f.to ≡ to.Node (record { word = node_word b })
-  pub size : length f.frame ≤ 1516
-  pub es : ℕ
-  pub er : ℕ
-  pub packet : Fields
-  pub fits : Fits packet
-  pub frame_is : f.frame ≡ frame_of es er (spelling packet)
-  pub previous : packet.previous ≡ node_word a
+  pub addressed : IsAddressed a f.frame f.to
+  pub size : length f.frame ≤ most_frame_bytes
+  pub said : IsPacketOf a f.frame
 
 -- What is always true of nodes and the air between them: the promises of this project that speak of no chooser and of no count of stamps, one
 -- each.

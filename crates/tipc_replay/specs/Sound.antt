@@ -9,24 +9,21 @@ use Rattle.tipc_two_nodes.specs.Sights.{AreSeen}
 use Rattle.tipc_replay.specs.declared.air.Sent.{Sent}
 use Rattle.tipc_node.specs.Messages.{IsSendable}
 use Rattle.tipc_node.specs.Nodes.{is_frame_size}
-use Rattle.tipc_node.specs.Turns.{is_to}
+use Rattle.tipc_replay.specs.Addressed.{IsAddressed}
 use Rattle.tipc_replay.specs.Skies.{AirState, air_on}
-use Rattle.tipc_replay.specs.States.{MemberState, accepted_at, delivered_at, pair_at}
+use Rattle.tipc_replay.specs.States.{MemberState, accepted_at, delivered_at, has_member, pair_at}
 use Rattle.tipc_replay.specs.Views.{sight_at}
 
 -- the numbers of nodes are from 1 to 32
 abbrev pub IsNumber : ℕ → Type 0
 IsNumber n = (1 ≤ n) × (n ≤ 32)
 
--- a frame in the air goes from one node to another, and has a frame's size
+-- a frame in the air is of one of the 32 nodes, is addressed by its kind, and has a frame's size
 pub record IsAirborne (f : Sent) : Type 0 where
   pub from : ℕ
-  pub receiver : ℕ
   pub from_number : IsNumber from
-  pub receiver_number : IsNumber receiver
-  pub apart : from ≢ receiver
   pub from_is : f.from.word ≡ node_word from
-  pub to_is : is_to receiver f.to ≡ true
+  pub addressed : IsAddressed from f.frame f.to
   pub size : is_frame_size (length f.frame) ≡ true
 
 -- a pair of node a with node b, seen from bearer 0's link
@@ -34,6 +31,10 @@ pub record IsPairOf (a b : ℕ) (x : PairEnds) : Type 0 where
   pub own : x.own ≡ node_word a
   pub peer : x.peer ≡ node_word b
   pub first : x.bearer ≡ 0
+
+-- a frame in the air was sent by a node that is there
+abbrev pub IsSentBy : List (Option MemberState) → Sent → Type 0
+IsSentBy members f = (n : ℕ) × (f.from.word ≡ node_word n) × (has_member members n ≡ true)
 
 -- What every world keeps of its nodes, of each two of them, and of the frames in its air.
 pub record IsSound (members : List (Option MemberState)) (air : AirState) : Type 0 where
@@ -58,3 +59,4 @@ pub record IsSound (members : List (Option MemberState)) (air : AirState) : Type
   pub nothing : (a b own theirs : ℕ) → delivered_at members a b own theirs Zero ≢ []
       → IsNumber a × IsNumber b × (a ≢ b)
   pub frames : (bearer k : ℕ) (f : Sent) → slice_get (air_on bearer air) k ≡ Some f → IsAirborne f
+  pub senders : (bearer k : ℕ) (f : Sent) → slice_get (air_on bearer air) k ≡ Some f → IsSentBy members f

@@ -1,7 +1,10 @@
 -- Which arrivals spell a message that was delivered, over bytes and the grammar alone.
 use Rattle.std.specs.Prelude.{◌≡◌, ◌≤◌, ℕ, List, Some, slice_get}
 use Rattle.tipc_types.specs.declared.identity.Addr.{Addr}
+use Rattle.tipc_types.specs.declared.identity.To.{To}
+use Rattle.tipc_types.specs.declared.identity.To.TheVariants as to
 use Rattle.tipc_types.specs.declared.message_forms.Flow.{Flow}
+use Rattle.tipc_types.specs.declared.message_forms.Flow.TheVariants.{Broadcast}
 use Rattle.tipc_types.specs.declared.message_forms.Message.{Message}
 use Rattle.tipc_types.specs.declared.node_calls.EventNote.TheVariants as event
 use Rattle.tipc_journal.specs.declared.entries.Entry.{Entry}
@@ -26,12 +29,18 @@ pub data Brings (packet : Fields) : List ℕ → Type 0 where
   itself : Brings packet (spelling (as_waiting packet))
   inside : (t : Tunnelled) → IsTunnelOf (spelling (as_waiting packet)) t → Brings packet (restored t.inner)
 
--- The arrival of that number at the node was of a frame that the peer sent, which brought this packet.
-pub record HasBrought (seen : Seen) (peer : Addr) (by : ℕ) (bytes : List ℕ) : Type 0 where
+-- what a message of this flow came in was sent for: a broadcast for all, and any other for one node
+abbrev pub IsSentIn : Flow → To → Type 0
+IsSentIn Broadcast t = t ≡ to.All
+IsSentIn flow t = (address : Addr) × (t ≡ to.Node address)
+
+-- The arrival of that number at the node was of a frame that the peer sent, for whom the flow asks, which brought this packet.
+pub record HasBrought (seen : Seen) (flow : Flow) (peer : Addr) (by : ℕ) (bytes : List ℕ) : Type 0 where
   pub bearer : ℕ
   pub frame : Sent
   pub arrived : arrived_frame seen bearer by ≡ Some frame
   pub from : frame.from.word ≡ peer.word
+  pub sent : IsSentIn flow frame.to
   pub es : ℕ
   pub er : ℕ
   pub packet : Fields
@@ -46,10 +55,10 @@ pub record IsBy (s : NodeStep) (by : ℕ) : Type 0 where
   pub event_is : s.event ≡ event.Arrive bearer number
   pub until : by ≤ number
 
--- These arrivals, in order, spell a message as the peer sends it: its packet came alone or in a bundle by the one, or its fragments came by all of them. They
+-- These arrivals, in order, spell a message of a flow as the peer sends it: its packet came alone or in a bundle by the one, or its fragments came by all of them. They
 -- were in this step or before it, of frames that the peer sent.
-abbrev pub IsSpelled : Seen → NodeStep → Addr → Message → List ℕ → Type 0
-IsSpelled seen s peer message by = IsTraced (λ number packet. HasBrought seen peer number packet × IsBy s number) (bytes_of peer.word message) by
+abbrev pub IsSpelled : Seen → NodeStep → Flow → Addr → Message → List ℕ → Type 0
+IsSpelled seen s flow peer message by = IsTraced (λ number packet. HasBrought seen flow peer number packet × IsBy s number) (bytes_of peer.word message) by
 
 -- each message that was delivered at a node, in all its boots, is spelled by the arrivals that stand beside it
 abbrev pub AreSpelled : AirState → MemberState → Type 0
@@ -58,4 +67,4 @@ AreSpelled air m =
     → (i : ℕ) (s : PlacedStep) → slice_get (steps journal) i ≡ Some s
     → (place : ℕ) (peer : Addr) (numbers : ℕ × ℕ) (flow : Flow) (message : Message) (by : List ℕ)
     → slice_get s.step.inside place ≡ Some (entry.Delivered peer numbers flow message by)
-    → IsSpelled (record { air = air; arrivals = m.arrivals }) s.step peer message by
+    → IsSpelled (record { air = air; arrivals = m.arrivals }) s.step flow peer message by

@@ -1,5 +1,6 @@
 -- What every world keeps besides: each journal is lawful, and each link as silent as the steps of its node tell.
 use Rattle.std.specs.Prelude.{◌≡◌, ℕ, List, Option, Some, None, slice_index_or}
+use Rattle.tipc_types.specs.declared.message_forms.Flow.TheVariants.{Zero}
 use Rattle.tipc_journal.specs.declared.entries.Entry.{Entry}
 use Rattle.tipc_journal.specs.Steps.{steps}
 use Rattle.tipc_link.specs.Links.{LinkEnd}
@@ -20,7 +21,7 @@ AreTicked seen journal links = (p bearer : ℕ) → HasTicked seen (steps journa
 -- what a node has of its peers and hasn't delivered yet was brought by frames that they sent
 abbrev pub AreTraced : Seen → List (Option Neighbour) → Type 0
 AreTraced seen xs = (p : ℕ) (x : Neighbour) → slice_index_or xs p None ≡ Some x
-    → KeepsBy (HasBrought seen (addr_of p)) x.pair
+    → KeepsBy (HasBrought seen Zero (addr_of p)) x.pair
 
 -- what is always true of a node's journals and of what it holds, by the frames that are in the air and those that arrived
 pub record IsWatched (air : AirState) (m : MemberState) : Type 0 where

@@ -1,10 +1,11 @@
 //! The air: frames that were sent, and frames that arrived.
 
-ghost use Rattle.std.specs.Prelude.{◌≡◌, ◌≤◌, [], ◌∷◌, Some, None, length, nat_lt, slice_get, IfOk, IfSome, IfNone, OnErr, OnOk};
+ghost use Rattle.std.specs.Prelude.{◌≡◌, ◌<◌, ◌≤◌, ◌^◌, [], ◌∷◌, Some, None, length, nat_lt, slice_get, IfOk, IfSome, IfNone, OnErr, OnOk};
 ghost use Rattle.tipc_replay.specs.Skies.{air_on, air_size, empty_air, with_sent};
 
 use std::alloc::Global;
 use std::marker::Model;
+use std::mem::size_of_val;
 use tipc_types::{Addr, Bytes, NoMemory, To};
 
 /// A frame that was sent on a bearer. It stays in that bearer's air for ever: it may arrive again, late, or never.
@@ -32,6 +33,15 @@ pub struct Arrived {
     pub bearer: u8,
     /// Its place in the air of that bearer, from 0.
     pub frame: u64,
+}
+
+/// How many frames there are. Together they take fewer bytes than 64 bits count, so they are fewer than 2^58.
+fn count(sent: &[Sent]) -> u64
+    ensures len { result ≡ length sent.now }
+    ensures few { result < 2 ^ 58 }
+{
+    let _bytes = size_of_val(sent);
+    sent.len() as u64
 }
 
 /// Every frame that was ever sent, on each of the two bearers.
@@ -85,13 +95,10 @@ impl Air {
 
     /// How many frames were ever sent on a bearer.
     pub fn len(&self, bearer: u8) -> u64
-        ensures { result ≡ length (air_on bearer self.now) }
+        ensures len { result ≡ length (air_on bearer self.now) }
+        ensures few { result < 2 ^ 58 }
     {
-        match bearer {
-            0 => self.first.len() as u64,
-            1 => self.second.len() as u64,
-            _ => 0,
-        }
+        count(self.sent(bearer))
     }
 
     /// Whether more frames than so many were ever sent, on both bearers together.

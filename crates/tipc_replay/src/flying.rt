@@ -2,8 +2,10 @@
 
 ghost use Rattle.std.specs.Prelude.{All, ◌≡◌, ◌<◌, ◌≤◌, ◌∷◌, ◌⊎◌, [], ℕ, true, false, Some, None, length, drop, is_some, if◌then◌else◌, slice_get, slice_index_or, unwrap_or, IfOk, IfSome, IfNone, IfErr, OnErr, OnOk};
 ghost use Rattle.tipc_types.specs.Address.{node_word};
+ghost use Rattle.tipc_types.specs.Limits.{most_age};
 ghost use Rattle.tipc_paired.specs.Views.{er_of, es_of};
-ghost use Rattle.tipc_replay.specs.Air.{airborne, met_in, met_sender, with_leaving, Emits, IsOut};
+ghost use Rattle.tipc_outside.specs.Frames.{frames_leaving};
+ghost use Rattle.tipc_replay.specs.Air.{airborne, loose, met_in, met_sender, receiver_of, with_leaving, Emits, IsOut};
 ghost use Rattle.tipc_replay.specs.Calls.{may_end_contact, node_of};
 ghost use Rattle.tipc_replay.specs.Due.{age_of, frame_for, is_for, session_age, unarrived, HasNoSession, HasSession};
 ghost use Rattle.tipc_replay.specs.Members.{sender_of};
@@ -183,7 +185,7 @@ fn session_age(members: &[Option<Member>], sent: &Sent, n: u8, bearer: u8, epoch
 /// Whether a frame that was sent to node `n` on a bearer would be too old if it were a STATE or a numbered packet. Its packet isn't read.
 fn may_be_too_old(members: &[Option<Member>], sent: &Sent, n: u8, bearer: u8) -> bool
     requires { (n_from : ℕ) × (1 ≤ n_from) × (n_from ≤ 32) × (sent.now.from.word ≡ node_word n_from) }
-    ensures { result ≡ false → age_of members.now sent.now n bearer ≤ 30000 }
+    ensures { result ≡ false → age_of members.now sent.now n bearer ≤ most_age }
 {
     let Some(opened) = open_frame(sent.frame.as_slice()) else {
         return false;
@@ -208,26 +210,26 @@ fn age_of(members: &[Option<Member>], sent: &Sent, n: u8, bearer: u8) -> u64
 
 // ---- the frame that arrives
 
-/// Whether a frame is for a node.
-fn is_for(to: To, node: u8) -> bool
+/// Whether a frame from an address is for a node: one to all is for each node but its sender.
+fn is_for(from: Addr, to: To, node: u8) -> bool
     requires { (1 ≤ node) × (node ≤ 32) }
-    ensures { result ≡ is_for to node }
+    ensures { result ≡ is_for from to node }
 {
     match to {
         To::Node(address) => address.word == Addr::node(node).word,
-        To::All => true,
+        To::All => from.word != Addr::node(node).word,
     }
 }
 
 /// The frame of that place in a bearer's air, where it is for the node.
 #[tactic(auto, unfolding(crate::specs::Due::frame_for))]
-fn frame_for(air: &Air, node: u8, bearer: u8, place: u64) -> Option<&Sent>
+pub fn frame_for(air: &Air, node: u8, bearer: u8, place: u64) -> Option<&Sent>
     requires { (1 ≤ node) × (node ≤ 32) }
     ensures some { IfSome result (λ f. frame_for air.now node bearer place ≡ Some f.now) }
     ensures none { IfNone result (frame_for air.now node bearer place ≡ None) }
 {
     let sent = air.frame(bearer, place)?;
-    if !is_for(sent.to, node) {
+    if !is_for(sent.from, sent.to, node) {
         return None;
     }
     Some(sent)
@@ -276,18 +278,28 @@ fn told_in(members: &[Option<Member>], met: &Met, a: u8, to: u8) -> (u64, u64)
     }
 }
 
+/// The number of the node that a frame of node `a` is for; 0 where it is for all.
+#[tactic(auto, using(crate::proofs::frames::Routes::to_number))]
+fn receiver_of(outgoing: &Outgoing, a: u8) -> u8
+    requires { IsOut a outgoing.now }
+    ensures { result ≡ receiver_of outgoing.now.to }
+{
+    let To::Node(address) = outgoing.to else {
+        return 0;
+    };
+    let Some(number) = address.number() else {
+        unreachable!()
+    };
+    number
+}
+
 /// The frame that leaves node `a`, as the air keeps it.
 fn airborne(members: &[Option<Member>], met: &Met, a: u8, outgoing: Outgoing) -> Sent
     requires number { (1 ≤ a) × (a ≤ 32) }
     requires outward { IsOut a outgoing }
     ensures { result ≡ airborne (met_in met.now) members.now a outgoing }
 {
-    let To::Node(address) = outgoing.to else {
-        unreachable!()
-    };
-    let Some(to) = address.number() else {
-        unreachable!()
-    };
+    let to = receiver_of(&outgoing, a);
     let Some(opened) = open_frame(outgoing.frame.as_slice()) else {
         unreachable!()
     };
@@ -335,7 +347,7 @@ fn release(
     requires number { (1 ≤ a) × (a ≤ 32) }
     requires outward { All (IsOut a) frames.items }
     ensures { Emits air.old air.new (met_in met.now) members.now a
-        (record { frames = frames.items; lost = false }) result }
+        (loose frames.items) result }
 {
     let mut waiting = VecDeque::from_vec(frames);
     while let Some(outgoing) = waiting.pop_front() {
@@ -351,7 +363,7 @@ fn release(
 #[tactic(auto, using(crate::proofs::frames::Released::emits_boxed))]
 pub fn emit(members: &[Option<Member>], met: &Met, air: &mut Air, a: u8, out: Outbox) -> bool
     requires number { (1 ≤ a) × (a ≤ 32) }
-    requires outward { All (IsOut a) out.frames }
+    requires outward { All (IsOut a) (frames_leaving out) }
     ensures { Emits air.old air.new (met_in met.now) members.now a out result }
 {
     let lost = out.lost();

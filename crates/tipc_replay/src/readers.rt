@@ -1,24 +1,25 @@
 //! What is told of nodes and the air between them. None of these takes memory but `links` and `table`.
 
-ghost use Rattle.std.specs.Prelude.{◌≡◌, ◌≤◌, ◌+◌, ◌++◌, [], ℕ, Some, None, length, is_some, map, nat_lt, slice_get, slice_index_or, option_map, IfOk, IfSome, OnErr, OnOk};
+ghost use Rattle.std.specs.Prelude.{◌≡◌, ◌<◌, ◌≤◌, ◌+◌, ◌^◌, ◌++◌, [], ℕ, Some, None, length, is_some, map, nat_lt, slice_get, slice_index_or, option_map, IfOk, IfSome, OnErr, OnOk};
 ghost use Rattle.std.specs.Option.{option_copied};
 ghost use Rattle.tipc_pair.specs.Facing.{state_of, states_of};
 ghost use Rattle.tipc_types.specs.declared.message_forms.Flow.TheVariants.{Zero};
-ghost use Rattle.tipc_replay.specs.Readers.{link_shown, links_of, world_load, node_number, receiver_at, receiver_number, table_of, unacked_in, waiting_in};
+ghost use Rattle.tipc_replay.specs.Readers.{link_shown, links_of, world_load, node_number, table_of, unacked_in, waiting_in};
 ghost use Rattle.tipc_replay.specs.Calls.{counts_at, CanHappenAt};
+ghost use Rattle.tipc_replay.specs.Due.{frame_for};
 ghost use Rattle.tipc_replay.specs.Skies.{air_on, air_size};
 ghost use Rattle.tipc_replay.specs.States.{accepted_at, arrivals_at, calls_recorded, counted, delivered_at, flow_of, is_mended_at, has_member, is_link_up_at, knows, link_at, node_at, pair_at, past_at};
 
-use crate::air::{Air, Arrived, Sent};
+use crate::air::{Arrived, Sent};
 use crate::events::WorldEvent;
-use crate::flying::{contact_at, find};
+use crate::flying::{contact_at, find, frame_for};
 use crate::members::Member;
 use crate::replays::Replay;
 use crate::tables::told_of;
 use std::alloc::Global;
 use tipc_journal::Journal;
 use tipc_node::Node;
-use tipc_types::{Addr, LinkState, List, NoMemory, PeerLinks, Publication, Sequence, To};
+use tipc_types::{Addr, LinkState, List, NoMemory, PeerLinks, Publication, Sequence};
 
 /// How many messages of one contact were accepted at one node and delivered at the other, each at most the last number of 64 bits.
 #[derive(Clone, Copy, Debug, PartialEq, Eq)]
@@ -36,26 +37,6 @@ pub fn number_of(address: Addr) -> Option<u8>
     ensures range { IfSome result (λ n. (1 ≤ n) × (n ≤ 32)) }
 {
     address.number()
-}
-
-/// The number of the node that a frame is for.
-fn receiver_of(to: To) -> Option<u8>
-    ensures value { result ≡ receiver_number to }
-    ensures range { IfSome result (λ n. (1 ≤ n) × (n ≤ 32)) }
-{
-    match to {
-        To::Node(address) => number_of(address),
-        To::All => None,
-    }
-}
-
-/// The number of the node that the frame at that place of a bearer's air is for.
-#[tactic(auto, unfolding(crate::specs::Readers::receiver_at))]
-fn receiver_at(air: &Air, bearer: u8, place: u64) -> Option<u8>
-    ensures value { result ≡ receiver_at air.now bearer place }
-    ensures range { IfSome result (λ n. (1 ≤ n) × (n ≤ 32)) }
-{
-    receiver_of(air.frame(bearer, place)?.to)
 }
 
 /// The numbers of packets unacknowledged and waiting at a node, where it is there.
@@ -291,16 +272,17 @@ impl Replay {
     /// How many frames were ever sent on a bearer.
     pub fn air_len(&self, bearer: u8) -> u64
         ensures len { result ≡ length (air_on bearer self.now.air) }
+        ensures few { result < 2 ^ 58 }
     {
         self.air.len(bearer)
     }
 
-    /// The node that the frame of that place in a bearer's air is for, from 0 on: None exactly where there is no such frame.
-    pub fn receiver(&self, bearer: u8, place: u64) -> Option<u8>
-        ensures value { result ≡ receiver_at self.now.air bearer place }
-        ensures range { IfSome result (λ n. (1 ≤ n) × (n ≤ 32)) }
+    /// Whether there is a frame at that place of a bearer's air, from 0 on, and it is for a node.
+    pub fn is_for(&self, n: u8, bearer: u8, place: u64) -> bool
+        requires { (1 ≤ n) × (n ≤ 32) }
+        ensures { result ≡ is_some (frame_for self.now.air n bearer place) }
     {
-        receiver_at(&self.air, bearer, place)
+        frame_for(&self.air, n, bearer, place).is_some()
     }
 
     /// The frame of that place in a bearer's air, from 0 on: None exactly where there is no such frame.

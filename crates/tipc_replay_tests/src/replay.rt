@@ -10,7 +10,7 @@ use tipc_journal::Entry;
 use tipc_pick::{Chooser, RoundRobin};
 use tipc_replay::{Replay, WorldEvent};
 use tipc_types::{
-    Addr, Answer, Body, By, EventNote, Importance, Message, PortId, Scope, ServiceRange,
+    Addr, Answer, Body, By, EventNote, Importance, Message, PortId, Scope, ServiceRange, To,
 };
 
 /// Who makes all calls.
@@ -82,7 +82,13 @@ impl Run {
     /// The frame at a place of bearer 0's air arrives where it is for.
     fn arrive(&mut self, alloc: Global, place: u64) -> Result<(), Fail> {
         let by = self.by();
-        let Some(node) = self.replay.receiver(0, place) else {
+        let Some(frame) = self.replay.frame(0, place) else {
+            return Err(Fail::new("there is no such frame"));
+        };
+        let To::Node(address) = frame.to else {
+            return Err(Fail::new("the frame is for all"));
+        };
+        let Some(node) = address.number() else {
             return Err(Fail::new("the frame is for no node"));
         };
         if !self.replay.has_node(node) {

@@ -3,7 +3,7 @@ use Rattle.std.proofs.Common.{◌≡◌, ℕ, ◌≤◌, max, Bool, Option, Some
 use Rattle.tipc_types.specs.declared.node_calls.Answer.{Answer}
 use Rattle.tipc_replay.specs.declared.events.WorldEvent.{WorldEvent}
 use Rattle.tipc_world.specs.declared.faults.WorldFault.{WorldFault}
-use Rattle.tipc_world.specs.Courses.{Asks, Maybe, Takes}
+use Rattle.tipc_world.specs.Courses.{Asks, Goes, Maybe, begin, go_on}
 use Rattle.tipc_replay.specs.Skies.{air_on}
 use Rattle.tipc_replay.specs.States.{is_mended_at}
 use Rattle.tipc_world.specs.States.{WorldState}
@@ -16,9 +16,11 @@ maybe_few : (bearer : ℕ) (asked : Option WorldEvent) (before : WorldState) (ma
 maybe_few bearer None before made now h = omega (arith, ap (λ w. length (air_on bearer w.air)) h.1)
 maybe_few bearer (Some event) before made now h = answered_few bearer before event now h.1.0 h.1.1.answered
 
--- what a number asks for leaves the air of a bearer within the limit, or as long as it was
-pub takes_few : (bearer : ℕ) (asks : Asks) (number : ℕ) (before : WorldState) (made : Bool) (now : WorldState) → Takes asks number before (Ok made) now → length (air_on bearer now.air) ≤ max 100000 (length (air_on bearer before.air))
-takes_few bearer asks number before made now h = maybe_few bearer (asks before number) before made now h
+-- what numbers ask for leaves the air of a bearer within the limit, or as long as it was
+pub goes_few : (bearer : ℕ) (asks : Asks) (first : ℕ) (start : WorldState) (next count : ℕ) (now : WorldState) → Goes asks first start next count now → length (air_on bearer now.air) ≤ max 100000 (length (air_on bearer start.air))
+goes_few bearer asks first start next count now begin = omega arith
+goes_few bearer asks first start _ _ _ (go_on next count before made now goes taken) =
+    omega (arith, goes_few bearer asks first start next count before goes, maybe_few bearer (asks before next) before made now taken)
 
 -- ---- a link
 

@@ -17,7 +17,7 @@ use Rattle.tipc_world.specs.declared.places.Places.{Places}
 use Rattle.tipc_world.specs.Courses.{Continues, Once}
 use Rattle.tipc_sim.specs.Meanings.{Pumps}
 use Rattle.tipc_sim.specs.Happenings.{beside, sending, told_of, Conversed, Moves, Repeated}
-use Rattle.tipc_sim.specs.Messages.{is_call, is_message, is_sent, low_message, Bursts, Follows, PumpsAndReceives, PumpsBoth, ReceivesAll, Repeats, SendsAgain, Turn, Turns}
+use Rattle.tipc_sim.specs.Messages.{is_call, is_message, is_sent, low_message, Bursts, FollowsSending, PumpsAndReceives, PumpsBoth, ReceivesAll, Repeats, SendsAgain, Turn, MakesTurns}
 use Rattle.tipc_sim.specs.Noted.{NotesState}
 
 -- a message that can be sent can be sent later
@@ -54,11 +54,11 @@ last_halts places receive start between now ends stop came stopped = inr (betwee
 -- a message was sent, and then frames are pumped and a message is received
 pub turn_goes_on : (send receive : WorldEvent) (places : Places) (start between now : WorldState) (answer : Answer) (came : Result (Bool × Places) WorldFault) → Once send start (Ok answer) between → is_sent answer ≡ true
     → PumpsAndReceives places receive between came now → Turn send receive places start came now
-turn_goes_on send receive places start between now answer (Ok value) once sent came = (between, answer, once, subst (λ b. Follows b places receive between (Ok value) now) (sym sent) came)
-turn_goes_on send receive places start between now answer (Err stop) once sent came = inr (between, answer, once, subst (λ b. Follows b places receive between (Err stop) now) (sym sent) came)
+turn_goes_on send receive places start between now answer (Ok value) once sent came = (between, answer, once, subst (λ b. FollowsSending b places receive between (Ok value) now) (sym sent) came)
+turn_goes_on send receive places start between now answer (Err stop) once sent came = inr (between, answer, once, subst (λ b. FollowsSending b places receive between (Err stop) now) (sym sent) came)
 
 -- an event of the next turn was stopped
-pub turn_halts : (times : ℕ) (send receive : WorldEvent) (first : Places) (start : WorldState) (count : ℕ) (places : Places) (before now : WorldState) (f : WorldFault) → count < times → Turns send receive first start count places before
+pub turn_halts : (times : ℕ) (send receive : WorldEvent) (first : Places) (start : WorldState) (count : ℕ) (places : Places) (before now : WorldState) (f : WorldFault) → count < times → MakesTurns send receive first start count places before
     → Turn send receive places before (Err f) now → Bursts times send receive first start (Err f) now
 turn_halts times send receive first start count places before now stop fewer made stopped = record { count = count; fewer = fewer; places = places; before = before; made = made; stopped = stopped }
 

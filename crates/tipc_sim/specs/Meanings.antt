@@ -1,5 +1,5 @@
 -- What the lines of a script that stand for several events ask for.
-use Rattle.std.specs.Prelude.{◌≡◌, ℕ, Bool, true, false, not, ◌&&◌, if◌then◌else◌, List, Option, Some, None, Ok, Err, length}
+use Rattle.std.specs.Prelude.{◌≡◌, ℕ, ◌*◌, Bool, true, false, not, ◌&&◌, if◌then◌else◌, List, Option, Some, None, Ok, Err, length}
 use Rattle.tipc_types.specs.declared.node_calls.EventNote.TheVariants as call
 use Rattle.tipc_types.specs.declared.node_calls.Answer.{Answer}
 use Rattle.tipc_report.specs.declared.told.Told.{Told}
@@ -11,7 +11,7 @@ use Rattle.tipc_replay.specs.Skies.{air_on}
 use Rattle.tipc_replay.specs.States.{MemberState, is_mended_at, is_link_up_at, knows}
 use Rattle.tipc_world.specs.States.{is_there}
 use Rattle.tipc_world.specs.declared.settling.Receivers.TheVariants.{Any, Both}
-use Rattle.tipc_world.specs.Courses.{Course, Asks, Once, Takes, TakesAll, Drains, Then}
+use Rattle.tipc_world.specs.Courses.{Course, Asks, Once, Takes, TakesAll, Drains, Then, numbers}
 use Rattle.tipc_world.specs.Settling.{arrival_asked, Settles as SettlesWorld}
 use Rattle.tipc_sim.specs.Noted.{is_named}
 
@@ -26,7 +26,7 @@ know_asked named node bearer w peer =
 
 -- a node comes to know its named peers on a bearer, in order of address, and then that bearer of it is mended
 abbrev pub Mends : List (ℕ × ℕ) → ℕ → ℕ → Course Answer
-Mends named node bearer = Then (TakesAll (know_asked named node bearer) 1 33) (Once (event.Call node (call.Mend bearer)))
+Mends named node bearer = Then (TakesAll (know_asked named node bearer) 1 numbers) (Once (event.Call node (call.Mend bearer)))
 
 -- a bearer of a node is mended, unless it is so already
 abbrev pub MendsIf : Bool → List (ℕ × ℕ) → ℕ → ℕ → Course (Unit {0})
@@ -54,7 +54,7 @@ told_of_link members first second bearer =
 -- two nodes are joined on a bearer, and then the frames of its air from a place on arrive that are for one of the two
 abbrev pub JoinsFrom : ℕ → List (ℕ × ℕ) → ℕ → ℕ → ℕ → Course ℕ
 JoinsFrom place named first second bearer =
-    Then (Joins named first second bearer) (Drains (arrival_asked (Both first second) bearer) bearer place)
+    Then (Joins named first second bearer) (Drains (arrival_asked (Both first second) bearer) bearer (numbers * place))
 
 -- two nodes are joined on a bearer, and the frames that were sent there since then arrive that are for one of the two
 abbrev pub Links : List (ℕ × ℕ) → ℕ → ℕ → ℕ → Course Told
@@ -67,9 +67,9 @@ Links named first second bearer start (Err stop) now = JoinsFrom (length (air_on
 
 -- the frames of a bearer from a place on arrive, until none is left
 abbrev pub Pumps : ℕ → ℕ → Course Told
-Pumps bearer place start (Ok told) now = (count : ℕ) × Drains (arrival_asked Any bearer) bearer place start (Ok count) now
+Pumps bearer place start (Ok told) now = (count : ℕ) × Drains (arrival_asked Any bearer) bearer (numbers * place) start (Ok count) now
     × (told ≡ Pumped count)
-Pumps bearer place start (Err stop) now = Drains (arrival_asked Any bearer) bearer place start (Err stop) now
+Pumps bearer place start (Err stop) now = Drains (arrival_asked Any bearer) bearer (numbers * place) start (Err stop) now
 
 -- ---- rounds
 

@@ -111,31 +111,31 @@ PumpsAndReceives places receive start (Ok value) now =
 PumpsAndReceives places receive start (Err stop) now = Then (PumpsBoth places) (Once receive) start (Err stop) now
 
 -- the same where the message was sent, and else nothing
-abbrev pub Follows : Bool → Places → WorldEvent → Course (Bool × Places)
-Follows true places receive start came now = PumpsAndReceives places receive start came now
-Follows false places receive start (Ok value) now = (now ≡ start) × (value ≡ (false, places))
-Follows false places receive start (Err stop) now = ⊥
+abbrev pub FollowsSending : Bool → Places → WorldEvent → Course (Bool × Places)
+FollowsSending true places receive start came now = PumpsAndReceives places receive start came now
+FollowsSending false places receive start (Ok value) now = (now ≡ start) × (value ≡ (false, places))
+FollowsSending false places receive start (Err stop) now = ⊥
 
 -- A message is sent, and where it was, frames are pumped and a message is received. The value is whether one was, and up to which places frames
 -- are pumped then.
 abbrev pub Turn : WorldEvent → WorldEvent → Places → Course (Bool × Places)
 Turn send receive places start (Ok value) now = (between : WorldState) × (answer : Answer)
-    × Once send start (Ok answer) between × Follows (is_sent answer) places receive between (Ok value) now
+    × Once send start (Ok answer) between × FollowsSending (is_sent answer) places receive between (Ok value) now
 Turn send receive places start (Err stop) now =
-    Once send start (Err stop) now ⊎ ((between : WorldState) × (answer : Answer) × Once send start (Ok answer) between × Follows (is_sent answer) places receive between (Err stop) now)
+    Once send start (Err stop) now ⊎ ((between : WorldState) × (answer : Answer) × Once send start (Ok answer) between × FollowsSending (is_sent answer) places receive between (Err stop) now)
 
 -- So many turns were made, one after the other, and a message was received in each. The frames before those places are pumped.
-pub data Turns (send receive : WorldEvent) (first : Places) (start : WorldState) : ℕ → Places → WorldState → Type 0 where
-  begin : Turns send receive first start 0 first start
+pub data MakesTurns (send receive : WorldEvent) (first : Places) (start : WorldState) : ℕ → Places → WorldState → Type 0 where
+  begin : MakesTurns send receive first start 0 first start
   go_on : (count : ℕ) (places : Places) (before : WorldState) (next : Places) (now : WorldState)
-      → Turns send receive first start count places before → Turn send receive places before (Ok (true, next)) now
-      → Turns send receive first start (count + 1) next now
+      → MakesTurns send receive first start count places before → Turn send receive places before (Ok (true, next)) now
+      → MakesTurns send receive first start (count + 1) next now
 
 -- likewise, and then one in which none was
 pub record TurnsUntil (send receive : WorldEvent) (first : Places) (start : WorldState) (count : ℕ) (ends : Places) (now : WorldState) : Type 0 where
   pub places : Places
   pub before : WorldState
-  pub made : Turns send receive first start count places before
+  pub made : MakesTurns send receive first start count places before
   pub fails : Turn send receive places before (Ok (false, ends)) now
 
 -- likewise, and the next one was stopped
@@ -144,13 +144,13 @@ pub record TurnHalts (send receive : WorldEvent) (times : ℕ) (first : Places) 
   pub fewer : count < times
   pub places : Places
   pub before : WorldState
-  pub made : Turns send receive first start count places before
+  pub made : MakesTurns send receive first start count places before
   pub stopped : Turn send receive places before (Err stop) now
 
 -- So many turns are made at most, until no message is received. The value is in how many one was, and up to which places frames are pumped
 -- then.
 abbrev pub Bursts : ℕ → WorldEvent → WorldEvent → Places → Course (ℕ × Places)
 Bursts times send receive first start (Ok value) now =
-    (Turns send receive first start times value.1 now × (value.0 ≡ times))
+    (MakesTurns send receive first start times value.1 now × (value.0 ≡ times))
     ⊎ (TurnsUntil send receive first start value.0 value.1 now × (value.0 < times))
 Bursts times send receive first start (Err stop) now = TurnHalts send receive times first start stop now

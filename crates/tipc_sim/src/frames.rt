@@ -1,8 +1,8 @@
 //! Lines that move frames: arrivals, `drain`, `pump` and `settle`.
 
-ghost use Rattle.std.specs.Prelude.{◌≡◌, ◌≤◌};
+ghost use Rattle.std.specs.Prelude.{◌≡◌, ◌≤◌, ◌*◌};
 ghost use Rattle.tipc_world.specs.Events.{CanHappen};
-ghost use Rattle.tipc_world.specs.Courses.{Continues, Drains, Once};
+ghost use Rattle.tipc_world.specs.Courses.{numbers, Continues, Drains, Once};
 ghost use Rattle.tipc_world.specs.Settling.{arrival_asked};
 ghost use Rattle.tipc_sim.specs.Meanings.{told_of_settled, Pumps, SettlesLine};
 
@@ -35,15 +35,13 @@ pub fn drain<P: Pick>(
     world: &mut World<P>,
 ) -> Result<u64, WorldFault>
     requires { bearer ≤ 1 }
-    ensures comes { Drains (arrival_asked among bearer) bearer first world.old.state result world.new.state }
+    ensures comes { Drains (arrival_asked among bearer) bearer (numbers * first) world.old.state result world.new.state }
     ensures continues { Continues P.gives world.old world.new }
 {
     let mut place = first;
     let mut count = 0;
     while place < world.air_len(bearer) {
-        if world.arrive(alloc, among, bearer, place)? {
-            count += 1;
-        }
+        count += world.arrive(alloc, among, bearer, place)?;
         place += 1;
     }
     Ok(count)

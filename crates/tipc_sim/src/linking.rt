@@ -2,7 +2,7 @@
 
 ghost use Rattle.std.specs.Prelude.{◌≡◌, ◌≤◌, true};
 ghost use Rattle.tipc_world.specs.States.{is_there};
-ghost use Rattle.tipc_world.specs.Courses.{Continues, Takes, TakesAll};
+ghost use Rattle.tipc_world.specs.Courses.{numbers, Continues, Takes, TakesAll};
 ghost use Rattle.tipc_sim.specs.Meanings.{know_asked, told_of_link, Joins, Links, Mends, MendsCut};
 
 use crate::frames::{drain, make};
@@ -13,7 +13,7 @@ use tipc_report::Told;
 use tipc_types::{Answer, EventNote};
 use tipc_world::{Receivers, World, WorldEvent, WorldFault};
 
-/// The first number that no node has.
+/// One more than the highest number of a node.
 const NUMBERS: u8 = 33;
 
 /// Lets a node know on a bearer a peer that is named with it, where it doesn't yet, and answers whether it came to know it.
@@ -48,7 +48,7 @@ fn know_all<P: Pick>(
 ) -> Result<(), WorldFault>
     requires there { is_there world.old.state node ≡ true }
     requires bearer { bearer ≤ 1 }
-    ensures comes { TakesAll (know_asked notes.now.named node bearer) 1 33 world.old.state result world.new.state }
+    ensures comes { TakesAll (know_asked notes.now.named node bearer) 1 numbers world.old.state result world.new.state }
     ensures continues { Continues P.gives world.old world.new }
 {
     for peer in 1..NUMBERS {

@@ -5,3 +5,4 @@ pub mod Advancing
 pub mod Promise
 pub mod Continuing
 pub mod CourseLaws
+pub mod Arrivals

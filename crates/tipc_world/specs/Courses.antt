@@ -1,5 +1,5 @@
 -- Events that happen one after the other, and what they come to.
-use Rattle.std.specs.Prelude.{◌≡◌, ◌⊎◌, ℕ, ◌+◌, ◌<◌, ◌≤◌, ◌++◌, Bool, true, false, if◌then◌else◌, Option, Some, None, Result, Ok, Err, length}
+use Rattle.std.specs.Prelude.{◌≡◌, ◌⊎◌, ℕ, ◌+◌, ◌*◌, ◌<◌, ◌≤◌, ◌++◌, Bool, true, false, if◌then◌else◌, Option, Some, None, Result, Ok, Err, length}
 use Rattle.tipc_types.specs.declared.node_calls.Answer.{Answer}
 use Rattle.tipc_replay.specs.declared.events.WorldEvent.{WorldEvent}
 use Rattle.tipc_world.specs.declared.faults.WorldFault.{WorldFault}
@@ -53,6 +53,10 @@ Maybe (Some event) start (Err stop) now = HasStopped start event now stop
 abbrev pub Asks : Type 0
 Asks = WorldState → ℕ → Option WorldEvent
 
+-- how many numbers there are from 0 up to the highest of a node: one more than that
+abbrev pub numbers : ℕ
+numbers = 33
+
 -- one number is taken: what it asks for happens
 abbrev pub Takes : Asks → ℕ → Course Bool
 Takes asks number start came now = Maybe (asks start number) start came now
@@ -77,9 +81,14 @@ abbrev pub TakesAll : Asks → ℕ → ℕ → Course (Unit {0})
 TakesAll asks first end start (Ok done) now = (count : ℕ) × Goes asks first start end count now
 TakesAll asks first end start (Err stop) now = (halts : Halts asks first start stop now) × (halts.next < end)
 
--- the places of a bearer's air are taken from the first on, until none is left; the value is how many events happened
+-- the same; the value is how many events happened
+abbrev pub TakesCounted : Asks → ℕ → ℕ → Course ℕ
+TakesCounted asks first end start (Ok count) now = Goes asks first start end count now
+TakesCounted asks first end start (Err stop) now = (halts : Halts asks first start stop now) × (halts.next < end)
+
+-- the numbers of the places of a bearer's air are taken from the first on, until none is left; the value is how many events happened
 abbrev pub Drains : Asks → ℕ → ℕ → Course ℕ
-Drains asks bearer first start (Ok count) now = (end : ℕ) × (length (air_on bearer now.air) ≤ end) × Goes asks first start end count now
+Drains asks bearer first start (Ok count) now = (end : ℕ) × (numbers * length (air_on bearer now.air) ≤ end) × Goes asks first start end count now
 Drains asks bearer first start (Err stop) now = Halts asks first start stop now
 
 -- one course and then another

@@ -1,5 +1,7 @@
 -- What it is to settle a world: rounds in which every node ticks and frames arrive.
-use Rattle.std.specs.Prelude.{◌≡◌, ◌≢◌, ◌⊎◌, ℕ, ◌+◌, ◌<◌, ◌==◌, Bool, true, ◌&&◌, ◌||◌, if◌then◌else◌, Option, Some, None, Ok, Err}
+use Rattle.std.specs.Prelude.{◌≡◌, ◌≢◌, ◌⊎◌, ℕ, ◌+◌, ◌*◌, ◌/◌, ◌%◌, ◌<◌, ◌==◌, Bool, true, ◌&&◌, ◌||◌, if◌then◌else◌, Option, Some, None, is_some, slice_get, Ok, Err}
+use Rattle.tipc_types.specs.Address.{node_word}
+use Rattle.tipc_types.specs.declared.identity.To.TheVariants as to
 use Rattle.tipc_types.specs.declared.node_calls.EventNote.TheVariants as call
 use Rattle.tipc_replay.specs.declared.events.WorldEvent.{WorldEvent}
 use Rattle.tipc_replay.specs.declared.events.WorldEvent.TheVariants as event
@@ -10,9 +12,12 @@ use Rattle.tipc_world.specs.declared.settling.Receivers.{Receivers}
 use Rattle.tipc_world.specs.declared.settling.Receivers.TheVariants.{Any, Both}
 use Rattle.tipc_world.specs.declared.settling.Settled.{Settled}
 use Rattle.tipc_world.specs.declared.settling.Settled.TheVariants.{Quiet, Unsettled}
-use Rattle.tipc_world.specs.Courses.{Course, Asks, TakesAll, Then}
+use Rattle.tipc_world.specs.Courses.{Course, Asks, TakesAll, Then, numbers}
 use Rattle.tipc_world.specs.Ends.{ends_of}
-use Rattle.tipc_replay.specs.Readers.{world_load, receiver_at}
+use Rattle.tipc_replay.specs.declared.air.Sent.{Sent}
+use Rattle.tipc_replay.specs.Due.{frame_for}
+use Rattle.tipc_replay.specs.Readers.{world_load}
+use Rattle.tipc_replay.specs.Skies.{AirState, air_on}
 use Rattle.tipc_world.specs.States.{WorldState, is_there}
 
 -- ---- what is asked for
@@ -26,21 +31,29 @@ abbrev pub is_among : Receivers → ℕ → Bool
 is_among Any n = true
 is_among (Both first second) n = (n == first) || (n == second)
 
--- the frame at a place arrives at this node, where one is named that is among the receivers and is there
-abbrev pub arrival_for : Receivers → ℕ → WorldState → ℕ → Option ℕ → Option WorldEvent
-arrival_for among bearer w place None = None
-arrival_for among bearer w place (Some node) = if is_among among node && is_there w node then Some (event.Arrive node bearer place) else None
+-- the frame at a place of a bearer's air arrives at a node, where the frame is for it, and it is among the receivers and is there
+abbrev pub arrival_at : Receivers → ℕ → WorldState → ℕ → ℕ → Option WorldEvent
+arrival_at among bearer w place node =
+    if is_among among node && is_there w node && is_some (frame_for w.air node bearer place) then Some (event.Arrive node bearer place) else None
 
--- the frame at a place of a bearer's air arrives at the node that it is for, where that is among the receivers and is there
+-- Each place of a bearer's air has a number for each node, one after the other. What a number asks for: the frame at its place arrives at
+-- its node.
 abbrev pub arrival_asked : Receivers → ℕ → Asks
-arrival_asked among bearer w place = arrival_for among bearer w place (receiver_at w.air bearer place)
+arrival_asked among bearer w number = arrival_at among bearer w (number / numbers) (number % numbers)
+
+-- the frame at a place of a bearer's air is for this node alone
+pub record IsForOne (air : AirState) (bearer place node : ℕ) : Type 0 where
+  pub frame : Sent
+  pub stands : slice_get (air_on bearer air) place ≡ Some frame
+  pub to_is : frame.to ≡ to.Node (record { word = node_word node })
 
 -- ---- rounds
 
 -- the frames from some places on and before others arrive, those of bearer 0 and then those of bearer 1
 abbrev pub Arrivals : Places → Places → Course (Unit {0})
 Arrivals places ends =
-    Then (TakesAll (arrival_asked Any 0) places.first ends.first) (TakesAll (arrival_asked Any 1) places.second ends.second)
+    Then (TakesAll (arrival_asked Any 0) (numbers * places.first) (numbers * ends.first))
+    (TakesAll (arrival_asked Any 1) (numbers * places.second) (numbers * ends.second))
 
 -- the frames from some places on arrive that are in the air at the beginning; the value is the places behind them
 abbrev pub Delivers : Places → Course Places
@@ -49,7 +62,7 @@ Delivers places start (Err stop) now = Arrivals places (ends_of start.air) start
 
 -- every node ticks, in order of address, and then the frames from some places on arrive that are in the air
 abbrev pub Round : Places → Course Places
-Round places = Then (TakesAll tick_asked 1 33) (Delivers places)
+Round places = Then (TakesAll tick_asked 1 numbers) (Delivers places)
 
 -- so many rounds were made, the first from the end of the air on, and each other from where the one before ended
 pub data Rounds (start : WorldState) : ℕ → Places → WorldState → Type 0 where

@@ -1,8 +1,8 @@
 //! What is told of a world. None of these takes memory but `links` and `table`.
 
-ghost use Rattle.std.specs.Prelude.{◌≡◌, ◌≤◌, ℕ, length, map, slice_get, IfOk, IfSome};
+ghost use Rattle.std.specs.Prelude.{◌≡◌, ◌<◌, ◌≤◌, ◌^◌, ℕ, length, map, slice_get, IfOk};
 ghost use Rattle.std.specs.Option.{option_copied};
-ghost use Rattle.tipc_replay.specs.Readers.{links_of, world_load, receiver_at, table_of};
+ghost use Rattle.tipc_replay.specs.Readers.{links_of, world_load, table_of};
 ghost use Rattle.tipc_replay.specs.Skies.{air_on};
 ghost use Rattle.tipc_replay.specs.States.{arrivals_at, flow_of, is_mended_at, is_link_up_at, knows, node_at, past_at};
 ghost use Rattle.tipc_world.specs.States.{is_there};
@@ -91,16 +91,9 @@ impl<P: Pick> World<P> {
     /// How many frames were ever sent on a bearer.
     pub fn air_len(&self, bearer: u8) -> u64
         ensures len { result ≡ length (air_on bearer self.now.state.air) }
+        ensures few { result < 2 ^ 58 }
     {
         self.replay.air_len(bearer)
-    }
-
-    /// The node that the frame of that place in a bearer's air is for, from 0 on: None exactly where there is no such frame.
-    pub fn receiver(&self, bearer: u8, place: u64) -> Option<u8>
-        ensures value { result ≡ receiver_at self.now.state.air bearer place }
-        ensures range { IfSome result (λ n. (1 ≤ n) × (n ≤ 32)) }
-    {
-        self.replay.receiver(bearer, place)
     }
 
     /// The frame of that place in a bearer's air, from 0 on: None exactly where there is no such frame.

@@ -1,11 +1,13 @@
 //! Frames that arrive where they are for, and rounds of ticks and arrivals until nothing is under way.
 
-ghost use Rattle.std.specs.Prelude.{◌≡◌, ◌≤◌, IfOk};
-ghost use Rattle.tipc_world.specs.Courses.{Continues, Takes, TakesAll};
+ghost use Rattle.std.specs.Prelude.{◌≡◌, ◌≤◌, ◌+◌, ◌*◌, true, if◌then◌else◌, is_some, IfOk, IfSome};
+ghost use Rattle.tipc_world.specs.Courses.{numbers, Continues, Maybe, Takes, TakesAll, TakesCounted};
 ghost use Rattle.tipc_world.specs.Ends.{ends_of, AreBefore};
 ghost use Rattle.tipc_world.specs.Good.{IsGood};
+ghost use Rattle.tipc_replay.specs.Due.{frame_for};
 ghost use Rattle.tipc_replay.specs.Readers.{world_load};
-ghost use Rattle.tipc_world.specs.Settling.{arrival_asked, is_among, settled_by, tick_asked, Arrivals, Delivers, MakesRounds, Round, Settles};
+ghost use Rattle.tipc_world.specs.Settling.{arrival_asked, arrival_at, is_among, settled_by, tick_asked, Arrivals, Delivers, IsForOne, MakesRounds, Round, Settles};
+ghost use Rattle.tipc_world.specs.States.{is_there};
 
 use crate::faults::WorldFault;
 use crate::places::Places;
@@ -13,9 +15,9 @@ use crate::worlds::World;
 use std::alloc::Global;
 use tipc_pick::Pick;
 use tipc_replay::WorldEvent;
-use tipc_types::EventNote;
+use tipc_types::{EventNote, To};
 
-/// The first number that no node has.
+/// One more than the highest number of a node.
 const NUMBERS: u8 = 33;
 
 /// The nodes that frames arrive at.
@@ -53,6 +55,24 @@ pub enum Settled {
     },
 }
 
+/// The arrival of the frame at a place of a bearer's air at a node.
+fn arrival(bearer: u8, place: u64, node: u8) -> WorldEvent
+    ensures { result ≡ WorldEvent.Arrive node bearer place }
+{
+    WorldEvent::Arrive {
+        node,
+        bearer,
+        frame: place,
+    }
+}
+
+/// One for what happened, and none for what didn't.
+fn counted(happened: bool) -> u64
+    ensures { result ≡ (if happened then 1 else 0) }
+{
+    u64::from(happened)
+}
+
 /// Lets the frames of a bearer from a place on and before another arrive.
 fn deliver_on<P: Pick>(
     alloc: Global,
@@ -63,7 +83,8 @@ fn deliver_on<P: Pick>(
 ) -> Result<(), WorldFault>
     requires bearer { bearer ≤ 1 }
     requires ordered { first ≤ end }
-    ensures comes { TakesAll (arrival_asked Receivers.Any bearer) first end world.old.state result world.new.state }
+    ensures comes { TakesAll (arrival_asked Receivers.Any bearer) (numbers * first) (numbers * end)
+        world.old.state result world.new.state }
     ensures continues { Continues P.gives world.old world.new }
 {
     for place in first..end {
@@ -122,7 +143,7 @@ fn tick<P: Pick>(alloc: Global, node: u8, world: &mut World<P>) -> Result<bool, 
 
 /// Lets a tick pass at every node, in order of address.
 fn tick_all<P: Pick>(alloc: Global, world: &mut World<P>) -> Result<(), WorldFault>
-    ensures comes { TakesAll tick_asked 1 33 world.old.state result world.new.state }
+    ensures comes { TakesAll tick_asked 1 numbers world.old.state result world.new.state }
     ensures continues { Continues P.gives world.old world.new }
 {
     for node in 1..NUMBERS {
@@ -169,21 +190,23 @@ fn make_rounds<P: Pick>(alloc: Global, rounds: u32, world: &mut World<P>) -> Res
 }
 
 impl<P: Pick> World<P> {
-    /// Lets the frame at a place of a bearer's air arrive at the node that it is for, where that is one of the receivers and is there. It
-    /// answers whether the frame arrived so; one that is too old counts as one that did.
+    /// Lets the frame at a place of a bearer's air arrive at each node that it is for, where that is one of the receivers and is there, in order
+    /// of address. It answers at how many nodes the frame arrived so; where it is too old, that counts as one where it did.
     ///
     /// # Errors
     ///
-    /// The fault of the arrival, as [`World::step`] answers it.
+    /// The first fault of an arrival, as [`World::step`] answers it: the arrivals before it happened.
     pub fn arrive(
         &mut self,
         alloc: Global,
         among: Receivers,
         bearer: u8,
         place: u64,
-    ) -> Result<bool, WorldFault>
+    ) -> Result<u64, WorldFault>
         requires { bearer ≤ 1 }
-        ensures comes { Takes (arrival_asked among bearer) place self.old.state result self.new.state }
+        ensures comes { TakesCounted (arrival_asked among bearer) (numbers * place) (numbers * (place + 1))
+            self.old.state result self.new.state }
+        ensures few { IfOk result (λ count. count ≤ numbers) }
         ensures continues { Continues P.gives self.old self.new }
         ensures good { IsGood P.gives self.new }
     {
@@ -192,31 +215,111 @@ impl<P: Pick> World<P> {
         arrived
     }
 
-    /// Lets the frame at a place of a bearer's air arrive.
+    /// Lets the frame at a place of a bearer's air arrive where it is for. Where that is one node alone, no other is asked.
     fn take(
         &mut self,
         alloc: Global,
         among: Receivers,
         bearer: u8,
         place: u64,
-    ) -> Result<bool, WorldFault>
+    ) -> Result<u64, WorldFault>
         requires { bearer ≤ 1 }
-        ensures comes { Takes (arrival_asked among bearer) place self.old.state result self.new.state }
+        ensures comes { TakesCounted (arrival_asked among bearer) (numbers * place) (numbers * (place + 1))
+            self.old.state result self.new.state }
+        ensures few { IfOk result (λ count. count ≤ numbers) }
         ensures continues { Continues P.gives self.old self.new }
     {
-        let Some(node) = self.receiver(bearer, place) else {
-            return Ok(false);
+        let Some(node) = self.only_receiver(bearer, place) else {
+            return self.reach_each(alloc, among, bearer, place);
         };
+        let reached = self.reach(alloc, among, bearer, place, node)?;
+        Ok(counted(reached))
+    }
+
+    /// Lets the frame at a place of a bearer's air arrive at each node that it is for.
+    fn reach_each(
+        &mut self,
+        alloc: Global,
+        among: Receivers,
+        bearer: u8,
+        place: u64,
+    ) -> Result<u64, WorldFault>
+        requires { bearer ≤ 1 }
+        ensures comes { TakesCounted (arrival_asked among bearer) (numbers * place) (numbers * (place + 1))
+            self.old.state result self.new.state }
+        ensures few { IfOk result (λ count. count ≤ numbers) }
+        ensures continues { Continues P.gives self.old self.new }
+    {
+        let mut count = 0;
+        for node in 0..NUMBERS {
+            if self.try_to_reach(alloc, among, bearer, place, node)? {
+                count += 1;
+            }
+        }
+        Ok(count)
+    }
+
+    /// Lets the frame at a place of a bearer's air arrive at a node, where the frame is for it, and it is one of the receivers and is there. It
+    /// answers whether the frame arrived so.
+    fn try_to_reach(
+        &mut self,
+        alloc: Global,
+        among: Receivers,
+        bearer: u8,
+        place: u64,
+        node: u8,
+    ) -> Result<bool, WorldFault>
+        requires { bearer ≤ 1 }
+        ensures comes { Maybe (arrival_at among bearer self.old.state place node) self.old.state result self.new.state }
+        ensures continues { Continues P.gives self.old self.new }
+    {
+        if !among.has(node) || !self.has_node(node) || !self.is_for(node, bearer, place) {
+            return Ok(false);
+        }
+        self.step(alloc, arrival(bearer, place, node))?;
+        Ok(true)
+    }
+
+    /// Lets the frame at a place of a bearer's air arrive at a node that it is for, where that is one of the receivers and is there. It answers
+    /// whether the frame arrived so.
+    fn reach(
+        &mut self,
+        alloc: Global,
+        among: Receivers,
+        bearer: u8,
+        place: u64,
+        node: u8,
+    ) -> Result<bool, WorldFault>
+        requires bearer { bearer ≤ 1 }
+        requires is_for { is_some (frame_for self.old.state.air node bearer place) ≡ true }
+        ensures comes { Maybe (arrival_at among bearer self.old.state place node) self.old.state result self.new.state }
+        ensures continues { Continues P.gives self.old self.new }
+    {
         if !among.has(node) || !self.has_node(node) {
             return Ok(false);
         }
-        let event = WorldEvent::Arrive {
-            node,
-            bearer,
-            frame: place,
-        };
-        self.step(alloc, event)?;
+        self.step(alloc, arrival(bearer, place, node))?;
         Ok(true)
+    }
+
+    /// Whether there is a frame at that place of a bearer's air, and it is for a node, which is there.
+    fn is_for(&self, node: u8, bearer: u8, place: u64) -> bool
+        requires { is_there self.now.state node ≡ true }
+        ensures { result ≡ is_some (frame_for self.now.state.air node bearer place) }
+    {
+        self.good();
+        self.replay.is_for(node, bearer, place)
+    }
+
+    /// The node that the frame at a place of a bearer's air is for, where it is for one alone.
+    fn only_receiver(&self, bearer: u8, place: u64) -> Option<u8>
+        ensures only { IfSome result (λ node. IsForOne self.now.state.air bearer place node) }
+        ensures range { IfSome result (λ node. node ≤ 32) }
+    {
+        match self.frame(bearer, place)?.to {
+            To::Node(address) => address.number(),
+            To::All => None,
+        }
     }
 
     /// Makes so many rounds. In each of them every node ticks, in order of address, and then the frames arrive that were sent since

@@ -79,7 +79,7 @@ no_age members f n bearer (inr (inr other)) = by (is_frame_size (length f.frame)
 
 kept_is : (o : Option Sent) (n : ℕ) (f : Sent) → kept_for o n ≡ Some f → o ≡ Some f
 kept_is None n f e = absurd cc
-kept_is (Some g) n f e = by (is_for g.to n) e
+kept_is (Some g) n f e = by (is_for g.from g.to n) e
   where
     by : (b : Bool) → (if b then Some g else None) ≡ Some f → Some g ≡ Some f
     by true e = e

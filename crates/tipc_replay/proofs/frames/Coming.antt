@@ -1,10 +1,14 @@
 -- A frame that is heard was sent by the peer, and isn't too old.
-use Rattle.std.proofs.Common.{◌≡◌, ◌≢◌, ◌≤◌, ◌+◌, ℕ, true, List, [], Some, None, refl, length, sym, ap, ◌∙◌, subst, arith}
+use Rattle.std.proofs.Common.{◌≡◌, ◌≢◌, ◌≤◌, ◌+◌, ℕ, zero, suc, true, List, [], Some, None, refl, length, sym, ap, ◌∙◌, subst, arith}
 use Rattle.std.specs.Prelude.{drop, slice_get}
+use Rattle.std.proofs.lemmas.Bool.Decides.{nat_tests}
 use Rattle.std.proofs.lemmas.List.{drop_at, length-append}
 use Rattle.tipc_types.specs.Address.{node_word}
+use Rattle.tipc_types.specs.declared.identity.Addr.{Addr}
+use Rattle.tipc_types.specs.declared.identity.To.TheVariants as to
 use Rattle.tipc_header.specs.Faults.{fault_of}
-use Rattle.tipc_header.specs.Frames.{envelope}
+use Rattle.tipc_header.specs.declared.frames.FrameKind.TheVariants.{Casts, Finds, Links}
+use Rattle.tipc_header.specs.Frames.{envelope, is_of_link, kind_in}
 use Rattle.tipc_header.specs.Reading.{fields_at}
 use Rattle.tipc_header.specs.Spelling.{Fields, spelling}
 use Rattle.tipc_header.proofs.Again.{again, no_fault}
@@ -12,17 +16,20 @@ use Rattle.tipc_header.proofs.FrameWords.{length-envelope}
 use Rattle.tipc_link.specs.Links.{is_traffic}
 use Rattle.tipc_types.specs.declared.node_calls.EventNote.{EventNote}
 use Rattle.tipc_types.specs.declared.node_calls.EventNote.TheVariants as event
-use Rattle.tipc_pair.specs.PairTurns.{Opening, IsOnOne, Suits}
+use Rattle.tipc_pair.specs.Facing.{PairEnds, facing}
+use Rattle.tipc_pair.specs.PairTurns.{MakesNew, Opening, IsOnOne, Suits}
 use Rattle.tipc_pair.specs.PairTurns.Opening.{cuts, hears, makes, mends, rests, ticks}
 use Rattle.tipc_paired.proofs.wires.Frames.{same_packet}
 use Rattle.tipc_two_nodes.proofs.sights.Sights.{frames}
-use Rattle.tipc_two_nodes.specs.Sights.{Comes, MayHappen, Sight}
+use Rattle.tipc_two_nodes.specs.Sights.{Comes, MayHappen, Sight, pair_seen}
 use Rattle.tipc_node.specs.Nodes.{is_frame_size}
-use Rattle.tipc_node.specs.Turns.{IsBrought, IsFrom, is_to}
+use Rattle.tipc_node.specs.Turns.{IsBrought, IsFrom, addr_of, is_to}
 use Rattle.tipc_replay.specs.declared.air.Sent.{Sent}
+use Rattle.tipc_replay.specs.Addressed.{IsAddressed, IsPacketOf, IsToOther, of_a_link, of_broadcast, of_discovery}
 use Rattle.tipc_replay.specs.Air.{as_frame, sent_between}
 use Rattle.tipc_replay.specs.Due.{frame_for, unarrived}
-use Rattle.tipc_replay.specs.Sound.{IsNumber, IsSound}
+use Rattle.tipc_replay.specs.Sound.{IsAirborne, IsNumber, IsSound}
+use Rattle.tipc_replay.specs.States.{has_member}
 use Rattle.tipc_replay.specs.Steps.{Stage}
 use Rattle.tipc_replay.specs.Views.{sight_at}
 use Rattle.tipc_replay.proofs.frames.Reaching.{IsYoung, age_is, goes_there, placed, same_receiver, sent_at, young, young_session}
@@ -38,34 +45,44 @@ pub record IsFromPeer (s : Stage) (a bearer : ℕ) (f : Sent) (peer : ℕ) : Typ
   pub place : ℕ
   pub there : slice_get (sent_between s.air peer a) place ≡ Some (as_frame bearer f)
 
--- a frame for node a is a packet of the node that sent it, under an envelope
-pub record IsSpokenTo (s : Stage) (a bearer : ℕ) (f : Sent) : Type 0 where
-  pub sender : ℕ
-  pub sent : IsFromPeer s a bearer f sender
-  pub es : ℕ
-  pub er : ℕ
-  pub packet : Fields
-  pub is_from : IsFrom sender f.frame es er packet
-
-pub spoken_to : (s : Stage) (a bearer place : ℕ) (f : Sent) → IsSound s.members s.air → frame_for s.air a bearer place ≡ Some f → IsSpokenTo s a bearer f
-unfolding sight_at
-spoken_to s a bearer place f sound found =
+-- a frame of a link to node a stands among those that its sender sent
+linked : (s : Stage) (a bearer place : ℕ) (f : Sent) (from : ℕ) → frame_for s.air a bearer place ≡ Some f → IsNumber from → f.from.word ≡ node_word from → is_frame_size (length f.frame) ≡ true → is_of_link f.frame ≡ true → IsToOther from f.to
+    → IsNumber a × IsFromPeer s a bearer f from
+linked s a bearer place f from found number is size link other =
     let at = placed s.air a bearer place f found in
-    let flown = sound.frames bearer place f at.0 in
-    let from = flown.from in
-    let here : flown.receiver ≡ a = sym (same_receiver a flown.receiver f.to at.1 flown.to_is) in
-    let apart : from ≢ a = λ e. flown.apart (e ∙ sym here) in
-    let sent = sent_at s.air from a bearer place f at.0 (goes_there from a f flown.from_is (subst (λ n. is_to n f.to ≡ true) here flown.to_is)) in
-    let h = sound.pairs from a flown.from_number (subst IsNumber here flown.receiver_number) apart in
-    let spoken = frames (sight_in s from a) (sight_in s a from) sent.1.0 (as_frame bearer f) h sent.1.1 in
+    let to_it : is_to other.receiver f.to ≡ true = ap (is_to other.receiver) other.to_is ∙ grind (arith, nat_tests) in
+    let here : other.receiver ≡ a = sym (same_receiver a other.receiver f.from f.to at.1 to_it) in
+    let sent = sent_at s.air from a bearer place f at.0 (goes_there from a f is (subst (λ n. is_to n f.to ≡ true) here to_it) link) in
+    (subst IsNumber here other.number, record { number = number; apart = λ e. other.apart (here ∙ sym e); from = is; two = sent.0; size = size; place = sent.1.0; there = sent.1.1 })
+
+-- a frame for node a is a packet of the node that sent it, under an envelope
+pub record IsSpokenTo (f : Sent) : Type 0 where
+  pub sender : ℕ
+  pub from : f.from.word ≡ node_word sender
+  pub said : IsPacketOf sender f.frame
+
+-- one of a link is
+pub spoken_on : (s : Stage) (a bearer : ℕ) (f : Sent) (from : ℕ) → IsSound s.members s.air → IsNumber a → IsFromPeer s a bearer f from → IsPacketOf from f.frame
+unfolding sight_at
+spoken_on s a bearer f from sound number sent =
+    let spoken = frames (sight_in s from a) (sight_in s a from) sent.place (as_frame bearer f) (sound.pairs from a sent.number number sent.apart) sent.there in
     record {
-      sender = from;
-      sent = record { number = flown.from_number; apart = apart; from = flown.from_is; two = sent.0; size = flown.size; place = sent.1.0; there = sent.1.1 };
       es = spoken.es;
       er = spoken.er;
       packet = spoken.packet;
       is_from = record { es_fits = spoken.es_fits; er_fits = spoken.er_fits; fits = spoken.fits; frame_is = spoken.bytes; previous = spoken.previous };
     }
+
+pub spoken_to : (s : Stage) (a bearer place : ℕ) (f : Sent) → IsSound s.members s.air → frame_for s.air a bearer place ≡ Some f → IsSpokenTo f
+spoken_to s a bearer place f sound found = record { sender = flown.from; from = flown.from_is; said = by flown.addressed }
+  where
+    flown : IsAirborne f
+    flown = sound.frames bearer place f (placed s.air a bearer place f found).0
+
+    by : IsAddressed flown.from f.frame f.to → IsPacketOf flown.from f.frame
+    by (of_a_link link other) = (let sent = linked s a bearer place f flown.from found flown.from_number flown.from_is flown.size link other in spoken_on s a bearer f flown.from sound sent.0 sent.1)
+    by (of_discovery packet kind low receivers) = packet
+    by (of_broadcast packet kind all) = packet
 
 -- a packet of a frame names the node that sent it
 pub same_sender : (b c : ℕ) (bytes : List ℕ) (es er es' er' : ℕ) (p q : Fields) → IsFrom b bytes es er p → IsFrom c bytes es' er' q → b ≡ c
@@ -74,17 +91,50 @@ same_sender b c bytes es er es' er' p q h k =
     let words : node_word b ≡ node_word c = sym h.previous ∙ ap (λ (r : Fields). r.previous) same ∙ k.previous in
     omega (arith, words)
 
-from_peer : (s : Stage) (a bearer place : ℕ) (f : Sent) (peer es er : ℕ) (p : Fields) → IsSound s.members s.air → frame_for s.air a bearer place ≡ Some f → IsFrom peer f.frame es er p → IsFromPeer s a bearer f peer
-from_peer s a bearer place f peer es er p sound found b =
+-- a link packet came in a frame for one node
+pub one_receiver : (s : Stage) (a bearer place : ℕ) (f : Sent) → IsSound s.members s.air → frame_for s.air a bearer place ≡ Some f → kind_in f.frame ≡ Links → (address : Addr) × (f.to ≡ to.Node address)
+one_receiver s a bearer place f sound found kind_is = by flown.addressed
+  where
+    flown : IsAirborne f
+    flown = sound.frames bearer place f (placed s.air a bearer place f found).0
+
+    by : IsAddressed flown.from f.frame f.to → (address : Addr) × (f.to ≡ to.Node address)
+    by (of_a_link link other) = (addr_of other.receiver, other.to_is)
+    by (of_discovery packet finds low receivers) = absurd (let wrong : Finds ≡ Links = sym finds ∙ kind_is in cc)
+    by (of_broadcast packet casts all) = absurd (let wrong : Casts ≡ Links = sym casts ∙ kind_is in cc)
+
+-- a link packet came in a frame of a link
+from_peer : (s : Stage) (a bearer place : ℕ) (f : Sent) (peer es er : ℕ) (p : Fields) → IsSound s.members s.air → frame_for s.air a bearer place ≡ Some f → IsFrom peer f.frame es er p → kind_in f.frame ≡ Links → IsFromPeer s a bearer f peer
+from_peer s a bearer place f peer es er p sound found b kind_is = by flown.addressed
+  where
+    flown : IsAirborne f
+    flown = sound.frames bearer place f (placed s.air a bearer place f found).0
+
+    by : IsAddressed flown.from f.frame f.to → IsFromPeer s a bearer f peer
+    by (of_a_link link other) =
+        let sent = linked s a bearer place f flown.from found flown.from_number flown.from_is flown.size link other in
+        let said = spoken_on s a bearer f flown.from sound sent.0 sent.1 in
+        subst (IsFromPeer s a bearer f) (same_sender flown.from peer f.frame said.es said.er es er said.packet p said.is_from b) sent.1
+    by (of_discovery packet finds low receivers) = absurd (let wrong : Finds ≡ Links = sym finds ∙ kind_is in cc)
+    by (of_broadcast packet casts all) = absurd (let wrong : Casts ≡ Links = sym casts ∙ kind_is in cc)
+
+-- the sender of a frame is there
+pub sender_there : (s : Stage) (a bearer place : ℕ) (f : Sent) (b es er : ℕ) (p : Fields) → IsSound s.members s.air → frame_for s.air a bearer place ≡ Some f → IsFrom b f.frame es er p → has_member s.members b ≡ true
+sender_there s a bearer place f b es er p sound found from =
     let spoken = spoken_to s a bearer place f sound found in
-    subst (IsFromPeer s a bearer f) (same_sender spoken.sender peer f.frame spoken.es spoken.er es er spoken.packet p spoken.is_from b) spoken.sent
+    let said = spoken.said in
+    let sender : spoken.sender ≡ b = same_sender spoken.sender b f.frame said.es said.er es er said.packet p said.is_from from in
+    let by = sound.senders bearer place f (placed s.air a bearer place f found).0 in
+    let words : node_word by.0 ≡ node_word b = sym by.1 ∙ spoken.from ∙ ap node_word sender in
+    let same : by.0 ≡ b = omega (arith, words) in
+    subst (λ n. has_member s.members n ≡ true) same by.2
 
 -- the packet of that frame, for the pair of the two nodes
 pub comes : (s : Stage) (a bearer place : ℕ) (f : Sent) (peer es er : ℕ) (p : Fields) → IsSound s.members s.air → frame_for s.air a bearer place ≡ Some f → unarrived s.members s.air a bearer place ≡ None → IsFrom peer f.frame es er p
-    → Comes (sight_in s a peer) (sight_in s peer a) bearer es er p
+    → kind_in f.frame ≡ Links → Comes (sight_in s a peer) (sight_in s peer a) bearer es er p
 unfolding sight_at
-comes s a bearer place f peer es er p sound there free b =
-    let sent = from_peer s a bearer place f peer es er p sound there b in
+comes s a bearer place f peer es er p sound there free b kind =
+    let sent = from_peer s a bearer place f peer es er p sound there b kind in
     let packet : drop 16 f.frame ≡ spelling p = ap (drop 16) b.frame_is ∙ drop_at (envelope es er) (spelling p) 16 (length-envelope es er) in
     let age = young s.members s.air a bearer place f there free in
     let fresh : is_traffic p.header ≡ true → IsYoung s.members f a peer bearer es er = λ traffic.
@@ -103,20 +153,29 @@ comes s a bearer place f peer es er p sound there free b =
       peer_fresh = λ traffic. (fresh traffic).sender;
     }
 
--- what arrives in a step at node a came out of the air of its bearer
+-- a link packet that arrives in a step at node a came out of the air of its bearer
 abbrev pub ComesOut : Stage → ℕ → EventNote → List ℕ → Type 0
-ComesOut s a note bytes = (bearer number b es er : ℕ) (p : Fields) → note ≡ event.Arrive bearer number → IsFrom b bytes es er p → Comes (sight_in s a b) (sight_in s b a) bearer es er p
+ComesOut s a note bytes = (bearer number b es er : ℕ) (p : Fields) → note ≡ event.Arrive bearer number → IsFrom b bytes es er p → kind_in bytes ≡ Links → Comes (sight_in s a b) (sight_in s b a) bearer es er p
+
+no_end : (v : Sight) (bearer : ℕ) → bearer ≤ 1 → (facing bearer (pair_seen v)).near ≡ None → v.ends bearer ≡ None
+unfolding facing
+no_end v zero low none = none
+no_end v (suc zero) low none = none
+no_end v (suc (suc bearer)) low none = absurd (let wrong : ⊥ = omega arith in wrong)
 
 -- so what happens first at a pair may happen there
-pub may_happen : (v w : Sight) (b : ℕ) (note : EventNote) (bytes : List ℕ) (opening : Opening) → ((bearer number es er : ℕ) (p : Fields) → note ≡ event.Arrive bearer number → IsFrom b bytes es er p → Comes v w bearer es er p)
+pub may_happen : (v w : Sight) (b : ℕ) (note : EventNote) (bytes : List ℕ) (x : PairEnds) (opening : Opening) → pair_seen v ≡ x → MakesNew x opening → ((bearer number es er : ℕ) (p : Fields) → note ≡ event.Arrive bearer number → IsFrom b bytes es er p → kind_in bytes ≡ Links → Comes v w bearer es er p)
     → Suits note opening → IsOnOne opening → IsBrought b bytes opening → MayHappen v w opening
-may_happen v w b note bytes rests out suits on brought = tt
-may_happen v w b note bytes (makes bearer mended) out suits on brought = absurd suits
-may_happen v w b note bytes (mends bearer) out suits on brought = on
-may_happen v w b note bytes (cuts bearer) out suits on brought = on
-may_happen v w b note bytes (ticks shown) out suits on brought = tt
-may_happen v w b note bytes (hears bearer es er p by shown) out suits on brought = (on, out bearer by es er p suits brought)
+may_happen v w b note bytes x rests seen new out suits on brought = tt
+may_happen v w b note bytes x (makes bearer mended) seen new out suits on brought = (on, no_end v bearer on (subst (λ (y : PairEnds). (facing bearer y).near ≡ None) (sym seen) new))
+may_happen v w b note bytes x (mends bearer) seen new out suits on brought = on
+may_happen v w b note bytes x (cuts bearer) seen new out suits on brought = on
+may_happen v w b note bytes x (ticks shown) seen new out suits on brought = tt
+may_happen v w b note bytes x (hears bearer es er p by shown) seen new out suits on brought = (on, out bearer by es er p suits brought.0 brought.1)
 
 -- no bytes bring nothing
+pub nothing_brought : (b es er : ℕ) (p : Fields) → IsFrom b [] es er p → ⊥
+nothing_brought b es er p from = (let whole : 0 ≡ length (envelope es er) + length (spelling p) = ap length from.frame_is ∙ length-append (envelope es er) (spelling p) in let head = length-envelope es er in omega (arith, whole, head))
+
 pub nothing_out : (s : Stage) (a : ℕ) (note : EventNote) → ComesOut s a note []
-nothing_out s a note bearer number b es er p is from = absurd (let whole : 0 ≡ length (envelope es er) + length (spelling p) = ap length from.frame_is ∙ length-append (envelope es er) (spelling p) in let head = length-envelope es er in omega (arith, whole, head))
+nothing_out s a note bearer number b es er p is from link = absurd (nothing_brought b es er p from)

@@ -1,18 +1,20 @@
 -- The frames of one node to another, and what an event adds to them.
-use Rattle.std.proofs.Common.{◌≡◌, ◌≢◌, ℕ, Bool, true, false, List, [], ◌∷◌, ◌++◌, Option, Some, zero, suc, map, take, if◌then◌else◌, refl, sym, ap, ◌∙◌, subst, eqb-true, append-nil, inl, inr, arith}
+use Rattle.std.proofs.Common.{◌≡◌, ◌≢◌, ◌==◌, ◌&&◌, ℕ, Bool, true, false, List, [], ◌∷◌, ◌++◌, Option, Some, zero, suc, map, take, if◌then◌else◌, refl, sym, ap, ◌∙◌, subst, eqb-true, append-nil, inl, inr, arith}
 use Rattle.std.specs.List.{filter}
 use Rattle.std.specs.Prelude.{slice_get}
+use Rattle.std.proofs.lemmas.Bool.{and_parts}
 use Rattle.std.proofs.lemmas.Bool.Decides.{nat_tests}
 use Rattle.std.proofs.lemmas.List.Elements.{filter-append}
 use Rattle.tipc_types.specs.Address.{node_word}
 use Rattle.tipc_types.specs.declared.identity.To.{To}
 use Rattle.tipc_types.specs.declared.identity.To.TheVariants as to
 use Rattle.tipc_outside.specs.declared.outgoing.Outgoing.{Outgoing}
+use Rattle.tipc_header.specs.Frames.{is_of_link}
 use Rattle.tipc_pair.specs.Facing.{PairEnds}
 use Rattle.tipc_paired.specs.Views.{Frame, er_of, es_of}
 use Rattle.tipc_two_nodes.specs.Sights.{IsSent, sent_as}
 use Rattle.tipc_replay.specs.declared.air.Sent.{Sent}
-use Rattle.tipc_node.specs.Turns.{is_to}
+use Rattle.tipc_node.specs.Turns.{frames_to, is_out_to, is_to}
 use Rattle.tipc_replay.specs.Air.{Leaves, airborne, as_frame, goes, is_on, leaving_on, receiver_of, sent_between, sent_on}
 use Rattle.tipc_replay.specs.Skies.{AirState}
 use Rattle.tipc_replay.specs.States.{MemberState, contact_at, pair_at}
@@ -21,25 +23,17 @@ use Rattle.tipc_replay.proofs.frames.Released.{came}
 use Rattle.tipc_replay.proofs.pairs.Pairings.{told_as}
 use Rattle.tipc_replay.proofs.InLists.{Stands, stands_either, stands_front, stands_left, stands_map, stands_mapped, stands_passed, stands_passing, stands_right}
 
--- whether a frame that leaves is for node b
-abbrev pub is_out_to : ℕ → Outgoing → Bool
-is_out_to b o = is_to b o.to
-
--- those of these frames that are for node b
-abbrev pub frames_to : ℕ → List Outgoing → List Outgoing
-frames_to b frames = filter (is_out_to b) frames
-
 -- the number of the node that a frame is for
 receiver_is : (b : ℕ) (t : To) → is_to b t ≡ true → receiver_of t ≡ b
 receiver_is b (to.Node address) is = let word : address.word ≡ node_word b = eqb-true _ _ is in omega arith
 receiver_is b to.All is = absurd cc
 
--- a frame of a node goes to another where it is for that
+-- a frame of a node goes to another where it is of the links to that
 goes_out : (met : ℕ → Option (ℕ × ℕ)) (members : List (Option MemberState)) (a b : ℕ) (o : Outgoing) → goes a b (airborne met members a o) ≡ is_out_to b o
-goes_out met members a b o = grind (arith, nat_tests)
+goes_out met members a b o = let same : (node_word a == node_word a) ≡ true = grind (arith, nat_tests) in ap (λ t. t && is_out_to b o) same
 
 goes_apart : (met : ℕ → Option (ℕ × ℕ)) (members : List (Option MemberState)) (a c b : ℕ) (o : Outgoing) → c ≢ a → goes c b (airborne met members a o) ≡ false
-goes_apart met members a c b o apart = grind (arith, nat_tests)
+goes_apart met members a c b o apart = let differs : (node_word a == node_word c) ≡ false = grind (arith, nat_tests, apart) in ap (λ t. t && is_out_to b o) differs
 
 -- a frame in the air is what the pair of nodes says of it
 framed_as : (members members' : List (Option MemberState)) (air air' air'' : AirState) (a b bearer : ℕ) (o : Outgoing) → ((x : PairEnds) → pair_at members a b ≡ Some x → x.bearer ≡ 0)
@@ -49,7 +43,7 @@ unfolding sight_at
 framed_as members members' air air' air'' a b bearer o first is on =
     let there : o.bearer ≡ bearer = eqb-true _ _ on in
     let contact = told_as members members' air air' a b first in
-    rw (receiver_is b o.to is) (λ i. record {
+    rw (receiver_is b o.to (and_parts (is_to b o.to) (is_of_link o.frame) is).0) (λ i. record {
       bearer = sym there i;
       bytes = o.frame;
       contact = (contact i).0;

@@ -11,7 +11,7 @@ use Rattle.tipc_reassembly.specs.Slots.{packets_in}
 use Rattle.tipc_pair.specs.Facing.{PairEnds}
 use Rattle.tipc_pair.specs.Messages.{IsMessage, opened_in}
 use Rattle.tipc_pair.specs.PairTurns.{Opening, PairTurn, Reply, ShowsAtLast, ShowsIn}
-use Rattle.tipc_two_nodes.specs.Sights.{AreSeen, Goes, MayHappen, Sight, pair_seen, sent_as}
+use Rattle.tipc_two_nodes.specs.Sights.{AreSeen, PairBecomes, MayHappen, Sight, pair_seen, sent_as}
 use Rattle.tipc_two_nodes.proofs.sights.Sights.{frames as spoken, turns}
 use Rattle.tipc_two_nodes.proofs.sights.Truth.{frames_fit}
 use Rattle.tipc_node.specs.Nodes.{is_frame_size}
@@ -43,7 +43,7 @@ abbrev pub with_all : Sight → Sight → Sight → List Outgoing → Sight
 with_all v v' w os = record v' { sent = map (sent_as v v' w) os }
 
 -- it went there too, if it went to any sight that differs in its frames alone
-all_sent : (v v' w : Sight) (x : PairEnds) (os : List Outgoing) (put given : List (List ℕ)) → Goes v v' w x os put given → Goes v (with_all v v' w os) w x os put given
+all_sent : (v v' w : Sight) (x : PairEnds) (os : List Outgoing) (put given : List (List ℕ)) → PairBecomes v v' w x os put given → PairBecomes v (with_all v v' w os) w x os put given
 all_sent v v' w x os put given g = record {
   node = g.node;
   first = g.first;
@@ -68,6 +68,6 @@ seen_fit v v' w os h o there =
 
 -- so it is with each frame of a turn
 pub turn_fits : (v v' w : Sight) (opening : Opening) (messages : List (List ℕ)) (reply : Option Reply) (x : PairEnds) (os : List Outgoing) → AreSeen v w → MayHappen v w opening → ShowsIn opening → ShowsAtLast reply
-    → All (IsMessage v.node.own) messages → (t : PairTurn (pair_seen v) opening messages reply x os) → Goes v v' w x os messages (packets_in (opened_in t.first.given)) → AreFit os
+    → All (IsMessage v.node.own) messages → (t : PairTurn (pair_seen v) opening messages reply x os) → PairBecomes v v' w x os messages (packets_in (opened_in t.first.given)) → AreFit os
 turn_fits v v' w opening messages reply x os h may shows shows_last all t g =
     seen_fit v v' w os (turns v (with_all v v' w os) w opening messages reply x os h may shows shows_last all t (all_sent v v' w x os messages (packets_in (opened_in t.first.given)) g))

@@ -1,6 +1,6 @@
 -- Beside a frame stands the same contact whether all contacts before the event are looked up, or those alone that may end in it: the others
 -- are after the event what they were before.
-use Rattle.std.specs.Prelude.{◌==◌, if◌then◌else◌, not, option_and_then, option_map, unwrap_or}
+use Rattle.std.specs.Prelude.{◌==◌, if◌then◌else◌, not, option_and_then, unwrap_or}
 use Rattle.std.proofs.Common.{◌≡◌, ◌≤◌, ◌<◌, ℕ, Bool, true, false, List, [], Option, Some, None, length, map, eqb-true, inl, inr, refl, sym, ap, ◌∙◌, subst, arith}
 use Rattle.std.proofs.lemmas.Bool.{cases_lt}
 use Rattle.std.proofs.lemmas.Bool.Decides.{nat_tests}
@@ -15,11 +15,10 @@ use Rattle.tipc_journal.specs.Steps.{NodeStep}
 use Rattle.tipc_pair.specs.Facing.{PairEnds, contact_between, in_contact}
 use Rattle.tipc_pair.specs.PairTurns.{Happened, Opening, Suits}
 use Rattle.tipc_pair.specs.PairTurns.Opening.{cuts, hears, makes, mends, rests, ticks}
-use Rattle.tipc_node.specs.declared.neighbours.Neighbour.{Neighbour}
 use Rattle.tipc_node.specs.Messages.{bytes_of}
-use Rattle.tipc_node.specs.Nodes.{NodeState, neighbour_of, step_of}
+use Rattle.tipc_node.specs.Nodes.{NodeState, pair_with, step_of}
 use Rattle.tipc_node.specs.Sockets.{kept_answer}
-use Rattle.tipc_node.specs.Turns.{IsBrought, NodeTurn, PeerTurn}
+use Rattle.tipc_node.specs.Turns.{IsBrought, NodeTurn, PeerTurn, pair_in}
 use Rattle.tipc_pair.proofs.turns.PairPuts.{MeetsAs, meets_contact, meets_then, puts_meet, replied_meets}
 use Rattle.tipc_replay.specs.Air.{met_in, met_sender}
 use Rattle.tipc_replay.specs.declared.events.WorldEvent.{WorldEvent}
@@ -36,6 +35,7 @@ use Rattle.tipc_replay.specs.Sound.{IsNumber, IsSound}
 use Rattle.tipc_replay.specs.States.{MemberState, boot_at, contact_at, member_at, numbers_at, pair_at}
 use Rattle.tipc_replay.proofs.frames.Senders.{sender_is}
 use Rattle.tipc_replay.proofs.pairs.Contacts.{no_contact}
+use Rattle.tipc_replay.proofs.pairs.Pairings.{contact_read}
 use Rattle.tipc_replay.proofs.LookUps.{member_at-changed, member_at-is, pair_at-is}
 
 -- ---- a contact is its contact numbers
@@ -67,7 +67,7 @@ rests_contact own bytes s frames b x x' t is =
 -- nothing happens first at a pair in a call of a user
 rests_for_user : (call : EventNote) (opening : Opening) → is_of_user call ≡ true → Suits call opening → opening ≡ rests
 rests_for_user call rests user suits = refl
-rests_for_user call (makes bearer is_mended) user suits = absurd suits
+rests_for_user call (makes bearer is_mended) user suits = absurd (let wrong : false ≡ true = sym (ap is_of_user suits.1.1) ∙ user in cc)
 rests_for_user call (mends bearer) user suits = absurd (let wrong : false ≡ true = sym (ap is_of_user suits) ∙ user in cc)
 rests_for_user call (cuts bearer) user suits = absurd (let wrong : false ≡ true = sym (ap is_of_user suits) ∙ user in cc)
 rests_for_user call (ticks shown) user suits = absurd (let wrong : false ≡ true = sym (ap is_of_user suits) ∙ user in cc)
@@ -76,30 +76,23 @@ rests_for_user call (hears bearer es er p by shown) user suits = absurd (let wro
 -- nor at one whose node isn't the sender of what arrives
 rests_for_other : (bearer number b : ℕ) (bytes : List ℕ) (opening : Opening) → IsNumber b → (sender_of bytes ≡ Some b → ⊥) → Suits (note.Arrive bearer number) opening → IsBrought b bytes opening → opening ≡ rests
 rests_for_other bearer number b bytes rests is other suits brought = refl
-rests_for_other bearer number b bytes (makes on is_mended) is other suits brought = absurd suits
+rests_for_other bearer number b bytes (makes on is_mended) is other suits brought = absurd (other (sender_is b bytes brought.0 brought.1 brought.2 is brought.3))
 rests_for_other bearer number b bytes (mends on) is other suits brought = absurd cc
 rests_for_other bearer number b bytes (cuts on) is other suits brought = absurd cc
 rests_for_other bearer number b bytes (ticks shown) is other suits brought = absurd cc
-rests_for_other bearer number b bytes (hears on es er p by shown) is other suits brought = absurd (other (sender_is b bytes es er p is brought))
+rests_for_other bearer number b bytes (hears on es er p by shown) is other suits brought = absurd (other (sender_is b bytes es er p is brought.0))
 
 -- ---- of a node
 
-abbrev contact_of : Option Neighbour → Option (ℕ × ℕ)
-contact_of o = option_and_then contact_between (option_map (λ (x : Neighbour). x.pair) o)
-
 abbrev pub contact_with : NodeState → ℕ → Option (ℕ × ℕ)
-contact_with n b = contact_of (neighbour_of n b)
+contact_with n b = option_and_then contact_between (pair_in n b)
 
--- a contact with a peer stays where at each pair with it nothing happens first
+-- a contact with a peer stays where at the pair with it nothing happens first
 contact_lasts : (n n' : NodeState) (bytes : List ℕ) (s : NodeStep) (frames : List Outgoing) (b : ℕ) (turn : NodeTurn n n' bytes s frames) → ((x x' : PairEnds) (t : PeerTurn n.own bytes s frames b x x') → t.opening ≡ rests)
     → contact_with n' b ≡ contact_with n b
-contact_lasts n n' bytes s frames b turn still = by (neighbour_of n b) refl
-  where
-    by : (o : Option Neighbour) → neighbour_of n b ≡ o → contact_with n' b ≡ contact_with n b
-    by None is = ap contact_of (turn.alone b is) ∙ sym (ap contact_of is)
-    by (Some x) is =
-        let t = turn.turns b x is in
-        ap contact_of t.after_is ∙ (rests_contact n.own bytes s frames b x.pair t.after.pair t.turn (still x.pair t.after.pair t.turn) ∙ sym (ap contact_of is))
+contact_lasts n n' bytes s frames b turn still =
+    let t = turn.turns b in
+    contact_read n' b ∙ rests_contact n.own bytes s frames b (pair_with n b) (pair_with n' b) t (still (pair_with n b) (pair_with n' b) t) ∙ sym (contact_read n b)
 
 pub contact_lasts_for_user : (n n' : NodeState) (s : NodeStep) (frames : List Outgoing) (b : ℕ) → is_of_user s.event ≡ true → NodeTurn n n' [] s frames → contact_with n' b ≡ contact_with n b
 contact_lasts_for_user n n' s frames b user turn = contact_lasts n n' [] s frames b turn (λ x x' t. rests_for_user s.event t.opening user t.suits)

@@ -1,14 +1,15 @@
 -- The frame that arrives among those that its sender sent, and its age.
-use Rattle.std.proofs.Common.{◌≡◌, ◌≤◌, ◌<◌, ◌+◌, ◌-◌, ◌^◌, ◌==◌, ℕ, zero, suc, Bool, true, false, List, [], Option, Some, None, length, max, if◌then◌else◌, refl, sym, ap, ◌∙◌, subst, eqb-true, arith}
+use Rattle.std.proofs.Common.{◌≡◌, ◌≤◌, ◌<◌, ◌+◌, ◌-◌, ◌^◌, ◌==◌, ◌&&◌, ℕ, zero, suc, Bool, true, false, List, [], Option, Some, None, length, max, if◌then◌else◌, refl, sym, ap, ◌∙◌, subst, eqb-true, arith}
 use Rattle.std.specs.Prelude.{drop, nat_lt, slice_get}
 use Rattle.std.specs.List.{filter}
 use Rattle.std.proofs.lemmas.Bool.Decides.{nat_tests}
 use Rattle.tipc_types.specs.Address.{node_word}
+use Rattle.tipc_types.specs.declared.identity.Addr.{Addr}
 use Rattle.tipc_types.specs.declared.identity.To.{To}
 use Rattle.tipc_types.specs.declared.identity.To.TheVariants as to
 use Rattle.tipc_types.specs.declared.node_calls.Answer.TheVariants as answer
 use Rattle.tipc_header.specs.Faults.{fault_of}
-use Rattle.tipc_header.specs.Frames.{frame_of}
+use Rattle.tipc_header.specs.Frames.{frame_of, is_of_link}
 use Rattle.tipc_header.specs.Reading.{fields_at}
 use Rattle.tipc_header.specs.Spelling.{Fields}
 use Rattle.tipc_link.specs.Links.{is_traffic}
@@ -42,25 +43,27 @@ sent_at air a b (suc (suc bearer)) place f there is = absurd (
 
 -- ---- the frame that arrives
 
-kept_is : (o : Option Sent) (n : ℕ) (f : Sent) → kept_for o n ≡ Some f → (o ≡ Some f) × (is_for f.to n ≡ true)
+kept_is : (o : Option Sent) (n : ℕ) (f : Sent) → kept_for o n ≡ Some f → (o ≡ Some f) × (is_for f.from f.to n ≡ true)
 kept_is None n f e = absurd cc
-kept_is (Some g) n f e = case (is_for g.to n) refl e
+kept_is (Some g) n f e = case (is_for g.from g.to n) refl e
   where
-    case : (b : Bool) → is_for g.to n ≡ b → (if b then Some g else None) ≡ Some f → (Some g ≡ Some f) × (is_for f.to n ≡ true)
-    case true is e = (e, (let same : g ≡ f = cc in ap (λ (h : Sent). is_for h.to n) (sym same) ∙ is))
+    case : (b : Bool) → is_for g.from g.to n ≡ b → (if b then Some g else None) ≡ Some f → (Some g ≡ Some f) × (is_for f.from f.to n ≡ true)
+    case true is e = (e, (let same : g ≡ f = cc in ap (λ (h : Sent). is_for h.from h.to n) (sym same) ∙ is))
     case false is e = absurd cc
 
-pub placed : (air : AirState) (n bearer k : ℕ) (f : Sent) → frame_for air n bearer k ≡ Some f → (slice_get (air_on bearer air) k ≡ Some f) × (is_for f.to n ≡ true)
+pub placed : (air : AirState) (n bearer k : ℕ) (f : Sent) → frame_for air n bearer k ≡ Some f → (slice_get (air_on bearer air) k ≡ Some f) × (is_for f.from f.to n ≡ true)
 unfolding frame_for
 placed air n bearer k f e = kept_is (slice_get (air_on bearer air) k) n f e
 
 -- a frame for node n alone, and for b, is for the same node
-pub same_receiver : (n b : ℕ) (t : To) → is_for t n ≡ true → is_to b t ≡ true → n ≡ b
-same_receiver n b (to.Node address) is_n is_b = let one : address.word ≡ node_word n = eqb-true _ _ is_n in let two : address.word ≡ node_word b = eqb-true _ _ is_b in omega arith
-same_receiver n b to.All is_n is_b = absurd cc
+pub same_receiver : (n b : ℕ) (from : Addr) (t : To) → is_for from t n ≡ true → is_to b t ≡ true → n ≡ b
+same_receiver n b from (to.Node address) is_n is_b = let one : address.word ≡ node_word n = eqb-true _ _ is_n in let two : address.word ≡ node_word b = eqb-true _ _ is_b in omega arith
+same_receiver n b from to.All is_n is_b = absurd cc
 
-pub goes_there : (from receiver : ℕ) (f : Sent) → f.from.word ≡ node_word from → is_to receiver f.to ≡ true → goes from receiver f ≡ true
-goes_there from receiver f from_is to_is = rw (from_is, to_is) (grind (arith, nat_tests))
+pub goes_there : (from receiver : ℕ) (f : Sent) → f.from.word ≡ node_word from → is_to receiver f.to ≡ true → is_of_link f.frame ≡ true → goes from receiver f ≡ true
+goes_there from receiver f from_is to_is link =
+    let same : (f.from.word == node_word from) ≡ true = ap (λ w. w == node_word from) from_is ∙ grind (arith, nat_tests) in
+    ap (λ t. t && (is_to receiver f.to && is_of_link f.frame)) same ∙ ap (λ t. t && is_of_link f.frame) to_is ∙ link
 
 -- ---- its age
 

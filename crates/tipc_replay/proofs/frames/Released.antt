@@ -1,12 +1,13 @@
 -- Frames that come into the air one after another, each on its bearer.
-use Rattle.std.proofs.Common.{◌≡◌, ℕ, ◌+◌, ◌-◌, zero, suc, Bool, false, List, Option, [], ◌∷◌, ◌++◌, filter, length, map, take, drop, refl, sym, ap, ◌∙◌, append_assoc, append-nil}
+use Rattle.std.proofs.Common.{◌≡◌, ℕ, ◌+◌, zero, suc, Bool, List, Option, [], ◌∷◌, ◌++◌, filter, length, map, take, drop, refl, sym, ap, ◌∙◌, append_assoc, append-nil}
 use Rattle.std.specs.Prelude.{All, ◌||◌, nat_lt}
 use Rattle.std.proofs.lemmas.List.{drop-drop, map-append}
 use Rattle.std.proofs.lemmas.List.Elements.{All-rest, filter-append}
 use Rattle.std.proofs.Math.Seq.{take-add}
 use Rattle.tipc_outside.specs.declared.outgoing.Outgoing.{Outgoing}
-use Rattle.tipc_outside.specs.Frames.{Out}
-use Rattle.tipc_replay.specs.Air.{airborne, is_on, leaving_on, with_leaving, Emits, IsOut, Leaves}
+use Rattle.tipc_outside.specs.Frames.{Out, is_lost, frames_leaving}
+use Rattle.tipc_outside.proofs.Adding.{alone_leaving}
+use Rattle.tipc_replay.specs.Air.{airborne, is_on, leaving_on, loose, with_leaving, Emits, IsOut, Leaves}
 use Rattle.tipc_replay.specs.Skies.{AirState}
 use Rattle.tipc_replay.specs.States.{MemberState}
 
@@ -55,19 +56,15 @@ releasing-step old now now' met members a frames waiting waiting' o h first push
       out = All-rest (IsOut a) o waiting' waiting first h.out;
     }
 
--- frames that stand in no box yet
-abbrev pub loose : List Outgoing → Out
-loose frames = record { frames = frames; lost = false }
-
 -- ---- through a box
 
 -- what a box lost is lost too
-pub emits_boxed : (old new : AirState) (met : ℕ → Option (ℕ × ℕ)) (members : List (Option MemberState)) (a : ℕ) (box : Out) (frames : List Outgoing) (lost more : Bool) → frames ≡ box.frames → lost ≡ box.lost
+pub emits_boxed : (old new : AirState) (met : ℕ → Option (ℕ × ℕ)) (members : List (Option MemberState)) (a : ℕ) (box : Out) (frames : List Outgoing) (lost more : Bool) → frames ≡ frames_leaving box → lost ≡ is_lost box
     → Emits old new met members a (loose frames) more → Emits old new met members a box (lost || more)
 emits_boxed old new met members a box frames lost more are is e = record {
   count = e.count;
   air = e.air ∙ ap (λ fs. with_leaving old met members a (take e.count fs)) are;
-  lost_is = ap (λ t. lost || t) e.lost_is ∙ ap (λ t. t || nat_lt e.count (length frames)) is ∙ ap (λ fs. box.lost || nat_lt e.count (length fs)) are;
+  lost_is = ap (λ t. lost || t) e.lost_is ∙ ap (λ t. t || nat_lt e.count (length frames)) is ∙ ap (λ fs. is_lost box || nat_lt e.count (length fs)) are;
 }
 
 -- a front of a front is a front
@@ -81,5 +78,5 @@ front_of_front (suc k) (suc n) (x ∷ xs) = let rest = front_of_front k n xs in 
 pub came : (old new : AirState) (met : ℕ → Option (ℕ × ℕ)) (members : List (Option MemberState)) (a : ℕ) (frames : List Outgoing) (lost : Bool) → Leaves old new met members a frames lost
     → (count : ℕ) × (new ≡ with_leaving old met members a (take count frames))
 came old new met members a frames lost l =
-    let front = front_of_front l.emits.count l.boxed.count frames in
-    (front.0, l.emits.air ∙ ap (with_leaving old met members a) (ap (take l.emits.count) l.boxed.front ∙ front.1))
+    let front = front_of_front l.emits.count l.boxed.behind.count frames in
+    (front.0, l.emits.air ∙ ap (with_leaving old met members a) (ap (take l.emits.count) (alone_leaving l.boxed) ∙ front.1))

@@ -2,6 +2,7 @@
 use Rattle.std.proofs.Common.{length-append, ◌≡◌, ◌≤◌, zero, suc, ◌<◌, ◌+◌, ◌==◌, ℕ, Bool, true, false, List, [], ◌∷◌, ◌++◌, Option, Some, None, if◌then◌else◌, length, slice_get, slice_index_or, slice_set, refl, sym, ap, ◌∙◌, subst, inl, inr, eqb-true, get_or-set_same, get_or-set_other, arith}
 use Rattle.std.specs.Prelude.{nat_le, option_and_then, option_map}
 use Rattle.std.proofs.lemmas.Bool.{cases_eq}
+use Rattle.tipc_types.specs.declared.message_forms.Flow.TheVariants.{Zero}
 use Rattle.tipc_types.specs.declared.node_calls.Answer.{Answer}
 use Rattle.tipc_types.specs.declared.node_calls.By.{By}
 use Rattle.tipc_types.specs.declared.node_calls.EventNote.{EventNote}
@@ -38,12 +39,13 @@ use Rattle.tipc_pair.specs.Facing.{PairEnds, alone, facing, turned}
 use Rattle.tipc_pair.specs.PairCalls.{at_bearer}
 use Rattle.tipc_pair.specs.PairTurns.{made_near}
 use Rattle.tipc_pair.proofs.turns.PairTraces.{keeps_of, making_by, pair_of}
+use Rattle.tipc_replay.proofs.pairs.Standing.{after_number, neighbour_number}
 use Rattle.tipc_replay.proofs.pairs.PairedStarts.{kept_first, kept_pair, known_is, known_pair}
 use Rattle.tipc_replay.specs.Steps.{Becomes, Happens, IsArrival, Stage, Turns}
 use Rattle.tipc_replay.specs.Watched.{AreTraced, AreWatched, IsWatched}
 use Rattle.tipc_pair.specs.Traces.{KeepsBy}
 use Rattle.tipc_replay.proofs.pairs.Bringing.{are_brought}
-use Rattle.tipc_replay.proofs.frames.Coming.{ComesOut, nothing_out, spoken_to}
+use Rattle.tipc_replay.proofs.frames.Coming.{ComesOut, nothing_out, one_receiver, spoken_to}
 use Rattle.tipc_replay.proofs.Growing.{prefix_same}
 use Rattle.tipc_replay.proofs.journals.Kept.{IsKept, get_last, kept_of, kept_wider, quieter_kept, restarted_kept, seen_by, started_kept, watched_of}
 use Rattle.tipc_replay.proofs.LookUps.{place_within}
@@ -92,16 +94,17 @@ kept_in air air' m longer w = kept_wider (seen_by air m) (seen_by air' m) m.past
 -- ---- a turn
 
 -- a node took a turn while the air and its arrivals grew
-pub turn_watched : (air air' : AirState) (m m' : MemberState) (bytes : List ℕ) (s : NodeStep) (frames : List Outgoing) → GrowsAir air air' → IsPrefixOf m.arrivals m'.arrivals → m'.past ≡ m.past → IsWatched air m → IsTold m.node → IsTold m'.node
-    → (t : NodeTurn m.node m'.node bytes s frames) → AreCarried (seen_by air' m') s bytes → TakesTunnels m.node s bytes → AreBrought m.node m'.node bytes s frames t → IsWatched air' m'
-turn_watched air air' m m' bytes s frames longer more past w told told' t carried answers brings =
+pub turn_watched : (s : Stage) (air' : AirState) (a : ℕ) (m m' : MemberState) (bytes : List ℕ) (step : NodeStep) (frames : List Outgoing) → IsSound s.members s.air → slice_index_or s.members a None ≡ Some m → GrowsAir s.air air' → IsPrefixOf m.arrivals m'.arrivals → m'.past ≡ m.past
+    → IsWatched s.air m → IsTold m.node → IsTold m'.node
+    → (t : NodeTurn m.node m'.node bytes step frames) → AreCarried (seen_by air' m') step bytes → TakesTunnels m.node step bytes → AreBrought a m.node m'.node bytes step frames t → IsWatched air' m'
+turn_watched s air' a m m' bytes step frames sound was longer more past w told told' t carried answers brings =
     let seen = seen_by air' m' in
-    let grown : Widens (seen_by air m) seen = record { air = longer; arrivals = more } in
-    let traced = traced_wider (seen_by air m) seen m.node.neighbours grown w.traced in
-    let kept = kept_wider (seen_by air m) seen m.past m.node.journal (pair_in m.node) grown (kept_of air m w) in
+    let grown : Widens (seen_by s.air m) seen = record { air = longer; arrivals = more } in
+    let traced = traced_wider (seen_by s.air m) seen m.node.neighbours grown w.traced in
+    let kept = kept_wider (seen_by s.air m) seen m.past m.node.journal (pair_in m.node) grown (kept_of s.air m w) in
     watched_of air' m' (subst (λ js. IsKept seen js m'.node.journal (pair_in m'.node)) (sym past)
-    (turn_kept seen m.past m.node m'.node bytes s frames t kept told told' carried answers (turn_spelled seen m.node m'.node bytes s frames t traced carried brings)))
-    (turn_traced seen m.node m'.node bytes s frames t traced carried brings)
+    (turn_kept seen m.past a m.node m'.node bytes step frames t kept told told' carried answers (turn_spelled seen a m.node m'.node bytes step frames t traced carried brings) (λ b. neighbour_number s.members s.air a b m sound was)))
+    (turn_traced seen a m.node m'.node bytes step frames t traced carried brings (λ b. after_number s.members s.air a b m m'.node bytes step frames sound was t))
 
 -- an arrival isn't performed as a call
 never_arrives : (n n' : NodeState) (by : By) (call : EventNote) (frames : List Outgoing) (answered : Answer) → Performs n by call n' frames answered → (bearer number : ℕ) → call ≡ note.Arrive bearer number → ⊥
@@ -111,7 +114,7 @@ make_watched : (s : Stage) (air' : AirState) (a : ℕ) (by : By) (call : EventNo
     → IsWatched s.air m → Makes by call m m' frames answered → IsWatched air' m'
 make_watched s air' a by call m m' frames answered sound longer was w h =
     let step = made_step by call m m' frames answered h in
-    turn_watched s.air air' m m' [] step frames longer (prefix_same m.arrivals m'.arrivals (ap (λ (x : MemberState). x.arrivals) h.after)) (ap (λ (x : MemberState). x.past) h.after) w h.turn.told_before h.turn.told h.turn.turn
+    turn_watched s air' a m m' [] step frames sound was longer (prefix_same m.arrivals m'.arrivals (ap (λ (x : MemberState). x.arrivals) h.after)) (ap (λ (x : MemberState). x.past) h.after) w h.turn.told_before h.turn.told h.turn.turn
     (λ bearer number is. absurd (never_arrives m.node m'.node _ call frames answered h.performs bearer number is))
     (λ bearer number place e is there tunnel. absurd (never_arrives m.node m'.node _ call frames answered h.performs bearer number is)) (are_brought s a m m' [] step frames sound was h.turn.turn (nothing_out s a _))
 
@@ -146,11 +149,12 @@ frame_carried s air' a bearer place f arrivals sound longer there =
       arrived = arrived_last s.air air' arrivals bearer place f longer (placed s.air a bearer place f there).0;
       bytes_are = refl;
       sender = spoken.sender;
-      from = spoken.sent.from;
-      es = spoken.es;
-      er = spoken.er;
-      packet = spoken.packet;
-      is_from = spoken.is_from;
+      from = spoken.from;
+      one = λ link. one_receiver s a bearer place f sound there link;
+      es = spoken.said.es;
+      er = spoken.said.er;
+      packet = spoken.said.packet;
+      is_from = spoken.said.is_from;
     }
 
 are_carried : (s : Stage) (air' : AirState) (a bearer place : ℕ) (f : Sent) (arrivals arrivals' : List Arrived) (step : NodeStep) → IsSound s.members s.air → GrowsAir s.air air' → frame_for s.air a bearer place ≡ Some f
@@ -171,7 +175,7 @@ meet_watched : (s : Stage) (air' : AirState) (a : ℕ) (by : By) (bearer place :
 meet_watched s air' a by bearer place f m m' frames answered sound longer was w there out h =
     let step = met_step by bearer place f.frame m m' frames answered h in
     let more : m'.arrivals ≡ m.arrivals ++ record { bearer = bearer; frame = place } ∷ [] = ap (λ (x : MemberState). x.arrivals) h.after in
-    turn_watched s.air air' m m' f.frame step frames longer (record { bearer = bearer; frame = place } ∷ [], more) (ap (λ (x : MemberState). x.past) h.after) w h.turn.told_before h.turn.told h.turn.turn
+    turn_watched s air' a m m' f.frame step frames sound was longer (record { bearer = bearer; frame = place } ∷ [], more) (ap (λ (x : MemberState). x.past) h.after) w h.turn.told_before h.turn.told h.turn.turn
     (are_carried s air' a bearer place f m.arrivals m'.arrivals step sound longer there more refl)
     (arrival_takes m.node m'.node _ bearer (length m.arrivals) f.frame frames h.arrived h.turn.inside h.arrives h.turn.turn) (are_brought s a m m' f.frame step frames sound was h.turn.turn out)
 
@@ -247,7 +251,7 @@ silence_known m peer bearer two first within p b = elim (cases_eq p peer) [
 
 know_watched : (air air' : AirState) (m m' : MemberState) (peer bearer : ℕ) → GrowsAir air air' → IsWatched air m → m' ≡ known_member m peer bearer → bearer ≤ 1 → (kept_pair m peer).bearer ≡ 0 → peer < length m.node.neighbours → IsWatched air' m'
 know_watched air air' m m' peer bearer longer w is two first within =
-    let P = HasBrought (seen_by air' m) (addr_of peer) in
+    let P = HasBrought (seen_by air' m) Zero (addr_of peer) in
     let traced = traced_in air air' m longer w in
     subst (IsWatched air') (sym is)
     (watched_of air' (known_member m peer bearer) (quieter_kept (seen_by air' m) m.past m.node.journal (pair_in m.node) (pair_in (known_member m peer bearer).node) (kept_in air air' m longer w) (silence_known m peer bearer two first within))

@@ -1,5 +1,5 @@
 -- Where a journal tells that a contact ends, no link to its peer is up.
-use Rattle.std.specs.Prelude.{◌==◌, ◌&&◌, IfSome, filter, fold, is_some, option_map, if◌then◌else◌}
+use Rattle.std.specs.Prelude.{◌==◌, ◌&&◌, filter, fold, if◌then◌else◌}
 use Rattle.std.proofs.Common.{◌≡◌, ◌++◌, ◌∙◌, ℕ, zero, suc, Bool, true, false, List, [], ◌∷◌, Option, Some, None, append_assoc, drop, map, slice_get, take, refl, sym, ap, subst}
 use Rattle.std.proofs.lemmas.List.Sums.{fold-append}
 use Rattle.tipc_types.specs.declared.identity.Addr.{Addr}
@@ -12,8 +12,8 @@ use Rattle.tipc_journal.specs.Steps.{step_entries, NodeStep, PlacedStep}
 use Rattle.tipc_pair.specs.declared.transitions.Transition.{Transition}
 use Rattle.tipc_pair.specs.declared.transitions.Transition.TheVariants.{ContactDown, ContactUp, LinkDown, LinkUp}
 use Rattle.tipc_pair.specs.Facing.{PairEnds}
-use Rattle.tipc_node.specs.declared.neighbours.Neighbour.{Neighbour}
-use Rattle.tipc_node.specs.Nodes.{NodeState, change_entry, neighbour_of}
+use Rattle.tipc_node.specs.Nodes.{NodeState, change_entry, pair_with}
+use Rattle.tipc_node.proofs.pairs.Strangers.{kept_abreast}
 use Rattle.tipc_node.specs.Telling.{IsTold}
 use Rattle.tipc_pair.specs.LinkReadings.{AreAbreast}
 use Rattle.tipc_node.specs.Turns.{IsOfNeighbour, IsPlaced, NodeTurn, PeerTurn, addr_of, is_change_of}
@@ -21,7 +21,6 @@ use Rattle.tipc_node.proofs.journal.Telling.{same_word}
 use Rattle.tipc_replay.specs.Lawful.{up_to}
 use Rattle.tipc_replay.proofs.InLists.{all_at}
 use Rattle.tipc_pair.proofs.turns.EndsLast.{IsLastOf, first_last, is_over}
-use Rattle.tipc_pair.proofs.turns.TurnReasons.{makes_none}
 
 -- whether an entry is the end of a contact
 abbrev is_end : Entry → Bool
@@ -104,7 +103,7 @@ peer_parted : (journal : List Entry) (own : ℕ) (bytes : List ℕ) (s : NodeSte
     → ((bearer : ℕ) → up_epochs (journal ++ step_entries s) (addr_of b) bearer ≡ None) → (place : ℕ) (numbers : ℕ × ℕ) (states : Option LinkState × Option LinkState) (shown : ℕ)
     → slice_get s.inside place ≡ Some (entry.ContactDown (addr_of b) numbers states shown) → (bearer : ℕ) → up_epochs (up_to (record { before = journal; step = s }) place) (addr_of b) bearer ≡ None
 peer_parted journal own bytes s frames b x x' t abreast none place numbers states shown there bearer =
-    let last = first_last x t.opening t.turn.first abreast (makes_none s.event t.opening t.suits) t.turn.happened in
+    let last = first_last x t.opening t.turn.first abreast t.turn.happened in
     let entries_last : IsLastOf is_end (filter (is_change_of b) s.inside) = subst (IsLastOf is_end) (sym t.changes) (mapped_last (change_entry b) is_over is_end t.turn.first.course.changes (over_same b) last) in
     let behind = none_behind (is_change_of b) is_end s.inside place (entry.ContactDown (addr_of b) numbers states shown) entries_last there (same_word b) refl in
     sym (ended_as journal s b bearer place numbers states shown there behind) ∙ none bearer
@@ -119,17 +118,11 @@ pub turn_parted : (n n' : NodeState) (bytes : List ℕ) (s : NodeStep) (frames :
     → ((place : ℕ) (peer : Addr) (numbers : ℕ × ℕ) (states : Option LinkState × Option LinkState) (number : ℕ) → slice_get s.inside place ≡ Some (entry.ContactDown peer numbers states number)
     → (bearer : ℕ) → up_epochs (n.journal ++ step_entries s) peer bearer ≡ None) → AreParted (record { before = n.journal; step = s })
 turn_parted n n' bytes s frames t told none place peer numbers states number there bearer =
-    subst (λ p. up_epochs (up_to (record { before = n.journal; step = s }) place) p bearer ≡ None) (sym at.2) (by (neighbour_of n at.0) refl)
+    subst (λ p. up_epochs (up_to (record { before = n.journal; step = s }) place) p bearer ≡ None) (sym at.2)
+    (peer_parted n.journal n.own bytes s frames at.0 (pair_with n at.0) (pair_with n' at.0) (t.turns at.0) (kept_abreast n at.0 told) (none place (addr_of at.0) numbers states number here) place numbers states number here bearer)
   where
     at : IsOfNeighbour n peer
     at = all_at (IsPlaced n) s.inside place (entry.ContactDown peer numbers states number) t.placed there
 
     here : slice_get s.inside place ≡ Some (entry.ContactDown (addr_of at.0) numbers states number)
     here = there ∙ ap (λ p. Some (entry.ContactDown p numbers states number)) at.2
-
-    by : (o : Option Neighbour) → neighbour_of n at.0 ≡ o → up_epochs (up_to (record { before = n.journal; step = s }) place) (addr_of at.0) bearer ≡ None
-    by None alone = absurd (let wrong : true ≡ false = sym at.1 ∙ ap is_some alone in cc)
-    by (Some x) is =
-        let turn = t.turns at.0 x is in
-        let abreast = subst (λ o. IfSome o AreAbreast) (ap (option_map (λ (y : Neighbour). y.pair)) is) (told.links at.0).abreast in
-        peer_parted n.journal n.own bytes s frames at.0 x.pair turn.after.pair turn.turn abreast (none place (addr_of at.0) numbers states number here) place numbers states number here bearer

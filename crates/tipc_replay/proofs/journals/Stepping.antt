@@ -5,6 +5,7 @@ use Rattle.std.specs.Prelude.{◌⊎◌, ◌==◌, option_and_then}
 use Rattle.std.proofs.lemmas.List.{drop-append-le, take-append-le}
 use Rattle.std.proofs.lemmas.List.Sums.{sum_by-append}
 use Rattle.std.proofs.Math.Seq.{take-append_seam}
+use Rattle.tipc_types.specs.declared.message_forms.Flow.{Flow}
 use Rattle.tipc_types.specs.Prefixes.{IsPrefixOf}
 use Rattle.tipc_types.specs.declared.identity.Addr.{Addr}
 use Rattle.tipc_types.specs.declared.link_words.Cause.{Cause}
@@ -104,7 +105,7 @@ arrival_back old new s bearer f peer w found a =
 ticked_wider : (old new : Seen) (made : List PlacedStep) (peer : Addr) (bearer least : ℕ) → Widens old new → AllArrive old made → HasTicked old made peer bearer least → HasTicked new made peer bearer least
 ticked_wider old new made peer bearer least w found h k s there (inl up) = h k s there (inl up)
 ticked_wider old new made peer bearer least w found h k s there (inr taken) =
-    h k s there (inr (record { frame = taken.frame; arrives = arrival_back old new s.step bearer taken.frame peer w (found k s there) taken.arrives; answered = taken.answered; answer_is = taken.answer_is; taken = taken.taken }))
+    h k s there (inr (record { frame = taken.frame; arrives = arrival_back old new s.step bearer taken.frame peer w (found k s there) taken.arrives; link = taken.link; answered = taken.answered; answer_is = taken.answer_is; taken = taken.taken }))
 
 number_wider : (old new : Seen) (s : NodeStep) (peer : Addr) (number : ℕ) → Widens old new → IsNumberOf old s peer number → IsNumberOf new s peer number
 number_wider old new s peer number w n = record {
@@ -157,12 +158,13 @@ caused_wider old new earlier s peer bearer theirs cause.PeerReset shown w found 
 caused_wider old new earlier s peer bearer theirs cause.PeerTunnel shown w found h = (tunnel_wider old new s.step peer bearer shown w h.0, h.1)
 caused_wider old new earlier s peer bearer theirs cause.ContactEnded shown w found h = (h.0, h.1, h.2, h.3, h.4, number_wider old new s.step peer h.3 w h.5, h.6)
 
-pub brought_wider : (old new : Seen) (peer : Addr) (by : ℕ) (bytes : List ℕ) → Widens old new → HasBrought old peer by bytes → HasBrought new peer by bytes
-brought_wider old new peer by bytes w b = record {
+pub brought_wider : (old new : Seen) (flow : Flow) (peer : Addr) (by : ℕ) (bytes : List ℕ) → Widens old new → HasBrought old flow peer by bytes → HasBrought new flow peer by bytes
+brought_wider old new flow peer by bytes w b = record {
   bearer = b.bearer;
   frame = b.frame;
   arrived = arrived_longer old new b.bearer by b.frame w b.arrived;
   from = b.from;
+  sent = b.sent;
   es = b.es;
   er = b.er;
   packet = b.packet;
@@ -171,9 +173,9 @@ brought_wider old new peer by bytes w b = record {
   brings = b.brings;
 }
 
-spelled_wider : (old new : Seen) (s : NodeStep) (peer : Addr) (message : Message) (by : List ℕ) → Widens old new → IsSpelled old s peer message by → IsSpelled new s peer message by
-spelled_wider old new s peer message by w h =
-    traced_weaker (λ n b. HasBrought old peer n b × IsBy s n) (λ n b. HasBrought new peer n b × IsBy s n) (λ n b both. (brought_wider old new peer n b w both.0, both.1)) (bytes_of peer.word message) by h
+spelled_wider : (old new : Seen) (s : NodeStep) (flow : Flow) (peer : Addr) (message : Message) (by : List ℕ) → Widens old new → IsSpelled old s flow peer message by → IsSpelled new s flow peer message by
+spelled_wider old new s flow peer message by w h =
+    traced_weaker (λ n b. HasBrought old flow peer n b × IsBy s n) (λ n b. HasBrought new flow peer n b × IsBy s n) (λ n b both. (brought_wider old new flow peer n b w both.0, both.1)) (bytes_of peer.word message) by h
 
 entry_wider : (old new : Seen) (earlier : List PlacedStep) (s : PlacedStep) (e : Entry) → Widens old new → AllArrive old earlier → IsLawfulEntry old earlier s e → IsLawfulEntry new earlier s e
 entry_wider old new earlier s (entry.LinkUp peer bearer own theirs) w found h = h
@@ -184,7 +186,7 @@ entry_wider old new earlier s (entry.ContactDown peer numbers states number) w f
     by (inl none) = inl none
     by (inr n) = inr (number_wider old new s.step peer number w n.0, n.1)
 entry_wider old new earlier s (entry.Accepted peer numbers flow message) w found h = h
-entry_wider old new earlier s (entry.Delivered peer numbers flow message by) w found h = (h.0, spelled_wider old new s.step peer message by w h.1)
+entry_wider old new earlier s (entry.Delivered peer numbers flow message by) w found h = (h.0, spelled_wider old new s.step flow peer message by w h.1)
 entry_wider old new earlier s other w found h = tt
 
 pub step_wider : (old new : Seen) (earlier : List PlacedStep) (s : PlacedStep) → Widens old new → AllArrive old earlier → IsLawfulStep old earlier s → IsLawfulStep new earlier s

@@ -1,5 +1,6 @@
 -- An arrival of which a pair took a tunnel packet is answered so.
 use Rattle.std.proofs.Common.{◌≡◌, ◌<◌, ◌^◌, ◌++◌, ◌∙◌, length-append, ℕ, List, [], ◌∷◌, Option, Some, None, length, slice_get, refl, sym, ap, subst, arith}
+use Rattle.tipc_types.specs.declared.message_forms.Flow.TheVariants.{Zero}
 use Rattle.tipc_types.specs.declared.link_words.BroadcastState.{BroadcastState}
 use Rattle.tipc_types.specs.declared.link_words.Why.{Why}
 use Rattle.tipc_types.specs.declared.node_calls.Answer.TheVariants as answer
@@ -28,15 +29,15 @@ use Rattle.tipc_pair.specs.PairTurns.Opening.{hears}
 use Rattle.tipc_paired.proofs.wires.Frames.{er_of-frame, es_of-frame, same_packet}
 use Rattle.tipc_paired.specs.Views.{er_of, es_of}
 use Rattle.tipc_node.specs.declared.arriving.Delivery.{Delivery}
-use Rattle.tipc_node.specs.declared.neighbours.Neighbour.{Neighbour}
 use Rattle.tipc_node.specs.Arrivals.{Arrives, Hears}
 use Rattle.tipc_node.specs.Neighbours.{no_broadcast}
-use Rattle.tipc_node.specs.Nodes.{NodeState, arrival_answer, arrival_deliveries, message_count, neighbour_of, step_of, stop_of}
+use Rattle.tipc_node.specs.Nodes.{NodeState, arrival_answer, arrival_deliveries, message_count, pair_with, step_of, stop_of}
+use Rattle.tipc_node.proofs.pairs.Strangers.{pair_there}
 use Rattle.tipc_node.specs.Turns.{IsFrom, NodeTurn}
 use Rattle.tipc_replay.proofs.frames.Coming.{same_sender}
 use Rattle.tipc_pair.proofs.turns.Reasons.{IsTook}
 
--- Where a neighbour takes a tunnel packet that arrived in a step, and the step tells anything, the step is answered so.
+-- Where a node takes a tunnel packet of another one that arrived in a step, and the step tells anything, the step is answered so.
 pub record IsTunnelAt (n : NodeState) (bytes : List ℕ) (bearer number : ℕ) : Type 0 where
   pub sender : ℕ
   pub es : ℕ
@@ -45,11 +46,9 @@ pub record IsTunnelAt (n : NodeState) (bytes : List ℕ) (bearer number : ℕ) :
   pub is_from : IsFrom sender bytes es er packet
   pub tunnel : Changeover
   pub header_is : packet.header ≡ header.Changeover tunnel
-  pub neighbour : Neighbour
-  pub there : neighbour_of n sender ≡ Some neighbour
   pub shown : BroadcastState
   pub outset : Outset
-  pub happened : Happened neighbour.pair (hears bearer es er packet number shown) outset
+  pub happened : Happened (pair_with n sender) (hears bearer es er packet number shown) outset
   pub took : IsTook outset.given
 
 abbrev pub TakesTunnels : NodeState → NodeStep → List ℕ → Type 0
@@ -133,15 +132,15 @@ heard_taken n n' by bearer number bytes frames answered h t =
     let frames_are : frame_of t.es t.er (spelling t.packet) ≡ frame_of h.first h.second (spelling h.packet) = sym from.frame_is ∙ due.frame_is in
     let first : t.es ≡ h.first = same_first t.es t.er h.first h.second (spelling t.packet) (spelling h.packet) from.es_fits from.er_fits due.es_fits due.er_fits frames_are in
     let second : t.er ≡ h.second = same_second t.es t.er h.first h.second (spelling t.packet) (spelling h.packet) from.es_fits from.er_fits due.es_fits due.er_fits frames_are in
-    let same : t.neighbour ≡ h.neighbour = (let both : Some t.neighbour ≡ Some h.neighbour = sym t.there ∙ (ap (neighbour_of n) peer ∙ h.was) in cc) in
+    let same : pair_with n t.sender ≡ h.neighbour.pair = ap (pair_with n) peer ∙ pair_there n h.peer h.neighbour h.was in
     let shown = no_broadcast h.neighbour.in_step in
-    let heard : Happened t.neighbour.pair (hears bearer t.es t.er t.packet number shown) h.out =
-    subst (λ k. Happened t.neighbour.pair (hears bearer k t.er t.packet number shown) h.out) (sym first)
-    (subst (λ k. Happened t.neighbour.pair (hears bearer h.first k t.packet number shown) h.out) (sym second)
-    (subst (λ k. Happened t.neighbour.pair (hears bearer h.first h.second k number shown) h.out) (sym packet)
-    (subst (λ (k : Neighbour). Happened k.pair (hears bearer h.first h.second h.packet number shown) h.out) (sym same) h.hears))) in
-    let took = took_alike t.neighbour.pair bearer t.es t.er t.packet number t.shown shown t.tunnel t.outset h.out t.header_is t.happened heard t.took in
-    took_answer answered h.out.given (arrival_deliveries h.peer h.neighbour.pair h.out.given) h.answer_is took
+    let heard : Happened (pair_with n t.sender) (hears bearer t.es t.er t.packet number shown) h.out =
+    subst (λ k. Happened (pair_with n t.sender) (hears bearer k t.er t.packet number shown) h.out) (sym first)
+    (subst (λ k. Happened (pair_with n t.sender) (hears bearer h.first k t.packet number shown) h.out) (sym second)
+    (subst (λ k. Happened (pair_with n t.sender) (hears bearer h.first h.second k number shown) h.out) (sym packet)
+    (subst (λ (k : PairEnds). Happened k (hears bearer h.first h.second h.packet number shown) h.out) (sym same) h.hears))) in
+    let took = took_alike (pair_with n t.sender) bearer t.es t.er t.packet number t.shown shown t.tunnel t.outset h.out t.header_is t.happened heard t.took in
+    took_answer answered h.out.given (arrival_deliveries Zero h.peer h.neighbour.pair h.out.given) h.answer_is took
 
 pub arrival_takes : (n n' : NodeState) (by : By) (bearer number : ℕ) (bytes : List ℕ) (frames : List Outgoing) (answered : Arrival) (inside : List Entry) → Arrives n n' by bearer number bytes frames answered
     → NodeTurn n n' bytes (step_of by (event.Arrive bearer number) inside (answer.Arrived answered)) frames → TakesTunnels n (step_of by (event.Arrive bearer number) inside (answer.Arrived answered)) bytes

@@ -20,7 +20,6 @@ use Rattle.tipc_pair.proofs.turns.PairPuts.{MeetsAs, meets_then, puts_meet, repl
 use Rattle.tipc_pair.proofs.turns.PairTells.{Means, Story, began, contact_changes, ended, stays}
 use Rattle.tipc_replay.proofs.journals.Stepping.{passes}
 use Rattle.tipc_pair.proofs.turns.TurnMeans.{on_bearers as are_on}
-use Rattle.tipc_node.proofs.names.SharingUnused.{makes_none as none_made}
 
 -- without contact no link is up
 none_on : (x : PairEnds) (bearer : ℕ) → in_contact x ≡ false → epochs_on bearer x ≡ None
@@ -56,7 +55,7 @@ pub contact_ended : (journal : List Entry) (own : ℕ) (bytes : List ℕ) (s : N
     → slice_get t.turn.first.course.changes k ≡ Some (ContactDown numbers states shown) → HasEnded journal s b numbers
 contact_ended journal own bytes s frames b x x' t abreast before told k numbers states shown there =
     let y = t.turn.first.course.pair in
-    let so = happened_so x t.opening t.turn.first (are_on x abreast) (none_made s.event t.opening t.suits) t.turn.happened in
+    let so = happened_so x t.opening t.turn.first (are_on x abreast) t.anew t.turn.happened in
     let last : MeetsAs t.turn.put x' = subst (MeetsAs t.turn.put) (sym t.turn.after) (replied_meets t.reply t.turn.put) in
     let meets = meets_then y t.turn.put x' (puts_meet y (map (bytes_of own) t.messages) t.turn.put_frames t.turn.put t.turn.puts) last in
     let found = passes is_of_contact t.turn.first.course.changes k (ContactDown numbers states shown) there refl in

@@ -1,7 +1,7 @@
 -- A node's journals stay lawful with a turn, and tell how long its links were silent.
-use Rattle.std.specs.Prelude.{◌⊎◌, All, is_some, nat_le, if◌then◌else◌}
+use Rattle.std.specs.Prelude.{◌⊎◌, ◌≢◌, All, is_some, nat_le, if◌then◌else◌, ◌&&◌}
 use Rattle.std.specs.List.{filter}
-use Rattle.std.proofs.Common.{◌≡◌, ◌<◌, ◌≤◌, ◌==◌, ℕ, zero, suc, Bool, true, false, List, [], ◌∷◌, ◌++◌, Option, Some, None, map, slice_get, refl, sym, ap, ◌∙◌, subst, inl, inr, arith}
+use Rattle.std.proofs.Common.{◌≡◌, ◌<◌, ◌≤◌, ◌==◌, ℕ, zero, suc, Bool, true, false, List, [], ◌∷◌, ◌++◌, Some, None, map, slice_get, refl, sym, ap, ◌∙◌, subst, inl, inr, arith}
 use Rattle.std.proofs.lemmas.Bool.Decides.{nat_tests}
 use Rattle.tipc_types.specs.Address.{node_word}
 use Rattle.tipc_types.specs.declared.identity.Addr.{Addr}
@@ -20,8 +20,13 @@ use Rattle.tipc_pair.specs.Facing.{PairEnds, contact_between, facing, in_contact
 use Rattle.tipc_pair.specs.PairTurns.{Happened, Opening, Outset, Suits}
 use Rattle.tipc_pair.specs.PairTurns.Opening.{cuts, hears, makes, mends, rests, ticks}
 use Rattle.tipc_pair.specs.Messages.{opened_in}
-use Rattle.tipc_node.specs.declared.neighbours.Neighbour.{Neighbour}
-use Rattle.tipc_node.specs.Nodes.{NodeState, change_entry, neighbour_of}
+use Rattle.tipc_journal.specs.Streams.{flow_eq}
+use Rattle.tipc_types.specs.declared.message_forms.Flow.{Flow}
+use Rattle.tipc_types.specs.declared.message_forms.Flow.TheVariants.{Zero}
+use Rattle.tipc_node.specs.Nodes.{NodeState, change_entry, neighbour_of, pair_with}
+use Rattle.tipc_node.proofs.pairs.Strangers.{kept_tells}
+use Rattle.tipc_replay.specs.Sound.{IsNumber}
+use Rattle.tipc_replay.proofs.pairs.Pairings.{end_read}
 use Rattle.tipc_node.specs.Telling.{IsTold, TellsOf}
 use Rattle.tipc_pair.specs.LinkReadings.{AreAbreast, epochs_on, silence_in}
 use Rattle.tipc_node.specs.Turns.{IsBrought, IsPlaced, NodeTurn, PeerTurn, addr_of, is_accepted_for, is_change_of, is_delivered_from, pair_in}
@@ -38,8 +43,8 @@ use Rattle.tipc_replay.proofs.journals.Stepping.{Arrives, passed, passes}
 use Rattle.tipc_replay.proofs.journals.TunnelsTaken.{TakesTunnels}
 use Rattle.tipc_replay.proofs.journals.TurnContacts.{contact_ended}
 use Rattle.tipc_replay.proofs.journals.TurnMessages.{messages_lawful}
-use Rattle.tipc_pair.proofs.turns.TurnReasons.{BringsFit, first_reasons, makes_none}
-use Rattle.tipc_replay.proofs.journals.TurnTimed.{turn_timed, pair_of}
+use Rattle.tipc_pair.proofs.turns.TurnReasons.{BringsFit, first_reasons}
+use Rattle.tipc_replay.proofs.journals.TurnTimed.{turn_timed}
 use Rattle.tipc_replay.proofs.journals.TurnTraced.{AreCarried, AreGivenSpelled, IsGivenSpelled, sender_is}
 -- ---- lists of entries
 use Rattle.tipc_replay.proofs.calls.Singles.{read_at as mapped_there}
@@ -52,10 +57,13 @@ each_mapped P f (x ∷ xs) h (suc k) y there = each_mapped P f xs (λ j z at. h 
 named : (peer : Addr) (b : ℕ) → peer ≡ addr_of b → (peer.word == node_word b) ≡ true
 named peer b is = ap (λ (a : Addr). a.word == node_word b) is ∙ same_word b
 
+named_in : (peer : Addr) (b : ℕ) (flow : Flow) → peer ≡ addr_of b → flow ≡ Zero → ((peer.word == node_word b) && flow_eq flow Zero) ≡ true
+named_in peer b flow is flow_is = ap (λ t. t && flow_eq flow Zero) (named peer b is) ∙ ap (λ f. flow_eq f Zero) flow_is
+
 -- ---- what happened first, and the event of the step
 
 brings_fit : (b : ℕ) (bytes : List ℕ) (opening : Opening) → IsBrought b bytes opening → BringsFit opening
-brings_fit b bytes (hears bearer es er p by shown) brought = brought.fits
+brings_fit b bytes (hears bearer es er p by shown) brought = brought.0.fits
 brings_fit b bytes rests brought = tt
 brings_fit b bytes (makes bearer is_mended) brought = tt
 brings_fit b bytes (mends bearer) brought = tt
@@ -87,12 +95,12 @@ number_shown seen s bytes b (hears bearer es er p by shown) before number suits 
     record {
       bearer = bearer;
       frame = c.frame;
-      arrives = record { number = by; event_is = suits; frame_is = c.arrived; from = sender_is seen bearer by bytes b es er p c from };
+      arrives = record { number = by; event_is = suits; frame_is = c.arrived; from = sender_is seen bearer by bytes b es er p c from.0 };
       packet = p;
       epoch = es;
       other_epoch = er;
-      fits = from.fits;
-      bytes = c.bytes_are ∙ from.frame_is;
+      fits = from.0.fits;
+      bytes = c.bytes_are ∙ from.0.frame_is;
       shows = h.0;
     }
 number_shown seen s bytes b rests before number suits from carried h = absurd h
@@ -115,12 +123,12 @@ reset_shown seen s bytes b (hears on es er p by shown) bearer epoch suits from c
     let c = (carried on by suits).1 in
     subst (λ n. IsResetOf seen s (addr_of b) n epoch) h.0 (subst (IsResetOf seen s (addr_of b) on) h.1 (record {
       frame = c.frame;
-      arrives = record { number = by; event_is = suits; frame_is = c.arrived; from = sender_is seen on by bytes b es er p c from };
+      arrives = record { number = by; event_is = suits; frame_is = c.arrived; from = sender_is seen on by bytes b es er p c from.0 };
       packet = p;
       other_epoch = er;
-      epoch_fits = from.es_fits;
-      fits = from.fits;
-      bytes = c.bytes_are ∙ from.frame_is;
+      epoch_fits = from.0.es_fits;
+      fits = from.0.fits;
+      bytes = c.bytes_are ∙ from.0.frame_is;
       reset = h.2;
     }))
 reset_shown seen s bytes b rests bearer epoch suits from carried h = absurd h
@@ -129,9 +137,9 @@ reset_shown seen s bytes b (mends on) bearer epoch suits from carried h = absurd
 reset_shown seen s bytes b (cuts on) bearer epoch suits from carried h = absurd h
 reset_shown seen s bytes b (ticks shown) bearer epoch suits from carried h = absurd h
 
-tunnel_shown : (seen : Seen) (n : NodeState) (s : NodeStep) (bytes : List ℕ) (b : ℕ) (x : Neighbour) (opening : Opening) (o : Outset) (bearer epoch place : ℕ) (e : Entry) → neighbour_of n b ≡ Some x → Happened x.pair opening o → Suits s.event opening
+tunnel_shown : (seen : Seen) (n : NodeState) (s : NodeStep) (bytes : List ℕ) (b : ℕ) (opening : Opening) (o : Outset) (bearer epoch place : ℕ) (e : Entry) → Happened (pair_with n b) opening o → Suits s.event opening
     → IsBrought b bytes opening → AreCarried seen s bytes → TakesTunnels n s bytes → slice_get s.inside place ≡ Some e → HearsTunnel opening o.given bearer epoch → IsTunnelOf seen s (addr_of b) bearer epoch
-tunnel_shown seen n s bytes b x (hears on es er p by shown) o bearer epoch place e there happened suits from carried answers inside h =
+tunnel_shown seen n s bytes b (hears on es er p by shown) o bearer epoch place e happened suits from carried answers inside h =
     let c = (carried on by suits).1 in
     let names = h.2 in
     let answered = answers on by place e suits inside (record {
@@ -139,11 +147,9 @@ tunnel_shown seen n s bytes b x (hears on es er p by shown) o bearer epoch place
       es = es;
       er = er;
       packet = p;
-      is_from = from;
+      is_from = from.0;
       tunnel = names.tunnel;
       header_is = names.header_is;
-      neighbour = x;
-      there = there;
       shown = shown;
       outset = o;
       happened = happened;
@@ -151,25 +157,25 @@ tunnel_shown seen n s bytes b x (hears on es er p by shown) o bearer epoch place
     }) in
     record {
       frame = c.frame;
-      arrives = record { number = by; event_is = suits ∙ ap (λ k. event.Arrive k by) h.0; frame_is = subst (λ k. arrived_frame seen k by ≡ Some c.frame) h.0 c.arrived; from = sender_is seen on by bytes b es er p c from };
+      arrives = record { number = by; event_is = suits ∙ ap (λ k. event.Arrive k by) h.0; frame_is = subst (λ k. arrived_frame seen k by ≡ Some c.frame) h.0 c.arrived; from = sender_is seen on by bytes b es er p c from.0 };
       messages = answered.0;
       answer_is = answered.1;
       packet = p;
       first_epoch = es;
       second_epoch = er;
-      fits = from.fits;
-      bytes = c.bytes_are ∙ from.frame_is;
+      fits = from.0.fits;
+      bytes = c.bytes_are ∙ from.0.frame_is;
       tunnel = names.tunnel;
       header_is = names.header_is;
       original = names.original;
       bearer_is = names.bearer_is;
       epoch_is = names.epoch_is;
     }
-tunnel_shown seen n s bytes b x rests o bearer epoch place e there happened suits from carried answers inside h = absurd h
-tunnel_shown seen n s bytes b x (makes on is_mended) o bearer epoch place e there happened suits from carried answers inside h = absurd h
-tunnel_shown seen n s bytes b x (mends on) o bearer epoch place e there happened suits from carried answers inside h = absurd h
-tunnel_shown seen n s bytes b x (cuts on) o bearer epoch place e there happened suits from carried answers inside h = absurd h
-tunnel_shown seen n s bytes b x (ticks shown) o bearer epoch place e there happened suits from carried answers inside h = absurd h
+tunnel_shown seen n s bytes b rests o bearer epoch place e happened suits from carried answers inside h = absurd h
+tunnel_shown seen n s bytes b (makes on is_mended) o bearer epoch place e happened suits from carried answers inside h = absurd h
+tunnel_shown seen n s bytes b (mends on) o bearer epoch place e happened suits from carried answers inside h = absurd h
+tunnel_shown seen n s bytes b (cuts on) o bearer epoch place e happened suits from carried answers inside h = absurd h
+tunnel_shown seen n s bytes b (ticks shown) o bearer epoch place e happened suits from carried answers inside h = absurd h
 
 -- ---- the entries of changes
 
@@ -188,11 +194,10 @@ seen_number x numbers = case (in_contact x)
     case true is = let same : (x.contact, x.seen) ≡ numbers = cc in ap (λ (k : ℕ × ℕ). k.1) same
     case false is = absurd cc
 
--- what is known of a turn at a neighbour, and of the step that tells of it
-record PeerKnown (seen : Seen) (n : NodeState) (s : NodeStep) (bytes : List ℕ) (b : ℕ) (x : Neighbour) : Type 0 where
-  there : neighbour_of n b ≡ Some x
-  before : TellsOf n.journal b (Some x.pair)
-  ticked : (bearer : ℕ) → HasTicked seen (steps n.journal) (addr_of b) bearer (silence_in (end_on bearer (Some x.pair)))
+-- what is known of a turn at another node, and of the step that tells of it
+record PeerKnown (seen : Seen) (n : NodeState) (s : NodeStep) (bytes : List ℕ) (b : ℕ) : Type 0 where
+  before : TellsOf n.journal b (Some (pair_with n b))
+  ticked : (bearer : ℕ) → HasTicked seen (steps n.journal) (addr_of b) bearer (silence_in (end_on bearer (Some (pair_with n b))))
   carried : AreCarried seen s bytes
   answers : TakesTunnels n s bytes
 
@@ -200,96 +205,89 @@ abbrev placed_in : NodeState → NodeStep → PlacedStep
 placed_in n s = record { before = n.journal; step = s }
 
 -- a link that goes down has a cause that can be seen
-down_caused : (seen : Seen) (n : NodeState) (bytes : List ℕ) (s : NodeStep) (frames : List Outgoing) (b : ℕ) (x : Neighbour) (x' : PairEnds) (t : PeerTurn n.own bytes s frames b x.pair x') → PeerKnown seen n s bytes b x
-    → (bearer theirs : ℕ) (because : Cause) (shown place : ℕ) (e : Entry) → bearer ≤ 1 → slice_get s.inside place ≡ Some e → MayGoDown x.pair t.opening t.turn.first.given t.turn.first.course.changes bearer theirs because shown
+down_caused : (seen : Seen) (n : NodeState) (bytes : List ℕ) (s : NodeStep) (frames : List Outgoing) (b : ℕ) (x' : PairEnds) (t : PeerTurn n.own bytes s frames b (pair_with n b) x') → PeerKnown seen n s bytes b
+    → (bearer theirs : ℕ) (because : Cause) (shown place : ℕ) (e : Entry) → bearer ≤ 1 → slice_get s.inside place ≡ Some e → MayGoDown (pair_with n b) t.opening t.turn.first.given t.turn.first.course.changes bearer theirs because shown
     → IsCaused seen (steps n.journal) (placed_in n s) (addr_of b) bearer theirs because shown
-down_caused seen n bytes s frames b x x' t k bearer theirs cause.Cut shown place e two inside may = cut_event s.event t.opening bearer t.suits may
-down_caused seen n bytes s frames b x x' t k bearer theirs cause.Silent shown place e two inside may = (
+down_caused seen n bytes s frames b x' t k bearer theirs cause.Cut shown place e two inside may = cut_event s.event t.opening bearer t.suits may
+down_caused seen n bytes s frames b x' t k bearer theirs cause.Silent shown place e two inside may = (
   tick_event s.event t.opening t.suits may.0,
-  λ i u at heard. (let more = k.ticked bearer i u at heard in let four = subst (λ o. 4 ≤ silence_in o) (sym (on_two x.pair bearer two)) may.1 in omega (arith, more, four)),
+  λ i u at heard. (let more = k.ticked bearer i u at heard in let four = subst (λ o. 4 ≤ silence_in o) (sym (on_two (pair_with n b) bearer two)) may.1 in omega (arith, more, four)),
 )
-down_caused seen n bytes s frames b x x' t k bearer theirs cause.PeerReset shown place e two inside may = (reset_shown seen s bytes b t.opening bearer shown t.suits t.brought k.carried may.0, may.1)
-down_caused seen n bytes s frames b x x' t k bearer theirs cause.PeerTunnel shown place e two inside may = (
-  tunnel_shown seen n s bytes b x t.opening t.turn.first bearer shown place e k.there t.turn.happened t.suits t.brought k.carried k.answers inside may.0,
+down_caused seen n bytes s frames b x' t k bearer theirs cause.PeerReset shown place e two inside may = (reset_shown seen s bytes b t.opening bearer shown t.suits t.brought k.carried may.0, may.1)
+down_caused seen n bytes s frames b x' t k bearer theirs cause.PeerTunnel shown place e two inside may = (
+  tunnel_shown seen n s bytes b t.opening t.turn.first bearer shown place e t.turn.happened t.suits t.brought k.carried k.answers inside may.0,
   may.1,
 )
-down_caused seen n bytes s frames b x x' t k bearer theirs cause.ContactEnded shown place e two inside may =
+down_caused seen n bytes s frames b x' t k bearer theirs cause.ContactEnded shown place e two inside may =
     let number = may.0 in
     let ends = may.2 in
-    let numbers : ℕ × ℕ = (x.pair.contact, x.pair.seen) in
+    let numbers : ℕ × ℕ = ((pair_with n b).contact, (pair_with n b).seen) in
     let told = entry.ContactDown (addr_of b) numbers ends.states number in
     let found = passed (is_change_of b) s.inside ends.place told (ap (λ es. slice_get es ends.place) t.changes ∙ mapped_there (change_entry b) t.turn.first.course.changes ends.place (ContactDown numbers ends.states number) ends.there) in
-    (found.0, numbers, ends.states, number, found.1, number_shown seen s bytes b t.opening x.pair.seen number t.suits t.brought k.carried may.1, number_above t.opening x.pair.seen number may.1)
+    (found.0, numbers, ends.states, number, found.1, number_shown seen s bytes b t.opening (pair_with n b).seen number t.suits t.brought k.carried may.1, number_above t.opening (pair_with n b).seen number may.1)
 
 -- each change is lawful by its reason
-change_lawful : (seen : Seen) (n : NodeState) (bytes : List ℕ) (s : NodeStep) (frames : List Outgoing) (b : ℕ) (x : Neighbour) (x' : PairEnds) (t : PeerTurn n.own bytes s frames b x.pair x') → PeerKnown seen n s bytes b x → AreAbreast x.pair
-    → TellsOf (n.journal ++ step_entries s) b (Some x') → (k : ℕ) (c : Transition) → slice_get t.turn.first.course.changes k ≡ Some c → IsReason x.pair t.opening t.turn.first.given t.turn.first.course.changes c
+change_lawful : (seen : Seen) (n : NodeState) (bytes : List ℕ) (s : NodeStep) (frames : List Outgoing) (b : ℕ) (x' : PairEnds) (t : PeerTurn n.own bytes s frames b (pair_with n b) x') → PeerKnown seen n s bytes b → AreAbreast (pair_with n b)
+    → TellsOf (n.journal ++ step_entries s) b (Some x') → (k : ℕ) (c : Transition) → slice_get t.turn.first.course.changes k ≡ Some c → IsReason (pair_with n b) t.opening t.turn.first.given t.turn.first.course.changes c
     → IsLawfulEntry seen (steps n.journal) (placed_in n s) (change_entry b c)
-change_lawful seen n bytes s frames b x x' t known abreast told k (LinkUp bearer own theirs) at reason = reason
-change_lawful seen n bytes s frames b x x' t known abreast told k (LinkDown bearer because shown) at reason =
+change_lawful seen n bytes s frames b x' t known abreast told k (LinkUp bearer own theirs) at reason = reason
+change_lawful seen n bytes s frames b x' t known abreast told k (LinkDown bearer because shown) at reason =
     let e = change_entry b (LinkDown bearer because shown) in
     let found = passed (is_change_of b) s.inside k e (ap (λ es. slice_get es k) t.changes ∙ mapped_there (change_entry b) t.turn.first.course.changes k (LinkDown bearer because shown) at) in (
       reason.two,
       (
         reason.own,
         reason.theirs,
-        known.before.epochs_are bearer ∙ epochs_two x.pair bearer reason.two ∙ reason.epochs,
-        down_caused seen n bytes s frames b x x' t known bearer reason.theirs because shown found.0 e reason.two found.1 reason.cause_is,
+        known.before.epochs_are bearer ∙ epochs_two (pair_with n b) bearer reason.two ∙ reason.epochs,
+        down_caused seen n bytes s frames b x' t known bearer reason.theirs because shown found.0 e reason.two found.1 reason.cause_is,
       ),
     )
-change_lawful seen n bytes s frames b x x' t known abreast told k (ContactUp numbers) at reason = tt
-change_lawful seen n bytes s frames b x x' t known abreast told k (ContactDown numbers states number) at reason =
-    let over = contact_ended n.journal n.own bytes s frames b x.pair x' t abreast known.before told k numbers states number at in
-    let seen_is : x.pair.seen ≡ numbers.1 = seen_number x.pair numbers (sym known.before.contact_is ∙ over.contact_is) in
+change_lawful seen n bytes s frames b x' t known abreast told k (ContactUp numbers) at reason = tt
+change_lawful seen n bytes s frames b x' t known abreast told k (ContactDown numbers states number) at reason =
+    let over = contact_ended n.journal n.own bytes s frames b (pair_with n b) x' t abreast known.before told k numbers states number at in
+    let seen_is : (pair_with n b).seen ≡ numbers.1 = seen_number (pair_with n b) numbers (sym known.before.contact_is ∙ over.contact_is) in
     (over.contact_is, over.none, by seen_is reason)
   where
-    by : x.pair.seen ≡ numbers.1 → (number ≡ 0) ⊎ HearsHigher x.pair.seen t.opening number → (number ≡ 0) ⊎ (IsNumberOf seen s (addr_of b) number × (numbers.1 < number))
+    by : (pair_with n b).seen ≡ numbers.1 → (number ≡ 0) ⊎ HearsHigher (pair_with n b).seen t.opening number → (number ≡ 0) ⊎ (IsNumberOf seen s (addr_of b) number × (numbers.1 < number))
     by seen_is (inl none) = inl none
-    by seen_is (inr h) = inr (number_shown seen s bytes b t.opening x.pair.seen number t.suits t.brought known.carried h, subst (λ m. m < number) seen_is (number_above t.opening x.pair.seen number h))
+    by seen_is (inr h) = inr (number_shown seen s bytes b t.opening (pair_with n b).seen number t.suits t.brought known.carried h, subst (λ m. m < number) seen_is (number_above t.opening (pair_with n b).seen number h))
 
 -- ---- the turn at a peer
 
--- what a step tells of a neighbour is lawful
+-- what a step tells of another node is lawful
 record PeerLawful (seen : Seen) (earlier : List PlacedStep) (s : PlacedStep) (b : ℕ) : Type 0 where
   changes : Each (IsLawfulEntry seen earlier s) (filter (is_change_of b) s.step.inside)
   accepted : Each (IsLawfulEntry seen earlier s) (filter (is_accepted_for b) s.step.inside)
   delivered : Each (IsLawfulEntry seen earlier s) (filter (is_delivered_from b) s.step.inside)
 
-peer_lawful : (seen : Seen) (n : NodeState) (bytes : List ℕ) (s : NodeStep) (frames : List Outgoing) (b : ℕ) (x : Neighbour) (x' : PairEnds) (t : PeerTurn n.own bytes s frames b x.pair x') → PeerKnown seen n s bytes b x
+peer_lawful : (seen : Seen) (n : NodeState) (bytes : List ℕ) (s : NodeStep) (frames : List Outgoing) (b : ℕ) (x' : PairEnds) (t : PeerTurn n.own bytes s frames b (pair_with n b) x') → PeerKnown seen n s bytes b
     → TellsOf (n.journal ++ step_entries s) b (Some x') → All (IsGivenSpelled seen s b) (opened_in t.turn.first.given) → PeerLawful seen (steps n.journal) (placed_in n s) b
-peer_lawful seen n bytes s frames b x x' t k told spelled =
+peer_lawful seen n bytes s frames b x' t k told spelled =
     let first = t.turn.first in
     let P = IsLawfulEntry seen (steps n.journal) (placed_in n s) in
-    let abreast : AreAbreast x.pair = k.before.abreast in
-    let reasons = first_reasons x.pair t.opening first abreast (makes_none s.event t.opening t.suits) t.on_one (brings_fit b bytes t.opening t.brought) t.turn.happened in
-    let messages = messages_lawful seen (steps n.journal) n.journal n.own bytes s frames b x.pair x' t abreast told spelled in
+    let abreast : AreAbreast (pair_with n b) = k.before.abreast in
+    let reasons = first_reasons (pair_with n b) t.opening first abreast t.on_one (brings_fit b bytes t.opening t.brought) t.turn.happened in
+    let messages = messages_lawful seen (steps n.journal) n.journal n.own bytes s frames b (pair_with n b) x' t abreast told spelled in
     record {
       changes = subst (Each P) (sym t.changes) (each_mapped P (change_entry b) first.course.changes
-          (λ i c at. change_lawful seen n bytes s frames b x x' t k abreast told i c at (all_at (IsReason x.pair t.opening first.given first.course.changes) first.course.changes i c reasons at)));
+          (λ i c at. change_lawful seen n bytes s frames b x' t k abreast told i c at (all_at (IsReason (pair_with n b) t.opening first.given first.course.changes) first.course.changes i c reasons at)));
       accepted = messages.accepted;
       delivered = messages.delivered;
     }
 
 -- ---- the turn
 
--- what a step tells of each neighbour is lawful
-turn_lawful : (seen : Seen) (n n' : NodeState) (bytes : List ℕ) (s : NodeStep) (frames : List Outgoing) (t : NodeTurn n n' bytes s frames) → IsTold n → ((p : ℕ) → TellsOf (n.journal ++ step_entries s) p (pair_in n' p))
-    → ((p bearer : ℕ) → HasTicked seen (steps n.journal) (addr_of p) bearer (silence_in (end_on bearer (pair_in n p)))) → AreCarried seen s bytes → TakesTunnels n s bytes → AreGivenSpelled seen n n' bytes s frames t
-    → (b : ℕ) → is_some (neighbour_of n b) ≡ true → PeerLawful seen (steps n.journal) (placed_in n s) b
-turn_lawful seen n n' bytes s frames t told later ticked carried answers spelled b there = case (neighbour_of n b) refl
-  where
-    case : (o : Option Neighbour) → neighbour_of n b ≡ o → PeerLawful seen (steps n.journal) (placed_in n s) b
-    case None alone = absurd (let wrong : true ≡ false = sym there ∙ ap is_some alone in cc)
-    case (Some x) is =
-        let turn = t.turns b x is in
-        let was = pair_of n b (Some x) is in
-        peer_lawful seen n bytes s frames b x turn.after.pair turn.turn (record {
-          there = is;
-          before = subst (TellsOf n.journal b) was (told.links b);
-          ticked = λ bearer. subst (λ o. HasTicked seen (steps n.journal) (addr_of b) bearer (silence_in (end_on bearer o))) was (ticked b bearer);
-          carried = carried;
-          answers = answers;
-        }) (subst (TellsOf (n.journal ++ step_entries s) b) (pair_of n' b (Some turn.after) turn.after_is) (later b)) (spelled b x is)
+-- what a step tells of each other node is lawful
+turn_lawful : (seen : Seen) (a : ℕ) (n n' : NodeState) (bytes : List ℕ) (s : NodeStep) (frames : List Outgoing) (t : NodeTurn n n' bytes s frames) → IsTold n → ((p : ℕ) → TellsOf (n.journal ++ step_entries s) p (Some (pair_with n' p)))
+    → ((p bearer : ℕ) → HasTicked seen (steps n.journal) (addr_of p) bearer (silence_in (end_on bearer (pair_in n p)))) → AreCarried seen s bytes → TakesTunnels n s bytes → AreGivenSpelled seen a n n' bytes s frames t
+    → (b : ℕ) → IsNumber b → b ≢ a → PeerLawful seen (steps n.journal) (placed_in n s) b
+turn_lawful seen a n n' bytes s frames t told later ticked carried answers spelled b number apart =
+    peer_lawful seen n bytes s frames b (pair_with n' b) (t.turns b) (record {
+      before = kept_tells n b told;
+      ticked = λ bearer. subst (λ o. HasTicked seen (steps n.journal) (addr_of b) bearer (silence_in o)) (end_read n b bearer) (ticked b bearer);
+      carried = carried;
+      answers = answers;
+    }) (later b) (spelled b number apart)
 
 -- an entry that tells of a neighbour is lawful as those of the neighbour are
 entry_lawful : (seen : Seen) (earlier : List PlacedStep) (s : PlacedStep) (n : NodeState) (place : ℕ) (e : Entry) → ((b : ℕ) → is_some (neighbour_of n b) ≡ true → PeerLawful seen earlier s b) → slice_get s.step.inside place ≡ Some e → IsPlaced n e
@@ -301,21 +299,22 @@ entry_lawful seen earlier s n place (entry.LinkDown peer bearer cause shown) h t
 entry_lawful seen earlier s n place (entry.ContactDown peer numbers states shown) h there at =
     let found = passes (is_change_of at.0) s.step.inside place (entry.ContactDown peer numbers states shown) there (named peer at.0 at.2) in (h at.0 at.1).changes found.0 (entry.ContactDown peer numbers states shown) found.1
 entry_lawful seen earlier s n place (entry.Accepted peer numbers flow message) h there at =
-    let found = passes (is_accepted_for at.0) s.step.inside place (entry.Accepted peer numbers flow message) there (named peer at.0 at.2) in (h at.0 at.1).accepted found.0 (entry.Accepted peer numbers flow message) found.1
+    let found = passes (is_accepted_for at.0.0) s.step.inside place (entry.Accepted peer numbers flow message) there (named_in peer at.0.0 flow at.0.2 at.1) in (h at.0.0 at.0.1).accepted found.0 (entry.Accepted peer numbers flow message) found.1
 entry_lawful seen earlier s n place (entry.Delivered peer numbers flow message by) h there at =
-    let found = passes (is_delivered_from at.0) s.step.inside place (entry.Delivered peer numbers flow message by) there (named peer at.0 at.2) in (h at.0 at.1).delivered found.0 (entry.Delivered peer numbers flow message by) found.1
+    let found = passes (is_delivered_from at.0.0) s.step.inside place (entry.Delivered peer numbers flow message by) there (named_in peer at.0.0 flow at.0.2 at.1) in (h at.0.0 at.0.1).delivered found.0 (entry.Delivered peer numbers flow message by) found.1
 entry_lawful seen earlier s n place other_entry h there at = tt
 
 carried_arrives : (seen : Seen) (s : NodeStep) (bytes : List ℕ) → AreCarried seen s bytes → Arrives seen s
 carried_arrives seen s bytes carried bearer number is = let c = carried bearer number is in (c.1.frame, c.0, c.1.arrived)
 
-pub turn_kept : (seen : Seen) (past : List (List Entry)) (n n' : NodeState) (bytes : List ℕ) (s : NodeStep) (frames : List Outgoing) (t : NodeTurn n n' bytes s frames) → IsKept seen past n.journal (pair_in n) → IsTold n → IsTold n'
-    → AreCarried seen s bytes → TakesTunnels n s bytes → AreGivenSpelled seen n n' bytes s frames t → IsKept seen past n'.journal (pair_in n')
-turn_kept seen past n n' bytes s frames t h told told' carried answers spelled =
-    let later : (p : ℕ) → TellsOf (n.journal ++ step_entries s) p (pair_in n' p) = λ p. subst (λ j. TellsOf j p (pair_in n' p)) t.journal (told'.links p) in
-    let each = turn_lawful seen n n' bytes s frames t told later h.ticked carried answers spelled in
+pub turn_kept : (seen : Seen) (past : List (List Entry)) (a : ℕ) (n n' : NodeState) (bytes : List ℕ) (s : NodeStep) (frames : List Outgoing) (t : NodeTurn n n' bytes s frames) → IsKept seen past n.journal (pair_in n) → IsTold n → IsTold n'
+    → AreCarried seen s bytes → TakesTunnels n s bytes → AreGivenSpelled seen a n n' bytes s frames t → ((b : ℕ) → is_some (neighbour_of n b) ≡ true → IsNumber b × (b ≢ a)) → IsKept seen past n'.journal (pair_in n')
+turn_kept seen past a n n' bytes s frames t h told told' carried answers spelled other =
+    let later : (p : ℕ) → TellsOf (n.journal ++ step_entries s) p (Some (pair_with n' p)) = λ p. subst (λ j. TellsOf j p (Some (pair_with n' p))) t.journal (kept_tells n' p told') in
+    let after : (p : ℕ) → TellsOf (n.journal ++ step_entries s) p (pair_in n' p) = λ p. subst (λ j. TellsOf j p (pair_in n' p)) t.journal (told'.links p) in
+    let each : (b : ℕ) → is_some (neighbour_of n b) ≡ true → PeerLawful seen (steps n.journal) (placed_in n s) b = λ b there. (let peer = other b there in turn_lawful seen a n n' bytes s frames t told later h.ticked carried answers spelled b peer.0 peer.1) in
     let entries : Each (IsLawfulEntry seen (steps n.journal) (placed_in n s)) s.inside =
     λ place e there. entry_lawful seen (steps n.journal) (placed_in n s) n place e each there (all_at (IsPlaced n) s.inside place e t.placed there) in
     let parted = turn_parted n n' bytes s frames t told (λ place peer numbers states number there. (entries place (entry.ContactDown peer numbers states number) there).1) in
     subst (λ j. IsKept seen past j (pair_in n')) (sym t.journal)
-    (kept_step seen past n.journal (pair_in n) (pair_in n') s h t.inside (carried_arrives seen s bytes carried) later (turn_timed seen n n' bytes s frames told t carried) entries parted)
+    (kept_step seen past n.journal (pair_in n) (pair_in n') s h t.inside (carried_arrives seen s bytes carried) after (turn_timed seen n n' bytes s frames told t carried) entries parted)

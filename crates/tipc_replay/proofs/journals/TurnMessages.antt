@@ -4,6 +4,7 @@ use Rattle.std.specs.Prelude.{All}
 use Rattle.std.specs.List.{filter, flat_map}
 use Rattle.std.proofs.Common.{◌≡◌, ℕ, zero, suc, true, List, [], ◌∷◌, ◌++◌, Option, Some, None, map, refl, sym, ap, ◌∙◌, subst}
 use Rattle.std.proofs.lemmas.List.Elements.{All-head, All-tail}
+use Rattle.tipc_types.specs.declared.message_forms.Flow.TheVariants.{Zero}
 use Rattle.tipc_types.specs.declared.message_forms.Message.{Message}
 use Rattle.tipc_outside.specs.declared.outgoing.Outgoing.{Outgoing}
 use Rattle.tipc_journal.specs.declared.entries.Entry.{Entry}
@@ -29,7 +30,6 @@ use Rattle.tipc_replay.specs.Lawful.{after, IsLawfulEntry}
 use Rattle.tipc_replay.specs.Spelled.{IsSpelled}
 use Rattle.tipc_replay.proofs.journals.TurnTraced.{IsGivenSpelled}
 -- ---- lists of entries
-use Rattle.tipc_node.proofs.names.SharingUnused.{makes_none as none_made}
 use Rattle.tipc_pair.proofs.turns.TurnMeans.{on_bearers as are_on}
 
 none_lawful : (P : Entry → Type 0) → Each P []
@@ -41,10 +41,10 @@ one_lawful P a ha (suc k) x e = absurd cc
 
 -- ---- messages that were put
 
-put_entries : (seen : Seen) (earlier : List PlacedStep) (s : PlacedStep) (b : ℕ) (x : PairEnds) (ms : List Message) → contact (after s) (addr_of b) ≡ Some (shown_contact x) → Each (IsLawfulEntry seen earlier s) (map (accepted_entry b x) ms)
+put_entries : (seen : Seen) (earlier : List PlacedStep) (s : PlacedStep) (b : ℕ) (x : PairEnds) (ms : List Message) → contact (after s) (addr_of b) ≡ Some (shown_contact x) → Each (IsLawfulEntry seen earlier s) (map (accepted_entry Zero b x) ms)
 put_entries seen earlier s b x [] is = none_lawful (IsLawfulEntry seen earlier s)
 put_entries seen earlier s b x (m ∷ ms) is =
-    Each-append (IsLawfulEntry seen earlier s) (accepted_entry b x m ∷ []) (map (accepted_entry b x) ms) (one_lawful (IsLawfulEntry seen earlier s) (accepted_entry b x m) is) (put_entries seen earlier s b x ms is)
+    Each-append (IsLawfulEntry seen earlier s) (accepted_entry Zero b x m ∷ []) (map (accepted_entry Zero b x) ms) (one_lawful (IsLawfulEntry seen earlier s) (accepted_entry Zero b x m) is) (put_entries seen earlier s b x ms is)
 
 -- a message is put only where the node is in contact
 put_there : (x : PairEnds) (m : List ℕ) (messages : List (List ℕ)) (frames : List Outgoing) (y : PairEnds) → PutsAll x (m ∷ messages) frames y → in_contact x ≡ true
@@ -52,7 +52,7 @@ put_there x _ _ _ y (puts_one _ between _ m messages first frames one more) = ac
 
 -- they were accepted in the contact of the pair
 put_lawful : (own : ℕ) (seen : Seen) (earlier : List PlacedStep) (s : PlacedStep) (b : ℕ) (x y last : PairEnds) (frames : List Outgoing) (ms : List Message) → PutsAll x (map (bytes_of own) ms) frames y → MeetsAs y last
-    → contact (after s) (addr_of b) ≡ contact_between last → Each (IsLawfulEntry seen earlier s) (map (accepted_entry b y) ms)
+    → contact (after s) (addr_of b) ≡ contact_between last → Each (IsLawfulEntry seen earlier s) (map (accepted_entry Zero b y) ms)
 put_lawful own seen earlier s b x y last frames [] puts meets is = none_lawful (IsLawfulEntry seen earlier s)
 put_lawful own seen earlier s b x y last frames (m ∷ ms) puts meets is =
     let there : in_contact y ≡ true = (puts_meet x (map (bytes_of own) (m ∷ ms)) frames y puts).there ∙ put_there x (bytes_of own m) (map (bytes_of own) ms) frames y puts in
@@ -61,24 +61,24 @@ put_lawful own seen earlier s b x y last frames (m ∷ ms) puts meets is =
 -- ---- messages that were given
 
 message_lawful : (seen : Seen) (earlier : List PlacedStep) (s : PlacedStep) (b : ℕ) (c : ℕ × ℕ) → contact (after s) (addr_of b) ≡ Some c → (message : Option Message) (by : List ℕ)
-    → ((m : Message) → message ≡ Some m → IsSpelled seen s.step (addr_of b) m by) → Each (IsLawfulEntry seen earlier s) (delivered_entries b c message by)
-message_lawful seen earlier s b c is (Some m) by h = one_lawful (IsLawfulEntry seen earlier s) (entry.Delivered (addr_of b) c _ m by) (is, h m refl)
+    → ((m : Message) → message ≡ Some m → IsSpelled seen s.step Zero (addr_of b) m by) → Each (IsLawfulEntry seen earlier s) (delivered_entries Zero b c message by)
+message_lawful seen earlier s b c is (Some m) by h = one_lawful (IsLawfulEntry seen earlier s) (entry.Delivered (addr_of b) c Zero m by) (is, h m refl)
 message_lawful seen earlier s b c is None by h = none_lawful (IsLawfulEntry seen earlier s)
 
-opened_lawful : (seen : Seen) (earlier : List PlacedStep) (s : PlacedStep) (b : ℕ) (c : ℕ × ℕ) (o : Opened) → contact (after s) (addr_of b) ≡ Some c → IsGivenSpelled seen s.step b o → Each (IsLawfulEntry seen earlier s) (delivered_of b c o)
+opened_lawful : (seen : Seen) (earlier : List PlacedStep) (s : PlacedStep) (b : ℕ) (c : ℕ × ℕ) (o : Opened) → contact (after s) (addr_of b) ≡ Some c → IsGivenSpelled seen s.step b o → Each (IsLawfulEntry seen earlier s) (delivered_of Zero b c o)
 opened_lawful seen earlier s b c (Whole packet by) is h = message_lawful seen earlier s b c is (message_in packet) by h
 opened_lawful seen earlier s b c (Passed place) is h = none_lawful (IsLawfulEntry seen earlier s)
 
 all_opened : (seen : Seen) (earlier : List PlacedStep) (s : PlacedStep) (b : ℕ) (c : ℕ × ℕ) (opened : List Opened) → contact (after s) (addr_of b) ≡ Some c → All (IsGivenSpelled seen s.step b) opened
-    → Each (IsLawfulEntry seen earlier s) (flat_map (delivered_of b c) opened)
+    → Each (IsLawfulEntry seen earlier s) (flat_map (delivered_of Zero b c) opened)
 all_opened seen earlier s b c [] is h = none_lawful (IsLawfulEntry seen earlier s)
 all_opened seen earlier s b c (o ∷ os) is h =
-    Each-append (IsLawfulEntry seen earlier s) (delivered_of b c o) (flat_map (delivered_of b c) os) (opened_lawful seen earlier s b c o is (All-head (IsGivenSpelled seen s.step b) o os h))
+    Each-append (IsLawfulEntry seen earlier s) (delivered_of Zero b c o) (flat_map (delivered_of Zero b c) os) (opened_lawful seen earlier s b c o is (All-head (IsGivenSpelled seen s.step b) o os h))
     (all_opened seen earlier s b c os is (All-tail (IsGivenSpelled seen s.step b) o os h))
 
 -- what was given was delivered in the contact of the link
 given_lawful : (seen : Seen) (earlier : List PlacedStep) (s : PlacedStep) (b : ℕ) (c : ℕ × ℕ) (opened : List Opened) → ((o : Opened) (os : List Opened) → opened ≡ o ∷ os → contact (after s) (addr_of b) ≡ Some c) → All (IsGivenSpelled seen s.step b) opened
-    → Each (IsLawfulEntry seen earlier s) (flat_map (delivered_of b c) opened)
+    → Each (IsLawfulEntry seen earlier s) (flat_map (delivered_of Zero b c) opened)
 given_lawful seen earlier s b c [] is h = none_lawful (IsLawfulEntry seen earlier s)
 given_lawful seen earlier s b c (o ∷ os) is h = all_opened seen earlier s b c (o ∷ os) (is o os refl) h
 
@@ -94,7 +94,7 @@ pub messages_lawful : (seen : Seen) (earlier : List PlacedStep) (journal : List 
 messages_lawful seen earlier journal own bytes s frames b x x' t abreast told spelled =
     let placed : PlacedStep = record { before = journal; step = s } in
     let y = t.turn.first.course.pair in
-    let so = happened_so x t.opening t.turn.first (are_on x abreast) (none_made s.event t.opening t.suits) t.turn.happened in
+    let so = happened_so x t.opening t.turn.first (are_on x abreast) t.anew t.turn.happened in
     let last : MeetsAs t.turn.put x' = subst (MeetsAs t.turn.put) (sym t.turn.after) (replied_meets t.reply t.turn.put) in
     let put = puts_meet y (map (bytes_of own) t.messages) t.turn.put_frames t.turn.put t.turn.puts in
     let given : (o : Opened) (os : List Opened) → opened_in t.turn.first.given ≡ o ∷ os → contact (journal ++ step_entries s) (addr_of b) ≡ Some (shown_contact x) = λ o os some.

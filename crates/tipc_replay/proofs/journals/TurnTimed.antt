@@ -1,6 +1,6 @@
 -- After a turn of a node each of its links is silent for as long as it was before, and for one tick more in a tick; and one that went up in it, or took a
 -- frame, was just heard.
-use Rattle.std.specs.Prelude.{◌⊎◌, if◌then◌else◌, nat_le, option_map, IfSome}
+use Rattle.std.specs.Prelude.{◌⊎◌, if◌then◌else◌, nat_le}
 use Rattle.std.proofs.Common.{◌≡◌, ◌≤◌, ◌∙◌, ℕ, zero, suc, Bool, true, false, List, [], ◌∷◌, Option, Some, None, map, slice_get, refl, sym, ap, subst, inl, inr, arith}
 use Rattle.tipc_types.specs.Address.{node_word}
 use Rattle.tipc_types.specs.declared.node_calls.EventNote.{EventNote}
@@ -8,6 +8,8 @@ use Rattle.tipc_types.specs.declared.node_calls.EventNote.TheVariants as event
 use Rattle.tipc_outside.specs.declared.outgoing.Outgoing.{Outgoing}
 use Rattle.tipc_journal.specs.declared.entries.Entry.TheVariants as entry
 use Rattle.tipc_journal.specs.Steps.{NodeStep}
+use Rattle.tipc_header.specs.declared.frames.FrameKind.TheVariants.{Links}
+use Rattle.tipc_header.specs.Frames.{kind_in}
 use Rattle.tipc_link.specs.Links.{LinkEnd}
 use Rattle.tipc_pair.specs.declared.changes.PairOutcome.{PairOutcome}
 use Rattle.tipc_pair.specs.declared.transitions.Transition.{Transition}
@@ -15,9 +17,10 @@ use Rattle.tipc_pair.specs.declared.transitions.Transition.TheVariants.{ContactD
 use Rattle.tipc_pair.specs.Facing.{PairEnds, facing}
 use Rattle.tipc_pair.specs.PairTurns.{Opening, PairTurn, Reply, replied, IsTakenBy, Suits}
 use Rattle.tipc_pair.specs.PairTurns.Opening.{cuts, hears, makes, mends, rests, ticks}
-use Rattle.tipc_node.specs.declared.neighbours.Neighbour.{Neighbour}
 use Rattle.tipc_node.specs.Messages.{bytes_of}
-use Rattle.tipc_node.specs.Nodes.{NodeState, change_entries, neighbour_of}
+use Rattle.tipc_node.specs.Nodes.{NodeState, change_entries, pair_with}
+use Rattle.tipc_node.proofs.pairs.Strangers.{kept_abreast}
+use Rattle.tipc_replay.proofs.pairs.Pairings.{end_read}
 use Rattle.tipc_node.specs.Telling.{IsTold}
 use Rattle.tipc_pair.specs.LinkReadings.{AreAbreast, silence_in}
 use Rattle.tipc_node.specs.Turns.{IsFrom, NodeTurn, PeerTurn, addr_of, is_change_of, pair_in}
@@ -29,7 +32,6 @@ use Rattle.tipc_replay.proofs.journals.Kept.{IsTimed}
 use Rattle.tipc_pair.proofs.turns.Silences.{IsHushed, Ups, Within, heard_on, opening_hushed, steady_within, steady_zero, ticks_in}
 use Rattle.tipc_pair.proofs.turns.Steady.{AreSteady, are_steady_then, ends_on, puts_steady, replied_steady, steady_on}
 use Rattle.tipc_replay.proofs.journals.Stepping.{passes}
-use Rattle.tipc_pair.proofs.turns.TurnReasons.{makes_none}
 use Rattle.tipc_replay.proofs.journals.TurnTraced.{AreCarried}
 
 -- ---- the event of the step
@@ -37,7 +39,7 @@ use Rattle.tipc_replay.proofs.journals.TurnTraced.{AreCarried}
 -- only in a tick a link may be silent for longer
 ticks_most : (note : EventNote) (opening : Opening) → Suits note opening → ticks_in opening ≤ tick_of note
 ticks_most note rests suits = omega arith
-ticks_most note (makes bearer is_mended) suits = absurd suits
+ticks_most note (makes bearer is_mended) suits = omega arith
 ticks_most note (mends bearer) suits = omega arith
 ticks_most note (cuts bearer) suits = omega arith
 ticks_most note (ticks shown) suits = let one : tick_of note ≡ 1 = ap tick_of suits in omega (arith, one)
@@ -63,7 +65,8 @@ taken_of seen own bytes s frames b bearer x x' t carried h =
     let same : c.frame ≡ h.frame = same_in (sym c.arrived ∙ h.arrives.frame_is) in
     let words : node_word c.sender ≡ node_word b = sym c.from ∙ ap (λ (f : Sent). f.from.word) same ∙ h.arrives.from in
     let sender : c.sender ≡ b = omega (arith, words) in
-    t.taken h.answered c.es c.er c.packet h.answer_is h.taken (subst (λ k. IsFrom k bytes c.es c.er c.packet) sender c.is_from)
+    let link : kind_in bytes ≡ Links = ap kind_in (sym c.bytes_are ∙ ap (λ (f : Sent). f.frame) same) ∙ h.link in
+    t.taken h.answered c.es c.er c.packet h.answer_is h.taken (subst (λ k. IsFrom k bytes c.es c.er c.packet) sender c.is_from) link
 
 -- ---- the turn at a peer
 
@@ -96,7 +99,7 @@ peer_timed seen own bytes s frames b bearer x x' t abreast carried =
     let two : x.bearer ≤ 1 = omega (arith, first) in
     let o = t.turn.first in
     let y = o.course.pair in
-    let h = opening_hushed x t.opening o first t.on_one (makes_none s.event t.opening t.suits) t.turn.happened in
+    let h = opening_hushed x t.opening o first t.on_one t.turn.happened in
     let same = h.ends.bearer two in
     let there : y.bearer ≤ 1 = omega (arith, same, two) in
     let rest = rest_steady x x' t.opening (map (bytes_of own) t.messages) t.reply t.own_frames t.turn there in
@@ -121,19 +124,10 @@ peer_timed seen own bytes s frames b bearer x x' t abreast carried =
 
 -- ---- the turn of the node
 
-pub pair_of : (n : NodeState) (b : ℕ) (o : Option Neighbour) → neighbour_of n b ≡ o → pair_in n b ≡ option_map (λ (x : Neighbour). x.pair) o
-pair_of n b o is = ap (option_map (λ (x : Neighbour). x.pair)) is
-
 pub turn_timed : (seen : Seen) (n n' : NodeState) (bytes : List ℕ) (s : NodeStep) (frames : List Outgoing) → IsTold n → NodeTurn n n' bytes s frames → AreCarried seen s bytes
     → (p bearer : ℕ) → IsTimed seen s p bearer (end_on bearer (pair_in n p)) (end_on bearer (pair_in n' p))
-turn_timed seen n n' bytes s frames told t carried p bearer = case (neighbour_of n p) refl
-  where
-    case : (o : Option Neighbour) → neighbour_of n p ≡ o → IsTimed seen s p bearer (end_on bearer (pair_in n p)) (end_on bearer (pair_in n' p))
-    case None alone = subst (λ o. IsTimed seen s p bearer (end_on bearer (pair_in n p)) (end_on bearer o)) (sym (pair_of n' p None (t.alone p alone))) (record { heard = λ _. refl; most = omega arith })
-    case (Some x) there =
-        let turn = t.turns p x there in
-        let was = pair_of n p (Some x) there in
-        let is = pair_of n' p (Some turn.after) turn.after_is in
-        let abreast : AreAbreast x.pair = subst (λ o. IfSome o AreAbreast) was (told.links p).abreast in
-        subst (λ o. IsTimed seen s p bearer (end_on bearer o) (end_on bearer (pair_in n' p))) (sym was) (subst (λ o. IsTimed seen s p bearer (end_on bearer (Some x.pair)) (end_on bearer o)) (sym is)
-        (peer_timed seen n.own bytes s frames p bearer x.pair turn.after.pair turn.turn abreast carried))
+turn_timed seen n n' bytes s frames told t carried p bearer =
+    let x = pair_with n p in
+    let y = pair_with n' p in
+    subst (λ o. IsTimed seen s p bearer o (end_on bearer (pair_in n' p))) (sym (end_read n p bearer)) (subst (IsTimed seen s p bearer (end_on bearer (Some x))) (sym (end_read n' p bearer))
+    (peer_timed seen n.own bytes s frames p bearer x y (t.turns p) (kept_abreast n p told) carried))

@@ -2,14 +2,14 @@
 use Rattle.std.proofs.Common.{◌≡◌, ◌≤◌, ◌<◌, ◌+◌, ◌==◌, ℕ, Bool, true, false, List, [], ◌∷◌, ◌++◌, Option, Some, None, filter, refl, sym, ap, ◌∙◌, subst, inl, inr, get_or-set_same, get_or-set_other, arith}
 use Rattle.std.specs.Cmp.{nat_cmp_is}
 use Rattle.std.specs.declared.cmp.Ordering.TheVariants.{Less}
-use Rattle.std.specs.List.{All, AllByRecursion, cons_option, filter_map, flat_map}
+use Rattle.std.specs.List.{AllByRecursion, cons_option, filter_map, flat_map}
 use Rattle.std.specs.List.Sorted.{IsStrictlySortedBy}
 use Rattle.std.specs.Ordering.{nat_cmp}
-use Rattle.std.specs.Prelude.{if◌then◌else◌, length, option_map, slice_index_or, unwrap_or, IfSome}
+use Rattle.std.specs.Prelude.{if◌then◌else◌, length, option_map, slice_index_or, unwrap_or}
 use Rattle.std.proofs.lemmas.Bool.{cases_eq}
 use Rattle.std.proofs.lemmas.Bool.Decides.{nat_tests}
 use Rattle.std.proofs.lemmas.List.{append-nil}
-use Rattle.std.proofs.lemmas.List.Elements.{All-head, All-nil, All-push, All-tail, All-weaker, filter_map-append, recursion_from_All}
+use Rattle.std.proofs.lemmas.List.Elements.{All-nil, All-push, All-weaker, filter_map-append, recursion_from_All}
 use Rattle.tipc_types.specs.Address.{node_word}
 use Rattle.tipc_types.specs.declared.identity.Addr.{Addr}
 use Rattle.tipc_outside.specs.declared.outgoing.Outgoing.{Outgoing}
@@ -22,13 +22,12 @@ use Rattle.tipc_pair.specs.declared.transitions.Transition.TheVariants.{ContactD
 use Rattle.tipc_pair.specs.Facing.{PairEnds, in_contact}
 use Rattle.tipc_node.specs.declared.neighbours.Neighbour.{Neighbour}
 use Rattle.tipc_pair.specs.Contacts.{is_of_contact}
-use Rattle.tipc_node.specs.Nodes.{NodeState, acquaintance, change_entries, end_with, known_neighbour, known_node, neighbour_of}
+use Rattle.tipc_node.specs.Nodes.{NodeState, acquaintance, change_entries, end_with, known_neighbour, known_node, neighbour_of, pair_with}
 use Rattle.tipc_node.specs.Telling.{IsTold}
-use Rattle.tipc_pair.specs.LinkReadings.{AreAbreast}
-use Rattle.tipc_node.specs.Turns.{IsPlaced, NodeTurn, PeerTurn, addr_of, is_change_of, pair_in}
-use Rattle.tipc_node.proofs.journal.Turned.{other_word}
+use Rattle.tipc_node.specs.Turns.{NodeTurn, PeerTurn, addr_of, is_change_of, pair_in}
 use Rattle.tipc_node.proofs.names.SharingUnused.{peer_means}
-use Rattle.tipc_node.proofs.pairs.Knowing.{kept_of, known_contact}
+use Rattle.tipc_node.proofs.pairs.Knowing.{known_contact}
+use Rattle.tipc_node.proofs.pairs.Strangers.{kept_abreast}
 use Rattle.tipc_pair.proofs.turns.PairTells.{Means, Story, began, contact_changes, ended, stays}
 use Rattle.tipc_replay.specs.Entered.{HasRisen, RiseBelow, entered_by, next_in, numbers_entered}
 use Rattle.tipc_replay.specs.Members.{IsNewcomer, IsRestarted, known_member}
@@ -113,15 +112,6 @@ entered_turn : (own : ℕ) (bytes : List ℕ) (s : NodeStep) (frames : List Outg
 entered_turn own bytes s frames b x x' story t is =
     entered_only b s.inside ∙ ap (filter_map (entered_by (addr_of b))) t.changes ∙ entered_changes b t.turn.first.course.changes ∙ ap (filter_map begun_by) is ∙ begun_in story
 
-nothing_entered : (n : NodeState) (b : ℕ) → neighbour_of n b ≡ None → (es : List Entry) → All (IsPlaced n) es → filter_map (entered_by (addr_of b)) es ≡ []
-nothing_entered n b none [] placed = refl
-nothing_entered n b none (e ∷ es) placed =
-    ap (λ o. cons_option o (filter_map (entered_by (addr_of b)) es)) (enters e (All-head (IsPlaced n) e es placed)) ∙ nothing_entered n b none es (All-tail (IsPlaced n) e es placed)
-  where
-    enters : (e : Entry) → IsPlaced n e → entered_by (addr_of b) e ≡ None
-    enters (entry.ContactUp peer numbers) h = ap (λ t. if t then Some numbers.0 else None) (other_word n b peer.word none h.0 h.1 (ap (λ (a : Addr). a.word) h.2))
-    enters other h = refl
-
 entered_step : (J : List Entry) (s : NodeStep) (p : Addr) → numbers_entered (J ++ step_entries s) p ≡ numbers_entered J p ++ filter_map (entered_by p) s.inside
 unfolding numbers_entered
 entered_step J s p =
@@ -150,9 +140,17 @@ story_rises xs boot boot' x y (ended numbers states shown) m h =
     let higher = m.3 in
     subst (λ ns. RiseBelow ns (next_in boot' (Some y))) (sym (append-nil xs)) (rise_further xs (next_in boot (Some x)) (next_in boot' (Some y)) (omega (arith, was, now, higher)) h)
 
+-- the next number for a stranger is the first one of the boot
+next_read : (n : NodeState) (b : ℕ) → next_in n.boot (Some (pair_with n b)) ≡ next_in n.boot (pair_in n b)
+next_read n b = by (neighbour_of n b)
+  where
+    by : (o : Option Neighbour) → next_in n.boot (Some (acquaintance n b o).pair) ≡ next_in n.boot (option_map (λ (x : Neighbour). x.pair) o)
+    by None = refl
+    by (Some x) = refl
+
 -- what a node enters in a turn
 pub turn_rises : (m m' : MemberState) (bytes : List ℕ) (s : NodeStep) (frames : List Outgoing) (b : ℕ) → m'.past ≡ m.past → NodeTurn m.node m'.node bytes s frames → IsTold m.node → HasRisen m b → HasRisen m' b
-turn_rises m m' bytes s frames b past t told h = subst (λ ns. RiseBelow ns (next_in m'.node.boot (pair_in m'.node b))) (sym whole) (by (neighbour_of m.node b) refl)
+turn_rises m m' bytes s frames b past t told h = subst (λ ns. RiseBelow ns (next_in m'.node.boot (pair_in m'.node b))) (sym whole) rises
   where
     before : List ℕ
     before = numbers_entered (history m) (addr_of b)
@@ -163,28 +161,16 @@ turn_rises m m' bytes s frames b past t told h = subst (λ ns. RiseBelow ns (nex
     whole : numbers_entered (history m') (addr_of b) ≡ before ++ now
     whole = ap (λ es. numbers_entered es (addr_of b)) (history_longer m m' (step_entries s) past t.journal) ∙ entered_step (history m) s (addr_of b)
 
-    by : (o : Option Neighbour) → neighbour_of m.node b ≡ o → RiseBelow (before ++ now) (next_in m'.node.boot (pair_in m'.node b))
-    by None is =
-        let none : now ≡ [] = nothing_entered m.node b is s.inside t.placed in
-        let was : next_in m.node.boot (pair_in m.node b) ≡ first_number m.node.boot = ap (λ o. next_in m.node.boot (option_map (λ (x : Neighbour). x.pair) o)) is in
-        let next : next_in m'.node.boot (pair_in m'.node b) ≡ first_number m.node.boot = ap (λ o. next_in m'.node.boot (option_map (λ (x : Neighbour). x.pair) o)) (t.alone b is) ∙ ap first_number t.boot in
-        subst (λ ns. RiseBelow (before ++ ns) (next_in m'.node.boot (pair_in m'.node b))) (sym none)
-        (subst (λ ns. RiseBelow ns (next_in m'.node.boot (pair_in m'.node b))) (sym (append-nil before)) (subst (RiseBelow before) (was ∙ sym next) h))
-    by (Some x) is =
-        let at = t.turns b x is in
-        let abreast : AreAbreast x.pair = subst (λ o. IfSome o AreAbreast) (ap (option_map (λ (z : Neighbour). z.pair)) is) (told.links b).abreast in
-        let means = peer_means m.node.own bytes s frames b x.pair at.after.pair abreast at.turn in
-        let was : next_in m.node.boot (pair_in m.node b) ≡ next_in m.node.boot (Some x.pair) = ap (λ o. next_in m.node.boot (option_map (λ (z : Neighbour). z.pair) o)) is in
-        let next : next_in m'.node.boot (pair_in m'.node b) ≡ next_in m'.node.boot (Some at.after.pair) = ap (λ o. next_in m'.node.boot (option_map (λ (z : Neighbour). z.pair) o)) at.after_is in
-        subst (λ ns. RiseBelow (before ++ ns) (next_in m'.node.boot (pair_in m'.node b))) (sym (entered_turn m.node.own bytes s frames b x.pair at.after.pair means.story at.turn means.story_is))
-        (subst (RiseBelow (before ++ numbers_of means.story)) (sym next) (story_rises before m.node.boot m'.node.boot x.pair at.after.pair means.story means.means (subst (RiseBelow before) was h)))
+    rises : RiseBelow (before ++ now) (next_in m'.node.boot (pair_in m'.node b))
+    rises =
+        let at = t.turns b in
+        let x = pair_with m.node b in
+        let y = pair_with m'.node b in
+        let means = peer_means m.node.own bytes s frames b x y (kept_abreast m.node b told) at in
+        subst (λ ns. RiseBelow (before ++ ns) (next_in m'.node.boot (pair_in m'.node b))) (sym (entered_turn m.node.own bytes s frames b x y means.story at means.story_is))
+        (subst (RiseBelow (before ++ numbers_of means.story)) (next_read m'.node b) (story_rises before m.node.boot m'.node.boot x y means.story means.means (subst (RiseBelow before) (sym (next_read m.node b)) h)))
 
 -- ---- a peer becomes known, and a boot begins
-
--- the next number for what is kept of a peer, or of a stranger
-kept_next : (n : NodeState) (peer : ℕ) (o : Option Neighbour) → next_in n.boot (Some (acquaintance n peer o).pair) ≡ next_in n.boot (option_map (λ (x : Neighbour). x.pair) o)
-kept_next n peer None = refl
-kept_next n peer (Some x) = refl
 
 -- a link end that is made leaves it as it was
 know_next : (n : NodeState) (peer bearer b : ℕ) → peer < length n.neighbours → end_with bearer (neighbour_of n peer) ≡ None → IsTold n → next_in n.boot (pair_in (known_node n peer bearer) b) ≡ next_in n.boot (pair_in n b)
@@ -194,8 +180,8 @@ know_next n peer bearer b within none told = elim (cases_eq b peer) [
       let now : pair_in (known_node n peer bearer) b ≡ Some known.pair = ap (pair_in (known_node n peer bearer)) same ∙ ap (option_map (λ (x : Neighbour). x.pair)) (get_or-set_same n.neighbours peer (Some known) None within) in
       ap (next_in n.boot) now
       ∙ ap (λ t. if t then known.pair.contact + 1 else known.pair.contact) kept.0
-      ∙ ap (λ k. if in_contact (kept_of n peer).pair then k + 1 else k) kept.1
-      ∙ kept_next n peer (neighbour_of n peer)
+      ∙ ap (λ k. if in_contact (pair_with n peer) then k + 1 else k) kept.1
+      ∙ next_read n peer
       ∙ ap (λ k. next_in n.boot (pair_in n k)) (sym same)
   | inr apart ↦ ap (λ o. next_in n.boot (option_map (λ (x : Neighbour). x.pair) o)) (get_or-set_other n.neighbours peer b (Some known) None apart)
 ]

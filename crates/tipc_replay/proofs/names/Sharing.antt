@@ -9,7 +9,9 @@ use Rattle.tipc_contact.specs.Sides.{boot_of}
 use Rattle.tipc_paired.specs.Paired.{IsNode}
 use Rattle.tipc_two_nodes.specs.Sights.{AreSeen, Sight}
 use Rattle.tipc_node.specs.declared.neighbours.Neighbour.{Neighbour}
-use Rattle.tipc_node.specs.Nodes.{end_with, neighbour_of}
+use Rattle.tipc_node.specs.Nodes.{end_with, neighbour_of, pair_with}
+use Rattle.tipc_pair.specs.Facing.{PairEnds}
+use Rattle.tipc_node.proofs.pairs.Strangers.{kept_by}
 use Rattle.tipc_node.specs.Sharing.{IsUnused, SharesNames}
 use Rattle.tipc_node.specs.Telling.{IsTold}
 use Rattle.tipc_replay.specs.declared.events.WorldEvent.{WorldEvent}
@@ -74,11 +76,9 @@ same_boot m m' h past boot told shares rises = record {
 
 -- what ended with a boot is under the contact numbers of that boot
 ended : (s : Stage) (a : ℕ) (m : MemberState) (b number : ℕ) → IsSound s.members s.air → slice_index_or s.members a None ≡ Some m → SharesNames m.node → m.node.boot < boot_of number → IsUnused m.node.journal b number
-ended s a m b number sound was h above = case (neighbour_of m.node b) refl
-  where
-    case : (o : Option Neighbour) → neighbour_of m.node b ≡ o → IsUnused m.node.journal b number
-    case None alone = h.unused.strangers b number alone
-    case (Some x) is = h.unused.later b number x is (let boot = boot_is s a b m x sound was is in omega (arith, boot, above))
+ended s a m b number sound was h above =
+    let boot : boot_of (pair_with m.node b).contact ≡ m.node.boot = kept_by (λ (x : PairEnds). boot_of x.contact ≡ m.node.boot) m.node b (λ none. omega arith) (λ x is. boot_is s a b m x sound was is) in
+    h.unused.later b number (omega (arith, boot, above))
 
 restart_shared : (s : Stage) (a : ℕ) (m m' : MemberState) → IsSound s.members s.air → slice_index_or s.members a None ≡ Some m → IsShared m → IsRestarted m m' → IsShared m'
 restart_shared s a m m' sound was h r = record {

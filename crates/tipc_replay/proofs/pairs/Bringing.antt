@@ -14,6 +14,7 @@ use Rattle.tipc_pair.specs.PairTurns.{Happened, Opening, Outset, ShowsIn}
 use Rattle.tipc_pair.specs.Messages.{opened_in}
 use Rattle.tipc_two_nodes.specs.Sights.{AreSeen, MayHappen, Sight, StaysIn, pair_seen}
 use Rattle.tipc_two_nodes.proofs.sights.Sights.{gives}
+use Rattle.tipc_node.specs.Nodes.{pair_with}
 use Rattle.tipc_node.specs.Turns.{NodeTurn}
 use Rattle.tipc_replay.specs.Skies.{AirState}
 use Rattle.tipc_replay.specs.Sound.{IsSound}
@@ -22,7 +23,7 @@ use Rattle.tipc_replay.specs.Steps.{Stage}
 use Rattle.tipc_replay.specs.Views.{sight_at}
 use Rattle.tipc_replay.proofs.frames.Coming.{ComesOut, may_happen}
 use Rattle.tipc_replay.proofs.LookUps.{member_at-is}
-use Rattle.tipc_replay.proofs.pairs.Standing.{acquainted, neighbour_apart, pair_sight}
+use Rattle.tipc_replay.proofs.pairs.Standing.{kept_sight}
 use Rattle.tipc_replay.proofs.pairs.Turning.{sight_in}
 use Rattle.tipc_replay.proofs.streams.TurnStreams.{AreBrought, Brings, IsOfMessage, put_message}
 
@@ -52,15 +53,15 @@ put_known : (members : List (Option MemberState)) (air : AirState) (a b : ℕ) �
 unfolding sight_at accepted_at
 put_known members air a b h own theirs k packet there = put_message (node_word a) (accepted_at members a b own theirs Zero) k packet (h.accepted a b own theirs) there
 
--- in a sound world a node's turn gives the messages of its peers
+-- in a sound world a node's turn gives the messages of each other node
 pub are_brought : (old : Stage) (a : ℕ) (m m' : MemberState) (bytes : List ℕ) (s : NodeStep) (frames : List Outgoing) → IsSound old.members old.air → slice_index_or old.members a None ≡ Some m
-    → (t : NodeTurn m.node m'.node bytes s frames) → ComesOut old a s.event bytes → AreBrought m.node m'.node bytes s frames t
-are_brought old a m m' bytes s frames sound there t out b x is =
+    → (t : NodeTurn m.node m'.node bytes s frames) → ComesOut old a s.event bytes → AreBrought a m.node m'.node bytes s frames t
+are_brought old a m m' bytes s frames sound there t out b number apart =
     let was = member_at-is old.members a m there in
-    let knows = acquainted old.members old.air a m sound there in
-    let other = neighbour_apart old a m knows was b x is in
-    let p = (t.turns b x is).turn in
+    let named = sound.numbered a m there in
+    let p = t.turns b in
     let v = sight_in old a b in
     let w = sight_in old b a in
-    opening_brings (node_word b) v w x.pair p.opening p.turn.first (pair_sight old a b m x sound was is) (sound.pairs a b knows.number other.0 (λ e. other.1 (sym e)))
-    (may_happen v w b s.event bytes p.opening (λ bearer number es er q. out bearer number b es er q) p.suits p.on_one p.brought) p.shows p.turn.happened (put_known old.members old.air b a sound)
+    let seen = kept_sight old a b m sound was named.1 in
+    opening_brings (node_word b) v w (pair_with m.node b) p.opening p.turn.first seen (sound.pairs a b named.0 number (λ e. apart (sym e)))
+    (may_happen v w b s.event bytes (pair_with m.node b) p.opening seen p.anew (λ bearer number es er q. out bearer number b es er q) p.suits p.on_one p.brought) p.shows p.turn.happened (put_known old.members old.air b a sound)

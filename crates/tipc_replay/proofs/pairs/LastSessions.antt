@@ -21,7 +21,7 @@ use Rattle.tipc_pair.specs.Courses.{Course, going_on}
 use Rattle.tipc_pair.specs.Facing.{PairEnds, active, facing, in_contact, is_up_at, other, turned, with_made, with_near}
 use Rattle.tipc_pair.specs.PairArrivals.{Arrives, Heard, activate_higher, activates, behind, by_number, hears as heard_by, met_at, met_near, passing, reset_near}
 use Rattle.tipc_pair.specs.PairCalls.{answered_at, at_bearer, mended_near}
-use Rattle.tipc_pair.specs.PairTurns.{Happened, Opening, Outset, PairTurn, PutsAll, Reply, made_near, replied, IsOnOne}
+use Rattle.tipc_pair.specs.PairTurns.{Happened, MakesNew, Opening, Outset, PairTurn, PutsAll, Reply, made_near, replied, IsOnOne}
 use Rattle.tipc_pair.specs.PairTurns.Opening.{cuts, hears, makes, mends, rests, ticks}
 use Rattle.tipc_pair.specs.PairTurns.PutsAll.{none_put, puts_one}
 use Rattle.tipc_pair.proofs.Facings.{facing_far, facing_near, facing_two as facing_low}
@@ -196,27 +196,6 @@ heard_last x (suc zero) es er p by shown c given first low a =
     })
 heard_last x (suc (suc bearer)) es er p by shown c given first low a = absurd (let wrong : ⊥ = omega arith in wrong)
 
--- an end is made by none of these
-abbrev pub MakesNone : Opening → Type 0
-MakesNone (makes bearer mended) = ⊥
-MakesNone other = Unit {0}
-
-opening_last : (x : PairEnds) (opening : Opening) (o : Outset) → x.bearer ≡ 0 → IsOnOne opening → MakesNone opening → Happened x opening o → OpensLast x opening o.course.pair
-opening_last x rests o first on none is = subst (λ (u : Outset). OpensLast x rests u.course.pair) (sym is) (opens_of x x rests first (last_same x))
-opening_last x (makes bearer mended) o first on none is = absurd none
-opening_last x (mends bearer) o first on none is =
-    let y = facing bearer x in
-    subst (λ (u : Outset). OpensLast x (mends bearer) u.course.pair) (sym is)
-    (opens_of x _ (mends bearer) first (numbers_facing bearer x (mended_near y y.near) _ (low_of x first) (quiet_last y (mended_near y y.near) (mended_last y y.near refl))).keeps)
-opening_last x (cuts bearer) o first on none is =
-    let y = facing bearer x in
-    subst (λ (u : Outset). OpensLast x (cuts bearer) u.course.pair) (sym is)
-    (opens_of x _ (cuts bearer) first (numbers_facing bearer x _ _ (low_of x first) (cut_last y (facing_low bearer x (low_of x first)))).keeps)
-opening_last x (ticks shown) o first on none is =
-    subst (λ (u : Outset). OpensLast x (ticks shown) u.course.pair) (sym is) (opens_of x _ (ticks shown) first (ticked_last x shown (low_of x first)).keeps)
-opening_last x (hears bearer es er p by shown) o first on none is =
-    subst (λ (u : Outset). OpensLast x (hears bearer es er p by shown) u.course.pair) (sym is.3) (heard_last x bearer es er p by shown is.0 is.1 first on is.2)
-
 -- an end that is made has had no session
 pub made_last : (x : PairEnds) (bearer : ℕ) (mended : Bool) → x.bearer ≡ 0 → (facing bearer x).near ≡ None → StaysLast x (at_bearer bearer x (made_near mended)).pair
 unfolding going_on
@@ -228,6 +207,24 @@ made_last x bearer mended first none =
     by : (t : Bool) → KeepsLast (facing bearer x) (with_made (facing bearer x)) → KeepsLast (facing bearer x) (made_near t (facing bearer x)).pair
     by true made = record { bearer = refl; near = made.near; far = refl }
     by false made = made
+
+opening_last : (x : PairEnds) (opening : Opening) (o : Outset) → x.bearer ≡ 0 → IsOnOne opening → MakesNew x opening → Happened x opening o → OpensLast x opening o.course.pair
+opening_last x rests o first on new is = subst (λ (u : Outset). OpensLast x rests u.course.pair) (sym is) (opens_of x x rests first (last_same x))
+opening_last x (makes bearer mended) o first on new is =
+    let s = made_last x bearer mended first new in
+    subst (λ (u : Outset). OpensLast x (makes bearer mended) u.course.pair) (sym is) (record { first = s.first; last = λ b _. s.last b })
+opening_last x (mends bearer) o first on new is =
+    let y = facing bearer x in
+    subst (λ (u : Outset). OpensLast x (mends bearer) u.course.pair) (sym is)
+    (opens_of x _ (mends bearer) first (numbers_facing bearer x (mended_near y y.near) _ (low_of x first) (quiet_last y (mended_near y y.near) (mended_last y y.near refl))).keeps)
+opening_last x (cuts bearer) o first on new is =
+    let y = facing bearer x in
+    subst (λ (u : Outset). OpensLast x (cuts bearer) u.course.pair) (sym is)
+    (opens_of x _ (cuts bearer) first (numbers_facing bearer x _ _ (low_of x first) (cut_last y (facing_low bearer x (low_of x first)))).keeps)
+opening_last x (ticks shown) o first on new is =
+    subst (λ (u : Outset). OpensLast x (ticks shown) u.course.pair) (sym is) (opens_of x _ (ticks shown) first (ticked_last x shown (low_of x first)).keeps)
+opening_last x (hears bearer es er p by shown) o first on new is =
+    subst (λ (u : Outset). OpensLast x (hears bearer es er p by shown) u.course.pair) (sym is.3) (heard_last x bearer es er p by shown is.0 is.1 first on is.2)
 
 -- ---- messages are put, and the answer is given
 
@@ -249,15 +246,15 @@ replied_last : (reply : Option Reply) (x : PairEnds) → x.bearer ≤ 1 → Keep
 replied_last None x two = last_same x
 replied_last (Some r) x two =
     let y = facing r.bearer x in
-    (numbers_facing r.bearer x (answered_at y y.near 0 false r.shown).pair _ two (quiet_last y (answered_at y y.near 0 false r.shown).pair (answered_last y y.near 0 false r.shown refl))).keeps
+    (numbers_facing r.bearer x (answered_at y y.near r.taken r.asks r.shown).pair _ two (quiet_last y (answered_at y y.near r.taken r.asks r.shown).pair (answered_last y y.near r.taken r.asks r.shown refl))).keeps
 
 -- ---- the turn
 
-pub turn_last : (x x' : PairEnds) (opening : Opening) (messages : List (List ℕ)) (reply : Option Reply) (frames : List Outgoing) → x.bearer ≡ 0 → IsOnOne opening → MakesNone opening
+pub turn_last : (x x' : PairEnds) (opening : Opening) (messages : List (List ℕ)) (reply : Option Reply) (frames : List Outgoing) → x.bearer ≡ 0 → IsOnOne opening → MakesNew x opening
     → PairTurn x opening messages reply x' frames → OpensLast x opening x'
-turn_last x x' opening messages reply frames first on none t =
+turn_last x x' opening messages reply frames first on new t =
     let y = t.first.course.pair in
-    let one = opening_last x opening t.first first on none t.happened in
+    let one = opening_last x opening t.first first on new t.happened in
     let k = all_put_last y messages t.put_frames t.put (low_of y one.first) t.puts in
     let l = last_then y t.put (replied reply t.put).pair k (replied_last reply t.put (let is = k.bearer in let start = one.first in omega arith)) in
     let s = stays_of y (replied reply t.put).pair one.first l in

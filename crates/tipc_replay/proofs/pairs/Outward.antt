@@ -1,19 +1,22 @@
--- Each frame that leaves a node may come into the air: it goes to another node, on one of the two bearers, and has a frame's size.
-use Rattle.std.proofs.Common.{◌≡◌, ◌≢◌, ◌≤◌, ◌<◌, ◌++◌, ℕ, true, List, [], Option, Some, None, length, slice_index_or, slice_set, take, refl, sym, ap, ◌∙◌, subst, arith}
-use Rattle.std.specs.Prelude.{All, Bool, false, is_some, nat_lt, ◌||◌}
+-- Each frame that leaves a node may come into the air: it is of a link to another node, on one of the two bearers, and has a frame's size.
+use Rattle.std.proofs.Common.{◌≡◌, ◌≢◌, ◌≤◌, ◌<◌, ℕ, true, List, [], Option, Some, None, length, slice_index_or, slice_set, refl, sym, ap, ◌∙◌, subst, arith}
+use Rattle.std.specs.Prelude.{All, Bool, false, is_some, nat_lt, ◌||◌, ◌&&◌}
 use Rattle.std.proofs.lemmas.Bool.Decides.{nat_tests}
 use Rattle.std.proofs.lemmas.List.Elements.{All-nil, All-take}
 use Rattle.tipc_types.specs.Address.{node_word}
 use Rattle.tipc_types.specs.declared.node_calls.Answer.{Answer}
 use Rattle.tipc_types.specs.declared.node_calls.By.{By}
 use Rattle.tipc_outside.specs.declared.outgoing.Outgoing.{Outgoing}
-use Rattle.tipc_outside.specs.Frames.{Out}
+use Rattle.tipc_outside.specs.Frames.{Adds, Out, frames_leaving, no_frames}
+use Rattle.tipc_outside.proofs.Adding.{alone_leaving, grows_none}
 use Rattle.tipc_journal.specs.Steps.{NodeStep}
-use Rattle.tipc_node.specs.Nodes.{end_with, known_frames, neighbour_of}
+use Rattle.tipc_header.specs.Frames.{is_of_link}
+use Rattle.tipc_node.specs.Nodes.{end_with, known_frames, known_node, neighbour_of}
 use Rattle.tipc_node.specs.Turns.{IsRouted, is_out_to, is_to}
 use Rattle.tipc_pair.proofs.turns.Addressing.{AreFor, IsFor, for_all}
 use Rattle.tipc_replay.specs.declared.events.WorldEvent.{WorldEvent}
 use Rattle.tipc_replay.specs.declared.events.WorldEvent.TheVariants.{Know, Restart, Call, Arrive}
+use Rattle.tipc_replay.specs.Addressed.{of_a_link}
 use Rattle.tipc_replay.specs.Air.{IsOut}
 use Rattle.tipc_replay.specs.Calls.{CanHappenAt, node_of, HasNextBoot}
 use Rattle.tipc_replay.specs.Effects.{HasEffect}
@@ -33,7 +36,7 @@ use Rattle.tipc_replay.proofs.Happening.{not_known}
 use Rattle.tipc_replay.proofs.pairs.Bringing.{are_brought}
 use Rattle.tipc_replay.proofs.pairs.PairedEvents.{IsReady, made_step, made_turn, met_step, met_turn, ready_out}
 use Rattle.tipc_replay.proofs.pairs.PairedStarts.{known_for, known_turned}
-use Rattle.tipc_replay.proofs.pairs.PairedTurns.{TakesTurn, neighbour_turned}
+use Rattle.tipc_replay.proofs.pairs.PairedTurns.{TakesTurn, turned_with}
 use Rattle.tipc_replay.proofs.pairs.Standing.{acquainted, neighbour_apart, pair_between}
 
 -- ---- the world as it would be if each frame of the event had been lost
@@ -55,8 +58,11 @@ all_lost s a before after frames was = record {
   was = was;
   members = refl;
   leaves = record {
-    box = record { frames = []; lost = any frames };
-    boxed = record { count = 0; within = omega arith; front = refl; lost_is = refl; none = λ marked. absurd cc };
+    box = record { first = no_frames.first; behind = record { frames = []; lost = any frames } };
+    boxed = record {
+      first = grows_none no_frames.first;
+      behind = record { count = 0; within = omega arith; front = refl; lost_is = refl; none = λ marked. absurd cc };
+    };
     emits = record { count = 0; air = sym (with_none s.air (contact_at s.members a) (slice_set s.members a (Some after)) a); lost_is = or_none (any frames) };
   };
 }
@@ -72,29 +78,31 @@ turn_out s a m m' bytes step frames sound was turn out = all_weaker (IsRouted m.
     one o at r =
         let x = the_some (neighbour_of m.node r.peer) r.there in
         let other = neighbour_apart s a m (acquainted s.members s.air a m sound was) (member_at-is s.members a m was) r.peer x.0 x.1 in
-        let for_it : is_out_to r.peer o ≡ true = ap (is_to r.peer) r.to_is ∙ grind (arith, nat_tests) in
-        let fit = (neighbour_turned s (silenced s a m') a m m' bytes step frames (any frames) sound (all_lost s a m m' frames was) turn out (are_brought s a m m' bytes step frames sound was turn.turn out)
-        r.peer x.0 other.0 other.1 (sound.pairs a r.peer (sound.numbered a m was).0 other.0 (λ e. other.1 (sym e))) x.1).1 o (stands_passing (is_out_to r.peer) frames o at for_it) in
-        record { bearer = fit.0; receiver = r.peer; number = other.0; apart = other.1; to_is = r.to_is; size = fit.1 }
+        let to_it : is_to r.peer o.to ≡ true = ap (is_to r.peer) r.to_is ∙ grind (arith, nat_tests) in
+        let for_it : is_out_to r.peer o ≡ true = ap (λ t. t && is_of_link o.frame) to_it ∙ r.link in
+        let fit = (turned_with s (silenced s a m') a m m' bytes step frames (any frames) sound (all_lost s a m m' frames was) turn out (are_brought s a m m' bytes step frames sound was turn.turn out)
+        r.peer other.0 other.1 (sound.pairs a r.peer (sound.numbered a m was).0 other.0 (λ e. other.1 (sym e)))).1 o (stands_passing (is_out_to r.peer) frames o at for_it) in
+        record { bearer = fit.0; addressed = of_a_link r.link (record { receiver = r.peer; number = other.0; apart = other.1; to_is = r.to_is }); size = fit.1 }
 
 -- of a node that comes to know a peer
 known_out : (s : Stage) (a peer bearer : ℕ) (before after : MemberState) (frames : List Outgoing) → IsSound s.members s.air → slice_index_or s.members a None ≡ Some before → after ≡ known_member before peer bearer
-    → frames ≡ known_frames before.node peer bearer → IsNumber peer → peer ≢ a → bearer ≤ 1 → end_with bearer (neighbour_of before.node peer) ≡ None → peer < length before.node.neighbours → All (IsOut a) frames
-known_out s a peer bearer before after frames sound was then_ frames_are number apart low none within =
+    → frames ≡ known_frames before.node peer bearer → IsNumber peer → peer ≢ a → bearer ≤ 1 → end_with bearer (neighbour_of before.node peer) ≡ None → peer < length before.node.neighbours
+    → All (IsRouted (known_node before.node peer bearer)) (known_frames before.node peer bearer) → All (IsOut a) frames
+known_out s a peer bearer before after frames sound was then_ frames_are number apart low none within routed =
     subst (All (IsOut a)) (sym frames_are) (all_weaker (IsFor (node_word peer)) (IsOut a) fs one (for_all (node_word peer) fs for_it))
   where
     fs : List Outgoing
     fs = known_frames before.node peer bearer
 
     for_it : AreFor (node_word peer) fs
-    for_it = known_for before peer bearer (λ y is. (pair_between s a peer before y sound (member_at-is s.members a before was) is).peer)
+    for_it = known_for before peer bearer (λ y is. (pair_between s a peer before y sound (member_at-is s.members a before was) is).peer) routed
 
     fit : AreFit fs
     fit = (known_turned s (silenced s a after) a peer bearer before after frames (any frames) sound (all_lost s a before after frames was) then_ frames_are (sound.numbered a before was).1 low none within
-        apart (sound.pairs a peer (sound.numbered a before was).0 number (λ e. apart (sym e)))).1
+        routed apart (sound.pairs a peer (sound.numbered a before was).0 number (λ e. apart (sym e)))).1
 
     one : (o : Outgoing) → Stands fs o → IsFor (node_word peer) o → IsOut a o
-    one o at to_is = record { bearer = (fit o at).0; receiver = peer; number = number; apart = apart; to_is = to_is; size = (fit o at).1 }
+    one o at for_peer = record { bearer = (fit o at).0; addressed = of_a_link for_peer.1 (record { receiver = peer; number = number; apart = apart; to_is = for_peer.0 }); size = (fit o at).1 }
 
 -- a node that is there has a number
 pub there_number : (members : List (Option MemberState)) (air : AirState) (n : ℕ) → IsSound members air → is_some (slice_index_or members n None) ≡ true → IsNumber n
@@ -104,7 +112,7 @@ there_number members air n sound there = let m = the_some (slice_index_or member
 pub all_out : (s : Stage) (by : By) (event : WorldEvent) (bytes : List ℕ) (before after : MemberState) (frames : List Outgoing) (answered : Answer) → IsSound s.members s.air
     → slice_index_or s.members (node_of event) None ≡ Some before → IsReady s.members s.air event bytes before → HasEffect by event bytes before after frames answered → All (IsOut (node_of event)) frames
 all_out s by (Know a peer bearer) bytes before after frames answered sound was ready h =
-    known_out s a peer bearer before after frames sound was h.0 h.1 (there_number s.members s.air peer sound ready.1) ready.0 ready.2 (not_known s.members a peer bearer before was ready.2 ready.3) h.3
+    known_out s a peer bearer before after frames sound was h.0 h.1 (there_number s.members s.air peer sound ready.1) ready.0 ready.2 (not_known s.members a peer bearer before was ready.2 ready.3) h.3 h.6
 all_out s by (Restart a) bytes before after frames answered sound was ready h = subst (All (IsOut a)) (sym h.1) (All-nil (IsOut a))
 all_out s by (Call a call) bytes before after frames answered sound was ready h =
     turn_out s a before after [] (made_step by call before after frames answered h) frames sound was (made_turn by call before after frames answered h) (nothing_out s a call)
@@ -116,12 +124,12 @@ all_out s by (Arrive a bearer place) bytes before after frames answered sound wa
 
 -- each frame in it may come into the air
 pub boxed_out : (members members' : List (Option MemberState)) (air : AirState) (by : By) (event : WorldEvent) (bytes : List ℕ) (box box' : Out) (answered : Answer) → IsSound members air
-    → ((m : MemberState) → slice_index_or members (node_of event) None ≡ Some m → IsReady members air event bytes m) → box.frames ≡ [] → DidAt members members' by event bytes box box' answered
-    → All (IsOut (node_of event)) box'.frames
+    → ((m : MemberState) → slice_index_or members (node_of event) None ≡ Some m → IsReady members air event bytes m) → box ≡ no_frames → DidAt members members' by event bytes box box' answered
+    → All (IsOut (node_of event)) (frames_leaving box')
 boxed_out members members' air by event bytes box box' answered sound ready empty did =
     let out = all_out (stage members air) by event bytes did.before did.after did.did.frames answered sound did.was (ready did.before did.was) did.did.does in
-    let boxed : box'.frames ≡ take did.did.adds.count did.did.frames = did.did.adds.front ∙ ap (λ xs. xs ++ take did.did.adds.count did.did.frames) empty in
-    subst (All (IsOut (node_of event))) (sym boxed) (All-take (IsOut (node_of event)) did.did.adds.count did.did.frames out)
+    let adds = subst (λ b. Adds b box' did.did.frames) empty did.did.adds in
+    subst (All (IsOut (node_of event))) (sym (alone_leaving adds)) (All-take (IsOut (node_of event)) adds.behind.count did.did.frames out)
 
 -- an event that can happen and is no arrival is ready to
 pub is_ready : (members : List (Option MemberState)) (air : AirState) (event : WorldEvent) → AreSettled members → ((node bearer frame : ℕ) → event ≡ Arrive node bearer frame → ⊥) → CanHappenAt members event → HasNextBoot members event

@@ -62,8 +62,8 @@ met_turn by bearer place bytes m m' frames answered h = record {
 
 -- what arrives came out of the air
 pub comes_out : (s : Stage) (a bearer place : ℕ) (f : Sent) → IsSound s.members s.air → frame_for s.air a bearer place ≡ Some f → unarrived s.members s.air a bearer place ≡ None → (number : ℕ) → ComesOut s a (note.Arrive bearer number) f.frame
-comes_out s a bearer place f sound there free number k i b es er p is from =
-    let same : bearer ≡ k = cc in subst (λ j. Comes (sight_in s a b) (sight_in s b a) j es er p) same (comes s a bearer place f b es er p sound there free from)
+comes_out s a bearer place f sound there free number k i b es er p is from link =
+    let same : bearer ≡ k = cc in subst (λ j. Comes (sight_in s a b) (sight_in s b a) j es er p) same (comes s a bearer place f b es er p sound there free from link)
 
 taken_pairs : (old new : Stage) (a : ℕ) (m m' : MemberState) (bytes : List ℕ) (s : NodeStep) (frames : List Outgoing) (lost : Bool) → IsSound old.members old.air → Turns old new a m m' frames lost
     → TakesTurn m m' bytes s frames → ComesOut old a s.event bytes → AllPaired new
@@ -86,7 +86,7 @@ ready_out s a bearer place bytes m sound ready number = subst (ComesOut s a (not
 pub does_pair : (old new : Stage) (by : By) (event : WorldEvent) (bytes : List ℕ) (before after : MemberState) (frames : List Outgoing) (answered : Answer) (lost : Bool) → IsSound old.members old.air
     → Turns old new (node_of event) before after frames lost → IsReady old.members old.air event bytes before → HasEffect by event bytes before after frames answered → AllPaired new
 does_pair old new by (Know a peer bearer) bytes before after frames answered lost sound t ready h =
-    know_pairs old new a peer bearer before after frames lost sound t h.0 h.1 (sound.numbered a before t.was).1 ready.2 (not_known old.members a peer bearer before t.was ready.2 ready.3) h.3
+    know_pairs old new a peer bearer before after frames lost sound t h.0 h.1 (sound.numbered a before t.was).1 ready.2 (not_known old.members a peer bearer before t.was ready.2 ready.3) h.3 h.6
 does_pair old new by (Restart a) bytes before after frames answered lost sound t ready h = restart_pairs old new a before after frames lost sound.pairs t h.0 h.1 ready
 does_pair old new by (Call a call) bytes before after frames answered lost sound t ready h =
     taken_pairs old new a before after [] (made_step by call before after frames answered h) frames lost sound t (made_turn by call before after frames answered h) (nothing_out old a call)

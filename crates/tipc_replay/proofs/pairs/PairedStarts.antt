@@ -1,9 +1,11 @@
 -- A node that comes to know another, or is restarted, is seen by each other as one that it talks with.
 use Rattle.std.specs.Prelude.{if◌then◌else◌, nat_le}
-use Rattle.std.proofs.Common.{◌≡◌, ◌≢◌, ◌≤◌, ◌<◌, ◌+◌, ◌++◌, ◌^◌, ◌==◌, ◌&&◌, append-nil, ℕ, Bool, true, false, List, [], Option, Some, None, length, option_map, refl, sym, ap, ◌∙◌, subst, inl, inr, get_or-set_same, get_or-set_other}
+use Rattle.std.proofs.Common.{◌≡◌, ◌≢◌, ◌≤◌, ◌<◌, ◌+◌, ◌++◌, ◌^◌, ◌==◌, ◌&&◌, append-nil, ℕ, Bool, true, false, List, [], ◌∷◌, Option, Some, None, length, option_map, refl, sym, ap, ◌∙◌, subst, inl, inr, get_or-set_same, get_or-set_other}
 use Rattle.std.proofs.lemmas.Bool.{cases_eq}
-use Rattle.std.proofs.lemmas.List.Elements.{All-nil}
+use Rattle.std.specs.List.{All}
+use Rattle.std.proofs.lemmas.List.Elements.{All-head, All-nil, All-tail}
 use Rattle.tipc_types.specs.Address.{node_word}
+use Rattle.tipc_types.specs.declared.identity.To.TheVariants as to
 use Rattle.tipc_outside.specs.declared.outgoing.Outgoing.{Outgoing}
 use Rattle.tipc_link.specs.Links.{LinkEnd, made}
 use Rattle.tipc_pair.specs.Courses.{Course, going_on}
@@ -13,14 +15,13 @@ use Rattle.tipc_pair.specs.Messages.{IsMessage}
 use Rattle.tipc_pair.specs.PairTurns.{PairTurn, made_near}
 use Rattle.tipc_pair.specs.PairTurns.Opening.{makes}
 use Rattle.tipc_pair.specs.PairTurns.PutsAll.{none_put}
-use Rattle.tipc_two_nodes.specs.Sights.{HasSession, Restarts, pair_seen}
+use Rattle.tipc_two_nodes.specs.Sights.{HasSession, Restarts}
 use Rattle.tipc_two_nodes.proofs.sights.LastSessions.{last_epoch}
 use Rattle.tipc_two_nodes.proofs.sights.Sights.{restarted}
 use Rattle.tipc_node.specs.declared.neighbours.Neighbour.{Neighbour}
-use Rattle.tipc_node.specs.Nodes.{acquaintance, end_with, is_mended_on, known_course, known_frames, known_neighbour, neighbour_of}
-use Rattle.tipc_node.specs.Turns.{frames_to, pair_in}
-use Rattle.tipc_pair.specs.Addressed.{IsEndTo}
-use Rattle.tipc_pair.proofs.turns.Addressing.{AreFor, mend_for}
+use Rattle.tipc_node.specs.Nodes.{NodeState, acquaintance, end_with, is_mended_on, known_course, known_frames, known_neighbour, known_node, neighbour_of, pair_with}
+use Rattle.tipc_node.specs.Turns.{IsRouted, frames_to, pair_in}
+use Rattle.tipc_pair.proofs.turns.Addressing.{AreFor, to_same}
 use Rattle.tipc_pair.proofs.turns.PairKept.{facing_own, facing_peer}
 use Rattle.tipc_node.proofs.turns.Shares.{frames_to-other, frames_to-own}
 use Rattle.tipc_replay.specs.Members.{IsRestarted, known_member}
@@ -35,8 +36,8 @@ use Rattle.tipc_replay.proofs.streams.Histories.{history_restarted, history_same
 use Rattle.tipc_replay.proofs.pairs.LastSessions.{made_last}
 use Rattle.tipc_replay.proofs.LookUps.{boot_at-is, either_way, pair_at-is}
 use Rattle.tipc_replay.proofs.pairs.PairedTurns.{count_unsaid, last_of, of_last, turned_by}
-use Rattle.tipc_replay.proofs.pairs.Pairings.{seen_alone}
-use Rattle.tipc_replay.proofs.pairs.Standing.{pair_between, pair_is, pair_sight}
+use Rattle.tipc_replay.proofs.pairs.Pairings.{with_in}
+use Rattle.tipc_replay.proofs.pairs.Standing.{kept_sight, pair_between, pair_is}
 use Rattle.tipc_replay.proofs.pairs.Turning.{AllPaired, IsChanged, IsIdle, PartnersIn, all_paired, come_in, goes, idle_pair, is_there, same_given, same_numbered, same_put, same_sent, sight_in, was_there}
 
 -- ---- a restart
@@ -75,7 +76,7 @@ restart_pairs old new a before after frames lost paired t s none fits =
 
 -- the pair with the peer, which may be a stranger still, and what becomes of it
 abbrev pub kept_pair : MemberState → ℕ → PairEnds
-kept_pair m peer = (acquaintance m.node peer (neighbour_of m.node peer)).pair
+kept_pair m peer = pair_with m.node peer
 
 abbrev pub known_pair : MemberState → ℕ → ℕ → PairEnds
 known_pair m peer bearer = (known_neighbour m.node peer bearer).pair
@@ -84,21 +85,33 @@ known_pair m peer bearer = (known_neighbour m.node peer bearer).pair
 made_end : PairEnds → LinkEnd
 made_end y = record (made y.own y.peer y.bearer y.contact) { peer_contact = y.seen }
 
-names_made : (word : ℕ) (y : PairEnds) → y.peer ≡ word → IsEndTo word (made_end y)
-unfolding made_end
-names_made word y peer = record { peer = peer; session = λ s is. absurd (let wrong : None ≡ Some s = is in cc) }
+-- these frames are for the node with that address word
+abbrev AreTo : ℕ → List Outgoing → Type 0
+AreTo word [] = Unit {0}
+AreTo word (o ∷ os) = (o.to ≡ to.Node (record { word = word })) × AreTo word os
 
-made_for : (word bearer : ℕ) (mended : Bool) (x : PairEnds) → x.peer ≡ word → AreFor word (at_bearer bearer x (made_near mended)).states
+made_to : (word bearer : ℕ) (mended : Bool) (x : PairEnds) → x.peer ≡ word → AreTo word (at_bearer bearer x (made_near mended)).states
 unfolding going_on made_end
-made_for word bearer true x peer = mend_for word (made_end (facing bearer x)) (names_made word (facing bearer x) (facing_peer bearer x ∙ peer))
-made_for word bearer false x peer = tt
+made_to word bearer true x peer = (to_same word (facing bearer x).peer (facing_peer bearer x ∙ peer), tt)
+made_to word bearer false x peer = tt
 
-pub known_for : (m : MemberState) (peer bearer : ℕ) → ((y : Neighbour) → neighbour_of m.node peer ≡ Some y → y.pair.peer ≡ node_word peer) → AreFor (node_word peer) (known_frames m.node peer bearer)
-known_for m peer bearer is = case (neighbour_of m.node peer) refl
+known_to : (m : MemberState) (peer bearer : ℕ) → ((y : Neighbour) → neighbour_of m.node peer ≡ Some y → y.pair.peer ≡ node_word peer) → AreTo (node_word peer) (known_frames m.node peer bearer)
+known_to m peer bearer is = case (neighbour_of m.node peer) refl
   where
-    case : (o : Option Neighbour) → neighbour_of m.node peer ≡ o → AreFor (node_word peer) (at_bearer bearer (acquaintance m.node peer o).pair (made_near (is_mended_on m.node.mended bearer))).states
-    case None none = made_for (node_word peer) bearer (is_mended_on m.node.mended bearer) (alone m.node.own (node_word peer) m.node.boot) refl
-    case (Some y) there = made_for (node_word peer) bearer (is_mended_on m.node.mended bearer) y.pair (is y there)
+    case : (o : Option Neighbour) → neighbour_of m.node peer ≡ o → AreTo (node_word peer) (at_bearer bearer (acquaintance m.node peer o).pair (made_near (is_mended_on m.node.mended bearer))).states
+    case None none = made_to (node_word peer) bearer (is_mended_on m.node.mended bearer) (alone m.node.own (node_word peer) m.node.boot) refl
+    case (Some y) there = made_to (node_word peer) bearer (is_mended_on m.node.mended bearer) y.pair (is y there)
+
+-- and of links
+abbrev pub AreRouted : MemberState → ℕ → ℕ → Type 0
+AreRouted m peer bearer = All (IsRouted (known_node m.node peer bearer)) (known_frames m.node peer bearer)
+
+both_for : (word : ℕ) (n : NodeState) (os : List Outgoing) → AreTo word os → All (IsRouted n) os → AreFor word os
+both_for word n [] to_it routed = tt
+both_for word n (o ∷ os) to_it routed = ((to_it.0, (All-head (IsRouted n) o os routed).link), both_for word n os to_it.1 (All-tail (IsRouted n) o os routed))
+
+pub known_for : (m : MemberState) (peer bearer : ℕ) → ((y : Neighbour) → neighbour_of m.node peer ≡ Some y → y.pair.peer ≡ node_word peer) → AreRouted m peer bearer → AreFor (node_word peer) (known_frames m.node peer bearer)
+known_for m peer bearer is routed = both_for (node_word peer) (known_node m.node peer bearer) (known_frames m.node peer bearer) (known_to m peer bearer is) routed
 
 none_numbered : (bearer : ℕ) (mended : Bool) (x : PairEnds) → (at_bearer bearer x (made_near mended)).numbered ≡ []
 unfolding going_on
@@ -165,12 +178,12 @@ session_stays m peer bearer k epoch first none within had =
     was (Some y) is h = last_of (end_on k (Some y.pair)) epoch h
 
 changed : (word : ℕ) (m : MemberState) (peer bearer : ℕ) → ((y : Neighbour) → neighbour_of m.node peer ≡ Some y → (y.pair.bearer ≡ 0) × (y.pair.peer ≡ node_word peer)) → end_with bearer (neighbour_of m.node peer) ≡ None → peer < length m.node.neighbours
-    → IsChanged word m (known_member m peer bearer) (known_frames m.node peer bearer) peer (known_pair m peer bearer) (known_frames m.node peer bearer) [] []
-changed word m peer bearer are none within = record {
+    → AreRouted m peer bearer → IsChanged word m (known_member m peer bearer) (known_frames m.node peer bearer) peer (known_pair m peer bearer) (known_frames m.node peer bearer) [] []
+changed word m peer bearer are none within routed = record {
   boot = refl;
-  pair = known_is m peer bearer within;
+  pair = with_in (known_member m peer bearer).node peer (known_pair m peer bearer) (known_is m peer bearer within);
   first = λ x is. kept (neighbour_of m.node peer) refl x is;
-  frames_are = frames_to-own peer _ (known_for m peer bearer (λ y is. (are y is).1));
+  frames_are = frames_to-own peer _ (known_for m peer bearer (λ y is. (are y is).1) routed);
   put_is = λ own theirs. ap (λ es. put_in word es peer own theirs) (history_same m (known_member m peer bearer) refl refl) ∙ no_more (put_in word (history m) peer own theirs) own theirs _ _;
   given_is = λ own theirs. ap (λ es. given_in es peer own theirs) (history_same m (known_member m peer bearer) refl refl) ∙ no_more (given_in (history m) peer own theirs) own theirs _ _;
   numbered_else = λ k epoch apart.
@@ -182,27 +195,17 @@ changed word m peer bearer are none within = record {
     kept None is x there = absurd (let wrong : ⊥ = cc in wrong)
     kept (Some y) is x there = let same : y.pair ≡ x = cc in subst (λ (z : PairEnds). z.bearer ≡ 0) same (are y is).0
 
-idle : (word : ℕ) (m : MemberState) (peer bearer b : ℕ) → ((y : Neighbour) → neighbour_of m.node peer ≡ Some y → y.pair.peer ≡ node_word peer) → b ≢ peer → IsIdle word m (known_member m peer bearer) (known_frames m.node peer bearer) b
-idle word m peer bearer b is apart =
+idle : (word : ℕ) (m : MemberState) (peer bearer b : ℕ) → ((y : Neighbour) → neighbour_of m.node peer ≡ Some y → y.pair.peer ≡ node_word peer) → AreRouted m peer bearer → b ≢ peer → IsIdle word m (known_member m peer bearer) (known_frames m.node peer bearer) b
+idle word m peer bearer b is routed apart =
     let same : pair_in (known_member m peer bearer).node b ≡ pair_in m.node b = ap (option_map (λ (y : Neighbour). y.pair)) (get_or-set_other m.node.neighbours peer b _ None apart) in
     record {
       boot = refl;
       pair = same;
-      frames_are = frames_to-other b peer _ (λ e. apart (sym e)) (known_for m peer bearer is);
+      frames_are = frames_to-other b peer _ (λ e. apart (sym e)) (known_for m peer bearer is routed);
       put_is = λ own theirs. ap (λ es. put_in word es b own theirs) (history_same m (known_member m peer bearer) refl refl);
       given_is = λ own theirs. ap (λ es. given_in es b own theirs) (history_same m (known_member m peer bearer) refl refl);
       numbered = λ k epoch. count_link (known_member m peer bearer) m b k epoch (ap (end_on k) same) refl;
     }
-
--- it is the pair that the node sees
-kept_seen : (s : Stage) (a peer : ℕ) (m : MemberState) → IsSound s.members s.air → member_at s.members a ≡ Some m → m.node.own ≡ node_word a → pair_seen (sight_in s a peer) ≡ kept_pair m peer
-kept_seen s a peer m sound was own = case (neighbour_of m.node peer) refl
-  where
-    case : (o : Option Neighbour) → neighbour_of m.node peer ≡ o → pair_seen (sight_in s a peer) ≡ (acquaintance m.node peer o).pair
-    case None is =
-        let boot = boot_at-is s.members a m was in
-        seen_alone s.members s.air a peer (pair_is s a peer m None was is) ∙ (λ i. alone (sym own i) (node_word peer) (boot i))
-    case (Some y) is = pair_sight s a peer m y sound was is
 
 -- no end is seen on the bearer
 no_end : (s : Stage) (a peer bearer : ℕ) (m : MemberState) → member_at s.members a ≡ Some m → end_with bearer (neighbour_of m.node peer) ≡ None → (sight_in s a peer).ends bearer ≡ None
@@ -229,40 +232,41 @@ known_turn m peer bearer =
 -- what a node that comes to know a peer is to that peer then
 known_change : (a peer bearer : ℕ) (s : Stage) (before after : MemberState) (frames : List Outgoing) → IsSound s.members s.air → member_at s.members a ≡ Some before
     → after ≡ known_member before peer bearer → frames ≡ known_frames before.node peer bearer → end_with bearer (neighbour_of before.node peer) ≡ None → peer < length before.node.neighbours
-    → IsChanged (node_word a) before after frames peer (known_pair before peer bearer) (known_frames before.node peer bearer) [] []
-known_change a peer bearer s before after frames sound was then_ frames_are none within =
+    → AreRouted before peer bearer → IsChanged (node_word a) before after frames peer (known_pair before peer bearer) (known_frames before.node peer bearer) [] []
+known_change a peer bearer s before after frames sound was then_ frames_are none within routed =
     let are : (y : Neighbour) → neighbour_of before.node peer ≡ Some y → (y.pair.bearer ≡ 0) × (y.pair.peer ≡ node_word peer) = λ y is. (let b = pair_between s a peer before y sound was is in (b.first, b.peer)) in
     let x' = known_pair before peer bearer in
     let fs = known_frames before.node peer bearer in
     subst (λ m. IsChanged (node_word a) before m frames peer x' fs [] []) (sym then_)
-    (subst (λ os. IsChanged (node_word a) before (known_member before peer bearer) os peer x' fs [] []) (sym frames_are) (changed (node_word a) before peer bearer are none within))
+    (subst (λ os. IsChanged (node_word a) before (known_member before peer bearer) os peer x' fs [] []) (sym frames_are) (changed (node_word a) before peer bearer are none within routed))
 
 -- The node and the peer that it comes to know talk on, and each frame for it fits the air.
 pub known_turned : (old new : Stage) (a peer bearer : ℕ) (before after : MemberState) (frames : List Outgoing) (lost : Bool) → IsSound old.members old.air → Turns old new a before after frames lost
     → after ≡ known_member before peer bearer → frames ≡ known_frames before.node peer bearer → before.node.own ≡ node_word a → bearer ≤ 1 → end_with bearer (neighbour_of before.node peer) ≡ None → peer < length before.node.neighbours
-    → peer ≢ a → PartnersIn old old a peer → PartnersIn new old a peer × AreFit (known_frames before.node peer bearer)
-known_turned old new a peer bearer before after frames lost sound t then_ frames_are own low none within apart h =
+    → AreRouted before peer bearer → peer ≢ a → PartnersIn old old a peer → PartnersIn new old a peer × AreFit (known_frames before.node peer bearer)
+known_turned old new a peer bearer before after frames lost sound t then_ frames_are own low none within routed apart h =
     let was = was_there old new a before after frames lost t in
     let x' = known_pair before peer bearer in
     let fs = known_frames before.node peer bearer in
     let v = sight_in old a peer in
-    turned_by v (sight_in new a peer) (sight_in old peer a) (kept_pair before peer) x' (makes bearer (is_mended_on before.node.mended bearer)) [] None fs (kept_seen old a peer before sound was own) h
+    turned_by v (sight_in new a peer) (sight_in old peer a) (kept_pair before peer) x' (makes bearer (is_mended_on before.node.mended bearer)) [] None fs (kept_sight old a peer before sound was own) h
     (low, no_end old a peer bearer before was none) tt tt (All-nil (IsMessage v.node.own)) (known_turn before peer bearer)
-    (goes old new a before after frames lost peer x' fs [] [] t apart (known_change a peer bearer old before after frames sound was then_ frames_are none within))
+    (goes old new a before after frames lost peer x' fs [] [] t apart (known_change a peer bearer old before after frames sound was then_ frames_are none within routed))
 
 -- each two nodes are paired when a node has come to know a peer
 pub know_pairs : (old new : Stage) (a peer bearer : ℕ) (before after : MemberState) (frames : List Outgoing) (lost : Bool) → IsSound old.members old.air → Turns old new a before after frames lost
-    → after ≡ known_member before peer bearer → frames ≡ known_frames before.node peer bearer → before.node.own ≡ node_word a → bearer ≤ 1 → end_with bearer (neighbour_of before.node peer) ≡ None → peer < length before.node.neighbours → AllPaired new
-know_pairs old new a peer bearer before after frames lost sound t then_ frames_are own low none within =
+    → after ≡ known_member before peer bearer → frames ≡ known_frames before.node peer bearer → before.node.own ≡ node_word a → bearer ≤ 1 → end_with bearer (neighbour_of before.node peer) ≡ None → peer < length before.node.neighbours
+    → AreRouted before peer bearer → AllPaired new
+know_pairs old new a peer bearer before after frames lost sound t then_ frames_are own low none within routed =
     let was = was_there old new a before after frames lost t in
     let are : (y : Neighbour) → neighbour_of before.node peer ≡ Some y → y.pair.peer ≡ node_word peer = λ y is. (pair_between old a peer before y sound was is).peer in
     let still : (b : ℕ) → b ≢ peer → IsIdle (node_word a) before after frames b =
     λ b apart. subst (λ m. IsIdle (node_word a) before m frames b) (sym then_)
-    (subst (λ os. IsIdle (node_word a) before (known_member before peer bearer) os b) (sym frames_are) (idle (node_word a) before peer bearer b are apart)) in
+    (subst (λ os. IsIdle (node_word a) before (known_member before peer bearer) os b) (sym frames_are) (idle (node_word a) before peer bearer b are routed apart)) in
     all_paired old new a before after frames lost sound.pairs t (λ b a_is b_is apart h.
     elim (cases_eq b peer) [
       | inl same ↦
           subst (λ k. PartnersIn new old a k) (sym same)
-          (known_turned old new a peer bearer before after frames lost sound t then_ frames_are own low none within (λ e. apart (same ∙ e)) (subst (λ k. PartnersIn old old a k) same h)).0
+          (known_turned old new a peer bearer before after frames lost sound t then_ frames_are own low none within routed (λ e. apart (same ∙ e)) (subst (λ k. PartnersIn old old a k) same h)).0
       | inr other ↦ idle_pair old new a before after frames lost b t (still b other) h
     ])

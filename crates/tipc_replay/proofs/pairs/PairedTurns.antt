@@ -1,15 +1,11 @@
 -- A node's turn leaves it paired with each other node.
-use Rattle.std.proofs.Common.{◌⊎◌, ◌≡◌, ◌≢◌, ℕ, Bool, true, false, List, [], ◌∷◌, ◌++◌, Option, Some, None, map, option_map, refl, sym, ap, ◌∙◌, subst, inl, inr, arith}
-use Rattle.std.specs.Prelude.{if◌then◌else◌, is_some, All}
-use Rattle.std.proofs.lemmas.Bool.Decides.{nat_tests}
-use Rattle.std.proofs.lemmas.List.Elements.{All-head, All-tail}
+use Rattle.std.proofs.Common.{◌⊎◌, ◌≡◌, ◌≢◌, ℕ, Bool, true, false, List, ◌++◌, Option, Some, None, map, option_map, refl, sym, ap, ◌∙◌, subst, inl, inr}
+use Rattle.std.specs.Prelude.{All}
 use Rattle.tipc_types.specs.Address.{node_word}
 use Rattle.tipc_types.specs.LinkStates.{is_up}
 use Rattle.tipc_types.specs.declared.link_words.BroadcastState.{BroadcastState}
-use Rattle.tipc_types.specs.declared.node_calls.EventNote.{EventNote}
 use Rattle.tipc_types.specs.declared.node_calls.EventNote.TheVariants as event
 use Rattle.std.proofs.lemmas.Bool.{cases_eq}
-use Rattle.tipc_types.specs.declared.identity.To.TheVariants as to
 use Rattle.tipc_outside.specs.declared.outgoing.Outgoing.{Outgoing}
 use Rattle.tipc_header.specs.Spelling.{Fields}
 use Rattle.tipc_reassembly.specs.Slots.{packets_in}
@@ -20,14 +16,14 @@ use Rattle.tipc_pair.specs.Facing.{PairEnds, is_up_at}
 use Rattle.tipc_pair.specs.Messages.{IsMessage, opened_in}
 use Rattle.tipc_pair.specs.PairTurns.{Opening, PairTurn, Reply, ShowsAtLast, ShowsIn, Suits}
 use Rattle.tipc_pair.specs.PairTurns.Opening.{cuts, hears, makes, mends, rests, ticks}
-use Rattle.tipc_two_nodes.specs.Sights.{AreSeen, Goes, HasSession, MayHappen, Sight, pair_seen}
+use Rattle.tipc_two_nodes.specs.Sights.{AreSeen, PairBecomes, HasSession, MayHappen, Sight, pair_seen}
 use Rattle.tipc_two_nodes.proofs.sights.Sights.{turns}
 use Rattle.tipc_two_nodes.proofs.sights.LastSessions.{last_epoch}
-use Rattle.tipc_node.specs.declared.neighbours.Neighbour.{Neighbour}
 use Rattle.tipc_node.specs.Messages.{bytes_of}
-use Rattle.tipc_node.specs.Nodes.{NodeState, neighbour_of}
+use Rattle.tipc_node.specs.Nodes.{pair_with}
 use Rattle.tipc_node.specs.Telling.{IsTold}
-use Rattle.tipc_node.specs.Turns.{IsBrought, IsRouted, NeighbourTurn, NodeTurn, PeerTurn, addr_of, frames_to, is_out_to, is_to, pair_in}
+use Rattle.tipc_node.specs.Turns.{IsBrought, NodeTurn, frames_to}
+use Rattle.tipc_node.proofs.pairs.Strangers.{kept_abreast}
 use Rattle.tipc_replay.specs.Members.{noted, over_with, sender_of}
 use Rattle.tipc_replay.specs.Sound.{IsNumber, IsSound}
 use Rattle.tipc_replay.specs.Numbers.{end_on}
@@ -38,12 +34,13 @@ use Rattle.tipc_replay.proofs.frames.Coming.{ComesOut, may_happen}
 use Rattle.tipc_replay.proofs.frames.Fitting.{AreFit, turn_fits}
 use Rattle.tipc_replay.proofs.pairs.Counts.{count_alone, count_here, count_noted, sender_else, sender_here, session_cases}
 use Rattle.tipc_replay.proofs.streams.Histories.{history_longer}
-use Rattle.tipc_replay.proofs.pairs.LastSessions.{IsSteady, MakesNone, turn_last}
+use Rattle.tipc_replay.proofs.pairs.LastSessions.{IsSteady, turn_last}
 use Rattle.tipc_replay.proofs.frames.Messages.{messages_are}
 use Rattle.tipc_replay.proofs.frames.Senders.{sender_is}
-use Rattle.tipc_replay.proofs.pairs.Standing.{pair_between, pair_sight}
-use Rattle.tipc_replay.proofs.streams.TurnStreams.{AreBrought, Recorded, Untold, turn_records, turn_untold}
-use Rattle.tipc_replay.proofs.pairs.Turning.{AllPaired, IsChanged, IsIdle, PartnersIn, all_paired, goes, idle_pair, sight_in, was_there}
+use Rattle.tipc_replay.proofs.pairs.Pairings.{end_read, with_in}
+use Rattle.tipc_replay.proofs.pairs.Standing.{kept_sight}
+use Rattle.tipc_replay.proofs.streams.TurnStreams.{AreBrought, Recorded, turn_records}
+use Rattle.tipc_replay.proofs.pairs.Turning.{AllPaired, IsChanged, PartnersIn, all_paired, goes, sight_in, was_there}
 
 -- The node of a member took a turn. The journals of the boots before stay, and the last session with the sender of these bytes was noted, on
 -- the bearer on which they came.
@@ -96,14 +93,6 @@ steady_or x b (hears bearer es er p by shown) = elim (cases_eq b bearer) [
     by_state true up same = inl (λ _. up)
     by_state false down same = inr (es, er, p, by, shown, ap (λ k. hears k es er p by shown) (sym same), down)
 
-pub none_made : (note : EventNote) (opening : Opening) → Suits note opening → MakesNone opening
-none_made note rests suits = tt
-none_made note (makes bearer mended) suits = absurd suits
-none_made note (mends bearer) suits = tt
-none_made note (cuts bearer) suits = tt
-none_made note (ticks shown) suits = tt
-none_made note (hears bearer es er p by shown) suits = tt
-
 -- a session of the epoch of the last one
 pub of_last : (o : Option LinkEnd) (epoch : ℕ) → last_epoch o ≡ Some epoch → HasSession o epoch
 of_last None epoch is = absurd cc
@@ -118,50 +107,47 @@ last_of o epoch h = ap last_epoch h.2 ∙ ap (option_map (λ (s : SessionEnd). s
 
 -- ---- how many packets were numbered
 
-linked : (n : NodeState) (b bearer : ℕ) (x : Neighbour) → neighbour_of n b ≡ Some x → link_in n b bearer ≡ end_on bearer (Some x.pair)
-linked n b bearer x is = ap (λ o. end_on bearer (option_map (λ (y : Neighbour). y.pair) o)) is
-
-counts_else : (m m' : MemberState) (bytes : List ℕ) (s : NodeStep) (frames : List Outgoing) (b : ℕ) (x y : Neighbour) → IsNumber b → x.pair.bearer ≡ 0 → TakesTurn m m' bytes s frames → neighbour_of m.node b ≡ Some x → neighbour_of m'.node b ≡ Some y
-    → PeerTurn m.node.own bytes s frames b x.pair y.pair → (bearer epoch : ℕ) → (HasSession (link_in m'.node b bearer) epoch → ⊥) → count_of m' b bearer epoch ≡ count_of m b bearer epoch
-counts_else m m' bytes s frames b x y number first t was is p bearer epoch apart = elim (has_session (link_in m.node b bearer) epoch) [
+counts_else : (m m' : MemberState) (bytes : List ℕ) (s : NodeStep) (frames : List Outgoing) (b : ℕ) → IsNumber b → (pair_with m.node b).bearer ≡ 0 → TakesTurn m m' bytes s frames
+    → (bearer epoch : ℕ) → (HasSession (link_in m'.node b bearer) epoch → ⊥) → count_of m' b bearer epoch ≡ count_of m b bearer epoch
+counts_else m m' bytes s frames b number first t bearer epoch apart = elim (has_session (link_in m.node b bearer) epoch) [
   | inr none ↦
       now ∙ sender_else m (sender_of bytes) t.bearer b bearer epoch (λ _ e link u has same. none (e, u, link, has, same)) ∙ sym (count_unsaid m b bearer epoch none)
   | inl had ↦
+      let p = t.turn.turns b in
+      let x = pair_with m.node b in
+      let y = pair_with m'.node b in
       let before : count_of m b bearer epoch ≡ had.1.sending.numbered = ap (count_of m b bearer) (sym had.4) ∙ count_here m b bearer had.0 had.1 had.2 had.3 in
-      elim (steady_or x.pair bearer p.opening) [
+      elim (steady_or x bearer p.opening) [
         | inl steady ↦ absurd (
-            let last = (turn_last x.pair y.pair p.opening (map (bytes_of m.node.own) p.messages) p.reply p.own_frames first p.on_one (none_made s.event p.opening p.suits) p.turn).last bearer steady in
-            let there = ap last_epoch (linked m'.node b bearer y is) ∙ last ∙ ap last_epoch (sym (linked m.node b bearer x was)) ∙ last_of (link_in m.node b bearer) epoch had in
+            let last = (turn_last x y p.opening (map (bytes_of m.node.own) p.messages) p.reply p.own_frames first p.on_one p.anew p.turn).last bearer steady in
+            let there = ap last_epoch (end_read m'.node b bearer) ∙ last ∙ ap last_epoch (sym (end_read m.node b bearer)) ∙ last_of (link_in m.node b bearer) epoch had in
             apart (of_last (link_in m'.node b bearer) epoch there))
         | inr (es, er, q, by, shown, opening_is, down) ↦
             let brought : IsBrought b bytes (hears bearer es er q by shown) = subst (IsBrought b bytes) opening_is p.brought in
             let suits : Suits s.event (hears bearer es er q by shown) = subst (Suits s.event) opening_is p.suits in
             let here : bearer ≡ t.bearer = t.on bearer by suits in
-            let low : is_up had.0.fsm.state ≡ false = ap is_up_at (sym had.2 ∙ linked m.node b bearer x was) ∙ down in
+            let low : is_up had.0.fsm.state ≡ false = ap is_up_at (sym had.2 ∙ end_read m.node b bearer) ∙ down in
             now ∙ ap (λ k. count_in (noted m.counts (over_with m (sender_of bytes) k)) b bearer epoch) (sym here)
-            ∙ sender_here m (sender_of bytes) b bearer epoch had.0 had.1 (sender_is b bytes es er q number brought) had.2 low had.3 had.4 ∙ sym before
+            ∙ sender_here m (sender_of bytes) b bearer epoch had.0 had.1 (sender_is b bytes es er q number brought.0) had.2 low had.3 had.4 ∙ sym before
       ]
 ]
   where
     now : count_of m' b bearer epoch ≡ count_in (noted m.counts (over_with m (sender_of bytes) t.bearer)) b bearer epoch
     now = count_unsaid m' b bearer epoch apart ∙ ap (λ cs. count_in cs b bearer epoch) t.counts
 
--- ---- a neighbour
+-- ---- the turn at another node
 
-paired : (n : NodeState) (b : ℕ) (x : Neighbour) → neighbour_of n b ≡ Some x → pair_in n b ≡ Some x.pair
-paired n b x is = ap (option_map (λ (y : Neighbour). y.pair)) is
-
-changed : (word : ℕ) (m m' : MemberState) (bytes : List ℕ) (s : NodeStep) (frames : List Outgoing) (b : ℕ) (x : Neighbour) → IsNumber b → x.pair.bearer ≡ 0 → TakesTurn m m' bytes s frames → neighbour_of m.node b ≡ Some x → (n : NeighbourTurn m.node m'.node bytes s frames b x)
-    → Recorded word (history m) (history m') b n.after.pair (map (bytes_of m.node.own) n.turn.messages) (packets_in (opened_in n.turn.turn.first.given))
-    → IsChanged word m m' frames b n.after.pair n.turn.own_frames (map (bytes_of m.node.own) n.turn.messages) (packets_in (opened_in n.turn.turn.first.given))
-changed word m m' bytes s frames b x number first t is n h = record {
+changed : (word : ℕ) (m m' : MemberState) (bytes : List ℕ) (s : NodeStep) (frames : List Outgoing) (b : ℕ) → IsNumber b → (pair_with m.node b).bearer ≡ 0 → (t : TakesTurn m m' bytes s frames)
+    → Recorded word (history m) (history m') b (pair_with m'.node b) (map (bytes_of m.node.own) (t.turn.turns b).messages) (packets_in (opened_in (t.turn.turns b).turn.first.given))
+    → IsChanged word m m' frames b (pair_with m'.node b) (t.turn.turns b).own_frames (map (bytes_of m.node.own) (t.turn.turns b).messages) (packets_in (opened_in (t.turn.turns b).turn.first.given))
+changed word m m' bytes s frames b number first t h = record {
   boot = t.turn.boot;
-  pair = paired m'.node b n.after n.after_is;
-  first = λ y there. (let same : x.pair ≡ y = (let e : Some x.pair ≡ Some y = sym (paired m.node b x is) ∙ there in cc) in subst (λ (z : PairEnds). z.bearer ≡ 0) same first);
-  frames_are = n.turn.frames_are;
+  pair = refl;
+  first = λ y there. subst (λ (z : PairEnds). z.bearer ≡ 0) (with_in m.node b y there) first;
+  frames_are = (t.turn.turns b).frames_are;
   put_is = h.put_is;
   given_is = h.given_is;
-  numbered_else = counts_else m m' bytes s frames b x n.after number first t is n.after_is n.turn;
+  numbered_else = counts_else m m' bytes s frames b number first t;
 }
 
 own_word : (s : Stage) (a b : ℕ) → (sight_in s a b).node.own ≡ node_word a
@@ -171,78 +157,38 @@ own_word s a b = refl
 -- A turn of the pair that the node sees: the two talk on, and each frame of it fits the air.
 pub turned_by : (v v' w : Sight) (x x' : PairEnds) (opening : Opening) (messages : List (List ℕ)) (reply : Option Reply) (frames : List Outgoing) → pair_seen v ≡ x → AreSeen v w → MayHappen v w opening
     → ShowsIn opening → ShowsAtLast reply → All (IsMessage v.node.own) messages → (t : PairTurn x opening messages reply x' frames)
-    → Goes v v' w x' frames messages (packets_in (opened_in t.first.given)) → AreSeen v' w × AreFit frames
+    → PairBecomes v v' w x' frames messages (packets_in (opened_in t.first.given)) → AreSeen v' w × AreFit frames
 turned_by v v' w x x' opening messages reply frames pair h may shows shows_last all =
-    subst (λ q. (t : PairTurn q opening messages reply x' frames) → Goes v v' w x' frames messages (packets_in (opened_in t.first.given)) → AreSeen v' w × AreFit frames) pair
+    subst (λ q. (t : PairTurn q opening messages reply x' frames) → PairBecomes v v' w x' frames messages (packets_in (opened_in t.first.given)) → AreSeen v' w × AreFit frames) pair
     (λ t g. (turns v v' w opening messages reply x' frames h may shows shows_last all t g, turn_fits v v' w opening messages reply x' frames h may shows shows_last all t g))
 
--- so it is with a neighbour whose messages are recorded
-neighbour_pair : (old new : Stage) (a : ℕ) (m m' : MemberState) (bytes : List ℕ) (s : NodeStep) (frames : List Outgoing) (lost : Bool) (b : ℕ) (x : Neighbour) → IsSound old.members old.air → Turns old new a m m' frames lost
-    → IsNumber b → TakesTurn m m' bytes s frames → ComesOut old a s.event bytes → b ≢ a → neighbour_of m.node b ≡ Some x → (n : NeighbourTurn m.node m'.node bytes s frames b x)
-    → Recorded (node_word a) (history m) (history m') b n.after.pair (map (bytes_of m.node.own) n.turn.messages) (packets_in (opened_in n.turn.turn.first.given)) → PartnersIn old old a b
-    → PartnersIn new old a b × AreFit n.turn.own_frames
-neighbour_pair old new a m m' bytes s frames lost b x sound t number turn out apart is n moved h =
-    let p = n.turn in
+-- Another node and the node that took a turn talk on, and each frame for it fits the air.
+pub turned_with : (old new : Stage) (a : ℕ) (m m' : MemberState) (bytes : List ℕ) (s : NodeStep) (frames : List Outgoing) (lost : Bool) → IsSound old.members old.air → Turns old new a m m' frames lost
+    → (turn : TakesTurn m m' bytes s frames) → ComesOut old a s.event bytes → AreBrought a m.node m'.node bytes s frames turn.turn → (b : ℕ) → IsNumber b → b ≢ a → PartnersIn old old a b
+    → PartnersIn new old a b × AreFit (frames_to b frames)
+turned_with old new a m m' bytes s frames lost sound t turn out brought b number apart h =
+    let p = turn.turn.turns b in
+    let x = pair_with m.node b in
+    let y = pair_with m'.node b in
     let v = sight_in old a b in
     let w = sight_in old b a in
-    let was = was_there old new a m m' frames lost t in
-    let own : v.node.own ≡ m.node.own = own_word old a b ∙ sym (sound.numbered a m t.was).1 in
-    let first = (pair_between old a b m x sound was is).first in
-    turned_by v (sight_in new a b) w x.pair n.after.pair p.opening (map (bytes_of m.node.own) p.messages) p.reply p.own_frames (pair_sight old a b m x sound was is) h
-    (may_happen v w b s.event bytes p.opening (λ bearer number es er q. out bearer number b es er q) p.suits p.on_one p.brought)
-    p.shows p.shows_last (subst (λ k. All (IsMessage k) (map (bytes_of m.node.own) p.messages)) (sym own) (messages_are m.node.own p.messages p.sendable)) p.turn
-    (goes old new a m m' frames lost b n.after.pair p.own_frames (map (bytes_of m.node.own) p.messages) (packets_in (opened_in p.turn.first.given)) t apart (changed (node_word a) m m' bytes s frames b x number first turn is n moved))
-
--- ---- where there is no neighbour
-
-word_apart : (b c : ℕ) (o : Outgoing) → o.to ≡ to.Node (addr_of c) → b ≢ c → is_out_to b o ≡ false
-word_apart b c o is apart = ap (is_to b) is ∙ grind (arith, nat_tests, apart)
-
-none_for : (n : NodeState) (b : ℕ) (frames : List Outgoing) → neighbour_of n b ≡ None → All (IsRouted n) frames → frames_to b frames ≡ []
-none_for n b [] none routed = refl
-none_for n b (o ∷ os) none routed =
-    let r = All-head (IsRouted n) o os routed in
-    let apart : b ≢ r.peer = λ same. (let there = r.there in let gone : neighbour_of n r.peer ≡ None = ap (neighbour_of n) (sym same) ∙ none in let wrong : false ≡ true = ap is_some (sym gone) ∙ there in cc) in
-    ap (λ t. if t then o ∷ frames_to b os else frames_to b os) (word_apart b r.peer o r.to_is apart) ∙ none_for n b os none (All-tail (IsRouted n) o os routed)
-
-idle : (word : ℕ) (m m' : MemberState) (bytes : List ℕ) (s : NodeStep) (frames : List Outgoing) (b : ℕ) → TakesTurn m m' bytes s frames → neighbour_of m.node b ≡ None → Untold word (history m) (history m') b → IsIdle word m m' frames b
-idle word m m' bytes s frames b t none h =
-    let none' = t.turn.alone b none in
-    let was : pair_in m.node b ≡ None = ap (option_map (λ (y : Neighbour). y.pair)) none in
-    let is : pair_in m'.node b ≡ None = ap (option_map (λ (y : Neighbour). y.pair)) none' in
-    record {
-      boot = t.turn.boot;
-      pair = is ∙ sym was;
-      frames_are = none_for m.node b frames none t.turn.routed;
-      put_is = λ own theirs. ap (λ f. f own theirs) h.put_same;
-      given_is = λ own theirs. ap (λ f. f own theirs) h.given_same;
-      numbered = λ bearer epoch. count_alone m' b bearer epoch (ap (end_on bearer) is) ∙ ap (λ cs. count_in cs b bearer epoch) t.counts
-          ∙ sender_else m (sender_of bytes) t.bearer b bearer epoch (λ _ e link. absurd (let wrong : None ≡ Some e = sym (ap (end_on bearer) was) ∙ link in cc)) ∙ sym (count_alone m b bearer epoch (ap (end_on bearer) was));
-    }
-
--- ---- all pairs
-
--- A neighbour and the node talk on, and each frame for it fits the air.
-pub neighbour_turned : (old new : Stage) (a : ℕ) (m m' : MemberState) (bytes : List ℕ) (s : NodeStep) (frames : List Outgoing) (lost : Bool) → IsSound old.members old.air → Turns old new a m m' frames lost
-    → (turn : TakesTurn m m' bytes s frames) → ComesOut old a s.event bytes → AreBrought m.node m'.node bytes s frames turn.turn → (b : ℕ) (x : Neighbour) → IsNumber b → b ≢ a → PartnersIn old old a b
-    → neighbour_of m.node b ≡ Some x → PartnersIn new old a b × AreFit (frames_to b frames)
-neighbour_turned old new a m m' bytes s frames lost sound t turn out brought b x number apart h is =
-    let n = turn.turn.turns b x is in
+    let put = map (bytes_of m.node.own) p.messages in
+    let given = packets_in (opened_in p.turn.first.given) in
+    let named = (sound.numbered a m t.was).1 in
+    let own : v.node.own ≡ m.node.own = own_word old a b ∙ sym named in
+    let seen = kept_sight old a b m sound (was_there old new a m m' frames lost t) named in
+    let first = (kept_abreast m.node b turn.told).first in
     let longer : history m' ≡ history m ++ step_entries s = turn_history m m' bytes s frames turn in
-    let both = neighbour_pair old new a m m' bytes s frames lost b x sound t number turn out apart is n
-    (subst (λ k. Recorded k (history m) (history m') b n.after.pair (map (bytes_of m.node.own) n.turn.messages) (packets_in (opened_in n.turn.turn.first.given))) (sound.numbered a m t.was).1
-    (turn_records (history m) (history m') m.node.own bytes s frames b x.pair n.after.pair n.turn longer (brought b x is))) h in
-    (both.0, subst AreFit (sym n.turn.frames_are) both.1)
+    let recorded : Recorded (node_word a) (history m) (history m') b y put given =
+    subst (λ k. Recorded k (history m) (history m') b y put given) named (turn_records (history m) (history m') m.node.own bytes s frames b x y p longer (brought b number apart)) in
+    let both = turned_by v (sight_in new a b) w x y p.opening put p.reply p.own_frames seen h
+    (may_happen v w b s.event bytes x p.opening seen p.anew (λ bearer number es er q. out bearer number b es er q) p.suits p.on_one p.brought)
+    p.shows p.shows_last (subst (λ k. All (IsMessage k) put) (sym own) (messages_are m.node.own p.messages p.sendable)) p.turn
+    (goes old new a m m' frames lost b y p.own_frames put given t apart (changed (node_word a) m m' bytes s frames b number first turn recorded)) in
+    (both.0, subst AreFit (sym p.frames_are) both.1)
 
 -- a turn leaves each two nodes paired
 pub turn_pairs : (old new : Stage) (a : ℕ) (m m' : MemberState) (bytes : List ℕ) (s : NodeStep) (frames : List Outgoing) (lost : Bool) → IsSound old.members old.air → Turns old new a m m' frames lost
-    → (turn : TakesTurn m m' bytes s frames) → ComesOut old a s.event bytes → AreBrought m.node m'.node bytes s frames turn.turn → AllPaired new
+    → (turn : TakesTurn m m' bytes s frames) → ComesOut old a s.event bytes → AreBrought a m.node m'.node bytes s frames turn.turn → AllPaired new
 turn_pairs old new a m m' bytes s frames lost sound t turn out brought =
-    all_paired old new a m m' frames lost sound.pairs t (λ b a_is b_is apart h. by b b_is apart h (neighbour_of m.node b) refl)
-  where
-    by : (b : ℕ) → IsNumber b → b ≢ a → PartnersIn old old a b → (o : Option Neighbour) → neighbour_of m.node b ≡ o → PartnersIn new old a b
-    by b b_is apart h None none =
-        let untold = turn_untold (history m) (history m') m.node s b none turn.turn.placed (turn_history m m' bytes s frames turn) in
-        idle_pair old new a m m' frames lost b t
-        (idle (node_word a) m m' bytes s frames b turn none (subst (λ k. Untold k (history m) (history m') b) (sound.numbered a m t.was).1 untold)) h
-    by b b_is apart h (Some x) is = (neighbour_turned old new a m m' bytes s frames lost sound t turn out brought b x b_is apart h is).0
+    all_paired old new a m m' frames lost sound.pairs t (λ b a_is b_is apart h. (turned_with old new a m m' bytes s frames lost sound t turn out brought b b_is apart h).0)

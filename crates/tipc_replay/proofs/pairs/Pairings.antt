@@ -1,11 +1,15 @@
 -- The pair of two nodes, as a world has it and as they see it.
-use Rattle.std.specs.Prelude.{◌||◌, ◌==◌, if◌then◌else◌, option_and_then, unwrap_or}
+use Rattle.std.specs.Prelude.{◌||◌, ◌==◌, if◌then◌else◌, nat_le, option_and_then, option_map, unwrap_or}
 use Rattle.std.proofs.Common.{◌≡◌, ℕ, Bool, true, false, List, Option, Some, None, refl, sym, ap, ◌∙◌}
 use Rattle.tipc_types.specs.Address.{node_word}
 use Rattle.tipc_pair.specs.Facing.{PairEnds, alone, contact_between, facing, in_contact, is_up_at}
 use Rattle.tipc_pair.proofs.Facings.{facing_far, facing_near}
 use Rattle.tipc_paired.specs.Views.{Node}
 use Rattle.tipc_two_nodes.specs.Sights.{pair_seen, told_in}
+use Rattle.tipc_node.specs.declared.neighbours.Neighbour.{Neighbour}
+use Rattle.tipc_node.specs.Nodes.{NodeState, acquaintance, neighbour_of, pair_with}
+use Rattle.tipc_node.specs.Turns.{pair_in}
+use Rattle.tipc_node.proofs.pairs.Strangers.{alone_near}
 use Rattle.tipc_replay.specs.Numbers.{begun_of, end_on, own_in, seen_in}
 use Rattle.tipc_replay.specs.Skies.{AirState}
 use Rattle.tipc_replay.specs.Sound.{IsPairOf}
@@ -58,6 +62,52 @@ seen_is members air a b x there is = ap (pair_from a b (boot_at members a)) ther
 pub seen_alone : (members : List (Option MemberState)) (air : AirState) (a b : ℕ) → pair_at members a b ≡ None → pair_seen (sight_at members air a b) ≡ alone (node_word a) (node_word b) (boot_at members a)
 unfolding sight_at
 seen_alone members air a b none = ap (pair_from a b (boot_at members a)) none
+
+-- ---- what is read of a pair, where there may be none
+
+-- of a stranger it is what a pair has on which nothing happened
+pub own_read : (n : NodeState) (b : ℕ) → own_in n.boot (pair_in n b) ≡ (pair_with n b).contact
+own_read n b = by (neighbour_of n b)
+  where
+    by : (o : Option Neighbour) → own_in n.boot (option_map (λ (x : Neighbour). x.pair) o) ≡ (acquaintance n b o).pair.contact
+    by None = refl
+    by (Some x) = refl
+
+pub seen_read : (n : NodeState) (b : ℕ) → seen_in (pair_in n b) ≡ (pair_with n b).seen
+seen_read n b = by (neighbour_of n b)
+  where
+    by : (o : Option Neighbour) → seen_in (option_map (λ (x : Neighbour). x.pair) o) ≡ (acquaintance n b o).pair.seen
+    by None = refl
+    by (Some x) = refl
+
+pub begun_read : (n : NodeState) (b : ℕ) → begun_of (pair_in n b) ≡ (pair_with n b).begun
+begun_read n b = by (neighbour_of n b)
+  where
+    by : (o : Option Neighbour) → begun_of (option_map (λ (x : Neighbour). x.pair) o) ≡ (acquaintance n b o).pair.begun
+    by None = refl
+    by (Some x) = refl
+
+pub end_read : (n : NodeState) (b bearer : ℕ) → end_on bearer (pair_in n b) ≡ end_on bearer (Some (pair_with n b))
+end_read n b bearer = by (neighbour_of n b)
+  where
+    by : (o : Option Neighbour) → end_on bearer (option_map (λ (x : Neighbour). x.pair) o) ≡ end_on bearer (Some (acquaintance n b o).pair)
+    by None = elim (nat_le bearer 1) as (λ t. None ≡ (if t then (facing bearer (alone n.own (node_word b) n.boot)).near else None)) [ true ↦ sym (alone_near bearer n.own (node_word b) n.boot) | false ↦ refl ]
+    by (Some x) = refl
+
+pub contact_read : (n : NodeState) (b : ℕ) → option_and_then contact_between (pair_in n b) ≡ contact_between (pair_with n b)
+contact_read n b = by (neighbour_of n b)
+  where
+    by : (o : Option Neighbour) → option_and_then contact_between (option_map (λ (x : Neighbour). x.pair) o) ≡ contact_between (acquaintance n b o).pair
+    by None = refl
+    by (Some x) = refl
+
+-- a pair that there is is that one
+pub with_in : (n : NodeState) (b : ℕ) (x : PairEnds) → pair_in n b ≡ Some x → pair_with n b ≡ x
+with_in n b x = by (neighbour_of n b)
+  where
+    by : (o : Option Neighbour) → option_map (λ (y : Neighbour). y.pair) o ≡ Some x → (acquaintance n b o).pair ≡ x
+    by None is = absurd cc
+    by (Some y) is = cc
 
 -- ---- the contact of a frame
 

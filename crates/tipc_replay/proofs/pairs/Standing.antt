@@ -1,15 +1,22 @@
 -- What a sound world says of a node and its neighbours.
-use Rattle.std.proofs.Common.{◌⊎◌, ◌≡◌, ◌≢◌, ℕ, List, Option, Some, None, option_map, slice_index_or, ap, ◌∙◌, inl, inr, arith}
-use Rattle.std.proofs.lemmas.Bool.{cases_lt}
+use Rattle.std.proofs.Common.{◌⊎◌, ◌≡◌, ◌≢◌, ℕ, true, false, List, refl, Option, Some, None, option_map, slice_index_or, sym, ap, ◌∙◌, inl, inr, arith}
+use Rattle.tipc_types.specs.Address.{node_word}
+use Rattle.std.specs.Prelude.{◌<◌, ◌≤◌, ◌==◌, ◌&&◌, is_some, nat_le, nat_lt, not}
+use Rattle.std.proofs.lemmas.Bool.{and_parts, cases_lt}
+use Rattle.std.proofs.lemmas.Bool.Decides.{nat_tests}
 use Rattle.tipc_two_nodes.specs.Sights.{pair_seen}
 use Rattle.tipc_node.specs.declared.neighbours.Neighbour.{Neighbour}
-use Rattle.tipc_node.specs.Nodes.{neighbour_of}
+use Rattle.tipc_outside.specs.declared.outgoing.Outgoing.{Outgoing}
+use Rattle.tipc_journal.specs.Steps.{NodeStep}
+use Rattle.tipc_pair.specs.Facing.{alone}
+use Rattle.tipc_node.specs.Nodes.{NodeState, acquaintance, is_other, neighbour_of, pair_with}
+use Rattle.tipc_node.specs.Turns.{NodeTurn}
 use Rattle.tipc_replay.specs.Skies.{AirState}
 use Rattle.tipc_replay.specs.Sound.{IsNumber, IsPairOf, IsSound}
 use Rattle.tipc_replay.specs.States.{MemberState, member_at, pair_at}
-use Rattle.tipc_replay.specs.Steps.{Stage}
-use Rattle.tipc_replay.proofs.LookUps.{pair_at-is}
-use Rattle.tipc_replay.proofs.pairs.Pairings.{seen_is}
+use Rattle.tipc_replay.specs.Steps.{Stage, stage}
+use Rattle.tipc_replay.proofs.LookUps.{boot_at-is, member_at-is, pair_at-is}
+use Rattle.tipc_replay.proofs.pairs.Pairings.{seen_alone, seen_is}
 use Rattle.tipc_replay.proofs.pairs.Turning.{sight_in}
 
 -- a number is of a node, or it isn't
@@ -34,6 +41,16 @@ pair_between s a b m x sound was is = sound.between a b x.pair (pair_is s a b m 
 pub pair_sight : (s : Stage) (a b : ℕ) (m : MemberState) (x : Neighbour) → IsSound s.members s.air → member_at s.members a ≡ Some m → neighbour_of m.node b ≡ Some x → pair_seen (sight_in s a b) ≡ x.pair
 pair_sight s a b m x sound was is = seen_is s.members s.air a b x.pair (pair_is s a b m (Some x) was is) (pair_between s a b m x sound was is)
 
+-- so is what the node sees of a stranger
+pub kept_sight : (s : Stage) (a b : ℕ) (m : MemberState) → IsSound s.members s.air → member_at s.members a ≡ Some m → m.node.own ≡ node_word a → pair_seen (sight_in s a b) ≡ pair_with m.node b
+kept_sight s a b m sound was own = case (neighbour_of m.node b) refl
+  where
+    case : (o : Option Neighbour) → neighbour_of m.node b ≡ o → pair_seen (sight_in s a b) ≡ (acquaintance m.node b o).pair
+    case None is =
+        let boot = boot_at-is s.members a m was in
+        seen_alone s.members s.air a b (pair_is s a b m None was is) ∙ (λ i. alone (sym own i) (node_word b) (boot i))
+    case (Some y) is = pair_sight s a b m y sound was is
+
 -- ---- all pairs of a node
 
 -- what a node knows are other nodes
@@ -53,3 +70,37 @@ neighbour_apart s a m knows was k x is =
       | inl number ↦ (number, λ same. let none : pair_at s.members a k ≡ None = ap (pair_at s.members a) same ∙ knows.apart in let wrong : ⊥ = cc in wrong)
       | inr other ↦ absurd (let none = knows.only k other in let wrong : ⊥ = cc in wrong)
     ]
+
+pub neighbour_number : (members : List (Option MemberState)) (air : AirState) (a b : ℕ) (m : MemberState) → IsSound members air → slice_index_or members a None ≡ Some m → is_some (neighbour_of m.node b) ≡ true → IsNumber b × (b ≢ a)
+neighbour_number members air a b m sound was there = case (neighbour_of m.node b) refl
+  where
+    case : (o : Option Neighbour) → neighbour_of m.node b ≡ o → IsNumber b × (b ≢ a)
+    case None alone = absurd (let wrong : true ≡ false = sym there ∙ ap is_some alone in cc)
+    case (Some x) is = neighbour_apart (stage members air) a m (acquainted members air a m sound was) (member_at-is members a m was) b x is
+
+-- one of the 32 nodes that isn't node a
+pub other_number : (a b : ℕ) → is_other (node_word a) (node_word b) ≡ true → IsNumber b × (b ≢ a)
+unfolding is_other
+other_number a b is =
+    let first = and_parts (nat_lt (node_word 0) (node_word b)) (nat_le (node_word b) (node_word 32) && not (node_word b == node_word a)) is in
+    let second = and_parts (nat_le (node_word b) (node_word 32)) (not (node_word b == node_word a)) first.1 in
+    let above : nat_lt (node_word 0) (node_word b) ≡ true = first.0 in
+    let below : nat_le (node_word b) (node_word 32) ≡ true = second.0 in
+    let low : node_word 0 < node_word b = grind (arith, nat_tests, above) in
+    let high : node_word b ≤ node_word 32 = grind (arith, nat_tests, below) in
+    ((omega (arith, low), omega (arith, high)), λ same. absurd (let wrong : not (node_word a == node_word a) ≡ true = ap (λ k. not (node_word k == node_word a)) (sym same) ∙ second.1 in isnt a wrong))
+  where
+    isnt : (k : ℕ) → not (node_word k == node_word k) ≡ true → ⊥
+    isnt k wrong = (let itself : (node_word k == node_word k) ≡ true = grind (arith, nat_tests) in let no : false ≡ true = ap not (sym itself) ∙ wrong in cc)
+
+-- also after a turn
+pub after_number : (members : List (Option MemberState)) (air : AirState) (a b : ℕ) (m : MemberState) (n' : NodeState) (bytes : List ℕ) (s : NodeStep) (frames : List Outgoing) → IsSound members air → slice_index_or members a None ≡ Some m
+    → NodeTurn m.node n' bytes s frames → is_some (neighbour_of n' b) ≡ true → IsNumber b × (b ≢ a)
+after_number members air a b m n' bytes s frames sound was t there = case (neighbour_of m.node b) refl
+  where
+    case : (o : Option Neighbour) → neighbour_of m.node b ≡ o → IsNumber b × (b ≢ a)
+    case None none = elim (t.stays b none) [
+      | inl alone ↦ absurd (let wrong : true ≡ false = sym there ∙ ap is_some alone in cc)
+      | inr made ↦ other_number a b (ap (λ own. is_other own (node_word b)) (sym (sound.numbered a m was).1) ∙ made.1)
+    ]
+    case (Some x) is = neighbour_number members air a b m sound was (ap is_some is)

@@ -6,18 +6,20 @@ use Rattle.std.proofs.lemmas.Bool.Decides.{nat_tests}
 use Rattle.tipc_types.specs.Address.{node_word}
 use Rattle.tipc_outside.specs.declared.outgoing.Outgoing.{Outgoing}
 use Rattle.tipc_pair.specs.Facing.{PairEnds, facing}
-use Rattle.tipc_two_nodes.specs.Sights.{AreSeen, Goes, HasSession, IsSent, Sight, come}
+use Rattle.tipc_two_nodes.specs.Sights.{AreSeen, PairBecomes, HasSession, IsSent, Sight, come}
 use Rattle.tipc_two_nodes.proofs.sights.Sights.{turned}
 use Rattle.tipc_replay.specs.Sound.{IsNumber}
+use Rattle.tipc_node.specs.Nodes.{pair_with}
 use Rattle.tipc_node.specs.Turns.{frames_to, pair_in}
 use Rattle.tipc_replay.specs.States.{MemberState, boot_at, contact_at, count_at, count_of, history, history_at, link_in, member_at, pair_at}
 use Rattle.tipc_replay.specs.Steps.{Stage, Turns}
 use Rattle.tipc_replay.specs.Skies.{AirState}
-use Rattle.tipc_replay.specs.Views.{given_in, node_from, put_in, sight_at, sight_from}
+use Rattle.tipc_replay.specs.Views.{given_in, put_in, sight_at, sight_from}
 use Rattle.tipc_replay.specs.Air.{sent_between}
 use Rattle.tipc_replay.proofs.frames.Emissions.{none_sent, sent_adds, sent_same}
 use Rattle.tipc_replay.specs.Numbers.{begun_of, end_on, own_in, seen_in}
 use Rattle.tipc_replay.proofs.pairs.Counts.{count_here}
+use Rattle.tipc_replay.proofs.pairs.Pairings.{begun_read, end_read, own_read, seen_read}
 use Rattle.tipc_replay.proofs.LookUps.{boot_at-is, boot_at-same, count_at-is, count_at-same, history_at-is, history_at-same, member_at-changed, member_at-is, member_at-other, pair_at-is, pair_at-same}
 
 -- two nodes of a stage as a pair
@@ -68,7 +70,7 @@ come_in contact seen more own theirs = if (own == contact) && (theirs == seen) t
 -- contact.
 pub record IsChanged (word : ℕ) (before after : MemberState) (frames : List Outgoing) (b : ℕ) (x : PairEnds) (fs : List Outgoing) (put given : List (List ℕ)) : Type 0 where
   pub boot : after.node.boot ≡ before.node.boot
-  pub pair : pair_in after.node b ≡ Some x
+  pub pair : pair_with after.node b ≡ x
   pub first : (y : PairEnds) → pair_in before.node b ≡ Some y → y.bearer ≡ 0
   pub frames_are : frames_to b frames ≡ fs
   pub put_is : (own theirs : ℕ) → put_in word (history after) b own theirs ≡ put_in word (history before) b own theirs ++ come_in x.contact x.seen put own theirs
@@ -97,36 +99,41 @@ given_was old new a before after frames lost b more t is own theirs =
     ap (λ es. given_in es b own theirs) (history_at-is new.members a after (is_there old new a before after frames lost t)) ∙ is own theirs
     ∙ ap (λ es. given_in es b own theirs ++ more own theirs) (sym (history_at-is old.members a before (was_there old new a before after frames lost t)))
 
--- the contact numbers of a node that has a pair are those of the pair
-come_by : (members : List (Option MemberState)) (air : AirState) (a b : ℕ) (x : PairEnds) (more : List (List ℕ)) (own theirs : ℕ) → pair_at members a b ≡ Some x → come_in x.contact x.seen more own theirs ≡ come (sight_at members air a b) more own theirs
+-- the contact numbers of a node are those of its pair
+come_by : (members : List (Option MemberState)) (air : AirState) (a b : ℕ) (x : PairEnds) (more : List (List ℕ)) (own theirs : ℕ) → own_in (boot_at members a) (pair_at members a b) ≡ x.contact → seen_in (pair_at members a b) ≡ x.seen
+    → come_in x.contact x.seen more own theirs ≡ come (sight_at members air a b) more own theirs
 unfolding sight_at
-come_by members air a b x more own theirs pair =
-    sym (ap (λ o. come_in (own_in (boot_at members a) o) (seen_in o) more own theirs) pair)
+come_by members air a b x more own theirs contact seen =
+    ap (λ k. come_in k x.seen more own theirs) (sym contact) ∙ ap (λ k. come_in (own_in (boot_at members a) (pair_at members a b)) k more own theirs) (sym seen)
 
 no_third : (x : PairEnds) (bearer : ℕ) → 1 < bearer → end_on bearer (Some x) ≡ None
 no_third x bearer high = let past : nat_le bearer 1 ≡ false = grind (arith, nat_tests) in ap (λ t. if t then (facing bearer x).near else None) past
 
 pub goes : (old new : Stage) (a : ℕ) (before after : MemberState) (frames : List Outgoing) (lost : Bool) (b : ℕ) (x : PairEnds) (fs : List Outgoing) (put given : List (List ℕ))
     → Turns old new a before after frames lost → b ≢ a → IsChanged (node_word a) before after frames b x fs put given
-    → Goes (sight_in old a b) (sight_in new a b) (sight_in old b a) x fs put given
+    → PairBecomes (sight_in old a b) (sight_in new a b) (sight_in old b a) x fs put given
 unfolding sight_at
 goes old new a before after frames lost b x fs put given t apart c =
     let was = was_there old new a before after frames lost t in
     let is = is_there old new a before after frames lost t in
-    let boot = boot_at-is new.members a after is ∙ c.boot ∙ sym (boot_at-is old.members a before was) in
-    let pair = pair_at-is new.members a b after is ∙ c.pair in
+    let present = boot_at-is new.members a after is in
+    let boot = present ∙ c.boot ∙ sym (boot_at-is old.members a before was) in
+    let pair = pair_at-is new.members a b after is in
+    let contact : own_in (boot_at new.members a) (pair_at new.members a b) ≡ x.contact = (λ i. own_in (present i) (pair i)) ∙ own_read after.node b ∙ ap (λ (y : PairEnds). y.contact) c.pair in
+    let seen : seen_in (pair_at new.members a b) ≡ x.seen = ap seen_in pair ∙ seen_read after.node b ∙ ap (λ (y : PairEnds). y.seen) c.pair in
+    let ends : (bearer : ℕ) → end_on bearer (pair_at new.members a b) ≡ end_on bearer (Some x) = λ bearer. ap (end_on bearer) pair ∙ end_read after.node b bearer ∙ ap (λ (y : PairEnds). end_on bearer (Some y)) c.pair in
     let other = sights_apart old new a before after frames lost t b a apart in
     let first : (y : PairEnds) → pair_at old.members a b ≡ Some y → y.bearer ≡ 0 = λ y there. c.first y (sym (pair_at-is old.members a b before was) ∙ there) in
     record {
-      node = λ i. node_from a b (boot i) (pair i);
-      first = ap (end_on 0) pair;
-      second = ap (end_on 1) pair;
-      alone = λ bearer high. ap (end_on bearer) pair ∙ no_third x bearer high;
+      node = λ i. record { own = node_word a; peer = node_word b; boot = boot i; contact = contact i; seen = seen i };
+      first = ends 0;
+      second = ends 1;
+      alone = λ bearer high. ends bearer ∙ no_third x bearer high;
       put_is = λ own theirs. put_was old new a before after frames lost b (come_in x.contact x.seen put) t c.put_is own theirs
-          ∙ ap (λ ps. put_in (node_word a) (history_at old.members a) b own theirs ++ ps) (come_by new.members new.air a b x put own theirs pair);
+          ∙ ap (λ ps. put_in (node_word a) (history_at old.members a) b own theirs ++ ps) (come_by new.members new.air a b x put own theirs contact seen);
       given_is = λ own theirs. given_was old new a before after frames lost b (come_in x.contact x.seen given) t c.given_is own theirs
-          ∙ ap (λ ps. given_in (history_at old.members a) b own theirs ++ ps) (come_by new.members new.air a b x given own theirs pair);
-      partial_is = ap begun_of pair;
+          ∙ ap (λ ps. given_in (history_at old.members a) b own theirs ++ ps) (come_by new.members new.air a b x given own theirs contact seen);
+      partial_is = ap begun_of pair ∙ begun_read after.node b ∙ ap (λ (y : PairEnds). y.begun) c.pair;
       numbered_now = λ bearer e s there has. count_at-is new.members a b bearer s.epoch after is
           ∙ count_here after b bearer e s (ap (end_on bearer) (sym (pair_at-is new.members a b after is)) ∙ there) has;
       numbered_else = λ bearer epoch none. count_at-is new.members a b bearer epoch after is

@@ -1,10 +1,10 @@
 -- The history of a node, and what a step adds to what was ever accepted and delivered at it.
-use Rattle.std.specs.List.{cons_option, filter, filter_map, flat_map}
+use Rattle.std.specs.List.{All, cons_option, filter, filter_map, flat_map}
 use Rattle.std.proofs.Common.{◌≡◌, ◌==◌, ◌&&◌, ℕ, Bool, true, false, if◌then◌else◌, List, [], ◌∷◌, ◌++◌, Option, Some, None, map, refl, sym, ap, ◌∙◌, append-nil, append_assoc, arith}
 use Rattle.std.specs.Prelude.{option_to_list}
 use Rattle.std.proofs.lemmas.Bool.Decides.{nat_tests}
 use Rattle.std.proofs.lemmas.List.Concat.{flat_map-append}
-use Rattle.std.proofs.lemmas.List.Elements.{filter_map-append}
+use Rattle.std.proofs.lemmas.List.Elements.{All-head, All-tail, filter_map-append}
 use Rattle.tipc_types.specs.Address.{node_word}
 use Rattle.tipc_types.specs.declared.message_forms.Flow.{Flow}
 use Rattle.tipc_types.specs.declared.message_forms.Flow.TheVariants.{Zero, One, Broadcast}
@@ -12,7 +12,7 @@ use Rattle.tipc_types.specs.declared.message_forms.Message.{Message}
 use Rattle.tipc_journal.specs.declared.entries.Entry.{Entry}
 use Rattle.tipc_journal.specs.declared.entries.Entry.TheVariants as entry
 use Rattle.tipc_journal.specs.Steps.{NodeStep, step_entries}
-use Rattle.tipc_journal.specs.Streams.{accepted, accepted_message, delivered, delivered_message, flow_eq, stream_eq}
+use Rattle.tipc_journal.specs.Streams.{Stream, accepted, accepted_message, delivered, delivered_message, flow_eq, stream_eq}
 use Rattle.tipc_journal.proofs.StreamLaws.{accepted_step, delivered_step}
 use Rattle.tipc_reassembly.specs.declared.opening.Opened.{Opened}
 use Rattle.tipc_reassembly.specs.declared.opening.Opened.TheVariants.{Whole, Passed}
@@ -96,28 +96,39 @@ filter_map_filtered {X} {Y} h p (x ∷ xs) none = case (filter_map_filtered h p 
     case rest true is = ap (λ ys. cons_option (h x) ys) rest
     case rest false is = rest ∙ ap (λ o. cons_option o (filter_map h xs)) (sym (none x is))
 
-other_peer : (word other : ℕ) (c d : ℕ × ℕ) (flow flow' : Flow) → (word == other) ≡ false
+none_of : (a b c d : Bool) → (a && d) ≡ false → (a && (b && (c && d))) ≡ false
+none_of false b c d is = refl
+none_of true false c d is = refl
+none_of true true false d is = refl
+none_of true true true d is = is
+
+other_stream : (word other : ℕ) (c d : ℕ × ℕ) (flow : Flow) → ((word == other) && flow_eq flow Zero) ≡ false
+    → stream_eq (record { peer = record { word = word }; contact = c; flow = flow }) (record { peer = record { word = other }; contact = d; flow = Zero }) ≡ false
+unfolding stream_eq
+other_stream word other c d flow apart = none_of (word == other) (c.0 == d.0) (c.1 == d.1) (flow_eq flow Zero) apart
+
+pub other_peer : (word other : ℕ) (c d : ℕ × ℕ) (flow flow' : Flow) → (word == other) ≡ false
     → stream_eq (record { peer = record { word = word }; contact = c; flow = flow }) (record { peer = record { word = other }; contact = d; flow = flow' }) ≡ false
 unfolding stream_eq
 other_peer word other c d flow flow' apart = ap (λ t. t && ((c.0 == d.0) && ((c.1 == d.1) && flow_eq flow flow'))) apart
 
-accepted_elsewhere : (b own theirs : ℕ) (flow : Flow) (e : Entry) → is_accepted_for b e ≡ false → accepted_message (stream_of b own theirs flow) e ≡ None
-accepted_elsewhere b own theirs flow (entry.Accepted peer numbers flow' message) apart =
-    ap (λ t. if t then Some message else None) (other_peer peer.word (node_word b) numbers (own, theirs) flow' flow apart)
-accepted_elsewhere b own theirs flow other apart = refl
+accepted_elsewhere : (b own theirs : ℕ) (e : Entry) → is_accepted_for b e ≡ false → accepted_message (stream_of b own theirs Zero) e ≡ None
+accepted_elsewhere b own theirs (entry.Accepted peer numbers flow message) apart =
+    ap (λ t. if t then Some message else None) (other_stream peer.word (node_word b) numbers (own, theirs) flow apart)
+accepted_elsewhere b own theirs other apart = refl
 
-delivered_elsewhere : (b own theirs : ℕ) (flow : Flow) (e : Entry) → is_delivered_from b e ≡ false → delivered_message (stream_of b own theirs flow) e ≡ None
-delivered_elsewhere b own theirs flow (entry.Delivered peer numbers flow' message by) apart =
-    ap (λ t. if t then Some message else None) (other_peer peer.word (node_word b) numbers (own, theirs) flow' flow apart)
-delivered_elsewhere b own theirs flow other apart = refl
+delivered_elsewhere : (b own theirs : ℕ) (e : Entry) → is_delivered_from b e ≡ false → delivered_message (stream_of b own theirs Zero) e ≡ None
+delivered_elsewhere b own theirs (entry.Delivered peer numbers flow message by) apart =
+    ap (λ t. if t then Some message else None) (other_stream peer.word (node_word b) numbers (own, theirs) flow apart)
+delivered_elsewhere b own theirs other apart = refl
 
-accepted_here : (b own theirs : ℕ) (flow : Flow) (entries : List Entry) → accepted (filter (is_accepted_for b) entries) (stream_of b own theirs flow) ≡ accepted entries (stream_of b own theirs flow)
+accepted_here : (b own theirs : ℕ) (entries : List Entry) → accepted (filter (is_accepted_for b) entries) (stream_of b own theirs Zero) ≡ accepted entries (stream_of b own theirs Zero)
 unfolding accepted
-accepted_here b own theirs flow entries = filter_map_filtered (accepted_message (stream_of b own theirs flow)) (is_accepted_for b) entries (accepted_elsewhere b own theirs flow)
+accepted_here b own theirs entries = filter_map_filtered (accepted_message (stream_of b own theirs Zero)) (is_accepted_for b) entries (accepted_elsewhere b own theirs)
 
-delivered_here : (b own theirs : ℕ) (flow : Flow) (entries : List Entry) → delivered (filter (is_delivered_from b) entries) (stream_of b own theirs flow) ≡ delivered entries (stream_of b own theirs flow)
+delivered_here : (b own theirs : ℕ) (entries : List Entry) → delivered (filter (is_delivered_from b) entries) (stream_of b own theirs Zero) ≡ delivered entries (stream_of b own theirs Zero)
 unfolding delivered
-delivered_here b own theirs flow entries = filter_map_filtered (delivered_message (stream_of b own theirs flow)) (is_delivered_from b) entries (delivered_elsewhere b own theirs flow)
+delivered_here b own theirs entries = filter_map_filtered (delivered_message (stream_of b own theirs Zero)) (is_delivered_from b) entries (delivered_elsewhere b own theirs)
 
 -- ---- what a peer's entries hold
 
@@ -134,11 +145,11 @@ either_way true ms = refl
 either_way false ms = refl
 
 -- those of messages that were put on the link to a peer
-pub accepted_holds : (b : ℕ) (x : PairEnds) (ms : List Message) (own theirs : ℕ) (flow : Flow) → accepted (map (accepted_entry b x) ms) (stream_of b own theirs flow) ≡ come_to x.contact x.seen ms own theirs flow
+pub accepted_holds : (b : ℕ) (x : PairEnds) (ms : List Message) (own theirs : ℕ) (flow : Flow) → accepted (map (accepted_entry Zero b x) ms) (stream_of b own theirs flow) ≡ come_to x.contact x.seen ms own theirs flow
 unfolding accepted
 accepted_holds b x [] own theirs flow = sym (either_way (flow_eq flow Zero && ((own == x.contact) && (theirs == x.seen))) [])
 accepted_holds b x (m ∷ ms) own theirs flow =
-    ap (λ xs. cons_option (accepted_message (stream_of b own theirs flow) (accepted_entry b x m)) xs) (accepted_holds b x ms own theirs flow)
+    ap (λ xs. cons_option (accepted_message (stream_of b own theirs flow) (accepted_entry Zero b x m)) xs) (accepted_holds b x ms own theirs flow)
     ∙ ap (λ t. cons_option (if t then Some m else None) (come_to x.contact x.seen ms own theirs flow)) (stream_test b x.contact x.seen own theirs flow)
     ∙ come_more (flow_eq flow Zero && ((own == x.contact) && (theirs == x.seen))) m ms
 
@@ -156,43 +167,73 @@ come_front true o ms = refl
 come_front false o ms = refl
 
 one_message : (b : ℕ) (x : PairEnds) (o : Option Message) (by : List ℕ) (own theirs : ℕ) (flow : Flow)
-    → filter_map (delivered_message (stream_of b own theirs flow)) (delivery_of b (shown_contact x) o by) ≡ come_to x.contact x.seen (option_to_list o) own theirs flow
+    → filter_map (delivered_message (stream_of b own theirs flow)) (delivery_of Zero b (shown_contact x) o by) ≡ come_to x.contact x.seen (option_to_list o) own theirs flow
 one_message b x (Some m) by own theirs flow =
     ap (λ t. cons_option (if t then Some m else None) []) (stream_test b x.contact x.seen own theirs flow) ∙ chosen (flow_eq flow Zero && ((own == x.contact) && (theirs == x.seen))) m
 one_message b x None by own theirs flow = sym (either_way (flow_eq flow Zero && ((own == x.contact) && (theirs == x.seen))) [])
 
 one_given : (b : ℕ) (x : PairEnds) (o : Opened) (own theirs : ℕ) (flow : Flow)
-    → filter_map (delivered_message (stream_of b own theirs flow)) (delivered_of b (shown_contact x) o) ≡ come_to x.contact x.seen (option_to_list (message_given o)) own theirs flow
+    → filter_map (delivered_message (stream_of b own theirs flow)) (delivered_of Zero b (shown_contact x) o) ≡ come_to x.contact x.seen (option_to_list (message_given o)) own theirs flow
 one_given b x (Whole packet by) own theirs flow = one_message b x (message_in packet) by own theirs flow
 one_given b x (Passed place) own theirs flow = sym (either_way (flow_eq flow Zero && ((own == x.contact) && (theirs == x.seen))) [])
 
 all_given : (b : ℕ) (x : PairEnds) (opened : List Opened) (own theirs : ℕ) (flow : Flow)
-    → filter_map (delivered_message (stream_of b own theirs flow)) (flat_map (delivered_of b (shown_contact x)) opened) ≡ come_to x.contact x.seen (messages_given opened) own theirs flow
+    → filter_map (delivered_message (stream_of b own theirs flow)) (flat_map (delivered_of Zero b (shown_contact x)) opened) ≡ come_to x.contact x.seen (messages_given opened) own theirs flow
 all_given b x [] own theirs flow = sym (either_way (flow_eq flow Zero && ((own == x.contact) && (theirs == x.seen))) [])
 all_given b x (o ∷ os) own theirs flow =
     let h = delivered_message (stream_of b own theirs flow) in
-    filter_map-append h (delivered_of b (shown_contact x) o) (flat_map (delivered_of b (shown_contact x)) os)
-    ∙ ap (λ xs. xs ++ filter_map h (flat_map (delivered_of b (shown_contact x)) os)) (one_given b x o own theirs flow)
+    filter_map-append h (delivered_of Zero b (shown_contact x) o) (flat_map (delivered_of Zero b (shown_contact x)) os)
+    ∙ ap (λ xs. xs ++ filter_map h (flat_map (delivered_of Zero b (shown_contact x)) os)) (one_given b x o own theirs flow)
     ∙ ap (λ xs. come_to x.contact x.seen (option_to_list (message_given o)) own theirs flow ++ xs) (all_given b x os own theirs flow)
     ∙ come_front (flow_eq flow Zero && ((own == x.contact) && (theirs == x.seen))) (message_given o) (messages_given os)
 
 -- those of what a peer gave
 pub given_holds : (b : ℕ) (x : PairEnds) (given : PairOutcome) (own theirs : ℕ) (flow : Flow)
-    → delivered (given_entries b x given) (stream_of b own theirs flow) ≡ come_to x.contact x.seen (messages_given (opened_in given)) own theirs flow
+    → delivered (given_entries Zero b x given) (stream_of b own theirs flow) ≡ come_to x.contact x.seen (messages_given (opened_in given)) own theirs flow
 unfolding delivered
 given_holds b x given own theirs flow = all_given b x (opened_in given) own theirs flow
 
 -- ---- a step
 
--- what a step adds to the streams of a peer, where these entries of it are of the peer
-pub accepted_grows : (old new : List Entry) (s : NodeStep) (b : ℕ) (es : List Entry) (own theirs : ℕ) (flow : Flow) → new ≡ old ++ step_entries s → filter (is_accepted_for b) s.inside ≡ es
-    → accepted new (stream_of b own theirs flow) ≡ accepted old (stream_of b own theirs flow) ++ accepted es (stream_of b own theirs flow)
-accepted_grows old new s b es own theirs flow is of_peer =
-    let x = stream_of b own theirs flow in
-    ap (λ l. accepted l x) is ∙ accepted_step old s x ∙ ap (λ ms. accepted old x ++ ms) (sym (accepted_here b own theirs flow s.inside) ∙ ap (λ l. accepted l x) of_peer)
+-- what a step adds to the streams of flow Zero of a peer, where these entries of it are of the peer
+pub accepted_grows : (old new : List Entry) (s : NodeStep) (b : ℕ) (es : List Entry) (own theirs : ℕ) → new ≡ old ++ step_entries s → filter (is_accepted_for b) s.inside ≡ es
+    → accepted new (stream_of b own theirs Zero) ≡ accepted old (stream_of b own theirs Zero) ++ accepted es (stream_of b own theirs Zero)
+accepted_grows old new s b es own theirs is of_peer =
+    let x = stream_of b own theirs Zero in
+    ap (λ l. accepted l x) is ∙ accepted_step old s x ∙ ap (λ ms. accepted old x ++ ms) (sym (accepted_here b own theirs s.inside) ∙ ap (λ l. accepted l x) of_peer)
 
-pub delivered_grows : (old new : List Entry) (s : NodeStep) (b : ℕ) (es : List Entry) (own theirs : ℕ) (flow : Flow) → new ≡ old ++ step_entries s → filter (is_delivered_from b) s.inside ≡ es
-    → delivered new (stream_of b own theirs flow) ≡ delivered old (stream_of b own theirs flow) ++ delivered es (stream_of b own theirs flow)
-delivered_grows old new s b es own theirs flow is of_peer =
-    let x = stream_of b own theirs flow in
-    ap (λ l. delivered l x) is ∙ delivered_step old s x ∙ ap (λ ms. delivered old x ++ ms) (sym (delivered_here b own theirs flow s.inside) ∙ ap (λ l. delivered l x) of_peer)
+pub delivered_grows : (old new : List Entry) (s : NodeStep) (b : ℕ) (es : List Entry) (own theirs : ℕ) → new ≡ old ++ step_entries s → filter (is_delivered_from b) s.inside ≡ es
+    → delivered new (stream_of b own theirs Zero) ≡ delivered old (stream_of b own theirs Zero) ++ delivered es (stream_of b own theirs Zero)
+delivered_grows old new s b es own theirs is of_peer =
+    let x = stream_of b own theirs Zero in
+    ap (λ l. delivered l x) is ∙ delivered_step old s x ∙ ap (λ ms. delivered old x ++ ms) (sym (delivered_here b own theirs s.inside) ∙ ap (λ l. delivered l x) of_peer)
+
+-- nothing is taken of a list of which nothing is taken of each
+nothing_taken : {X Y : Type 0} (h : X → Option Y) (P : X → Type 0) (xs : List X) → ((x : X) → P x → h x ≡ None) → All P xs → filter_map h xs ≡ []
+nothing_taken h P [] none all = refl
+nothing_taken h P (x ∷ xs) none all = ap (λ o. cons_option o (filter_map h xs)) (none x (All-head P x xs all)) ∙ nothing_taken h P xs none (All-tail P x xs all)
+
+-- a step adds nothing to a stream of which none of its entries is
+pub accepted_stays : (old new : List Entry) (s : NodeStep) (x : Stream) (P : Entry → Type 0) → new ≡ old ++ step_entries s → ((e : Entry) → P e → accepted_message x e ≡ None) → All P s.inside → accepted new x ≡ accepted old x
+unfolding accepted
+accepted_stays old new s x P is none all =
+    ap (λ l. accepted l x) is ∙ accepted_step old s x ∙ ap (λ ms. accepted old x ++ ms) (nothing_taken (accepted_message x) P s.inside none all) ∙ append-nil (accepted old x)
+
+pub delivered_stays : (old new : List Entry) (s : NodeStep) (x : Stream) (P : Entry → Type 0) → new ≡ old ++ step_entries s → ((e : Entry) → P e → delivered_message x e ≡ None) → All P s.inside → delivered new x ≡ delivered old x
+unfolding delivered
+delivered_stays old new s x P is none all =
+    ap (λ l. delivered l x) is ∙ delivered_step old s x ∙ ap (λ ms. delivered old x ++ ms) (nothing_taken (delivered_message x) P s.inside none all) ∙ append-nil (delivered old x)
+
+-- a stream of another flow than Zero has no message of flow Zero
+pub zero_apart : (word other : ℕ) (c d : ℕ × ℕ) (flow' flow : Flow) → flow' ≡ Zero → flow_eq flow Zero ≡ false
+    → stream_eq (record { peer = record { word = word }; contact = c; flow = flow' }) (record { peer = record { word = other }; contact = d; flow = flow }) ≡ false
+unfolding stream_eq
+zero_apart word other c d flow' flow zero apart =
+    ap (λ f. (word == other) && ((c.0 == d.0) && ((c.1 == d.1) && flow_eq f flow))) zero
+    ∙ ap (λ t. (word == other) && ((c.0 == d.0) && ((c.1 == d.1) && t))) (flows_turned flow ∙ apart) ∙ no_way (word == other) (c.0 == d.0) (c.1 == d.1)
+  where
+    no_way : (p q r : Bool) → (p && (q && (r && false))) ≡ false
+    no_way false q r = refl
+    no_way true false r = refl
+    no_way true true false = refl
+    no_way true true true = refl

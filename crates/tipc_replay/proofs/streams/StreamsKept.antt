@@ -1,6 +1,6 @@
 -- What a sound world says of the messages that were accepted and delivered, after each event.
 use Rattle.std.specs.Prelude.{is_some}
-use Rattle.std.proofs.Common.{◌≡◌, ◌≢◌, ◌⊎◌, ℕ, true, false, List, [], ◌++◌, Option, Some, None, inl, inr, slice_index_or, slice_set, refl, sym, ap, subst, ◌∙◌}
+use Rattle.std.proofs.Common.{◌≡◌, ◌≢◌, ◌⊎◌, ℕ, true, List, [], ◌++◌, Option, Some, None, inl, inr, slice_index_or, slice_set, sym, ap, subst, ◌∙◌}
 use Rattle.std.proofs.lemmas.Bool.{cases_eq}
 use Rattle.tipc_types.specs.Address.{node_word}
 use Rattle.tipc_types.specs.declared.message_forms.Flow.{Flow}
@@ -9,17 +9,15 @@ use Rattle.tipc_outside.specs.declared.outgoing.Outgoing.{Outgoing}
 use Rattle.tipc_journal.specs.Steps.{NodeStep, step_entries}
 use Rattle.tipc_journal.specs.Streams.{accepted, delivered}
 use Rattle.tipc_link.proofs.LinkLaw.{Each, Each-append}
-use Rattle.tipc_node.specs.declared.neighbours.Neighbour.{Neighbour}
 use Rattle.tipc_node.specs.Nodes.{neighbour_of}
 use Rattle.tipc_node.specs.Messages.{IsSendable}
 use Rattle.tipc_node.specs.Turns.{NodeTurn}
 use Rattle.tipc_replay.specs.Skies.{AirState}
 use Rattle.tipc_replay.specs.Sound.{IsNumber, IsSound}
 use Rattle.tipc_replay.specs.States.{MemberState, accepted_at, delivered_at, history, history_at, stream_of}
-use Rattle.tipc_replay.specs.Steps.{stage}
 use Rattle.tipc_replay.proofs.LookUps.{history_at-is, history_at-same, member_at-changed, member_at-is, member_at-other}
-use Rattle.tipc_replay.proofs.pairs.Standing.{acquainted, neighbour_apart}
-use Rattle.tipc_replay.proofs.streams.TurnStreams.{AreBrought, turn_accepts, turn_delivers}
+use Rattle.tipc_replay.proofs.pairs.Standing.{neighbour_number}
+use Rattle.tipc_replay.proofs.streams.TurnStreams.{AreBrought, Gains, turn_accepts, turn_delivers}
 
 -- what a sound world says of messages
 pub record StreamsSound (members : List (Option MemberState)) : Type 0 where
@@ -107,22 +105,12 @@ streams_same members members' a m m' h was is same =
 
 -- ---- a turn
 
--- a neighbour of a node of a sound world is another node, and has a number
-neighbour_number : (members : List (Option MemberState)) (air : AirState) (a b : ℕ) (m : MemberState) → IsSound members air → slice_index_or members a None ≡ Some m → is_some (neighbour_of m.node b) ≡ true → IsNumber b × (a ≢ b)
-neighbour_number members air a b m sound was there = case (neighbour_of m.node b) refl
-  where
-    case : (o : Option Neighbour) → neighbour_of m.node b ≡ o → IsNumber b × (a ≢ b)
-    case None alone = absurd (let wrong : true ≡ false = sym there ∙ ap is_some alone in cc)
-    case (Some x) is =
-        let other = neighbour_apart (stage members air) a m (acquainted members air a m sound was) (member_at-is members a m was) b x is in
-        (other.0, λ same. other.1 (sym same))
-
 gained : {A : Type 0} (old new more : List A) → new ≡ old ++ more → old ≡ [] → more ≡ [] → new ≡ []
 gained old new more is none nothing = is ∙ ap (λ xs. xs ++ more) none ∙ nothing
 
 -- a stream of the node that took the turn
 turned_stream : (members members' : List (Option MemberState)) (air : AirState) (a : ℕ) (m m' : MemberState) (bytes : List ℕ) (s : NodeStep) (frames : List Outgoing) (b own theirs : ℕ) → IsSound members air → slice_index_or members a None ≡ Some m
-    → Changed members members' a m m' → history m' ≡ history m ++ step_entries s → (t : NodeTurn m.node m'.node bytes s frames) → AreBrought m.node m'.node bytes s frames t → OneStream members' a b own theirs
+    → Changed members members' a m m' → history m' ≡ history m ++ step_entries s → (t : NodeTurn m.node m'.node bytes s frames) → AreBrought a m.node m'.node bytes s frames t → OneStream members' a b own theirs
 turned_stream members members' air a m m' bytes s frames b own theirs sound was c longer t brings =
     let h = streams_of members air sound in
     let old_accepted : (flow : Flow) → accepted (history m) (stream_of b own theirs flow) ≡ accepted_at members a b own theirs flow = λ flow. sym (accepted_in members a b own theirs flow m c.was) in
@@ -130,7 +118,7 @@ turned_stream members members' air a m m' bytes s frames b own theirs sound was 
     let new_accepted = λ (flow : Flow). accepted_in members' a b own theirs flow m' c.is in
     let new_delivered = λ (flow : Flow). delivered_in members' a b own theirs flow m' c.is in
     let accepts = λ (flow : Flow). turn_accepts (history m) (history m') m.node m'.node bytes s frames b own theirs flow t longer in
-    let delivers = λ (flow : Flow). turn_delivers (history m) (history m') m.node m'.node bytes s frames b own theirs flow t brings longer in
+    let delivers = λ (flow : Flow). (turn_delivers (history m) (history m') a m.node m'.node bytes s frames b own theirs flow t brings other longer).0 in
     let named = (sound.numbered a m was).1 in
     let has : Each (IsSendable m.node.own) (accepted (history m) (stream_of b own theirs Zero)) = subst (λ k. Each (IsSendable k) (accepted (history m) (stream_of b own theirs Zero))) (sym named) (subst (Each (IsSendable (node_word a))) (sym (old_accepted Zero)) (h.accepted a b own theirs)) in
     record {
@@ -142,18 +130,21 @@ turned_stream members members' air a m m' bytes s frames b own theirs sound was 
           (subst (Each (IsSendable m.node.own)) (sym (accepts Zero).is) (Each-append (IsSendable m.node.own) (accepted (history m) (stream_of b own theirs Zero)) (accepts Zero).more has (accepts Zero).all)));
       delivered = subst (Each (IsSendable (node_word b))) (sym (new_delivered Zero ∙ (delivers Zero).is))
           (Each-append (IsSendable (node_word b)) (delivered (history m) (stream_of b own theirs Zero)) (delivers Zero).more (subst (Each (IsSendable (node_word b))) (sym (old_delivered Zero)) (h.delivered a b own theirs)) (delivers Zero).all);
-      nothing = λ some. by (delivers Zero).known some;
+      nothing = λ some. by (turn_delivers (history m) (history m') a m.node m'.node bytes s frames b own theirs Zero t brings other longer) some;
     }
   where
-    by : ((turn_delivers (history m) (history m') m.node m'.node bytes s frames b own theirs Zero t brings longer).more ≡ []) ⊎ (is_some (neighbour_of m.node b) ≡ true) → delivered_at members' a b own theirs Zero ≢ [] → IsNumber a × IsNumber b × (a ≢ b)
-    by (inl none) some =
-        let d = turn_delivers (history m) (history m') m.node m'.node bytes s frames b own theirs Zero t brings longer in
+    -- a neighbour is another node, and has a number
+    other : is_some (neighbour_of m.node b) ≡ true → IsNumber b × (b ≢ a)
+    other there = neighbour_number members air a b m sound was there
+
+    by : (g : Gains Zero (IsSendable (node_word b)) (delivered (history m) (stream_of b own theirs Zero)) (delivered (history m') (stream_of b own theirs Zero))) × ((g.more ≡ []) ⊎ (is_some (neighbour_of m.node b) ≡ true)) → delivered_at members' a b own theirs Zero ≢ [] → IsNumber a × IsNumber b × (a ≢ b)
+    by (d, inl none) some =
         sound.nothing a b own theirs (λ nothing. some (delivered_in members' a b own theirs Zero m' c.is ∙ gained _ _ d.more d.is (sym (delivered_in members a b own theirs Zero m c.was) ∙ nothing) none))
-    by (inr there) some = let peer = neighbour_number members air a b m sound was there in ((sound.numbered a m was).0, peer.0, peer.1)
+    by (d, inr there) some = let peer = neighbour_number members air a b m sound was there in ((sound.numbered a m was).0, peer.0, λ same. peer.1 (sym same))
 
 -- node a took a turn, in which what it was given is messages
 pub turn_streams : (members members' : List (Option MemberState)) (air : AirState) (a : ℕ) (m m' : MemberState) (bytes : List ℕ) (s : NodeStep) (frames : List Outgoing) → IsSound members air → slice_index_or members a None ≡ Some m
-    → members' ≡ slice_set members a (Some m') → history m' ≡ history m ++ step_entries s → (t : NodeTurn m.node m'.node bytes s frames) → AreBrought m.node m'.node bytes s frames t → StreamsSound members'
+    → members' ≡ slice_set members a (Some m') → history m' ≡ history m ++ step_entries s → (t : NodeTurn m.node m'.node bytes s frames) → AreBrought a m.node m'.node bytes s frames t → StreamsSound members'
 turn_streams members members' air a m m' bytes s frames sound was is longer t brings =
     let c = changed members members' a m m' was is in
     all_streams members members' a m m' (streams_of members air sound) c (λ b own theirs. turned_stream members members' air a m m' bytes s frames b own theirs sound was c longer t brings)

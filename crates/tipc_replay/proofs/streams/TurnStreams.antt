@@ -1,13 +1,11 @@
 -- What a turn of a node adds to what it ever accepted for each peer and delivered from it.
 use Rattle.std.specs.Prelude.{All, is_some, option_to_list}
-use Rattle.std.proofs.Common.{◌≡◌, ◌≢◌, ◌⊎◌, ◌==◌, ◌&&◌, ℕ, suc, Bool, true, false, if◌then◌else◌, List, [], ◌∷◌, ◌++◌, Option, Some, None, inl, inr, map, option_map, slice_get, refl, sym, ap, subst, ◌∙◌, append-nil, eqb-true, arith}
-use Rattle.std.proofs.Math.Path.{fun_ext}
+use Rattle.std.proofs.Common.{◌≡◌, ◌≢◌, ◌⊎◌, ◌==◌, ◌&&◌, ℕ, suc, Bool, true, false, if◌then◌else◌, List, [], ◌∷◌, ◌++◌, Option, Some, None, inl, inr, map, option_map, slice_get, refl, sym, ap, subst, ◌∙◌, append-nil}
 use Rattle.std.proofs.lemmas.Bool.{cases_Bool}
 use Rattle.std.proofs.lemmas.List.{map-append}
 use Rattle.std.proofs.lemmas.List.Elements.{All-head, All-tail}
 use Rattle.std.proofs.lemmas.Option.{slice_get-map}
 use Rattle.tipc_types.specs.Address.{node_word}
-use Rattle.tipc_types.specs.declared.identity.Addr.{Addr}
 use Rattle.tipc_types.specs.declared.message_forms.Flow.{Flow}
 use Rattle.tipc_types.specs.declared.message_forms.Flow.TheVariants.{Zero}
 use Rattle.tipc_types.specs.declared.message_forms.Message.{Message}
@@ -19,8 +17,8 @@ use Rattle.tipc_message.specs.Wire.{message_of}
 use Rattle.tipc_journal.specs.declared.entries.Entry.{Entry}
 use Rattle.tipc_journal.specs.declared.entries.Entry.TheVariants as entry
 use Rattle.tipc_journal.specs.Steps.{NodeStep, step_entries}
-use Rattle.tipc_journal.specs.Streams.{accepted, delivered, flow_eq}
-use Rattle.tipc_journal.proofs.StreamLaws.{accepted_nil, delivered_nil, flow_eq_true}
+use Rattle.tipc_journal.specs.Streams.{accepted, accepted_message, delivered, delivered_message, flow_eq}
+use Rattle.tipc_journal.proofs.StreamLaws.{flow_eq_true}
 use Rattle.tipc_reassembly.specs.declared.opening.Opened.{Opened}
 use Rattle.tipc_reassembly.specs.declared.opening.Opened.TheVariants.{Whole, Passed}
 use Rattle.tipc_reassembly.specs.Slots.{IsWholePacket, packets_in}
@@ -29,15 +27,15 @@ use Rattle.tipc_pair.specs.Facing.{PairEnds}
 use Rattle.tipc_pair.specs.PairTurns.{Outset}
 use Rattle.tipc_pair.specs.Messages.{opened_in}
 use Rattle.tipc_two_nodes.specs.Sights.{StaysIn}
-use Rattle.tipc_node.specs.declared.neighbours.Neighbour.{Neighbour}
-use Rattle.tipc_node.specs.Nodes.{NodeState, accepted_entry, neighbour_of}
+use Rattle.tipc_node.specs.Nodes.{NodeState, accepted_entry, neighbour_of, pair_with}
 use Rattle.tipc_node.specs.Messages.{IsSendable, bytes_of, message_in}
-use Rattle.tipc_node.specs.Turns.{IsOfNeighbour, IsPlaced, NodeTurn, PeerTurn, given_entries, is_accepted_for, is_delivered_from}
-use Rattle.tipc_node.proofs.Filters.{filter-none}
+use Rattle.tipc_node.specs.Turns.{IsPlaced, NodeTurn, PeerTurn, given_entries}
+use Rattle.tipc_node.proofs.turns.Turning.{of_other}
+use Rattle.tipc_replay.specs.Sound.{IsNumber}
 use Rattle.tipc_pair.proofs.turns.PairPuts.{MeetsAs, puts_meet, replied_meets}
 use Rattle.tipc_replay.specs.States.{stream_of}
 use Rattle.tipc_replay.specs.Views.{given_in, put_in}
-use Rattle.tipc_replay.proofs.streams.Histories.{accepted_grows, accepted_holds, come_to, delivered_grows, given_holds, messages_given}
+use Rattle.tipc_replay.proofs.streams.Histories.{accepted_grows, accepted_holds, accepted_stays, come_to, delivered_grows, delivered_stays, given_holds, messages_given, other_peer, zero_apart}
 use Rattle.tipc_replay.proofs.LookUps.{either_way}
 use Rattle.tipc_replay.proofs.frames.Messages.{bytes_are}
 
@@ -63,9 +61,9 @@ pub record Brings (word : ℕ) (x : PairEnds) (o : Outset) : Type 0 where
   pub known : Each (IsOfMessage word) (packets_in (opened_in o.given))
   pub contact : (opened_in o.given ≡ []) ⊎ StaysIn x o.course.pair
 
--- and so is all that was given in a turn
-abbrev pub AreBrought : (n n' : NodeState) (bytes : List ℕ) (s : NodeStep) (frames : List Outgoing) → NodeTurn n n' bytes s frames → Type 0
-AreBrought n n' bytes s frames t = (b : ℕ) (x : Neighbour) (is : neighbour_of n b ≡ Some x) → Brings (node_word b) x.pair (t.turns b x is).turn.turn.first
+-- and so is all that was given in a turn of node a, by each other node
+abbrev pub AreBrought : (a : ℕ) (n n' : NodeState) (bytes : List ℕ) (s : NodeStep) (frames : List Outgoing) → NodeTurn n n' bytes s frames → Type 0
+AreBrought a n n' bytes s frames t = (b : ℕ) → IsNumber b → b ≢ a → Brings (node_word b) (pair_with n b) (t.turns b).turn.first
 
 -- the messages of whole packets
 record AreGiven (word : ℕ) (opened : List Opened) : Type 0 where
@@ -94,24 +92,19 @@ given_messages word (Passed place ∷ os) whole known = absurd (All-head IsWhole
 
 -- ---- what concerns no neighbour
 
--- a peer of which an entry tells is the neighbour of that number
-no_neighbour : (n : NodeState) (b : ℕ) (peer : Addr) → neighbour_of n b ≡ None → IsOfNeighbour n peer → (peer.word == node_word b) ≡ false
-no_neighbour n b peer alone h = elim (cases_Bool (peer.word == node_word b)) [
-  | inl is ↦
-      let words : node_word h.0 ≡ node_word b = ap (λ (a : Addr). a.word) (sym h.2) ∙ eqb-true peer.word (node_word b) is in
-      let same : h.0 ≡ b = omega (arith, words) in
-      let none : is_some (neighbour_of n h.0) ≡ false = ap (λ k. is_some (neighbour_of n k)) same ∙ ap is_some alone in
-      absurd (let there = h.1 in let wrong : true ≡ false = sym there ∙ none in cc)
-  | inr other ↦ other
-]
+never_delivered : (n : NodeState) (b own theirs : ℕ) (flow : Flow) → neighbour_of n b ≡ None → (e : Entry) → IsPlaced n e → delivered_message (stream_of b own theirs flow) e ≡ None
+never_delivered n b own theirs flow alone (entry.Delivered peer numbers flow' message by) h =
+    ap (λ t. if t then Some message else None) (other_peer peer.word (node_word b) numbers (own, theirs) flow' flow (of_other n b peer alone h.0))
+never_delivered n b own theirs flow alone other h = refl
 
-never_accepted : (n : NodeState) (b : ℕ) → neighbour_of n b ≡ None → (e : Entry) → IsPlaced n e → is_accepted_for b e ≡ false
-never_accepted n b alone (entry.Accepted peer numbers flow message) h = no_neighbour n b peer alone h
-never_accepted n b alone other h = refl
+-- nor is any of another flow than Zero
+zero_accepted : (n : NodeState) (b own theirs : ℕ) (flow : Flow) → flow_eq flow Zero ≡ false → (e : Entry) → IsPlaced n e → accepted_message (stream_of b own theirs flow) e ≡ None
+zero_accepted n b own theirs flow apart (entry.Accepted peer numbers flow' message) h = ap (λ t. if t then Some message else None) (zero_apart peer.word (node_word b) numbers (own, theirs) flow' flow h.1 apart)
+zero_accepted n b own theirs flow apart other h = refl
 
-never_delivered : (n : NodeState) (b : ℕ) → neighbour_of n b ≡ None → (e : Entry) → IsPlaced n e → is_delivered_from b e ≡ false
-never_delivered n b alone (entry.Delivered peer numbers flow message by) h = no_neighbour n b peer alone h
-never_delivered n b alone other h = refl
+zero_delivered : (n : NodeState) (b own theirs : ℕ) (flow : Flow) → flow_eq flow Zero ≡ false → (e : Entry) → IsPlaced n e → delivered_message (stream_of b own theirs flow) e ≡ None
+zero_delivered n b own theirs flow apart (entry.Delivered peer numbers flow' message by) h = ap (λ t. if t then Some message else None) (zero_apart peer.word (node_word b) numbers (own, theirs) flow' flow h.1 apart)
+zero_delivered n b own theirs flow apart other h = refl
 
 -- ---- the packets
 
@@ -135,7 +128,7 @@ more_packets word old new ms c seen own theirs x c_is seen_is grew =
 none_come : (own theirs own' theirs' : ℕ) → come_to own theirs [] own' theirs' Zero ≡ []
 none_come own theirs own' theirs' = either_way ((own' == own) && (theirs' == theirs)) []
 
--- the turn at a neighbour: its messages were put, and what it was given is the packets of messages
+-- the turn at another node: its messages were put, and what it was given is the packets of messages
 pub turn_records : (old new : List Entry) (own : ℕ) (bytes : List ℕ) (s : NodeStep) (frames : List Outgoing) (b : ℕ) (x x' : PairEnds) (t : PeerTurn own bytes s frames b x x') → new ≡ old ++ step_entries s
     → Brings (node_word b) x t.turn.first → Recorded own old new b x' (map (bytes_of own) t.messages) (packets_in (opened_in t.turn.first.given))
 turn_records old new own bytes s frames b x x' t is brings =
@@ -145,10 +138,10 @@ turn_records old new own bytes s frames b x x' t is brings =
     let opened = opened_in t.turn.first.given in
     let given = given_messages (node_word b) opened brings.whole brings.known in
     let came : (c seen : ℕ) → delivered new (stream_of b c seen Zero) ≡ delivered old (stream_of b c seen Zero) ++ come_to x.contact x.seen (messages_given opened) c seen Zero =
-    λ c seen. delivered_grows old new s b (given_entries b x t.turn.first.given) c seen Zero is t.delivered ∙ ap (λ ms. delivered old (stream_of b c seen Zero) ++ ms) (given_holds b x t.turn.first.given c seen Zero) in
+    λ c seen. delivered_grows old new s b (given_entries Zero b x t.turn.first.given) c seen is t.delivered ∙ ap (λ ms. delivered old (stream_of b c seen Zero) ++ ms) (given_holds b x t.turn.first.given c seen Zero) in
     record {
       put_is = λ c seen. more_packets own (accepted old (stream_of b c seen Zero)) (accepted new (stream_of b c seen Zero)) t.messages t.turn.put.contact t.turn.put.seen c seen x' last.contact last.seen
-          (accepted_grows old new s b (map (accepted_entry b t.turn.put) t.messages) c seen Zero is t.accepted ∙ ap (λ ms. accepted old (stream_of b c seen Zero) ++ ms) (accepted_holds b t.turn.put t.messages c seen Zero));
+          (accepted_grows old new s b (map (accepted_entry Zero b t.turn.put) t.messages) c seen is t.accepted ∙ ap (λ ms. accepted old (stream_of b c seen Zero) ++ ms) (accepted_holds b t.turn.put t.messages c seen Zero));
       given_is = λ c seen. elim brings.contact [
         | inl none ↦
             let nobody : messages_given opened ≡ [] = ap messages_given none in
@@ -162,41 +155,26 @@ turn_records old new own bytes s frames b x x' t is brings =
       ];
     }
 
--- to the streams of another node nothing is added
-pub record Untold (word : ℕ) (old new : List Entry) (b : ℕ) : Type 0 where
-  pub put_same : put_in word new b ≡ put_in word old b
-  pub given_same : given_in new b ≡ given_in old b
+none_of : {A : Type 0} (o : Option A) → is_some o ≡ false → o ≡ None
+none_of None is = refl
+none_of (Some x) is = absurd cc
 
-accepted_none : (old new : List Entry) (n : NodeState) (s : NodeStep) (b own theirs : ℕ) (flow : Flow) → neighbour_of n b ≡ None → All (IsPlaced n) s.inside → new ≡ old ++ step_entries s
-    → accepted new (stream_of b own theirs flow) ≡ accepted old (stream_of b own theirs flow)
-accepted_none old new n s b own theirs flow alone placed is =
-    accepted_grows old new s b [] own theirs flow is (filter-none (is_accepted_for b) s.inside (IsPlaced n) (never_accepted n b alone) placed)
-    ∙ ap (λ ms. accepted old (stream_of b own theirs flow) ++ ms) (accepted_nil (stream_of b own theirs flow)) ∙ append-nil (accepted old (stream_of b own theirs flow))
-
+-- nothing is given but by a neighbour
 delivered_none : (old new : List Entry) (n : NodeState) (s : NodeStep) (b own theirs : ℕ) (flow : Flow) → neighbour_of n b ≡ None → All (IsPlaced n) s.inside → new ≡ old ++ step_entries s
     → delivered new (stream_of b own theirs flow) ≡ delivered old (stream_of b own theirs flow)
-delivered_none old new n s b own theirs flow alone placed is =
-    delivered_grows old new s b [] own theirs flow is (filter-none (is_delivered_from b) s.inside (IsPlaced n) (never_delivered n b alone) placed)
-    ∙ ap (λ ms. delivered old (stream_of b own theirs flow) ++ ms) (delivered_nil (stream_of b own theirs flow)) ∙ append-nil (delivered old (stream_of b own theirs flow))
-
-pub turn_untold : (old new : List Entry) (n : NodeState) (s : NodeStep) (b : ℕ) → neighbour_of n b ≡ None → All (IsPlaced n) s.inside → new ≡ old ++ step_entries s → Untold n.own old new b
-turn_untold old new n s b alone placed is = record {
-  put_same = fun_ext (λ own. fun_ext (λ theirs. ap (map (bytes_of n.own)) (accepted_none old new n s b own theirs Zero alone placed is)));
-  given_same = fun_ext (λ own. fun_ext (λ theirs. ap (map (bytes_of (node_word b))) (delivered_none old new n s b own theirs Zero alone placed is)));
-}
+delivered_none old new n s b own theirs flow alone placed is = delivered_stays old new s (stream_of b own theirs flow) (IsPlaced n) is (never_delivered n b own theirs flow alone) placed
 
 -- ---- the messages
 
--- What came to a stream of the node with number b: nothing in another flow than Zero, and nothing where b is no neighbour.
-pub record Gains (n : NodeState) (b : ℕ) (flow : Flow) (P : Message → Type 0) (old new : List Message) : Type 0 where
+-- What came to a stream: nothing in another flow than Zero.
+pub record Gains (flow : Flow) (P : Message → Type 0) (old new : List Message) : Type 0 where
   pub more : List Message
   pub is : new ≡ old ++ more
   pub all : Each P more
   pub zero : flow ≢ Zero → more ≡ []
-  pub known : (more ≡ []) ⊎ (is_some (neighbour_of n b) ≡ true)
 
-no_gain : (n : NodeState) (b : ℕ) (flow : Flow) (P : Message → Type 0) (old new : List Message) → new ≡ old → Gains n b flow P old new
-no_gain n b flow P old new same = record { more = []; is = same ∙ sym (append-nil old); all = Each-none P; zero = λ other. refl; known = inl refl }
+no_gain : (flow : Flow) (P : Message → Type 0) (old new : List Message) → new ≡ old → Gains flow P old new
+no_gain flow P old new same = record { more = []; is = same ∙ sym (append-nil old); all = Each-none P; zero = λ other. refl }
 
 each_chosen : (P : Message → Type 0) (t : Bool) (ms : List Message) → Each P ms → Each P (if t then ms else [])
 each_chosen P true ms h = h
@@ -208,39 +186,55 @@ other_flow flow t ms other = elim (cases_Bool (flow_eq flow Zero)) [
   | inr is ↦ ap (λ b. if b && t then ms else []) is
 ]
 
-gain : (n : NodeState) (b : ℕ) (x : Neighbour) (flow : Flow) (P : Message → Type 0) (old new ms : List Message) (c seen own theirs : ℕ) → neighbour_of n b ≡ Some x → Each P ms → new ≡ old ++ come_to c seen ms own theirs flow → Gains n b flow P old new
-gain n b x flow P old new ms c seen own theirs there all is = record {
+gain : (flow : Flow) (P : Message → Type 0) (old new ms : List Message) (c seen own theirs : ℕ) → Each P ms → new ≡ old ++ come_to c seen ms own theirs flow → Gains flow P old new
+gain flow P old new ms c seen own theirs all is = record {
   more = come_to c seen ms own theirs flow;
   is = is;
   all = each_chosen P (flow_eq flow Zero && ((own == c) && (theirs == seen))) ms all;
   zero = λ other. other_flow flow ((own == c) && (theirs == seen)) ms other;
-  known = inr (ap is_some there);
 }
 
 each_sendable : (own : ℕ) (ms : List Message) → All (IsSendable own) ms → Each (IsSendable own) ms
 each_sendable own [] h = Each-none (IsSendable own)
 each_sendable own (m ∷ ms) h = one_more own m ms (All-head (IsSendable own) m ms h) (each_sendable own ms (All-tail (IsSendable own) m ms h))
 
-pub turn_accepts : (old new : List Entry) (n n' : NodeState) (bytes : List ℕ) (s : NodeStep) (frames : List Outgoing) (b own theirs : ℕ) (flow : Flow) → NodeTurn n n' bytes s frames → new ≡ old ++ step_entries s
-    → Gains n b flow (IsSendable n.own) (accepted old (stream_of b own theirs flow)) (accepted new (stream_of b own theirs flow))
-turn_accepts old new n n' bytes s frames b own theirs flow t is = case (neighbour_of n b) refl
-  where
-    case : (o : Option Neighbour) → neighbour_of n b ≡ o → Gains n b flow (IsSendable n.own) (accepted old (stream_of b own theirs flow)) (accepted new (stream_of b own theirs flow))
-    case None alone = no_gain n b flow (IsSendable n.own) (accepted old (stream_of b own theirs flow)) (accepted new (stream_of b own theirs flow)) (accepted_none old new n s b own theirs flow alone t.placed is)
-    case (Some x) there =
-        let p = (t.turns b x there).turn in
-        gain n b x flow (IsSendable n.own) (accepted old (stream_of b own theirs flow)) (accepted new (stream_of b own theirs flow)) p.messages p.turn.put.contact p.turn.put.seen own theirs there (each_sendable n.own p.messages p.sendable)
-        (accepted_grows old new s b (map (accepted_entry b p.turn.put) p.messages) own theirs flow is p.accepted ∙ ap (λ ms. accepted old (stream_of b own theirs flow) ++ ms) (accepted_holds b p.turn.put p.messages own theirs flow))
+-- in a flow that is Zero, or isn't
+by_flow : (flow : Flow) (P : Message → Type 0) (old new : Flow → List Message) → Gains Zero P (old Zero) (new Zero) → (flow_eq flow Zero ≡ false → new flow ≡ old flow) → Gains flow P (old flow) (new flow)
+by_flow flow P old new zero others = elim (cases_Bool (flow_eq flow Zero)) [
+  | inl is ↦ subst (λ f. Gains f P (old f) (new f)) (sym (flow_eq_true flow Zero is)) zero
+  | inr apart ↦ no_gain flow P (old flow) (new flow) (others apart)
+]
 
-pub turn_delivers : (old new : List Entry) (n n' : NodeState) (bytes : List ℕ) (s : NodeStep) (frames : List Outgoing) (b own theirs : ℕ) (flow : Flow) (t : NodeTurn n n' bytes s frames) → AreBrought n n' bytes s frames t → new ≡ old ++ step_entries s
-    → Gains n b flow (IsSendable (node_word b)) (delivered old (stream_of b own theirs flow)) (delivered new (stream_of b own theirs flow))
-turn_delivers old new n n' bytes s frames b own theirs flow t brings is = case (neighbour_of n b) refl
+pub turn_accepts : (old new : List Entry) (n n' : NodeState) (bytes : List ℕ) (s : NodeStep) (frames : List Outgoing) (b own theirs : ℕ) (flow : Flow) → NodeTurn n n' bytes s frames → new ≡ old ++ step_entries s
+    → Gains flow (IsSendable n.own) (accepted old (stream_of b own theirs flow)) (accepted new (stream_of b own theirs flow))
+turn_accepts old new n n' bytes s frames b own theirs flow t is =
+    let p = t.turns b in
+    by_flow flow (IsSendable n.own) (λ f. accepted old (stream_of b own theirs f)) (λ f. accepted new (stream_of b own theirs f))
+    (gain Zero (IsSendable n.own) (accepted old (stream_of b own theirs Zero)) (accepted new (stream_of b own theirs Zero)) p.messages p.turn.put.contact p.turn.put.seen own theirs (each_sendable n.own p.messages p.sendable)
+    (accepted_grows old new s b (map (accepted_entry Zero b p.turn.put) p.messages) own theirs is p.accepted ∙ ap (λ ms. accepted old (stream_of b own theirs Zero) ++ ms) (accepted_holds b p.turn.put p.messages own theirs Zero)))
+    (λ apart. accepted_stays old new s (stream_of b own theirs flow) (IsPlaced n) is (zero_accepted n b own theirs flow apart) t.placed)
+
+-- it was given nothing but by a neighbour
+pub turn_delivers : (old new : List Entry) (a : ℕ) (n n' : NodeState) (bytes : List ℕ) (s : NodeStep) (frames : List Outgoing) (b own theirs : ℕ) (flow : Flow) (t : NodeTurn n n' bytes s frames) → AreBrought a n n' bytes s frames t
+    → (is_some (neighbour_of n b) ≡ true → IsNumber b × (b ≢ a)) → new ≡ old ++ step_entries s
+    → (g : Gains flow (IsSendable (node_word b)) (delivered old (stream_of b own theirs flow)) (delivered new (stream_of b own theirs flow))) × ((g.more ≡ []) ⊎ (is_some (neighbour_of n b) ≡ true))
+unfolding no_gain
+turn_delivers old new a n n' bytes s frames b own theirs flow t brings other is = case (is_some (neighbour_of n b)) refl
   where
-    case : (o : Option Neighbour) → neighbour_of n b ≡ o → Gains n b flow (IsSendable (node_word b)) (delivered old (stream_of b own theirs flow)) (delivered new (stream_of b own theirs flow))
-    case None alone = no_gain n b flow (IsSendable (node_word b)) (delivered old (stream_of b own theirs flow)) (delivered new (stream_of b own theirs flow)) (delivered_none old new n s b own theirs flow alone t.placed is)
-    case (Some x) there =
-        let p = (t.turns b x there).turn in
-        let given = brings b x there in
-        gain n b x flow (IsSendable (node_word b)) (delivered old (stream_of b own theirs flow)) (delivered new (stream_of b own theirs flow)) (messages_given (opened_in p.turn.first.given)) x.pair.contact x.pair.seen own theirs there
-        (given_messages (node_word b) (opened_in p.turn.first.given) given.whole given.known).sendable
-        (delivered_grows old new s b (given_entries b x.pair p.turn.first.given) own theirs flow is p.delivered ∙ ap (λ ms. delivered old (stream_of b own theirs flow) ++ ms) (given_holds b x.pair p.turn.first.given own theirs flow))
+    Given : Type 0
+    Given = (g : Gains flow (IsSendable (node_word b)) (delivered old (stream_of b own theirs flow)) (delivered new (stream_of b own theirs flow))) × ((g.more ≡ []) ⊎ (is_some (neighbour_of n b) ≡ true))
+
+    case : (known : Bool) → is_some (neighbour_of n b) ≡ known → Given
+    case false alone = (no_gain flow (IsSendable (node_word b)) (delivered old (stream_of b own theirs flow)) (delivered new (stream_of b own theirs flow)) (delivered_none old new n s b own theirs flow (none_of (neighbour_of n b) alone) t.placed is), inl refl)
+    case true there =
+        let p = t.turns b in
+        let x = pair_with n b in
+        let peer = other there in
+        let given = brings b peer.0 peer.1 in (
+          by_flow flow (IsSendable (node_word b)) (λ f. delivered old (stream_of b own theirs f)) (λ f. delivered new (stream_of b own theirs f))
+              (gain Zero (IsSendable (node_word b)) (delivered old (stream_of b own theirs Zero)) (delivered new (stream_of b own theirs Zero)) (messages_given (opened_in p.turn.first.given)) x.contact x.seen own theirs
+              (given_messages (node_word b) (opened_in p.turn.first.given) given.whole given.known).sendable
+              (delivered_grows old new s b (given_entries Zero b x p.turn.first.given) own theirs is p.delivered ∙ ap (λ ms. delivered old (stream_of b own theirs Zero) ++ ms) (given_holds b x p.turn.first.given own theirs Zero)))
+              (λ apart. delivered_stays old new s (stream_of b own theirs flow) (IsPlaced n) is (zero_delivered n b own theirs flow apart) t.placed),
+          inr there,
+        )

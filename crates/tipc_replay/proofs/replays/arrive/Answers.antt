@@ -6,7 +6,6 @@ use Rattle.tipc_replay.specs.Due.{unarrived}
 use Rattle.tipc_replay.specs.Events.{DidAt}
 use Rattle.tipc_replay.specs.Members.{sender_of}
 use Rattle.tipc_replay.proofs.Happening.{arrival_of, happens_sender, senders_of, there_settled}
-use Rattle.tipc_pair.proofs.Sendings.{new_box as empty_box}
 use Rattle.tipc_replay.proofs.pairs.Outward.{boxed_out}
 use Rattle.tipc_replay.proofs.replays.arrive.Goals as goal
 
@@ -22,7 +21,7 @@ emit-lost-requires c =
     let arrives = subst (λ old. unarrived old c.args.air.now c.args.node c.args.bearer c.args.place ≡ None) c.deref.ensures.value found.1 in
     record {
       number = there_settled ms c.args.node c.requires.settled c.requires.there;
-      outward = boxed_out ms _ c.args.air.now _ (Arrive c.args.node c.args.bearer c.args.place) f.frame _ _ _ c.requires.sound (λ m was. (f, found.0, arrives, refl)) c.new-out.ensures.frames did;
+      outward = boxed_out ms _ c.args.air.now _ (Arrive c.args.node c.args.bearer c.args.place) f.frame _ _ _ c.requires.sound (λ m was. (f, found.0, arrives, refl)) c.new-out.ensures did;
     }
 
 pub returns-clause-arrives : goal.returns-clause-arrives
@@ -33,4 +32,4 @@ returns-clause-arrives c =
     let arrives = subst (λ ms. unarrived ms c.args.air.now c.args.node c.args.bearer c.args.place ≡ None) c.deref.ensures.value found.1 in
     let met_is = c.met_sender-met.ensures ∙ ap (λ bytes. met_sender c.deref-2.result.now c.args.node (sender_of bytes)) c.as_slice-frame.ensures in
     arrival_of _ _ _ _ _ _ _ _ f _ _ found.0 arrives
-    (happens_sender _ _ _ _ _ _ _ _ _ _ _ _ _ _ _ _ c.requires.sound c.deref-2.ensures.value met_is c.deref-3.ensures.value (empty_box _ c.new-out.ensures.frames c.new-out.ensures.lost) did c.emit-lost.ensures)
+    (happens_sender _ _ _ _ _ _ _ _ _ _ _ _ _ _ _ _ c.requires.sound c.deref-2.ensures.value met_is c.deref-3.ensures.value c.new-out.ensures did c.emit-lost.ensures)

@@ -4,7 +4,7 @@ use Rattle.std.specs.Prelude.{All}
 use Rattle.tipc_replay.specs.Air.{IsOut}
 use Rattle.tipc_replay.specs.Calls.{node_of}
 use Rattle.tipc_replay.proofs.Happening.{at_its_node, can_do, happens_before, there_settled}
-use Rattle.tipc_pair.proofs.Sendings.{new_box as empty_box}
+use Rattle.tipc_outside.specs.Frames.{frames_leaving}
 use Rattle.tipc_replay.proofs.pairs.Outward.{boxed_out, is_ready}
 use Rattle.tipc_replay.proofs.replays.turn.Goals as goal
 
@@ -21,11 +21,11 @@ emit-lost-requires g c =
     let at = node_of c.args.event in
     record {
       number = subst (λ n. (1 ≤ n) × (n ≤ 32)) (sym c.node-node.ensures) (there_settled ms at c.requires.settled (at_its_node ms c.args.event c.requires.other c.requires.can));
-      outward = subst (λ n. All (IsOut n) c.happen_at.new.out.frames) (sym c.node-node.ensures)
-          (boxed_out ms _ c.args.air.now _ c.args.event [] _ _ _ c.requires.sound (is_ready ms c.args.air.now c.args.event c.requires.settled c.requires.other c.requires.can c.requires.next) c.new-out.ensures.frames c.in_ok-answer.ensures.did);
+      outward = subst (λ n. All (IsOut n) (frames_leaving c.happen_at.new.out)) (sym c.node-node.ensures)
+          (boxed_out ms _ c.args.air.now _ c.args.event [] _ _ _ c.requires.sound (is_ready ms c.args.air.now c.args.event c.requires.settled c.requires.other c.requires.can c.requires.next) c.new-out.ensures c.in_ok-answer.ensures.did);
     }
 
 pub returns-clause-happens : goal.returns-clause-happens
 returns-clause-happens g c =
     let met = c.in_ok-met.ensures in
-    (happens_before _ _ _ _ _ _ _ _ _ _ _ _ _ _ c.requires.settled c.node-node.ensures c.deref-2.ensures.value met.each met.beyond c.deref-3.ensures.value (empty_box _ c.new-out.ensures.frames c.new-out.ensures.lost) c.in_ok-answer.ensures.did c.emit-lost.ensures, refl)
+    (happens_before _ _ _ _ _ _ _ _ _ _ _ _ _ _ c.requires.settled c.node-node.ensures c.deref-2.ensures.value met.each met.beyond c.deref-3.ensures.value c.new-out.ensures c.in_ok-answer.ensures.did c.emit-lost.ensures, refl)

@@ -1,7 +1,7 @@
-use Rattle.std.proofs.Common.{Err}
+use Rattle.std.proofs.Common.{◌*◌, Err}
 use Rattle.std.proofs.lemmas.Result.{err_from_is_err_and}
 use Rattle.tipc_world.specs.declared.settling.Receivers.TheVariants.{Both}
-use Rattle.tipc_world.specs.Courses.{Drains}
+use Rattle.tipc_world.specs.Courses.{numbers, Drains}
 use Rattle.tipc_world.specs.Settling.{arrival_asked}
 use Rattle.tipc_sim.specs.Meanings.{Joins}
 use Rattle.tipc_sim.proofs.CourseLaws.{links_halt}
@@ -17,7 +17,7 @@ returns-in_err-drain-clause-comes g c =
     let place = c.air_len-place.result in
     let p = err_from_is_err_and c.from_residual-in_err-drain.result c.from_residual-in_err-drain.ensures.1 in
     rw (p.1, p.2) (links_halt named c.args.first c.args.second c.args.bearer place start now c.in_err-drain.field-0.0 c.air_len-place.ensures.len
-    (then_came (Joins named c.args.first c.args.second c.args.bearer) (Drains (arrival_asked (Both c.args.first c.args.second) c.args.bearer) c.args.bearer place) start c.join.new.world.state now _ (Err c.in_err-drain.field-0.0)
+    (then_came (Joins named c.args.first c.args.second c.args.bearer) (Drains (arrival_asked (Both c.args.first c.args.second) c.args.bearer) c.args.bearer (numbers * place)) start c.join.new.world.state now _ (Err c.in_err-drain.field-0.0)
     c.in_ok-join.ensures.comes c.in_err-drain.ensures.comes))
 
 pub returns-in_err-drain-clause-continues : goal.returns-in_err-drain-clause-continues
@@ -31,5 +31,5 @@ returns-in_err-join-clause-comes g c =
     let place = c.air_len-place.result in
     let p = err_from_is_err_and c.from_residual.result c.from_residual.ensures.1 in
     rw (p.1, p.2) (links_halt c.args.notes.now.named c.args.first c.args.second c.args.bearer place c.args.world.now.state c.join.new.world.state c.in_err-join.field-0.0 c.air_len-place.ensures.len
-    (then_stopped (Joins c.args.notes.now.named c.args.first c.args.second c.args.bearer) (Drains (arrival_asked (Both c.args.first c.args.second) c.args.bearer) c.args.bearer place) c.args.world.now.state c.join.new.world.state
+    (then_stopped (Joins c.args.notes.now.named c.args.first c.args.second c.args.bearer) (Drains (arrival_asked (Both c.args.first c.args.second) c.args.bearer) c.args.bearer (numbers * place)) c.args.world.now.state c.join.new.world.state
     c.in_err-join.field-0.0 c.in_err-join.ensures.comes))
