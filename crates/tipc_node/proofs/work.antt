@@ -4,6 +4,7 @@ pub mod Answering
 pub mod Changes
 pub mod Deliveries
 pub mod Delivering
+pub mod Drafting
 pub mod Greeting
 pub mod Heard
 pub mod Hearings

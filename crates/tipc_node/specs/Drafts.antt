@@ -2,9 +2,8 @@
 use Rattle.std.specs.Prelude.{◌≡◌, ℕ, List, [], ◌∷◌, Option, Some, None, filter, length, slice_index_or, slice_set}
 use Rattle.tipc_types.specs.declared.message_forms.Message.{Message}
 use Rattle.tipc_outside.specs.declared.outgoing.Outgoing.{Outgoing}
-use Rattle.tipc_outside.specs.Frames.{Adds, Out}
+use Rattle.tipc_outside.specs.Frames.{Adds, Out, no_frames}
 use Rattle.tipc_sockets.specs.SocketTables.{SocketTable}
-use Rattle.tipc_node.specs.declared.drafts.Draft.{Draft}
 use Rattle.tipc_node.specs.declared.neighbours.Neighbour.{Neighbour}
 use Rattle.tipc_node.specs.Works.{PutsEach, TellsEach, Work, peers_in_contact, is_in_contact, work_of}
 
@@ -20,17 +19,36 @@ abbrev pub with_copy : List (Option Neighbour) → ℕ → Option Neighbour → 
 with_copy xs place None = xs
 with_copy xs place (Some copy) = slice_set xs place (Some copy)
 
--- the neighbours, and their copies in a draft, have a place for each number, and nobody has the number 0
-abbrev pub AreTables : List (Option Neighbour) → Draft → Type 0
-AreTables xs d = (length xs ≡ 33) × (length d.copies.items ≡ 33) × (slice_index_or xs 0 None ≡ None)
+-- a draft: the work on the step so far, a copy of each neighbour that it changed as it was before, and the frames that leave with it
+pub record DraftState : Type 0 where
+  pub work : Work
+  pub copies : List (Option Neighbour)
+  pub out : Out
 
--- the neighbours as they were before the draft
-abbrev pub taken_back : List (Option Neighbour) → Draft → List (Option Neighbour)
-taken_back xs d = restored d.copies.items xs
+-- neighbours and copies have a place for each number, and nobody has the number 0
+pub record AreTables (xs copies : List (Option Neighbour)) : Type 0 where
+  pub wide : length xs ≡ 33
+  pub copied : length copies ≡ 33
+  pub nobody : slice_index_or xs 0 None ≡ None
+  pub uncopied : slice_index_or copies 0 None ≡ None
 
--- the work on the step so far
-abbrev pub drafted : List (Option Neighbour) → SocketTable → Draft → Work
-drafted xs s d = work_of xs s d.inside.items
+-- the own address word
+abbrev pub own_of : DraftState → ℕ
+own_of d = d.work.sockets.own
+
+-- what the step doesn't lose: the neighbours as they were when it began, and the own address word
+abbrev pub start_of : DraftState → List (Option Neighbour) × ℕ
+start_of d = (restored d.copies d.work.neighbours, own_of d)
+
+-- the draft with these sockets in place of its own
+abbrev pub with_sockets_in : DraftState → SocketTable → DraftState
+with_sockets_in d s = record d { work = work_of d.work.neighbours s d.work.inside }
+
+-- nothing is drafted
+pub record IsIdle (d : DraftState) : Type 0 where
+  pub inside : d.work.inside ≡ []
+  pub copies : (k : ℕ) → slice_index_or d.copies k None ≡ None
+  pub out : d.out ≡ no_frames
 
 -- ---- what is told to peers
 

@@ -1,5 +1,5 @@
 -- What the calls on sockets, names and subscriptions make of a node, and why each is refused.
-use Rattle.std.specs.Prelude.{ℕ, ◌+◌, ◌||◌, Bool, true, nat_le, nat_lt, not, is_some, slice_get, if◌then◌else◌, List, [], ◌∷◌, Option, Some, None, filter, find, length, map, option_map, option_to_list, slice_index_or, unwrap_or}
+use Rattle.std.specs.Prelude.{◌≡◌, ℕ, ◌+◌, ◌||◌, Bool, true, nat_le, nat_lt, not, is_some, slice_get, if◌then◌else◌, List, [], ◌∷◌, Option, Some, None, filter, find, length, map, option_map, option_to_list, slice_index_or, unwrap_or}
 use Rattle.std.specs.List.{range_with_len}
 use Rattle.tipc_types.specs.Span.{Span}
 use Rattle.tipc_types.specs.declared.message_forms.Message.{Message}
@@ -18,9 +18,11 @@ use Rattle.tipc_ports.specs.Numbers.{port_number}
 use Rattle.tipc_topology.specs.Changing.{due, events_left, is_filter, of_number, passed, with_event_taken as taken_one, with_kept}
 use Rattle.tipc_sockets.specs.declared.publishing.PublishFault.{PublishFault}
 use Rattle.tipc_sockets.specs.declared.publishing.PublishFault.TheVariants as fault
-use Rattle.tipc_sockets.specs.Publishing.{closed, is_at, own_publication, published_at, publish_refusal}
+use Rattle.tipc_sockets.specs.Publishing.{closed, is_at, own_publication, published, published_at, publish_refusal, withdrawn}
 use Rattle.tipc_sockets.specs.SocketTables.{has_port, queue_at, with_first_taken, with_queues, with_watchers, SocketTable}
 use Rattle.tipc_node.specs.declared.neighbours.Neighbour.{Neighbour}
+use Rattle.tipc_node.specs.declared.serving.NameChange.{NameChange}
+use Rattle.tipc_node.specs.declared.serving.NameChange.TheVariants as change
 use Rattle.tipc_node.specs.Nodes.{NodeState, load_with, waiting_in}
 use Rattle.tipc_node.specs.Works.{Work, begun, noted}
 
@@ -103,6 +105,18 @@ withdrawn_entries (Some p) = Withdrawn p ∷ []
 -- the work where a key is withdrawn at a port
 abbrev pub withdrawn_work : NodeState → ℕ → ℕ → Work
 withdrawn_work n port key = noted (begun n) (withdrawn_entries (published_at n.sockets port key))
+
+-- the sockets where the own names are changed so
+abbrev pub with_names_changed : SocketTable → NameChange → SocketTable
+with_names_changed s (change.Close port) = closed s port
+with_names_changed s (change.Publish port range scope key) = published s (own_publication s.own port range scope key)
+with_names_changed s (change.Withdraw port key) = withdrawn s s.own key
+
+-- nothing speaks against it: the port is there, the range can be published, the key is live at its port
+abbrev pub CanChangeNames : SocketTable → NameChange → Type 0
+CanChangeNames s (change.Close port) = has_port s port ≡ true
+CanChangeNames s (change.Publish port range scope key) = publication_refusal s port range.kind key ≡ None
+CanChangeNames s (change.Withdraw port key) = (has_port s port ≡ true) × (is_some (published_at s port key) ≡ true)
 
 -- the publications that a name finds at the node, closest first
 abbrev pub found_at : NodeState → ℕ → ℕ → List Publication

@@ -11,19 +11,17 @@ ghost use Rattle.tipc_node.specs.Neighbours.{IsOnBearer};
 ghost use Rattle.tipc_node.specs.Nodes.{end_with, is_mended_on, known_frames, known_node, node_load, neighbour_of, recorded};
 ghost use Rattle.tipc_journal.specs.Room.{has_journal_room};
 
-use crate::arriving::fits;
+use crate::drafts::Draft;
 use crate::neighbours::{
-    Bearers, NUMBERS, Neighbour, Parting, Upkeep, acquaintance, is_mended_on, load_all, mended_by,
+    Bearers, Neighbour, Parting, Upkeep, acquaintance, is_mended_on, load_all, mended_by,
     part_of_all, upkeep_note,
 };
 use crate::recording::{NodeFault, has_journal_room, note_timeouts, record};
-use crate::settling::purge_ended;
 use std::alloc::Global;
 use std::marker::Model;
 use tipc_journal::Journal;
 use tipc_outside::Outbox;
 use tipc_pick::{Chooser, Pick};
-use tipc_sockets::Sockets;
 use tipc_types::{Addr, Answer, By, EventNote, NoMemory};
 
 /// The parts of a node in one boot. A call of it is one step of the journal, where it doesn't fail.
@@ -32,13 +30,14 @@ pub struct Core {
     pub(crate) own: Addr,
     pub(crate) boot: u32,
     pub(crate) mended: Bearers,
-    pub(crate) neighbours: Vec<Option<Neighbour>>,
-    pub(crate) sockets: Sockets,
+    /// Its neighbours and its sockets, and the step on which it works.
+    pub(crate) draft: Draft,
     pub(crate) journal: Journal,
 }
 
 impl Model for Core {
-    ghost use Rattle.std.specs.Prelude.{◌≡◌, ◌≤◌, None, length, slice_index_or};
+    ghost use Rattle.std.specs.Prelude.{◌≡◌, ◌≤◌};
+    ghost use Rattle.tipc_node.specs.Drafts.{IsIdle};
     ghost use Rattle.tipc_node.specs.Nodes.{NodeState};
 
     ghost Value = { NodeState };
@@ -47,25 +46,13 @@ impl Model for Core {
       own = n.own.word;
       boot = n.boot;
       mended = n.mended;
-      neighbours = n.neighbours.items;
-      sockets = n.sockets;
+      neighbours = n.draft.work.neighbours;
+      sockets = n.draft.work.sockets;
       journal = n.journal.entries;
     } };
 
-    ghost invariant = { λ n. (length n.neighbours.items ≡ 33) × (slice_index_or n.neighbours.items 0 None ≡ None) ×
-        (1 ≤ n.boot) × (n.sockets.own ≡ n.own.word) × (n.sockets.ports.boot ≡ n.boot) };
-}
-
-/// A table without neighbours.
-fn no_neighbours(alloc: Global) -> Result<Vec<Option<Neighbour>>, NoMemory>
-    ensures { IfOk result (λ table. (length table.items ≡ 33) ×
-        ((peer : ℕ) → slice_index_or table.items peer None ≡ None)) }
-{
-    let mut table = Vec::new(alloc);
-    for _ in 0..NUMBERS {
-        table.push(None)?;
-    }
-    Ok(table)
+    ghost invariant = { λ n. IsIdle n.draft × (1 ≤ n.boot) × (n.draft.work.sockets.own ≡ n.own.word) ×
+        (n.draft.work.sockets.ports.boot ≡ n.boot) };
 }
 
 impl Core {
@@ -81,8 +68,7 @@ impl Core {
             own,
             boot,
             mended: (false, false),
-            neighbours: no_neighbours(alloc)?,
-            sockets: Sockets::new(alloc, own, boot),
+            draft: Draft::new(alloc, own, boot)?,
             journal: Journal::new(alloc),
         })
     }
@@ -92,7 +78,7 @@ impl Core {
         ensures some { IfSome result (λ x. neighbour_of self.now peer ≡ Some x.now) }
         ensures none { IfNone result (neighbour_of self.now peer ≡ None) }
     {
-        match self.neighbours.get(peer as usize) {
+        match self.draft.neighbours().get(peer as usize) {
             Some(Some(neighbour)) => Some(neighbour),
             _ => None,
         }
@@ -123,7 +109,7 @@ impl Core {
     pub fn load(&self) -> (u64, u64)
         ensures { result ≡ node_load self.now }
     {
-        load_all(self.neighbours.as_slice())
+        load_all(self.draft.neighbours())
     }
 
     /// Its journal.
@@ -140,15 +126,17 @@ impl Core {
         self.journal
     }
 
-    /// Its sockets hold together, its boot has a number from which contact numbers are made, and there is a place for each peer. It
-    /// does nothing.
+    /// Its sockets hold together and have its address, its boot has a number from which contact numbers are made, and there
+    /// is a place for each peer. It does nothing.
     pub fn sound(&self)
         ensures sockets { AreSockets self.now.sockets }
+        ensures own { self.now.sockets.own ≡ self.now.own }
         ensures boot { self.now.sockets.ports.boot ≡ self.now.boot }
         ensures epochs { (1 ≤ self.now.boot) × (self.now.boot < 2 ^ 32) }
         ensures wide { length self.now.neighbours ≡ 33 }
     {
-        let _ = self.sockets.live();
+        let _ = self.draft.sockets().live();
+        let _ = self.draft.neighbours();
         let _ = self.boot();
     }
 
@@ -163,10 +151,10 @@ impl Core {
         ensures boot { (1 ≤ self.old.boot) × (self.old.boot < 2 ^ 32) }
     {
         let mended = is_mended_on(self.mended, bearer);
-        let place = self.neighbours[peer as usize].take();
+        let place = self.draft.take_place(peer);
         let mut neighbour = acquaintance(alloc, self.own, self.boot, peer, place);
         neighbour.make(alloc, bearer, mended, out);
-        self.neighbours[peer as usize] = Some(neighbour);
+        self.draft.set_place(peer, neighbour);
     }
 
     /// Performs a call, whose step is recorded: each call as its own function says.
@@ -294,13 +282,10 @@ impl Core {
         ensures err { OnErr result ((self.new ≡ self.old) × (out.new ≡ out.old)) }
     {
         let mut event = Parting::new(alloc);
-        let after = part_of_all(self.neighbours.as_slice(), alloc, upkeep, &mut event)?;
-        if !fits(event.inside.as_slice()) {
-            return Err(NoMemory);
-        }
-        self.journal.reserve(event.inside.len() as u64 + 2)?;
-        self.neighbours = after;
-        purge_ended(&mut self.sockets, event.inside.as_slice());
+        let after = part_of_all(self.draft.neighbours(), alloc, upkeep, &mut event)?;
+        let changed = event.inside.len();
+        self.draft
+            .take_over(&mut self.journal, after, event.inside.as_slice(), changed)?;
         self.mended = mended_by(upkeep, self.mended);
         out.append(event.out);
         record(
@@ -321,19 +306,15 @@ impl Core {
             Adds out.old out.new frames) }
         ensures err { OnErr result ((self.new ≡ self.old) × (out.new ≡ out.old)) }
     {
-        let due = self.sockets.due(alloc)?;
+        let due = self.draft.sockets().due(alloc)?;
         let mut event = Parting::new(alloc);
-        let after = part_of_all(self.neighbours.as_slice(), alloc, Upkeep::Tick, &mut event)?;
+        let after = part_of_all(self.draft.neighbours(), alloc, Upkeep::Tick, &mut event)?;
         let changed = event.inside.len();
         event.inside.reserve(due.as_slice().len())?;
         note_timeouts(&mut event.inside, due.as_slice());
-        if !fits(event.inside.as_slice()) {
-            return Err(NoMemory);
-        }
-        self.journal.reserve(event.inside.len() as u64 + 2)?;
-        self.neighbours = after;
-        purge_ended(&mut self.sockets, &event.inside.as_slice()[..changed]);
-        self.sockets.pass();
+        self.draft
+            .take_over(&mut self.journal, after, event.inside.as_slice(), changed)?;
+        self.draft.pass();
         out.append(event.out);
         record(
             &mut self.journal,

@@ -12,8 +12,6 @@ ghost use Rattle.tipc_node.specs.Sure.{all_wait};
 
 use crate::arriving::{Due, Hearing, fits, look, message_count, prepare};
 use crate::cores::Core;
-use crate::drafts::{begin_draft, conclude, take_back};
-use crate::following::hear_in;
 use crate::recording::{NodeFault, begin, has_journal_room, record};
 use crate::waiting::{all_wait, conclude_waiting, prepare_waiting};
 use std::alloc::Global;
@@ -44,7 +42,7 @@ impl Core {
         ensures err { OnErr result ((self.new ≡ self.old) × (out.new ≡ out.old)) }
     {
         match self.due(bearer, frame) {
-            Ok(due) => self.hear(alloc, by, number, due, out),
+            Ok(due) => self.hear(alloc, by, number, &due, out),
             Err(why) => self.ignore(alloc, by, bearer, number, why),
         }
     }
@@ -60,7 +58,7 @@ impl Core {
         look(
             self.own,
             self.mended,
-            self.neighbours.as_slice(),
+            self.draft.neighbours(),
             bearer,
             frame,
         )
@@ -105,11 +103,11 @@ impl Core {
         alloc: Global,
         by: By,
         number: u64,
-        due: Due<'_>,
+        due: &Due<'_>,
         out: &mut Outbox,
     ) -> Result<Arrival, NodeFault>
-        requires due { IsDueAt self.old due }
-        ensures heard { IfOk result (λ a. HearsDue self.old self.new by number due.entry out.old out.new a) }
+        requires due { IsDueAt self.old due.now }
+        ensures heard { IfOk result (λ a. HearsDue self.old self.new by number due.now out.old out.new a) }
         ensures room { OnOk result (has_journal_room self.old.journal ≡ true) }
         ensures full { has_journal_room self.old.journal ≡ false → result ≡ Err NodeFault.JournalFull }
         ensures only { result ≡ Err NodeFault.JournalFull → has_journal_room self.old.journal ≡ false }
@@ -133,7 +131,7 @@ impl Core {
             return false;
         }
         let deliveries = heard.deliveries.as_slice();
-        all_wait(&self.sockets, message_count(deliveries), deliveries)
+        all_wait(self.draft.sockets(), message_count(deliveries), deliveries)
     }
 
     /// A packet arrives, and there is room for the call: as [`Core::hear`].
@@ -142,18 +140,18 @@ impl Core {
         alloc: Global,
         by: By,
         number: u64,
-        due: Due<'_>,
+        due: &Due<'_>,
         out: &mut Outbox,
     ) -> Result<Arrival, NoMemory>
-        requires due { IsDueAt self.old due }
+        requires due { IsDueAt self.old due.now }
         requires room { has_journal_room self.old.journal ≡ true }
-        ensures heard { IfOk result (λ a. HearsDue self.old self.new by number due.entry out.old out.new a) }
+        ensures heard { IfOk result (λ a. HearsDue self.old self.new by number due.now out.old out.new a) }
         ensures err { OnErr result ((self.new ≡ self.old) × (out.new ≡ out.old)) }
     {
         let Some(neighbour) = self.neighbour(due.peer) else {
             unreachable!()
         };
-        let heard = prepare(alloc, neighbour, number, &due)?;
+        let heard = prepare(alloc, neighbour, number, due)?;
         if self.is_sure(&heard) {
             self.take_all(alloc, by, due, heard, out)
         } else {
@@ -167,17 +165,17 @@ impl Core {
         &mut self,
         alloc: Global,
         by: By,
-        due: Due<'_>,
+        due: &Due<'_>,
         heard: Hearing,
         out: &mut Outbox,
     ) -> Result<Arrival, NoMemory>
-        requires due { IsDueAt self.old due }
+        requires due { IsDueAt self.old due.now }
         requires room { has_journal_room self.old.journal ≡ true }
-        requires heard { IsPrepared (neighbour_of self.old due.peer) due heard }
+        requires heard { IsPrepared (neighbour_of self.old due.now.peer) due.now heard }
         requires still { told_changes heard ≡ [] }
         requires sure { all_wait self.old.sockets (message_count heard.deliveries.items)
             heard.deliveries.items ≡ true }
-        ensures heard { IfOk result (λ a. HearsDue self.old self.new by heard.number due.entry out.old out.new a) }
+        ensures heard { IfOk result (λ a. HearsDue self.old self.new by heard.number due.now out.old out.new a) }
         ensures err { OnErr result ((self.new ≡ self.old) × (out.new ≡ out.old)) }
     {
         let told = prepare_waiting(alloc, heard.deliveries)?;
@@ -185,7 +183,7 @@ impl Core {
             return Err(NoMemory);
         }
         self.journal.reserve(told.entries.len() as u64 + 2)?;
-        let Some(neighbour) = &mut self.neighbours[due.peer as usize] else {
+        let Some(neighbour) = &mut self.draft.neighbours[due.peer as usize] else {
             unreachable!()
         };
         let _ = neighbour.take(alloc, heard.arriving, &due.packet, out);
@@ -195,7 +193,14 @@ impl Core {
             number: heard.number,
         };
         let kept = Answer::Arrived(heard.answer);
-        conclude_waiting(&mut self.sockets, &mut self.journal, by, note, told, kept);
+        conclude_waiting(
+            &mut self.draft.sockets,
+            &mut self.journal,
+            by,
+            note,
+            told,
+            kept,
+        );
         Ok(heard.answer)
     }
 
@@ -205,30 +210,20 @@ impl Core {
         &mut self,
         alloc: Global,
         by: By,
-        due: Due<'_>,
+        due: &Due<'_>,
         heard: Hearing,
         out: &mut Outbox,
     ) -> Result<Arrival, NoMemory>
-        requires due { IsDueAt self.old due }
+        requires due { IsDueAt self.old due.now }
         requires room { has_journal_room self.old.journal ≡ true }
-        requires prepared { IsPrepared (neighbour_of self.old due.peer) due heard }
-        ensures heard { IfOk result (λ a. HearsDue self.old self.new by heard.number due.entry out.old out.new a) }
+        requires prepared { IsPrepared (neighbour_of self.old due.now.peer) due.now heard }
+        ensures heard { IfOk result (λ a. HearsDue self.old self.new by heard.number due.now out.old out.new a) }
         ensures err { OnErr result ((self.new ≡ self.old) × (out.new ≡ out.old)) }
     {
         let number = heard.number;
-        let mut draft = begin_draft(alloc)?;
-        let before = self.sockets.copy()?;
-        let Ok(answer) = hear_in(
-            alloc,
-            self.own,
-            &mut self.neighbours,
-            &mut self.sockets,
-            &mut self.journal,
-            &mut draft,
-            &due,
-            heard,
-        ) else {
-            take_back(draft, before, &mut self.neighbours, &mut self.sockets);
+        let before = self.draft.sockets().copy()?;
+        let Ok(answer) = self.draft.hear_in(alloc, &mut self.journal, due, heard) else {
+            self.draft.take_back(alloc, before);
             return Err(NoMemory);
         };
         let note = EventNote::Arrive {
@@ -236,7 +231,8 @@ impl Core {
             number,
         };
         let kept = Answer::Arrived(answer);
-        conclude(&mut self.journal, by, note, draft, kept, out);
+        self.draft
+            .conclude(alloc, &mut self.journal, by, note, kept, out);
         Ok(answer)
     }
 }

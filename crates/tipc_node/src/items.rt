@@ -19,6 +19,7 @@ fn learn(sockets: &mut Sockets, publication: &Publication) -> Result<Option<Entr
     ensures told { IfOk result (λ told. told ≡ (if can_be_put sockets.old.names publication.now
         then Some (Entry.Learned publication.now) else None)) }
     ensures after { IfOk result (λ told. sockets.new ≡ fold after_entry sockets.old (option_to_list told)) }
+    ensures own { sockets.new.own ≡ sockets.old.own }
 {
     match sockets.publish(*publication) {
         Ok(()) => Ok(Some(Entry::Learned {
@@ -52,6 +53,7 @@ fn apply_item(
     ensures told { IfOk result (λ told. told ≡
         option_map (learnt_by withdrawal) (fitting from.word withdrawal sockets.old.names item.now)) }
     ensures after { IfOk result (λ told. sockets.new ≡ fold after_entry sockets.old (option_to_list told)) }
+    ensures own { sockets.new.own ≡ sockets.old.own }
 {
     let Some(publication) = told_by(from, item) else {
         return Ok(None);
@@ -93,6 +95,7 @@ pub fn apply_items(
         (learnt_entries from.word sockets.old.names (Message.Items withdrawal items.now))) }
     ensures told { OnOk result (inside.new.items ≡ inside.old.items
         ++ learnt_entries from.word sockets.old.names (Message.Items withdrawal items.now)) }
+    ensures own { sockets.new.own ≡ sockets.old.own }
 {
     for place in 0..items.len() {
         let Some(entry) = apply_item(sockets, from, withdrawal, &items[place])? else {

@@ -182,7 +182,7 @@ impl Node {
         ensures count { result ≡ length (unwrap_or (queue_at self.now.sockets port) []) }
         ensures most { result ≤ 128 }
     {
-        self.core.sockets.queued(port)
+        self.core.draft.sockets().queued(port)
     }
 
     /// All publications that it knows, in order of node, port and key.
@@ -191,7 +191,7 @@ impl Node {
         ensures held { result.now ≡ self.now.sockets.names }
         ensures told { result.now ≡ names self.now.journal }
     {
-        self.core.sockets.names()
+        self.core.draft.sockets().names()
     }
 
     /// Gives up its journal: the boot is over.

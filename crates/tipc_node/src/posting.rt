@@ -11,16 +11,18 @@ ghost use Rattle.tipc_journal.specs.Room.{counted_bytes, entry_bytes, has_journa
 ghost use Rattle.tipc_message.specs.Wire.{IsPayload};
 ghost use Rattle.tipc_sockets.specs.Telling.{origin_of};
 ghost use Rattle.tipc_node.specs.Calls.{SendsToPort, SendsByName, SendsTo, sender_refusal, way_refusal};
+ghost use Rattle.tipc_node.specs.Drafts.{own_of, with_sockets_in};
 ghost use Rattle.tipc_node.specs.Messages.{destination_of};
 ghost use Rattle.tipc_node.specs.Nodes.{is_met};
 ghost use Rattle.tipc_node.specs.Sockets.{found_at};
 ghost use Rattle.tipc_node.specs.Works.{Work, begun, concluded, work_of, Puts, GivesFate};
 
 use crate::cores::Core;
+use crate::drafts::Draft;
 use crate::neighbours::Neighbour;
 use crate::recording::record;
 use crate::sending::{MOST_BODY_BYTES, direct, limit, name_note, named, port_note};
-use crate::settling::{comes_home, destination, load_to, meet, put_on};
+use crate::settling::{comes_home, destination, load_to, meet};
 use std::alloc::Global;
 use tipc_journal::Entry;
 use tipc_outside::Outbox;
@@ -51,12 +53,40 @@ fn settle(
     Ok(())
 }
 
+impl Draft {
+    /// A message that the node sent to itself has its fate, in a step that does nothing else: what is told of it isn't
+    /// drafted. A return has its own fate, so nothing leaves.
+    fn settle_alone(
+        &mut self,
+        alloc: Global,
+        m: Message,
+        inside: &mut Vec<Entry>,
+    ) -> Result<(), NoMemory>
+        requires origin { (origin_of m).word ≡ own_of self.old }
+        ensures settles { OnOk result (GivesFate (own_of self.old)
+            (work_of self.old.work.neighbours self.old.work.sockets inside.old.items) false m
+            (work_of self.old.work.neighbours self.new.work.sockets inside.new.items) []) }
+        ensures few { OnOk result (length inside.new.items ≤ length inside.old.items + 2) }
+        ensures light { OnOk result (sum_by entry_bytes inside.new.items ≡ sum_by entry_bytes inside.old.items) }
+        ensures rest { self.new ≡ with_sockets_in self.old self.new.work.sockets }
+        ensures err { OnErr result (self.new ≡ self.old) }
+    {
+        settle(
+            alloc,
+            &mut self.sockets,
+            self.neighbours.as_slice(),
+            m,
+            inside,
+        )
+    }
+}
+
 impl Core {
     /// Why the sender of a message is refused: its port isn't there, or the body is too long.
     fn sender_refusal(&self, port: u32, body: &Body) -> Option<Answer>
         ensures { result ≡ sender_refusal self.now port body.now }
     {
-        if !self.sockets.has(port) {
+        if !self.draft.sockets().has(port) {
             return Some(Answer::NoSocket);
         }
         if body.len() > MOST_BODY_BYTES {
@@ -73,7 +103,7 @@ impl Core {
         if node.word == self.own.word {
             return None;
         }
-        let Some((in_flight, waiting)) = load_to(self.neighbours.as_slice(), node) else {
+        let Some((in_flight, waiting)) = load_to(self.draft.neighbours(), node) else {
             return Some(Answer::NoNode);
         };
         if waiting >= limit {
@@ -99,13 +129,7 @@ impl Core {
     {
         self.journal.reserve(4)?;
         let mut inside = Vec::new(alloc);
-        settle(
-            alloc,
-            &mut self.sockets,
-            self.neighbours.as_slice(),
-            m,
-            &mut inside,
-        )?;
+        self.draft.settle_alone(alloc, m, &mut inside)?;
         record(&mut self.journal, by, note, inside, sent);
         Ok(())
     }
@@ -133,10 +157,7 @@ impl Core {
     {
         self.journal.reserve(3)?;
         let mut inside = Vec::new(alloc);
-        let Some(neighbour) = &mut self.neighbours[peer as usize] else {
-            unreachable!()
-        };
-        put_on(neighbour, alloc, self.own, peer, m, &mut inside, out)?;
+        self.draft.put_alone(alloc, peer, m, &mut inside, out)?;
         record(&mut self.journal, by, note, inside, sent);
         Ok(())
     }
@@ -171,6 +192,8 @@ impl Core {
             self.send_home(alloc, by, note, m, sent)?;
             return Ok(None);
         }
+        // The packets on the link to it were counted, so it is one of the 32 nodes.
+        let _ = self.draft.neighbours();
         let Some(peer) = to.number() else {
             unreachable!()
         };
@@ -239,7 +262,7 @@ impl Core {
             let note = name_note(port, kind, instance, importance, body);
             return self.refuse(alloc, by, note, why);
         }
-        let found = self.sockets.closest(alloc, kind, instance)?;
+        let found = self.draft.sockets().closest(alloc, kind, instance)?;
         if found.is_empty() {
             let note = name_note(port, kind, instance, importance, body);
             return self.refuse(alloc, by, note, Answer::NoName);

@@ -1,26 +1,30 @@
 //! The calls on sockets, names and subscriptions.
 
-ghost use Rattle.std.specs.Prelude.{◌≡◌, ◌∷◌, List, [], true, None, map, slice_get, IfOk, OnErr, OnOk};
+ghost use Rattle.std.specs.Prelude.{◌≡◌, ◌∷◌, ◌≤◌, List, [], true, None, All, is_some, length, map, slice_get, sum_by, IfOk, OnErr, OnOk};
 ghost use Rattle.tipc_types.specs.declared.message_forms.Message.{Message};
 ghost use Rattle.tipc_outside.specs.Frames.{Adds};
 ghost use Rattle.tipc_outside.specs.declared.outgoing.Outgoing.{Outgoing};
 ghost use Rattle.tipc_journal.specs.declared.entries.Entry.TheVariants.{Withdrawn};
 ghost use Rattle.tipc_journal.specs.Licensed.{next_answer};
-ghost use Rattle.tipc_sockets.specs.Publishing.{own_publication, published};
-ghost use Rattle.tipc_node.specs.Calls.{Performs};
-ghost use Rattle.tipc_journal.specs.Room.{has_journal_room};
-ghost use Rattle.tipc_node.specs.Sockets.{first_answer, kept_answer, publication_refusal};
+ghost use Rattle.tipc_sockets.specs.Publishing.{closed, own_publication, published, published_at, withdrawn};
+ghost use Rattle.tipc_sockets.specs.SocketTables.{has_port};
+ghost use Rattle.tipc_node.specs.Calls.{Performs, Tells};
+ghost use Rattle.tipc_node.specs.Drafts.{own_of, with_sockets_in};
+ghost use Rattle.tipc_journal.specs.Room.{counted_bytes, entry_bytes, has_journal_room};
+ghost use Rattle.tipc_message.specs.Wire.{IsCarried};
+ghost use Rattle.tipc_node.specs.Sockets.{first_answer, kept_answer, publication_refusal, with_names_changed, CanChangeNames};
+ghost use Rattle.tipc_node.specs.Works.{work_of};
 
 use crate::cores::Core;
-use crate::drafts::{conclude, restore};
+use crate::drafts::Draft;
 use crate::recording::record;
-use crate::sharing::{crowd_refusal, share, telling, tellings};
+use crate::sharing::{crowd_refusal, telling, tellings};
 use std::alloc::Global;
 use tipc_journal::Entry;
 use tipc_name_table::MOST_PUBLICATIONS;
 use tipc_outside::Outbox;
 use tipc_ports::{MOST_PORTS, PortFault};
-use tipc_sockets::{PublishFault, Sockets};
+use tipc_sockets::PublishFault;
 use tipc_topology::{MOST_SUBSCRIPTIONS, TopologyFault};
 use tipc_types::{
     Answer, By, Event, EventNote, Message, NoMemory, PortId, Publication, Scope, ServiceRange,
@@ -70,27 +74,94 @@ fn alone(alloc: Global, entry: Entry) -> Result<Vec<Entry>, NoMemory>
     Ok(inside)
 }
 
-/// Publishes a range at a port of this node, where nothing speaks against it. There is an error only where memory runs
-/// out, and nothing is changed then.
-fn publish_allowed(
-    sockets: &mut Sockets,
-    port: u32,
-    range: ServiceRange,
-    scope: Scope,
-    key: u32,
-) -> Result<(), NoMemory>
-    requires allowed { publication_refusal sockets.old port range.kind key ≡ None }
-    ensures ok { OnOk result (sockets.new ≡ published sockets.old
-        (own_publication sockets.old.own port range scope key)) }
-    ensures err { OnErr result (sockets.new ≡ sockets.old) }
-{
-    match sockets.publish_at(port, range, scope, key) {
-        Ok(()) => Ok(()),
-        Err(PublishFault::NoMemory) => Err(NoMemory),
-        Err(PublishFault::NoSocket) => unreachable!(),
-        Err(PublishFault::Reserved) => unreachable!(),
-        Err(PublishFault::Duplicate(_)) => unreachable!(),
-        Err(PublishFault::Full) => unreachable!(),
+/// A change of the own names, of which peers are told.
+#[derive(Clone, Copy)]
+enum NameChange {
+    /// A port is closed, and what is published there withdrawn.
+    Close(u32),
+    /// A range is published at a port.
+    Publish {
+        port: u32,
+        range: ServiceRange,
+        scope: Scope,
+        key: u32,
+    },
+    /// The publication of a key at a port is withdrawn.
+    Withdraw {
+        port: u32,
+        key: u32,
+    },
+}
+
+impl Draft {
+    /// Closes a port that is there.
+    fn close(&mut self, port: u32)
+        requires { has_port self.old.work.sockets port ≡ true }
+        ensures { self.new ≡ with_sockets_in self.old (closed self.old.work.sockets port) }
+    {
+        let Ok(()) = self.sockets.close(port) else {
+            unreachable!()
+        };
+    }
+
+    /// Publishes a range at a port of this node, where nothing speaks against it. There is an error only where memory
+    /// runs out, and nothing is changed then.
+    fn publish(
+        &mut self,
+        port: u32,
+        range: ServiceRange,
+        scope: Scope,
+        key: u32,
+    ) -> Result<(), NoMemory>
+        requires { publication_refusal self.old.work.sockets port range.kind key ≡ None }
+        ensures ok { OnOk result (self.new ≡ with_sockets_in self.old (published self.old.work.sockets
+            (own_publication (own_of self.old) port range scope key))) }
+        ensures err { OnErr result (self.new ≡ self.old) }
+    {
+        match self.sockets.publish_at(port, range, scope, key) {
+            Ok(()) => Ok(()),
+            Err(PublishFault::NoMemory) => Err(NoMemory),
+            Err(PublishFault::NoSocket) => unreachable!(),
+            Err(PublishFault::Reserved) => unreachable!(),
+            Err(PublishFault::Duplicate(_)) => unreachable!(),
+            Err(PublishFault::Full) => unreachable!(),
+        }
+    }
+
+    /// Withdraws the publication of a key at a port where it is live.
+    fn withdraw(&mut self, port: u32, key: u32)
+        requires there { has_port self.old.work.sockets port ≡ true }
+        requires live { is_some (published_at self.old.work.sockets port key) ≡ true }
+        ensures { self.new ≡ with_sockets_in self.old (withdrawn self.old.work.sockets (own_of self.old) key) }
+    {
+        let Ok(_) = self.sockets.withdraw_at(port, key) else {
+            unreachable!()
+        };
+    }
+
+    /// Changes the own names, where nothing speaks against it. There is an error only where memory runs out, and nothing
+    /// is changed then.
+    fn change_names(&mut self, change: NameChange) -> Result<(), NoMemory>
+        requires { CanChangeNames self.old.work.sockets change }
+        ensures ok { OnOk result (self.new ≡ with_sockets_in self.old (with_names_changed self.old.work.sockets change)) }
+        ensures err { OnErr result (self.new ≡ self.old) }
+    {
+        match change {
+            NameChange::Close(port) => {
+                self.close(port);
+                Ok(())
+            }
+            NameChange::Publish {
+                port,
+                range,
+                scope,
+                key,
+            } => self.publish(port, range, scope, key),
+            NameChange::Withdraw { port, key } => {
+                self.withdraw(port, key);
+                Ok(())
+            }
+        }
     }
 }
 
@@ -103,7 +174,7 @@ impl Core {
     {
         self.journal.reserve(2)?;
         let note = EventNote::Socket;
-        match self.sockets.make(alloc) {
+        match self.draft.sockets.make(alloc) {
             Ok(port) => {
                 record(
                     &mut self.journal,
@@ -119,6 +190,42 @@ impl Core {
             }
             Err(PortFault::NoMemory) => Err(NoMemory),
         }
+    }
+
+    /// Changes the own names, and tells every peer in contact of it by these messages, 1,024 at most of one item each;
+    /// the step begins with these entries. NamesCongested exactly where there are messages and 1,000 packets wait on the
+    /// link to a peer: the lowest is named.
+    fn announce(
+        &mut self,
+        alloc: Global,
+        by: By,
+        note: EventNote,
+        change: NameChange,
+        inside: Vec<Entry>,
+        told: &[Message],
+        out: &mut Outbox,
+    ) -> Result<Answer, NoMemory>
+        requires room { has_journal_room self.old.journal ≡ true }
+        requires can { CanChangeNames self.old.sockets change }
+        requires carried { All IsCarried told.now }
+        requires few { (length told.now ≤ 1024) × (length inside.items ≤ 1024) }
+        requires light { (sum_by counted_bytes told.now ≤ 20480) × (sum_by entry_bytes inside.items ≡ 0) }
+        ensures ok { IfOk result (λ a. (frames : List Outgoing) × Tells self.old self.new by note None
+            (work_of self.old.neighbours (with_names_changed self.old.sockets change) inside.items) told.now frames a ×
+            Adds out.old out.new frames) }
+        ensures err { OnErr result ((self.new ≡ self.old) × (out.new ≡ out.old)) }
+    {
+        if let Some(why) = crowd_refusal(self.draft.neighbours(), told) {
+            return self.refuse(alloc, by, note, why);
+        }
+        self.draft.share(alloc, &mut self.journal, inside, told)?;
+        let Ok(()) = self.draft.change_names(change) else {
+            self.draft.undo(alloc);
+            return Err(NoMemory);
+        };
+        self.draft
+            .conclude(alloc, &mut self.journal, by, note, Answer::Done, out);
+        Ok(Answer::Done)
     }
 
     /// Closes a socket: what is published there is withdrawn, of which peers are told, and what waits there is
@@ -137,29 +244,15 @@ impl Core {
         ensures err { OnErr result ((self.new ≡ self.old) × (out.new ≡ out.old)) }
     {
         let note = EventNote::Close { port };
-        if !self.sockets.has(port) {
+        if !self.draft.sockets().has(port) {
             return self.refuse(alloc, by, note, Answer::NoSocket);
         }
         self.sound();
-        let those = self.sockets.live_at(alloc, port)?;
+        let those = self.draft.sockets().live_at(alloc, port)?;
         let told = tellings(alloc, those.as_slice(), true)?;
-        if let Some(why) = crowd_refusal(self.neighbours.as_slice(), told.as_slice()) {
-            return self.refuse(alloc, by, note, why);
-        }
         let inside = withdrawals(alloc, those.as_slice())?;
-        let draft = share(
-            alloc,
-            self.own,
-            &mut self.neighbours,
-            &mut self.journal,
-            inside,
-            told.as_slice(),
-        )?;
-        let Ok(()) = self.sockets.close(port) else {
-            unreachable!()
-        };
-        conclude(&mut self.journal, by, note, draft, Answer::Done, out);
-        Ok(Answer::Done)
+        let change = NameChange::Close(port);
+        self.announce(alloc, by, note, change, inside, told.as_slice(), out)
     }
 
     /// Why a publication of a service type and key is refused at a port, as far as the sockets tell it: the first
@@ -167,7 +260,7 @@ impl Core {
     fn publication_refusal(&self, port: u32, kind: u32, key: u32) -> Option<Answer>
         ensures { result ≡ publication_refusal self.now.sockets port kind key }
     {
-        match self.sockets.publish_refusal(port, kind, key)? {
+        match self.draft.sockets().publish_refusal(port, kind, key)? {
             PublishFault::NoSocket => Some(Answer::NoSocket),
             PublishFault::Reserved => Some(Answer::Reserved),
             PublishFault::Duplicate(key) => Some(Answer::Duplicate(key)),
@@ -204,26 +297,17 @@ impl Core {
         if let Some(why) = self.publication_refusal(port, range.kind(), key) {
             return self.refuse(alloc, by, note, why);
         }
+        self.sound();
         let publication = self.own_publication(port, range, scope, key);
         let told = telling(alloc, &publication, false)?;
-        if let Some(why) = crowd_refusal(self.neighbours.as_slice(), told.as_slice()) {
-            return self.refuse(alloc, by, note, why);
-        }
         let inside = alone(alloc, Entry::Published { publication })?;
-        let draft = share(
-            alloc,
-            self.own,
-            &mut self.neighbours,
-            &mut self.journal,
-            inside,
-            told.as_slice(),
-        )?;
-        let Ok(()) = publish_allowed(&mut self.sockets, port, range, scope, key) else {
-            restore(draft.copies, &mut self.neighbours);
-            return Err(NoMemory);
+        let change = NameChange::Publish {
+            port,
+            range,
+            scope,
+            key,
         };
-        conclude(&mut self.journal, by, note, draft, Answer::Done, out);
-        Ok(Answer::Done)
+        self.announce(alloc, by, note, change, inside, told.as_slice(), out)
     }
 
     /// The publication of a range at a port of this node.
@@ -259,31 +343,17 @@ impl Core {
         ensures err { OnErr result ((self.new ≡ self.old) × (out.new ≡ out.old)) }
     {
         let note = EventNote::Withdraw { port, key };
-        if !self.sockets.has(port) {
+        if !self.draft.sockets().has(port) {
             return self.refuse(alloc, by, note, Answer::NoSocket);
         }
-        let Some(publication) = self.sockets.published_at(port, key) else {
+        let Some(publication) = self.draft.sockets().published_at(port, key) else {
             return self.refuse(alloc, by, note, Answer::Unknown);
         };
         self.sound();
         let told = telling(alloc, &publication, true)?;
-        if let Some(why) = crowd_refusal(self.neighbours.as_slice(), told.as_slice()) {
-            return self.refuse(alloc, by, note, why);
-        }
         let inside = alone(alloc, Entry::Withdrawn { publication })?;
-        let draft = share(
-            alloc,
-            self.own,
-            &mut self.neighbours,
-            &mut self.journal,
-            inside,
-            told.as_slice(),
-        )?;
-        let Ok(_) = self.sockets.withdraw_at(port, key) else {
-            unreachable!()
-        };
-        conclude(&mut self.journal, by, note, draft, Answer::Done, out);
-        Ok(Answer::Done)
+        let change = NameChange::Withdraw { port, key };
+        self.announce(alloc, by, note, change, inside, told.as_slice(), out)
     }
 
     /// Takes the first message that waits at a port: NoSocket exactly where the port isn't there, Empty exactly where none
@@ -294,12 +364,9 @@ impl Core {
         ensures err { OnErr result (self.new ≡ self.old) }
     {
         let note = EventNote::Receive { port };
-        if !self.sockets.has(port) {
-            return self.refuse(alloc, by, note, Answer::NoSocket);
-        }
         self.journal.reserve(2)?;
-        let Ok(first) = self.sockets.receive(port) else {
-            unreachable!()
+        let Ok(first) = self.draft.sockets.receive(port) else {
+            return self.refuse(alloc, by, note, Answer::NoSocket);
         };
         let (kept, answer) = first_answers(first);
         record(&mut self.journal, by, note, Vec::new(alloc), kept);
@@ -322,7 +389,7 @@ impl Core {
         let note = EventNote::Subscribe { subscription };
         self.journal.reserve(3)?;
         let mut inside = Vec::with_capacity(alloc, 1)?;
-        match self.sockets.subscribe(alloc, subscription) {
+        match self.draft.sockets.subscribe(alloc, subscription) {
             Ok(number) => {
                 inside.push_reserved(Entry::Subscribed {
                     number,
@@ -355,7 +422,7 @@ impl Core {
         let note = EventNote::Cancel { number };
         self.journal.reserve(3)?;
         let inside = alone(alloc, Entry::Cancelled { number })?;
-        let Ok(()) = self.sockets.cancel(number) else {
+        let Ok(()) = self.draft.sockets.cancel(number) else {
             return self.refuse(alloc, by, note, Answer::Unknown);
         };
         record(&mut self.journal, by, note, inside, Answer::Done);
@@ -376,7 +443,7 @@ impl Core {
     {
         let note = EventNote::NextEvent { number };
         self.journal.reserve(2)?;
-        let Ok(first) = self.sockets.next_event(number) else {
+        let Ok(first) = self.draft.sockets.next_event(number) else {
             return self.refuse(alloc, by, note, Answer::Unknown);
         };
         let kept = event_answer(&first);

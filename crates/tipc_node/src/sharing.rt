@@ -1,6 +1,6 @@
 //! What peers are told of names: messages that are put for one peer, or for each with which there is a contact.
 
-ghost use Rattle.std.specs.Prelude.{◌≡◌, ◌+◌, ◌*◌, ◌-◌, ◌≤◌, ◌++◌, ℕ, List, true, is_some, None, Option, option_map, Some, All, length, slice_index_or, slice_set, sum_by, IfOk, OnErr, OnOk};
+ghost use Rattle.std.specs.Prelude.{◌≡◌, ◌+◌, ◌*◌, ◌-◌, ◌≤◌, ◌++◌, ℕ, List, true, None, Option, option_map, Some, All, length, slice_index_or, slice_set, sum_by, IfOk, OnErr, OnOk};
 ghost use Rattle.tipc_message.specs.Wire.{IsCarried};
 ghost use Rattle.tipc_journal.specs.Names.{is_clusterwide};
 ghost use Rattle.tipc_journal.specs.Room.{counted_bytes, entry_bytes, free_entries, free_message_bytes};
@@ -8,12 +8,12 @@ ghost use Rattle.tipc_name_dist.specs.Items.{telling, tellings};
 ghost use Rattle.tipc_pair.specs.Facing.{in_contact};
 ghost use Rattle.tipc_sockets.specs.SocketTables.{SocketTable};
 ghost use Rattle.tipc_outside.specs.Frames.{no_frames};
-ghost use Rattle.tipc_node.specs.Drafts.{drafted, peer_in_contact, taken_back, AreTables, PutEach, ToldEach, ToldPeers};
+ghost use Rattle.tipc_node.specs.Drafts.{own_of, peer_in_contact, start_of, IsIdle, PutEach, ToldEach, ToldPeers};
 ghost use Rattle.tipc_node.specs.Nodes.{load_with, waiting_in};
-ghost use Rattle.tipc_node.specs.Sockets.{crowd_refusal, crowded_answer, first_crowded};
+ghost use Rattle.tipc_node.specs.Sockets.{crowd_refusal, crowded_answer, first_crowded, with_sockets_of};
 ghost use Rattle.tipc_node.specs.Works.{is_in_contact, work_of};
 
-use crate::drafts::{Draft, begin_draft, keep, restore};
+use crate::drafts::{Draft, keep};
 use crate::neighbours::{NUMBERS, Neighbour, load_at};
 use crate::settling::put_on;
 use std::alloc::Global;
@@ -118,7 +118,7 @@ pub fn crowd_refusal(neighbours: &[Option<Neighbour>], messages: &[Message]) -> 
 
 /// Puts messages on the link to the neighbour of that number, one behind the other, and tells that they are accepted.
 /// Where memory runs out some of them may have been put: the caller has a copy of what was.
-pub fn put_each(
+fn put_each_on(
     neighbour: &mut Neighbour,
     alloc: Global,
     own: Addr,
@@ -155,136 +155,142 @@ fn is_in_contact(neighbours: &[Option<Neighbour>], peer: u8) -> bool
     }
 }
 
-/// Puts messages for the peer of that number, where there is contact with it.
-fn tell_peer(
-    alloc: Global,
-    own: Addr,
-    neighbours: &mut Vec<Option<Neighbour>>,
-    draft: &mut Draft,
-    peer: u8,
-    messages: &[Message],
-) -> Result<(), NoMemory>
-    requires tables { AreTables neighbours.old.items draft.old }
-    requires peer { (1 ≤ peer) × (peer ≤ 32) }
-    requires carried { All IsCarried messages.now }
-    ensures told { OnOk result ((s : SocketTable) → ToldEach own.word
-        (drafted neighbours.old.items s draft.old) messages.now (peer_in_contact neighbours.old.items peer)
-        (drafted neighbours.new.items s draft.new) draft.old.out draft.new.out) }
-    ensures contact { OnOk result ((k : ℕ) →
-        is_in_contact neighbours.new.items k ≡ is_in_contact neighbours.old.items k) }
-    ensures few { OnOk result (length draft.new.inside.items ≤ length draft.old.inside.items + length messages.now) }
-    ensures light { OnOk result (sum_by entry_bytes draft.new.inside.items ≤
-        sum_by entry_bytes draft.old.inside.items + sum_by counted_bytes messages.now) }
-    ensures tables { AreTables neighbours.new.items draft.new }
-    ensures kept { taken_back neighbours.new.items draft.new ≡ taken_back neighbours.old.items draft.old }
-{
-    if !is_in_contact(neighbours.as_slice(), peer) {
-        return Ok(());
+impl Draft {
+    /// Puts messages on the link to the peer of that number, one behind the other, and tells that they are accepted.
+    pub(crate) fn put_each(
+        &mut self,
+        alloc: Global,
+        peer: u8,
+        messages: &[Message],
+    ) -> Result<(), NoMemory>
+        requires peer { (1 ≤ peer) × (peer ≤ 32) }
+        requires carried { All IsCarried messages.now }
+        requires contact { is_in_contact self.old.work.neighbours peer ≡ true }
+        ensures puts { OnOk result ((s : SocketTable) → PutEach (own_of self.old) (with_sockets_of self.old.work s) peer
+            messages.now (with_sockets_of self.new.work s) self.old.out self.new.out) }
+        ensures contact { OnOk result ((k : ℕ) →
+            is_in_contact self.new.work.neighbours k ≡ is_in_contact self.old.work.neighbours k) }
+        ensures few { OnOk result (length self.new.work.inside ≤
+            length self.old.work.inside + length messages.now) }
+        ensures light { OnOk result (sum_by entry_bytes self.new.work.inside ≤
+            sum_by entry_bytes self.old.work.inside + sum_by counted_bytes messages.now) }
+        ensures sockets { self.new.work.sockets ≡ self.old.work.sockets }
+        ensures start { start_of self.new ≡ start_of self.old }
+    {
+        keep(&mut self.copies, self.neighbours.as_slice(), peer)?;
+        let Some(neighbour) = &mut self.neighbours[peer as usize] else {
+            unreachable!()
+        };
+        put_each_on(
+            neighbour,
+            alloc,
+            self.own,
+            peer,
+            messages,
+            &mut self.inside,
+            &mut self.out,
+        )
     }
-    keep(&mut draft.copies, neighbours.as_slice(), peer)?;
-    let Some(neighbour) = &mut neighbours[peer as usize] else {
-        unreachable!()
-    };
-    put_each(
-        neighbour,
-        alloc,
-        own,
-        peer,
-        messages,
-        &mut draft.inside,
-        &mut draft.out,
-    )
-}
 
-/// Puts the same messages, 1,024 at most of one item each, for every peer with which there is contact, in order of
-/// their numbers.
-fn tell_peers(
-    alloc: Global,
-    own: Addr,
-    neighbours: &mut Vec<Option<Neighbour>>,
-    draft: &mut Draft,
-    messages: &[Message],
-) -> Result<(), NoMemory>
-    requires tables { AreTables neighbours.old.items draft.old }
-    requires carried { All IsCarried messages.now }
-    requires few { length messages.now ≤ 1024 }
-    requires light { sum_by counted_bytes messages.now ≤ 20480 }
-    ensures told { OnOk result ((s : SocketTable) → ToldPeers own.word
-        (drafted neighbours.old.items s draft.old) messages.now
-        (drafted neighbours.new.items s draft.new) draft.old.out draft.new.out) }
-    ensures few { OnOk result (length draft.new.inside.items ≤ length draft.old.inside.items + 32768) }
-    ensures light { OnOk result (sum_by entry_bytes draft.new.inside.items ≤
-        sum_by entry_bytes draft.old.inside.items + 655360) }
-    ensures tables { AreTables neighbours.new.items draft.new }
-    ensures kept { taken_back neighbours.new.items draft.new ≡ taken_back neighbours.old.items draft.old }
-{
-    if messages.is_empty() {
-        return Ok(());
+    /// Puts messages for the peer of that number, where there is contact with it.
+    fn tell_peer(&mut self, alloc: Global, peer: u8, messages: &[Message]) -> Result<(), NoMemory>
+        requires peer { (1 ≤ peer) × (peer ≤ 32) }
+        requires carried { All IsCarried messages.now }
+        ensures told { OnOk result ((s : SocketTable) → ToldEach (own_of self.old) (with_sockets_of self.old.work s)
+            messages.now (peer_in_contact self.old.work.neighbours peer) (with_sockets_of self.new.work s)
+            self.old.out self.new.out) }
+        ensures contact { OnOk result ((k : ℕ) →
+            is_in_contact self.new.work.neighbours k ≡ is_in_contact self.old.work.neighbours k) }
+        ensures few { OnOk result (length self.new.work.inside ≤
+            length self.old.work.inside + length messages.now) }
+        ensures light { OnOk result (sum_by entry_bytes self.new.work.inside ≤
+            sum_by entry_bytes self.old.work.inside + sum_by counted_bytes messages.now) }
+        ensures sockets { self.new.work.sockets ≡ self.old.work.sockets }
+        ensures start { start_of self.new ≡ start_of self.old }
+    {
+        if !is_in_contact(self.neighbours(), peer) {
+            return Ok(());
+        }
+        self.put_each(alloc, peer, messages)
     }
-    for peer in 1..NUMBERS {
-        tell_peer(alloc, own, neighbours, draft, peer as u8, messages)?;
+
+    /// Puts the same messages, 1,024 at most of one item each, for every peer with which there is contact, in order of
+    /// their numbers.
+    fn tell_peers(&mut self, alloc: Global, messages: &[Message]) -> Result<(), NoMemory>
+        requires carried { All IsCarried messages.now }
+        requires few { length messages.now ≤ 1024 }
+        requires light { sum_by counted_bytes messages.now ≤ 20480 }
+        ensures told { OnOk result ((s : SocketTable) → ToldPeers (own_of self.old) (with_sockets_of self.old.work s)
+            messages.now (with_sockets_of self.new.work s) self.old.out self.new.out) }
+        ensures few { OnOk result (length self.new.work.inside ≤ length self.old.work.inside + 32768) }
+        ensures light { OnOk result (sum_by entry_bytes self.new.work.inside ≤
+            sum_by entry_bytes self.old.work.inside + 655360) }
+        ensures sockets { self.new.work.sockets ≡ self.old.work.sockets }
+        ensures start { start_of self.new ≡ start_of self.old }
+    {
+        if messages.is_empty() {
+            return Ok(());
+        }
+        for peer in 1..NUMBERS {
+            self.tell_peer(alloc, peer as u8, messages)?;
+        }
+        Ok(())
     }
-    Ok(())
-}
 
-/// Tells every peer in contact by these messages, in a draft of a step, and makes the journal ready for the step.
-fn share_by(
-    alloc: Global,
-    own: Addr,
-    neighbours: &mut Vec<Option<Neighbour>>,
-    journal: &mut Journal,
-    draft: &mut Draft,
-    messages: &[Message],
-) -> Result<(), NoMemory>
-    requires tables { AreTables neighbours.old.items draft.old }
-    requires carried { All IsCarried messages.now }
-    requires few { (length messages.now ≤ 1024) × (length draft.old.inside.items ≤ 1024) }
-    requires light { (sum_by counted_bytes messages.now ≤ 20480) × (sum_by entry_bytes draft.old.inside.items ≡ 0) }
-    ensures told { OnOk result ((s : SocketTable) → ToldPeers own.word
-        (drafted neighbours.old.items s draft.old) messages.now
-        (drafted neighbours.new.items s draft.new) draft.old.out draft.new.out) }
-    ensures journal { journal.new.entries ≡ journal.old.entries }
-    ensures spare { OnOk result (length draft.new.inside.items + 2 ≤ journal.new.spare) }
-    ensures fits { OnOk result ((length draft.new.inside.items ≤ free_entries - 2) ×
-        (sum_by entry_bytes draft.new.inside.items ≤ free_message_bytes)) }
-    ensures tables { AreTables neighbours.new.items draft.new }
-    ensures kept { taken_back neighbours.new.items draft.new ≡ taken_back neighbours.old.items draft.old }
-{
-    tell_peers(alloc, own, neighbours, draft, messages)?;
-    journal.reserve(draft.inside.len() as u64 + 2)
-}
+    /// Tells every peer in contact by these messages, and makes the journal ready for the step.
+    fn share_by(
+        &mut self,
+        alloc: Global,
+        journal: &mut Journal,
+        messages: &[Message],
+    ) -> Result<(), NoMemory>
+        requires carried { All IsCarried messages.now }
+        requires few { (length messages.now ≤ 1024) × (length self.old.work.inside ≤ 1024) }
+        requires light { (sum_by counted_bytes messages.now ≤ 20480) ×
+            (sum_by entry_bytes self.old.work.inside ≡ 0) }
+        ensures told { OnOk result ((s : SocketTable) → ToldPeers (own_of self.old) (with_sockets_of self.old.work s)
+            messages.now (with_sockets_of self.new.work s) self.old.out self.new.out) }
+        ensures journal { journal.new.entries ≡ journal.old.entries }
+        ensures spare { OnOk result (length self.new.work.inside + 2 ≤ journal.new.spare) }
+        ensures fits { OnOk result ((length self.new.work.inside ≤ free_entries - 2) ×
+            (sum_by entry_bytes self.new.work.inside ≤ free_message_bytes)) }
+        ensures sockets { self.new.work.sockets ≡ self.old.work.sockets }
+        ensures start { start_of self.new ≡ start_of self.old }
+    {
+        self.tell_peers(alloc, messages)?;
+        journal.reserve(self.inside.len() as u64 + 2)
+    }
 
-/// Tells every peer in contact by these messages, 1,024 at most of one item each, in a draft of a step that begins
-/// with these entries, and makes the journal ready for the step. Where memory runs out the neighbours are as they
-/// were.
-pub fn share(
-    alloc: Global,
-    own: Addr,
-    neighbours: &mut Vec<Option<Neighbour>>,
-    journal: &mut Journal,
-    inside: Vec<Entry>,
-    messages: &[Message],
-) -> Result<Draft, NoMemory>
-    requires tables { (length neighbours.old.items ≡ 33) × (slice_index_or neighbours.old.items 0 None ≡ None) }
-    requires carried { All IsCarried messages.now }
-    requires few { (length messages.now ≤ 1024) × (length inside.items ≤ 1024) }
-    requires light { (sum_by counted_bytes messages.now ≤ 20480) × (sum_by entry_bytes inside.items ≡ 0) }
-    ensures told { IfOk result (λ d. (s : SocketTable) → ToldPeers own.word
-        (work_of neighbours.old.items s inside.items) messages.now (drafted neighbours.new.items s d)
-        no_frames d.out) }
-    ensures journal { journal.new.entries ≡ journal.old.entries }
-    ensures spare { IfOk result (λ d. length d.inside.items + 2 ≤ journal.new.spare) }
-    ensures fits { IfOk result (λ d. (length d.inside.items ≤ free_entries - 2) ×
-        (sum_by entry_bytes d.inside.items ≤ free_message_bytes)) }
-    ensures tables { IfOk result (λ d. AreTables neighbours.new.items d) }
-    ensures kept { IfOk result (λ d. taken_back neighbours.new.items d ≡ neighbours.old.items) }
-    ensures err { OnErr result (neighbours.new.items ≡ neighbours.old.items) }
-{
-    let mut draft = begin_draft(alloc)?;
-    draft.inside = inside;
-    let Ok(()) = share_by(alloc, own, neighbours, journal, &mut draft, messages) else {
-        restore(draft.copies, neighbours);
-        return Err(NoMemory);
-    };
-    Ok(draft)
+    /// Tells every peer in contact by these messages, 1,024 at most of one item each, in a step that begins with these
+    /// entries, and makes the journal ready for it. Where memory runs out nothing is drafted, and the neighbours are
+    /// as they were.
+    pub(crate) fn share(
+        &mut self,
+        alloc: Global,
+        journal: &mut Journal,
+        inside: Vec<Entry>,
+        messages: &[Message],
+    ) -> Result<(), NoMemory>
+        requires idle { IsIdle self.old }
+        requires carried { All IsCarried messages.now }
+        requires few { (length messages.now ≤ 1024) × (length inside.items ≤ 1024) }
+        requires light { (sum_by counted_bytes messages.now ≤ 20480) × (sum_by entry_bytes inside.items ≡ 0) }
+        ensures told { OnOk result ((s : SocketTable) → ToldPeers (own_of self.old)
+            (work_of self.old.work.neighbours s inside.items) messages.now (with_sockets_of self.new.work s)
+            no_frames self.new.out) }
+        ensures journal { journal.new.entries ≡ journal.old.entries }
+        ensures spare { OnOk result (length self.new.work.inside + 2 ≤ journal.new.spare) }
+        ensures fits { OnOk result ((length self.new.work.inside ≤ free_entries - 2) ×
+            (sum_by entry_bytes self.new.work.inside ≤ free_message_bytes)) }
+        ensures sockets { self.new.work.sockets ≡ self.old.work.sockets }
+        ensures start { start_of self.new ≡ (self.old.work.neighbours, own_of self.old) }
+        ensures err { OnErr result ((self.new.work.neighbours ≡ self.old.work.neighbours) × IsIdle self.new) }
+    {
+        self.inside = inside;
+        let Ok(()) = self.share_by(alloc, journal, messages) else {
+            self.undo(alloc);
+            return Err(NoMemory);
+        };
+        Ok(())
+    }
 }

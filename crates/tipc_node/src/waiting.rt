@@ -81,8 +81,7 @@ pub fn prepare_waiting(alloc: Global, deliveries: Vec<Delivery>) -> Result<Waiti
         entries: Vec::new(alloc),
         messages: Vec::new(alloc),
     };
-    let mut waiting = VecDeque::from_vec(deliveries);
-    while let Some(delivery) = waiting.pop_front() {
+    for delivery in deliveries {
         tell(alloc, &mut told, delivery)?;
     }
     Ok(told)

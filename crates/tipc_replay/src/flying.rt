@@ -211,7 +211,7 @@ fn age_of(members: &[Option<Member>], sent: &Sent, n: u8, bearer: u8) -> u64
 // ---- the frame that arrives
 
 /// Whether a frame from an address is for a node: one to all is for each node but its sender.
-fn is_for(from: Addr, to: To, node: u8) -> bool
+pub fn is_for(from: Addr, to: To, node: u8) -> bool
     requires { (1 ≤ node) × (node ≤ 32) }
     ensures { result ≡ is_for from to node }
 {
@@ -223,7 +223,7 @@ fn is_for(from: Addr, to: To, node: u8) -> bool
 
 /// The frame of that place in a bearer's air, where it is for the node.
 #[tactic(auto, unfolding(crate::specs::Due::frame_for))]
-pub fn frame_for(air: &Air, node: u8, bearer: u8, place: u64) -> Option<&Sent>
+fn frame_for(air: &Air, node: u8, bearer: u8, place: u64) -> Option<&Sent>
     requires { (1 ≤ node) × (node ≤ 32) }
     ensures some { IfSome result (λ f. frame_for air.now node bearer place ≡ Some f.now) }
     ensures none { IfNone result (frame_for air.now node bearer place ≡ None) }

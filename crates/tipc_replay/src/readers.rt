@@ -12,7 +12,7 @@ ghost use Rattle.tipc_replay.specs.States.{accepted_at, arrivals_at, calls_recor
 
 use crate::air::{Arrived, Sent};
 use crate::events::WorldEvent;
-use crate::flying::{contact_at, find, frame_for};
+use crate::flying::{contact_at, find, is_for};
 use crate::members::Member;
 use crate::replays::Replay;
 use crate::tables::told_of;
@@ -278,11 +278,15 @@ impl Replay {
     }
 
     /// Whether there is a frame at that place of a bearer's air, from 0 on, and it is for a node.
+    #[tactic(auto, unfolding(crate::specs::Due::frame_for))]
     pub fn is_for(&self, n: u8, bearer: u8, place: u64) -> bool
         requires { (1 ≤ n) × (n ≤ 32) }
         ensures { result ≡ is_some (frame_for self.now.air n bearer place) }
     {
-        frame_for(&self.air, n, bearer, place).is_some()
+        match self.air.frame(bearer, place) {
+            Some(sent) => is_for(sent.from, sent.to, n),
+            None => false,
+        }
     }
 
     /// The frame of that place in a bearer's air, from 0 on: None exactly where there is no such frame.

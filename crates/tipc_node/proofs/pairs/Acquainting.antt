@@ -1,7 +1,7 @@
 -- A link end to a peer is made, which may be a stranger still.
-use Rattle.std.proofs.Common.{◌≡◌, ◌<◌, ◌==◌, ℕ, Bool, true, false, List, Option, Some, None, length, refl, sym, ap, ◌∙◌}
-use Rattle.std.specs.Prelude.{if◌then◌else◌, slice_index_or, slice_set, unwrap_or}
-use Rattle.std.proofs.lemmas.List.{get_or_default, set-set}
+use Rattle.std.proofs.Common.{◌≡◌, ◌==◌, ℕ, Bool, true, false, Option, Some, None, refl, sym, ap, ◌∙◌}
+use Rattle.std.specs.Prelude.{if◌then◌else◌, slice_set, unwrap_or}
+use Rattle.std.proofs.lemmas.List.{set-set}
 use Rattle.tipc_types.specs.Address.{node_word}
 use Rattle.tipc_pair.specs.Facing.{alone, facing, turned}
 use Rattle.tipc_node.specs.declared.neighbours.Neighbour.{Neighbour}
@@ -32,10 +32,6 @@ pub made_there : (n : NodeState) (peer bearer : ℕ) (x : Neighbour) → x ≡ n
 made_there n peer bearer x is =
     ap (with_neighbours n) (set-set n.neighbours peer None (Some x))
     ∙ ap (λ y. with_neighbours n (slice_set n.neighbours peer (Some y))) (is ∙ ap (λ (y : Neighbour). neighbour (making bearer (is_mended_on n.mended bearer) y).pair y.in_step) (same_acquaintance n peer (neighbour_of n peer)))
-
--- what is taken from a place is what stood there
-pub taken_from : (xs : List (Option Neighbour)) (place : ℕ) (x y : Option Neighbour) → place < length xs → x ≡ slice_index_or xs place x → y ≡ x → slice_index_or xs place None ≡ y
-taken_from xs place x y within read taken = get_or_default xs place None x within ∙ sym read ∙ sym taken
 
 -- what is made of it
 pub made_of_it : (n : NodeState) (peer bearer : ℕ) (is_mended : Bool) (place : Option Neighbour) (x y : Neighbour) → neighbour_of n peer ≡ place → is_mended ≡ is_mended_on n.mended bearer → x ≡ unwrap_or place (stranger n.own peer n.boot)

@@ -17,9 +17,9 @@ use Rattle.tipc_name_dist.specs.Items.{telling, tellings}
 use Rattle.tipc_sockets.specs.SocketTables.{SocketTable}
 use Rattle.tipc_node.specs.declared.neighbours.Neighbour.{Neighbour}
 use Rattle.tipc_node.specs.Calls.{Tells}
-use Rattle.tipc_node.specs.Drafts.{ToldPeers}
+use Rattle.tipc_node.specs.Drafts.{DraftState, ToldPeers, own_of, with_sockets_in}
 use Rattle.tipc_node.specs.Nodes.{NodeState, recorded, step_of}
-use Rattle.tipc_node.specs.Sockets.{crowd_refusal}
+use Rattle.tipc_node.specs.Sockets.{crowd_refusal, with_sockets_of}
 use Rattle.tipc_node.specs.Works.{Work, work_of}
 use Rattle.tipc_node.proofs.work.Making.{node_of}
 
@@ -65,10 +65,6 @@ announced_crowded r n n' by event reason w told box why none some ok = IfOk-weak
   adds_none box,
 )) ok
 
--- whether a peer is crowded, of what was looked at
-pub crowd_same : (n : NodeState) (xs : List (Option Neighbour)) (ms told : List Message) → xs ≡ n.neighbours → ms ≡ told → crowd_refusal xs ms ≡ crowd_refusal n.neighbours told
-crowd_same n xs ms told same is = ap (λ ys. crowd_refusal ys ms) same ∙ ap (crowd_refusal n.neighbours) is
-
 -- ---- a call that is done
 
 -- What was drafted, and what the call made of the rest of the node: every peer in contact is told behind these entries, the sockets are these,
@@ -77,6 +73,29 @@ pub record IsDrafted (k : NodeState) (by : By) (event : EventNote) (front : List
   pub tells : (s : SocketTable) → ToldPeers k.own (work_of k.neighbours s front) told (work_of xs s es) no_frames drafted
   pub leaves : (frames : List Outgoing) → Adds no_frames drafted frames → Adds box box' frames
   pub recorded_is : journal ≡ k.journal ++ step_entries (step_of by event es answer.Done)
+
+-- What was shared in the draft of a step, and how it was concluded behind a change of the sockets.
+pub record IsShared (k : NodeState) (by : By) (event : EventNote) (idle shared last : DraftState) (front : List Entry) (told : List Message) (ys : List (Option Neighbour)) (journal : List Entry) (box box' : Out) : Type 0 where
+  pub own : own_of idle ≡ k.own
+  pub same : idle.work.neighbours ≡ k.neighbours
+  pub tells : (t : SocketTable) → ToldPeers (own_of idle) (work_of idle.work.neighbours t front) told (with_sockets_of shared.work t) no_frames shared.out
+  pub changed : SocketTable
+  pub is : last ≡ with_sockets_in shared changed
+  pub left : ys ≡ last.work.neighbours
+  pub leaves : (frames : List Outgoing) → Adds no_frames last.out frames → Adds box box' frames
+  pub recorded_is : journal ≡ k.journal ++ step_entries (step_of by event last.work.inside answer.Done)
+
+pub shared_drafted : (k : NodeState) (by : By) (event : EventNote) (idle shared last : DraftState) (front : List Entry) (told : List Message) (ys : List (Option Neighbour)) (journal : List Entry) (box box' : Out)
+    → IsShared k by event idle shared last front told ys journal box box' → IsDrafted k by event front told ys last.work.inside journal last.out box box'
+shared_drafted k by event idle shared last front told ys journal box box' h = record {
+  tells = λ t.
+      subst (λ zs. ToldPeers k.own (work_of k.neighbours t front) told (work_of zs t last.work.inside) no_frames last.out) (sym h.left)
+      (subst (λ zs. ToldPeers k.own (work_of zs t front) told (with_sockets_of last.work t) no_frames last.out) h.same
+      (subst (λ word. ToldPeers word (work_of idle.work.neighbours t front) told (with_sockets_of last.work t) no_frames last.out) h.own
+      (subst (λ (z : DraftState). ToldPeers (own_of idle) (work_of idle.work.neighbours t front) told (with_sockets_of z.work t) no_frames z.out) (sym h.is) (h.tells t))));
+  leaves = h.leaves;
+  recorded_is = h.recorded_is;
+}
 
 pub announced : (k : NodeState) (by : By) (event : EventNote) (reason : Option Answer) (w : Work) (front : List Entry) (told given : List Message) (xs : List (Option Neighbour)) (s : SocketTable) (es journal : List Entry) (drafted box box' : Out)
     → reason ≡ None → crowd_refusal k.neighbours given ≡ None → given ≡ told → front ≡ w.inside → w.neighbours ≡ k.neighbours → s ≡ w.sockets → IsDrafted k by event front given xs es journal drafted box box'
@@ -95,6 +114,13 @@ announced k by event reason w front told given xs s es journal drafted box box' 
       },
       h.leaves all.frames all.adds,
     )
+
+-- what was announced is what the call makes of its names: nothing speaks against it, and this is its work, and these are its messages
+pub announced_as : {E : Type 0} (r : Result Answer E) (n n' : NodeState) (by : By) (event : EventNote) (reason : Option Answer) (w w' : Work) (told told' : List Message) (box box' : Out) → reason ≡ None → w ≡ w' → told ≡ told'
+    → IfOk r (IsAnnounced n n' by event None w told box box') → IfOk r (IsAnnounced n n' by event reason w' told' box box')
+announced_as r n n' by event reason w w' told told' box box' none work messages ok =
+    subst (λ (o : Option Answer). IfOk r (IsAnnounced n n' by event o w' told' box box')) (sym none)
+    (subst (λ (v : Work). IfOk r (IsAnnounced n n' by event None v told' box box')) work (subst (λ ms. IfOk r (IsAnnounced n n' by event None w ms box box')) messages ok))
 
 -- the message of one publication is all that is told of it
 pub telling_alone : (withdrawal : Bool) (p : Publication) → tellings withdrawal (p ∷ []) ≡ telling withdrawal p

@@ -1,6 +1,8 @@
 -- What an arrival delivers, one after the other.
-use Rattle.std.proofs.Common.{◌≡◌, ℕ, Bool, true, List, [], ◌∷◌, ◌++◌, Option, Some, None, Result, Ok, Err, refl, sym, ap, subst, ◌∙◌}
-use Rattle.std.specs.Prelude.{OnOk, fold}
+use Rattle.std.proofs.Common.{◌≡◌, ◌+◌, ◌<◌, ℕ, Bool, true, List, [], ◌∷◌, ◌++◌, Option, Some, None, Result, Ok, Err, append_assoc, drop, length, refl, sym, ap, subst, ◌∙◌}
+use Rattle.std.specs.Prelude.{OnOk, fold, option_map}
+use Rattle.std.proofs.Math.ListN.{get_or}
+use Rattle.std.proofs.lemmas.List.{drop_more}
 use Rattle.std.specs.List.{list_all}
 use Rattle.tipc_types.specs.declared.message_forms.Flow.TheVariants.{Zero}
 use Rattle.tipc_types.specs.Address.{node_word}
@@ -11,11 +13,15 @@ use Rattle.tipc_outside.specs.Frames.{Out}
 use Rattle.tipc_outside.proofs.Adding.{adds_more, adds_none}
 use Rattle.tipc_journal.specs.declared.entries.Entry.{Entry}
 use Rattle.tipc_journal.specs.declared.entries.Entry.TheVariants as entry
-use Rattle.tipc_name_dist.specs.Applying.{learnt_entries}
+use Rattle.tipc_types.specs.declared.services.Publication.{Publication}
+use Rattle.tipc_name_dist.specs.Applying.{applied, learnt_entries}
+use Rattle.tipc_name_dist.proofs.Applied.{some_item}
 use Rattle.tipc_reassembly.specs.declared.opening.Opened.{Opened}
 use Rattle.tipc_reassembly.specs.declared.opening.Opened.TheVariants.{Whole, Passed}
+use Rattle.tipc_sockets.specs.Learning.{fitting, learnt_by}
 use Rattle.tipc_sockets.specs.SocketTables.{SocketTable}
 use Rattle.tipc_sockets.specs.Telling.{after_entry, is_payload}
+use Rattle.tipc_sockets.proofs.Learning.{IsApplying, fits_not, told_from}
 use Rattle.tipc_node.specs.declared.arriving.Delivery.{Delivery}
 use Rattle.tipc_node.specs.Hearings.{is_plain, AllDelivered, Delivered, Settled, TookIn}
 use Rattle.tipc_node.specs.Messages.{message_in}
@@ -132,3 +138,19 @@ part_next own peer w now next ds waiting rest d a b c so_far is one last box h =
 pub part_last : (own peer : ℕ) (w now : Work) (ds waiting : List Delivery) (a b : Out) → IsPartDelivered own peer w ds now waiting a b → waiting ≡ [] → AllDelivered own peer w ds now a b
 part_last own peer w now ds waiting a b so_far none =
     so_far now b (subst (λ (es : List Delivery). AllDelivered own peer now es now b b) (sym none) (nothing_delivered own peer now b))
+
+-- ---- an item that doesn't fit
+
+none_fitting : (w : Bool) (o : Option Publication) → None ≡ option_map (learnt_by w) o → o ≡ None
+none_fitting w None is = refl
+none_fitting w (Some p) is = absurd cc
+
+-- it is the last of which something is told
+pub misfit_told : (from : ℕ) (w : Bool) (items : List Item) (s now : SocketTable) (inside inside' more : List Entry) (place : ℕ) → IsApplying from w items s now inside inside' place → place < length items
+    → None ≡ option_map (learnt_by w) (fitting from w now.names (get_or items place some_item)) → more ≡ inside' ++ entry.Dropped place ∷ [] → more ≡ inside ++ learnt_entries from s.names (Items w items)
+misfit_told from w items s now inside inside' more place h within told pushed =
+    let item = get_or items place some_item in
+    let last : learnt_entries from s.names (Items w items) ≡ h.told ++ entry.Dropped place ∷ [] =
+    h.all ∙ ap (λ xs. h.told ++ told_from w place (applied from now.names (Items w xs))) (drop_more items place some_item within)
+    ∙ ap (λ es. h.told ++ es) (fits_not from w now.names item (drop (place + 1) items) place (none_fitting w (fitting from w now.names item) told)) in
+    pushed ∙ ap (λ es. es ++ entry.Dropped place ∷ []) h.inside_is ∙ append_assoc inside h.told (entry.Dropped place ∷ []) ∙ ap (λ es. inside ++ es) (sym last)

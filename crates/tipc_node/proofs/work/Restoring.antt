@@ -1,7 +1,6 @@
 -- Neighbours are made what they were from the copies of those that changed.
-use Rattle.std.proofs.Common.{◌≡◌, ℕ, zero, suc, ◌+◌, ◌<◌, true, false, List, [], ◌∷◌, ◌++◌, Option, Some, None, length, take, drop, refl, sym, ap, ◌∙◌, add-one, arith, length-set}
+use Rattle.std.proofs.Common.{◌≡◌, ℕ, zero, suc, true, false, List, [], ◌∷◌, ◌++◌, Option, Some, None, length, refl, sym, ap, ◌∙◌, length-set}
 use Rattle.std.specs.Prelude.{is_some, slice_index_or, slice_set}
-use Rattle.std.proofs.lemmas.List.{take-append-drop}
 use Rattle.tipc_node.specs.declared.neighbours.Neighbour.{Neighbour}
 use Rattle.tipc_node.specs.Drafts.{restored, with_copy}
 
@@ -40,46 +39,31 @@ pub kept_changed : (copies copies' seen xs : List (Option Neighbour)) (i : ℕ) 
     → restored copies' (slice_set xs i y) ≡ restored copies xs
 kept_changed copies copies' seen xs i y seen_is there same = change_one copies' xs i y there ∙ ap (restored copies') (sym seen_is) ∙ same ∙ ap (restored copies) seen_is
 
--- ---- one after the other
-
--- those before a place are as they were, and so many copies are left for the others
-pub record IsPartRestored (copies old waiting now : List (Option Neighbour)) (place : ℕ) : Type 0 where
-  pub so_far : take place now ++ restored waiting (drop place now) ≡ restored copies old
-  pub left : length waiting + place ≡ length now
-  pub wide : length now ≡ length old
-
-one_back : (xs : List (Option Neighbour)) (place : ℕ) (copy : Option Neighbour) (waiting : List (Option Neighbour)) → place < length xs
-    → take (suc place) (with_copy xs place copy) ++ restored waiting (drop (suc place) (with_copy xs place copy)) ≡ take place xs ++ restored (copy ∷ waiting) (drop place xs)
-unfolding restored
-one_back [] place copy waiting within = let wrong : ⊥ = omega (arith, within) in absurd wrong
-one_back (x ∷ xs) zero None waiting within = refl
-one_back (x ∷ xs) zero (Some c) waiting within = refl
-one_back (x ∷ xs) (suc place) None waiting within = ap (λ ys. x ∷ ys) (one_back xs place None waiting (omega (arith, within)))
-one_back (x ∷ xs) (suc place) (Some c) waiting within = ap (λ ys. x ∷ ys) (one_back xs place (Some c) waiting (omega (arith, within)))
+-- ---- one after the other, from the last on
 
 pub copy_wide : (xs : List (Option Neighbour)) (place : ℕ) (copy : Option Neighbour) → length (with_copy xs place copy) ≡ length xs
 copy_wide xs place None = refl
 copy_wide xs place (Some c) = length-set xs place (Some c)
 
-pub restore_next : (copies old waiting now : List (Option Neighbour)) (place : ℕ) (copy : Option Neighbour) → IsPartRestored copies old (copy ∷ waiting) now place
-    → IsPartRestored copies old waiting (with_copy now place copy) (place + 1)
-restore_next copies old waiting now place copy h =
-    let left = h.left in
-    let wide = copy_wide now place copy in
-    record {
-      so_far = ap (λ k. take k (with_copy now place copy) ++ restored waiting (drop k (with_copy now place copy))) (add-one place) ∙ one_back now place copy waiting (omega (arith, left)) ∙ h.so_far;
-      left = omega (arith, left, wide);
-      wide = wide ∙ h.wide;
-    }
-
-no_more : (xs : List (Option Neighbour)) → restored [] xs ≡ xs
+-- nothing is made what it was where no copy is left
+pub restore_last : (xs : List (Option Neighbour)) → restored [] xs ≡ xs
 unfolding restored
-no_more [] = refl
-no_more (x ∷ xs) = refl
+restore_last [] = refl
+restore_last (x ∷ xs) = refl
 
-pub restore_last : (copies old now : List (Option Neighbour)) (place : ℕ) → IsPartRestored copies old [] now place → now ≡ restored copies old
-restore_last copies old now place h =
-    sym (ap (λ ys. take place now ++ ys) (no_more (drop place now)) ∙ take-append-drop place now) ∙ h.so_far
+-- the last copy that is left is put back at its place
+pub restore_next : (copies : List (Option Neighbour)) (copy : Option Neighbour) (xs : List (Option Neighbour)) → restored copies (with_copy xs (length copies) copy) ≡ restored (copies ++ copy ∷ []) xs
+unfolding restored
+restore_next [] None [] = refl
+restore_next [] (Some c) [] = refl
+restore_next [] None (x ∷ xs) = ap (λ ys. x ∷ ys) (sym (restore_last xs))
+restore_next [] (Some c) (x ∷ xs) = ap (λ ys. Some c ∷ ys) (sym (restore_last xs))
+restore_next (k ∷ copies) None [] = refl
+restore_next (k ∷ copies) (Some c) [] = refl
+restore_next (None ∷ copies) None (x ∷ xs) = ap (λ ys. x ∷ ys) (restore_next copies None xs)
+restore_next (None ∷ copies) (Some c) (x ∷ xs) = ap (λ ys. x ∷ ys) (restore_next copies (Some c) xs)
+restore_next (Some k ∷ copies) None (x ∷ xs) = ap (λ ys. Some k ∷ ys) (restore_next copies None xs)
+restore_next (Some k ∷ copies) (Some c) (x ∷ xs) = ap (λ ys. Some k ∷ ys) (restore_next copies (Some c) xs)
 
 -- one more is copied, as the code has it
 pub keep_there : (copies xs : List (Option Neighbour)) (i : ℕ) (y : Neighbour) → is_some (slice_index_or copies i None) ≡ false → slice_index_or xs i None ≡ Some y
@@ -95,3 +79,19 @@ pub there_is : (xs : List (Option Neighbour)) (i : ℕ) (place : Option Neighbou
 there_is [] i place y there read is = absurd cc
 there_is (x ∷ xs) zero place y there read is = sym read ∙ is
 there_is (x ∷ xs) (suc i) place y there read is = there_is xs i place y there read is
+
+-- ---- the table stays
+
+pub restored_wide : (copies xs : List (Option Neighbour)) → length (restored copies xs) ≡ length xs
+unfolding restored
+restored_wide copies [] = refl
+restored_wide [] (x ∷ xs) = refl
+restored_wide (None ∷ copies) (x ∷ xs) = ap suc (restored_wide copies xs)
+restored_wide (Some c ∷ copies) (x ∷ xs) = ap suc (restored_wide copies xs)
+
+pub restored_first : (copies xs : List (Option Neighbour)) → slice_index_or copies 0 None ≡ None → slice_index_or xs 0 None ≡ None → slice_index_or (restored copies xs) 0 None ≡ None
+unfolding restored
+restored_first copies [] none nobody = refl
+restored_first [] (x ∷ xs) none nobody = nobody
+restored_first (None ∷ copies) (x ∷ xs) none nobody = nobody
+restored_first (Some c ∷ copies) (x ∷ xs) none nobody = let wrong : Some c ≡ None = none in absurd cc

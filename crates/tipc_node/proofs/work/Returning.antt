@@ -2,8 +2,8 @@
 use Rattle.std.proofs.Common.{◌≡◌, ℕ, ◌-◌, ◌<◌, ◌≤◌, ◌==◌, ◌&&◌, ◌||◌, not, Bool, true, false, List, [], ◌∷◌, ◌++◌, Option, Some, None, Result, Ok, Err, if◌then◌else◌, refl, sym, ap, subst, ◌∙◌, arith, length, take, true≢false}
 use Rattle.std.specs.Prelude.{OnOk, is_some, option_map, nat_le, nat_lt, slice_index_or, unwrap_or}
 use Rattle.std.proofs.lemmas.Bool.Decides.{nat_tests}
-use Rattle.std.proofs.lemmas.List.{length-take}
-use Rattle.tipc_types.specs.Address.{node_word}
+use Rattle.std.proofs.lemmas.List.{get_or_past, length-take}
+use Rattle.tipc_types.specs.Address.{IsNodeWord, node_word}
 use Rattle.tipc_types.specs.declared.identity.Addr.{Addr}
 use Rattle.tipc_types.specs.declared.message_forms.Form.{Form}
 use Rattle.tipc_types.specs.declared.message_forms.Form.TheVariants.{Connected, Direct, Multicast, Named}
@@ -117,6 +117,27 @@ contact_to xs node peer waiting y word counted was =
     some_load None is = absurd cc
     some_load (Some load) is = refl
 
+-- and it is one of the 32 nodes
+pub waiting_node : (xs : List (Option Neighbour)) (node : Addr) (waiting : ℕ) → length xs ≡ 33 → slice_index_or xs 0 None ≡ None → waiting_to xs node ≡ Some waiting → IsNodeWord node.word
+waiting_node xs node waiting wide nobody counted = by (nat_lt 0 place) (nat_lt place 33) refl refl
+  where
+    place : ℕ
+    place = node.word - node_word 0
+
+    someone : slice_index_or xs place None ≡ None → ⊥
+    someone none = (let wrong : None ≡ Some waiting = sym (ap (λ (o : Option Neighbour). option_map (λ (load : ℕ × ℕ). load.1) (load_with o)) none) ∙ counted in cc)
+
+    by : (low high : Bool) → nat_lt 0 place ≡ low → nat_lt place 33 ≡ high → IsNodeWord node.word
+    by false high l h = let first : place ≡ 0 = grind (arith, nat_tests, l) in absurd (someone (ap (λ k. slice_index_or xs k None) first ∙ nobody))
+    by true false l h =
+        let far : 33 ≤ place = grind (arith, nat_tests, h) in
+        let past : length xs ≤ place = omega (arith, wide, far) in
+        absurd (someone (get_or_past xs place None past))
+    by true true l h =
+        let some : 1 ≤ place = grind (arith, nat_tests, l) in
+        let few : place ≤ 32 = grind (arith, nat_tests, h) in
+        (omega (arith, some), omega (arith, few))
+
 -- at the own node it has a fate
 pub back_home : (own : ℕ) (w : Work) (m : Message) (w' : Work) (box : Out) → comes_home (addr_of_word own) m ≡ true → w' ≡ fated w m (fate_of w false m) → WentBack own w m w' box box
 back_home own w m w' box home is =
@@ -185,10 +206,6 @@ pub record HasMet (xs seen : List (Option Neighbour)) (s s' : SocketTable) (es e
   pub back_is : back ≡ back_of (fate_of (work_of seen s es) arrived m)
   pub sockets_are : s' ≡ after_fate s m (fate_of (work_of seen s es) arrived m)
   pub entries_are : es' ≡ es ++ fate_entry (fate_of (work_of seen s es) arrived m) ∷ []
-
-pub met_back : (xs seen : List (Option Neighbour)) (s s' : SocketTable) (es es' : List Entry) (arrived : Bool) (m : Message) (back : Option Message) → HasMet xs seen s s' es es' arrived m back
-    → back_of (fate_of (work_of xs s es) arrived m) ≡ back
-met_back xs seen s s' es es' arrived m back h = sym (h.back_is ∙ ap (λ zs. back_of (fate_of (work_of zs s es) arrived m)) h.seen_is)
 
 pub met_work : (xs seen : List (Option Neighbour)) (s s' : SocketTable) (es es' : List Entry) (arrived : Bool) (m : Message) (back : Option Message) → HasMet xs seen s s' es es' arrived m back
     → work_of xs s' es' ≡ fated (work_of xs s es) m (fate_of (work_of xs s es) arrived m)

@@ -86,10 +86,6 @@ ports_stable own s = record {
   note = λ w es is. (let same = same_folded w.sockets es in record { own = same.own ∙ is.own; ports = same.ports ∙ is.ports });
 }
 
-pub delivered_same : (own peer : ℕ) (w : Work) (d : Delivery) (w' : Work) (frames : List Outgoing) → Delivers own peer w d w' frames → IsSameNode w.sockets w'.sockets
-delivered_same own peer w d w' frames h =
-    delivers_stable own peer (λ (u : Work). IsSameNode w.sockets u.sockets) (ports_stable own w.sockets) w d w' frames h (record { own = refl; ports = refl })
-
 -- a neighbour stays one while it is greeted and something is delivered from it
 pub still_there : (own peer : ℕ) (w told last : Work) (ms : List Message) (ds : List Delivery) (greeting returned : List Outgoing) → is_there peer w.neighbours ≡ true → PutsEach own peer w ms told greeting
     → DeliversAll own peer told ds last returned → is_there peer last.neighbours ≡ true

@@ -1,9 +1,8 @@
 -- What the code of an arrival did to the parts of a node is what the arrival makes of it.
-use Rattle.std.proofs.Common.{◌≡◌, ℕ, zero, suc, ◌<◌, ◌≤◌, true, List, [], ◌∷◌, ◌++◌, Option, Some, None, length, length-set, refl, sym, ap, subst, ◌∙◌, arith}
-use Rattle.std.specs.Prelude.{is_some, fold, slice_index_or, slice_set}
+use Rattle.std.proofs.Common.{◌≡◌, ℕ, zero, suc, ◌<◌, true, List, [], ◌∷◌, ◌++◌, Option, Some, None, length, refl, sym, ap, subst, ◌∙◌}
+use Rattle.std.specs.Prelude.{is_some, fold, slice_set}
 use Rattle.std.specs.List.{list_all}
-use Rattle.std.proofs.lemmas.List.{get_or-set_other, get_or-set_same}
-use Rattle.tipc_ports.specs.Numbers.{PortTable}
+use Rattle.std.proofs.lemmas.List.{get_or-set_same}
 use Rattle.tipc_types.specs.declared.message_forms.Message.{Message}
 use Rattle.tipc_types.specs.declared.node_calls.Answer.TheVariants as answer
 use Rattle.tipc_types.specs.declared.node_calls.Arrival.{Arrival}
@@ -113,17 +112,6 @@ taken_all n by bytes x y z d h given inside messages sockets a b c due was withi
     })
 
 -- ---- what is true of every node
-
-pub core_kept : (xs : List (Option Neighbour)) (peer : ℕ) (z : Neighbour) (s s' : SocketTable) (boot own : ℕ) → length xs ≡ 33 → slice_index_or xs 0 None ≡ None → 1 ≤ boot → s.own ≡ own → s.ports.boot ≡ boot → 1 ≤ peer
-    → (s'.own ≡ s.own) × (s'.ports ≡ s.ports)
-    → (length (slice_set xs peer (Some z)) ≡ 33) × (slice_index_or (slice_set xs peer (Some z)) 0 None ≡ None) × (1 ≤ boot) × (s'.own ≡ own) × (s'.ports.boot ≡ boot)
-core_kept xs peer z s s' boot own wide nobody first is_own is_boot other same = (
-  length-set xs peer (Some z) ∙ wide,
-  get_or-set_other xs peer 0 (Some z) None (λ e. (let wrong : ⊥ = omega (arith, e, other) in wrong)) ∙ nobody,
-  first,
-  same.0 ∙ is_own,
-  ap (λ (ports : PortTable). ports.boot) same.1 ∙ is_boot,
-)
 
 pub same_put : (s s' : SocketTable) (ms : List Message) → s' ≡ with_all_waiting s ms → (s'.own ≡ s.own) × (s'.ports ≡ s.ports)
 same_put s s' ms is = subst (λ (t : SocketTable). (t.own ≡ s.own) × (t.ports ≡ s.ports)) (sym is) (same_sockets s ms)

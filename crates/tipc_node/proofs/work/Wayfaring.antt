@@ -132,14 +132,14 @@ home_sent n k by note m sent own xs s es told journal same node there empty sett
       ap (node_of k k.neighbours s) recorded,
     )
 
-pub away_sent : (n k : NodeState) (by : By) (note : EventNote) (peer : ℕ) (m : Message) (sent : Answer) (x x' : Neighbour) (es told journal : List Entry) (box box' : Out) → k ≡ n → slice_index_or k.neighbours peer None ≡ Some x → es ≡ []
-    → PutsOn k.own x x' peer m es told box box' → journal ≡ k.journal ++ step_entries (step_of by note told sent)
-    → (w : Work) × (frames : List Outgoing) × Puts n.own (begun n) peer m w frames × (node_of k (slice_set k.neighbours peer (Some x')) k.sockets journal ≡ concluded n by note w sent) × Adds box box' frames
-away_sent n k by note peer m sent x x' es told journal box box' same was empty p recorded =
-    subst (λ (z : NodeState). (w : Work) × (frames : List Outgoing) × Puts z.own (begun z) peer m w frames × (node_of k (slice_set k.neighbours peer (Some x')) k.sockets journal ≡ concluded z by note w sent) × Adds box box' frames) same (
-      work_of (slice_set k.neighbours peer (Some x')) k.sockets told,
-      p.frames,
-      subst (λ fs. Puts k.own (work_of k.neighbours k.sockets fs) peer m (work_of (slice_set k.neighbours peer (Some x')) k.sockets told) p.frames) empty (puts_by k.own peer k.neighbours k.sockets es told x x' m box box' was p),
-      ap (node_of k (slice_set k.neighbours peer (Some x')) k.sockets) recorded,
-      p.adds,
+pub away_sent : (n k : NodeState) (by : By) (note : EventNote) (peer : ℕ) (m : Message) (sent : Answer) (own : ℕ) (ys : List (Option Neighbour)) (s : SocketTable) (es told journal : List Entry) (box box' : Out) → k ≡ n → own ≡ k.own → es ≡ [] → s ≡ k.sockets
+    → ((frames : List Outgoing) × Puts own (work_of k.neighbours k.sockets es) peer m (work_of ys k.sockets told) frames × Adds box box' frames) → journal ≡ k.journal ++ step_entries (step_of by note told sent)
+    → (w : Work) × (frames : List Outgoing) × Puts n.own (begun n) peer m w frames × (node_of k ys s journal ≡ concluded n by note w sent) × Adds box box' frames
+away_sent n k by note peer m sent own ys s es told journal box box' same node empty kept p recorded =
+    subst (λ (z : NodeState). (w : Work) × (frames : List Outgoing) × Puts z.own (begun z) peer m w frames × (node_of k ys s journal ≡ concluded z by note w sent) × Adds box box' frames) same (
+      work_of ys k.sockets told,
+      p.0,
+      subst (λ fs. Puts k.own (work_of k.neighbours k.sockets fs) peer m (work_of ys k.sockets told) p.0) empty (subst (λ word. Puts word (work_of k.neighbours k.sockets es) peer m (work_of ys k.sockets told) p.0) node p.1),
+      ap (λ t. node_of k ys t journal) kept ∙ ap (node_of k ys k.sockets) recorded,
+      p.2,
     )

@@ -1,61 +1,95 @@
-use Rattle.std.proofs.Common.{◌<◌, length, ap, refl, ◌∙◌, sym, subst, arith}
-use Rattle.std.specs.Prelude.{Some, slice_set}
+use Rattle.std.proofs.Common.{◌≡◌, ◌<◌, ◌≤◌, length, length-set, ap, refl, ◌∙◌, sym, subst, arith}
+use Rattle.std.specs.Prelude.{None, Some, slice_set}
+use Rattle.std.proofs.lemmas.List.{get_or-set_other}
 use Rattle.tipc_header.specs.Spelling.{view}
 use Rattle.tipc_journal.specs.Room.{JournalState}
+use Rattle.tipc_ports.specs.Numbers.{PortTable}
 use Rattle.tipc_node.specs.contracts.cores.Core.{the_view}
+use Rattle.tipc_node.specs.declared.cores.Core.TheInside.{Inside}
 use Rattle.tipc_node.specs.declared.listening.HeardPacket.{HeardPacket}
 use Rattle.tipc_node.specs.Arrivals.{IsDue}
+use Rattle.tipc_node.specs.Drafts.{IsIdle}
 use Rattle.tipc_node.specs.Hearings.{IsPrepared}
 use Rattle.tipc_node.specs.Nodes.{NodeState, message_count, neighbour_of}
 use Rattle.tipc_node.specs.Sure.{all_wait, are_sure}
 use Rattle.tipc_node.specs.Works.{work_of}
+use Rattle.tipc_node.proofs.work.Drafting.{core_of, draft_of}
 use Rattle.tipc_node.proofs.work.Heard.{journal_heard}
 use Rattle.tipc_node.proofs.work.Hearings.{prepared_there, taken_heard, told_there}
 use Rattle.tipc_node.proofs.work.Surely.{each_sure}
-use Rattle.tipc_node.proofs.work.Taking.{core_kept, same_put, taken_all}
+use Rattle.tipc_node.proofs.work.Taking.{same_put, taken_all}
 use Rattle.tipc_node.proofs.work.Wayfaring.{read_at as place_is}
 use Rattle.tipc_node.proofs.cores.Core.take_all.Goals as goal
 
 pub take-requires : goal.take-requires
 take-requires c =
-    let n = the_view c.self.inside in
-    let d = c.args.due in
+    let g = c.self-inside.inside.0 in
+    let dd = g.1.1.1.0 in
+    let n = core_of g.0.word g.1.0 g.1.1.0 (draft_of dd.neighbours.items dd.sockets dd.inside.items dd.copies.items dd.out) g.1.1.1.1.0.entries in
+    let whole = ap (λ (k : Inside). the_view k) c.self-inside.view_is ∙ c.self.view_is in
+    let d = c.args.due.now in
     let h = c.args.heard in
-    let wide = c.self.invariant.0 in
+    let wide = c.self-inside.invariant.1.wide in
     let peer = c.requires.due in
     let within : d.peer < length n.neighbours = omega (arith, wide, peer) in
     let was = place_is n.neighbours d.peer c.index_mut.result.now c.in-Some.neighbour within c.index_mut.ensures.value c.in-Some.is in
-    let prepared = subst (λ (k : NodeState). IsPrepared (neighbour_of k d.peer) d h) (sym c.self.view_is) c.requires.heard in
+    let prepared = subst (λ (k : NodeState). IsPrepared (neighbour_of k d.peer) d h) (sym whole) c.requires.heard in
     (d.first, d.second, h.number, told_there (neighbour_of n d.peer) c.in-Some.neighbour d h was prepared)
 
 pub conclude_waiting-requires-clause-sure : goal.conclude_waiting-requires-clause-sure
 conclude_waiting-requires-clause-sure c =
     let ds = c.args.heard.deliveries.items in
-    let sure = ap (λ (n : NodeState). all_wait n.sockets (message_count ds) ds) c.self.view_is ∙ c.requires.sure in
-    ap (are_sure c.self.inside.sockets) c.in_ok-told.ensures.messages ∙ each_sure c.self.inside.sockets ds sure
+    let s = c.self-inside.inside.0.1.1.1.0.sockets in
+    let whole = ap (λ (k : Inside). the_view k) c.self-inside.view_is ∙ c.self.view_is in
+    let sure = ap (λ (n : NodeState). all_wait n.sockets (message_count ds) ds) whole ∙ c.requires.sure in
+    ap (are_sure s) c.in_ok-told.ensures.messages ∙ each_sure s ds sure
+
+pub invariant_of-self-inside-2 : goal.invariant_of-self-inside-2
+invariant_of-self-inside-2 c =
+    let dd = c.self-inside.inside.0.1.1.1.0 in
+    let e = c.self-inside.invariant in
+    let t = e.1 in
+    let d = c.args.due.now in
+    let peer = c.requires.due in
+    let same = same_put dd.sockets c.conclude_waiting.new.sockets c.in_ok-told.told.messages.items c.conclude_waiting.ensures.sockets in (
+      same.0 ∙ e.0,
+      record {
+        wide = length-set dd.neighbours.items d.peer (Some c.answer.new.self) ∙ t.wide;
+        copied = t.copied;
+        nobody = get_or-set_other dd.neighbours.items d.peer 0 (Some c.answer.new.self) None (λ none. (let wrong : ⊥ = omega (arith, none, peer) in wrong)) ∙ t.nobody;
+        uncopied = t.uncopied;
+      },
+    )
 
 pub invariant_of-self-2 : goal.invariant_of-self-2
 invariant_of-self-2 c =
-    let i = c.self.invariant in
-    core_kept c.self.inside.neighbours.items c.args.due.peer c.answer.new.self c.self.inside.sockets c.conclude_waiting.new.sockets c.self.inside.boot c.self.inside.own.word i.0 i.1 i.2 i.3 i.4 c.requires.due.0
-    (same_put c.self.inside.sockets c.conclude_waiting.new.sockets c.in_ok-told.told.messages.items c.conclude_waiting.ensures.sockets)
+    let i = subst (λ (k : Inside). IsIdle k.draft × (1 ≤ k.boot) × (k.draft.work.sockets.own ≡ k.own.word) × (k.draft.work.sockets.ports.boot ≡ k.boot)) (sym c.self-inside.view_is) c.self.invariant in
+    let same = same_put c.self-inside.inside.0.1.1.1.0.sockets c.conclude_waiting.new.sockets c.in_ok-told.told.messages.items c.conclude_waiting.ensures.sockets in (
+      record { inside = i.0.inside; copies = i.0.copies; out = i.0.out },
+      i.1,
+      same.0 ∙ i.2,
+      ap (λ (ports : PortTable). ports.boot) same.1 ∙ i.3,
+    )
 
 pub returns-clause-heard : goal.returns-clause-heard
 returns-clause-heard c = λ bytes due.
-    let n = the_view c.self.inside in
-    let d = c.args.due in
+    let g = c.self-inside.inside.0 in
+    let dd = g.1.1.1.0 in
+    let n = core_of g.0.word g.1.0 g.1.1.0 (draft_of dd.neighbours.items dd.sockets dd.inside.items dd.copies.items dd.out) g.1.1.1.1.0.entries in
+    let whole = ap (λ (k : Inside). the_view k) c.self-inside.view_is ∙ c.self.view_is in
+    let d = c.args.due.now in
     let h = c.args.heard in
     let ds = h.deliveries.items in
     let x = c.in-Some.neighbour in
     let y = c.take.new.self in
     let z = c.answer.new.self in
-    let wide = c.self.invariant.0 in
+    let wide = c.self-inside.invariant.1.wide in
     let peer = c.requires.due in
     let within : d.peer < length n.neighbours = omega (arith, wide, peer) in
     let was = place_is n.neighbours d.peer c.index_mut.result.now x within c.index_mut.ensures.value c.in-Some.is in
-    let due_here = subst (λ (k : NodeState). IsDue k bytes d.bearer d.peer d.first d.second (view d.packet)) (sym c.self.view_is) due in
-    let prepared = subst (λ (k : NodeState). IsPrepared (neighbour_of k d.peer) d h) (sym c.self.view_is) c.requires.heard in
-    let sure = ap (λ (k : NodeState). all_wait k.sockets (message_count ds) ds) c.self.view_is ∙ c.requires.sure in
+    let due_here = subst (λ (k : NodeState). IsDue k bytes d.bearer d.peer d.first d.second (view d.packet)) (sym whole) due in
+    let prepared = subst (λ (k : NodeState). IsPrepared (neighbour_of k d.peer) d h) (sym whole) c.requires.heard in
+    let sure = ap (λ (k : NodeState). all_wait k.sockets (message_count ds) ds) whole ∙ c.requires.sure in
     let told = told_there (neighbour_of n d.peer) x d h was prepared in
     let given : HeardPacket = record { changes = c.take.result; deliveries = h.deliveries; answer = h.answer } in
     let took = c.take.ensures in
@@ -66,4 +100,4 @@ returns-clause-heard c = λ bytes due.
     (taken_all n c.args.by bytes x y z d h given inside c.in_ok-told.told.messages.items sockets c.args.out.now c.take.new.out c.answer.new.out due_here was within prepared heard (took.changes ∙ c.requires.still) refl refl
     (record { answered = c.answer.ensures.after; state = c.answer.ensures.frames })
     (record { inside_is = c.in_ok-told.ensures.entries; messages_are = c.in_ok-told.ensures.messages; sockets_are = c.conclude_waiting.ensures.sockets; sure = sure }))
-    c.conclude_waiting.ensures.journal (ap (λ (j : JournalState). j.entries) c.in_ok-reserve.ensures.ok) c.self.view_is
+    c.conclude_waiting.ensures.journal (ap (λ (j : JournalState). j.entries) c.in_ok-reserve.ensures.ok) whole
