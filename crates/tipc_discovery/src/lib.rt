@@ -5,4 +5,4 @@ mod laws;
 mod neighbours;
 
 pub use laws::a_neighbour_is_new_once;
-pub use neighbours::{Found, NETWORK, Neighbours};
+pub use neighbours::{Found, NETWORK, Neighbours, is_of_network};

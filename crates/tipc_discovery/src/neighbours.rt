@@ -59,8 +59,8 @@ fn is_node(word: u32) -> bool
     Addr { word }.number().is_some()
 }
 
-/// Whether a packet is a discovery packet of the network.
-fn is_of_network(header: &Header) -> bool
+/// Whether a packet is a discovery packet of the network 4711. (This project's profile.)
+pub fn is_of_network(header: &Header) -> bool
     ensures { result ≡ is_of_network header.now }
 {
     match header {

@@ -15,6 +15,7 @@ use Rattle.tipc_journal.specs.Licensed.{IsPicked, IsPickedOf}
 use Rattle.tipc_sockets.specs.SocketTables.{AreSockets}
 use Rattle.tipc_node.specs.Arrivals.{Arrived, Arrives}
 use Rattle.tipc_node.specs.Calls.{CanPerform, HasInstances, IsPickedFrom, Performed, Performs}
+use Rattle.tipc_node.specs.Finding.{AreFound}
 use Rattle.tipc_node.specs.Nodes.{NodeState}
 use Rattle.tipc_node.specs.Sharing.{SharesNames}
 use Rattle.tipc_node.specs.Sockets.{kept_answer}
@@ -26,13 +27,13 @@ use Rattle.tipc_node.proofs.journal.Refusing.{told_found}
 
 -- the invariant of a node, as its fields
 abbrev pub Held : NodeState → Type 0
-Held n = IsTold n × AreNamed n × ArePacked n × SharesNames n
+Held n = IsTold n × AreNamed n × ArePacked n × SharesNames n × AreFound n
 
 pub kept_of : (n : NodeState) → Held n → IsKept n
-kept_of n h = record { told = h.0; named = h.1; packed = h.2; shares = h.3 }
+kept_of n h = record { told = h.0; named = h.1; packed = h.2; shares = h.3; found = h.4 }
 
 pub held_of : (n : NodeState) → IsKept n → Held n
-held_of n k = (k.told, k.named, k.packed, k.shares)
+held_of n k = (k.told, k.named, k.packed, k.shares, k.found)
 
 -- ---- a call
 

@@ -1,6 +1,6 @@
 -- What always holds of a node stays so: its journal tells of it, its pairs are for the peers of their numbers, its sessions are packed,
--- and it shares its names with its peers.
-use Rattle.std.proofs.Common.{◌≡◌, ◌≤◌, ℕ, List, [], None, length}
+-- it shares its names with its peers, and it has a link end to each peer that it found.
+use Rattle.std.proofs.Common.{◌≡◌, ℕ, List, [], None, length}
 use Rattle.tipc_types.specs.declared.node_calls.Answer.{Answer}
 use Rattle.tipc_types.specs.declared.node_calls.Answer.TheVariants as answer
 use Rattle.tipc_types.specs.declared.node_calls.Arrival.{Arrival}
@@ -11,18 +11,21 @@ use Rattle.tipc_outside.specs.declared.outgoing.Outgoing.{Outgoing}
 use Rattle.tipc_sockets.specs.SocketTables.{AreSockets, no_sockets}
 use Rattle.tipc_node.specs.Arrivals.{Arrives}
 use Rattle.tipc_node.specs.Calls.{CallTurn, CanPerform, HasInstances, Performs}
-use Rattle.tipc_node.specs.Nodes.{NodeState, end_with, known_node, neighbour_of, step_of}
+use Rattle.tipc_node.specs.Finding.{AreFound, nobody_heard}
+use Rattle.tipc_node.specs.Nodes.{NodeState, neighbour_of, step_of}
 use Rattle.tipc_node.specs.Sharing.{SharesNames}
 use Rattle.tipc_node.specs.Sockets.{kept_answer}
 use Rattle.tipc_node.specs.Telling.{ArePacked, IsTold}
 use Rattle.tipc_node.specs.Turns.{AreNamed}
 use Rattle.tipc_node.proofs.journal.ArrivalTold.{arrives_told}
 use Rattle.tipc_node.proofs.turns.Arrivals.{arrives_turn}
-use Rattle.tipc_node.proofs.journal.FirstTold.{known_told, new_told}
-use Rattle.tipc_node.proofs.turns.Named.{IsBoot, known_named, new_named, turn_named}
-use Rattle.tipc_node.proofs.pairs.Packed.{known_packed, new_packed, turn_packed}
+use Rattle.tipc_node.proofs.journal.FirstTold.{new_told}
+use Rattle.tipc_node.proofs.turns.Finding.{boot_low}
+use Rattle.tipc_node.proofs.turns.FoundKept.{arrives_found, new_are_found, performs_found}
+use Rattle.tipc_node.proofs.turns.Named.{IsBoot, new_named, turn_named}
+use Rattle.tipc_node.proofs.pairs.Packed.{new_packed, turn_packed}
 use Rattle.tipc_node.proofs.turns.Performing.{performs_turn}
-use Rattle.tipc_node.proofs.names.SharedNames.{known_shares, new_shares, performs_shares}
+use Rattle.tipc_node.proofs.names.SharedNames.{new_shares, performs_shares}
 use Rattle.tipc_node.proofs.names.SharingArrivals.{arrives_shares}
 use Rattle.tipc_node.proofs.journal.Told.{performs_told}
 
@@ -31,23 +34,17 @@ pub record IsKept (n : NodeState) : Type 0 where
   pub named : AreNamed n
   pub packed : ArePacked n
   pub shares : SharesNames n
+  pub found : AreFound n
 
 -- a node that knows nobody
-pub new_kept : (n : NodeState) → IsBoot n.boot → n.sockets ≡ no_sockets n.own n.boot → AreSockets n.sockets → n.journal ≡ [] → ((peer : ℕ) → neighbour_of n peer ≡ None) → IsKept n
-new_kept n boot none sound empty nobody = record {
+pub new_kept : (n : NodeState) → IsBoot n.boot → n.sockets ≡ no_sockets n.own n.boot → AreSockets n.sockets → n.journal ≡ [] → ((peer : ℕ) → neighbour_of n peer ≡ None)
+    → n.found ≡ nobody_heard n.own → IsKept n
+new_kept n boot none sound empty nobody unheard = record {
   told = new_told n none sound empty nobody;
   named = new_named n boot nobody;
   packed = new_packed n nobody;
   shares = new_shares n empty;
-}
-
--- a link end is made
-pub known_kept : (n : NodeState) (peer bearer : ℕ) → IsBoot n.boot → 1 ≤ peer → end_with bearer (neighbour_of n peer) ≡ None → IsKept n → IsKept (known_node n peer bearer)
-known_kept n peer bearer boot some none k = record {
-  told = known_told n peer bearer some none k.told;
-  named = known_named n peer bearer boot k.named;
-  packed = known_packed n peer bearer k.told k.packed;
-  shares = known_shares n peer bearer none k.told k.shares;
+  found = new_are_found n nobody unheard;
 }
 
 -- a step was recorded
@@ -57,20 +54,35 @@ turn_kept n n' by note bytes kept frames k t = record {
   named = turn_named n n' bytes (step_of by note t.inside kept) frames k.named t.turn;
   packed = turn_packed n n' bytes (step_of by note t.inside kept) frames k.told k.packed t.turn;
   shares = t.shared;
+  found = t.found;
 }
 
 -- a call; a publication of it has a range with instances
 pub performs_kept : (n n' : NodeState) (by : By) (call : EventNote) (frames : List Outgoing) (answered : Answer) → IsKept n → CanPerform call → HasInstances call → Performs n by call n' frames answered → AreSockets n'.sockets
     → length n'.neighbours ≡ 33 → CallTurn n n' by call [] (kept_answer answered) frames
 performs_kept n n' by call frames answered k can ranges performs sound wide =
-    let t = performs_turn n n' by call frames answered k.named can performs in
+    let t = performs_turn n n' by call frames answered k.named (boot_low n k.told k.named) can performs in
     let told = performs_told n n' by call frames answered k.told k.packed can performs t.0 t.1 sound in
-    record { inside = t.0; turn = t.1; told_before = k.told; told = told; shared = performs_shares n n' by call frames answered k.told k.shares can performs t.0 t.1 told ranges wide }
+    record {
+      inside = t.0;
+      turn = t.1;
+      told_before = k.told;
+      told = told;
+      shared = performs_shares n n' by call frames answered k.told k.shares can performs t.0 t.1 told ranges wide;
+      found = performs_found n n' by call frames answered k.named k.found can performs t.0 (kept_answer answered) t.1;
+    }
 
 -- an arrival
 pub arrives_kept : (n n' : NodeState) (by : By) (bearer number : ℕ) (bytes : List ℕ) (frames : List Outgoing) (answered : Arrival) → IsKept n → Arrives n n' by bearer number bytes frames answered → AreSockets n'.sockets
     → CallTurn n n' by (event.Arrive bearer number) bytes (answer.Arrived answered) frames
 arrives_kept n n' by bearer number bytes frames answered k arrives sound =
-    let t = arrives_turn n n' by bearer number bytes frames answered k.named arrives in
+    let t = arrives_turn n n' by bearer number bytes frames answered k.named k.found (boot_low n k.told k.named) arrives in
     let told = arrives_told n n' by bearer number bytes frames answered k.told arrives t.0 t.1 sound in
-    record { inside = t.0; turn = t.1; told_before = k.told; told = told; shared = arrives_shares n n' by bearer number bytes frames answered k.told k.shares arrives t.0 t.1 told }
+    record {
+      inside = t.0;
+      turn = t.1;
+      told_before = k.told;
+      told = told;
+      shared = arrives_shares n n' by bearer number bytes frames answered k.told k.shares arrives t.0 t.1 told;
+      found = arrives_found n n' by bearer number bytes frames answered t.0 k.named k.found arrives t.1;
+    }

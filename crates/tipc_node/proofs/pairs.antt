@@ -1,6 +1,6 @@
 -- What a course of a pair tells of links and contact.
 pub mod Acquainting
 pub mod Calm
-pub mod Knowing
+pub mod EndsStay
 pub mod Packed
 pub mod Strangers

@@ -1,6 +1,9 @@
 -- Each call and each arrival is a turn of the node: one recorded step, and what happens at each pair.
 pub mod Arrivals
+pub mod Discovering
 pub mod Entries
+pub mod Finding
+pub mod FoundKept
 pub mod MessageRuns
 pub mod Named
 pub mod Parts

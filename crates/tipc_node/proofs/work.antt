@@ -1,10 +1,12 @@
 -- What the code makes of messages, deliveries, neighbours and sockets while it works on a step.
 pub mod Announcing
 pub mod Answering
+pub mod Arriving
 pub mod Changes
 pub mod Deliveries
 pub mod Delivering
 pub mod Drafting
+pub mod Finding
 pub mod Greeting
 pub mod Heard
 pub mod Hearings

@@ -1,5 +1,5 @@
 -- What an arrival makes of a node, exactly.
-use Rattle.std.specs.Prelude.{◌≡◌, ◌≤◌, ◌<◌, ◌^◌, ℕ, Bool, true, false, List, [], ◌++◌, None, Some, is_some, slice_index_or, slice_set}
+use Rattle.std.specs.Prelude.{◌≡◌, ◌≤◌, ◌<◌, ◌^◌, ℕ, Bool, true, false, List, [], ◌++◌, None, Some, is_some, length, slice_index_or, slice_set}
 use Rattle.tipc_types.specs.declared.message_forms.Flow.TheVariants.{Zero}
 use Rattle.tipc_types.specs.Address.{node_word}
 use Rattle.tipc_types.specs.declared.link_words.Why.{Why}
@@ -12,19 +12,22 @@ use Rattle.tipc_types.specs.declared.node_calls.EventNote.TheVariants.{Arrive}
 use Rattle.tipc_types.specs.declared.services.Publication.{Publication}
 use Rattle.tipc_outside.specs.declared.outgoing.Outgoing.{Outgoing}
 use Rattle.tipc_outside.specs.Frames.{Adds, Out}
-use Rattle.tipc_header.specs.declared.frames.FrameKind.TheVariants.{Links}
+use Rattle.tipc_header.specs.declared.frames.FrameKind.TheVariants.{Finds, Links}
 use Rattle.tipc_header.specs.Frames.{frame_of, kind_in}
 use Rattle.tipc_header.specs.Grammar.{Fits}
 use Rattle.tipc_header.specs.Spelling.{Fields, spelling}
+use Rattle.tipc_discovery.specs.Hearing.{is_of_network}
 use Rattle.tipc_name_dist.specs.Items.{IsBulk}
 use Rattle.tipc_pair.specs.declared.transitions.Transition.{Transition}
 use Rattle.tipc_pair.specs.Courses.{sent_in}
 use Rattle.tipc_pair.specs.PairTurns.{Outset}
 use Rattle.tipc_node.specs.declared.neighbours.Neighbour.{Neighbour}
 use Rattle.tipc_node.specs.Calls.{CallTurn}
+use Rattle.tipc_node.specs.Finding.{discovered_frames, discovered_node, responses}
 use Rattle.tipc_node.specs.Neighbours.{HearsAt, answered_neighbour, answering, heard_neighbour}
 use Rattle.tipc_pair.specs.Contacts.{begins}
-use Rattle.tipc_node.specs.Nodes.{NodeState, arrival_answer, arrival_deliveries, change_entries, end_with, neighbour_of, stop_of, stopped_node}
+use Rattle.tipc_node.specs.Nodes.{NodeState, arrival_answer, arrival_deliveries, change_entries, end_with, is_other, neighbour_of, recorded, stop_of, stopped_node}
+use Rattle.tipc_node.specs.Turns.{IsFrom}
 use Rattle.tipc_node.specs.Works.{DeliversAll, PutsEach, Work, begun, concluded, noted}
 
 -- a frame brings a link packet, under an envelope of two numbers, that is due at the link of a bearer to its sender, the peer of that number
@@ -86,11 +89,39 @@ pub record Hears (n n' : NodeState) (by : By) (bearer number : ℕ) (bytes : Lis
   pub frames_are : frames ≡ sent_in out.course ++ (greeting_frames ++ (returned ++ (answering bearer then).states))
   pub answer_is : answered ≡ arrival_answer out.given (arrival_deliveries Zero peer neighbour.pair out.given)
 
--- a frame arrived on a bearer: it reached no link, or it brought a packet
+-- ---- discovery
+
+-- a frame brings a discovery packet of the network on a bearer, under an envelope of two numbers, from another node, that of this number
+pub record BringsDiscovery (n : NodeState) (bytes : List ℕ) (bearer peer first second : ℕ) (p : Fields) : Type 0 where
+  pub range : (1 ≤ peer) × (peer ≤ 32)
+  pub on_one : bearer ≤ 1
+  pub from : IsFrom peer bytes first second p
+  pub kind : kind_in bytes ≡ Finds
+  pub other : is_other n.own (node_word peer) ≡ true
+  pub network : is_of_network p.header ≡ true
+
+-- The frame of that number brought a discovery packet of a peer on a bearer. A request was answered. Where the peer is new on the bearer the
+-- link end was made, whose RESET left behind the response. No message was taken.
+pub record Discovers (n n' : NodeState) (by : By) (bearer number : ℕ) (bytes : List ℕ) (frames : List Outgoing) (answered : Arrival) : Type 0 where
+  pub peer : ℕ
+  pub first : ℕ
+  pub second : ℕ
+  pub packet : Fields
+  pub brings : BringsDiscovery n bytes bearer peer first second packet
+  -- there is a place for each number
+  pub within : peer < length n.neighbours
+  pub after : n' ≡ recorded (discovered_node n peer bearer) by (Arrive bearer number) [] (answer.Arrived (arrival.Took 0))
+  pub frames_are : frames ≡ responses n peer bearer packet.header ++ discovered_frames n peer bearer
+  pub answer_is : answered ≡ arrival.Took 0
+
+-- ---- any frame
+
+-- a frame arrived on a bearer: it was stopped, or it brought a link packet, or a discovery packet
 pub record Arrives (n n' : NodeState) (by : By) (bearer number : ℕ) (bytes : List ℕ) (frames : List Outgoing) (answered : Arrival) : Type 0 where
   pub stopped : (reason : Why) → stop_of n bearer bytes ≡ Some reason
       → (n' ≡ stopped_node n by bearer number reason) × (frames ≡ []) × (answered ≡ arrival.Ignored reason)
-  pub heard : stop_of n bearer bytes ≡ None → Hears n n' by bearer number bytes frames answered
+  pub heard : stop_of n bearer bytes ≡ None → kind_in bytes ≡ Links → Hears n n' by bearer number bytes frames answered
+  pub discovered : stop_of n bearer bytes ≡ None → kind_in bytes ≡ Finds → Discovers n n' by bearer number bytes frames answered
 
 -- it arrived, and what left is in the box
 pub record Arrived (n : NodeState) (by : By) (bearer number : ℕ) (bytes : List ℕ) (n' : NodeState) (box box' : Out) (answered : Arrival) : Type 0 where

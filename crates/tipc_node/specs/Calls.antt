@@ -21,8 +21,9 @@ use Rattle.tipc_sockets.specs.Publishing.{own_publication}
 use Rattle.tipc_sockets.specs.SocketTables.{has_port, with_socket}
 use Rattle.tipc_node.specs.declared.neighbours.Upkeep.{Upkeep}
 use Rattle.tipc_node.specs.declared.neighbours.Upkeep.TheVariants as upkeep
+use Rattle.tipc_node.specs.Finding.{AreFound, upkeep_frames, with_tick}
 use Rattle.tipc_node.specs.Messages.{destination_of, direct, limit_of, named}
-use Rattle.tipc_node.specs.Nodes.{NodeState, after_all, upkeep_note, entries_all, frames_all, mended_by, recorded, load_with, step_of, with_mended}
+use Rattle.tipc_node.specs.Nodes.{NodeState, after_all, upkeep_note, entries_all, mended_by, recorded, load_with, step_of, with_mended}
 use Rattle.tipc_node.specs.Sockets.{cancelled_work, closed_work, crowd_refusal, first_answer, first_event, found_at, kept_answer, next_number, next_port, next_work, number_refusal, passed_work, port_refusal, publication_refusal, published_work, received_work, socket_refusal, subscribed_work, subscription_refusal, timeouts_of, told_closing, told_withdrawal, waiting_at, with_sockets_of, withdrawal_refusal, withdrawn_work}
 use Rattle.tipc_node.specs.Sharing.{SharesNames}
 use Rattle.tipc_node.specs.Telling.{IsTold}
@@ -104,19 +105,19 @@ IsPickedFrom gives turn n other answered = Unit {0}
 abbrev pub upkeep_work : Upkeep → NodeState → Work
 upkeep_work d n = noted (record (begun n) { neighbours = after_all d n.neighbours }) (entries_all d 0 n.neighbours)
 
--- something happened to all neighbours alike
+-- something happened to all neighbours alike; where it was that a bearer was mended, a request left on it
 abbrev pub TakesPart : NodeState → By → Upkeep → NodeState → List Outgoing → Answer → Type 0
 TakesPart n by d n' frames answered = (n' ≡ concluded (with_mended n (mended_by d n.mended)) by (upkeep_note d) (upkeep_work d n) answer.Done)
-    × (frames ≡ frames_all d n.neighbours) × (answered ≡ answer.Done)
+    × (frames ≡ upkeep_frames d n) × (answered ≡ answer.Done)
 
 -- the work on a tick: it happens to all neighbours; then subscriptions time out, and it passes for the others
 abbrev pub tick_work : NodeState → Work
 tick_work n = passed_work (noted (upkeep_work upkeep.Tick n) (timeouts_of n.sockets))
 
--- a tick passes
+-- a tick passes, and the node asks who is there where it is time for that
 abbrev pub Ticks : NodeState → By → NodeState → List Outgoing → Answer → Type 0
 Ticks n by n' frames answered =
-    (n' ≡ concluded n by Tick (tick_work n) answer.Done) × (frames ≡ frames_all upkeep.Tick n.neighbours) × (answered ≡ answer.Done)
+    (n' ≡ concluded (with_tick n) by Tick (tick_work n) answer.Done) × (frames ≡ upkeep_frames upkeep.Tick n) × (answered ≡ answer.Done)
 
 -- What a call makes of a node: the node before it, who made the call, the call, the node after it, the frames that
 -- leave, and the answer. A multicast and an arrival aren't performed.
@@ -168,13 +169,14 @@ HasInstances (Publish port range scope key) = range.lower ≤ range.upper
 HasInstances other = Unit {0}
 
 -- A call in the form that all have: a step with this answer was recorded, and it tells of the node's turns. The journal tells of the
--- node before and after, and the node shares its names with its peers.
+-- node before and after, the node shares its names with its peers, and it has a link end to each peer that it found.
 pub record CallTurn (n n' : NodeState) (by : By) (note : EventNote) (bytes : List ℕ) (kept : Answer) (frames : List Outgoing) : Type 0 where
   pub inside : List Entry
   pub turn : NodeTurn n n' bytes (step_of by note inside kept) frames
   pub told_before : IsTold n
   pub told : IsTold n'
   pub shared : SharesNames n'
+  pub found : AreFound n'
 
 -- it was performed, and what left is in the box
 pub record Performed (n : NodeState) (by : By) (call : EventNote) (n' : NodeState) (box box' : Out) (answered : Answer) : Type 0 where

@@ -44,6 +44,10 @@ start_of d = (restored d.copies d.work.neighbours, own_of d)
 abbrev pub with_sockets_in : DraftState → SocketTable → DraftState
 with_sockets_in d s = record d { work = work_of d.work.neighbours s d.work.inside }
 
+-- the draft with these neighbours in place of its own
+abbrev pub with_neighbours_in : DraftState → List (Option Neighbour) → DraftState
+with_neighbours_in d xs = record d { work = record d.work { neighbours = xs } }
+
 -- nothing is drafted
 pub record IsIdle (d : DraftState) : Type 0 where
   pub inside : d.work.inside ≡ []

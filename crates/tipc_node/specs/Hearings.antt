@@ -6,6 +6,8 @@ use Rattle.tipc_types.specs.declared.node_calls.Arrival.{Arrival}
 use Rattle.tipc_types.specs.declared.node_calls.By.{By}
 use Rattle.tipc_outside.specs.declared.outgoing.Outgoing.{Outgoing}
 use Rattle.tipc_outside.specs.Frames.{Adds, Out}
+use Rattle.tipc_types.specs.Address.{node_word}
+use Rattle.tipc_discovery.specs.Hearing.{is_of_network}
 use Rattle.tipc_header.specs.Grammar.{Fits}
 use Rattle.tipc_header.specs.Spelling.{view}
 use Rattle.tipc_journal.specs.declared.entries.Entry.{Entry}
@@ -20,11 +22,12 @@ use Rattle.tipc_node.specs.declared.arriving.Due.{Due}
 use Rattle.tipc_node.specs.declared.arriving.Hearing.{Hearing}
 use Rattle.tipc_node.specs.declared.listening.HeardPacket.{HeardPacket}
 use Rattle.tipc_node.specs.declared.neighbours.Neighbour.{Neighbour}
-use Rattle.tipc_node.specs.Arrivals.{Greets, Hears, IsDue, answered_work}
+use Rattle.tipc_node.specs.Arrivals.{BringsDiscovery, Discovers, Greets, Hears, IsDue, answered_work}
 use Rattle.tipc_journal.specs.Room.{free_entries}
 use Rattle.tipc_node.specs.Neighbours.{HearsAt, answering, heard_neighbour, no_broadcast}
 use Rattle.tipc_pair.specs.Contacts.{begins, ends}
-use Rattle.tipc_node.specs.Nodes.{NodeState, arrival_answer, arrival_deliveries, change_entries, end_with, is_met, neighbour_of}
+use Rattle.tipc_node.specs.Nodes.{NodeState, arrival_answer, arrival_deliveries, change_entries, end_with, is_met, is_other, neighbour_of}
+use Rattle.tipc_node.specs.Turns.{IsFrom}
 use Rattle.tipc_node.specs.Works.{Delivers, DeliversAll, DeliversTo, GoesAway, GoesBack, PutsEach, GivesFate, Work, noted, work_of}
 
 -- whether an entry is one of what an arrival delivers: a message, or a part of a packet that is dropped
@@ -73,9 +76,19 @@ pub record AllDelivered (own peer : ℕ) (w : Work) (ds : List Delivery) (w' : W
 
 -- ---- a packet that is due
 
+-- a frame brings this packet, which names another node as its sender, on one of the two bearers
+abbrev pub IsLooked : ℕ → List ℕ → Due → Type 0
+IsLooked own bytes d = (1 ≤ d.peer) × (d.peer ≤ 32) × (d.bearer ≤ 1) × IsFrom d.peer bytes d.first d.second (view d.packet)
+    × (is_other own d.packet.previous ≡ true)
+
 -- it is due at a link end that the node has
 abbrev pub IsDueAt : NodeState → Due → Type 0
 IsDueAt n d = (1 ≤ d.peer) × (d.peer ≤ 32) × (d.bearer ≤ 1) × Fits (view d.packet) × (is_some (end_with d.bearer (neighbour_of n d.peer)) ≡ true)
+
+-- it is a discovery packet of the network, from another node
+abbrev pub FindsAt : NodeState → Due → Type 0
+FindsAt n d = (1 ≤ d.peer) × (d.peer ≤ 32) × (d.bearer ≤ 1) × (d.packet.previous ≡ node_word d.peer)
+    × (is_other n.own (node_word d.peer) ≡ true) × (is_of_network d.packet.header ≡ true)
 
 -- what came of it at a neighbour that heard it by the arrival of that number
 abbrev pub HearsOf : Neighbour → Due → ℕ → Outset → Type 0
@@ -165,3 +178,9 @@ IsHeard n n' by bearer number bytes box box' answered = (frames : List Outgoing)
 abbrev pub HearsDue : NodeState → NodeState → By → ℕ → Due → Out → Out → Arrival → Type 0
 HearsDue n n' by number d box box' answered =
     (bytes : List ℕ) → IsDue n bytes d.bearer d.peer d.first d.second (view d.packet) → IsHeard n n' by d.bearer number bytes box box' answered
+
+-- the discovery packet of an arrival was taken, and what left is in the box
+abbrev pub FindsDue : NodeState → NodeState → By → ℕ → Due → Out → Out → Arrival → Type 0
+FindsDue n n' by number d box box' answered =
+    (bytes : List ℕ) → BringsDiscovery n bytes d.bearer d.peer d.first d.second (view d.packet)
+    → (frames : List Outgoing) × Discovers n n' by d.bearer number bytes frames answered × Adds box box' frames

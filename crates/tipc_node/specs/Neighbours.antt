@@ -35,9 +35,9 @@ stranger own peer boot = neighbour (alone own (node_word peer) boot) false
 abbrev pub stays_in_step : Bool → List Transition → Bool
 stays_in_step in_step changes = in_step && not (list_any is_of_contact changes)
 
--- a link end is made on a bearer, which is mended or not
-abbrev pub making : ℕ → Bool → Neighbour → Course
-making bearer is_mended x = at_bearer bearer x.pair (made_near is_mended)
+-- a link end is made on a bearer, which is mended
+abbrev pub making : ℕ → Neighbour → Course
+making bearer x = at_bearer bearer x.pair (made_near true)
 
 -- ---- what happens to all neighbours alike
 

@@ -1,5 +1,5 @@
 -- A node, and what each call makes of it.
-use Rattle.std.specs.Prelude.{ℕ, ◌+◌, ◌-◌, ◌==◌, Bool, true, false, List, [], ◌∷◌, ◌++◌, Option, Some, None, drop, length, map, nat_le, nat_lt, not, is_some, option_and_then, slice_index_or, slice_set, sum_by, ◌&&◌, if◌then◌else◌}
+use Rattle.std.specs.Prelude.{ℕ, ◌+◌, ◌-◌, ◌==◌, Bool, true, false, List, [], ◌∷◌, ◌++◌, Option, Some, None, drop, length, map, nat_le, nat_lt, not, is_some, option_and_then, slice_index_or, sum_by, ◌&&◌, if◌then◌else◌}
 use Rattle.std.specs.List.{flat_map}
 use Rattle.tipc_types.specs.Address.{node_word}
 use Rattle.tipc_types.specs.declared.link_words.Why.{Why}
@@ -19,16 +19,17 @@ use Rattle.tipc_journal.specs.declared.entries.Entry.{Entry}
 use Rattle.tipc_journal.specs.declared.entries.Entry.TheVariants as entry
 use Rattle.tipc_journal.specs.Steps.{NodeStep, step_entries}
 use Rattle.tipc_header.specs.declared.fault.HeaderFault.{HeaderFault}
+use Rattle.tipc_header.specs.declared.packet.Header.{Header}
 use Rattle.tipc_header.specs.declared.frames.FrameKind.{FrameKind}
 use Rattle.tipc_header.specs.declared.frames.FrameKind.TheVariants.{Casts, Finds, Links}
 use Rattle.tipc_header.specs.Faults.{fault_of, number_of}
 use Rattle.tipc_header.specs.Frames.{kind_in}
-use Rattle.tipc_header.specs.Reading.{word_at}
+use Rattle.tipc_header.specs.Reading.{fields_at, word_at}
+use Rattle.tipc_discovery.specs.Hearing.{Neighbourhood, is_of_network}
 use Rattle.tipc_link.specs.Links.{LinkEnd}
 use Rattle.tipc_pair.specs.declared.transitions.Transition.{Transition}
 use Rattle.tipc_pair.specs.declared.transitions.Transition.TheVariants.{ContactDown, ContactUp, LinkDown, LinkUp}
 use Rattle.tipc_pair.specs.declared.changes.PairOutcome.{PairOutcome}
-use Rattle.tipc_pair.specs.Courses.{Course}
 use Rattle.tipc_pair.specs.Facing.{PairEnds, contact_between, facing, in_contact}
 use Rattle.tipc_pair.specs.PairCalls.{load_of as link_load}
 use Rattle.tipc_pair.specs.Messages.{opened_in}
@@ -41,14 +42,17 @@ use Rattle.tipc_node.specs.declared.neighbours.Upkeep.{Upkeep}
 use Rattle.tipc_node.specs.declared.neighbours.Upkeep.TheVariants as upkeep
 use Rattle.tipc_types.specs.Limits.{most_frame_bytes}
 use Rattle.tipc_node.specs.Messages.{message_in}
-use Rattle.tipc_node.specs.Neighbours.{done, making, neighbour, stranger}
+use Rattle.tipc_node.specs.Neighbours.{done, stranger}
 use Rattle.tipc_pair.specs.LinkReadings.{active_load}
 
--- a node: its address word, its boot number, whether bearer 0 is mended and whether bearer 1 is, its neighbours by number, its sockets, and its journal
+-- a node: its address word, its boot number, whether bearer 0 is mended and whether bearer 1 is, who was heard on which of them, the ticks
+-- of this boot modulo 8, its neighbours by number, its sockets, and its journal
 pub record NodeState : Type 0 where
   pub own : ℕ
   pub boot : ℕ
   pub mended : Bool × Bool
+  pub found : Neighbourhood
+  pub ticks : ℕ
   pub neighbours : List (Option Neighbour)
   pub sockets : SocketTable
   pub journal : List Entry
@@ -138,12 +142,7 @@ states_all d xs = flat_map (states_one d) xs
 unfoldable pub numbered_all : Upkeep → List (Option Neighbour) → List Outgoing
 numbered_all d xs = flat_map (numbered_one d) xs
 
--- all frames of link states and of repeated packets leave first, and then those of packets that are numbered, by peer
--- both times
-abbrev pub frames_all : Upkeep → List (Option Neighbour) → List Outgoing
-frames_all d xs = states_all d xs ++ numbered_all d xs
-
--- the frames for one neighbour, and for all, in the groups in which they leave
+-- the frames for one neighbour, and for all, in the groups in which they leave: by peer in each
 abbrev pub made_one : Upkeep → Option Neighbour → Made
 made_one d o = record { first = states_one d o; behind = numbered_one d o }
 
@@ -213,7 +212,7 @@ mended_by (upkeep.Mend bearer) mended = with_mended_on mended bearer true
 mended_by (upkeep.Cut bearer) mended = with_mended_on mended bearer false
 mended_by upkeep.Tick mended = mended
 
--- ---- a link end to a peer is made
+-- ---- strangers
 
 -- what is kept of a peer, which may be a stranger still
 abbrev pub acquaintance : NodeState → ℕ → Option Neighbour → Neighbour
@@ -227,22 +226,6 @@ kept n b = acquaintance n b (neighbour_of n b)
 -- the pair to the node of a number: a stranger's where no link end to it is made
 abbrev pub pair_with : NodeState → ℕ → PairEnds
 pair_with n b = (kept n b).pair
-
--- the end on a bearer is made, and says that it is mended where the bearer is
-abbrev pub known_course : NodeState → ℕ → ℕ → Course
-known_course n peer bearer = making bearer (is_mended_on n.mended bearer) (kept n peer)
-
--- what is kept of the peer then
-abbrev pub known_neighbour : NodeState → ℕ → ℕ → Neighbour
-known_neighbour n peer bearer = neighbour (known_course n peer bearer).pair (kept n peer).in_step
-
--- the node that knows the peer on that bearer
-abbrev pub known_node : NodeState → ℕ → ℕ → NodeState
-known_node n peer bearer = with_neighbours n (slice_set n.neighbours peer (Some (known_neighbour n peer bearer)))
-
--- the frames that leave then: the new end says RESET where its bearer is mended
-abbrev pub known_frames : NodeState → ℕ → ℕ → List Outgoing
-known_frames n peer bearer = (known_course n peer bearer).states
 
 -- ---- arrivals
 
@@ -290,7 +273,7 @@ shown_contact x = (x.contact, x.seen)
 abbrev pub arrival_deliveries : Flow → ℕ → PairEnds → PairOutcome → List Delivery
 arrival_deliveries flow peer x out = deliveries_of flow peer (shown_contact x) (opened_in out)
 
--- ---- an arrival that reaches no link
+-- ---- an arrival that is stopped
 
 -- whether a frame can have so many bytes: at least the 16 of its envelope
 abbrev pub is_frame_size : ℕ → Bool
@@ -300,35 +283,35 @@ is_frame_size bytes = nat_le 16 bytes && nat_le bytes most_frame_bytes
 unfoldable pub is_other : ℕ → ℕ → Bool
 is_other own word = nat_lt (node_word 0) word && (nat_le word (node_word 32) && not (word == own))
 
--- a discovery packet and a broadcast packet are of no link: each link ignores them, as it ignores another epoch
-abbrev pub stop_by_kind : FrameKind → Option Why
-stop_by_kind Links = None
-stop_by_kind Finds = Some why.Epoch
-stop_by_kind Casts = Some why.Epoch
+-- What stops a packet of another node, by its kind: a discovery packet has to be of the network, whether its sender is known or not; for a
+-- link packet there has to be a link end to the sender on the bearer. Each broadcast packet is stopped, since there is no broadcast link yet.
+abbrev pub stop_by_kind : FrameKind → Header → ℕ → Option Neighbour → Option Why
+stop_by_kind Finds header bearer place = if is_of_network header then None else Some why.Network
+stop_by_kind Links header bearer place = if is_some (end_with bearer place) then None else Some why.Unknown
+stop_by_kind Casts header bearer place = if is_some place then Some why.Epoch else Some why.Unknown
 
--- the sender that a frame names has to be another of the 32 nodes, there has to be a link end to it on the bearer, and the packet has to be a
--- link packet
-abbrev pub stop_by_sender : ℕ → List (Option Neighbour) → ℕ → ℕ → FrameKind → Option Why
-stop_by_sender own neighbours bearer word kind =
-    if is_other own word
-    then (if is_some (end_with bearer (slice_index_or neighbours (word - node_word 0) None)) then stop_by_kind kind else Some why.Unknown)
-    else Some why.Own
+-- the sender that a frame names has to be another of the 32 nodes; then it goes by the kind of the packet
+abbrev pub stop_by_sender : ℕ → List (Option Neighbour) → ℕ → ℕ → FrameKind → Header → Option Why
+stop_by_sender own neighbours bearer word kind header =
+    if is_other own word then stop_by_kind kind header bearer (slice_index_or neighbours (word - node_word 0) None) else Some why.Own
 
--- a packet that breaks a rule of the header reaches no link, and the rule is told by its number; one that breaks none
--- may still be stopped by its sender
+-- a packet that breaks a rule of the header is stopped, and the rule is told by its number; one that breaks none may still be stopped by
+-- its sender and its kind
 abbrev pub stop_by_fault : ℕ → List (Option Neighbour) → ℕ → List ℕ → Option HeaderFault → Option Why
 stop_by_fault own neighbours bearer bytes (Some fault) = Some (why.Header (number_of fault))
-stop_by_fault own neighbours bearer bytes None = stop_by_sender own neighbours bearer (word_at 3 (drop 16 bytes)) (kind_in bytes)
+stop_by_fault own neighbours bearer bytes None =
+    stop_by_sender own neighbours bearer (word_at 3 (drop 16 bytes)) (kind_in bytes) (fields_at (drop 16 bytes)).header
 
--- why a frame that arrives on a bearer reaches no link, the first reason that holds: the bearer is cut; it has no frame's size; its packet
--- has a fault; it names no other node as its sender; there is no link end to that on the bearer; it is no link packet
+-- Why a frame that arrives on a bearer is stopped, the first reason that holds: the bearer is cut; it has no frame's size; its packet has a
+-- fault; it names no other node as its sender; it is a discovery packet of another network; there is no link end to its sender on the
+-- bearer, or for a broadcast packet on neither one.
 unfoldable pub stop_among : ℕ → Bool × Bool → List (Option Neighbour) → ℕ → List ℕ → Option Why
 stop_among own mended neighbours bearer bytes =
     if is_mended_on mended bearer
     then (if is_frame_size (length bytes) then stop_by_fault own neighbours bearer bytes (fault_of (drop 16 bytes)) else Some why.Envelope)
     else Some why.Cut
 
--- why a frame that arrives at a node on a bearer reaches no link
+-- why a frame that arrives at a node on a bearer is stopped
 abbrev pub stop_of : NodeState → ℕ → List ℕ → Option Why
 stop_of n bearer bytes = stop_among n.own n.mended n.neighbours bearer bytes
 

@@ -1,6 +1,6 @@
 -- What a node does in one event, in one form for all of them: it records a step, and at the pair to each peer it takes a turn, of which the
 -- step tells. What else changes (sockets, say) is beside it.
-use Rattle.std.specs.Prelude.{◌≡◌, ◌⊎◌, ◌<◌, ◌^◌, ℕ, ◌==◌, ◌&&◌, Bool, true, false, List, [], ◌∷◌, ◌++◌, Option, Some, None, filter, is_some, map, option_map}
+use Rattle.std.specs.Prelude.{◌≡◌, ◌⊎◌, ◌<◌, ◌≤◌, ◌^◌, ℕ, ◌==◌, ◌&&◌, Bool, true, false, List, [], ◌∷◌, ◌++◌, Option, Some, None, filter, is_some, map, option_map}
 use Rattle.std.specs.List.{All, flat_map}
 use Rattle.tipc_types.specs.Address.{node_word}
 use Rattle.tipc_types.specs.declared.identity.Addr.{Addr}
@@ -13,7 +13,8 @@ use Rattle.tipc_types.specs.declared.node_calls.Answer.TheVariants as answer
 use Rattle.tipc_types.specs.declared.node_calls.Arrival.{Arrival}
 use Rattle.tipc_types.specs.declared.node_calls.Arrival.TheVariants as arrival
 use Rattle.tipc_outside.specs.declared.outgoing.Outgoing.{Outgoing}
-use Rattle.tipc_header.specs.declared.frames.FrameKind.TheVariants.{Links}
+use Rattle.tipc_header.specs.declared.frames.FrameKind.TheVariants.{Finds, Links}
+use Rattle.tipc_header.specs.declared.packet.DiscoveryType.{DiscoveryType}
 use Rattle.tipc_header.specs.Frames.{frame_of, is_of_link, kind_in}
 use Rattle.tipc_header.specs.Grammar.{Fits}
 use Rattle.tipc_header.specs.Spelling.{Fields, spelling}
@@ -28,6 +29,7 @@ use Rattle.tipc_pair.specs.Facing.{PairEnds}
 use Rattle.tipc_pair.specs.Messages.{opened_in}
 use Rattle.tipc_pair.specs.PairTurns.{MakesNew, Opening, PairTurn, Reply, ShowsAtLast, ShowsIn, Suits, IsOnOne, IsTakenBy}
 use Rattle.tipc_pair.specs.PairTurns.Opening.{hears, makes}
+use Rattle.tipc_node.specs.Finding.{discovery_frame}
 use Rattle.tipc_node.specs.Messages.{IsSendable, bytes_of, message_in}
 use Rattle.tipc_node.specs.Nodes.{NodeState, accepted_entry, change_entries, is_other, neighbour_of, pair_with, shown_contact}
 use Rattle.tipc_pair.specs.Addressed.{Names}
@@ -103,9 +105,10 @@ pub record IsFrom (b : ℕ) (bytes : List ℕ) (es er : ℕ) (p : Fields) : Type
   pub frame_is : bytes ≡ frame_of es er (spelling p)
   pub previous : p.previous ≡ node_word b
 
--- what is heard came in the frame that arrived, from node b, and is a link packet; and an end is made where a frame arrived from node b
+-- what is heard came in the frame that arrived, from node b, and is a link packet; and an end is made where a discovery packet arrived from
+-- node b
 abbrev pub IsBrought : ℕ → List ℕ → Opening → Type 0
-IsBrought b bytes (makes bearer is_mended) = (es : ℕ) × (er : ℕ) × (p : Fields) × IsFrom b bytes es er p
+IsBrought b bytes (makes bearer is_mended) = (es : ℕ) × (er : ℕ) × (p : Fields) × IsFrom b bytes es er p × (kind_in bytes ≡ Finds)
 IsBrought b bytes (hears bearer es er p number shown) = IsFrom b bytes es er p × (kind_in bytes ≡ Links)
 IsBrought b bytes other = Unit {0}
 
@@ -140,11 +143,30 @@ pub record PeerTurn (own : ℕ) (bytes : List ℕ) (s : NodeStep) (frames : List
 -- ---- the turn of the node
 
 -- a frame is of the links to a neighbour of the node
-pub record IsRouted (n : NodeState) (o : Outgoing) : Type 0 where
+pub record IsOnLink (n : NodeState) (o : Outgoing) : Type 0 where
   pub peer : ℕ
   pub there : is_some (neighbour_of n peer) ≡ true
   pub to_is : o.to ≡ to.Node (addr_of peer)
   pub link : is_of_link o.frame ≡ true
+
+-- another one of the 32 nodes is meant
+pub record IsToAnother (n : NodeState) (t : To) : Type 0 where
+  pub peer : ℕ
+  pub other : is_other n.own (node_word peer) ≡ true
+  pub to_is : t ≡ to.Node (addr_of peer)
+
+-- a frame brings a discovery packet of the node, to all or to another one of the 32 nodes, on one of the two bearers
+pub record IsOfDiscovery (n : NodeState) (o : Outgoing) : Type 0 where
+  pub on_one : o.bearer ≤ 1
+  pub form : DiscoveryType
+  pub frame_is : o.frame ≡ discovery_frame n.own n.boot form
+  pub low : is_of_link o.frame ≡ false
+  pub receivers : (o.to ≡ to.All) ⊎ IsToAnother n o.to
+
+-- what a frame that leaves is
+pub data IsRouted (n : NodeState) (o : Outgoing) : Type 0 where
+  on_link : IsOnLink n o → IsRouted n o
+  of_discovery : IsOfDiscovery n o → IsRouted n o
 
 -- the address is that of a neighbour
 abbrev pub IsOfNeighbour : NodeState → Addr → Type 0
@@ -166,7 +188,7 @@ IsMaking (makes bearer is_mended) = Unit {0}
 IsMaking other = ⊥
 
 -- The node recorded this step, and took a turn at the pair to the node of each number, be it a neighbour or a stranger; these bytes arrived,
--- where a frame did, and these frames left.
+-- where a frame did, and these frames left, each as the node after the step routes it.
 pub record NodeTurn (n n' : NodeState) (bytes : List ℕ) (s : NodeStep) (frames : List Outgoing) : Type 0 where
   pub own : n'.own ≡ n.own
   pub boot : n'.boot ≡ n.boot
@@ -177,5 +199,5 @@ pub record NodeTurn (n n' : NodeState) (bytes : List ℕ) (s : NodeStep) (frames
   pub lasts : (b : ℕ) → is_some (neighbour_of n b) ≡ true → is_some (neighbour_of n' b) ≡ true
   pub stays : (b : ℕ) → neighbour_of n b ≡ None
       → (neighbour_of n' b ≡ None) ⊎ (IsMaking (turns b).opening × (is_other n.own (node_word b) ≡ true))
-  pub routed : All (IsRouted n) frames
+  pub routed : All (IsRouted n') frames
   pub placed : All (IsPlaced n) s.inside

@@ -3,21 +3,20 @@
 ghost use Rattle.std.specs.Prelude.{◌≡◌, ◌≤◌, ◌-◌, ◌↔◌, true, false, All, None, Some, is_some, length, slice_index_or, sum_by, IfErr, IfOk, IfSome, IfNone};
 ghost use Rattle.tipc_types.specs.declared.message_forms.Flow.TheVariants.{Zero};
 ghost use Rattle.tipc_types.specs.Address.{node_word};
-ghost use Rattle.tipc_header.specs.declared.frames.FrameKind.TheVariants.{Links};
 ghost use Rattle.tipc_header.specs.Faults.{fault_of};
-ghost use Rattle.tipc_header.specs.Frames.{frame_of, kind_in, kind_of};
+ghost use Rattle.tipc_header.specs.Frames.{frame_of, kind_in};
 ghost use Rattle.tipc_header.specs.Grammar.{Fits};
 ghost use Rattle.tipc_header.specs.Spelling.{spelling, view};
-ghost use Rattle.tipc_types.specs.declared.link_words.Why.TheVariants as why;
 ghost use Rattle.tipc_journal.specs.Room.{entry_bytes, free_entries, free_message_bytes};
 ghost use Rattle.tipc_reassembly.specs.declared.opening.Opened.TheVariants.{Whole};
 ghost use Rattle.tipc_pair.specs.Messages.{opened_in, HasNoFault};
-ghost use Rattle.tipc_node.specs.Hearings.{IsPrepared};
+ghost use Rattle.tipc_node.specs.Hearings.{IsLooked, IsPrepared};
 ghost use Rattle.tipc_node.specs.Nodes.{arrival_answer, deliveries_of, delivered_by, delivery_of, end_with, is_other, message_count, stop_among, stop_by_kind, taken_count};
 
 use crate::neighbours::{Bearers, Neighbour, is_mended_on, no_broadcast};
 use crate::recording::{FREE_ENTRIES, FREE_MESSAGE_BYTES};
 use std::alloc::Global;
+use tipc_discovery::is_of_network;
 use tipc_header::{FrameKind, Header, Packet, decode, kind_of, open_frame};
 use tipc_journal::{Arrivals, Entry, entry_bytes};
 use tipc_message::message_from;
@@ -28,10 +27,12 @@ use tipc_types::{Addr, Arrival, Flow, Message, NoMemory, Why};
 /// The most entries of what an arrival delivers, of the free entries that a call needs.
 const MOST_TOLD: usize = FREE_ENTRIES as usize - 4;
 
-/// A link packet that is due at the link of a bearer to the node that it names as its sender, and the two numbers of its
-/// envelope.
+/// A packet of another node that nothing stops, and the two numbers of its envelope: a link packet is due at the link of
+/// a bearer to its sender.
 #[derive(Clone, Copy)]
 pub struct Due<'a> {
+    /// What kind it is.
+    pub kind: FrameKind,
     /// The bearer, 0 or 1.
     pub bearer: u8,
     /// The sender's number.
@@ -44,7 +45,7 @@ pub struct Due<'a> {
     pub packet: Packet<'a>,
 }
 
-/// The packet of a frame that arrives on a bearer, or the first reason why it reaches no link.
+/// The packet of a frame that arrives on a bearer, or the first reason that stops it.
 #[tactic(auto, unfolding(crate::specs::Nodes::stop_among))]
 pub fn look<'a>(
     own: Addr,
@@ -53,11 +54,11 @@ pub fn look<'a>(
     bearer: u8,
     frame: &'a [u8],
 ) -> Result<Due<'a>, Why>
-    ensures due { IfOk result (λ d. (1 ≤ d.peer) × (d.peer ≤ 32) × (d.bearer ≤ 1) × Fits (view d.packet) ×
-        (frame.now ≡ frame_of d.first d.second (spelling (view d.packet))) × (d.packet.previous ≡ node_word d.peer) ×
-        (is_some (end_with d.bearer (slice_index_or neighbours.now d.peer None)) ≡ true)) }
+    ensures brings { IfOk result (λ d. IsLooked own.word frame.now d) }
     ensures bearer { IfOk result (λ d. d.bearer ≡ bearer) }
-    ensures kind { IfOk result (λ d. kind_in frame.now ≡ Links) }
+    ensures kind { IfOk result (λ d. kind_in frame.now ≡ d.kind) }
+    ensures passes { IfOk result (λ d. stop_by_kind d.kind d.packet.header d.bearer
+        (slice_index_or neighbours.now d.peer None) ≡ None) }
     ensures clear { IfOk result (λ d. stop_among own.word mended neighbours.now bearer frame.now ≡ None) }
     ensures stopped { IfErr result (λ why. stop_among own.word mended neighbours.now bearer frame.now ≡ Some why) }
 {
@@ -74,13 +75,12 @@ pub fn look<'a>(
     let Some(peer) = sender_of(own, packet.previous) else {
         return Err(Why::Own);
     };
-    if !has_end(neighbours, peer, bearer) {
-        return Err(Why::Unknown);
-    }
-    if !is_link_packet(opened.first, &packet.header) {
-        return Err(Why::Epoch);
+    let kind = kind_of(opened.first, &packet.header);
+    if let Some(why) = stop_by_kind(kind, &packet.header, neighbours, peer, bearer) {
+        return Err(why);
     }
     Ok(Due {
+        kind,
         bearer,
         peer,
         first: opened.first,
@@ -89,12 +89,25 @@ pub fn look<'a>(
     })
 }
 
-/// Whether a packet is a link packet, under an envelope with this first number.
-fn is_link_packet(first: u64, header: &Header) -> bool
-    ensures link { result ≡ true → kind_of first header.now ≡ Links }
-    ensures other { result ≡ false → stop_by_kind (kind_of first header.now) ≡ Some why.Epoch }
+/// What stops a packet of this kind and header that arrives on a bearer, 0 or 1, from another node, the peer.
+fn stop_by_kind(
+    kind: FrameKind,
+    header: &Header,
+    neighbours: &[Option<Neighbour>],
+    peer: u8,
+    bearer: u8,
+) -> Option<Why>
+    requires { bearer ≤ 1 }
+    ensures { result ≡ stop_by_kind kind header.now bearer (slice_index_or neighbours.now peer None) }
 {
-    matches!(kind_of(first, header), FrameKind::Links)
+    match kind {
+        FrameKind::Finds if is_of_network(header) => None,
+        FrameKind::Finds => Some(Why::Network),
+        FrameKind::Links if has_end(neighbours, peer, bearer) => None,
+        FrameKind::Links => Some(Why::Unknown),
+        FrameKind::Casts if is_known(neighbours, peer) => Some(Why::Epoch),
+        FrameKind::Casts => Some(Why::Unknown),
+    }
 }
 
 /// The number of the node that a packet names as its sender: None exactly where it names no other of the 32.
@@ -111,8 +124,15 @@ fn sender_of(own: Addr, previous: u32) -> Option<u8>
     }
 }
 
+/// Whether there is a link end to the peer, on whatever bearer.
+fn is_known(neighbours: &[Option<Neighbour>], peer: u8) -> bool
+    ensures { result ≡ is_some (slice_index_or neighbours.now peer None) }
+{
+    matches!(neighbours.get(peer as usize), Some(Some(_)))
+}
+
 /// Whether there is a link end to the peer on a bearer, 0 or 1.
-pub fn has_end(neighbours: &[Option<Neighbour>], peer: u8, bearer: u8) -> bool
+fn has_end(neighbours: &[Option<Neighbour>], peer: u8, bearer: u8) -> bool
     requires { bearer ≤ 1 }
     ensures { result ≡ is_some (end_with bearer (slice_index_or neighbours.now peer None)) }
 {

@@ -7,18 +7,21 @@ ghost use Rattle.tipc_outside.specs.declared.outgoing.Outgoing.{Outgoing};
 ghost use Rattle.tipc_journal.specs.Counting.{is_sent_by_name};
 ghost use Rattle.tipc_sockets.specs.SocketTables.{AreSockets, no_sockets};
 ghost use Rattle.tipc_node.specs.Calls.{CanPerform, IsPickedFrom, Performs, TakesPart, Ticks};
+ghost use Rattle.tipc_node.specs.Finding.{nobody_heard};
 ghost use Rattle.tipc_node.specs.Neighbours.{IsOnBearer};
-ghost use Rattle.tipc_node.specs.Nodes.{end_with, is_mended_on, known_frames, known_node, node_load, neighbour_of, recorded};
+ghost use Rattle.tipc_node.specs.Nodes.{is_mended_on, node_load, neighbour_of, recorded};
 ghost use Rattle.tipc_journal.specs.Room.{has_journal_room};
 
 use crate::drafts::Draft;
+use crate::finding::next_tick;
 use crate::neighbours::{
-    Bearers, Neighbour, Parting, Upkeep, acquaintance, is_mended_on, load_all, mended_by,
-    part_of_all, upkeep_note,
+    Bearers, Neighbour, Parting, Upkeep, is_mended_on, load_all, mended_by, part_of_all,
+    upkeep_note,
 };
 use crate::recording::{NodeFault, has_journal_room, note_timeouts, record};
 use std::alloc::Global;
 use std::marker::Model;
+use tipc_discovery::Neighbours;
 use tipc_journal::Journal;
 use tipc_outside::Outbox;
 use tipc_pick::{Chooser, Pick};
@@ -33,10 +36,14 @@ pub struct Core {
     /// Its neighbours and its sockets, and the step on which it works.
     pub(crate) draft: Draft,
     pub(crate) journal: Journal,
+    /// The other nodes that it heard on each bearer.
+    pub(crate) found: Neighbours,
+    /// The ticks of this boot, counted up to the eighth and then again from the first.
+    pub(crate) ticks: u8,
 }
 
 impl Model for Core {
-    ghost use Rattle.std.specs.Prelude.{◌≡◌, ◌≤◌};
+    ghost use Rattle.std.specs.Prelude.{◌≡◌, ◌≤◌, ◌<◌};
     ghost use Rattle.tipc_node.specs.Drafts.{IsIdle};
     ghost use Rattle.tipc_node.specs.Nodes.{NodeState};
 
@@ -46,13 +53,15 @@ impl Model for Core {
       own = n.own.word;
       boot = n.boot;
       mended = n.mended;
+      found = n.found;
+      ticks = n.ticks;
       neighbours = n.draft.work.neighbours;
       sockets = n.draft.work.sockets;
       journal = n.journal.entries;
     } };
 
     ghost invariant = { λ n. IsIdle n.draft × (1 ≤ n.boot) × (n.draft.work.sockets.own ≡ n.own.word) ×
-        (n.draft.work.sockets.ports.boot ≡ n.boot) };
+        (n.draft.work.sockets.ports.boot ≡ n.boot) × (n.found.own ≡ n.own.word) × (n.ticks < 8) };
 }
 
 impl Core {
@@ -63,11 +72,15 @@ impl Core {
         ensures own { IfOk result (λ n. (n.own ≡ own.word) × (n.boot ≡ boot) × (n.mended ≡ (false, false))) }
         ensures alone { IfOk result (λ n. (peer : ℕ) → neighbour_of n peer ≡ None) }
         ensures empty { IfOk result (λ n. (n.sockets ≡ no_sockets own.word boot) × (n.journal ≡ [])) }
+        ensures unheard { IfOk result (λ n. n.found ≡ nobody_heard own.word) }
+        ensures ticks { IfOk result (λ n. n.ticks ≡ 0) }
     {
         Ok(Core {
             own,
             boot,
             mended: (false, false),
+            found: Neighbours::new(alloc, own),
+            ticks: 0,
             draft: Draft::new(alloc, own, boot)?,
             journal: Journal::new(alloc),
         })
@@ -138,23 +151,6 @@ impl Core {
         let _ = self.draft.sockets().live();
         let _ = self.draft.neighbours();
         let _ = self.boot();
-    }
-
-    /// Makes the link end to a peer on a bearer, 0 or 1, on which there is none.
-    pub fn know(&mut self, alloc: Global, peer: u8, bearer: u8, out: &mut Outbox)
-        requires peer { (1 ≤ peer) × (peer ≤ 32) }
-        requires bearer { bearer ≤ 1 }
-        requires alone { end_with bearer (neighbour_of self.old peer) ≡ None }
-        ensures after { self.new ≡ known_node self.old peer bearer }
-        ensures frames { Adds out.old out.new (known_frames self.old peer bearer) }
-        ensures within { peer < length self.old.neighbours }
-        ensures boot { (1 ≤ self.old.boot) × (self.old.boot < 2 ^ 32) }
-    {
-        let mended = is_mended_on(self.mended, bearer);
-        let place = self.draft.take_place(peer);
-        let mut neighbour = acquaintance(alloc, self.own, self.boot, peer, place);
-        neighbour.make(alloc, bearer, mended, out);
-        self.draft.set_place(peer, neighbour);
     }
 
     /// Performs a call, whose step is recorded: each call as its own function says.
@@ -266,8 +262,8 @@ impl Core {
         Ok(why)
     }
 
-    /// Lets something happen to all neighbours: a bearer is mended or cut. The names of each peer with which the
-    /// contact ends by it are forgotten.
+    /// Lets something happen to all neighbours: a bearer is mended, on which it asks then who is there, or cut. The names
+    /// of each peer with which the contact ends by it are forgotten.
     fn take_part(
         &mut self,
         alloc: Global,
@@ -283,6 +279,7 @@ impl Core {
     {
         let mut event = Parting::new(alloc);
         let after = part_of_all(self.draft.neighbours(), alloc, upkeep, &mut event)?;
+        self.ask(alloc, upkeep, after.as_slice(), &mut event.out);
         let changed = event.inside.len();
         self.draft
             .take_over(&mut self.journal, after, event.inside.as_slice(), changed)?;
@@ -299,7 +296,8 @@ impl Core {
     }
 
     /// Lets a tick pass: for all neighbours first, where the names of each peer with which the contact ends by it are
-    /// forgotten; then subscriptions time out, rising, and it passes for the others.
+    /// forgotten, and then it asks who is there where it is time for that; then subscriptions time out, rising, and it
+    /// passes for the others.
     fn tick(&mut self, alloc: Global, by: By, out: &mut Outbox) -> Result<Answer, NoMemory>
         requires room { has_journal_room self.old.journal ≡ true }
         ensures ok { IfOk result (λ a. (frames : List Outgoing) × Ticks self.old by self.new frames a ×
@@ -309,12 +307,14 @@ impl Core {
         let due = self.draft.sockets().due(alloc)?;
         let mut event = Parting::new(alloc);
         let after = part_of_all(self.draft.neighbours(), alloc, Upkeep::Tick, &mut event)?;
+        self.ask(alloc, Upkeep::Tick, after.as_slice(), &mut event.out);
         let changed = event.inside.len();
         event.inside.reserve(due.as_slice().len())?;
         note_timeouts(&mut event.inside, due.as_slice());
         self.draft
             .take_over(&mut self.journal, after, event.inside.as_slice(), changed)?;
         self.draft.pass();
+        self.ticks = next_tick(self.ticks);
         out.append(event.out);
         record(
             &mut self.journal,

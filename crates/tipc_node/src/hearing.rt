@@ -1,10 +1,13 @@
 //! What an arrival makes of a node.
 
-ghost use Rattle.std.specs.Prelude.{◌≡◌, ℕ, ◌≤◌, ◌-◌, List, [], true, false, Some, Err, length, IfErr, IfOk, OnErr, OnOk};
+ghost use Rattle.std.specs.Prelude.{◌≡◌, ◌≢◌, ℕ, ◌≤◌, ◌-◌, List, [], true, false, Some, Err, length, IfErr, IfOk, OnErr, OnOk};
 ghost use Rattle.tipc_outside.specs.declared.outgoing.Outgoing.{Outgoing};
 ghost use Rattle.tipc_outside.specs.Frames.{Adds};
+ghost use Rattle.tipc_header.specs.declared.frames.FrameKind.TheVariants.{Casts, Finds, Links};
+ghost use Rattle.tipc_header.specs.Frames.{kind_in};
 ghost use Rattle.tipc_header.specs.Spelling.{view};
-ghost use Rattle.tipc_node.specs.Arrivals.{Arrives, IsDue};
+ghost use Rattle.tipc_node.specs.Arrivals.{Arrives, BringsDiscovery, IsDue};
+ghost use Rattle.tipc_node.specs.Finding.{AreFound};
 ghost use Rattle.tipc_node.specs.Hearings.{told_changes, HearsDue, IsDueAt, IsPrepared};
 ghost use Rattle.tipc_journal.specs.Room.{free_entries, has_journal_room};
 ghost use Rattle.tipc_node.specs.Nodes.{message_count, neighbour_of, stop_of, stopped_node};
@@ -15,12 +18,14 @@ use crate::cores::Core;
 use crate::recording::{NodeFault, begin, has_journal_room, record};
 use crate::waiting::{all_wait, conclude_waiting, prepare_waiting};
 use std::alloc::Global;
+use tipc_header::FrameKind;
 use tipc_outside::Outbox;
 use tipc_types::{Answer, Arrival, By, EventNote, NoMemory, Why};
 
 impl Core {
     /// A frame arrives on a bearer; `number` is its number among all that arrived at this node. A packet that it
-    /// brings to a link is heard there; another frame is ignored for the first reason that holds.
+    /// brings to a link is heard there, and by one of discovery its sender is found; a frame that is stopped is ignored
+    /// for the first reason that holds.
     ///
     /// # Errors
     ///
@@ -34,6 +39,7 @@ impl Core {
         frame: &[u8],
         out: &mut Outbox,
     ) -> Result<Arrival, NodeFault>
+        requires { AreFound self.old }
         ensures ok { IfOk result (λ a. (frames : List Outgoing)
             × Arrives self.old self.new by bearer number frame.now frames a × Adds out.old out.new frames) }
         ensures room { OnOk result (has_journal_room self.old.journal ≡ true) }
@@ -42,15 +48,23 @@ impl Core {
         ensures err { OnErr result ((self.new ≡ self.old) × (out.new ≡ out.old)) }
     {
         match self.due(bearer, frame) {
-            Ok(due) => self.hear(alloc, by, number, &due, out),
+            Ok(due) => match due.kind {
+                FrameKind::Links => self.hear(alloc, by, number, &due, out),
+                FrameKind::Finds => self.find(alloc, by, number, &due, out),
+                FrameKind::Casts => unreachable!(),
+            },
             Err(why) => self.ignore(alloc, by, bearer, number, why),
         }
     }
 
-    /// The packet of a frame that arrives on a bearer, which is due at the link of the node that it names as its
-    /// sender; or the first reason why it reaches no link.
+    /// The packet of a frame that arrives on a bearer: a link packet is due at the link of the node that it names as its
+    /// sender, and a discovery packet is of the network. Or the first reason that stops it.
     fn due<'a>(&self, bearer: u8, frame: &'a [u8]) -> Result<Due<'a>, Why>
-        ensures due { IfOk result (λ d. IsDue self.now frame.now d.bearer d.peer d.first d.second (view d.packet)) }
+        ensures due { IfOk result (λ d. d.kind ≡ Links →
+            IsDue self.now frame.now d.bearer d.peer d.first d.second (view d.packet)) }
+        ensures brings { IfOk result (λ d. d.kind ≡ Finds →
+            BringsDiscovery self.now frame.now d.bearer d.peer d.first d.second (view d.packet)) }
+        ensures kind { IfOk result (λ d. (kind_in frame.now ≡ d.kind) × (d.kind ≢ Casts)) }
         ensures bearer { IfOk result (λ d. d.bearer ≡ bearer) }
         ensures clear { OnOk result (stop_of self.now bearer frame.now ≡ None) }
         ensures stopped { IfErr result (λ why. stop_of self.now bearer frame.now ≡ Some why) }
@@ -64,7 +78,7 @@ impl Core {
         )
     }
 
-    /// A frame arrives that reaches no link; `number` is its number among all that arrived at this node.
+    /// A frame arrives that is stopped; `number` is its number among all that arrived at this node.
     ///
     /// # Errors
     ///

@@ -4,6 +4,7 @@
 //! - Names: `serving` (calls on sockets, names and subscriptions), `sharing` (what peers are told), `items` (what a
 //!   peer tells).
 //! - Sends: `posting` (the calls that send), `sending` (messages, limits, packets).
+//! - Discovery: `finding` (who is there is asked and answered, and a peer that is new gets its link end).
 //! - Arrivals: `arriving` (what a frame is, and what it delivers), `hearing` (what an arrival makes of a node),
 //!   `listening` (what a peer's packet makes of what is kept of the peer), `following` (what follows from it),
 //!   `waiting` (where each message surely waits).
@@ -16,6 +17,7 @@ mod arriving;
 mod cores;
 mod delivery;
 mod drafts;
+mod finding;
 mod following;
 mod hearing;
 mod items;

@@ -3,7 +3,7 @@
 ghost use Rattle.std.specs.Prelude.{◌≡◌, ◌+◌, ◌-◌, ◌^◌, ◌++◌, ◌≤◌, ◌&&◌, not, ℕ, List, [], true, false, All, Some, None, is_some, length, slice_index_or, unwrap_or, IfOk, IfSome, IfNone, IsErr, OnErr, OnOk};
 ghost use Rattle.std.specs.List.{list_any};
 ghost use Rattle.tipc_types.specs.declared.message_forms.Flow.TheVariants.{Zero};
-ghost use Rattle.tipc_outside.specs.Frames.{no_frames, Adds, Gains};
+ghost use Rattle.tipc_outside.specs.Frames.{no_frames, Adds, AddsFirst, Gains};
 ghost use Rattle.tipc_outside.specs.declared.outgoing.Outgoing.{Outgoing};
 ghost use Rattle.tipc_link.specs.Sessions.{SessionEnd};
 ghost use Rattle.tipc_pair.specs.Courses.{made_in};
@@ -138,21 +138,16 @@ impl Neighbour {
         }
     }
 
-    /// Makes the link end on a bearer, 0 or 1, that has none; the bearer is mended, or it isn't.
-    #[tactic(auto, using(tipc_outside::proofs::Adding::gains_none))]
-    pub fn make(&mut self, alloc: Global, bearer: u8, mended: bool, out: &mut Outbox)
+    /// Makes the link end on a bearer, 0 or 1, that has none and is mended: it says RESET.
+    pub fn make(&mut self, alloc: Global, bearer: u8, out: &mut Outbox)
         requires bearer { bearer ≤ 1 }
         requires none { (facing bearer self.old.pair).near ≡ None }
-        ensures after { self.new ≡ neighbour (making bearer mended self.old).pair self.old.in_step }
-        ensures frames { Adds out.old out.new (making bearer mended self.old).states }
+        ensures after { self.new ≡ neighbour (making bearer self.old).pair self.old.in_step }
+        ensures frames { AddsFirst out.old out.new (making bearer self.old).states }
     {
         self.pair.sound();
         self.pair.make_end(bearer);
-        if mended {
-            let mut event = Outbox::new(alloc);
-            self.pair.mend(alloc, bearer, &mut event);
-            out.append(event);
-        }
+        self.pair.mend(alloc, bearer, out);
     }
 
     /// Lets something happen at its pair.

@@ -1,8 +1,7 @@
 //! The node, its calls, and what arrives at it.
 
-ghost use Rattle.std.specs.Prelude.{All, ◌≡◌, ℕ, ◌+◌, ◌%◌, ◌^◌, ◌<◌, ◌≤◌, [], true, false, if◌then◌else◌, None, Some, Err, length, is_some, unwrap_or, IfOk, IfSome, IfNone, OnErr, OnOk};
+ghost use Rattle.std.specs.Prelude.{◌≡◌, ℕ, ◌+◌, ◌%◌, ◌^◌, ◌<◌, ◌≤◌, [], true, false, if◌then◌else◌, None, Some, Err, length, unwrap_or, IfOk, IfSome, IfNone, OnErr, OnOk};
 ghost use Rattle.tipc_types.specs.Address.{node_word, IsNodeWord};
-ghost use Rattle.tipc_outside.specs.Frames.{Adds};
 ghost use Rattle.tipc_journal.specs.Streams.{accepted, delivered};
 ghost use Rattle.tipc_journal.specs.Counting.{is_sent_by_name};
 ghost use Rattle.tipc_journal.specs.Matches.{names};
@@ -12,11 +11,11 @@ ghost use Rattle.tipc_pair.specs.PairCalls.{numbered_of};
 ghost use Rattle.tipc_sockets.specs.SocketTables.{no_sockets, queue_at};
 ghost use Rattle.tipc_node.specs.Arrivals.{Arrived};
 ghost use Rattle.tipc_node.specs.Calls.{CanPerform, HasInstances, Performed};
-ghost use Rattle.tipc_node.specs.Nodes.{contact_with, end_with, is_mended_on, known_frames, known_node, node_load, neighbour_of};
+ghost use Rattle.tipc_node.specs.Finding.{nobody_heard};
+ghost use Rattle.tipc_node.specs.Nodes.{contact_with, end_with, is_mended_on, node_load, neighbour_of};
 ghost use Rattle.tipc_journal.specs.Room.{has_journal_room};
 ghost use Rattle.tipc_node.specs.Sharing.{SharesNames};
 ghost use Rattle.tipc_node.specs.Telling.{IsTold};
-ghost use Rattle.tipc_node.specs.Turns.{IsRouted};
 
 use crate::cores::Core;
 use crate::neighbours::Neighbour;
@@ -29,13 +28,15 @@ use tipc_pick::{Chooser, Pick};
 use tipc_types::{Addr, Answer, Arrival, By, EventNote, Flow, LinkState, NoMemory, Publication};
 
 /// A node in one boot. Its journal tells of its contacts and its links, its frames are for the peers whose numbers they
-/// name, and what it told a peer, and heard from it, makes the two agree on their names.
+/// name, and what it told a peer, and heard from it, makes the two agree on their names. It has a link end to each peer
+/// that it found, on the bearer on which it heard it.
 #[derive(Drop)]
 pub struct Node {
     core: Core,
 }
 
 impl Model for Node {
+    ghost use Rattle.tipc_node.specs.Finding.{AreFound};
     ghost use Rattle.tipc_node.specs.Nodes.{NodeState};
     ghost use Rattle.tipc_node.specs.Sharing.{SharesNames};
     ghost use Rattle.tipc_node.specs.Telling.{ArePacked, IsTold};
@@ -45,7 +46,8 @@ impl Model for Node {
 
     ghost view = { λ n. n.core };
 
-    ghost invariant = { λ n. IsTold n.core × AreNamed n.core × ArePacked n.core × SharesNames n.core };
+    ghost invariant = { λ n. IsTold n.core × AreNamed n.core × ArePacked n.core × SharesNames n.core ×
+        AreFound n.core };
 }
 
 /// A publication of it has a range with instances. It does nothing.
@@ -65,19 +67,14 @@ impl Node {
         ensures own { IfOk result (λ n. (n.own ≡ own.word) × (n.boot ≡ boot) × (n.mended ≡ (false, false))) }
         ensures alone { IfOk result (λ n. (peer : ℕ) → neighbour_of n peer ≡ None) }
         ensures empty { IfOk result (λ n. (n.sockets ≡ no_sockets own.word boot) × (n.journal ≡ [])) }
+        ensures unheard { IfOk result (λ n. n.found ≡ nobody_heard own.word) }
+        ensures ticks { IfOk result (λ n. n.ticks ≡ 0) }
         ensures told { IfOk result (λ n. IsTold n) }
         ensures shares { IfOk result (λ n. SharesNames n) }
     {
         let core = Core::new(alloc, own, boot)?;
         core.sound();
         Ok(Node { core })
-    }
-
-    /// Whether it has a link end to the peer.
-    pub fn knows(&self, peer: u8) -> bool
-        ensures { result ≡ is_some (neighbour_of self.now peer) }
-    {
-        self.core.neighbour(peer).is_some()
     }
 
     /// What it keeps of the peer: None exactly where it has no link end to it.
@@ -201,21 +198,6 @@ impl Node {
         self.core.into_journal()
     }
 
-    /// Makes the link end to a peer on a bearer, 0 or 1, on which there is none.
-    pub fn know(&mut self, alloc: Global, peer: u8, bearer: u8, out: &mut Outbox)
-        requires peer { (1 ≤ peer) × (peer ≤ 32) }
-        requires bearer { bearer ≤ 1 }
-        requires alone { end_with bearer (neighbour_of self.old peer) ≡ None }
-        ensures after { self.new ≡ known_node self.old peer bearer }
-        ensures frames { Adds out.old out.new (known_frames self.old peer bearer) }
-        ensures within { peer < length self.old.neighbours }
-        ensures routed { All (IsRouted (known_node self.old peer bearer)) (known_frames self.old peer bearer) }
-        ensures told { IsTold self.new }
-        ensures shares { SharesNames self.new }
-    {
-        self.core.know(alloc, peer, bearer, out);
-    }
-
     /// Performs a call, and answers it: a socket is made or closed, names are published there and withdrawn, a message is sent to a port
     /// or by name, or taken from an inbox; a bearer is mended or cut; a tick passes. The call is one step of the journal. The chooser says
     /// to which of those that a name finds a message goes, and turns where one was sent so.
@@ -253,7 +235,9 @@ impl Node {
     /// A frame arrives on a bearer; `number` is its number among all that arrived at this node. A packet that it
     /// brings is taken by the link of the node that it names as its sender; a message that is given is recorded as
     /// delivered and has its fate: it waits at its port, or goes back, or is dropped. A STATE that is due is sent last. A
-    /// frame that reaches no link is ignored for the first reason that holds. The arrival is one step of the journal.
+    /// request of discovery is answered by a response to its sender; a sender that is new on the bearer gets its link
+    /// end, whose RESET is sent. A frame that is stopped is ignored for the first reason that holds. The arrival is one
+    /// step of the journal.
     ///
     /// # Errors
     ///

@@ -143,7 +143,8 @@ impl Draft {
     /// is changed then.
     fn change_names(&mut self, change: NameChange) -> Result<(), NoMemory>
         requires { CanChangeNames self.old.work.sockets change }
-        ensures ok { OnOk result (self.new ≡ with_sockets_in self.old (with_names_changed self.old.work.sockets change)) }
+        ensures ok { OnOk result (self.new ≡ with_sockets_in self.old
+            (with_names_changed self.old.work.sockets change)) }
         ensures err { OnErr result (self.new ≡ self.old) }
     {
         match change {

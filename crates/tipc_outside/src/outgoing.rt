@@ -22,7 +22,7 @@ pub struct Outgoing {
 /// made, and all others behind them. (This project's profile.)
 #[derive(Clone, Copy, Debug, PartialEq, Eq)]
 pub enum Class {
-    /// A RESET or an ACTIVATE.
+    /// A RESET, an ACTIVATE, or a discovery packet.
     Notice,
     /// A STATE that a link's states ask for.
     State,

@@ -7,7 +7,6 @@ use Rattle.std.proofs.lemmas.List.{get_or-set_other}
 use Rattle.tipc_types.specs.declared.message_forms.Flow.TheVariants.{Zero}
 use Rattle.tipc_types.specs.Address.{node_word}
 use Rattle.tipc_types.specs.declared.identity.Addr.{Addr}
-use Rattle.tipc_types.specs.declared.link_words.Why.{Why}
 use Rattle.tipc_types.specs.declared.node_calls.Answer.TheVariants as answer
 use Rattle.tipc_types.specs.declared.node_calls.Arrival.{Arrival}
 use Rattle.tipc_types.specs.declared.node_calls.Arrival.TheVariants as arrival
@@ -18,7 +17,7 @@ use Rattle.tipc_header.specs.Spelling.{Fields}
 use Rattle.tipc_journal.specs.declared.entries.Entry.{Entry}
 use Rattle.tipc_journal.specs.Contacts.{contact, contact_after}
 use Rattle.tipc_journal.specs.Dues.{NothingDue}
-use Rattle.tipc_journal.specs.Steps.{IsInside}
+use Rattle.tipc_journal.specs.Steps.{IsInside, step_entries}
 use Rattle.tipc_journal.proofs.ContactLaws.{contact_append}
 use Rattle.tipc_pair.specs.declared.transitions.Transition.{Transition}
 use Rattle.tipc_pair.specs.declared.transitions.Transition.TheVariants.{ContactDown, ContactUp, LinkDown, LinkUp}
@@ -47,6 +46,8 @@ use Rattle.tipc_pair.proofs.turns.PairTells.{Tells}
 use Rattle.tipc_node.proofs.journal.PeersTold.{puts_each_linked, puts_each_worked}
 use Rattle.tipc_node.proofs.Places.{set_either, set_there}
 use Rattle.tipc_node.proofs.journal.Putting.{IsInContact, all_delivered, all_given, not_nobody, still_in_contact}
+use Rattle.tipc_node.proofs.work.Arriving.{by_arrival}
+use Rattle.tipc_node.proofs.work.Finding.{discovered_same}
 use Rattle.tipc_node.proofs.work.Senders.{sender_other}
 use Rattle.tipc_node.proofs.journal.SendsTold.{begun_linked}
 use Rattle.tipc_pair.proofs.turns.TurnMeans.{contact_by_story, on_bearers, told_by_story}
@@ -201,14 +202,22 @@ heard_told n n' by bearer number bytes frames answered inside h passes heard t s
     call_told n n' bytes by (event.Arrive bearer number) inside (answer.Arrived answered) (answer.Arrived answered) frames w w.sockets h t (ap (λ (k : NodeState). k.journal) heard.after) (ap (λ (k : NodeState). k.sockets) heard.after) sound
     (arrived_call n by bearer number answered w h worked)
 
+-- an arrival by which nothing is noted, and no socket changes
+quiet_told : (n n' : NodeState) (by : By) (bearer number : ℕ) (bytes : List ℕ) (frames : List Outgoing) (answered given : Arrival) (inside : List Entry) → IsTold n
+    → NodeTurn n n' bytes (step_of by (event.Arrive bearer number) inside (answer.Arrived answered)) frames → AreSockets n'.sockets
+    → n'.journal ≡ n.journal ++ step_entries (step_of by (event.Arrive bearer number) [] (answer.Arrived given)) → n'.sockets ≡ n.sockets → IsTold n'
+quiet_told n n' by bearer number bytes frames answered given inside h t sound journal sockets =
+    call_told n n' bytes by (event.Arrive bearer number) inside (answer.Arrived answered) (answer.Arrived given) frames (begun n) n.sockets h t journal sockets sound
+    (arrived_call n by bearer number given (begun n) h (begun_worked n NothingDue h))
+
 pub arrives_told : (n n' : NodeState) (by : By) (bearer number : ℕ) (bytes : List ℕ) (frames : List Outgoing) (answered : Arrival) → IsTold n → Arrives n n' by bearer number bytes frames answered → (inside : List Entry)
     → NodeTurn n n' bytes (step_of by (event.Arrive bearer number) inside (answer.Arrived answered)) frames → AreSockets n'.sockets → IsTold n'
-arrives_told n n' by bearer number bytes frames answered h arrives inside t sound = of (stop_of n bearer bytes) refl
-  where
-    of : (o : Option Why) → stop_of n bearer bytes ≡ o → IsTold n'
-    of (Some reason) is =
-        let step = arrives.stopped reason is in
-        let ignored = arrival.Ignored reason in
-        call_told n n' bytes by (event.Arrive bearer number) inside (answer.Arrived answered) (answer.Arrived ignored) frames (begun n) n.sockets h t (ap (λ (x : NodeState). x.journal) step.0) (ap (λ (x : NodeState). x.sockets) step.0) sound
-        (arrived_call n by bearer number ignored (begun n) h (begun_worked n NothingDue h))
-    of None is = heard_told n n' by bearer number bytes frames answered inside h is (arrives.heard is) t sound
+arrives_told n n' by bearer number bytes frames answered h arrives inside t sound =
+    by_arrival (IsTold n') n n' by bearer number bytes frames answered arrives
+    (λ reason after none is.
+    quiet_told n n' by bearer number bytes frames answered (arrival.Ignored reason) inside h t sound (ap (λ (x : NodeState). x.journal) after) (ap (λ (x : NodeState). x.sockets) after))
+    (λ passes heard. heard_told n n' by bearer number bytes frames answered inside h passes heard t sound)
+    (λ found.
+    let same = discovered_same n found.peer bearer in
+    quiet_told n n' by bearer number bytes frames answered (arrival.Took 0) inside h t sound
+    (ap (λ (x : NodeState). x.journal) found.after ∙ ap (λ es. es ++ step_entries (step_of by (event.Arrive bearer number) [] (answer.Arrived (arrival.Took 0)))) same.0) (ap (λ (x : NodeState). x.sockets) found.after ∙ same.1))

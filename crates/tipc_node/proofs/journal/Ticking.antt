@@ -30,6 +30,7 @@ use Rattle.tipc_node.specs.declared.neighbours.Upkeep.{Upkeep}
 use Rattle.tipc_node.specs.declared.neighbours.Upkeep.TheVariants as upkeep
 use Rattle.tipc_node.specs.Calls.{Ticks, upkeep_work, tick_work}
 use Rattle.tipc_node.specs.declared.neighbours.Neighbour.{Neighbour}
+use Rattle.tipc_node.specs.Finding.{next_tick, with_tick}
 use Rattle.tipc_node.specs.Nodes.{NodeState, after_all, upkeep_note, entries_all, is_change, mended_by, step_of, with_mended}
 use Rattle.tipc_node.specs.Sockets.{kept_answer, timeouts_of}
 use Rattle.tipc_node.specs.Telling.{IsTold}
@@ -143,13 +144,13 @@ tick_told n n' by inside frames answered h t sound ticks =
 -- ---- the node after it
 
 -- the parts of the node are those of the work on a tick
-pub ticks_from : (n : NodeState) (by : By) (xs : List (Option Neighbour)) (mid s : SocketTable) (journal : List Entry) → xs ≡ after_all upkeep.Tick n.neighbours
+pub ticks_from : (n : NodeState) (by : By) (ticks : ℕ) (xs : List (Option Neighbour)) (mid s : SocketTable) (journal : List Entry) → ticks ≡ next_tick n.ticks → xs ≡ after_all upkeep.Tick n.neighbours
     → mid ≡ fold after_entry n.sockets (entries_all upkeep.Tick 0 n.neighbours)
     → s ≡ with_watchers mid (passed (fold (λ t number. ended_at number t) mid.watchers (due mid.watchers.kept)))
     → journal ≡ n.journal ++ step_entries (step_of by event.Tick (entries_all upkeep.Tick 0 n.neighbours ++ timeouts_of n.sockets) answer.Done)
-    → record n { neighbours = xs; sockets = s; journal = journal } ≡ concluded n by event.Tick (tick_work n) answer.Done
-ticks_from n by xs mid s journal neighbours between passes told =
-    (λ i. record n { neighbours = neighbours i; sockets = sockets i; journal = told i })
+    → record n { ticks = ticks; neighbours = xs; sockets = s; journal = journal } ≡ concluded (with_tick n) by event.Tick (tick_work n) answer.Done
+ticks_from n by ticks xs mid s journal counted neighbours between passes told =
+    (λ i. record n { ticks = counted i; neighbours = neighbours i; sockets = sockets i; journal = told i })
   where
     first : SocketTable
     first = fold after_entry n.sockets (entries_all upkeep.Tick 0 n.neighbours)

@@ -1,4 +1,4 @@
--- A node shares its names with its peers: a new one, one that comes to know a peer, and a node after each call.
+-- A node shares its names with its peers: a new one, and a node after each call.
 use Rattle.std.proofs.Common.{◌≡◌, ℕ, false, List, [], Option, Some, None, length, refl, sym, ap, ◌∙◌, subst, arith}
 use Rattle.tipc_types.specs.declared.node_calls.Answer.{Answer}
 use Rattle.tipc_types.specs.declared.node_calls.Answer.TheVariants as answer
@@ -17,7 +17,7 @@ use Rattle.tipc_sockets.specs.SocketTables.{with_socket}
 use Rattle.tipc_name_dist.specs.Items.{telling}
 use Rattle.tipc_node.specs.declared.neighbours.Upkeep.TheVariants as upkeep
 use Rattle.tipc_node.specs.Calls.{CanPerform, HasInstances, Performs}
-use Rattle.tipc_node.specs.Nodes.{NodeState, end_with, known_node, neighbour_of}
+use Rattle.tipc_node.specs.Nodes.{NodeState}
 use Rattle.tipc_node.specs.Sharing.{SharesNames}
 use Rattle.tipc_journal.specs.Licensed.{next_answer}
 use Rattle.tipc_node.specs.Sockets.{cancelled_work, closed_work, first_answer, first_event, next_number, next_port, next_work, number_refusal, port_refusal, publication_refusal, published_work, received_work, socket_refusal, subscribed_work, subscription_refusal, told_closing, told_withdrawal, waiting_at, with_sockets_of, withdrawal_refusal, withdrawn_work}
@@ -26,7 +26,7 @@ use Rattle.tipc_node.specs.Turns.{addr_of}
 use Rattle.tipc_node.specs.Works.{begun}
 use Rattle.tipc_node.proofs.names.SharingCalls.{IsTurnOf, upkeep_shares, makes_shares, name_shares, port_shares, tick_shares}
 use Rattle.tipc_node.proofs.names.SharingNaming.{closing_is, publishing_is, tells_shares, withdrawal_is}
-use Rattle.tipc_node.proofs.names.SharingUnused.{known_unused, new_unused}
+use Rattle.tipc_node.proofs.names.SharingUnused.{new_unused}
 
 -- ---- a node that knows nobody
 
@@ -43,16 +43,6 @@ new_shares n empty = record {
   where
     met : (b : ℕ) (numbers : ℕ × ℕ) → contact n.journal (addr_of b) ≡ Some numbers → ⊥
     met b numbers is = let wrong : ◌≡◌ {A = Option (ℕ × ℕ)} None (Some numbers) = sym (ap (λ es. contact es (addr_of b)) empty ∙ contact_nil (addr_of b)) ∙ is in cc
-
--- ---- a link end is made
-
-pub known_shares : (n : NodeState) (peer bearer : ℕ) → end_with bearer (neighbour_of n peer) ≡ None → IsTold n → SharesNames n → SharesNames (known_node n peer bearer)
-known_shares n peer bearer none is_told shares = record {
-  own_names = shares.own_names;
-  told = shares.told;
-  holds = shares.holds;
-  unused = known_unused n peer bearer none is_told shares.unused;
-}
 
 -- ---- a call
 

@@ -4,11 +4,11 @@ use Rattle.std.specs.List.{list_all}
 use Rattle.std.proofs.lemmas.Bool.{and_parts, cases_eq}
 use Rattle.std.proofs.lemmas.List.{append_cancel_left, same_from_push}
 use Rattle.tipc_types.specs.Address.{node_word}
-use Rattle.tipc_types.specs.declared.link_words.Why.{Why}
 use Rattle.tipc_types.specs.declared.message_forms.Message.{Message}
 use Rattle.tipc_types.specs.declared.node_calls.Answer.{Answer}
 use Rattle.tipc_types.specs.declared.node_calls.Answer.TheVariants as answer
 use Rattle.tipc_types.specs.declared.node_calls.Arrival.{Arrival}
+use Rattle.tipc_types.specs.declared.node_calls.Arrival.TheVariants as arrival
 use Rattle.tipc_types.specs.declared.node_calls.By.{By}
 use Rattle.tipc_types.specs.declared.node_calls.EventNote.{EventNote}
 use Rattle.tipc_types.specs.declared.node_calls.EventNote.TheVariants.{Arrive}
@@ -34,13 +34,15 @@ use Rattle.tipc_sockets.specs.Telling.{after_entry}
 use Rattle.tipc_node.specs.declared.neighbours.Neighbour.{Neighbour}
 use Rattle.tipc_node.specs.Arrivals.{Arrives, GreetsWhere, Hears}
 use Rattle.tipc_pair.specs.Contacts.{begins, is_of_contact}
-use Rattle.tipc_node.specs.Nodes.{NodeState, change_entries, change_entry, neighbour_of, shown_contact, step_of, stop_of}
+use Rattle.tipc_node.specs.Nodes.{NodeState, change_entries, change_entry, neighbour_of, shown_contact, step_of}
 use Rattle.tipc_node.specs.Sharing.{IsUnused, SharesNames, flow_with}
 use Rattle.tipc_name_dist.specs.Told.{HasTold}
 use Rattle.tipc_node.specs.Telling.{IsTold, is_in_reach}
 use Rattle.tipc_node.specs.Turns.{NodeTurn, addr_of, is_change_of, is_delivered_from}
 use Rattle.tipc_node.specs.Works.{addr_of_word}
+use Rattle.tipc_node.proofs.work.Arriving.{by_arrival}
 use Rattle.tipc_pair.proofs.turns.Moves.{contact_by, contact_gone}
+use Rattle.tipc_node.proofs.work.Finding.{discovered_same}
 use Rattle.tipc_node.proofs.journal.Noting.{all_from}
 use Rattle.tipc_node.proofs.names.SharingDelivered.{filter_apart, is_delivery_of}
 use Rattle.tipc_pair.proofs.turns.PairTells.{Means, Story, began, contact_changes, ended, stays}
@@ -242,21 +244,24 @@ hears_shares n n' by bearer number bytes frames answered h h' shares hears insid
       | inr apart ↦ passed_at n n' bytes s frames b numbers h h' shares t (arrival_passes b peer inside apart (all_of_arrival n n' inside peer heard)) is
     ]
 
--- a frame that reaches no link
-stopped_shares : (n n' : NodeState) (by : By) (bearer number : ℕ) (bytes : List ℕ) (frames : List Outgoing) (answered : Arrival) → IsTold n → IsTold n' → SharesNames n → (inside : List Entry)
+-- an arrival by which nothing is noted
+quiet_shares : (n n' : NodeState) (by : By) (bearer number : ℕ) (bytes : List ℕ) (frames : List Outgoing) (answered : Arrival) → IsTold n → IsTold n' → SharesNames n → (inside : List Entry)
     → NodeTurn n n' bytes (step_of by (Arrive bearer number) inside (answer.Arrived answered)) frames → inside ≡ [] → SharesNames n'
-stopped_shares n n' by bearer number bytes frames answered h h' shares inside t none =
+quiet_shares n n' by bearer number bytes frames answered h h' shares inside t none =
     let s = step_of by (Arrive bearer number) inside (answer.Arrived answered) in
     shares_from n n' bytes s frames h shares t (arrival_own n n' bytes s frames shares t (ap (list_all keeps_live) none))
     (λ b numbers is. passed_at n n' bytes s frames b numbers h h' shares t (subst (PassesBy b) (sym none) (nothing_passes b)) is)
 
 pub arrives_shares : (n n' : NodeState) (by : By) (bearer number : ℕ) (bytes : List ℕ) (frames : List Outgoing) (answered : Arrival) → IsTold n → SharesNames n → Arrives n n' by bearer number bytes frames answered → (inside : List Entry)
     → NodeTurn n n' bytes (step_of by (Arrive bearer number) inside (answer.Arrived answered)) frames → IsTold n' → SharesNames n'
-arrives_shares n n' by bearer number bytes frames answered h shares arrives inside t h' = case (stop_of n bearer bytes) refl
+arrives_shares n n' by bearer number bytes frames answered h shares arrives inside t h' =
+    by_arrival (SharesNames n') n n' by bearer number bytes frames answered arrives
+    (λ reason after none is. quiet (answer.Arrived (arrival.Ignored reason)) (ap (λ (k : NodeState). k.journal) after))
+    (λ passes heard. hears_shares n n' by bearer number bytes frames answered h h' shares heard inside t)
+    (λ found. quiet (answer.Arrived (arrival.Took 0)) (ap (λ (k : NodeState). k.journal) found.after ∙ ap (λ es. es ++ step_entries (step_of by (Arrive bearer number) [] (answer.Arrived (arrival.Took 0)))) (discovered_same n found.peer bearer).0))
   where
-    case : (o : Option Why) → stop_of n bearer bytes ≡ o → SharesNames n'
-    case None is = hears_shares n n' by bearer number bytes frames answered h h' shares (arrives.heard is) inside t
-    case (Some why) is =
-        let r = arrives.stopped why is in
-        stopped_shares n n' by bearer number bytes frames answered h h' shares inside t
-        (same_inside n.journal by (Arrive bearer number) (Arrive bearer number) inside [] (answer.Arrived answered) _ (sym t.journal ∙ ap (λ (k : NodeState). k.journal) r.0))
+    -- nothing is inside the step
+    quiet : (a : Answer) → n'.journal ≡ n.journal ++ step_entries (step_of by (Arrive bearer number) [] a) → SharesNames n'
+    quiet a is =
+        quiet_shares n n' by bearer number bytes frames answered h h' shares inside t
+        (same_inside n.journal by (Arrive bearer number) (Arrive bearer number) inside [] (answer.Arrived answered) a (sym t.journal ∙ is))

@@ -1,8 +1,5 @@
 -- A contact that is yet to begin stays unused: nothing was accepted or delivered in it, before a turn and after it.
-use Rattle.std.proofs.Common.{◌≡◌, ◌<◌, ℕ, false, List, [], ◌∷◌, ◌++◌, Option, Some, None, map, refl, sym, ap, ◌∙◌, subst, inl, inr, true≢false, arith}
-use Rattle.std.specs.Prelude.{◌⊎◌}
-use Rattle.std.proofs.lemmas.Bool.{cases_eq}
-use Rattle.std.proofs.lemmas.List.{get_or-set_other}
+use Rattle.std.proofs.Common.{◌≡◌, ◌<◌, ℕ, false, List, [], ◌∷◌, ◌++◌, map, refl, sym, ap, ◌∙◌, subst, inl, inr, true≢false, arith}
 use Rattle.tipc_types.specs.declared.message_forms.Flow.TheVariants.{Zero}
 use Rattle.tipc_types.specs.declared.message_forms.Message.{Message}
 use Rattle.tipc_outside.specs.declared.outgoing.Outgoing.{Outgoing}
@@ -13,18 +10,14 @@ use Rattle.tipc_journal.proofs.StreamLaws.{accepted_nil, delivered_nil}
 use Rattle.tipc_pair.specs.Facing.{PairEnds, in_contact}
 use Rattle.tipc_pair.specs.PairTurns.{PutsAll}
 use Rattle.tipc_pair.specs.PairTurns.PutsAll.{puts_one}
-use Rattle.tipc_node.specs.declared.neighbours.Neighbour.{Neighbour}
 use Rattle.tipc_node.specs.Messages.{bytes_of}
-use Rattle.tipc_node.specs.Nodes.{NodeState, accepted_entry, acquaintance, end_with, known_neighbour, known_node, neighbour_of, pair_with, shown_contact}
+use Rattle.tipc_node.specs.Nodes.{NodeState, accepted_entry, pair_with, shown_contact}
 use Rattle.tipc_node.specs.Sharing.{AreUnused, IsUnused, flow_with}
 use Rattle.tipc_node.specs.Telling.{IsTold}
 use Rattle.tipc_pair.specs.LinkReadings.{AreAbreast}
 use Rattle.tipc_node.specs.Turns.{NodeTurn, PeerTurn}
-use Rattle.tipc_node.proofs.journal.FirstTold.{no_place}
-use Rattle.tipc_node.proofs.pairs.Knowing.{known_contact}
 use Rattle.tipc_node.proofs.pairs.Strangers.{kept_abreast}
 use Rattle.tipc_pair.proofs.turns.PairPuts.{active_there}
-use Rattle.tipc_node.proofs.Places.{set_either}
 use Rattle.tipc_pair.proofs.turns.TurnMeans.{TurnMeans, down, down_none, least, meets_after, turn_means}
 use Rattle.tipc_node.proofs.names.SharingFlows.{accepted_of, accepted_then, delivered_of_peer, delivered_then, entries_in, given_elsewhere, given_nothing, puts_elsewhere}
 
@@ -100,7 +93,7 @@ turn_unused n n' bytes s frames told t u = record { later = later; next = next }
         ] in
         still_unused n.journal n'.journal s b number t.journal before (down_passed n.own bytes s frames b number x y abreast (t.turns b) none)
 
--- ---- a node that knows nobody, and one that comes to know a peer
+-- ---- a node that knows nobody
 
 pub none_used : (journal : List Entry) (b number : ℕ) → journal ≡ [] → IsUnused journal b number
 none_used journal b number empty = λ theirs. (
@@ -113,40 +106,3 @@ new_unused n empty = record {
   later = λ b number higher. none_used n.journal b number empty;
   next = λ b none. none_used n.journal b (pair_with n b).contact empty;
 }
-
--- the pair to the peer is the new one, and each other one is as before
-after_known : (n : NodeState) (peer bearer b : ℕ) → ((b ≡ peer) × (pair_with (known_node n peer bearer) b ≡ (known_neighbour n peer bearer).pair)) ⊎ (pair_with (known_node n peer bearer) b ≡ pair_with n b)
-after_known n peer bearer b = elim (cases_eq b peer) [
-  | inr other ↦ inr (ap (λ o. (acquaintance n b o).pair) (get_or-set_other n.neighbours peer b _ None other))
-  | inl here ↦ at here (neighbour_of (known_node n peer bearer) b) refl
-]
-  where
-    known : Neighbour
-    known = known_neighbour n peer bearer
-
-    at : b ≡ peer → (o : Option Neighbour) → neighbour_of (known_node n peer bearer) b ≡ o → ((b ≡ peer) × (pair_with (known_node n peer bearer) b ≡ known.pair)) ⊎ (pair_with (known_node n peer bearer) b ≡ pair_with n b)
-    at here None none =
-        let was : neighbour_of n b ≡ None = ap (neighbour_of n) here ∙ no_place n.neighbours peer known (ap (neighbour_of (known_node n peer bearer)) (sym here) ∙ none) in
-        inr (ap (λ o. (acquaintance n b o).pair) (none ∙ sym was))
-    at here (Some x) is =
-        let made : known ≡ x = set_either n.neighbours peer x known (ap (neighbour_of (known_node n peer bearer)) (sym here) ∙ is) in
-        inl (here, ap (λ o. (acquaintance n b o).pair) is ∙ ap (λ (y : Neighbour). y.pair) (sym made))
-
-pub known_unused : (n : NodeState) (peer bearer : ℕ) → end_with bearer (neighbour_of n peer) ≡ None → IsTold n → AreUnused n → AreUnused (known_node n peer bearer)
-known_unused n peer bearer none told u = record {
-  later = λ b number higher. elim (after_known n peer bearer b) [
-    | inl made ↦
-        let contact = ap (λ (y : PairEnds). y.contact) made.1 ∙ same.1 in
-        subst (λ k. IsUnused n.journal k number) (sym made.0) (u.later peer number (subst (λ k. k < number) contact higher))
-    | inr before ↦ u.later b number (subst (λ (y : PairEnds). y.contact < number) before higher)
-  ];
-  next = λ b down. elim (after_known n peer bearer b) [
-    | inl made ↦
-        let low : in_contact (pair_with n peer) ≡ false = sym (ap in_contact made.1 ∙ same.0) ∙ down in
-        subst (IsUnused n.journal b) (sym (ap (λ (y : PairEnds). y.contact) made.1 ∙ same.1)) (subst (λ k. IsUnused n.journal k (pair_with n peer).contact) (sym made.0) (u.next peer low))
-    | inr before ↦ subst (λ (y : PairEnds). IsUnused n.journal b y.contact) (sym before) (u.next b (sym (ap in_contact before) ∙ down))
-  ];
-}
-  where
-    same : (in_contact (known_neighbour n peer bearer).pair ≡ in_contact (pair_with n peer)) × ((known_neighbour n peer bearer).pair.contact ≡ (pair_with n peer).contact)
-    same = known_contact n peer bearer none told

@@ -15,16 +15,12 @@ use Rattle.tipc_link.specs.Links.{LinkEnd, answered_with, followed, recorded, wi
 use Rattle.tipc_link.specs.Records.{Received}
 use Rattle.tipc_link.specs.Sessions.{Carries, Content, IsPut, Nothing, SessionEnd, Shows, answered, arrived, flushed, given_up, heard, joins, put, after_acknowledgement, repeated, room, spoke, after_state, waiting_given, waits, with_broadcast, with_record}
 use Rattle.tipc_pair.specs.Facing.{PairEnds, facing, with_made}
-use Rattle.tipc_pair.specs.PairTurns.{made_near, quietly}
-use Rattle.tipc_pair.specs.PairTurns.Opening.{makes}
-use Rattle.tipc_pair.specs.PairCalls.{at_bearer}
 use Rattle.tipc_node.specs.declared.neighbours.Neighbour.{Neighbour}
-use Rattle.tipc_node.specs.Nodes.{NodeState, acquaintance, is_mended_on, known_neighbour, known_node, neighbour_of, pair_with}
+use Rattle.tipc_node.specs.Nodes.{NodeState, neighbour_of, pair_with}
 use Rattle.tipc_node.specs.Telling.{ArePacked, IsTold}
 use Rattle.tipc_pair.specs.LinkReadings.{AreAbreast, IsPacked, IsPackedEnd, IsPackedPair}
 use Rattle.tipc_node.specs.Turns.{NodeTurn}
-use Rattle.tipc_pair.proofs.turns.PairKept.{Both, Closed, both_facing, happened_kept, turn_kept}
-use Rattle.tipc_node.proofs.Places.{set_cases}
+use Rattle.tipc_pair.proofs.turns.PairKept.{Both, Closed, both_facing, turn_kept}
 use Rattle.tipc_node.proofs.pairs.Strangers.{kept_abreast, kept_by, pair_there}
 
 -- ---- a session
@@ -164,28 +160,6 @@ turn_packed n n' bytes s frames is_told packed t b x' there =
     let before : IsPackedPair x = kept_by IsPackedPair n b (λ none. record { near = tt; far = tt }) (packed b) in
     let after = turn_kept Packed Any packed_closed x (pair_with n' b) at.opening _ at.reply at.own_frames (made_packed x two before) (both_packed x two before) at.turn in
     subst IsPackedPair (pair_there n' b x' there) (pair_packed (pair_with n' b) after.0)
-
--- a link end that is made has no session
-pub known_packed : (n : NodeState) (peer bearer : ℕ) → IsTold n → ArePacked n → ArePacked (known_node n peer bearer)
-known_packed n peer bearer is_told packed b x there =
-    elim (set_cases n.neighbours peer b x (known_neighbour n peer bearer) there) [
-      | inl h ↦ subst (λ (y : Neighbour). IsPackedPair y.pair) h.1 (new (neighbour_of n peer) refl)
-      | inr before ↦ packed b x before
-    ]
-  where
-    -- the course of the end that is made at what was kept of the peer
-    made_at : (y : Neighbour) → y.pair.bearer ≡ 0 → IsPackedPair y.pair → IsPackedPair (at_bearer bearer y.pair (made_near (is_mended_on n.mended bearer))).pair
-    made_at y first before =
-        let two : y.pair.bearer ≤ 1 = omega (arith, first) in
-        let k = happened_kept Packed Any packed_closed y.pair (makes bearer (is_mended_on n.mended bearer)) (quietly (at_bearer bearer y.pair (made_near (is_mended_on n.mended bearer)))) (made_packed y.pair two before) (both_packed y.pair two before) refl in
-        pair_packed (at_bearer bearer y.pair (made_near (is_mended_on n.mended bearer))).pair k.both
-
-    new : (o : Option Neighbour) → neighbour_of n peer ≡ o → IsPackedPair (known_neighbour n peer bearer).pair
-    new o is = subst (λ p. IsPackedPair (at_bearer bearer (acquaintance n peer p).pair (made_near (is_mended_on n.mended bearer))).pair) (sym is) (at o is)
-      where
-        at : (o : Option Neighbour) → neighbour_of n peer ≡ o → IsPackedPair (at_bearer bearer (acquaintance n peer o).pair (made_near (is_mended_on n.mended bearer))).pair
-        at None is = made_at (acquaintance n peer None) refl (record { near = tt; far = tt })
-        at (Some y) is = made_at y (first_bearer n peer y is_told is) (packed peer y is)
 
 -- a node that knows nobody has none
 pub new_packed : (n : NodeState) → ((b : ℕ) → neighbour_of n b ≡ None) → ArePacked n

@@ -6,7 +6,7 @@ use Rattle.tipc_journal.specs.declared.entries.Entry.{Entry}
 use Rattle.tipc_pair.specs.Addressed.{Names}
 use Rattle.tipc_pair.specs.Facing.{PairEnds, alone, facing, turned}
 use Rattle.tipc_pair.specs.LinkReadings.{AreAbreast, epochs_on}
-use Rattle.tipc_pair.proofs.turns.Moves.{IsApt, abreast_apt, apt_abreast, epochs_at}
+use Rattle.tipc_pair.proofs.turns.Moves.{IsApt, apt_abreast, epochs_at}
 use Rattle.tipc_node.specs.declared.neighbours.Neighbour.{Neighbour}
 use Rattle.tipc_node.specs.Nodes.{NodeState, acquaintance, end_with, neighbour_of, pair_with}
 use Rattle.tipc_node.specs.Telling.{IsTold, TellsOf}
@@ -70,6 +70,3 @@ tells_kept journal n b t = by (neighbour_of n b) t
 
 pub kept_abreast : (n : NodeState) (b : ℕ) → IsTold n → AreAbreast (pair_with n b)
 kept_abreast n b told = (kept_tells n b told).abreast
-
-pub kept_apt : (n : NodeState) (b : ℕ) → IsTold n → IsApt (pair_with n b)
-kept_apt n b told = abreast_apt (pair_with n b) (kept_abreast n b told)

@@ -1,5 +1,5 @@
 -- Each arrival is a turn of the node.
-use Rattle.std.proofs.Common.{◌≡◌, ◌≢◌, ℕ, Bool, true, List, [], ◌++◌, Option, Some, None, drop, filter, is_some, inl, inr, refl, sym, ap, ◌∙◌, subst, append-nil, append_assoc, arith, false}
+use Rattle.std.proofs.Common.{◌≡◌, ◌≢◌, ◌<◌, ◌^◌, ℕ, Bool, true, List, [], ◌++◌, Option, Some, None, drop, filter, is_some, inl, inr, refl, sym, ap, ◌∙◌, subst, append-nil, append_assoc, arith, false}
 use Rattle.std.specs.Prelude.{slice_index_or, slice_set}
 use Rattle.std.specs.List.{All}
 use Rattle.std.proofs.lemmas.Bool.{cases_eq}
@@ -7,7 +7,6 @@ use Rattle.std.proofs.lemmas.List.{drop_at, get_or-set_other}
 use Rattle.std.proofs.lemmas.List.Elements.{All-append, filter-append}
 use Rattle.tipc_types.specs.declared.message_forms.Flow.TheVariants.{Zero}
 use Rattle.tipc_types.specs.Address.{node_word}
-use Rattle.tipc_types.specs.declared.link_words.Why.{Why}
 use Rattle.tipc_types.specs.declared.node_calls.Answer.TheVariants as answer
 use Rattle.tipc_types.specs.declared.node_calls.Arrival.{Arrival}
 use Rattle.tipc_types.specs.declared.node_calls.Arrival.TheVariants as arrival
@@ -28,18 +27,21 @@ use Rattle.tipc_pair.specs.PairTurns.Opening.{hears}
 use Rattle.tipc_node.specs.declared.arriving.Delivery.{Delivery}
 use Rattle.tipc_node.specs.declared.neighbours.Neighbour.{Neighbour}
 use Rattle.tipc_node.specs.Arrivals.{Arrives, Hears, heard_work}
+use Rattle.tipc_node.specs.Finding.{AreFound}
 use Rattle.tipc_node.specs.Neighbours.{answered_neighbour, answering, heard_neighbour, no_broadcast}
-use Rattle.tipc_node.specs.Nodes.{NodeState, arrival_answer, arrival_deliveries, change_entries, entries_in, neighbour_of, shown_contact, step_of, stop_of, stopped_node}
+use Rattle.tipc_node.specs.Nodes.{NodeState, arrival_answer, arrival_deliveries, change_entries, entries_in, neighbour_of, shown_contact, step_of, stopped_node}
 use Rattle.tipc_node.specs.Turns.{AreNamed, IsFrom, IsPlaced, IsRouted, IsTakenIn, NodeTurn, PeerTurn, frames_to, is_accepted_for, is_change_of, is_delivered_from, is_out_to}
 use Rattle.tipc_pair.specs.PairTurns.{IsTakenBy}
 use Rattle.tipc_pair.specs.Addressed.{Names}
 use Rattle.tipc_node.specs.Works.{Work, begun}
 use Rattle.tipc_pair.proofs.turns.Addressing.{AreFor}
+use Rattle.tipc_node.proofs.turns.Discovering.{discovers_turn}
 use Rattle.tipc_node.proofs.turns.Entries.{changes_accept, changes_deliver, changes_inside, changes_other, changes_own, changes_placed, given_in, given_other, given_own, inside_both, routed_to}
 use Rattle.tipc_node.proofs.turns.MessageRuns.{delivers_all_run, idle_run}
 use Rattle.tipc_node.proofs.turns.Named.{IsNamed, first_named, replied_named}
 use Rattle.tipc_node.proofs.pairs.Strangers.{named_there}
 use Rattle.tipc_node.proofs.Places.{set_none, set_there}
+use Rattle.tipc_node.proofs.work.Arriving.{by_arrival}
 use Rattle.tipc_node.proofs.journal.PeersTold.{puts_each_run}
 use Rattle.tipc_node.proofs.turns.Runs.{IsRun, RunAt, Runs, accepted_now, both_parts, run_then, stand_set}
 use Rattle.tipc_node.proofs.turns.Shares.{frames_to-other, frames_to-own}
@@ -241,17 +243,13 @@ hears_turn n n' by bearer number bytes frames answered named h told r =
       placed = subst (All (IsPlaced n)) (sym r.inside_is) (All-append (IsPlaced n) (change_entries h.peer h.out.course.changes) told (changes_placed n h.peer h.out.course.changes there) r.placed);
     })
 
-pub arrives_turn : (n n' : NodeState) (by : By) (bearer number : ℕ) (bytes : List ℕ) (frames : List Outgoing) (answered : Arrival) → AreNamed n → Arrives n n' by bearer number bytes frames answered
+pub arrives_turn : (n n' : NodeState) (by : By) (bearer number : ℕ) (bytes : List ℕ) (frames : List Outgoing) (answered : Arrival) → AreNamed n → AreFound n → n.boot < 2 ^ 32 → Arrives n n' by bearer number bytes frames answered
     → (inside : List Entry) × NodeTurn n n' bytes (step_of by (event.Arrive bearer number) inside (answer.Arrived answered)) frames
-arrives_turn n n' by bearer number bytes frames answered named h = case (stop_of n bearer bytes) refl
-  where
-    case : (o : Option Why) → stop_of n bearer bytes ≡ o → IsTurn n n' by (event.Arrive bearer number) bytes frames (answer.Arrived answered)
-    case (Some reason) is =
-        let r = h.stopped reason is in
-        let note = event.Arrive bearer number in
-        turn_as n n' (stopped_node n by bearer number reason) by note bytes frames [] (answer.Arrived answered) (answer.Arrived (arrival.Ignored reason)) r.0 r.1 (ap answer.Arrived r.2)
-        (run_turn n by note bytes (answer.Arrived (arrival.Ignored reason)) (begun n) [] (λ taken. taken) (idle_run n (begun n) (begun n) (named_stand n named) refl refl))
-    case None is =
-        let heard_it = h.heard is in
-        let run = heard_run n n' by bearer number bytes frames answered named heard_it in
-        (heard_it.work.inside, hears_turn n n' by bearer number bytes frames answered named heard_it run.noted run.runs)
+arrives_turn n n' by bearer number bytes frames answered named found low h =
+    by_arrival (IsTurn n n' by (event.Arrive bearer number) bytes frames (answer.Arrived answered)) n n' by bearer number bytes frames answered h
+    (λ reason after none is.
+    let note = event.Arrive bearer number in
+    turn_as n n' (stopped_node n by bearer number reason) by note bytes frames [] (answer.Arrived answered) (answer.Arrived (arrival.Ignored reason)) after none (ap answer.Arrived is)
+    (run_turn n by note bytes (answer.Arrived (arrival.Ignored reason)) (begun n) [] (λ taken. taken) (idle_run n (begun n) (begun n) (named_stand n named) refl refl)))
+    (λ passes heard. let run = heard_run n n' by bearer number bytes frames answered named heard in (heard.work.inside, hears_turn n n' by bearer number bytes frames answered named heard run.noted run.runs))
+    (λ discovers. ([], discovers_turn n n' by bearer number bytes frames answered named found low discovers))

@@ -1,5 +1,5 @@
 -- The entries of a step by the peers of which they tell: of changes, of what was given, and of what happens to all neighbours.
-use Rattle.std.proofs.Common.{◌≡◌, ◌≢◌, ◌+◌, ◌<◌, ◌==◌, ◌&&◌, ℕ, zero, suc, Bool, true, false, List, [], ◌∷◌, ◌++◌, Option, Some, None, filter, is_some, map, slice_index_or, if◌then◌else◌, refl, sym, ap, ◌∙◌, subst, append-nil, arith}
+use Rattle.std.proofs.Common.{◌≡◌, ◌≢◌, ◌+◌, ◌<◌, ◌^◌, ◌==◌, ◌&&◌, ℕ, zero, suc, Bool, true, false, List, [], ◌∷◌, ◌++◌, Option, Some, None, filter, is_some, map, slice_index_or, if◌then◌else◌, refl, sym, ap, ◌∙◌, subst, append-nil, arith}
 use Rattle.std.specs.Prelude.{All}
 use Rattle.std.specs.List.{flat_map, list_all}
 use Rattle.std.proofs.lemmas.Bool.Decides.{nat_tests}
@@ -16,12 +16,15 @@ use Rattle.tipc_pair.specs.declared.transitions.Transition.{Transition}
 use Rattle.tipc_pair.specs.declared.transitions.Transition.TheVariants.{ContactDown, ContactUp, LinkDown, LinkUp}
 use Rattle.tipc_node.specs.declared.neighbours.Upkeep.{Upkeep}
 use Rattle.tipc_node.specs.declared.neighbours.Neighbour.{Neighbour}
-use Rattle.tipc_node.specs.Neighbours.{done}
+use Rattle.tipc_node.specs.Neighbours.{IsOnBearer, done}
 use Rattle.tipc_node.specs.Messages.{message_in}
-use Rattle.tipc_node.specs.Nodes.{NodeState, change_entries, change_entry, delivered_by, deliveries_of, entries_all, entries_in, entries_one, frames_all, neighbour_of, numbered_all, numbered_one, states_all, states_one}
+use Rattle.tipc_node.specs.Nodes.{NodeState, change_entries, change_entry, delivered_by, deliveries_of, entries_all, entries_in, entries_one, neighbour_of, numbered_all, numbered_one, states_all, states_one}
+use Rattle.tipc_node.specs.Finding.{requests_by, upkeep_frames}
+use Rattle.tipc_node.specs.Turns.IsRouted.{on_link}
 use Rattle.tipc_node.specs.Turns.{IsOfNeighbour, IsPlaced, IsRouted, addr_of, delivered_entries, delivered_of, is_accepted_for, is_change_of, is_delivered_from}
 use Rattle.tipc_pair.proofs.turns.Addressing.{AreFor}
 use Rattle.tipc_node.proofs.journal.Telling.{same_word as own_word}
+use Rattle.tipc_node.proofs.turns.Finding.{requests_routed}
 
 flat_map_same : {A B : Type 0} (f g : A → List B) (xs : List A) → ((x : A) → f x ≡ g x) → flat_map f xs ≡ flat_map g xs
 flat_map_same f g [] same = refl
@@ -217,7 +220,7 @@ all_placed n d = placed_from n d 0 n.neighbours (all_of n)
 
 pub routed_to : (n : NodeState) (b : ℕ) (frames : List Outgoing) → is_some (neighbour_of n b) ≡ true → AreFor (node_word b) frames → All (IsRouted n) frames
 routed_to n b [] there all = All-nil (IsRouted n)
-routed_to n b (o ∷ os) there all = All-cons (IsRouted n) o os (record { peer = b; there = there; to_is = all.0.0; link = all.0.1 }) (routed_to n b os there all.1)
+routed_to n b (o ∷ os) there all = All-cons (IsRouted n) o os (on_link (record { peer = b; there = there; to_is = all.0.0; link = all.0.1 })) (routed_to n b os there all.1)
 
 -- each neighbour's frames are for it: those of one part of what it sends
 abbrev AreEach : (Neighbour → List Outgoing) → ℕ → List (Option Neighbour) → Type 0
@@ -249,8 +252,9 @@ pub numbered_are : (d : Upkeep) (xs : List (Option Neighbour)) → numbered_all 
 unfolding numbered_all
 numbered_are d xs = flat_map_same (numbered_one d) (part_of (λ x. (done d x).numbered)) xs (λ o. elim o as (λ (p : Option Neighbour). numbered_one d p ≡ part_of (λ x. (done d x).numbered) p) [ None ↦ refl | Some x ↦ refl ])
 
-pub all_routed : (n : NodeState) (d : Upkeep) → ((b : ℕ) (x : Neighbour) → neighbour_of n b ≡ Some x → AreFor (node_word b) (done d x).states × AreFor (node_word b) (done d x).numbered) → All (IsRouted n) (frames_all d n.neighbours)
-all_routed n d each =
-    All-append (IsRouted n) (states_all d n.neighbours) (numbered_all d n.neighbours)
-    (subst (All (IsRouted n)) (sym (states_are d n.neighbours)) (part_routed n (λ x. (done d x).states) (λ b x is. (each b x is).0)))
+pub all_routed : (n : NodeState) (d : Upkeep) → IsOnBearer d → n.boot < 2 ^ 32 → ((b : ℕ) (x : Neighbour) → neighbour_of n b ≡ Some x → AreFor (node_word b) (done d x).states × AreFor (node_word b) (done d x).numbered) → All (IsRouted n) (upkeep_frames d n)
+all_routed n d one low each =
+    All-append (IsRouted n) (states_all d n.neighbours ++ requests_by d n) (numbered_all d n.neighbours)
+    (All-append (IsRouted n) (states_all d n.neighbours) (requests_by d n)
+    (subst (All (IsRouted n)) (sym (states_are d n.neighbours)) (part_routed n (λ x. (done d x).states) (λ b x is. (each b x is).0))) (requests_routed d n one low))
     (subst (All (IsRouted n)) (sym (numbered_are d n.neighbours)) (part_routed n (λ x. (done d x).numbered) (λ b x is. (each b x is).1)))

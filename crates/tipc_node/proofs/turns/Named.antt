@@ -1,28 +1,20 @@
 -- A turn leaves each pair for the peer under whose number it stands, and its frames are of the links to that peer.
-use Rattle.std.specs.Prelude.{is_some}
-use Rattle.std.specs.List.{All}
-use Rattle.std.proofs.Common.{◌≡◌, ◌≤◌, ◌<◌, ◌+◌, ◌*◌, ◌^◌, ℕ, true, List, ◌++◌, Option, Some, None, inl, inr, length, get_or-set_same, refl, sym, ap, ◌∙◌, subst, arith}
-use Rattle.std.proofs.lemmas.Bool.{cases_eq}
-use Rattle.std.proofs.lemmas.List.{get_or-set_other}
+use Rattle.std.proofs.Common.{◌≡◌, ◌≤◌, ◌<◌, ◌+◌, ◌*◌, ◌^◌, ℕ, List, ◌++◌, Option, None, refl, sym, ◌∙◌, subst, arith}
 use Rattle.tipc_types.specs.Address.{node_word}
 use Rattle.tipc_outside.specs.declared.outgoing.Outgoing.{Outgoing}
 use Rattle.tipc_link.specs.Links.{LinkEnd}
 use Rattle.tipc_pair.specs.Courses.{Course}
-use Rattle.tipc_pair.specs.Facing.{PairEnds, alone, facing, other, with_made}
+use Rattle.tipc_pair.specs.Facing.{PairEnds, alone, facing, with_made}
 use Rattle.tipc_pair.specs.PairTurns.{Happened, Opening, Outset, PairTurn, PutsOne, Reply, replied}
-use Rattle.tipc_pair.specs.PairTurns.Opening.{makes}
 use Rattle.tipc_journal.specs.Steps.{NodeStep}
-use Rattle.tipc_node.specs.declared.neighbours.Neighbour.{Neighbour}
-use Rattle.tipc_node.specs.Nodes.{NodeState, is_mended_on, known_frames, known_neighbour, known_node, neighbour_of, pair_with}
-use Rattle.tipc_node.proofs.pairs.Strangers.{kept_by, named_there, pair_alone}
-use Rattle.tipc_node.specs.Turns.{AreNamed, IsRouted, NodeTurn}
+use Rattle.tipc_node.specs.Nodes.{NodeState, neighbour_of, pair_with}
+use Rattle.tipc_node.proofs.pairs.Strangers.{pair_alone}
+use Rattle.tipc_node.specs.Turns.{AreNamed, NodeTurn}
 use Rattle.tipc_pair.specs.Addressed.{HasEpochs, IsEndTo, IsEpoch, Names}
 use Rattle.tipc_pair.proofs.Facings.{facing_contact}
 use Rattle.tipc_pair.proofs.turns.Addressing.{AreFor, IsFor, all_for, for_both, keeps_to}
 use Rattle.tipc_pair.proofs.turns.ContactEpochs.{first_epochs, put_epochs, replied_epochs, turn_keeps_epochs}
 use Rattle.tipc_pair.proofs.turns.PairKept.{Both, Kept, both_facing, facing_peer, happened_kept, put_kept, replied_kept, turn_kept}
-use Rattle.tipc_node.proofs.turns.Entries.{routed_to}
-use Rattle.tipc_node.proofs.Places.{set_either}
 
 -- a pair is for that node, and these frames are of the links to it
 pub record IsNamed (word : ℕ) (x : PairEnds) (frames : List Outgoing) : Type 0 where
@@ -94,7 +86,7 @@ pub turn_named : (n n' : NodeState) (bytes : List ℕ) (s : NodeStep) (frames : 
 turn_named n n' bytes s frames named t b =
     let at = t.turns b in (turn_for (node_word b) (pair_with n b) (pair_with n' b) at.opening _ at.reply at.own_frames (named b) at.turn).pair_is
 
--- ---- a link end is made
+-- ---- a node that knows nobody
 
 -- a boot number, whose contact numbers are epochs
 abbrev pub IsBoot : ℕ → Type 0
@@ -107,26 +99,5 @@ alone_named own b boot is = record { first = refl; peer = refl; epochs = record 
     number : IsEpoch (boot * 4294967296 + 1)
     number = (let first = is.0 in let fits = is.1 in (omega (arith, first), omega (arith, fits)))
 
--- a node that knows nobody
 pub new_named : (n : NodeState) → IsBoot n.boot → ((peer : ℕ) → neighbour_of n peer ≡ None) → AreNamed n
 new_named n boot nobody b = subst (Names (node_word b)) (sym (pair_alone n b (nobody b))) (alone_named n.own b n.boot boot)
-
--- a pair of which an end is made is for its peer
-pub known_named : (n : NodeState) (peer bearer : ℕ) → IsBoot n.boot → AreNamed n → AreNamed (known_node n peer bearer)
-known_named n peer bearer boot named b = kept_by (Names (node_word b)) (known_node n peer bearer) b (λ none. alone_named n.own b n.boot boot) (λ x there.
-    elim (cases_eq b peer) [
-      | inl here ↦
-          let made : known_neighbour n peer bearer ≡ x = set_either n.neighbours peer x (known_neighbour n peer bearer) (subst (λ k. neighbour_of (known_node n peer bearer) k ≡ Some x) here there) in
-          subst (λ k. Names (node_word k) x.pair) (sym here) (subst (λ (y : Neighbour). Names (node_word peer) y.pair) made new)
-      | inr other ↦ named_there n b x named (sym (get_or-set_other n.neighbours peer b (Some (known_neighbour n peer bearer)) None other) ∙ there)
-    ])
-  where
-    new : Names (node_word peer) (known_neighbour n peer bearer).pair
-    new = (first_named (node_word peer) (pair_with n peer) (makes bearer (is_mended_on n.mended bearer)) _ (named peer) refl).pair_is
-
--- and the frames that leave then are of the links to it
-pub known_routed : (n : NodeState) (peer bearer : ℕ) → AreNamed n → peer < length n.neighbours → All (IsRouted (known_node n peer bearer)) (known_frames n peer bearer)
-known_routed n peer bearer named within =
-    let x = pair_with n peer in
-    let there : is_some (neighbour_of (known_node n peer bearer) peer) ≡ true = ap is_some (get_or-set_same n.neighbours peer (Some (known_neighbour n peer bearer)) None within) in
-    routed_to (known_node n peer bearer) peer (known_frames n peer bearer) there (first_frames (node_word peer) x (makes bearer (is_mended_on n.mended bearer)) _ (named peer) refl).0

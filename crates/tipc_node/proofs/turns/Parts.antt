@@ -4,7 +4,8 @@ use Rattle.std.specs.Prelude.{slice_index_or}
 use Rattle.std.specs.List.{flat_map}
 use Rattle.std.proofs.lemmas.Grind.{flat_map-append}
 use Rattle.std.proofs.lemmas.List.{get_or_default, length-map, length-take-le, map-append, take_all, take_more}
-use Rattle.tipc_outside.specs.Frames.{Gains, Out}
+use Rattle.tipc_outside.specs.declared.outgoing.Outgoing.{Outgoing}
+use Rattle.tipc_outside.specs.Frames.{AddsFirst, Gains, Out, made_first}
 use Rattle.tipc_outside.proofs.Adding.{gains_more, gains_none}
 use Rattle.tipc_journal.specs.declared.entries.Entry.{Entry}
 use Rattle.tipc_node.specs.declared.neighbours.Neighbour.{Neighbour}
@@ -104,3 +105,11 @@ pub all_nobody : (d : Upkeep) (old : List (Option Neighbour)) → slice_index_or
 unfolding after_all
 all_nobody d [] none = refl
 all_nobody d (x ∷ xs) none = ap (after_one d) none
+
+-- ---- the requests behind it
+
+-- the frames of all neighbours, and the requests behind those that leave first
+pub asked_made : (d : Upkeep) (xs : List (Option Neighbour)) (requests : List Outgoing) (a b c : Out) → Gains a b (made_all d xs) → AddsFirst b c requests
+    → Gains a c (record { first = states_all d xs ++ requests; behind = numbered_all d xs })
+asked_made d xs requests a b c made asked =
+    subst (λ fs. Gains a c (record { first = states_all d xs ++ requests; behind = fs })) (append-nil (numbered_all d xs)) (gains_more a b c (made_all d xs) (made_first requests) made asked)

@@ -1,5 +1,5 @@
 -- Each call is a turn of the node.
-use Rattle.std.proofs.Common.{◌≡◌, ℕ, Bool, false, List, [], ◌∷◌, ◌++◌, append-nil, Option, Some, None, filter, map, slice_index_or, refl, sym, ap, ◌∙◌, subst}
+use Rattle.std.proofs.Common.{◌≡◌, ◌<◌, ◌^◌, ℕ, Bool, false, List, [], ◌∷◌, ◌++◌, append-nil, Option, Some, None, filter, map, slice_index_or, refl, sym, ap, ◌∙◌, subst}
 use Rattle.std.proofs.lemmas.List.Elements.{All-append, All-cons, All-nil, filter-append}
 use Rattle.tipc_types.specs.Address.{node_word}
 use Rattle.tipc_types.specs.declared.identity.PortId.{PortId}
@@ -25,9 +25,10 @@ use Rattle.tipc_node.specs.declared.neighbours.Upkeep.{Upkeep}
 use Rattle.tipc_node.specs.declared.neighbours.Upkeep.TheVariants as upkeep
 use Rattle.tipc_node.specs.declared.neighbours.Neighbour.{Neighbour}
 use Rattle.tipc_node.specs.Calls.{CanPerform, Makes, Performs, SendsToPort, SendsByName, SendsTo, TakesPart, Tells, upkeep_work, sender_refusal, tick_work, way_refusal}
+use Rattle.tipc_node.specs.Finding.{upkeep_frames, with_tick}
 use Rattle.tipc_node.specs.Messages.{destination_of, direct, limit_of, named}
 use Rattle.tipc_node.specs.Neighbours.{IsOnBearer, course_of, done}
-use Rattle.tipc_node.specs.Nodes.{NodeState, after_one, change_entries, upkeep_note, entries_all, entries_one, frames_all, mended_by, numbered_one, recorded, states_one, step_of, with_mended}
+use Rattle.tipc_node.specs.Nodes.{NodeState, after_one, change_entries, upkeep_note, entries_all, entries_one, mended_by, numbered_one, recorded, states_one, step_of, with_mended}
 use Rattle.tipc_node.specs.Sockets.{cancelled_work, closed_work, crowd_refusal, first_answer, first_event, found_at, kept_answer, next_number, next_port, next_work, number_refusal, port_refusal, publication_refusal, published_work, received_work, socket_refusal, subscribed_work, subscription_refusal, timeouts_of, told_closing, told_withdrawal, waiting_at, with_sockets_of, withdrawal_refusal, withdrawn_entries, withdrawn_work}
 use Rattle.tipc_node.specs.Turns.{AreNamed, IsBrought, IsPlaced, NodeTurn, PeerTurn, frames_to, is_accepted_for, is_change_of, is_delivered_from}
 use Rattle.tipc_pair.specs.Addressed.{Names}
@@ -186,8 +187,8 @@ done_turn own upkeep.Tick s frames b x one h = opened_turn own upkeep.Tick s fra
 abbrev upkeep_node : NodeState → By → Upkeep → NodeState
 upkeep_node n by d = concluded (with_mended n (mended_by d n.mended)) by (upkeep_note d) (upkeep_work d n) answer.Done
 
-upkeep_turn : (n : NodeState) (by : By) (d : Upkeep) → AreNamed n → IsOnBearer d → NodeTurn n (upkeep_node n by d) [] (step_of by (upkeep_note d) (entries_all d 0 n.neighbours) answer.Done) (frames_all d n.neighbours)
-upkeep_turn n by d named one = node_turn n (upkeep_node n by d) [] (step_of by (upkeep_note d) (entries_all d 0 n.neighbours) answer.Done) (frames_all d n.neighbours) (record {
+upkeep_turn : (n : NodeState) (by : By) (d : Upkeep) → AreNamed n → n.boot < 2 ^ 32 → IsOnBearer d → NodeTurn n (upkeep_node n by d) [] (step_of by (upkeep_note d) (entries_all d 0 n.neighbours) answer.Done) (upkeep_frames d n)
+upkeep_turn n by d named low one = node_turn n (upkeep_node n by d) [] (step_of by (upkeep_note d) (entries_all d 0 n.neighbours) answer.Done) (upkeep_frames d n) (record {
   own = refl;
   boot = refl;
   journal = refl;
@@ -195,10 +196,10 @@ upkeep_turn n by d named one = node_turn n (upkeep_node n by d) [] (step_of by (
   turns = λ b x there. record {
     after = (done d x).after;
     after_is = after_at d n.neighbours b ∙ ap (after_one d) there;
-    turn = done_turn n.own d (step_of by (upkeep_note d) (entries_all d 0 n.neighbours) answer.Done) (frames_all d n.neighbours) b x one (record {
+    turn = done_turn n.own d (step_of by (upkeep_note d) (entries_all d 0 n.neighbours) answer.Done) (upkeep_frames d n) b x one (record {
       event_is = refl;
       answer_is = refl;
-      frames_are = shares d n.neighbours b each ∙ ap (λ o. states_one d o ++ numbered_one d o) there;
+      frames_are = shares d n b each ∙ ap (λ o. states_one d o ++ numbered_one d o) there;
       changes = all_changes d n.neighbours b ∙ ap (entries_one d b) there;
       accepted = all_accept d b 0 n.neighbours;
       delivered = all_deliver d b 0 n.neighbours;
@@ -206,17 +207,17 @@ upkeep_turn n by d named one = node_turn n (upkeep_node n by d) [] (step_of by (
   };
   alone = λ b none. after_at d n.neighbours b ∙ ap (after_one d) none;
   untaken = λ b none a es er p is taken from link. (let wrong : answer.Done ≡ answer.Arrived a = is in cc);
-  routed = all_routed n d each;
+  routed = all_routed n d one low each;
   placed = all_placed n d;
 })
   where
     each : (b : ℕ) (x : Neighbour) → slice_index_or n.neighbours b None ≡ Some x → AreFor (node_word b) (done d x).states × AreFor (node_word b) (done d x).numbered
     each b x there = done_for d b x (named_there n b x named there)
 
-takes_part_turn : (n n' : NodeState) (by : By) (d : Upkeep) (call : EventNote) (frames : List Outgoing) (answered : Answer) → AreNamed n → IsOnBearer d → call ≡ upkeep_note d → TakesPart n by d n' frames answered → IsCall n n' by call frames answered
-takes_part_turn n n' by d call frames answered named one is h =
+takes_part_turn : (n n' : NodeState) (by : By) (d : Upkeep) (call : EventNote) (frames : List Outgoing) (answered : Answer) → AreNamed n → n.boot < 2 ^ 32 → IsOnBearer d → call ≡ upkeep_note d → TakesPart n by d n' frames answered → IsCall n n' by call frames answered
+takes_part_turn n n' by d call frames answered named low one is h =
     subst (λ note. IsCall n n' by note frames answered) (sym is)
-    (turn_as n n' (upkeep_node n by d) by (upkeep_note d) [] frames (frames_all d n.neighbours) (kept_answer answered) answer.Done h.0 h.1 (ap kept_answer h.2) (entries_all d 0 n.neighbours, upkeep_turn n by d named one))
+    (turn_as n n' (upkeep_node n by d) by (upkeep_note d) [] frames (upkeep_frames d n) (kept_answer answered) answer.Done h.0 h.1 (ap kept_answer h.2) (entries_all d 0 n.neighbours, upkeep_turn n by d named low one))
 
 -- ---- a tick
 
@@ -236,11 +237,11 @@ quiet_behind : (test : Entry → Bool) (es ts : List Entry) → filter test ts �
 quiet_behind test es ts none = filter-append test es ts ∙ ap (λ xs. filter test es ++ xs) none ∙ append-nil (filter test es)
 
 abbrev tick_node : NodeState → By → NodeState
-tick_node n by = concluded n by event.Tick (tick_work n) answer.Done
+tick_node n by = concluded (with_tick n) by event.Tick (tick_work n) answer.Done
 
-tick_turn : (n : NodeState) (by : By) → AreNamed n
-    → NodeTurn n (tick_node n by) [] (step_of by event.Tick (entries_all upkeep.Tick 0 n.neighbours ++ timeouts_of n.sockets) answer.Done) (frames_all upkeep.Tick n.neighbours)
-tick_turn n by named = node_turn n (tick_node n by) [] (step_of by event.Tick (es ++ ts) answer.Done) (frames_all upkeep.Tick n.neighbours) (record {
+tick_turn : (n : NodeState) (by : By) → AreNamed n → n.boot < 2 ^ 32
+    → NodeTurn n (tick_node n by) [] (step_of by event.Tick (entries_all upkeep.Tick 0 n.neighbours ++ timeouts_of n.sockets) answer.Done) (upkeep_frames upkeep.Tick n)
+tick_turn n by named low = node_turn n (tick_node n by) [] (step_of by event.Tick (es ++ ts) answer.Done) (upkeep_frames upkeep.Tick n) (record {
   own = refl;
   boot = refl;
   journal = refl;
@@ -248,10 +249,10 @@ tick_turn n by named = node_turn n (tick_node n by) [] (step_of by event.Tick (e
   turns = λ b x there. record {
     after = (done upkeep.Tick x).after;
     after_is = after_at upkeep.Tick n.neighbours b ∙ ap (after_one upkeep.Tick) there;
-    turn = done_turn n.own upkeep.Tick (step_of by event.Tick (es ++ ts) answer.Done) (frames_all upkeep.Tick n.neighbours) b x tt (record {
+    turn = done_turn n.own upkeep.Tick (step_of by event.Tick (es ++ ts) answer.Done) (upkeep_frames upkeep.Tick n) b x tt (record {
       event_is = refl;
       answer_is = refl;
-      frames_are = shares upkeep.Tick n.neighbours b each ∙ ap (λ o. states_one upkeep.Tick o ++ numbered_one upkeep.Tick o) there;
+      frames_are = shares upkeep.Tick n b each ∙ ap (λ o. states_one upkeep.Tick o ++ numbered_one upkeep.Tick o) there;
       changes = quiet_behind (is_change_of b) es ts (quiet.changes b) ∙ all_changes upkeep.Tick n.neighbours b ∙ ap (entries_one upkeep.Tick b) there;
       accepted = quiet_behind (is_accepted_for b) es ts (quiet.accepted b) ∙ all_accept upkeep.Tick b 0 n.neighbours;
       delivered = quiet_behind (is_delivered_from b) es ts (quiet.delivered b) ∙ all_deliver upkeep.Tick b 0 n.neighbours;
@@ -259,7 +260,7 @@ tick_turn n by named = node_turn n (tick_node n by) [] (step_of by event.Tick (e
   };
   alone = λ b none. after_at upkeep.Tick n.neighbours b ∙ ap (after_one upkeep.Tick) none;
   untaken = λ b none a es er p is taken from link. (let wrong : answer.Done ≡ answer.Arrived a = is in cc);
-  routed = all_routed n upkeep.Tick each;
+  routed = all_routed n upkeep.Tick tt low each;
   placed = All-append (IsPlaced n) es ts (all_placed n upkeep.Tick) quiet.placed;
 })
   where
@@ -277,46 +278,46 @@ tick_turn n by named = node_turn n (tick_node n by) [] (step_of by event.Tick (e
 
 -- ---- every call
 
-pub performs_turn : (n n' : NodeState) (by : By) (call : EventNote) (frames : List Outgoing) (answered : Answer) → AreNamed n → CanPerform call → Performs n by call n' frames answered
+pub performs_turn : (n n' : NodeState) (by : By) (call : EventNote) (frames : List Outgoing) (answered : Answer) → AreNamed n → n.boot < 2 ^ 32 → CanPerform call → Performs n by call n' frames answered
     → (inside : List Entry) × NodeTurn n n' [] (step_of by call inside (kept_answer answered)) frames
-performs_turn n n' by event.Socket frames answered are can h =
+performs_turn n n' by event.Socket frames answered are low can h =
     let w = with_sockets_of (begun n) (with_socket n.sockets (next_port n.sockets)) in
     makes_turn n n' by event.Socket (socket_refusal n.sockets) w (answer.Socket (next_port n.sockets)) frames answered are (socket_plain n.sockets) tt (idle_run n (begun n) w (named_stand n are) refl refl) h
-performs_turn n n' by (event.Close port) frames answered are can h =
+performs_turn n n' by (event.Close port) frames answered are low can h =
     let ps = filter (is_at port) n.sockets.live in
     tells_turn n n' by (event.Close port) (port_refusal n.sockets port) (closed_work n port) (told_closing n.sockets port) frames answered are (port_plain n.sockets port)
     (quiet_run n (begun n) (closed_work n port) (map Withdrawn ps) [] (named_stand n are) refl refl (all_withdrawn n ps)) h
-performs_turn n n' by (event.Publish port range scope key) frames answered are can h =
+performs_turn n n' by (event.Publish port range scope key) frames answered are low can h =
     let w = published_work n port range scope key in
     let p = own_publication n.own port range scope key in
     tells_turn n n' by (event.Publish port range scope key) (publication_refusal n.sockets port range.kind key) w (telling false p) frames answered are (publication_plain n.sockets port range.kind key)
     (quiet_run n (begun n) w (Published p ∷ []) [] (named_stand n are) refl refl (published_quiet n p)) h
-performs_turn n n' by (event.Withdraw port key) frames answered are can h =
+performs_turn n n' by (event.Withdraw port key) frames answered are low can h =
     let o = published_at n.sockets port key in
     tells_turn n n' by (event.Withdraw port key) (withdrawal_refusal n.sockets port key) (withdrawn_work n port key) (told_withdrawal n.sockets port key) frames answered are (withdrawal_plain n.sockets port key)
     (quiet_run n (begun n) (withdrawn_work n port key) (withdrawn_entries o) [] (named_stand n are) refl refl (withdrawn_quiet n o)) h
-performs_turn n n' by (event.SendName port kind instance importance body) frames answered are can h = named_turn n n' by port kind instance importance body frames answered are h
-performs_turn n n' by (event.SendPort port to importance body) frames answered are can h = sends_turn n n' by port to importance body frames answered are h
-performs_turn n n' by (event.Receive port) frames answered are can h =
+performs_turn n n' by (event.SendName port kind instance importance body) frames answered are low can h = named_turn n n' by port kind instance importance body frames answered are h
+performs_turn n n' by (event.SendPort port to importance body) frames answered are low can h = sends_turn n n' by port to importance body frames answered are h
+performs_turn n n' by (event.Receive port) frames answered are low can h =
     let queue = waiting_at n.sockets port in
     makes_turn n n' by (event.Receive port) (port_refusal n.sockets port) (received_work n port) (first_answer queue) frames answered are (port_plain n.sockets port) (received_untaken queue)
     (idle_run n (begun n) (received_work n port) (named_stand n are) refl refl) h
-performs_turn n n' by (event.Subscribe asked) frames answered are can h =
+performs_turn n n' by (event.Subscribe asked) frames answered are low can h =
     let e = Subscribed (next_number n.sockets) asked in
     makes_turn n n' by (event.Subscribe asked) (subscription_refusal n.sockets asked) (subscribed_work n asked) (answer.Subscribed (next_number n.sockets)) frames answered are (subscription_plain n.sockets asked) tt
     (quiet_run n (begun n) (subscribed_work n asked) (e ∷ []) [] (named_stand n are) refl refl
     (record { changes = λ b. refl; accepted = λ b. refl; delivered = λ b. refl; inside = refl; placed = All-cons (IsPlaced n) e [] tt (All-nil (IsPlaced n)) })) h
-performs_turn n n' by (event.Cancel number) frames answered are can h =
+performs_turn n n' by (event.Cancel number) frames answered are low can h =
     let e = Cancelled number in
     makes_turn n n' by (event.Cancel number) (number_refusal n.sockets number) (cancelled_work n number) answer.Done frames answered are (number_plain n.sockets number) tt
     (quiet_run n (begun n) (cancelled_work n number) (e ∷ []) [] (named_stand n are) refl refl
     (record { changes = λ b. refl; accepted = λ b. refl; delivered = λ b. refl; inside = refl; placed = All-cons (IsPlaced n) e [] tt (All-nil (IsPlaced n)) })) h
-performs_turn n n' by (event.NextEvent number) frames answered are can h =
+performs_turn n n' by (event.NextEvent number) frames answered are low can h =
     makes_turn n n' by (event.NextEvent number) (number_refusal n.sockets number) (next_work n number) (next_answer (first_event n.sockets number)) frames answered are (number_plain n.sockets number) (next_untaken (first_event n.sockets number))
     (idle_run n (begun n) (next_work n number) (named_stand n are) refl refl) h
-performs_turn n n' by event.Tick frames answered are can h =
-    turn_as n n' (tick_node n by) by event.Tick [] frames (frames_all upkeep.Tick n.neighbours) (kept_answer answered) answer.Done h.0 h.1 (ap kept_answer h.2)
-    (entries_all upkeep.Tick 0 n.neighbours ++ timeouts_of n.sockets, tick_turn n by are)
-performs_turn n n' by (event.Cut bearer) frames answered are can h = takes_part_turn n n' by (upkeep.Cut bearer) (event.Cut bearer) frames answered are can refl h
-performs_turn n n' by (event.Mend bearer) frames answered are can h = takes_part_turn n n' by (upkeep.Mend bearer) (event.Mend bearer) frames answered are can refl h
-performs_turn n n' by other frames answered are can h = absurd h
+performs_turn n n' by event.Tick frames answered are low can h =
+    turn_as n n' (tick_node n by) by event.Tick [] frames (upkeep_frames upkeep.Tick n) (kept_answer answered) answer.Done h.0 h.1 (ap kept_answer h.2)
+    (entries_all upkeep.Tick 0 n.neighbours ++ timeouts_of n.sockets, tick_turn n by are low)
+performs_turn n n' by (event.Cut bearer) frames answered are low can h = takes_part_turn n n' by (upkeep.Cut bearer) (event.Cut bearer) frames answered are low can refl h
+performs_turn n n' by (event.Mend bearer) frames answered are low can h = takes_part_turn n n' by (upkeep.Mend bearer) (event.Mend bearer) frames answered are low can refl h
+performs_turn n n' by other frames answered are low can h = absurd h

@@ -11,10 +11,12 @@ use Rattle.tipc_header.specs.Frames.{is_of_link}
 use Rattle.tipc_node.specs.declared.neighbours.Upkeep.{Upkeep}
 use Rattle.tipc_node.specs.declared.neighbours.Neighbour.{Neighbour}
 use Rattle.tipc_node.specs.Neighbours.{done}
-use Rattle.tipc_node.specs.Nodes.{after_all, after_one, frames_all, numbered_all, numbered_one, states_all, states_one}
+use Rattle.tipc_node.specs.Finding.{requests_by, upkeep_frames}
+use Rattle.tipc_node.specs.Nodes.{NodeState, after_all, after_one, neighbour_of, numbered_all, numbered_one, states_all, states_one}
 use Rattle.tipc_node.specs.Turns.{frames_to, is_out_to, is_to}
 use Rattle.tipc_pair.proofs.turns.Addressing.{AreFor, IsFor}
 use Rattle.tipc_node.proofs.turns.Entries.{numbered_are, part_of, states_are}
+use Rattle.tipc_node.proofs.turns.Finding.{requests_to}
 
 -- ---- frames that are all for one node
 
@@ -80,13 +82,16 @@ part_numbered : (d : Upkeep) (o : Option Neighbour) → part_of (λ x. (done d x
 part_numbered d None = refl
 part_numbered d (Some x) = refl
 
-pub shares : (d : Upkeep) (xs : List (Option Neighbour)) (b : ℕ)
-    → ((k : ℕ) (x : Neighbour) → slice_index_or xs k None ≡ Some x → AreFor (node_word k) (done d x).states × AreFor (node_word k) (done d x).numbered)
-    → frames_to b (frames_all d xs) ≡ states_one d (slice_index_or xs b None) ++ numbered_one d (slice_index_or xs b None)
-shares d xs b all =
-    let one = ap (frames_to b) (states_are d xs) ∙ part_shares (λ x. (done d x).states) xs b (λ k x is. (all k x is).0) ∙ part_states d (slice_index_or xs b None) in
-    let two = ap (frames_to b) (numbered_are d xs) ∙ part_shares (λ x. (done d x).numbered) xs b (λ k x is. (all k x is).1) ∙ part_numbered d (slice_index_or xs b None) in
-    filter-append (is_out_to b) (states_all d xs) (numbered_all d xs) ∙ ap (λ zs. zs ++ frames_to b (numbered_all d xs)) one ∙ ap (λ zs. states_one d (slice_index_or xs b None) ++ zs) two
+pub shares : (d : Upkeep) (n : NodeState) (b : ℕ)
+    → ((k : ℕ) (x : Neighbour) → neighbour_of n k ≡ Some x → AreFor (node_word k) (done d x).states × AreFor (node_word k) (done d x).numbered)
+    → frames_to b (upkeep_frames d n) ≡ states_one d (neighbour_of n b) ++ numbered_one d (neighbour_of n b)
+shares d n b all =
+    let xs = n.neighbours in
+    let one = ap (frames_to b) (states_are d xs) ∙ part_shares (λ x. (done d x).states) xs b (λ k x is. (all k x is).0) ∙ part_states d (neighbour_of n b) in
+    let two = ap (frames_to b) (numbered_are d xs) ∙ part_shares (λ x. (done d x).numbered) xs b (λ k x is. (all k x is).1) ∙ part_numbered d (neighbour_of n b) in
+    let first : frames_to b (states_all d xs ++ requests_by d n) ≡ states_one d (neighbour_of n b) =
+    filter-append (is_out_to b) (states_all d xs) (requests_by d n) ∙ ap (λ zs. zs ++ frames_to b (requests_by d n)) one ∙ ap (λ zs. states_one d (neighbour_of n b) ++ zs) (requests_to d n b) ∙ append-nil (states_one d (neighbour_of n b)) in
+    filter-append (is_out_to b) (states_all d xs ++ requests_by d n) (numbered_all d xs) ∙ ap (λ zs. zs ++ frames_to b (numbered_all d xs)) first ∙ ap (λ zs. states_one d (neighbour_of n b) ++ zs) two
 
 -- ---- the neighbours after a upkeep
 

@@ -1,7 +1,7 @@
 -- How a turn of a node is put together from what happened first at each pair and from a run of work.
-use Rattle.std.proofs.Common.{◌≡◌, ◌==◌, ◌&&◌, ℕ, Bool, true, false, List, [], ◌++◌, Option, Some, None, filter, is_some, inl, refl, sym, ap, ◌∙◌, subst, append-nil, arith}
+use Rattle.std.proofs.Common.{◌≡◌, ◌==◌, ◌&&◌, ℕ, Bool, true, false, List, [], ◌++◌, Option, Some, None, filter, is_some, inl, inr, refl, sym, ap, ◌∙◌, subst, append-nil, arith}
 use Rattle.std.specs.List.{All}
-use Rattle.std.proofs.lemmas.List.Elements.{All-nil}
+use Rattle.std.proofs.lemmas.List.Elements.{All-nil, All-weaker}
 use Rattle.tipc_types.specs.Address.{node_word}
 use Rattle.tipc_types.specs.declared.identity.Addr.{Addr}
 use Rattle.tipc_types.specs.declared.message_forms.Flow.TheVariants.{Zero}
@@ -25,13 +25,16 @@ use Rattle.tipc_link.specs.Parts.{IsShowable}
 use Rattle.tipc_pair.specs.PairTurns.Opening.{rests}
 use Rattle.tipc_pair.specs.PairTurns.PutsAll.{none_put}
 use Rattle.tipc_node.specs.declared.neighbours.Neighbour.{Neighbour}
+use Rattle.tipc_node.specs.Finding.{discovery_frame}
 use Rattle.tipc_node.specs.Messages.{IsSendable}
 use Rattle.tipc_node.specs.Neighbours.{no_broadcast, stranger}
-use Rattle.tipc_node.specs.Nodes.{NodeState, acquaintance, change_entries, neighbour_of, pair_with, step_of}
+use Rattle.tipc_node.specs.Nodes.{NodeState, acquaintance, change_entries, is_other, neighbour_of, pair_with, step_of}
+use Rattle.tipc_node.specs.Turns.IsRouted.{of_discovery, on_link}
 use Rattle.tipc_node.specs.Turns.{AreNamed, IsBrought, IsFrom, IsOfNeighbour, IsPlaced, IsRouted, IsTakenIn, NodeTurn, PeerTurn, frames_to, given_entries, is_accepted_for, is_change_of, is_delivered_from, is_out_to, is_to}
 use Rattle.tipc_node.specs.Works.{Work, begun, concluded}
 use Rattle.tipc_node.proofs.turns.Runs.{IsRun, RunAt, Runs, StandFor, accepted_now, still_at}
 use Rattle.tipc_node.proofs.turns.Entries.{other_word as apart_word}
+use Rattle.tipc_node.proofs.turns.Finding.{never_to}
 use Rattle.tipc_node.proofs.Filters.{filter-none}
 use Rattle.tipc_node.proofs.pairs.Strangers.{named_there, pair_alone, pair_there}
 
@@ -63,7 +66,7 @@ pub record Opens (bytes : List ℕ) (s : NodeStep) (frames : List Outgoing) (b :
   pub delivered : filter (is_delivered_from b) s.inside ≡ given_entries Zero b x o.given
   pub taken : (answered : Arrival) (es er : ℕ) (p : Fields) → s.answer ≡ answer.Arrived answered → IsTakenIn answered → IsFrom b bytes es er p → kind_in bytes ≡ Links → IsTakenBy opening o.given
 
-pub opens_turn : (own : ℕ) (bytes : List ℕ) (s : NodeStep) (frames : List Outgoing) (b : ℕ) (x : PairEnds) (opening : Opening) (o : Outset) → Opens bytes s frames b x opening o
+unfoldable pub opens_turn : (own : ℕ) (bytes : List ℕ) (s : NodeStep) (frames : List Outgoing) (b : ℕ) (x : PairEnds) (opening : Opening) (o : Outset) → Opens bytes s frames b x opening o
     → PeerTurn own bytes s frames b x o.course.pair
 opens_turn own bytes s frames b x opening o h = record {
   opening = opening;
@@ -150,7 +153,22 @@ never_delivered n b none (entry.Delivered peer numbers flow message by) of = ap 
 never_delivered n b none other of = refl
 
 never_out : (n : NodeState) (b : ℕ) → neighbour_of n b ≡ None → (o : Outgoing) → IsRouted n o → is_out_to b o ≡ false
-never_out n b none o r = ap (λ t. t && is_of_link o.frame) (ap (is_to b) r.to_is ∙ other_word n b (node_word r.peer) none r.peer r.there refl)
+never_out n b none o (on_link r) = ap (λ t. t && is_of_link o.frame) (ap (is_to b) r.to_is ∙ other_word n b (node_word r.peer) none r.peer r.there refl)
+never_out n b none o (of_discovery d) = never_to b o d.low
+
+-- a node of the same address and boot routes a frame too, where each neighbour stays one
+pub routed_then : (n n' : NodeState) → n'.own ≡ n.own → n'.boot ≡ n.boot → ((b : ℕ) → is_some (neighbour_of n b) ≡ true → is_some (neighbour_of n' b) ≡ true) → (o : Outgoing) → IsRouted n o → IsRouted n' o
+routed_then n n' own boot lasts o (on_link r) = on_link (record { peer = r.peer; there = lasts r.peer r.there; to_is = r.to_is; link = r.link })
+routed_then n n' own boot lasts o (of_discovery d) = of_discovery (record {
+  on_one = d.on_one;
+  form = d.form;
+  frame_is = d.frame_is ∙ ap (λ word. discovery_frame word n.boot d.form) (sym own) ∙ ap (λ number. discovery_frame n'.own number d.form) (sym boot);
+  low = d.low;
+  receivers = elim d.receivers [
+    | inl all ↦ inl all
+    | inr another ↦ inr (record { peer = another.peer; other = ap (λ word. is_other word (node_word another.peer)) own ∙ another.other; to_is = another.to_is })
+  ];
+})
 
 -- the turn at a neighbour, which stays one
 pub record NeighbourTurn (n n' : NodeState) (bytes : List ℕ) (s : NodeStep) (frames : List Outgoing) (b : ℕ) (x : Neighbour) : Type 0 where
@@ -193,7 +211,7 @@ node_turn n n' bytes s frames h = record {
   turns = λ b. by b (neighbour_of n b) refl;
   lasts = λ b. lasts b (neighbour_of n b) refl;
   stays = λ b none. inl (h.alone b none);
-  routed = h.routed;
+  routed = All-weaker (IsRouted n) (IsRouted n') (routed_then n n' h.own h.boot (λ b. lasts b (neighbour_of n b) refl)) frames h.routed;
   placed = h.placed;
 }
   where

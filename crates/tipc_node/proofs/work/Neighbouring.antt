@@ -1,12 +1,12 @@
 -- What a node makes of a neighbour by the calls of its pair.
 use Rattle.std.specs.Prelude.{◌||◌, ◌&&◌, is_some}
-use Rattle.std.proofs.Common.{◌≡◌, ◌≤◌, ◌∙◌, ℕ, Bool, true, false, List, Option, Some, None, option_map, refl, sym, subst, ap, arith, append-nil}
+use Rattle.std.proofs.Common.{◌≡◌, ◌≤◌, ◌∙◌, ℕ, Bool, true, false, List, Option, Some, None, option_map, refl, sym, subst, ap, arith}
 use Rattle.tipc_types.specs.declared.link_words.BroadcastState.{BroadcastState}
-use Rattle.tipc_outside.specs.Frames.{Adds, Out}
+use Rattle.tipc_outside.specs.Frames.{Adds, AddsFirst, Gains, Out}
 use Rattle.tipc_header.specs.Spelling.{Fields}
 use Rattle.tipc_pair.specs.declared.changes.PairOutcome.{PairOutcome}
 use Rattle.tipc_pair.specs.declared.transitions.Transition.{Transition}
-use Rattle.tipc_pair.specs.Courses.{Course, going_on, sent_in}
+use Rattle.tipc_pair.specs.Courses.{Course, going_on, made_in, sent_in}
 use Rattle.tipc_pair.specs.Facing.{PairEnds, active, facing, in_contact, with_made}
 use Rattle.tipc_pair.specs.PairCalls.{at_bearer, load_of, mended}
 use Rattle.tipc_pair.specs.PairArrivals.{Arrives}
@@ -37,14 +37,13 @@ made_at bearer x one first =
     ap (λ z. record (mended z) { pair = facing (facing 0 y).bearer (mended z).pair }) back ∙ ap (λ b. record (mended y) { pair = facing b (mended y).pair }) home
 
 pub made_mended : (bearer : ℕ) (x : Neighbour) (made now : PairEnds) → bearer ≤ 1 → x.pair.bearer ≡ 0 → made ≡ facing 0 (with_made (facing bearer x.pair)) → now ≡ (at_bearer bearer made mended).pair
-    → now ≡ (making bearer true x).pair
+    → now ≡ (making bearer x).pair
 made_mended bearer x made now one first is after = after ∙ (ap (λ y. (at_bearer bearer y mended).pair) is ∙ ap (λ (c : Course). c.pair) (made_at bearer x.pair one first))
 
-pub made_sent : (bearer : ℕ) (x : Neighbour) (made : PairEnds) (box box' : Out) → bearer ≤ 1 → x.pair.bearer ≡ 0 → made ≡ facing 0 (with_made (facing bearer x.pair)) → Adds box box' (sent_in (at_bearer bearer made mended))
-    → Adds box box' (making bearer true x).states
-made_sent bearer x made box box' one first is adds =
-    let whole : sent_in (at_bearer bearer made mended) ≡ (making bearer true x).states = append-nil (at_bearer bearer made mended).states ∙ (ap (λ y. (at_bearer bearer y mended).states) is ∙ ap (λ (c : Course). c.states) (made_at bearer x.pair one first)) in
-    subst (Adds box box') whole adds
+pub made_sent : (bearer : ℕ) (x : Neighbour) (made : PairEnds) (box box' : Out) → bearer ≤ 1 → x.pair.bearer ≡ 0 → made ≡ facing 0 (with_made (facing bearer x.pair)) → Gains box box' (made_in (at_bearer bearer made mended))
+    → AddsFirst box box' (making bearer x).states
+made_sent bearer x made box box' one first is gains =
+    subst (AddsFirst box box') (ap (λ y. (at_bearer bearer y mended).states) is ∙ ap (λ (c : Course). c.states) (made_at bearer x.pair one first)) gains
 
 -- ---- the load of the active link
 

@@ -1,4 +1,4 @@
--- Why a frame reaches no link.
+-- Why a frame is stopped.
 use Rattle.std.proofs.Common.{◌≡◌, ◌⊎◌, ℕ, ◌-◌, ◌<◌, ◌≤◌, ◌==◌, ◌&&◌, Bool, true, false, List, Option, Some, None, length, drop, refl, sym, ap, ◌∙◌, subst, arith}
 use Rattle.std.specs.Prelude.{if◌then◌else◌, is_some, slice_index_or}
 use Rattle.std.proofs.lemmas.Bool.Decides.{nat_tests}
@@ -7,6 +7,7 @@ use Rattle.tipc_types.specs.Address.{node_word}
 use Rattle.tipc_types.specs.declared.link_words.Why.TheVariants as why
 use Rattle.tipc_header.specs.declared.fault.HeaderFault.{HeaderFault}
 use Rattle.tipc_header.specs.declared.frames.FrameKind.{FrameKind}
+use Rattle.tipc_header.specs.declared.packet.Header.{Header}
 use Rattle.tipc_header.specs.Faults.{fault_of, number_of}
 use Rattle.tipc_header.specs.Frames.{envelope, first_of, frame_of, kind_in, kind_of}
 use Rattle.tipc_header.specs.Reading.{fields_at, word_at}
@@ -52,33 +53,27 @@ pub stop_header : (own : ℕ) (mended : Bool × Bool) (xs : List (Option Neighbo
 stop_header own mended xs bearer bytes first second packet fault o has =
     by_fault own mended xs bearer bytes first second packet o ∙ ap (stop_by_fault own xs bearer bytes) (ap fault_of (packet_in first second packet bytes o.opened) ∙ has)
 
--- the packet has no fault: by the sender that it names
+-- the packet has no fault: by the sender that it names, and by its kind
 pub by_sender : (own : ℕ) (mended : Bool × Bool) (xs : List (Option Neighbour)) (bearer : ℕ) (bytes : List ℕ) (first second : ℕ) (packet : List ℕ) (p : Fields) → IsOpened mended bearer bytes first second packet
-    → fault_of packet ≡ None → p ≡ fields_at packet → stop_among own mended xs bearer bytes ≡ stop_by_sender own xs bearer p.previous (kind_in bytes)
+    → fault_of packet ≡ None → p ≡ fields_at packet → stop_among own mended xs bearer bytes ≡ stop_by_sender own xs bearer p.previous (kind_in bytes) p.header
 by_sender own mended xs bearer bytes first second packet p o none read =
+    let whole = packet_in first second packet bytes o.opened in
     by_fault own mended xs bearer bytes first second packet o
-    ∙ ap (stop_by_fault own xs bearer bytes) (ap fault_of (packet_in first second packet bytes o.opened) ∙ none)
-    ∙ ap (λ word. stop_by_sender own xs bearer word (kind_in bytes)) (ap (word_at 3) (packet_in first second packet bytes o.opened) ∙ sym (previous_at packet) ∙ ap (λ (q : Fields). q.previous) (sym read))
+    ∙ ap (stop_by_fault own xs bearer bytes) (ap fault_of whole ∙ none)
+    ∙ ap (λ word. stop_by_sender own xs bearer word (kind_in bytes) (fields_at (drop 16 bytes)).header) (ap (word_at 3) whole ∙ sym (previous_at packet) ∙ ap (λ (q : Fields). q.previous) (sym read))
+    ∙ ap (λ (q : Fields). stop_by_sender own xs bearer p.previous (kind_in bytes) q.header) (ap fields_at whole ∙ sym read)
 
 -- it is no other node
-pub sender_own : (own : ℕ) (xs : List (Option Neighbour)) (bearer word : ℕ) (kind : FrameKind) → is_other own word ≡ false → stop_by_sender own xs bearer word kind ≡ Some why.Own
-sender_own own xs bearer word kind self = rw self refl
+pub sender_own : (own : ℕ) (xs : List (Option Neighbour)) (bearer word : ℕ) (kind : FrameKind) (said : Header) → is_other own word ≡ false → stop_by_sender own xs bearer word kind said ≡ Some why.Own
+sender_own own xs bearer word kind said self = rw self refl
 
-by_neighbour : (own : ℕ) (xs : List (Option Neighbour)) (bearer peer word : ℕ) (kind : FrameKind) (known : Bool) → is_other own word ≡ true → word ≡ node_word peer → is_some (end_with bearer (slice_index_or xs peer None)) ≡ known
-    → stop_by_sender own xs bearer word kind ≡ (if known then stop_by_kind kind else Some why.Unknown)
-by_neighbour own xs bearer peer word kind known other is has =
+-- it is another one: by the kind of the packet
+pub sender_kind : (own : ℕ) (xs : List (Option Neighbour)) (bearer peer word : ℕ) (kind : FrameKind) (said : Header) → is_other own word ≡ true → word ≡ node_word peer
+    → stop_by_sender own xs bearer word kind said ≡ stop_by_kind kind said bearer (slice_index_or xs peer None)
+sender_kind own xs bearer peer word kind said other is =
     let number : word - node_word 0 ≡ peer = omega (arith, is) in
-    (rw other refl) ∙ ap (λ k. if is_some (end_with bearer (slice_index_or xs k None)) then stop_by_kind kind else Some why.Unknown) number ∙ ap (λ b. if b then stop_by_kind kind else Some why.Unknown) has
-
--- there is no link end to the sender
-pub sender_unknown : (own : ℕ) (xs : List (Option Neighbour)) (bearer peer word : ℕ) (kind : FrameKind) → is_other own word ≡ true → word ≡ node_word peer → is_some (end_with bearer (slice_index_or xs peer None)) ≡ false
-    → stop_by_sender own xs bearer word kind ≡ Some why.Unknown
-sender_unknown own xs bearer peer word kind other is has = by_neighbour own xs bearer peer word kind false other is has
-
--- there is one: by the kind of the packet
-pub sender_known : (own : ℕ) (xs : List (Option Neighbour)) (bearer peer word : ℕ) (kind : FrameKind) → is_other own word ≡ true → word ≡ node_word peer → is_some (end_with bearer (slice_index_or xs peer None)) ≡ true
-    → stop_by_sender own xs bearer word kind ≡ stop_by_kind kind
-sender_known own xs bearer peer word kind other is has = by_neighbour own xs bearer peer word kind true other is has
+    ap (λ b. if b then stop_by_kind kind said bearer (slice_index_or xs (word - node_word 0) None) else Some why.Own) other
+    ∙ ap (λ k. stop_by_kind kind said bearer (slice_index_or xs k None)) number
 
 -- the kind of a frame by its packet
 pub kind_is : (mended : Bool × Bool) (bearer : ℕ) (bytes : List ℕ) (first second : ℕ) (packet : List ℕ) (p : Fields) → IsOpened mended bearer bytes first second packet → first ≡ first_of bytes → p ≡ fields_at packet
@@ -87,6 +82,14 @@ unfolding kind_in
 kind_is mended bearer bytes first second packet p o number read =
     ap (λ k. kind_of k (fields_at (drop 16 bytes)).header) (sym number)
     ∙ ap (λ xs. kind_of first (fields_at xs).header) (packet_in first second packet bytes o.opened) ∙ ap (λ (q : Fields). kind_of first q.header) (sym read)
+
+-- a packet without fault of another node: by its kind
+pub looked_at : (own : ℕ) (mended : Bool × Bool) (xs : List (Option Neighbour)) (bearer : ℕ) (bytes : List ℕ) (first second : ℕ) (packet : List ℕ) (peer : ℕ) (p : Fields) → IsOpened mended bearer bytes first second packet
+    → fault_of packet ≡ None → p ≡ fields_at packet → first ≡ first_of bytes → is_other own p.previous ≡ true → p.previous ≡ node_word peer
+    → stop_among own mended xs bearer bytes ≡ stop_by_kind (kind_of first p.header) p.header bearer (slice_index_or xs peer None)
+looked_at own mended xs bearer bytes first second packet peer p o none read number other is =
+    by_sender own mended xs bearer bytes first second packet p o none read ∙ sender_kind own xs bearer peer p.previous (kind_in bytes) p.header other is
+    ∙ ap (λ kind. stop_by_kind kind p.header bearer (slice_index_or xs peer None)) (kind_is mended bearer bytes first second packet p o number read)
 
 -- a bearer that is mended is one of the two
 pub mended_two : (mended : Bool × Bool) (bearer : ℕ) → is_mended_on mended bearer ≡ true → bearer ≤ 1

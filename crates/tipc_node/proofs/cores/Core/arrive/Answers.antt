@@ -1,9 +1,22 @@
-use Rattle.tipc_node.proofs.work.Reaching.{heard_met, stopped_met}
+use Rattle.std.proofs.Common.{◌∙◌}
+use Rattle.tipc_node.proofs.work.Reaching.{due_at, finds_at, found_met, heard_met, stopped_met}
 use Rattle.tipc_node.proofs.cores.Core.arrive.Goals as goal
 
-pub returns-in-Ok-clause-ok : goal.returns-in-Ok-clause-ok
-returns-in-Ok-clause-ok c =
-    heard_met c.args.self.now c.hear.new.self c.args.by c.args.bearer c.args.number c.args.frame.now c.in-Ok.due c.args.out.now c.hear.new.out c.hear.result c.in-Ok.ensures.clear c.in-Ok.ensures.bearer c.in-Ok.ensures.due c.hear.ensures.heard
+pub hear-requires : goal.hear-requires
+hear-requires c = record { due = due_at c.args.self.now c.args.frame.now c.in-Ok.due (c.in-Ok.ensures.due c.in-Links.is) }
+
+pub find-requires-clause-due : goal.find-requires-clause-due
+find-requires-clause-due c = finds_at c.args.self.now c.args.frame.now c.in-Ok.due (c.in-Ok.ensures.brings c.in-Finds.is)
+
+pub returns-in-Links-clause-ok : goal.returns-in-Links-clause-ok
+returns-in-Links-clause-ok c =
+    heard_met c.args.self.now c.hear.new.self c.args.by c.args.bearer c.args.number c.args.frame.now c.in-Ok.due c.args.out.now c.hear.new.out c.hear.result c.in-Ok.ensures.clear
+    (c.in-Ok.ensures.kind.0 ∙ c.in-Links.is) c.in-Ok.ensures.bearer (c.in-Ok.ensures.due c.in-Links.is) c.hear.ensures.heard
+
+pub returns-in-Finds-clause-ok : goal.returns-in-Finds-clause-ok
+returns-in-Finds-clause-ok c =
+    found_met c.args.self.now c.find.new.self c.args.by c.args.bearer c.args.number c.args.frame.now c.in-Ok.due c.args.out.now c.find.new.out c.find.result c.in-Ok.ensures.clear
+    (c.in-Ok.ensures.kind.0 ∙ c.in-Finds.is) c.in-Ok.ensures.bearer (c.in-Ok.ensures.brings c.in-Finds.is) c.find.ensures.found
 
 pub returns-in-Err-clause-ok : goal.returns-in-Err-clause-ok
 returns-in-Err-clause-ok c =

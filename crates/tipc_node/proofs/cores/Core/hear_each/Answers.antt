@@ -29,6 +29,8 @@ invariant_of-self c =
       i.1,
       ap (λ (s : SocketTable). s.own) before ∙ i.2,
       ap (λ (s : SocketTable). s.ports.boot) before ∙ i.3,
+      i.4,
+      i.5,
     )
 
 pub returns-in_default-clause-err : goal.returns-in_default-clause-err
@@ -52,6 +54,8 @@ invariant_of-self-2 c =
       i.1,
       ap (λ (s : SocketTable). s.own) sockets ∙ same.own ∙ i.2,
       ap (λ (s : SocketTable). s.ports.boot) sockets ∙ ap (λ (ports : PortTable). ports.boot) same.ports ∙ i.3,
+      i.4,
+      i.5,
     )
 
 pub returns-clause-heard : goal.returns-clause-heard

@@ -23,6 +23,8 @@ invariant_of-self-2 c =
       i.1,
       same.own ∙ i.2,
       ap (λ (p : PortTable). p.boot) same.ports ∙ i.3,
+      i.4,
+      i.5,
     )
 
 pub returns-clause-sent : goal.returns-clause-sent

@@ -25,7 +25,7 @@ pub take-requires : goal.take-requires
 take-requires c =
     let g = c.self-inside.inside.0 in
     let dd = g.1.1.1.0 in
-    let n = core_of g.0.word g.1.0 g.1.1.0 (draft_of dd.neighbours.items dd.sockets dd.inside.items dd.copies.items dd.out) g.1.1.1.1.0.entries in
+    let n = core_of g.0.word g.1.0 g.1.1.0 g.1.1.1.1.1.0 g.1.1.1.1.1.1.0 (draft_of dd.neighbours.items dd.sockets dd.inside.items dd.copies.items dd.out) g.1.1.1.1.0.entries in
     let whole = ap (λ (k : Inside). the_view k) c.self-inside.view_is ∙ c.self.view_is in
     let d = c.args.due.now in
     let h = c.args.heard in
@@ -63,19 +63,21 @@ invariant_of-self-inside-2 c =
 
 pub invariant_of-self-2 : goal.invariant_of-self-2
 invariant_of-self-2 c =
-    let i = subst (λ (k : Inside). IsIdle k.draft × (1 ≤ k.boot) × (k.draft.work.sockets.own ≡ k.own.word) × (k.draft.work.sockets.ports.boot ≡ k.boot)) (sym c.self-inside.view_is) c.self.invariant in
+    let i = subst (λ (k : Inside). IsIdle k.draft × (1 ≤ k.boot) × (k.draft.work.sockets.own ≡ k.own.word) × (k.draft.work.sockets.ports.boot ≡ k.boot) × (k.found.own ≡ k.own.word) × (k.ticks < 8)) (sym c.self-inside.view_is) c.self.invariant in
     let same = same_put c.self-inside.inside.0.1.1.1.0.sockets c.conclude_waiting.new.sockets c.in_ok-told.told.messages.items c.conclude_waiting.ensures.sockets in (
       record { inside = i.0.inside; copies = i.0.copies; out = i.0.out },
       i.1,
       same.0 ∙ i.2,
       ap (λ (ports : PortTable). ports.boot) same.1 ∙ i.3,
+      i.4,
+      i.5,
     )
 
 pub returns-clause-heard : goal.returns-clause-heard
 returns-clause-heard c = λ bytes due.
     let g = c.self-inside.inside.0 in
     let dd = g.1.1.1.0 in
-    let n = core_of g.0.word g.1.0 g.1.1.0 (draft_of dd.neighbours.items dd.sockets dd.inside.items dd.copies.items dd.out) g.1.1.1.1.0.entries in
+    let n = core_of g.0.word g.1.0 g.1.1.0 g.1.1.1.1.1.0 g.1.1.1.1.1.1.0 (draft_of dd.neighbours.items dd.sockets dd.inside.items dd.copies.items dd.out) g.1.1.1.1.0.entries in
     let whole = ap (λ (k : Inside). the_view k) c.self-inside.view_is ∙ c.self.view_is in
     let d = c.args.due.now in
     let h = c.args.heard in
